@@ -1,0 +1,4 @@
+pub mod Halving
+pub mod Highest
+pub mod Parts
+pub mod Whole

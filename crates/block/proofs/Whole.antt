@@ -1,0 +1,93 @@
+-- Bytes that are a block and nothing else.
+use Rattle.std.proofs.Common.{◌≡◌, ◌⊎◌, inl, inr, subst, ℕ, ◌<◌, List, [], ◌++◌, length, Result, Ok, Err, refl, sym, ap, ◌∙◌}
+use Rattle.std.specs.Prelude.{IfSome}
+use Rattle.std.proofs.lemmas.List.{append-nil}
+use Rattle.wire.specs.declared.fault.WireFault.{WireFault}
+use Rattle.wire.specs.declared.fault.WireFault.TheVariants as wire
+use Rattle.wire.specs.Grammar.{IsBytes}
+use Rattle.wire.specs.Laws.{found_law, refused_law, same_read, same_fault, not_both}
+use Rattle.txn.specs.declared.fault.TxFault.{TxFault}
+use Rattle.txn.specs.declared.fault.TxFault.TheVariants as txn
+use Rattle.txn.specs.Faults.{spoken}
+use Rattle.block.specs.declared.block.Block.{Block}
+use Rattle.block.specs.declared.fault.ReadFault.{ReadFault}
+use Rattle.block.specs.declared.fault.ReadFault.TheVariants as faults
+use Rattle.block.specs.Faults.{told}
+use Rattle.block.specs.Grammar.{block}
+use Rattle.block.specs.Whole.{Faulty, HasExtra}
+use Rattle.block.specs.Reading.{block_at}
+use Rattle.block.specs.Laws.{block_decides}
+
+abbrev pub told_wire : WireFault → ReadFault
+told_wire wire.Short = faults.Short
+told_wire wire.LongForm = faults.LongForm
+told_wire wire.TooLarge = faults.TooLarge
+
+pub whole_found : (bytes : List ℕ) (b : Block) (rest : List ℕ) → IsBytes bytes → block_at bytes ≡ Ok (b, rest) → rest ≡ [] → block.Lawful b × (bytes ≡ block.spell b)
+whole_found bytes b rest fits e none =
+    let f = found_law block block_at block_decides bytes b rest fits e in
+    (f.0, f.1 ∙ ap (λ (t : List ℕ). block.spell b ++ t) none ∙ append-nil (block.spell b))
+
+abbrev pub refusal : ReadFault → Result Block ReadFault
+refusal e = Err e
+
+pub whole_extra : (bytes : List ℕ) (b : Block) (rest : List ℕ) → IsBytes bytes → block_at bytes ≡ Ok (b, rest) → 0 < length rest → HasExtra bytes
+whole_extra bytes b rest fits e some =
+    let f = found_law block block_at block_decides bytes b rest fits e in
+    (b, rest, f.0, f.1, some)
+
+again : (bytes : List ℕ) (b : Block) → block.Lawful b → bytes ≡ block.spell b → block_at bytes ≡ Ok (b, [])
+again bytes b lawful e = ap block_at (e ∙ sym (append-nil (block.spell b))) ∙ block_decides.again b [] lawful
+
+pub whole_reads : (bytes : List ℕ) (x : Block) (rest : List ℕ) (b : Block) → block_at bytes ≡ Ok (x, rest) → block.Lawful b → bytes ≡ block.spell b → (x ≡ b) × (rest ≡ [])
+whole_reads bytes x rest b e lawful is = same_read x b rest [] (sym e ∙ again bytes b lawful is)
+
+pub whole_refused : (bytes : List ℕ) (f : TxFault) → IsBytes bytes → IfSome (spoken f) (λ w. block_at bytes ≡ Err w) → (told f ≡ faults.Memory) ⊎ Faulty (told f) bytes
+whole_refused bytes txn.Short fits e = inr (refused_law block block_at block_decides bytes wire.Short fits e)
+whole_refused bytes txn.LongForm fits e = inr (refused_law block block_at block_decides bytes wire.LongForm fits e)
+whole_refused bytes txn.TooLarge fits e = inr (refused_law block block_at block_decides bytes wire.TooLarge fits e)
+whole_refused bytes txn.Memory fits e = inl refl
+
+pub only_memory : (bytes : List ℕ) (f : TxFault) (b : Block) → IfSome (spoken f) (λ w. block_at bytes ≡ Err w) → block.Lawful b → bytes ≡ block.spell b → told f ≡ faults.Memory
+only_memory bytes txn.Short b e lawful is = absurd (not_both b [] wire.Short (sym (again bytes b lawful is) ∙ e))
+only_memory bytes txn.LongForm b e lawful is = absurd (not_both b [] wire.LongForm (sym (again bytes b lawful is) ∙ e))
+only_memory bytes txn.TooLarge b e lawful is = absurd (not_both b [] wire.TooLarge (sym (again bytes b lawful is) ∙ e))
+only_memory bytes txn.Memory b e lawful is = refl
+
+-- what reading the front gives of bytes that have a fault
+read_faulty : (bytes : List ℕ) (fault : WireFault) → block.Faulty fault bytes → block_at bytes ≡ Err fault
+read_faulty bytes fault faulty = block_decides.refuses fault bytes faulty
+
+read_extra : (bytes : List ℕ) (x : HasExtra bytes) → block_at bytes ≡ Ok (x.0, x.1)
+read_extra bytes x = ap block_at x.3 ∙ block_decides.again x.0 x.1 x.2
+
+-- a refusal of the front is of the fault that the bytes have
+same_wire : (bytes : List ℕ) (f g : WireFault) → block_at bytes ≡ Err f → block.Faulty g bytes → f ≡ g
+same_wire bytes f g e faulty = same_fault {A = Block} f g (sym e ∙ read_faulty bytes g faulty)
+
+one_fault : (bytes : List ℕ) (f : WireFault) (e : ReadFault) → block_at bytes ≡ Err f → Faulty e bytes → e ≡ told_wire f
+one_fault bytes f faults.Short is faulty = ap told_wire (sym (same_wire bytes f wire.Short is faulty))
+one_fault bytes f faults.LongForm is faulty = ap told_wire (sym (same_wire bytes f wire.LongForm is faulty))
+one_fault bytes f faults.TooLarge is faulty = ap told_wire (sym (same_wire bytes f wire.TooLarge is faulty))
+one_fault bytes f faults.Extra is faulty = absurd (not_both faulty.0 faulty.1 f (sym (read_extra bytes faulty) ∙ is))
+one_fault bytes f faults.Memory is faulty = absurd faulty
+
+pub front_refuses : (bytes : List ℕ) (f : TxFault) (e : ReadFault) → IfSome (spoken f) (λ w. block_at bytes ≡ Err w) → Faulty e bytes → (told f ≡ faults.Memory) ⊎ (told f ≡ e)
+front_refuses bytes txn.Short e is faulty = inr (sym (one_fault bytes wire.Short e is faulty))
+front_refuses bytes txn.LongForm e is faulty = inr (sym (one_fault bytes wire.LongForm e is faulty))
+front_refuses bytes txn.TooLarge e is faulty = inr (sym (one_fault bytes wire.TooLarge e is faulty))
+front_refuses bytes txn.Memory e is faulty = inl refl
+
+-- where the front was read, the only fault is that bytes stand behind it
+pub extra_only : (bytes : List ℕ) (b : Block) (rest : List ℕ) (e : ReadFault) → block_at bytes ≡ Ok (b, rest) → Faulty e bytes → (e ≡ faults.Extra) × (0 < length rest)
+extra_only bytes b rest faults.Short is faulty = absurd (not_both b rest wire.Short (sym is ∙ read_faulty bytes wire.Short faulty))
+extra_only bytes b rest faults.LongForm is faulty = absurd (not_both b rest wire.LongForm (sym is ∙ read_faulty bytes wire.LongForm faulty))
+extra_only bytes b rest faults.TooLarge is faulty = absurd (not_both b rest wire.TooLarge (sym is ∙ read_faulty bytes wire.TooLarge faulty))
+extra_only bytes b rest faults.Extra is faulty =
+    let k = same_read faulty.0 b faulty.1 rest (sym (read_extra bytes faulty) ∙ is) in
+    (refl, subst (λ (t : List ℕ). 0 < length t) k.1 faulty.4)
+extra_only bytes b rest faults.Memory is faulty = absurd faulty
+
+pub as_refusal : (f e : ReadFault) → (f ≡ faults.Memory) ⊎ (f ≡ e) → (refusal f ≡ refusal faults.Memory) ⊎ (refusal f ≡ refusal e)
+as_refusal f e (inl h) = inl (ap refusal h)
+as_refusal f e (inr h) = inr (ap refusal h)

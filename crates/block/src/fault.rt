@@ -1,0 +1,48 @@
+ghost use Rattle.std.specs.Prelude.{◌≡◌};
+ghost use Rattle.block.specs.Faults.{told};
+
+use std::error::Error;
+use std::fmt;
+use txn::TxFault;
+
+/// Why a block could not be read.
+#[derive(Clone, Copy, Debug, PartialEq, Eq)]
+pub enum ReadFault {
+    /// The bytes end before the block does.
+    Short = 1,
+    /// A count is spelled in more bytes than it needs.
+    LongForm,
+    /// A count is above [`wire::LIMIT`].
+    TooLarge,
+    /// Bytes stand after the block.
+    Extra,
+    /// There is no memory for it.
+    Memory,
+}
+
+impl fmt::Display for ReadFault {
+    fn fmt<W: fmt::Write>(&self, f: &mut fmt::Formatter<W>) -> fmt::Result {
+        match self {
+            ReadFault::Short => TxFault::Short.fmt(f),
+            ReadFault::LongForm => TxFault::LongForm.fmt(f),
+            ReadFault::TooLarge => TxFault::TooLarge.fmt(f),
+            ReadFault::Extra => f.write_str("bytes stand after the block"),
+            ReadFault::Memory => TxFault::Memory.fmt(f),
+        }
+    }
+}
+
+impl Error for ReadFault {}
+
+impl From<TxFault> for ReadFault {
+    ghost from_gives = { λ f e. e ≡ told f };
+
+    fn from(fault: TxFault) -> ReadFault {
+        match fault {
+            TxFault::Short => ReadFault::Short,
+            TxFault::LongForm => ReadFault::LongForm,
+            TxFault::TooLarge => ReadFault::TooLarge,
+            TxFault::Memory => ReadFault::Memory,
+        }
+    }
+}

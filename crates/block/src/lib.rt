@@ -1,0 +1,26 @@
+//! Blocks: their bytes, their ids, the proof of work, the subsidy, and the genesis block.
+#![tactic(auto)]
+
+mod block;
+mod fault;
+mod genesis;
+mod header;
+pub mod laws;
+mod reading;
+mod reward;
+mod target;
+mod txs;
+mod writing;
+
+pub use block::Block;
+pub use fault::ReadFault;
+pub use genesis::GENESIS;
+pub use header::Header;
+pub use reading::read;
+pub use reward::subsidy;
+pub use target::meets_target;
+pub use txs::Txs;
+pub use writing::write;
+
+#[cfg(test)]
+mod tests;

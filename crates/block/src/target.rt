@@ -1,0 +1,36 @@
+ghost use Rattle.std.specs.Prelude.{◌≡◌, ◌==◌, IsTrue, ◌↔◌};
+ghost use Rattle.std.specs.List.{list_all};
+ghost use Rattle.wire.specs.Grammar.{IsBytes};
+ghost use Rattle.block.specs.Target.{MeetsTarget};
+
+use byteorder::{ByteOrder, LittleEndian};
+use hash::Id;
+
+/// The highest three bytes of regtest's target; the others are zero.
+const TARGET_TOP: u64 = 0x7f_ffff;
+
+/// Whether a block of this id has regtest's proof of work, whatever its bits say (Bitcoin Core's
+/// `CheckProofOfWork`).
+pub fn meets_target(id: &Id) -> bool
+    ensures { IsTrue result ↔ MeetsTarget id.now }
+{
+    let bytes = in_range(&id.0);
+    let (low, high) = bytes.split_at(29);
+    let top = LittleEndian::read_uint(high, 3);
+    top < TARGET_TOP || (top == TARGET_TOP && is_zero(low))
+}
+
+/// Whether each byte is zero.
+fn is_zero(bytes: &[u8]) -> bool
+    ensures { result ≡ list_all (λ byte. byte == 0) bytes.now }
+{
+    bytes.iter().all(|byte| *byte == 0)
+}
+
+/// The same bytes, of which a proof then knows that each is below 256: of a field's bytes it doesn't.
+fn in_range(bytes: &[u8]) -> &[u8]
+    ensures same { result.now ≡ bytes.now }
+    ensures bytes { IsBytes bytes.now }
+{
+    bytes
+}

@@ -1,0 +1,9 @@
+-- The id of a transaction.
+use Rattle.hash.specs.Double.{double_sha}
+use Rattle.hash.specs.declared.id.Id.{Id}
+use Rattle.txn.specs.declared.tx.Tx.{Tx}
+use Rattle.txn.specs.Grammar.{transaction}
+
+-- double SHA-256 of its spelling
+abbrev pub id_of : Tx → Id
+id_of t = record { 0 = double_sha (transaction.spell t) }

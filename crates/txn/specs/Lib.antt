@@ -1,0 +1,7 @@
+pub mod Coinbase
+pub mod Faults
+pub mod Grammar
+pub mod Identity
+pub mod Laws
+pub mod Reading
+pub mod Reason

@@ -1,0 +1,111 @@
+use super::*;
+use hash::Id;
+use std::test::*;
+use wire::Cursor;
+
+/// Version 1; an input of the id of 32 times 7, index 2, script 51 52, sequence ffffffff; an output of -3
+/// without a script; lock time 9; and two bytes more.
+const BYTES: [u8; 64] = [
+    1, 0, 0, 0, 1, 7, 7, 7, 7, 7, 7, 7, 7, 7, 7, 7, 7, 7, 7, 7, 7, 7, 7, 7, 7, 7, 7, 7, 7, 7, 7, 7,
+    7, 7, 7, 7, 7, 2, 0, 0, 0, 2, 0x51, 0x52, 255, 255, 255, 255, 1, 253, 255, 255, 255, 255, 255,
+    255, 255, 0, 9, 0, 0, 0, 0xaa, 0xbb,
+];
+
+/// The double SHA-256 of the first 62 of these bytes, reversed, as Python's hashlib gives it.
+const ID: &str = "d4869026d57b97544a104bd5443e7412c8d4096ffa1ddc64402796dbcfab8b88";
+
+#[test]
+fn one(rt: HostRuntime) -> Result<(), Fail> {
+    let mut cursor = Cursor::new(&BYTES);
+    let tx = read(&mut cursor, rt.alloc())?;
+    assert_eq!(rt; cursor.rest(), [0xaa, 0xbb].as_slice());
+    assert_eq!(rt; (tx.version, tx.lock_time), (1, 9));
+    assert_eq!(rt; (tx.inputs.len(), tx.outputs.len()), (1, 1));
+    assert!(rt; !tx.inputs.is_empty() && !tx.outputs.is_empty());
+    for input in tx.inputs.as_slice() {
+        let copy = input.copy()?;
+        assert_eq!(rt; (copy.prev.id, copy.prev.index), (Id([7; 32]), 2));
+        assert_eq!(rt; copy.script.copy()?.as_slice(), [0x51, 0x52].as_slice());
+        assert_eq!(rt;
+            (copy.sequence, copy.script.is_empty()),
+            (0xffff_ffff, false)
+        );
+    }
+    for output in tx.outputs.as_slice() {
+        let copy = output.copy()?;
+        assert_eq!(rt; (copy.value, copy.script.len()), (-3, 0));
+    }
+    assert!(rt; !tx.is_coinbase());
+    assert_eq!(rt; Id::read(ID.as_bytes()), Some(tx.id(rt.alloc())?));
+    let mut out = Vec::new(rt.alloc());
+    write(&tx.copy()?, &mut out)?;
+    assert_eq!(rt; out.as_slice(), &BYTES[..62]);
+    Ok(())
+}
+
+#[test]
+fn faults(rt: HostRuntime) -> Result<(), Fail> {
+    let mut short = Cursor::new(&BYTES[..61]);
+    assert_eq!(rt; read(&mut short, rt.alloc()).err(), Some(TxFault::Short));
+    assert_eq!(rt; short.rest().len(), 61);
+    let mut long = Cursor::new(&[1, 0, 0, 0, 253, 252, 0]);
+    assert_eq!(rt; read(&mut long, rt.alloc()).err(), Some(TxFault::LongForm));
+    let mut large = Cursor::new(&[1, 0, 0, 0, 254, 1, 0, 0, 2]);
+    assert_eq!(rt; read(&mut large, rt.alloc()).err(), Some(TxFault::TooLarge));
+    let mut none = Cursor::new(&[0; 10]);
+    assert!(rt; read(&mut none, rt.alloc())?.inputs.is_empty());
+    Ok(())
+}
+
+#[test]
+fn reasons(rt: HostRuntime) -> Result<(), Fail> {
+    let texts = [
+        (Reason::HighHash, "high-hash"),
+        (Reason::BadMerkleRoot, "bad-txnmrklroot"),
+        (Reason::DuplicateTransactions, "bad-txns-duplicate"),
+        (Reason::BadBlockLength, "bad-blk-length"),
+        (Reason::CoinbaseMissing, "bad-cb-missing"),
+        (Reason::CoinbaseMultiple, "bad-cb-multiple"),
+        (Reason::NoInputs, "bad-txns-vin-empty"),
+        (Reason::NoOutputs, "bad-txns-vout-empty"),
+        (Reason::OutputNegative, "bad-txns-vout-negative"),
+        (Reason::OutputTooLarge, "bad-txns-vout-toolarge"),
+        (Reason::OutputSumTooLarge, "bad-txns-txouttotal-toolarge"),
+        (Reason::DuplicateInputs, "bad-txns-inputs-duplicate"),
+        (Reason::CoinbaseLength, "bad-cb-length"),
+        (Reason::NullPrevout, "bad-txns-prevout-null"),
+        (Reason::TooManySigops, "bad-blk-sigops"),
+        (Reason::ParentNotFound, "prev-blk-not-found"),
+        (Reason::ParentInvalid, "bad-prevblk"),
+        (Reason::WrongBits, "bad-diffbits"),
+        (Reason::TimeTooOld, "time-too-old"),
+        (Reason::TimeTooNew, "time-too-new"),
+        (Reason::BadVersion, "bad-version"),
+        (Reason::NonFinal, "bad-txns-nonfinal"),
+        (Reason::CoinbaseHeight, "bad-cb-height"),
+        (Reason::OverwritesCoin, "bad-txns-BIP30"),
+        (
+            Reason::InputsMissingOrSpent,
+            "bad-txns-inputs-missingorspent",
+        ),
+        (
+            Reason::PrematureCoinbaseSpend,
+            "bad-txns-premature-spend-of-coinbase",
+        ),
+        (Reason::InputsBelowOutputs, "bad-txns-in-belowout"),
+        (Reason::CoinbaseAmount, "bad-cb-amount"),
+    ];
+    for (place, (reason, text)) in texts.iter().enumerate() {
+        assert_eq!(rt; reason.number() as usize, place + 1);
+        assert_eq!(rt; format!(in rt.alloc(); "{reason}")?.as_str(), *text);
+    }
+    let refused = Reason::ScriptRefused {
+        transaction: 2,
+        input: 7,
+    };
+    assert_eq!(rt;
+        format!(in rt.alloc(); "{refused}")?.as_str(),
+        "blk-bad-inputs 2:7"
+    );
+    Ok(())
+}

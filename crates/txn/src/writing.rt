@@ -1,0 +1,101 @@
+ghost use Rattle.std.specs.Prelude.{◌≡◌, ◌++◌, OnOk, OnErr};
+ghost use Rattle.wire.specs.Grammar.{sized, counted};
+ghost use Rattle.wire.specs.Writing.{Extends};
+ghost use Rattle.txn.specs.Grammar.{outpoint, input, output, transaction};
+
+use crate::input::{Inputs, TxIn};
+use crate::outpoint::OutPoint;
+use crate::output::{Outputs, TxOut};
+use crate::script::Script;
+use crate::tx::Tx;
+use wire::{Memory, put_compact};
+
+#[tactic(auto, using(wire::specs::Writing::extending))]
+fn put_outpoint(out: &mut Vec<u8>, p: &OutPoint) -> Result<(), Memory>
+    ensures written { OnOk result (out.new.items ≡ out.old.items ++ outpoint.spell p.now) }
+    ensures extends { Extends out.old.items out.new.items }
+{
+    out.extend_from_slice(&p.id.0)?;
+    out.extend_from_slice(&p.index.to_le_bytes())?;
+    Ok(())
+}
+
+#[tactic(auto, using(wire::specs::Writing::extending))]
+fn put_script(out: &mut Vec<u8>, s: &Script) -> Result<(), Memory>
+    ensures written { OnOk result (out.new.items ≡ out.old.items ++ sized.spell s.now) }
+    ensures extends { Extends out.old.items out.new.items }
+{
+    put_compact(out, s.len() as u64)?;
+    out.extend_from_slice(s.as_slice())?;
+    Ok(())
+}
+
+#[tactic(auto, using(wire::specs::Writing::extending))]
+fn put_tx_in(out: &mut Vec<u8>, i: &TxIn) -> Result<(), Memory>
+    ensures written { OnOk result (out.new.items ≡ out.old.items ++ input.spell i.now) }
+    ensures extends { Extends out.old.items out.new.items }
+{
+    put_outpoint(out, &i.prev)?;
+    put_script(out, &i.script)?;
+    out.extend_from_slice(&i.sequence.to_le_bytes())?;
+    Ok(())
+}
+
+#[tactic(auto, using(wire::specs::Writing::extending))]
+fn put_tx_out(out: &mut Vec<u8>, o: &TxOut) -> Result<(), Memory>
+    ensures written { OnOk result (out.new.items ≡ out.old.items ++ output.spell o.now) }
+    ensures extends { Extends out.old.items out.new.items }
+{
+    out.extend_from_slice(&o.value.to_le_bytes())?;
+    put_script(out, &o.script)
+}
+
+#[tactic(auto, using(wire::specs::Writing::extending))]
+fn put_inputs(out: &mut Vec<u8>, inputs: &Inputs) -> Result<(), Memory>
+    ensures written { OnOk result (out.new.items ≡ out.old.items ++ (counted input).spell inputs.now) }
+    ensures extends { Extends out.old.items out.new.items }
+{
+    put_compact(out, inputs.len() as u64)?;
+    for i in inputs.as_slice() {
+        put_tx_in(out, i)?;
+    }
+    Ok(())
+}
+
+#[tactic(auto, using(wire::specs::Writing::extending))]
+fn put_outputs(out: &mut Vec<u8>, outputs: &Outputs) -> Result<(), Memory>
+    ensures written { OnOk result (out.new.items ≡ out.old.items ++ (counted output).spell outputs.now) }
+    ensures extends { Extends out.old.items out.new.items }
+{
+    put_compact(out, outputs.len() as u64)?;
+    for o in outputs.as_slice() {
+        put_tx_out(out, o)?;
+    }
+    Ok(())
+}
+
+#[tactic(auto, using(wire::specs::Writing::extending))]
+fn put_tx(out: &mut Vec<u8>, t: &Tx) -> Result<(), Memory>
+    ensures written { OnOk result (out.new.items ≡ out.old.items ++ transaction.spell t.now) }
+    ensures extends { Extends out.old.items out.new.items }
+{
+    out.extend_from_slice(&t.version.to_le_bytes())?;
+    put_inputs(out, &t.inputs)?;
+    put_outputs(out, &t.outputs)?;
+    out.extend_from_slice(&t.lock_time.to_le_bytes())?;
+    Ok(())
+}
+
+/// Writes the bytes of a transaction at the end.
+#[tactic(auto, using(wire::specs::Writing::extending))]
+pub fn write(tx: &Tx, out: &mut Vec<u8>) -> Result<(), Memory>
+    ensures written { OnOk result (out.new.items ≡ out.old.items ++ transaction.spell tx.now) }
+    ensures kept { OnErr result (out.new.items ≡ out.old.items) }
+{
+    let before = out.len();
+    let written = put_tx(out, tx);
+    if written.is_err() {
+        out.truncate(before);
+    }
+    written
+}

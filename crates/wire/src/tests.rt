@@ -1,0 +1,45 @@
+use super::*;
+use std::test::*;
+
+fn count(bytes: &[u8]) -> Result<u64, WireFault> {
+    Cursor::new(bytes).compact()
+}
+
+#[test]
+fn counts(rt: HostRuntime) {
+    assert_eq!(rt; count(&[0xfc]), Ok(252));
+    assert_eq!(rt; count(&[0xfd, 0xfc, 0]), Err(WireFault::LongForm));
+    assert_eq!(rt; count(&[0xfd, 0xfd, 0]), Ok(253));
+    assert_eq!(rt; count(&[0xfe, 0xff, 0xff, 0, 0]), Err(WireFault::LongForm));
+    assert_eq!(rt; count(&[0xfe, 0, 0, 0, 2]), Ok(33_554_432));
+    assert_eq!(rt; count(&[0xfe, 1, 0, 0, 2]), Err(WireFault::TooLarge));
+    assert_eq!(rt;
+        count(&[0xff, 0, 0, 0, 0, 1, 0, 0, 0]),
+        Err(WireFault::TooLarge)
+    );
+    assert_eq!(rt; count(&[0xfd, 0]), Err(WireFault::Short));
+    assert_eq!(rt; count(&[0xff, 0]), Err(WireFault::Short));
+    assert_eq!(rt; count(&[]), Err(WireFault::Short));
+}
+
+#[test]
+fn parts(rt: HostRuntime) -> Result<(), Fail> {
+    let mut out = Vec::new(rt.alloc());
+    put_compact(&mut out, 252)?;
+    put_compact(&mut out, 70_000)?;
+    assert_eq!(rt; out.as_slice(), [252, 254, 0x70, 0x11, 1, 0].as_slice());
+    let mut cursor = Cursor::new(&[5, 0, 0, 0, 255, 255, 255, 255, 1, 2]);
+    assert_eq!(rt; cursor.u32le(), Ok(5));
+    assert_eq!(rt; cursor.i64le(), Err(WireFault::Short));
+    assert_eq!(rt; cursor.i32le(), Ok(-1));
+    assert_eq!(rt; cursor.take(3), Err(WireFault::Short));
+    assert_eq!(rt; cursor.rest(), [1, 2].as_slice());
+    Ok(())
+}
+
+#[test]
+fn messages(rt: HostRuntime) -> Result<(), Fail> {
+    let text = format!(in rt.alloc(); "{}; {}", Memory, WireFault::Short)?;
+    assert_eq!(rt; text.as_str(), "out of memory; the bytes end too early");
+    Ok(())
+}
