@@ -1,5 +1,5 @@
 -- Bytes that are a block and nothing else.
-use Rattle.std.proofs.Common.{◌≡◌, ◌⊎◌, inl, inr, subst, ℕ, ◌<◌, List, [], ◌++◌, length, Result, Ok, Err, refl, sym, ap, ◌∙◌}
+use Rattle.std.proofs.Common.{◌≡◌, ◌⊎◌, inl, inr, subst, ℕ, ◌<◌, List, [], ◌++◌, length, None, Result, Ok, Err, refl, sym, ap, ◌∙◌}
 use Rattle.std.specs.Prelude.{IfSome}
 use Rattle.std.proofs.lemmas.List.{append-nil}
 use Rattle.wire.specs.declared.fault.WireFault.{WireFault}
@@ -17,6 +17,7 @@ use Rattle.block.specs.Grammar.{block}
 use Rattle.block.specs.Whole.{Faulty, HasExtra}
 use Rattle.block.specs.Reading.{block_at}
 use Rattle.block.specs.Laws.{block_decides}
+use Rattle.block.specs.Decoding.{decoded, read_again, read_faulty, read_extra, decoded-spelled, decoded-faulty}
 
 abbrev pub told_wire : WireFault → ReadFault
 told_wire wire.Short = faults.Short
@@ -36,11 +37,8 @@ whole_extra bytes b rest fits e some =
     let f = found_law block block_at block_decides bytes b rest fits e in
     (b, rest, f.0, f.1, some)
 
-again : (bytes : List ℕ) (b : Block) → block.Lawful b → bytes ≡ block.spell b → block_at bytes ≡ Ok (b, [])
-again bytes b lawful e = ap block_at (e ∙ sym (append-nil (block.spell b))) ∙ block_decides.again b [] lawful
-
 pub whole_reads : (bytes : List ℕ) (x : Block) (rest : List ℕ) (b : Block) → block_at bytes ≡ Ok (x, rest) → block.Lawful b → bytes ≡ block.spell b → (x ≡ b) × (rest ≡ [])
-whole_reads bytes x rest b e lawful is = same_read x b rest [] (sym e ∙ again bytes b lawful is)
+whole_reads bytes x rest b e lawful is = same_read x b rest [] (sym e ∙ read_again bytes b lawful is)
 
 pub whole_refused : (bytes : List ℕ) (f : TxFault) → IsBytes bytes → IfSome (spoken f) (λ w. block_at bytes ≡ Err w) → (told f ≡ faults.Memory) ⊎ Faulty (told f) bytes
 whole_refused bytes txn.Short fits e = inr (refused_law block block_at block_decides bytes wire.Short fits e)
@@ -49,17 +47,10 @@ whole_refused bytes txn.TooLarge fits e = inr (refused_law block block_at block_
 whole_refused bytes txn.Memory fits e = inl refl
 
 pub only_memory : (bytes : List ℕ) (f : TxFault) (b : Block) → IfSome (spoken f) (λ w. block_at bytes ≡ Err w) → block.Lawful b → bytes ≡ block.spell b → told f ≡ faults.Memory
-only_memory bytes txn.Short b e lawful is = absurd (not_both b [] wire.Short (sym (again bytes b lawful is) ∙ e))
-only_memory bytes txn.LongForm b e lawful is = absurd (not_both b [] wire.LongForm (sym (again bytes b lawful is) ∙ e))
-only_memory bytes txn.TooLarge b e lawful is = absurd (not_both b [] wire.TooLarge (sym (again bytes b lawful is) ∙ e))
+only_memory bytes txn.Short b e lawful is = absurd (not_both b [] wire.Short (sym (read_again bytes b lawful is) ∙ e))
+only_memory bytes txn.LongForm b e lawful is = absurd (not_both b [] wire.LongForm (sym (read_again bytes b lawful is) ∙ e))
+only_memory bytes txn.TooLarge b e lawful is = absurd (not_both b [] wire.TooLarge (sym (read_again bytes b lawful is) ∙ e))
 only_memory bytes txn.Memory b e lawful is = refl
-
--- what reading the front gives of bytes that have a fault
-read_faulty : (bytes : List ℕ) (fault : WireFault) → block.Faulty fault bytes → block_at bytes ≡ Err fault
-read_faulty bytes fault faulty = block_decides.refuses fault bytes faulty
-
-read_extra : (bytes : List ℕ) (x : HasExtra bytes) → block_at bytes ≡ Ok (x.0, x.1)
-read_extra bytes x = ap block_at x.3 ∙ block_decides.again x.0 x.1 x.2
 
 -- a refusal of the front is of the fault that the bytes have
 same_wire : (bytes : List ℕ) (f g : WireFault) → block_at bytes ≡ Err f → block.Faulty g bytes → f ≡ g
@@ -91,3 +82,7 @@ extra_only bytes b rest faults.Memory is faulty = absurd faulty
 pub as_refusal : (f e : ReadFault) → (f ≡ faults.Memory) ⊎ (f ≡ e) → (refusal f ≡ refusal faults.Memory) ⊎ (refusal f ≡ refusal e)
 as_refusal f e (inl h) = inl (ap refusal h)
 as_refusal f e (inr h) = inr (ap refusal h)
+
+pub decodes_or_not : (bytes : List ℕ) (e : ReadFault) → (e ≡ faults.Memory) ⊎ Faulty e bytes → (e ≡ faults.Memory) ⊎ (decoded bytes ≡ None)
+decodes_or_not bytes e (inl h) = inl h
+decodes_or_not bytes e (inr h) = inr (decoded-faulty bytes e h)

@@ -7,6 +7,10 @@ use Rattle.hash.specs.declared.id.Id.{Id}
 abbrev pub target : ℕ
 target = 0x7fffff * 256 ^ 29
 
--- the id, read as a number whose lowest byte comes first, is at most the target
+-- the id as a number, its lowest byte first
+abbrev pub number_of : Id → ℕ
+number_of id = little_number 32 id.0
+
+-- the id is at most the target
 abbrev pub MeetsTarget : Id → Type 0
-MeetsTarget id = little_number 32 id.0 ≤ target
+MeetsTarget id = number_of id ≤ target

@@ -14,7 +14,7 @@ mod writing;
 
 pub use block::Block;
 pub use fault::ReadFault;
-pub use genesis::GENESIS;
+pub use genesis::{GENESIS, GENESIS_ID, GENESIS_ROOT, GENESIS_TIME};
 pub use header::Header;
 pub use reading::read;
 pub use reward::subsidy;

@@ -4,6 +4,7 @@ ghost use Rattle.txn.specs.Reading.{tx_at};
 ghost use Rattle.txn.specs.Faults.{spoken};
 ghost use Rattle.block.specs.Grammar.{block};
 ghost use Rattle.block.specs.Whole.{Faulty};
+ghost use Rattle.block.specs.Decoding.{decoded, Decodes};
 ghost use Rattle.block.specs.declared.block.Block.{Block};
 ghost use Rattle.block.specs.declared.fault.ReadFault.{ReadFault};
 ghost use Rattle.block.specs.declared.fault.ReadFault.TheVariants.{Memory};
@@ -80,6 +81,8 @@ pub fn read(bytes: &[u8], alloc: Global) -> Result<Block, ReadFault>
     ensures reads { (b : Block) → block.Lawful b → bytes.now ≡ block.spell b → IsOkUnless result Memory × IfOk result (λ x. x ≡ b) }
     // What has a fault is refused with it, unless memory runs out.
     ensures refuses { (e : ReadFault) → Faulty e bytes.now → (result ≡ Err Memory) ⊎ (result ≡ Err e) }
+    // The same, as a function of the bytes.
+    ensures exact { Decodes result (decoded bytes.now) }
 {
     let mut cursor = Cursor::new(bytes);
     let block = front(&mut cursor, alloc)?;

@@ -4,26 +4,25 @@ use std::test::*;
 use txn::OutPoint;
 
 /// The genesis block's id and Merkle root, as Bitcoin Core prints them.
-const GENESIS_ID: &str = "0f9188f13cb7b2c71f2a335e3a4fc328bf5beb436012afca590b1a11466e2206";
+const GENESIS_ID_TEXT: &str = "0f9188f13cb7b2c71f2a335e3a4fc328bf5beb436012afca590b1a11466e2206";
 
-const GENESIS_ROOT: &str = "4a5e1e4baab89f3a32518a88c31bc87f618f76673e2cc77ab2127b7afdeda33b";
+const GENESIS_ROOT_TEXT: &str = "4a5e1e4baab89f3a32518a88c31bc87f618f76673e2cc77ab2127b7afdeda33b";
 
 #[test]
 fn genesis(rt: HostRuntime) -> Result<(), Fail> {
     let block = read(&GENESIS, rt.alloc())?;
-    let root = Id::read(GENESIS_ROOT.as_bytes()).ok_or("the root is 64 digits")?;
-    assert_eq!(rt; Id::read(GENESIS_ID.as_bytes()), Some(block.id()));
-    assert_eq!(rt; block.header.root, root);
+    assert_eq!(rt; Id::read(GENESIS_ROOT_TEXT.as_bytes()), Some(GENESIS_ROOT));
+    assert_eq!(rt; (block.id(), block.header.root), (GENESIS_ID, GENESIS_ROOT));
     assert_eq!(rt;
         (block.header.version, block.header.time),
-        (1, 1_296_688_602)
+        (1, GENESIS_TIME)
     );
     assert_eq!(rt; (block.header.bits, block.header.nonce), (0x207f_ffff, 2));
     assert_eq!(rt; block.header.prev, OutPoint::NULL.id);
     assert!(rt; meets_target(&block.id()));
     assert_eq!(rt; block.txs.len(), 1);
     for tx in block.txs.as_slice() {
-        assert_eq!(rt; tx.id(rt.alloc())?, root);
+        assert_eq!(rt; tx.id(rt.alloc())?, GENESIS_ROOT);
         assert!(rt; tx.is_coinbase());
     }
     let mut out = Vec::new(rt.alloc());

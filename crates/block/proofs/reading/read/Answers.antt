@@ -5,7 +5,9 @@ use Rattle.std.proofs.lemmas.Grind.{common_steps}
 use Rattle.std.proofs.lemmas.Bool.{eqb-true}
 use Rattle.block.specs.declared.fault.ReadFault.{ReadFault}
 use Rattle.block.specs.declared.block.Block.{Block}
-use Rattle.block.proofs.Whole.{whole_found, whole_extra, whole_reads, whole_refused, only_memory, front_refuses, extra_only, as_refusal}
+use Rattle.block.proofs.Whole.{whole_found, whole_extra, whole_reads, whole_refused, only_memory, front_refuses, extra_only, as_refusal, decodes_or_not}
+use Rattle.block.specs.declared.fault.ReadFault.TheVariants as faults
+use Rattle.block.specs.Decoding.{decoded-spelled, decoded-faulty}
 use Rattle.block.proofs.reading.read.Goals as goal
 
 pub returns-in_err-block-clause-refused : goal.returns-in_err-block-clause-refused
@@ -47,3 +49,16 @@ returns-clause-refuses c = λ e faulty.
     let k = extra_only c.args.bytes.now c.in_ok-block.block c.front.new.bytes e (rw (← c.new-cursor.ensures) c.in_ok-block.ensures) faulty in
     let none = eqb-true (length c.rest.result.now) 0 (sym c.is_empty.ensures ∙ c.if-not-is_empty.false) in
     absurd (omega (arith, ap length c.rest.ensures.rest, none, k.1))
+
+pub returns-in_err-block-clause-exact : goal.returns-in_err-block-clause-exact
+returns-in_err-block-clause-exact c =
+    let p = err_from_is_err_and c.from_residual.result c.from_residual.ensures.1 in
+    rw (p.1, p.2) (decodes_or_not c.args.bytes.now _ (whole_refused c.args.bytes.now c.in_err-block.field-0.0 (λ i. omega (arith, c.type_inv.bytes i)) (rw (← c.new-cursor.ensures) c.in_err-block.ensures)))
+
+pub returns-then-not-is_empty-clause-exact : goal.returns-then-not-is_empty-clause-exact
+returns-then-not-is_empty-clause-exact c = inr (decoded-faulty c.args.bytes.now faults.Extra (whole_extra c.args.bytes.now c.in_ok-block.block c.front.new.bytes (λ i. omega (arith, c.type_inv.bytes i)) (rw (← c.new-cursor.ensures) c.in_ok-block.ensures) (grind (arith, common_steps))))
+
+pub returns-clause-exact : goal.returns-clause-exact
+returns-clause-exact c =
+    let found = whole_found c.args.bytes.now c.in_ok-block.block c.front.new.bytes (λ i. omega (arith, c.type_inv.bytes i)) (rw (← c.new-cursor.ensures) c.in_ok-block.ensures) (sym c.rest.ensures.rest ∙ nil_from_length c.rest.result.now (eqb-true _ _ (sym c.is_empty.ensures ∙ c.if-not-is_empty.false))) in
+    decoded-spelled c.args.bytes.now c.in_ok-block.block found.0 found.1

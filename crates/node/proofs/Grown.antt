@@ -1,0 +1,68 @@
+-- Histories that grow by an entry, and what becomes of a seat's pass.
+use Rattle.std.proofs.Common.{◌≡◌, ℕ, ◌<◌, ◌==◌, Bool, true, false, cond, List, [], ◌∷◌, ◌++◌, length, Option, Some, None, refl, sym, ap, subst, ◌∙◌, arith}
+use Rattle.std.proofs.lemmas.Bool.{eq-eqb}
+use Rattle.std.proofs.lemmas.List.{append-nil}
+use Rattle.node.specs.declared.command.Command.{Command}
+use Rattle.node.specs.declared.reply.Reply.{Reply}
+use Rattle.node.specs.declared.reply.Reply.TheVariants as reply
+use Rattle.node.specs.declared.reply.SubmitReply.{SubmitReply}
+use Rattle.node.specs.declared.entry.Entry.{Entry}
+use Rattle.node.specs.Machine.{Machine}
+use Rattle.node.specs.History.{left, state_after, Stands, LegalFrom, Legal, Answers, own_of, entry}
+use Rattle.node.specs.Early.{Chain, early, opening, step, says}
+use Rattle.node.specs.Pass.{Pass, IsLater, Wrote}
+
+state_after-push : (m : Machine) (s : m.State) (xs : List Entry) (e : Entry) → state_after m s (xs ++ e ∷ []) ≡ left (state_after m s xs) (m.step (state_after m s xs) e.command)
+state_after-push m s [] e = refl
+state_after-push m s (x ∷ xs) e = state_after-push m (left s (m.step s x.command)) xs e
+
+legal_push : (m : Machine) (seats : ℕ) (s : m.State) (xs : List Entry) (e : Entry) → LegalFrom m seats s xs → Stands m seats (state_after m s xs) e → LegalFrom m seats s (xs ++ e ∷ [])
+legal_push m seats s [] e h stands = (stands, tt)
+legal_push m seats s (x ∷ xs) e h stands = (h.0, legal_push m seats (left s (m.step s x.command)) xs e h.1 stands)
+
+own_of-append : (seat : ℕ) (xs ys : List Entry) → own_of seat (xs ++ ys) ≡ own_of seat xs ++ own_of seat ys
+own_of-append seat [] ys = refl
+own_of-append seat (x ∷ xs) ys = at (x.seat == seat) (own_of-append seat xs ys)
+  where
+    at : (b : Bool) → own_of seat (xs ++ ys) ≡ own_of seat xs ++ own_of seat ys
+        → cond b (x ∷ own_of seat (xs ++ ys)) (own_of seat (xs ++ ys)) ≡ cond b (x ∷ own_of seat xs) (own_of seat xs) ++ own_of seat ys
+    at true h = ap (λ (zs : List Entry). x ∷ zs) h
+    at false h = h
+
+own_of-one : (seat : ℕ) (command : Command) (r : Option Reply) → own_of seat (entry seat command r ∷ []) ≡ entry seat command r ∷ []
+own_of-one seat command r = rw (eq-eqb seat seat refl) refl
+
+-- what holds after a submission's step
+pub record Taken (seats : ℕ) (journal : List Entry) (next : Chain) : Type 0 where
+  pub legal : Legal early seats journal
+  pub state : next ≡ state_after early opening journal
+
+pub taken : (seats number : ℕ) (journal more : List Entry) (command : Command) (next : Chain) (value : SubmitReply) → number < seats → Legal early seats journal
+    → step (state_after early opening journal) command ≡ says next value → more ≡ journal ++ entry number command (Some (reply.Submit value)) ∷ [] → Taken seats more next
+taken seats number journal more command next value lt legal stepped e =
+    let last : Entry = entry number command (Some (reply.Submit value)) in
+    let s : Chain = state_after early opening journal in
+    let right : Answers (Some (reply.Submit value)) (step s command) = rw stepped refl in
+    let grown : Taken seats (journal ++ last ∷ []) next = record {
+      legal = legal_push early seats opening journal last legal (record { seat_is = lt; reply_is = right });
+      state = sym (state_after-push early opening journal last ∙ ap (left s) stepped);
+    } in
+    subst (λ (j : List Entry). Taken seats j next) (sym e) grown
+
+-- the pass of a seat that has seen all of a journal
+abbrev pub pass_of : ℕ → ℕ → List Entry → Pass
+pass_of number seats journal = record { number = number; seats = seats; seen = journal; mine = own_of number journal }
+
+pub later : (number seats : ℕ) (journal more : List Entry) (e : Entry) → more ≡ journal ++ e ∷ [] → Legal early seats more → IsLater early (pass_of number seats journal) (pass_of number seats more)
+later number seats journal more e is legal = record { number = refl; seats = refl; grows = (e ∷ [], sym is); legal = legal }
+
+pub same_later : (number seats : ℕ) (journal : List Entry) → Legal early seats journal → IsLater early (pass_of number seats journal) (pass_of number seats journal)
+same_later number seats journal legal = record { number = refl; seats = refl; grows = ([], append-nil journal); legal = legal }
+
+pub wrote : (number seats : ℕ) (journal more : List Entry) (command : Command) (r : Reply) → more ≡ journal ++ entry number command (Some r) ∷ [] → Wrote (pass_of number seats journal) (pass_of number seats more) command (length more) r
+wrote number seats journal more command r is = record {
+  last = (journal, is, ([], append-nil journal));
+  at_is = refl;
+  mine_is = ap (own_of number) is ∙ own_of-append number journal (entry number command (Some r) ∷ []) ∙ ap (λ (xs : List Entry). own_of number journal ++ xs) (own_of-one number command (Some r));
+  own_is = refl;
+}

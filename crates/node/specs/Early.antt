@@ -1,0 +1,120 @@
+-- The small chainstate: a chain of blocks of a coinbase alone.
+use Rattle.std.specs.Prelude.{ℕ, ◌+◌, ◌/◌, ◌%◌, ◌==◌, ◌&&◌, Bool, true, false, not, nat_lt, nat_le, if◌then◌else◌, ℤ, pos, int_le, List, [], ◌∷◌, ◌++◌, length, Option, Some, None}
+use lib.Pointwise.{pointwise}
+use Rattle.std.specs.List.{list_any, starts_with}
+use Rattle.hash.specs.declared.id.Id.{Id}
+use Rattle.txn.specs.declared.outpoint.OutPoint.{OutPoint}
+use Rattle.txn.specs.declared.input.TxIn.{TxIn}
+use Rattle.txn.specs.declared.output.TxOut.{TxOut}
+use Rattle.txn.specs.declared.tx.Tx.{Tx}
+use Rattle.txn.specs.Coinbase.{null}
+use Rattle.txn.specs.Identity as txn
+use Rattle.block.specs.declared.header.Header.{Header}
+use Rattle.block.specs.declared.block.Block.{Block}
+use Rattle.block.specs.declared.genesis.TheConstants.{GENESIS_ID, GENESIS_ROOT, GENESIS_TIME}
+use Rattle.block.specs.Identity.{id_of}
+use Rattle.block.specs.Decoding.{decoded}
+use Rattle.block.specs.Reward.{subsidy_of}
+use Rattle.block.specs.Target.{number_of, target}
+use Rattle.node.specs.declared.command.Command.{Command}
+use Rattle.node.specs.declared.command.Command.TheVariants as command
+use Rattle.node.specs.declared.reply.Reply.{Reply}
+use Rattle.node.specs.declared.reply.Reply.TheVariants as reply
+use Rattle.node.specs.declared.reply.SubmitReply.{SubmitReply}
+use Rattle.node.specs.declared.reply.SubmitReply.TheVariants.{Accepted, Duplicate, TreeFull}
+use Rattle.node.specs.declared.early.Kept.{Kept}
+use Rattle.node.specs.Machine.{Machine}
+
+-- the blocks of the chain, from genesis on, and the last of them
+pub record Chain : Type 0 where
+  pub kept : List Kept
+  pub tip : Kept
+
+abbrev pub genesis : Kept
+genesis = record { id = GENESIS_ID; coinbase = GENESIS_ROOT; time = GENESIS_TIME }
+
+abbrev pub opening : Chain
+opening = record { kept = genesis ∷ []; tip = genesis }
+
+abbrev pub same_bytes : List ℕ → List ℕ → Bool
+same_bytes xs ys = pointwise ◌==◌ xs ys
+
+abbrev pub same_id : Id → Id → Bool
+same_id a b = same_bytes a.0 b.0
+
+abbrev pub is_kept : Chain → Id → Bool
+is_kept chain id = list_any (λ block. same_id block.id id) chain.kept
+
+abbrev pub has_coinbase : Chain → Id → Bool
+has_coinbase chain id = list_any (λ block. same_id block.coinbase id) chain.kept
+
+-- the shortest bytes of a number below 2^23, the lowest first, in which the highest bit is the sign's
+abbrev pub number_bytes : ℕ → List ℕ
+number_bytes n =
+    if nat_lt n 128 then n ∷ []
+    else if nat_lt n 32768 then n % 256 ∷ n / 256 ∷ []
+    else n % 256 ∷ n / 256 % 256 ∷ n / 65536 ∷ []
+
+-- the push of a height (BIP 34): an opcode of its own for 1 to 16
+abbrev pub height_push : ℕ → List ℕ
+height_push n = if nat_le n 16 then (80 + n) ∷ [] else length (number_bytes n) ∷ number_bytes n
+
+-- the parent is the tip, and bits, version, work and time are lawful
+abbrev pub header_fits : Chain → ℕ → Header → Bool
+header_fits chain now h =
+    same_id h.prev chain.tip.id && (h.bits == 0x207fffff) && int_le (pos 4) h.version
+    && nat_lt chain.tip.time h.time && nat_le h.time (now + 7200)
+
+-- a coinbase's only input: 2 to 100 bytes that begin with the height's push
+abbrev pub input_fits : ℕ → List TxIn → Bool
+input_fits height (i ∷ []) =
+    (same_id i.prev.id null.id && (i.prev.index == null.index))
+    && nat_le 2 (length i.script) && nat_le (length i.script) 100
+    && starts_with ◌==◌ i.script (height_push height)
+input_fits height inputs = false
+
+-- its only output: at most the subsidy, to anyone (OP_1)
+abbrev pub output_fits : ℕ → List TxOut → Bool
+output_fits height (o ∷ []) = int_le (pos 0) o.value && int_le o.value (pos (subsidy_of height)) && same_bytes o.script (0x51 ∷ [])
+output_fits height outputs = false
+
+-- the only transaction: a coinbase that was never there, whose id is the root
+abbrev pub txs_fit : Chain → Id → List Tx → Bool
+txs_fit chain root (t ∷ []) =
+    (t.lock_time == 0) && input_fits (length chain.kept) t.inputs && output_fits (length chain.kept) t.outputs
+    && same_id (txn.id_of t) root && not (has_coinbase chain (txn.id_of t))
+txs_fit chain root txs = false
+
+abbrev pub is_plain : Chain → ℕ → Block → Bool
+is_plain chain now b =
+    header_fits chain now b.header && nat_le (number_of (id_of b.header)) target && txs_fit chain b.header.root b.txs
+
+abbrev pub kept_of : Block → Kept
+kept_of b = record { id = id_of b.header; coinbase = b.header.root; time = b.header.time }
+
+abbrev pub with_block : Chain → Kept → Chain
+with_block chain block = record { kept = chain.kept ++ block ∷ []; tip = block }
+
+abbrev pub says : Chain → SubmitReply → Option (Chain × Reply)
+says chain answer = Some (chain, reply.Submit answer)
+
+-- what a submission of this block does, the first that holds
+abbrev pub judged : Chain → ℕ → Block → Option (Chain × Reply)
+judged chain now b =
+    if is_kept chain (id_of b.header) then says chain Duplicate
+    else if nat_le 1000000 (length chain.kept) then says chain TreeFull
+    else if is_plain chain now b then says (with_block chain (kept_of b)) Accepted
+    else None
+
+abbrev pub submitted : Chain → ℕ → Option Block → Option (Chain × Reply)
+submitted chain now None = None
+submitted chain now (Some b) = judged chain now b
+
+-- bytes that are no block take no step, nor does what the small chainstate doesn't judge
+abbrev pub step : Chain → Command → Option (Chain × Reply)
+step chain (command.Submit bytes now) = submitted chain now (decoded bytes)
+step chain (command.Invalidate id) = None
+step chain (command.Reconsider id) = None
+
+abbrev pub early : Machine
+early = record { State = Chain; opening = opening; step = step; best = λ chain. chain.tip.id }

@@ -1,0 +1,88 @@
+ghost use Rattle.std.specs.Prelude.{◌≡◌};
+
+use std::alloc::{AllocError, AllocFailed};
+use std::error::Error;
+use std::fmt;
+use wire::Memory;
+
+/// Why a call of a seat has no answer.
+#[derive(Clone, Copy, Debug, PartialEq, Eq)]
+pub enum Fault {
+    /// There was no memory. No step was taken.
+    Memory = 1,
+    /// The step was taken, and can't be shown yet.
+    Owed,
+    /// The seat and the node don't fit each other. No step was taken.
+    Closed,
+    /// The block is outside what this version judges. No step was taken.
+    Unsupported,
+}
+
+impl fmt::Display for Fault {
+    fn fmt<W: fmt::Write>(&self, f: &mut fmt::Formatter<W>) -> fmt::Result {
+        f.write_str(match self {
+            Fault::Memory => "memory",
+            Fault::Owed => "owed",
+            Fault::Closed => "closed",
+            Fault::Unsupported => "unsupported",
+        })
+    }
+}
+
+impl Error for Fault {}
+
+impl From<Memory> for Fault {
+    ghost use Rattle.node.specs.declared.fault.Fault.TheVariants as variants;
+
+    ghost from_gives = { λ _ fault. fault ≡ variants.Memory };
+
+    fn from(_fault: Memory) -> Fault {
+        Fault::Memory
+    }
+}
+
+impl From<AllocError> for Fault {
+    ghost use Rattle.node.specs.declared.fault.Fault.TheVariants as variants;
+
+    ghost from_gives = { λ _ fault. fault ≡ variants.Memory };
+
+    fn from(_fault: AllocError) -> Fault {
+        Fault::Memory
+    }
+}
+
+impl<T: Drop> From<AllocFailed<T>> for Fault {
+    ghost use Rattle.node.specs.declared.fault.Fault.TheVariants as variants;
+
+    ghost from_gives = { λ _ fault. fault ≡ variants.Memory };
+
+    fn from(_fault: AllocFailed<T>) -> Fault {
+        Fault::Memory
+    }
+}
+
+/// Why a node can't be opened. The numbers are tested in this order.
+#[derive(Clone, Copy, Debug, PartialEq, Eq)]
+pub enum OpenFault {
+    /// The number of workers isn't 1 to 16.
+    Workers = 1,
+    /// The number of seats isn't one that this version has.
+    Seats,
+    /// There was no memory.
+    Memory,
+    /// No reader was handed out, for another cause.
+    Readers,
+}
+
+impl fmt::Display for OpenFault {
+    fn fmt<W: fmt::Write>(&self, f: &mut fmt::Formatter<W>) -> fmt::Result {
+        f.write_str(match self {
+            OpenFault::Workers => "workers",
+            OpenFault::Seats => "seats",
+            OpenFault::Memory => "memory",
+            OpenFault::Readers => "readers",
+        })
+    }
+}
+
+impl Error for OpenFault {}

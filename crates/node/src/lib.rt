@@ -1,0 +1,20 @@
+//! Seats at one history: each call acts as one step of one chainstate.
+#![tactic(auto)]
+
+mod command;
+mod early;
+mod entry;
+mod fault;
+mod history;
+mod node;
+mod params;
+mod reply;
+mod seat;
+
+pub use command::{Bytes, Command};
+pub use entry::Entry;
+pub use fault::{Fault, OpenFault};
+pub use node::Node;
+pub use params::Params;
+pub use reply::{MarkReply, Reply, SubmitReply};
+pub use seat::{Seat, Stamped};

@@ -1,0 +1,74 @@
+use std::fmt;
+use txn::Reason;
+
+/// What a submission came to.
+#[derive(Clone, Copy, Debug, PartialEq, Eq)]
+pub enum SubmitReply {
+    /// The block is the active one.
+    Accepted,
+    /// The block is kept, and another is the active one.
+    Inconclusive,
+    /// The block is kept already, and was found valid.
+    Duplicate,
+    /// The block is kept already, and a block of its branch is marked.
+    DuplicateInvalid,
+    /// The block is kept already, and was never looked at whole.
+    DuplicateInconclusive,
+    /// The block breaks a rule.
+    Rejected(Reason),
+    /// The bytes are no block. It is no step.
+    DecodeFailed,
+    /// No more blocks can be kept.
+    TreeFull,
+}
+
+impl fmt::Display for SubmitReply {
+    fn fmt<W: fmt::Write>(&self, f: &mut fmt::Formatter<W>) -> fmt::Result {
+        match self {
+            SubmitReply::Accepted => f.write_str("accepted"),
+            SubmitReply::Inconclusive => f.write_str("inconclusive"),
+            SubmitReply::Duplicate => f.write_str("duplicate"),
+            SubmitReply::DuplicateInvalid => f.write_str("duplicate-invalid"),
+            SubmitReply::DuplicateInconclusive => f.write_str("duplicate-inconclusive"),
+            SubmitReply::Rejected(reason) => reason.fmt(f),
+            SubmitReply::DecodeFailed => f.write_str("decode-failed"),
+            SubmitReply::TreeFull => f.write_str("tree-full"),
+        }
+    }
+}
+
+/// What setting or taking a mark came to.
+#[derive(Clone, Copy, Debug, PartialEq, Eq)]
+pub enum MarkReply {
+    Done,
+    /// No such block is kept.
+    NotFound,
+    /// The genesis block is never marked.
+    Genesis,
+}
+
+impl fmt::Display for MarkReply {
+    fn fmt<W: fmt::Write>(&self, f: &mut fmt::Formatter<W>) -> fmt::Result {
+        f.write_str(match self {
+            MarkReply::Done => "done",
+            MarkReply::NotFound => "not-found",
+            MarkReply::Genesis => "genesis",
+        })
+    }
+}
+
+/// The reply of a step.
+#[derive(Clone, Copy, Debug, PartialEq, Eq)]
+pub enum Reply {
+    Submit(SubmitReply),
+    Mark(MarkReply),
+}
+
+impl fmt::Display for Reply {
+    fn fmt<W: fmt::Write>(&self, f: &mut fmt::Formatter<W>) -> fmt::Result {
+        match self {
+            Reply::Submit(reply) => reply.fmt(f),
+            Reply::Mark(reply) => reply.fmt(f),
+        }
+    }
+}
