@@ -1,11 +1,13 @@
-//! Double SHA-256, and the ids of blocks and transactions that it gives.
+//! Double SHA-256 with the ids of blocks and transactions that it gives, and HASH160.
 #![tactic(auto)]
 
 mod double;
 mod id;
+mod key_hash;
 
 pub use double::{double_sha, finish};
 pub use id::Id;
+pub use key_hash::hash160;
 
 #[cfg(test)]
 mod tests;

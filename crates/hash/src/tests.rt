@@ -34,3 +34,17 @@ fn digits(rt: HostRuntime) -> Result<(), Fail> {
     assert_eq!(rt; Id::read(&[b'g'; 64]), None);
     Ok(())
 }
+
+/// The public key that the genesis block pays, and its HASH160 (the address 1A1zP1eP5QGefi2DMPTfTL5SLmv7DivfNa).
+const GENESIS_KEY: &str =
+    "04678afdb0fe5548271967f1a67130b7105cd6a828e03909a67962e0ea1f61deb649f6bc3f4cef38c4f35504e51ec112de5c384df7ba0b8d578a4c702b6bf11d5f";
+
+const GENESIS_KEY_HASH: &str = "62e907b15cbf27d5425399ebf6f0fb50ebb88f18";
+
+#[test]
+fn address(rt: HostRuntime) -> Result<(), Fail> {
+    let key = <[u8; 65]>::from_hex(GENESIS_KEY)?;
+    let expected = <[u8; 20]>::from_hex(GENESIS_KEY_HASH)?;
+    assert_eq!(rt; hash160(&key), expected);
+    Ok(())
+}

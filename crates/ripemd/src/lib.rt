@@ -1,0 +1,11 @@
+//! The RIPEMD-160 hash function (Dobbertin, Bosselaers and Preneel, 1996), whose digest has 20 bytes.
+#![tactic(auto)]
+
+pub use hasher::{Ripemd160, digest};
+
+mod block;
+mod hasher;
+mod line;
+mod state;
+#[cfg(test)]
+mod tests;
