@@ -1,6 +1,5 @@
 -- Histories that grow by an entry, and what becomes of a seat's pass.
 use Rattle.std.proofs.Common.{◌≡◌, ℕ, ◌<◌, ◌==◌, Bool, true, false, cond, List, [], ◌∷◌, ◌++◌, length, Option, Some, None, refl, sym, ap, subst, ◌∙◌, arith}
-use Rattle.std.proofs.lemmas.Bool.{eq-eqb}
 use Rattle.std.proofs.lemmas.List.{append-nil}
 use Rattle.node.specs.declared.command.Command.{Command}
 use Rattle.node.specs.declared.reply.Reply.{Reply}
@@ -11,26 +10,7 @@ use Rattle.node.specs.Machine.{Machine}
 use Rattle.node.specs.History.{left, state_after, Stands, LegalFrom, Legal, Answers, own_of, entry}
 use Rattle.node.specs.Early.{Chain, early, opening, step, says}
 use Rattle.node.specs.Pass.{Pass, IsLater, Wrote}
-
-state_after-push : (m : Machine) (s : m.State) (xs : List Entry) (e : Entry) → state_after m s (xs ++ e ∷ []) ≡ left (state_after m s xs) (m.step (state_after m s xs) e.command)
-state_after-push m s [] e = refl
-state_after-push m s (x ∷ xs) e = state_after-push m (left s (m.step s x.command)) xs e
-
-legal_push : (m : Machine) (seats : ℕ) (s : m.State) (xs : List Entry) (e : Entry) → LegalFrom m seats s xs → Stands m seats (state_after m s xs) e → LegalFrom m seats s (xs ++ e ∷ [])
-legal_push m seats s [] e h stands = (stands, tt)
-legal_push m seats s (x ∷ xs) e h stands = (h.0, legal_push m seats (left s (m.step s x.command)) xs e h.1 stands)
-
-own_of-append : (seat : ℕ) (xs ys : List Entry) → own_of seat (xs ++ ys) ≡ own_of seat xs ++ own_of seat ys
-own_of-append seat [] ys = refl
-own_of-append seat (x ∷ xs) ys = at (x.seat == seat) (own_of-append seat xs ys)
-  where
-    at : (b : Bool) → own_of seat (xs ++ ys) ≡ own_of seat xs ++ own_of seat ys
-        → cond b (x ∷ own_of seat (xs ++ ys)) (own_of seat (xs ++ ys)) ≡ cond b (x ∷ own_of seat xs) (own_of seat xs) ++ own_of seat ys
-    at true h = ap (λ (zs : List Entry). x ∷ zs) h
-    at false h = h
-
-own_of-one : (seat : ℕ) (command : Command) (r : Option Reply) → own_of seat (entry seat command r ∷ []) ≡ entry seat command r ∷ []
-own_of-one seat command r = rw (eq-eqb seat seat refl) refl
+use Rattle.node.specs.Laws.{state_after-append, legal_push, own_of-append, own_of-one}
 
 -- what holds after a submission's step
 pub record Taken (seats : ℕ) (journal : List Entry) (next : Chain) : Type 0 where
@@ -45,7 +25,7 @@ taken seats number journal more command next value lt legal stepped e =
     let right : Answers (Some (reply.Submit value)) (step s command) = rw stepped refl in
     let grown : Taken seats (journal ++ last ∷ []) next = record {
       legal = legal_push early seats opening journal last legal (record { seat_is = lt; reply_is = right });
-      state = sym (state_after-push early opening journal last ∙ ap (left s) stepped);
+      state = sym (state_after-append early opening journal (last ∷ []) ∙ ap (left s) stepped);
     } in
     subst (λ (j : List Entry). Taken seats j next) (sym e) grown
 

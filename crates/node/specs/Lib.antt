@@ -1,6 +1,7 @@
 pub mod Calls
 pub mod Early
 pub mod History
+pub mod Laws
 pub mod Machine
 pub mod Opening
 pub mod Pass

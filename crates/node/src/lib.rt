@@ -6,6 +6,7 @@ mod early;
 mod entry;
 mod fault;
 mod history;
+pub mod laws;
 mod node;
 mod params;
 mod reply;
@@ -18,3 +19,6 @@ pub use node::Node;
 pub use params::Params;
 pub use reply::{MarkReply, Reply, SubmitReply};
 pub use seat::{Seat, Stamped};
+
+#[cfg(test)]
+mod tests;

@@ -66,7 +66,10 @@ impl Node {
         ensures each { IfOk result (λ history. (k : ℕ) (p : Pass) → slice_get seats.old k ≡ Some p → IsStanding history.items p) }
         ensures fault { IfErr result (λ fault. fault ≡ faults.Closed) }
     {
-        let Node { alloc, seats: count } = self;
+        let Node {
+            alloc,
+            seats: count,
+        } = self;
         match seats {
             [] => Ok(Vec::new(alloc)),
             [seat] => match seat.give(count) {

@@ -67,11 +67,9 @@ impl Seat {
         let Some(history) = &self.history else {
             return Err(Fault::Closed);
         };
+        let at = history.len();
         match history.judge(bytes, now)? {
-            Verdict::DecodeFailed => Ok(Stamped {
-                at: history.len(),
-                value: SubmitReply::DecodeFailed,
-            }),
+            Verdict::DecodeFailed => Ok(answered(at, SubmitReply::DecodeFailed)),
             Verdict::Duplicate => self.write(bytes, now, SubmitReply::Duplicate, None),
             Verdict::TreeFull => self.write(bytes, now, SubmitReply::TreeFull, None),
             Verdict::Plain(block) => self.write(bytes, now, SubmitReply::Accepted, Some(block)),
@@ -145,4 +143,10 @@ impl Seat {
         let history = self.history.take()?;
         Some(history.into_journal())
     }
+}
+
+fn answered(at: u64, value: SubmitReply) -> Stamped<SubmitReply>
+    ensures { (result.at ≡ at) × (result.value ≡ value) }
+{
+    Stamped { at, value }
 }

@@ -17,7 +17,7 @@ grown c =
     let seat : c.args.number < c.self.inside.seats = subst (λ (h : Held). c.args.number < h.seats) (sym c.self.view_is) c.requires.seat in
     let next : c.extend.new.self ≡ extended (state_after early opening list) c.args.block = c.in_ok-extend.ensures.extended ∙ ap (λ (s : Chain). extended s c.args.block) c.self.invariant.1 in
     let stepped : step (state_after early opening list) (command.Submit c.args.bytes.now c.args.now) ≡ says (extended (state_after early opening list) c.args.block) c.args.value =
-      subst (λ (h : Held). step (state_after early opening h.journal) (command.Submit c.args.bytes.now c.args.now) ≡ says (extended (state_after early opening h.journal) c.args.block) c.args.value) (sym c.self.view_is) c.requires.step in
+    subst (λ (h : Held). step (state_after early opening h.journal) (command.Submit c.args.bytes.now c.args.now) ≡ says (extended (state_after early opening h.journal) c.args.block) c.args.value) (sym c.self.view_is) c.requires.step in
     let pushed : c.push_reserved.new.self.items ≡ list ++ last ∷ [] = c.push_reserved.ensures.items ∙ rw (c.in_ok-reserve.ensures.items, c.in_ok-from_slice.ensures) refl in
     taken c.self.inside.seats c.args.number list c.push_reserved.new.self.items (command.Submit c.args.bytes.now c.args.now) c.extend.new.self c.args.value seat c.self.invariant.0 (stepped ∙ ap (λ (s : Chain). says s c.args.value) (sym next)) pushed
 
