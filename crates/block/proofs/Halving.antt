@@ -1,5 +1,5 @@
 -- Halving again and again is dividing by a power of two.
-use Rattle.std.proofs.Common.{◌≡◌, ℕ, zero, suc, ◌*◌, ◌/◌, ◌^◌, ◌<◌, to_z, w64, pos, sym, ap, ◌∙◌, arith}
+use Rattle.std.proofs.Common.{◌≡◌, ℕ, zero, suc, ◌/◌, ◌^◌, to_z, w64, pos, sym, ap, ◌∙◌, arith}
 use Rattle.std.proofs.Math.Nat.{div-div-eq-div-mul, pow-succ', div-le_self, div-one}
 use Rattle.std.proofs.lemmas.Int.{to_z_pos}
 use Rattle.block.specs.Reward.{halved}

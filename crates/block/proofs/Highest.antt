@@ -1,13 +1,11 @@
 -- An id against the target, by its highest three bytes and the others.
-use Rattle.std.proofs.Common.{◌≡◌, ◌↔◌, ℕ, zero, suc, ◌+◌, ◌*◌, ◌^◌, ◌<◌, ◌≤◌, Bool, true, false, ◌&&◌, List, [], ◌∷◌, ◌++◌, length, take, drop, refl, sym, ap, subst, ◌∙◌, arith}
-use Rattle.std.specs.Prelude.{◌==◌, slice_index}
+use Rattle.std.proofs.Common.{◌≡◌, ◌↔◌, ℕ, suc, ◌+◌, ◌*◌, ◌^◌, ◌≤◌, Bool, true, false, ◌&&◌, List, [], ◌∷◌, ◌++◌, length, refl, sym, ap, subst, ◌∙◌, arith}
+use Rattle.std.specs.Prelude.{◌==◌}
 use Rattle.std.specs.List.{list_all}
 use Rattle.std.proofs.Math.Nat.{pow-succ', mul_assoc, mul_comm}
 use Rattle.std.proofs.lemmas.Bool.{eqb-true, eq-eqb}
-use Rattle.std.proofs.lemmas.List.{take-append-drop, length-take, length-append}
 use Rattle.byteorder.specs.Endian.{little_from}
-use Rattle.byteorder.specs.Numbers.{little_from-cons, little_from-lt, little_from-append}
-use Rattle.wire.specs.Grammar.{IsBytes}
+use Rattle.byteorder.specs.Numbers.{little_from-cons}
 
 -- the number of a list that is two lists, one after the other
 parts : (low high : List ℕ) (m : ℕ) → little_from 0 (length low + m) (low ++ high) ≡ little_from 0 (length low) low + 256 ^ length low * little_from 0 m high

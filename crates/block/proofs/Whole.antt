@@ -17,7 +17,7 @@ use Rattle.block.specs.Grammar.{block}
 use Rattle.block.specs.Whole.{Faulty, HasExtra}
 use Rattle.block.specs.Reading.{block_at}
 use Rattle.block.specs.Laws.{block_decides}
-use Rattle.block.specs.Decoding.{decoded, read_again, read_faulty, read_extra, decoded-spelled, decoded-faulty}
+use Rattle.block.specs.Decoding.{decoded, read_again, read_faulty, read_extra, decoded-faulty}
 
 abbrev pub told_wire : WireFault → ReadFault
 told_wire wire.Short = faults.Short

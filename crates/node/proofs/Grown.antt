@@ -1,13 +1,12 @@
 -- Histories that grow by an entry, and what becomes of a seat's pass.
-use Rattle.std.proofs.Common.{◌≡◌, ℕ, ◌<◌, ◌==◌, Bool, true, false, cond, List, [], ◌∷◌, ◌++◌, length, Option, Some, None, refl, sym, ap, subst, ◌∙◌, arith}
+use Rattle.std.proofs.Common.{◌≡◌, ℕ, ◌<◌, List, [], ◌∷◌, ◌++◌, length, Some, refl, sym, ap, subst, ◌∙◌}
 use Rattle.std.proofs.lemmas.List.{append-nil}
 use Rattle.node.specs.declared.command.Command.{Command}
 use Rattle.node.specs.declared.reply.Reply.{Reply}
 use Rattle.node.specs.declared.reply.Reply.TheVariants as reply
 use Rattle.node.specs.declared.reply.SubmitReply.{SubmitReply}
 use Rattle.node.specs.declared.entry.Entry.{Entry}
-use Rattle.node.specs.Machine.{Machine}
-use Rattle.node.specs.History.{left, state_after, Stands, LegalFrom, Legal, Answers, own_of, entry}
+use Rattle.node.specs.History.{left, state_after, Legal, Answers, own_of, entry}
 use Rattle.node.specs.Early.{Chain, early, opening, step, says}
 use Rattle.node.specs.Pass.{Pass, IsLater, Wrote}
 use Rattle.node.specs.Laws.{state_after-append, legal_push, own_of-append, own_of-one}

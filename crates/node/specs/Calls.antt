@@ -1,12 +1,12 @@
 -- What the writing calls of a seat answer.
-use Rattle.std.specs.Prelude.{◌≡◌, ℕ, List, ◌∷◌, [], ◌++◌, Option, None, IsSome}
+use Rattle.std.specs.Prelude.{◌≡◌, ℕ, List, ◌∷◌, [], ◌++◌, None, IsSome}
 use Rattle.block.specs.Decoding.{decoded}
 use Rattle.node.specs.declared.command.Command.TheVariants as command
 use Rattle.node.specs.declared.fault.Fault.{Fault}
 use Rattle.node.specs.declared.fault.Fault.TheVariants.{Memory, Owed, Closed, Unsupported}
 use Rattle.node.specs.declared.reply.Reply.TheVariants as reply
 use Rattle.node.specs.declared.reply.SubmitReply.{SubmitReply}
-use Rattle.node.specs.declared.reply.SubmitReply.TheVariants.{Accepted, Inconclusive, Duplicate, DuplicateInvalid, DuplicateInconclusive, Rejected, DecodeFailed, TreeFull}
+use Rattle.node.specs.declared.reply.SubmitReply.TheVariants.{DecodeFailed}
 use Rattle.node.specs.Machine.{Machine}
 use Rattle.node.specs.History.{state_after, entry}
 use Rattle.node.specs.Pass.{Pass, Wrote, Stayed}

@@ -1,5 +1,5 @@
 -- Histories that are put together, and their beginnings: for any chainstate.
-use Rattle.std.proofs.Common.{◌≡◌, ℕ, ◌≤◌, ◌==◌, Bool, true, false, cond, List, [], ◌∷◌, ◌++◌, length, Option, Some, None, refl, sym, ap, subst, ◌∙◌, arith}
+use Rattle.std.proofs.Common.{◌≡◌, ℕ, ◌≤◌, ◌==◌, Bool, true, false, cond, List, [], ◌∷◌, ◌++◌, length, Option, None, refl, ap, subst, arith}
 use Rattle.std.proofs.lemmas.Bool.{eq-eqb}
 use mathlib.Core.List.{IsPrefix}
 use Rattle.block.specs.Decoding.{decoded}

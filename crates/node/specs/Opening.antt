@@ -1,5 +1,5 @@
 -- Why a node can't be opened.
-use Rattle.std.specs.Prelude.{◌≡◌, ◌⊎◌, ℕ, ◌<◌, ◌≤◌}
+use Rattle.std.specs.Prelude.{◌≡◌, ℕ, ◌≤◌}
 use Rattle.node.specs.declared.fault.OpenFault.{OpenFault}
 use Rattle.node.specs.declared.fault.OpenFault.TheVariants.{Workers, Seats, Memory, Readers}
 

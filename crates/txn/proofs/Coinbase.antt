@@ -1,5 +1,5 @@
 -- A list of one input is a coinbase's where that input's outpoint is null.
-use Rattle.std.proofs.Common.{◌≡◌, ◌<◌, ◌≤◌, List, [], ◌∷◌, length, get_or, refl, sym, ap, subst, ◌∙◌, arith}
+use Rattle.std.proofs.Common.{◌≡◌, ◌<◌, ◌≤◌, List, [], ◌∷◌, length, get_or, sym, ap, arith}
 use Rattle.txn.specs.declared.input.TxIn.{TxIn}
 
 pub one_input : (xs : List TxIn) (x : TxIn) → 1 ≤ length xs → length xs < 2 → x ≡ get_or xs 0 x → xs ≡ x ∷ []

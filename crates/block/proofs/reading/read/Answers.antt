@@ -1,10 +1,8 @@
-use Rattle.std.proofs.Common.{◌≡◌, ◌⊎◌, inl, inr, ◌<◌, length, Result, Err, ap, sym, ◌∙◌, arith}
+use Rattle.std.proofs.Common.{inr, ◌<◌, length, ap, sym, ◌∙◌, arith}
 use Rattle.std.proofs.lemmas.Result.{err_from_is_err_and}
 use Rattle.std.proofs.lemmas.List.{nil_from_length}
 use Rattle.std.proofs.lemmas.Grind.{common_steps}
 use Rattle.std.proofs.lemmas.Bool.{eqb-true}
-use Rattle.block.specs.declared.fault.ReadFault.{ReadFault}
-use Rattle.block.specs.declared.block.Block.{Block}
 use Rattle.block.proofs.Whole.{whole_found, whole_extra, whole_reads, whole_refused, only_memory, front_refuses, extra_only, as_refusal, decodes_or_not}
 use Rattle.block.specs.declared.fault.ReadFault.TheVariants as faults
 use Rattle.block.specs.Decoding.{decoded-spelled, decoded-faulty}

@@ -3,7 +3,7 @@ use Rattle.node.specs.declared.command.Command.TheVariants as command
 use Rattle.node.specs.declared.reply.Reply.TheVariants as reply
 use Rattle.node.specs.declared.entry.Entry.{Entry}
 use Rattle.node.specs.Early.{Chain, early, opening, step, says}
-use Rattle.node.specs.History.{Legal, state_after, entry}
+use Rattle.node.specs.History.{state_after, entry}
 use Rattle.node.specs.Pass.{Held}
 use Rattle.node.specs.Verdict.{extended}
 use Rattle.node.proofs.Grown.{Taken, taken}

@@ -1,11 +1,10 @@
-use Rattle.std.proofs.Common.{◌≡◌, ℕ, List, [], ◌∷◌, ◌++◌, Some, refl, sym, ap, subst, ◌∙◌}
+use Rattle.std.proofs.Common.{◌≡◌, ℕ, refl, ap, subst, ◌∙◌}
 use Rattle.node.specs.declared.command.Command.TheVariants as command
 use Rattle.node.specs.declared.reply.Reply.TheVariants as reply
-use Rattle.node.specs.declared.entry.Entry.{Entry}
 use Rattle.node.specs.Early.{early}
-use Rattle.node.specs.History.{Legal, entry}
-use Rattle.node.specs.Pass.{Pass, Held, IsLater, Wrote}
-use Rattle.node.proofs.Grown.{pass_of, later, wrote}
+use Rattle.node.specs.History.{Legal}
+use Rattle.node.specs.Pass.{Held}
+use Rattle.node.proofs.Grown.{later, wrote}
 use Rattle.node.proofs.seat.Seat.write.Goals as goal
 
 pub returns-clause-later : goal.returns-clause-later

@@ -1,0 +1,12 @@
+use Rattle.script.specs.Laws.{splits, alone}
+use Rattle.script.specs.CutShort.{rest-cut_short}
+use Rattle.script.proofs.laws.one_split.Goals as goal
+
+pub returns-clause-splits : goal.returns-clause-splits
+returns-clause-splits c = splits
+
+pub returns-clause-cut : goal.returns-clause-cut
+returns-clause-cut c = rest-cut_short
+
+pub returns-clause-alone : goal.returns-clause-alone
+returns-clause-alone c = alone

@@ -1,0 +1,8 @@
+pub mod Op
+pub mod Ops
+pub mod Kinds
+pub mod Signatures
+pub mod Removal
+pub mod Num
+pub mod Laws
+pub mod CutShort

@@ -1,0 +1,55 @@
+-- The opcodes of a script, and the rest: what they are, and how they are found from left to right.
+use Rattle.std.specs.Prelude.{◌≡◌, ℕ, Bool, zero, suc, ◌+◌, List, [], ◌∷◌, ◌++◌, length, take, drop, Option, Some, None, option_and_then, nat_lt, ◌==◌, slice_index, if◌then◌else◌}
+use Rattle.std.specs.List.{AllByRecursion, concat}
+use Rattle.std.specs.Int.{w16, w32, from_le_bytes}
+use Rattle.script.specs.Op.{IsOp, BeginsNone}
+
+-- the script is these opcodes, one after the other, and then a rest that is empty or begins no whole opcode
+pub record Splits (script : List ℕ) (ops : List (List ℕ)) (rest : List ℕ) : Type 0 where
+  pub whole : script ≡ concat ops ++ rest
+  pub each : AllByRecursion IsOp ops
+  pub cut : BeginsNone rest
+
+-- `width` bytes for a length, and that many bytes
+abbrev pub sized : ℕ → List ℕ → ℕ → Option ℕ
+sized width bytes len = if nat_lt (length bytes) width then None else Some (width + len)
+
+-- how many bytes belong to an opcode after its number, where its length is there
+unfoldable pub operand_len : ℕ → List ℕ → Option ℕ
+operand_len number bytes =
+    if nat_lt number 76 then Some number
+    else (if number == 76 then sized 1 bytes (slice_index bytes 0)
+    else (if number == 77 then sized 2 bytes (from_le_bytes w16 (take 2 bytes))
+    else (if number == 78 then sized 4 bytes (from_le_bytes w32 (take 4 bytes))
+    else Some 0)))
+
+-- the length with the number, where so many bytes are there
+abbrev pub within : List ℕ → ℕ → Option ℕ
+within bytes len = if nat_lt (length bytes) len then None else Some (len + 1)
+
+-- the length of the opcode at the front, where it is whole
+abbrev pub op_len : List ℕ → Option ℕ
+op_len [] = None
+op_len (number ∷ bytes) = option_and_then (within bytes) (operand_len number bytes)
+
+-- the opcode at the front, and those of what follows it
+abbrev pub cut_first : (List ℕ → List (List ℕ)) → List ℕ → Option ℕ → List (List ℕ)
+cut_first others bytes None = []
+cut_first others bytes (Some len) = take len bytes ∷ others (drop len bytes)
+
+-- at most so many opcodes
+abbrev pub ops_within : ℕ → List ℕ → List (List ℕ)
+ops_within zero bytes = []
+ops_within (suc most) bytes = cut_first (ops_within most) bytes (op_len bytes)
+
+-- the opcodes of a script
+unfoldable pub ops : List ℕ → List (List ℕ)
+ops script = ops_within (length script) script
+
+-- what follows them: nothing, or a push that is cut short
+unfoldable pub rest : List ℕ → List ℕ
+rest script = drop (length (concat (ops script))) script
+
+-- whether nothing does: the script is wholly readable
+abbrev pub is_whole : List ℕ → Bool
+is_whole script = length (rest script) == 0

@@ -1,0 +1,19 @@
+//! Scripts as opcodes: their kinds, their signature operations, their numbers.
+#![tactic(auto)]
+
+mod kinds;
+pub mod laws;
+mod num;
+pub mod opcode;
+mod ops;
+mod removal;
+mod signatures;
+
+pub use kinds::{is_p2sh, push_only, unspendable};
+pub use num::Num;
+pub use ops::{Ops, number, pushed};
+pub use removal::without;
+pub use signatures::{Counting, p2sh_sigops, sigops};
+
+#[cfg(test)]
+mod tests;
