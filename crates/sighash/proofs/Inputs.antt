@@ -1,0 +1,80 @@
+-- The inputs of the signed copy, and the bytes that are fed for them.
+use Rattle.std.proofs.Common.{◌≡◌, ℕ, ◌+◌, true, false, List, [], ◌∷◌, ◌++◌, length, map, take, drop, get_or, refl, sym, ap, ◌∙◌, append_assoc, arith}
+use Rattle.std.specs.List.{flat_map}
+use Rattle.std.proofs.lemmas.Grind.{flat_map-append}
+use Rattle.std.proofs.lemmas.List.{append-nil, length-append, length-map, length-take, length-drop, drop-drop}
+use Rattle.wire.specs.Spelling.{compact}
+use Rattle.txn.specs.declared.input.TxIn.{TxIn}
+use Rattle.txn.specs.Grammar.{input}
+use Rattle.sighash.specs.Kind.{is_alone}
+use Rattle.sighash.specs.Copy.{own, other, signed_inputs}
+
+one_item : {X : Type 0} (xs : List X) (x : X) → length xs ≡ 1 → x ≡ get_or xs 0 x → xs ≡ x ∷ []
+one_item [] x len is = absurd (omega (arith, len))
+one_item {X = X} (y ∷ []) x len is = ap (λ (z : X). z ∷ []) (sym is)
+one_item (y ∷ z ∷ zs) x len is = absurd (omega (arith, len))
+
+-- the inputs in three parts, of which the middle one is the signed input
+pub record Cut (n : ℕ) (inputs before rest signed after : List TxIn) (x : TxIn) : Type 0 where
+  pub front : before ≡ take n inputs
+  pub back : rest ≡ drop n inputs
+  pub first : signed ≡ take 1 rest
+  pub others : after ≡ drop 1 rest
+  pub long : length signed ≡ 1
+  pub is : x ≡ get_or signed 0 x
+
+middle : (n : ℕ) (inputs before rest signed after : List TxIn) (x : TxIn) → Cut n inputs before rest signed after x → take 1 (drop n inputs) ≡ x ∷ []
+middle n inputs before rest signed after x c = ap (take 1) (sym c.back) ∙ sym c.first ∙ one_item signed x c.long c.is
+
+behind : (n : ℕ) (inputs before rest signed after : List TxIn) (x : TxIn) → Cut n inputs before rest signed after x → drop (n + 1) inputs ≡ after
+behind n inputs before rest signed after x c = sym (c.others ∙ ap (drop 1) c.back ∙ drop-drop 1 n inputs)
+
+pub fed_alone : (kind n : ℕ) (code fed : List ℕ) (inputs before rest signed after : List TxIn) (x : TxIn) → Cut n inputs before rest signed after x → is_alone kind ≡ true
+    → (fed ++ compact 1) ++ input.spell (own code x) ≡ fed ++ (compact (length (signed_inputs kind n code inputs)) ++ flat_map input.spell (signed_inputs kind n code inputs))
+fed_alone kind n code fed inputs before rest signed after x c alone =
+    let list : signed_inputs kind n code inputs ≡ own code x ∷ [] = rw alone (ap (map (own code)) (middle n inputs before rest signed after x c)) in
+    rw list (append_assoc fed (compact 1) (input.spell (own code x)) ∙ ap (λ (t : List ℕ). fed ++ (compact 1 ++ t)) (sym (append-nil (input.spell (own code x)))))
+
+same_length : (kind n : ℕ) (code : List ℕ) (inputs before rest signed after : List TxIn) (x : TxIn) → Cut n inputs before rest signed after x
+    → length ((map (other kind) before ++ own code x ∷ []) ++ map (other kind) after) ≡ length inputs
+same_length kind n code inputs before rest signed after x c =
+    let a : List TxIn = map (other kind) before in
+    let b : List TxIn = map (other kind) after in
+    let o : TxIn = own code x in
+    omega (
+      arith,
+      length-append (a ++ o ∷ []) b,
+      length-append a (o ∷ []),
+      length-map before (other kind),
+      length-map after (other kind),
+      ap length c.front,
+      ap length c.back,
+      ap length c.first,
+      ap length c.others,
+      c.long,
+      length-take n inputs,
+      length-drop n inputs,
+      length-take 1 rest,
+      length-drop 1 rest,
+    )
+
+three_spelled : (a b : List TxIn) (o : TxIn) → flat_map input.spell ((a ++ o ∷ []) ++ b) ≡ (flat_map input.spell a ++ input.spell o) ++ flat_map input.spell b
+three_spelled a b o =
+    flat_map-append input.spell (a ++ o ∷ []) b
+    ∙ ap (λ (t : List ℕ). t ++ flat_map input.spell b) (flat_map-append input.spell a (o ∷ []) ∙ ap (λ (t : List ℕ). flat_map input.spell a ++ t) (append-nil (input.spell o)))
+
+regroup : (fed n a o b : List ℕ) → (((fed ++ n) ++ a) ++ o) ++ b ≡ fed ++ (n ++ ((a ++ o) ++ b))
+regroup fed n a o b = simp append_assoc
+
+pub fed_among : (kind n : ℕ) (code fed : List ℕ) (inputs before rest signed after : List TxIn) (x : TxIn) → Cut n inputs before rest signed after x → is_alone kind ≡ false
+    → (((fed ++ compact (length inputs)) ++ flat_map input.spell (map (other kind) before)) ++ input.spell (own code x)) ++ flat_map input.spell (map (other kind) after)
+    ≡ fed ++ (compact (length (signed_inputs kind n code inputs)) ++ flat_map input.spell (signed_inputs kind n code inputs))
+fed_among kind n code fed inputs before rest signed after x c among =
+    let a : List TxIn = map (other kind) before in
+    let o : TxIn = own code x in
+    let b : List TxIn = map (other kind) after in
+    let list : signed_inputs kind n code inputs ≡ (a ++ o ∷ []) ++ b = rw (among, ← c.front, middle n inputs before rest signed after x c, behind n inputs before rest signed after x c) refl in
+    regroup fed (compact (length inputs)) (flat_map input.spell a) (input.spell o) (flat_map input.spell b)
+    ∙ ap (λ (t : List ℕ). fed ++ (compact (length inputs) ++ t)) (sym (three_spelled a b o))
+    ∙ ap (λ (k : ℕ). fed ++ (compact k ++ flat_map input.spell ((a ++ o ∷ []) ++ b))) (sym (same_length kind n code inputs before rest signed after x c))
+    ∙ ap (λ (l : List TxIn). fed ++ (compact (length l) ++ flat_map input.spell l)) (sym list)

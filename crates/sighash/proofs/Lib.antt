@@ -1,0 +1,4 @@
+pub mod Inputs
+pub mod Lists
+pub mod Outputs
+pub mod Pieces

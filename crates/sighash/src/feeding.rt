@@ -1,0 +1,158 @@
+//! Parts of a transaction, fed to a hasher as they are spelled.
+
+ghost use Rattle.std.specs.Prelude.{◌≡◌, ◌<◌, ℕ, List, ◌++◌, length, map, true};
+ghost use Rattle.std.specs.List.{concat, flat_map};
+ghost use Rattle.sha2.specs.Hashers.{Holds256};
+ghost use Rattle.wire.specs.Spelling.{compact};
+ghost use Rattle.wire.specs.Grammar.{sized, counted};
+ghost use Rattle.txn.specs.Grammar as grammar;
+ghost use Rattle.script.specs.Removal.{bytes_of};
+ghost use Rattle.sighash.specs.Copy.{other, blank, signed_inputs, signed_outputs};
+ghost use Rattle.sighash.specs.Kind as kinds;
+
+use crate::kind::{frees_sequences, is_alone, is_none, is_single};
+use sha2::{Digest, Sha256};
+use txn::{TxIn, TxOut};
+
+/// Feeds a count, in the shortest of its forms.
+#[tactic(auto, unfolding(wire::specs::Spelling::compact))]
+pub fn feed_count(hasher: &mut Sha256, n: u128)
+    ensures { (fed : List ℕ) → Holds256 hasher.old fed → Holds256 hasher.new (fed ++ compact n) }
+{
+    if n < 253 {
+        hasher.update([n as u8]);
+    } else if n < 0x1_0000 {
+        let [a, b] = (n as u16).to_le_bytes();
+        hasher.update([253, a, b]);
+    } else if n < 0x1_0000_0000 {
+        let [a, b, c, d] = (n as u32).to_le_bytes();
+        hasher.update([254, a, b, c, d]);
+    } else {
+        let low = (n % 0x1_0000_0000_0000_0000) as u64;
+        let [a, b, c, d, e, f, g, h] = low.to_le_bytes();
+        hasher.update([255, a, b, c, d, e, f, g, h]);
+    }
+}
+
+/// The length of pieces that are joined.
+fn joined_len(pieces: &[&[u8]]) -> u128
+    ensures { result ≡ length (concat (bytes_of pieces.now)) }
+{
+    let mut total: u128 = 0;
+    for piece in pieces {
+        total += u128::from(len(piece));
+    }
+    total
+}
+
+fn len(piece: &[u8]) -> u64
+    ensures { result ≡ length piece.now }
+{
+    piece.len() as u64
+}
+
+/// Feeds a script that is the pieces joined, after its length.
+fn feed_script(hasher: &mut Sha256, pieces: &[&[u8]])
+    ensures { (fed : List ℕ) → Holds256 hasher.old fed → Holds256 hasher.new (fed ++ sized.spell (concat (bytes_of pieces.now))) }
+{
+    feed_count(hasher, joined_len(pieces));
+    for piece in pieces {
+        hasher.update(*piece);
+    }
+}
+
+/// Feeds an input with another script and another sequence.
+fn feed_input(hasher: &mut Sha256, input: &TxIn, pieces: &[&[u8]], sequence: u32)
+    ensures { (fed : List ℕ) → Holds256 hasher.old fed → Holds256 hasher.new (fed ++ grammar.input.spell (record { prev = input.now.prev; script = concat (bytes_of pieces.now); sequence = sequence })) }
+{
+    hasher.update(input.prev.id.0);
+    hasher.update(input.prev.index.to_le_bytes());
+    feed_script(hasher, pieces);
+    hasher.update(sequence.to_le_bytes());
+}
+
+/// Feeds an input that isn't the signed one.
+fn feed_other(hasher: &mut Sha256, input: &TxIn, kind: u32)
+    ensures { (fed : List ℕ) → Holds256 hasher.old fed → Holds256 hasher.new (fed ++ grammar.input.spell (other kind input.now)) }
+{
+    let sequence = if frees_sequences(kind) {
+        0
+    } else {
+        input.sequence
+    };
+    feed_input(hasher, input, &[], sequence);
+}
+
+/// Feeds inputs that aren't the signed one.
+fn feed_others(hasher: &mut Sha256, inputs: &[TxIn], kind: u32)
+    ensures { (fed : List ℕ) → Holds256 hasher.old fed → Holds256 hasher.new (fed ++ flat_map grammar.input.spell (map (other kind) inputs.now)) }
+{
+    for input in inputs {
+        feed_other(hasher, input, kind);
+    }
+}
+
+/// Feeds the inputs, of which number `n` is the signed one.
+pub fn feed_inputs(hasher: &mut Sha256, inputs: &[TxIn], n: usize, code: &[&[u8]], kind: u32)
+    requires { n < length inputs.now }
+    ensures { (fed : List ℕ) → Holds256 hasher.old fed → Holds256 hasher.new (fed ++ (counted grammar.input).spell (signed_inputs kind n (concat (bytes_of code.now)) inputs.now)) }
+{
+    let (before, rest) = inputs.split_at(n);
+    let (signed, after) = rest.split_at(1);
+    let input = &signed[0];
+    if is_alone(kind) {
+        feed_count(hasher, 1);
+        feed_input(hasher, input, code, input.sequence);
+        return;
+    }
+    feed_count(hasher, inputs.len() as u128);
+    feed_others(hasher, before, kind);
+    feed_input(hasher, input, code, input.sequence);
+    feed_others(hasher, after, kind);
+}
+
+/// Feeds an output.
+fn feed_output(hasher: &mut Sha256, output: &TxOut)
+    ensures { (fed : List ℕ) → Holds256 hasher.old fed → Holds256 hasher.new (fed ++ grammar.output.spell output.now) }
+{
+    hasher.update(output.value.to_le_bytes());
+    feed_count(hasher, output.script.len() as u128);
+    hasher.update(output.script.as_slice());
+}
+
+/// Feeds outputs.
+fn feed_list(hasher: &mut Sha256, outputs: &[TxOut])
+    ensures { (fed : List ℕ) → Holds256 hasher.old fed → Holds256 hasher.new (fed ++ flat_map grammar.output.spell outputs.now) }
+{
+    for output in outputs {
+        feed_output(hasher, output);
+    }
+}
+
+/// Feeds so many outputs of value -1 without a script.
+fn feed_blanks(hasher: &mut Sha256, outputs: &[TxOut])
+    ensures { (fed : List ℕ) → Holds256 hasher.old fed → Holds256 hasher.new (fed ++ flat_map grammar.output.spell (map (λ _. blank) outputs.now)) }
+{
+    for _ in outputs {
+        hasher.update([255, 255, 255, 255, 255, 255, 255, 255, 0]);
+    }
+}
+
+/// Feeds the outputs, for the input of number `n`.
+pub fn feed_outputs(hasher: &mut Sha256, outputs: &[TxOut], n: usize, kind: u32)
+    requires { kinds.is_single kind ≡ true → n < length outputs.now }
+    ensures { (fed : List ℕ) → Holds256 hasher.old fed → Holds256 hasher.new (fed ++ (counted grammar.output).spell (signed_outputs kind n outputs.now)) }
+{
+    if is_none(kind) {
+        feed_count(hasher, 0);
+    } else if is_single(kind) {
+        let (before, rest) = outputs.split_at(n);
+        let (last, _) = rest.split_at(1);
+        feed_count(hasher, before.len() as u128 + 1);
+        feed_blanks(hasher, before);
+        feed_list(hasher, last);
+    } else {
+        feed_count(hasher, outputs.len() as u128);
+        feed_list(hasher, outputs);
+    }
+}
