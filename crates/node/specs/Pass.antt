@@ -33,6 +33,10 @@ abbrev pub fresh_seats : ℕ → ℕ → List Pass
 fresh_seats seats zero = []
 fresh_seats seats (suc n) = fresh_seats seats n ++ fresh seats n ∷ []
 
+-- the seat's entries in what it has seen are its own
+abbrev pub IsOwn : Pass → Type 0
+IsOwn p = own_of p.number p.seen ≡ p.mine
+
 -- what the seat has seen only grew, and is legal
 pub record IsLater (m : Machine) (p q : Pass) : Type 0 where
   pub number : q.number ≡ p.number
@@ -45,7 +49,7 @@ pub record Wrote (p q : Pass) (command : Command) (at : ℕ) (reply : Reply) : T
   pub last : (before : List Entry) × (q.seen ≡ before ++ entry p.number command (Some reply) ∷ []) × IsPrefix p.seen before
   pub at_is : at ≡ length q.seen
   pub mine_is : q.mine ≡ p.mine ++ entry p.number command (Some reply) ∷ []
-  pub own_is : own_of q.number q.seen ≡ q.mine
+  pub own_is : IsOwn q
 
 -- no step was taken
 pub record Stayed (p q : Pass) (at : ℕ) : Type 0 where

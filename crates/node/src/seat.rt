@@ -49,7 +49,7 @@ impl Model for Seat {
 
 impl Seat {
     ghost use Rattle.node.specs.Calls.{Submitted, Faulted};
-    ghost use Rattle.node.specs.Pass.{IsLater, IsRead, IsStanding, Wrote, fresh};
+    ghost use Rattle.node.specs.Pass.{IsLater, IsOwn, IsRead, IsStanding, Wrote, fresh};
 
     /// Submits the bytes of a block, at a moment in seconds since 1970.
     ///
@@ -62,6 +62,7 @@ impl Seat {
     ) -> Result<Stamped<SubmitReply>, Fault>
         ensures later { IsLater early self.old self.new }
         ensures answer { IfOk result (λ r. Submitted self.old self.new bytes.now now r.at r.value) }
+        ensures own { IsOwn self.new }
         ensures fault { IfErr result (λ fault. Faulted early self.old self.new bytes.now now fault) }
     {
         let Some(history) = &self.history else {
@@ -83,6 +84,7 @@ impl Seat {
     pub fn getbestblockhash(&mut self, _node: &Node) -> Result<Stamped<Id>, Fault>
         ensures later { IsLater early self.old self.new }
         ensures answer { IfOk result (λ r. IsRead early early.best self.old self.new r.at r.value) }
+        ensures own { IsOwn self.new }
         ensures fault { IfErr result (λ fault. (fault ≡ faults.Closed) × (self.new ≡ self.old)) }
     {
         let Some(history) = &self.history else {
@@ -105,6 +107,7 @@ impl Seat {
         requires step { step (state_after early opening self.old.seen) (command.Submit bytes.now now) ≡ says (extended (state_after early opening self.old.seen) block) value }
         ensures later { IsLater early self.old self.new }
         ensures answer { IfOk result (λ r. (r.value ≡ value) × Wrote self.old self.new (command.Submit bytes.now now) r.at (reply.Submit value)) }
+        ensures own { IsOwn self.new }
         ensures fault { IfErr result (λ fault. ((fault ≡ faults.Memory) ⊎ (fault ≡ faults.Closed)) × (self.new ≡ self.old)) }
     {
         let number = self.number;
