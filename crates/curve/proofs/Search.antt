@@ -1,0 +1,73 @@
+-- A search in a list in order, and the set of the list's elements.
+use Rattle.std.proofs.Common.{◌≡◌, ℕ, ◌+◌, ◌-◌, ◌≤◌, Bool, true, false, ◌||◌, List, ◌∷◌, length, get_or, Result, Ok, Err, refl, sym, ap, ◌∙◌, subst, inl, inr, arith}
+use Rattle.std.specs.declared.cmp.Ordering.{Ordering}
+use Rattle.std.specs.declared.cmp.Ordering.TheVariants.{Less, Greater}
+use Rattle.std.specs.Ordering.{is_eq, is_lt, eq_by_cmp, ordering_reverse}
+use Rattle.std.specs.Cmp.{IsTotalOrder, Equal-is}
+use Rattle.std.specs.Result.{is_ok}
+use Rattle.std.specs.List.{insert}
+use Rattle.std.specs.List.Sorted.{IsSorted, IsPermutation, IsSearchInRange, IsBinarySearchResult}
+use Rattle.std.specs.FinSet as set
+use Rattle.std.specs.FinSet.{FinSet, IsAntisymmetric}
+use Rattle.std.proofs.lemmas.Bool.{cases_lt, cases_eq}
+use Rattle.std.proofs.lemmas.Cmp.{tied_back}
+use Rattle.std.proofs.lemmas.List.Edits.{length-insert, get_or-insert_below, get_or-insert_at, get_or-insert_above}
+use Rattle.std.proofs.lemmas.List.Folds.{list_any_at, list_any_none}
+use Rattle.std.proofs.lemmas.List.Sorted.{searchable_from_sorted, list_any-IsPermutation, IsPermutation-insert}
+
+module _ {K : Type 0} {R : K → K → Ordering} (o : IsTotalOrder R) where
+  below : (x k : K) → R x k ≡ Less → R k x ≡ Greater
+  below x k h = o.antisymm k x ∙ ap ordering_reverse h
+
+  above : (x k : K) → R x k ≡ Greater → R k x ≡ Less
+  above x k h = o.antisymm k x ∙ ap ordering_reverse h
+
+  -- a search's answer says whether the element is in the set
+  pub is_ok-search : (xs : List K) (k : K) (r : Result ℕ ℕ) → IsSorted R xs → IsSearchInRange r (length xs) → IsBinarySearchResult (λ x. R x k) xs r → is_ok r ≡ set.contains (set.from_list {R = R} xs) k
+  is_ok-search xs k (Ok at) sorted in_range is =
+      sym (set.contains-from_list o xs k ∙ list_any_at (eq_by_cmp R k) xs at k in_range (ap is_eq (tied_back o (get_or xs at k) k (is k))))
+  is_ok-search xs k (Err at) sorted in_range is =
+      let parts = is (searchable_from_sorted o (λ x. x) xs k sorted) in
+      sym (set.contains-from_list o xs k ∙ list_any_none (eq_by_cmp R k) xs (λ i d lt. elim (cases_lt i at) [
+        | inl low ↦ ap is_eq (below _ _ (parts.0 i d (omega arith) low))
+        | inr high ↦ ap is_eq (above _ _ (parts.1 i d high lt))
+      ]))
+
+  -- an element at the place where a search missed it keeps the order
+  pub IsSorted-insert : (xs : List K) (k : K) (at : ℕ) → IsSorted R xs → at ≤ length xs → IsBinarySearchResult (λ x. R x k) xs (Err at) → IsSorted R (insert xs at k)
+  IsSorted-insert xs k at sorted in_range is i d low lt =
+      let long = length-insert xs at k in_range in
+      let parts = is (searchable_from_sorted o (λ x. x) xs k sorted) in
+      elim (cases_lt (i + 1) at) [
+        | inl before ↦ rw (get_or-insert_below xs at k d (i + 1) before in_range, get_or-insert_below xs at k d i (omega arith) in_range) (sorted i d (omega arith) (omega arith))
+        | inr from ↦ elim (cases_eq (i + 1) at) [
+          | inl here ↦
+              rw (here, get_or-insert_at xs at k d in_range, get_or-insert_below xs at k d i (omega arith) in_range)
+              (ap is_lt (below _ _ (parts.0 i d (omega arith) (omega arith))))
+          | inr past ↦
+              rw (get_or-insert_above xs at k d i (omega arith) in_range)
+              (elim (cases_eq i at) [
+                | inl first ↦ rw (first, get_or-insert_at xs at k d in_range) (ap is_lt (parts.1 at d (omega arith) (omega arith)))
+                | inr later ↦
+                    let e : i ≡ i - 1 + 1 = omega arith in
+                    let moved : get_or (insert xs at k) i d ≡ get_or xs (i - 1) d = ap (λ j. get_or (insert xs at k) j d) e ∙ get_or-insert_above xs at k d (i - 1) (omega arith) in_range in
+                    rw moved (subst (λ j. is_lt (R (get_or xs j d) (get_or xs (i - 1) d)) ≡ false) (sym e) (sorted (i - 1) d (omega arith) (omega arith)))
+              ])
+        ]
+      ]
+
+  module _ (exact : IsAntisymmetric R) where
+    -- a list's set doesn't depend on its order
+    pub from_list-IsPermutation : (xs ys : List K) → IsPermutation xs ys → set.from_list {R = R} xs ≡ set.from_list ys
+    from_list-IsPermutation xs ys p = set.same_set o exact _ _ (λ q. set.contains-from_list o xs q ∙ list_any-IsPermutation (eq_by_cmp R q) xs ys p ∙ sym (set.contains-from_list o ys q))
+
+    pub from_list-insert : (xs : List K) (at : ℕ) (k : K) → set.from_list {R = R} (insert xs at k) ≡ set.insert (set.from_list xs) k
+    from_list-insert xs at k = sym (from_list-IsPermutation (k ∷ xs) (insert xs at k) (IsPermutation-insert xs at k))
+
+    -- what is there already changes nothing
+    pub insert_again : (s : FinSet R) (k : K) → set.contains s k ≡ true → set.insert s k ≡ s
+    insert_again s k h = set.same_set o exact _ _ (λ q. set.contains-insert o s k q ∙ one q (eq_by_cmp R q k) refl)
+      where
+        one : (q : K) (b : Bool) → eq_by_cmp R q k ≡ b → (b || set.contains s q) ≡ set.contains s q
+        one q true e = sym h ∙ set.contains_tied o s q k ((Equal-is (R q k)).0 e)
+        one q false e = refl

@@ -1,0 +1,102 @@
+ghost use Rattle.std.specs.Prelude.{◌≡◌, length, IfOk, IfErr, OnOk, OnErr};
+ghost use Rattle.std.specs.FinSet as set;
+ghost use Rattle.std.specs.List.Sorted.{IsBinarySearchResult, IsSearchInRange};
+ghost use Rattle.curve.specs.Triple.{triple_of, triple_cmp};
+
+use crate::fault::TableFault;
+use crate::lines;
+use crate::triple::Entry;
+use std::alloc::Global;
+use std::marker::Model;
+use wire::Memory;
+
+/// The signatures that are valid: triples of a key, a signature without its type byte, and the digest
+/// that it signs. A triple that isn't there is not valid.
+#[derive(Clone, Drop)]
+pub struct Table {
+    /// In order.
+    entries: Vec<Entry>,
+}
+
+impl Model for Table {
+    ghost use Rattle.std.specs.FinSet as set;
+    ghost use Rattle.std.specs.List.Sorted.{IsSorted};
+    ghost use Rattle.curve.specs.Triple.{triple_cmp, coded_triple};
+
+    ghost Value = { set.FinSet triple_cmp };
+
+    ghost coded = { set.code coded_triple };
+
+    ghost view = { λ t. set.from_list t.entries.items };
+
+    ghost invariant = { λ t. IsSorted triple_cmp t.entries.items };
+}
+
+impl Table {
+    ghost use Rattle.curve.specs.Lines.{lines, IsTableOf, IsFaultOf};
+
+    /// A table without triples.
+    pub fn new(alloc: Global) -> Table
+        ensures { result ≡ set.empty }
+    {
+        Table {
+            entries: Vec::new(alloc),
+        }
+    }
+
+    /// The table of a text: each of its lines has a key, a signature without its type byte and a digest in
+    /// 64 digits, in lower-case hexadecimal and parted by spaces, `-` for no bytes. Lines without words, or
+    /// whose first begins with `#`, are skipped.
+    pub fn from_lines(alloc: Global, text: &[u8]) -> Result<Table, TableFault>
+        ensures found { IfOk result (IsTableOf (lines text.now)) }
+        ensures refused { IfErr result (IsFaultOf (lines text.now)) }
+    {
+        let mut entries = Vec::new(alloc);
+        let mut number = 0;
+        for line in text.split(|byte| *byte == b'\n') {
+            number += 1;
+            if let Some(entry) = lines::read(alloc, line, number)? {
+                entries.push(entry)?;
+            }
+        }
+        entries.sort_unstable_by(|one, other| one.compare_entries(other));
+        Ok(Table { entries })
+    }
+
+    /// Whether a triple is there. The signature is without its type byte.
+    pub fn has(&self, key: &[u8], signature: &[u8], digest: &[u8; 32]) -> bool
+        ensures { result ≡ set.contains self.now (triple_of key.now signature.now digest.now) }
+    {
+        place(self.entries.as_slice(), key, signature, digest).is_ok()
+    }
+
+    /// Puts a triple in. The signature is without its type byte.
+    pub fn add(&mut self, key: &[u8], signature: &[u8], digest: &[u8; 32]) -> Result<(), Memory>
+        ensures ok { let t = triple_of key.now signature.now digest.now in
+            OnOk result (self.new ≡ set.insert self.old t) }
+        ensures err { OnErr result (self.new ≡ self.old) }
+    {
+        if let Err(at) = place(self.entries.as_slice(), key, signature, digest) {
+            let alloc = *self.entries.allocator();
+            let entry = Entry::from_parts(alloc, key, signature, digest)?;
+            self.entries.insert(at, entry)?;
+        }
+        Ok(())
+    }
+
+    /// An equal table.
+    pub fn copy(&self) -> Result<Table, Memory>
+        ensures { IfOk result (λ t. t ≡ self.now) }
+    {
+        Ok(self.clone()?)
+    }
+}
+
+/// The place of a triple among entries in order, or where it would go.
+fn place(entries: &[Entry], key: &[u8], signature: &[u8], digest: &[u8; 32]) -> Result<usize, usize>
+    ensures bound { IsSearchInRange result (length entries.now) }
+    ensures position { let t = triple_of key.now signature.now digest.now in
+        IsBinarySearchResult (λ e. triple_cmp e t) entries.now result }
+{
+    entries.binary_search_by(|entry| entry.compare(key, signature, digest))
+}

@@ -1,0 +1,73 @@
+ghost use Rattle.std.specs.Prelude.{◌≡◌, IfOk};
+ghost use Rattle.curve.specs.Triple.{triple_of, triple_cmp};
+
+use std::alloc::{AllocError, Global};
+use std::cmp::Ordering;
+use std::marker::Model;
+
+/// A triple as a table keeps it: a key, a signature without its type byte, and a digest.
+#[derive(Clone, Drop)]
+pub struct Entry {
+    key: Vec<u8>,
+    signature: Vec<u8>,
+    digest: [u8; 32],
+}
+
+impl Model for Entry {
+    ghost use Rattle.curve.specs.Triple.{Triple, triple_of};
+
+    ghost Value = { Triple };
+
+    ghost view = { λ e. triple_of e.key.items e.signature.items e.digest };
+}
+
+impl Entry {
+    /// The triple of these parts.
+    pub fn new(key: Vec<u8>, signature: Vec<u8>, digest: [u8; 32]) -> Entry
+        ensures { result ≡ triple_of key.items signature.items digest }
+    {
+        Entry {
+            key,
+            signature,
+            digest,
+        }
+    }
+
+    /// The triple of these parts, in memory of its own.
+    pub fn from_parts(
+        alloc: Global,
+        key: &[u8],
+        signature: &[u8],
+        digest: &[u8; 32],
+    ) -> Result<Entry, AllocError>
+        ensures { IfOk result (λ e. e ≡ triple_of key.now signature.now digest.now) }
+    {
+        Ok(Entry {
+            key: key.to_vec(alloc)?,
+            signature: signature.to_vec(alloc)?,
+            digest: *digest,
+        })
+    }
+
+    /// How the entry stands to the triple of these parts.
+    pub fn compare(&self, key: &[u8], signature: &[u8], digest: &[u8; 32]) -> Ordering
+        ensures { result ≡ triple_cmp self.now (triple_of key.now signature.now digest.now) }
+    {
+        self.key
+            .as_slice()
+            .cmp(&key)
+            .then_with(|| self.signature.as_slice().cmp(&signature))
+            .then_with(|| self.digest.cmp(digest))
+    }
+
+    /// How the entry stands to another.
+    pub fn compare_entries(&self, other: &Entry) -> Ordering
+        ensures { result ≡ triple_cmp self.now other.now }
+    {
+        self.compare(
+            other.key.as_slice(),
+            other.signature.as_slice(),
+            &other.digest,
+        )
+    }
+}
