@@ -1,4 +1,5 @@
 pub mod Halving
 pub mod Highest
 pub mod Parts
+pub mod Tree
 pub mod Whole

@@ -3,6 +3,7 @@ pub mod Faults
 pub mod Grammar
 pub mod Identity
 pub mod Laws
+pub mod Merkle
 pub mod Reading
 pub mod Reward
 pub mod Target

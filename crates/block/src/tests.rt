@@ -68,3 +68,42 @@ fn targets(rt: HostRuntime) {
     limit[31] = 0x7e;
     assert!(rt; meets_target(&Id(limit)));
 }
+
+/// Roots of the ids of 32 times 1, 32 times 2 and so on, two, three and five of them, as Python's hashlib gives them.
+const ROOTS: [(usize, &str); 3] = [
+    (
+        2,
+        "b4100303b9e99ada4b479b0bb93d9b549cb057a1c4be08896bc982debe20ce39",
+    ),
+    (
+        3,
+        "acbd47d5022a6c5e954ad677df8ec221c893f871889826df53f0f1ad3f023e22",
+    ),
+    (
+        5,
+        "d3e522600f2e93120ad9331f4e199c5dd98262a23ff8ae8b3f8b36720f87e226",
+    ),
+];
+
+#[test]
+fn merkle_roots(rt: HostRuntime) -> Result<(), Fail> {
+    let ids = [
+        Id([1; 32]),
+        Id([2; 32]),
+        Id([3; 32]),
+        Id([4; 32]),
+        Id([5; 32]),
+    ];
+    assert_eq!(rt; merkle(&[], rt.alloc())?, (Id([0; 32]), false));
+    assert_eq!(rt; merkle(&ids[..1], rt.alloc())?, (ids[0], false));
+    for (count, expected) in ROOTS {
+        let expected = Id::read(expected.as_bytes()).ok_or("64 digits")?;
+        let (front, _) = ids.split_at(count.min(5));
+        assert_eq!(rt; merkle(front, rt.alloc())?, (expected, false));
+    }
+    // Three ids have the root of four of which the last two are equal: those are the twin.
+    let (three, _) = merkle(&ids[..3], rt.alloc())?;
+    let twin = [ids[0], ids[1], ids[2], ids[2]];
+    assert_eq!(rt; merkle(&twin, rt.alloc())?, (three, true));
+    Ok(())
+}
