@@ -1,0 +1,5 @@
+use Rattle.locks.specs.Laws as laws
+use Rattle.locks.proofs.laws.one_median.Goals as goal
+
+pub returns : goal.returns
+returns c = laws.one_median

@@ -1,0 +1,4 @@
+pub mod Finality
+pub mod Laws
+pub mod MedianTime
+pub mod Relative

@@ -1,0 +1,14 @@
+//! Locks of transactions: median time past, finality, and relative locks.
+#![tactic(auto)]
+
+mod finality;
+pub mod laws;
+mod median_time;
+mod relative;
+
+pub use finality::{LOCKTIME_THRESHOLD, SEQUENCE_FINAL, is_final};
+pub use median_time::{MEDIAN_TIME_SPAN, median};
+pub use relative::{Place, relative_ok};
+
+#[cfg(test)]
+mod tests;

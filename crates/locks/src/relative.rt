@@ -1,0 +1,84 @@
+ghost use Rattle.std.specs.Prelude.{◌≡◌, ◌==◌, ◌<◌, ◌^◌, length};
+ghost use Rattle.std.specs.Int.{bit_at};
+ghost use Rattle.std.specs.List.{list_all, zip};
+ghost use Rattle.locks.specs.Relative.{duration, is_met, are_met};
+
+use txn::{Tx, TxIn};
+
+/// An input with this bit has no relative lock (BIP 68).
+const DISABLE_FLAG: u32 = 1 << 31;
+
+/// An input with this bit is locked for a time, and else for a number of blocks (BIP 68).
+const TYPE_FLAG: u32 = 1 << 22;
+
+/// The bits of a sequence number that say for how long (BIP 68).
+const DURATION_MASK: u32 = 0xffff;
+
+/// Seconds in a unit of a relative lock that is a time (BIP 68).
+const TIME_UNIT: u64 = 512;
+
+/// The least version, as an unsigned number, of a transaction with relative locks (BIP 68).
+const LEAST_VERSION: u32 = 2;
+
+/// From where the lock of an input counts.
+#[derive(Clone, Copy, Debug, PartialEq, Eq)]
+pub struct Place {
+    /// The height of the block that holds the spent coin.
+    pub height: u32,
+    /// The median time past of the block before that one, or of genesis where the height is 0.
+    pub median: u32,
+}
+
+/// Whether a transaction's relative locks are met in a block of this height (BIP 68; Bitcoin Core's
+/// `SequenceLocks`). A place stands for each input, in order; the cutoff is the median time past of the
+/// block's parent.
+#[tactic(auto, unfolding(crate::specs::Relative::are_met))]
+pub fn relative_ok(tx: &Tx, places: &[Place], height: u32, cutoff: u32) -> bool
+    requires { length places.now ≡ length tx.now.inputs }
+    ensures { result ≡ are_met tx.now places.now height cutoff }
+{
+    tx.version.cast_unsigned() < LEAST_VERSION
+        || is_each_met(tx.inputs.as_slice(), places, height, cutoff)
+}
+
+/// Whether the lock of each input is met.
+fn is_each_met(inputs: &[TxIn], places: &[Place], height: u32, cutoff: u32) -> bool
+    ensures { result ≡ list_all (λ p. is_met height cutoff p.0.sequence p.1) (zip inputs.now places.now) }
+{
+    inputs.iter().zip(places).all(|(input, place)| is_met(input.sequence, place, height, cutoff))
+}
+
+/// Whether the lock of an input with this sequence number is met.
+#[tactic(auto, unfolding(crate::specs::Relative::is_met))]
+fn is_met(sequence: u32, place: &Place, height: u32, cutoff: u32) -> bool
+    ensures { result ≡ is_met height cutoff sequence place.now }
+{
+    if is_disabled(sequence) {
+        return true;
+    }
+    let duration = u64::from(duration(sequence));
+    if is_time(sequence) {
+        u64::from(place.median) + TIME_UNIT * duration <= u64::from(cutoff)
+    } else {
+        u64::from(place.height) + duration <= u64::from(height)
+    }
+}
+
+fn is_disabled(sequence: u32) -> bool
+    ensures { result ≡ (bit_at sequence 31 == 1) }
+{
+    sequence & DISABLE_FLAG != 0
+}
+
+fn is_time(sequence: u32) -> bool
+    ensures { result ≡ (bit_at sequence 22 == 1) }
+{
+    sequence & TYPE_FLAG != 0
+}
+
+fn duration(sequence: u32) -> u32
+    ensures value { result ≡ duration sequence }
+    ensures bound { result < 2 ^ 16 }
+{
+    sequence & DURATION_MASK
+}

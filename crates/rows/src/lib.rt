@@ -1,0 +1,15 @@
+//! Scenarios with the output that they must have, run through the program.
+#![tactic(auto)]
+
+#[cfg(test)]
+mod answers;
+#[cfg(test)]
+mod command_line;
+#[cfg(test)]
+mod outside_blocks;
+#[cfg(test)]
+mod play;
+#[cfg(test)]
+mod scenario_faults;
+#[cfg(test)]
+mod streams;

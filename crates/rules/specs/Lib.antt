@@ -1,0 +1,4 @@
+pub mod Context
+pub mod First
+pub mod Height
+pub mod InForce

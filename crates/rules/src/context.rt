@@ -1,0 +1,82 @@
+ghost use Rattle.std.specs.Prelude.{◌≡◌, ◌+◌, nat_lt};
+ghost use Rattle.std.specs.List.{list_all};
+ghost use Rattle.locks.specs.Finality.{is_final};
+ghost use Rattle.rules.specs.First.{first_broken};
+ghost use Rattle.rules.specs.InForce.{all};
+ghost use Rattle.rules.specs.Context.{header_rules, block_rules, coinbase_script};
+
+use crate::height::begins_with_height;
+use crate::in_force::InForce;
+use block::{Block, Header};
+use locks::is_final;
+use txn::{Reason, Tx};
+
+/// The target of every block of regtest, in its compact form.
+pub const REGTEST_BITS: u32 = 0x207f_ffff;
+
+/// So many seconds a block's time may lie ahead of the clock (Bitcoin Core's `MAX_FUTURE_BLOCK_TIME`).
+pub const MAX_FUTURE_BLOCK_TIME: u64 = 7200;
+
+/// The first rule that a header breaks by its place (Bitcoin Core's `ContextualCheckBlockHeader`).
+///
+/// The cutoff is the median time past of its parent; `now` is the time of the clock; both and the header's
+/// time are in seconds since 1970.
+pub fn header_context(header: &Header, cutoff: u32, now: u64) -> Option<Reason>
+    ensures { result ≡ first_broken (header_rules all header.now cutoff now) }
+{
+    if header.bits != REGTEST_BITS {
+        return Some(Reason::WrongBits);
+    }
+    if header.time <= cutoff {
+        return Some(Reason::TimeTooOld);
+    }
+    if is_too_new(header.time, now) {
+        return Some(Reason::TimeTooNew);
+    }
+    if InForce::ALL.is_outdated(header.version) {
+        return Some(Reason::BadVersion);
+    }
+    None
+}
+
+/// Whether a time lies too far ahead of the clock. No time of a header is near the bound at which the sum stops.
+fn is_too_new(time: u32, now: u64) -> bool
+    ensures { result ≡ nat_lt (now + 7200) time }
+{
+    now.saturating_add(MAX_FUTURE_BLOCK_TIME) < u64::from(time)
+}
+
+/// The first rule that a block's transactions break by its place (Bitcoin Core's `ContextualCheckBlock`).
+///
+/// The cutoff is the median time past of the block's parent (BIP 113). The first transaction is taken as the
+/// coinbase.
+pub fn block_context(block: &Block, height: u32, cutoff: u32) -> Option<Reason>
+    ensures { result ≡ first_broken (block_rules all block.now height cutoff) }
+{
+    if !is_each_final(block.txs.as_slice(), height, cutoff) {
+        return Some(Reason::NonFinal);
+    }
+    if InForce::ALL.bip34 && !begins_with_height(coinbase_script(block.txs.as_slice()), height) {
+        return Some(Reason::CoinbaseHeight);
+    }
+    None
+}
+
+fn is_each_final(txs: &[Tx], height: u32, cutoff: u32) -> bool
+    ensures { result ≡ list_all (λ tx. is_final tx height cutoff) txs.now }
+{
+    txs.iter().all(|tx| is_final(tx, height, cutoff))
+}
+
+/// The script of the coinbase's input.
+fn coinbase_script(txs: &[Tx]) -> &[u8]
+    ensures { result.now ≡ coinbase_script txs.now }
+{
+    let Some(coinbase) = txs.first() else {
+        return &[];
+    };
+    match coinbase.inputs.as_slice().first() {
+        Some(input) => input.script.as_slice(),
+        None => &[],
+    }
+}

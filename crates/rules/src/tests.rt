@@ -1,0 +1,121 @@
+use super::*;
+use block::{Block, GENESIS_ID, GENESIS_ROOT, Header, Txs};
+use std::alloc::{AllocError, Global};
+use std::test::*;
+use txn::{Inputs, OutPoint, Outputs, Reason, Script, Tx, TxIn};
+
+const HEADER: Header = Header {
+    version: 4,
+    prev: GENESIS_ID,
+    root: GENESIS_ROOT,
+    time: 1_296_688_603,
+    bits: 0x207f_ffff,
+    nonce: 0,
+};
+
+/// A transaction of one input.
+fn transaction(
+    alloc: Global,
+    prev: OutPoint,
+    script: &[u8],
+    lock_time: u32,
+) -> Result<Tx, AllocError> {
+    let input = TxIn {
+        prev,
+        script: Script::from_vec(Vec::from_slice(alloc, script)?),
+        sequence: 0,
+    };
+    let mut inputs = Vec::new(alloc);
+    inputs.push(input)?;
+    Ok(Tx {
+        version: 1,
+        inputs: Inputs::from_vec(inputs),
+        outputs: Outputs::from_vec(Vec::new(alloc)),
+        lock_time,
+    })
+}
+
+/// A block of a coinbase with this script and of another transaction with this lock time.
+fn block(alloc: Global, script: &[u8], lock_time: u32) -> Result<Block, AllocError> {
+    let spent = OutPoint {
+        id: GENESIS_ROOT,
+        index: 0,
+    };
+    let mut txs = Vec::new(alloc);
+    txs.push(transaction(alloc, OutPoint::NULL, script, 0)?)?;
+    txs.push(transaction(alloc, spent, &[], lock_time)?)?;
+    Ok(Block {
+        header: HEADER,
+        txs: Txs::from_vec(txs),
+    })
+}
+
+#[test]
+fn headers(rt: HostRuntime) {
+    let time = HEADER.time;
+    let now = u64::from(time);
+    assert_eq!(rt; header_context(&HEADER, time - 1, now), None);
+    let bits = Header {
+        bits: 0x207f_fffe,
+        ..HEADER
+    };
+    assert_eq!(rt; header_context(&bits, time, 0), Some(Reason::WrongBits));
+    assert_eq!(rt; header_context(&HEADER, time, 0), Some(Reason::TimeTooOld));
+    let ahead = header_context(&HEADER, time - 1, now - 7201);
+    assert_eq!(rt; ahead, Some(Reason::TimeTooNew));
+    assert_eq!(rt; header_context(&HEADER, time - 1, now - 7200), None);
+    assert_eq!(rt; header_context(&HEADER, time - 1, u64::MAX), None);
+    for version in [3, 0, -1, i32::MIN] {
+        let old = Header { version, ..HEADER };
+        assert_eq!(rt;
+            header_context(&old, time - 1, now),
+            Some(Reason::BadVersion)
+        );
+    }
+}
+
+#[test]
+fn pushes_of_heights(rt: HostRuntime) -> Result<(), Fail> {
+    let cases: [(u32, &[u8]); 10] = [
+        (1, &[0x51]),
+        (16, &[0x60]),
+        (17, &[0x01, 0x11]),
+        (127, &[0x01, 0x7f]),
+        (128, &[0x02, 0x80, 0x00]),
+        (255, &[0x02, 0xff, 0x00]),
+        (256, &[0x02, 0x00, 0x01]),
+        (32_767, &[0x02, 0xff, 0x7f]),
+        (32_768, &[0x03, 0x00, 0x80, 0x00]),
+        (4_294_967_295, &[0x05, 0xff, 0xff, 0xff, 0xff, 0x00]),
+    ];
+    for (height, push) in cases {
+        let mut script = Vec::from_slice(rt.alloc(), push)?;
+        script.push(0xaa)?;
+        let longer = block(rt.alloc(), &script, 0)?;
+        assert_eq!(rt; block_context(&longer, height, 0), None);
+        let other = block_context(&longer, height - 1, 0);
+        assert_eq!(rt; other, Some(Reason::CoinbaseHeight));
+        let cut = block(rt.alloc(), &push[..push.len() - 1], 0)?;
+        let short = block_context(&cut, height, 0);
+        assert_eq!(rt; short, Some(Reason::CoinbaseHeight));
+    }
+    let byte = block(rt.alloc(), &[0x01, 0x10], 0)?;
+    assert_eq!(rt; block_context(&byte, 16, 0), Some(Reason::CoinbaseHeight));
+    Ok(())
+}
+
+#[test]
+fn finality_before_the_height(rt: HostRuntime) -> Result<(), Fail> {
+    let early = block(rt.alloc(), &[0x52], 5)?;
+    assert_eq!(rt; block_context(&early, 5, 0), Some(Reason::NonFinal));
+    assert_eq!(rt; block_context(&early, 6, 0), Some(Reason::CoinbaseHeight));
+    let passed = block(rt.alloc(), &[0x56], 5)?;
+    assert_eq!(rt; block_context(&passed, 6, 0), None);
+    let time = block(rt.alloc(), &[0x56], 1_296_688_603)?;
+    assert_eq!(rt;
+        block_context(&time, 6, 1_296_688_603),
+        Some(Reason::NonFinal)
+    );
+    assert_eq!(rt; block_context(&time, 6, 1_296_688_604), None);
+    Ok(())
+}

@@ -1,0 +1,2 @@
+pub mod Coinbase
+pub mod Making

@@ -1,0 +1,193 @@
+//! The clients of a scenario, and their commands.
+
+use crate::definitions::Definitions;
+use crate::fault::{Fault, LineFault};
+use crate::line::{Line, bytes, is_name, number};
+use block::GENESIS_TIME;
+use std::alloc::Global;
+use std::fmt;
+
+/// The words of a command, as an answer repeats them.
+#[derive(Clone, Copy)]
+pub enum Words<'d, 't> {
+    /// Those of this line.
+    Line(&'t str),
+    /// The submission of the block of this name.
+    Submit(&'d str),
+}
+
+/// The bytes of a submission.
+#[derive(Drop)]
+pub enum Payload<'d> {
+    /// Those of a block of the definitions, or of its front.
+    Lent(&'d [u8]),
+    Own(Vec<u8>),
+}
+
+/// What a client asks of its seat.
+#[derive(Drop)]
+pub enum Request<'d> {
+    /// To submit these bytes, at this moment in seconds since 1970.
+    Submit(Payload<'d>, u64),
+    Best,
+}
+
+/// A command that is answered.
+#[derive(Drop)]
+pub struct Call<'d, 't> {
+    pub words: Words<'d, 't>,
+    pub request: Request<'d>,
+}
+
+/// A client: its name and its commands, in order.
+#[derive(Drop)]
+pub struct Client<'d, 't> {
+    pub name: &'t str,
+    pub calls: Vec<Call<'d, 't>>,
+    /// The moment of the submissions to come.
+    now: u64,
+}
+
+/// The clients of these lines, over the definitions before them. For now there is one.
+pub fn read_clients<'d, 't>(
+    alloc: Global,
+    definitions: &'d Definitions,
+    lines: &[Line<'t>],
+) -> Result<Vec<Client<'d, 't>>, Fault<'static>> {
+    let mut clients = Vec::new(alloc);
+    for line in lines {
+        read_line(alloc, definitions, line, &mut clients).map_err(|fault| fault.at(line.number))?;
+    }
+    Ok(clients)
+}
+
+fn read_line<'d, 't>(
+    alloc: Global,
+    definitions: &'d Definitions,
+    line: &Line<'t>,
+    clients: &mut Vec<Client<'d, 't>>,
+) -> Result<(), LineFault> {
+    if let ["client", name] = line.words.as_slice() {
+        if !clients.is_empty() {
+            return Err(LineFault::Unreadable);
+        }
+        clients.push(Client::new(alloc, name)?)?;
+        return Ok(());
+    }
+    match clients.last_mut() {
+        Some(client) => client.command(alloc, definitions, line),
+        None => Err(LineFault::Unreadable),
+    }
+}
+
+impl<'d, 't> Client<'d, 't> {
+    fn new(alloc: Global, name: &'t str) -> Result<Client<'d, 't>, LineFault> {
+        if !is_name(name) || name == "blk" {
+            return Err(LineFault::Unreadable);
+        }
+        Ok(Client {
+            name,
+            calls: Vec::new(alloc),
+            now: u64::from(GENESIS_TIME),
+        })
+    }
+
+    /// Adds the command of a line.
+    fn command(
+        &mut self,
+        alloc: Global,
+        definitions: &'d Definitions,
+        line: &Line<'t>,
+    ) -> Result<(), LineFault> {
+        match line.words.as_slice() {
+            ["now", moment] => {
+                self.now = number(moment)?;
+                Ok(())
+            }
+            ["submit", name] => self.submit(definitions, name),
+            ["each", name, first, last] => {
+                self.each(alloc, definitions, name, number(first)?, number(last)?)
+            }
+            ["cut", name, length] => {
+                let whole = definitions.find(name)?.bytes.as_slice();
+                let cut = Payload::Lent(front(whole, number(length)?));
+                self.call(Words::Line(line.text), Request::Submit(cut, self.now))
+            }
+            ["raw", digits] => {
+                let raw = Payload::Own(bytes(alloc, digits)?);
+                self.call(Words::Line(line.text), Request::Submit(raw, self.now))
+            }
+            ["best"] => self.call(Words::Line(line.text), Request::Best),
+            _ => Err(LineFault::Unreadable),
+        }
+    }
+
+    fn submit(&mut self, definitions: &'d Definitions, name: &str) -> Result<(), LineFault> {
+        let block = definitions.find(name)?;
+        let whole = Payload::Lent(block.bytes.as_slice());
+        self.call(
+            Words::Submit(block.name.as_str()),
+            Request::Submit(whole, self.now),
+        )
+    }
+
+    /// Submits the blocks of a name and each number from the first to the last.
+    fn each(
+        &mut self,
+        alloc: Global,
+        definitions: &'d Definitions,
+        name: &str,
+        first: u64,
+        last: u64,
+    ) -> Result<(), LineFault> {
+        if !is_name(name) {
+            return Err(LineFault::Unreadable);
+        }
+        for place in first..=last {
+            let numbered = format!(in alloc; "{name}{place}")?;
+            self.submit(definitions, numbered.as_str())?;
+        }
+        Ok(())
+    }
+
+    fn call(&mut self, words: Words<'d, 't>, request: Request<'d>) -> Result<(), LineFault> {
+        self.calls.push(Call { words, request })?;
+        Ok(())
+    }
+}
+
+impl Payload<'_> {
+    pub fn as_slice(&self) -> &[u8] {
+        match self {
+            Payload::Lent(bytes) => bytes,
+            Payload::Own(bytes) => bytes.as_slice(),
+        }
+    }
+}
+
+/// So many of the bytes, or all where there are fewer.
+fn front(bytes: &[u8], length: u64) -> &[u8] {
+    if length < bytes.len() as u64 {
+        &bytes[..length as usize]
+    } else {
+        bytes
+    }
+}
+
+impl fmt::Display for Words<'_, '_> {
+    fn fmt<W: fmt::Write>(&self, f: &mut fmt::Formatter<W>) -> fmt::Result {
+        match self {
+            Words::Line(line) => {
+                let words = line.split(' ').filter(|word| !word.is_empty());
+                for (place, word) in words.enumerate() {
+                    if place > 0 {
+                        f.write_str(" ")?;
+                    }
+                    f.write_str(word)?;
+                }
+                Ok(())
+            }
+            Words::Submit(name) => write!(f, "submit {name}"),
+        }
+    }
+}
