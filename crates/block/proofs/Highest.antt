@@ -15,7 +15,7 @@ parts (x ∷ low) high m =
     let again = mul_assoc 256 (256 ^ length low) (little_from 0 m high) in
     rw (k, little_from-cons 0 (length low + m) x (low ++ high), little_from-cons 0 (length low) x low, parts low high m, pow-succ' 256 (length low)) (omega (arith, again))
 
-both_true : (a b : Bool) → (a && b) ≡ true → (a ≡ true) × (b ≡ true)
+pub both_true : (a b : Bool) → (a && b) ≡ true → (a ≡ true) × (b ≡ true)
 both_true true b h = (refl, h)
 both_true false b h = absurd cc
 

@@ -1,9 +1,11 @@
+pub mod Blk
 pub mod Decoding
 pub mod Faults
 pub mod Grammar
 pub mod Identity
 pub mod Laws
 pub mod Merkle
+pub mod Place
 pub mod Reading
 pub mod Reward
 pub mod Target

@@ -1,18 +1,24 @@
 //! Blocks: their bytes, their ids, the proof of work, the subsidy, and the genesis block.
 #![tactic(auto)]
 
+mod blk;
+mod blk_fault;
 mod block;
 mod fault;
 mod genesis;
 mod header;
 pub mod laws;
+mod pieces;
 mod reading;
 mod reward;
 mod root;
+mod source;
 mod target;
 mod txs;
 mod writing;
 
+pub use blk::{BlkReader, Stage};
+pub use blk_fault::BlkFault;
 pub use block::Block;
 pub use fault::ReadFault;
 pub use genesis::{GENESIS, GENESIS_ID, GENESIS_ROOT, GENESIS_TIME};
@@ -20,9 +26,12 @@ pub use header::Header;
 pub use reading::read;
 pub use reward::subsidy;
 pub use root::merkle;
+pub use source::{ReadFailed, SliceSource, Source};
 pub use target::meets_target;
 pub use txs::Txs;
 pub use writing::write;
 
+#[cfg(test)]
+mod blk_tests;
 #[cfg(test)]
 mod tests;

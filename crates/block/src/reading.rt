@@ -19,6 +19,9 @@ use std::alloc::Global;
 use txn::TxFault;
 use wire::Cursor;
 
+/// The fewest bytes of a transaction: a version of 4, two counts of 0, a lock time of 4.
+const LEAST_TRANSACTION: usize = 10;
+
 #[tactic(auto, unfolding(crate::specs::Reading::id_at))]
 fn id(bytes: &mut Cursor) -> Result<Id, TxFault>
     ensures { Gives spoken result bytes.new (id_at bytes.old) }
@@ -53,7 +56,8 @@ fn txs(bytes: &mut Cursor, alloc: Global) -> Result<Txs, TxFault>
     ensures { Gives spoken result bytes.new (counted_at tx_at bytes.old) }
 {
     let count = bytes.compact()?;
-    let mut items = Vec::new(alloc);
+    // A count alone takes no memory: there is no room for more than the bytes can spell.
+    let mut items = Vec::with_capacity(alloc, bytes.room(count, LEAST_TRANSACTION))?;
     for _ in 0..count {
         items.push(txn::read(bytes, alloc)?)?;
     }

@@ -21,7 +21,7 @@ pub fn meets_target(id: &Id) -> bool
 }
 
 /// Whether each byte is zero.
-fn is_zero(bytes: &[u8]) -> bool
+pub(crate) fn is_zero(bytes: &[u8]) -> bool
     ensures { result ≡ list_all (λ byte. byte == 0) bytes.now }
 {
     bytes.iter().all(|byte| *byte == 0)

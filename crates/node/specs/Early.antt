@@ -6,21 +6,21 @@ use Rattle.hash.specs.declared.id.Id.{Id}
 use Rattle.txn.specs.declared.input.TxIn.{TxIn}
 use Rattle.txn.specs.declared.output.TxOut.{TxOut}
 use Rattle.txn.specs.declared.tx.Tx.{Tx}
-use Rattle.txn.specs.Coinbase.{null}
-use Rattle.txn.specs.Identity as txn
+use Rattle.txn.specs.declared.reason.Reason.{Reason}
+use Rattle.txn.specs.First.{first_broken}
 use Rattle.block.specs.declared.header.Header.{Header}
 use Rattle.block.specs.declared.block.Block.{Block}
 use Rattle.block.specs.declared.genesis.TheConstants.{GENESIS_ID, GENESIS_ROOT, GENESIS_TIME}
 use Rattle.block.specs.Identity.{id_of}
 use Rattle.block.specs.Decoding.{decoded}
 use Rattle.block.specs.Reward.{subsidy_of}
-use Rattle.block.specs.Target.{number_of, target}
+use Rattle.rules.specs.Alone.{alone_rules}
 use Rattle.node.specs.declared.command.Command.{Command}
 use Rattle.node.specs.declared.command.Command.TheVariants as command
 use Rattle.node.specs.declared.reply.Reply.{Reply}
 use Rattle.node.specs.declared.reply.Reply.TheVariants as reply
 use Rattle.node.specs.declared.reply.SubmitReply.{SubmitReply}
-use Rattle.node.specs.declared.reply.SubmitReply.TheVariants.{Accepted, Duplicate, TreeFull}
+use Rattle.node.specs.declared.reply.SubmitReply.TheVariants.{Accepted, Duplicate, Rejected, TreeFull}
 use Rattle.node.specs.declared.early.Kept.{Kept}
 use Rattle.node.specs.Machine.{Machine}
 
@@ -58,35 +58,32 @@ number_bytes n =
 abbrev pub height_push : ℕ → List ℕ
 height_push n = if nat_le n 16 then (80 + n) ∷ [] else length (number_bytes n) ∷ number_bytes n
 
--- the parent is the tip, and bits, version, work and time are lawful
+-- the parent is the tip, and bits, version and time are lawful
 abbrev pub header_fits : Chain → ℕ → Header → Bool
 header_fits chain now h =
     same_id h.prev chain.tip.id && (h.bits == 0x207fffff) && int_le (pos 4) h.version
     && nat_lt chain.tip.time h.time && nat_le h.time (now + 7200)
 
--- a coinbase's only input: 2 to 100 bytes that begin with the height's push
+-- the coinbase's only input begins with the height's push
 abbrev pub input_fits : ℕ → List TxIn → Bool
-input_fits height (i ∷ []) =
-    (same_id i.prev.id null.id && (i.prev.index == null.index))
-    && nat_le 2 (length i.script) && nat_le (length i.script) 100
-    && starts_with ◌==◌ i.script (height_push height)
+input_fits height (i ∷ []) = starts_with ◌==◌ i.script (height_push height)
 input_fits height inputs = false
 
--- its only output: at most the subsidy, to anyone (OP_1)
+-- its only output pays at most the subsidy
 abbrev pub output_fits : ℕ → List TxOut → Bool
-output_fits height (o ∷ []) = int_le (pos 0) o.value && int_le o.value (pos (subsidy_of height)) && same_bytes o.script (0x51 ∷ [])
+output_fits height (o ∷ []) = int_le o.value (pos (subsidy_of height))
 output_fits height outputs = false
 
--- the only transaction: a coinbase that was never there, whose id is the root
+-- the only transaction: a coinbase whose id, the root, was never there
 abbrev pub txs_fit : Chain → Id → List Tx → Bool
 txs_fit chain root (t ∷ []) =
     (t.lock_time == 0) && input_fits (length chain.kept) t.inputs && output_fits (length chain.kept) t.outputs
-    && same_id (txn.id_of t) root && not (has_coinbase chain (txn.id_of t))
+    && not (has_coinbase chain root)
 txs_fit chain root txs = false
 
+-- what a block that breaks no rule by itself has to be besides
 abbrev pub is_plain : Chain → ℕ → Block → Bool
-is_plain chain now b =
-    header_fits chain now b.header && nat_le (number_of (id_of b.header)) target && txs_fit chain b.header.root b.txs
+is_plain chain now b = header_fits chain now b.header && txs_fit chain b.header.root b.txs
 
 abbrev pub kept_of : Block → Kept
 kept_of b = record { id = id_of b.header; coinbase = b.header.root; time = b.header.time }
@@ -97,13 +94,17 @@ with_block chain block = record { kept = chain.kept ++ block ∷ []; tip = block
 abbrev pub says : Chain → SubmitReply → Option (Chain × Reply)
 says chain answer = Some (chain, reply.Submit answer)
 
+-- what a block that isn't kept comes to, by the first rule that it breaks by itself
+abbrev pub placed : Chain → ℕ → Block → Option Reason → Option (Chain × Reply)
+placed chain now b (Some reason) = says chain (Rejected reason)
+placed chain now b None = if is_plain chain now b then says (with_block chain (kept_of b)) Accepted else None
+
 -- what a submission of this block does, the first that holds
 abbrev pub judged : Chain → ℕ → Block → Option (Chain × Reply)
 judged chain now b =
     if is_kept chain (id_of b.header) then says chain Duplicate
     else if nat_le 1000000 (length chain.kept) then says chain TreeFull
-    else if is_plain chain now b then says (with_block chain (kept_of b)) Accepted
-    else None
+    else placed chain now b (first_broken (alone_rules b))
 
 abbrev pub submitted : Chain → ℕ → Option Block → Option (Chain × Reply)
 submitted chain now None = None

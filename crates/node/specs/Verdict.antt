@@ -4,7 +4,7 @@ use Rattle.node.specs.declared.command.Command.TheVariants as command
 use Rattle.node.specs.declared.reply.SubmitReply.TheVariants as reply
 use Rattle.node.specs.declared.early.Kept.{Kept}
 use Rattle.node.specs.declared.early.Verdict.{Verdict}
-use Rattle.node.specs.declared.early.Verdict.TheVariants.{DecodeFailed, Duplicate, TreeFull, Plain, Unsupported}
+use Rattle.node.specs.declared.early.Verdict.TheVariants.{DecodeFailed, Duplicate, TreeFull, Rejected, Plain, Unsupported}
 use Rattle.block.specs.Decoding.{decoded}
 use Rattle.node.specs.Early.{Chain, step, says, with_block}
 
@@ -12,6 +12,7 @@ abbrev pub Judges : Verdict → Chain → List ℕ → ℕ → Type 0
 Judges DecodeFailed chain bytes now = decoded bytes ≡ None
 Judges Duplicate chain bytes now = step chain (command.Submit bytes now) ≡ says chain reply.Duplicate
 Judges TreeFull chain bytes now = step chain (command.Submit bytes now) ≡ says chain reply.TreeFull
+Judges (Rejected reason) chain bytes now = step chain (command.Submit bytes now) ≡ says chain (reply.Rejected reason)
 Judges (Plain block) chain bytes now = step chain (command.Submit bytes now) ≡ says (with_block chain block) reply.Accepted
 Judges Unsupported chain bytes now = IsSome (decoded bytes) × (step chain (command.Submit bytes now) ≡ None)
 

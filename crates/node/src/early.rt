@@ -1,19 +1,16 @@
 //! The small chainstate: a chain of blocks of a coinbase alone.
 
 ghost use Rattle.std.specs.List.{starts_with};
-ghost use Rattle.std.specs.Prelude.{◌≡◌, ◌==◌, ◌<◌, nat_le, length, IfOk, OnOk, OnErr};
-ghost use Rattle.block.specs.Target.{number_of, target};
-ghost use Rattle.block.specs.Identity.{id_of};
+ghost use Rattle.std.specs.Prelude.{◌≡◌, ◌==◌, ◌<◌, length, IfOk, OnOk, OnErr};
 ghost use Rattle.node.specs.Early.{is_kept, has_coinbase, height_push, header_fits, input_fits, output_fits, txs_fit, is_plain, opening};
 ghost use Rattle.node.specs.Verdict.{Judges, extended};
 
-use block::{
-    Block, GENESIS_ID, GENESIS_ROOT, GENESIS_TIME, Header, ReadFault, meets_target, subsidy,
-};
+use block::{Block, GENESIS_ID, GENESIS_ROOT, GENESIS_TIME, Header, ReadFault, subsidy};
 use hash::Id;
+use rules::block_alone;
 use std::alloc::Global;
 use std::marker::Model;
-use txn::{OutPoint, Tx, TxIn, TxOut};
+use txn::{Reason, Tx, TxIn, TxOut};
 use wire::Memory;
 
 /// Regtest's bits.
@@ -57,6 +54,8 @@ pub enum Verdict {
     DecodeFailed,
     Duplicate,
     TreeFull,
+    /// The block breaks a rule by itself.
+    Rejected(Reason),
     /// The block goes last.
     Plain(Kept),
     Unsupported,
@@ -100,7 +99,10 @@ impl Early {
         if self.kept.len() >= MAX_BLOCKS {
             return Ok(Verdict::TreeFull);
         }
-        if !self.is_plain(alloc, &block, &id, now)? {
+        if let Some(reason) = block_alone(&block, alloc)? {
+            return Ok(Verdict::Rejected(reason));
+        }
+        if !self.is_plain(&block, now) {
             return Ok(Verdict::Unsupported);
         }
         Ok(Verdict::Plain(Kept {
@@ -134,17 +136,13 @@ impl Early {
         self.kept.iter().any(|block| block.coinbase == *id)
     }
 
-    /// Whether a block goes last: each test of it.
-    fn is_plain(&self, alloc: Global, block: &Block, id: &Id, now: u64) -> Result<bool, Memory>
-        requires room { length self.now.kept < 1000000 }
-        requires id { id.now ≡ id_of block.now.header }
-        ensures { IfOk result (λ plain. plain ≡ is_plain self.now now block.now) }
+    /// Whether a block that breaks no rule by itself goes last.
+    fn is_plain(&self, block: &Block, now: u64) -> bool
+        requires { length self.now.kept < 1000000 }
+        ensures { result ≡ is_plain self.now now block.now }
     {
-        let fits = self.header_fits(&block.header, now) && has_work(id);
-        if !fits {
-            return Ok(false);
-        }
-        self.txs_fit(alloc, &block.header.root, block.txs.as_slice())
+        self.header_fits(&block.header, now)
+            && self.txs_fit(&block.header.root, block.txs.as_slice())
     }
 
     fn header_fits(&self, header: &Header, now: u64) -> bool
@@ -157,30 +155,19 @@ impl Early {
             && u128::from(header.time) <= u128::from(now) + MAX_FUTURE
     }
 
-    fn txs_fit(&self, alloc: Global, root: &Id, txs: &[Tx]) -> Result<bool, Memory>
+    fn txs_fit(&self, root: &Id, txs: &[Tx]) -> bool
         requires { length self.now.kept < 1000000 }
-        ensures { IfOk result (λ fit. fit ≡ txs_fit self.now root.now txs.now) }
+        ensures { result ≡ txs_fit self.now root.now txs.now }
     {
         let [tx] = txs else {
-            return Ok(false);
+            return false;
         };
         let height = self.kept.len();
-        let fits = tx.lock_time == 0
+        tx.lock_time == 0
             && input_fits(height, tx.inputs.as_slice())
-            && output_fits(height, tx.outputs.as_slice());
-        if !fits {
-            return Ok(false);
-        }
-        let id = tx.id(alloc)?;
-        Ok(id == *root && !self.has_coinbase(&id))
+            && output_fits(height, tx.outputs.as_slice())
+            && !self.has_coinbase(root)
     }
-}
-
-/// Whether a block of this id has the proof of work.
-fn has_work(id: &Id) -> bool
-    ensures { result ≡ nat_le (number_of id.now) target }
-{
-    meets_target(id)
 }
 
 fn input_fits(height: usize, inputs: &[TxIn]) -> bool
@@ -190,11 +177,7 @@ fn input_fits(height: usize, inputs: &[TxIn]) -> bool
     let [input] = inputs else {
         return false;
     };
-    let script = input.script.as_slice();
-    input.prev == OutPoint::NULL
-        && script.len() >= 2
-        && script.len() <= 100
-        && pushes_height(script, height)
+    pushes_height(input.script.as_slice(), height)
 }
 
 /// Whether a script begins with the height's push (BIP 34).
@@ -222,7 +205,5 @@ fn output_fits(height: usize, outputs: &[TxOut]) -> bool
     let [output] = outputs else {
         return false;
     };
-    output.value >= 0
-        && output.value <= subsidy(height as u32)
-        && output.script.as_slice() == [0x51].as_slice()
+    output.value <= subsidy(height as u32)
 }

@@ -73,6 +73,9 @@ impl Seat {
             Verdict::DecodeFailed => Ok(answered(at, SubmitReply::DecodeFailed)),
             Verdict::Duplicate => self.write(bytes, now, SubmitReply::Duplicate, None),
             Verdict::TreeFull => self.write(bytes, now, SubmitReply::TreeFull, None),
+            Verdict::Rejected(reason) => {
+                self.write(bytes, now, SubmitReply::Rejected(reason), None)
+            }
             Verdict::Plain(block) => self.write(bytes, now, SubmitReply::Accepted, Some(block)),
             Verdict::Unsupported => Err(Fault::Unsupported),
         }

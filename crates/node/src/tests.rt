@@ -1,7 +1,8 @@
 use super::*;
-use block::{GENESIS, GENESIS_ID};
+use block::{GENESIS, GENESIS_ID, meets_target};
 use hash::Id;
 use std::test::*;
+use txn::Reason;
 
 /// A block on genesis, of a coinbase alone: built and mined by a program of its own, with its id.
 const FIRST: &[u8] =
@@ -67,6 +68,38 @@ fn one_seat(rt: HostRuntime) -> Result<(), Fail> {
             return Err(Fail::new("a submission"));
         };
         assert_eq!(rt; (bytes.is_empty(), now), (false, NOW));
+    }
+    Ok(())
+}
+
+/// The same block, with the lowest nonce that misses the target.
+#[test]
+fn work_that_is_missing(rt: HostRuntime) -> Result<(), Fail> {
+    let mut block = block::read(FIRST, rt.alloc())?;
+    for nonce in 0..=u32::MAX {
+        block.header.nonce = nonce;
+        if !meets_target(&block.id()) {
+            break;
+        }
+    }
+    let mut bytes = Vec::new(rt.alloc());
+    block::write(&block, &mut bytes)?;
+    let (node, mut seats) = Node::open(rt.alloc(), Params::regtest(), 1, 1)?;
+    for seat in &mut seats {
+        assert_eq!(rt;
+            seat.submit(&node, &bytes, NOW),
+            Ok(Stamped {
+                at: 1,
+                value: SubmitReply::Rejected(Reason::HighHash)
+            })
+        );
+        assert_eq!(rt;
+            seat.getbestblockhash(&node),
+            Ok(Stamped {
+                at: 1,
+                value: GENESIS_ID
+            })
+        );
     }
     Ok(())
 }

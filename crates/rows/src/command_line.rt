@@ -29,9 +29,10 @@ const TEXTS: [(&[&str], &str); 4] = [
     (
         &["run", "--help"],
         "Runs a scenario, and prints what its clients are answered\n\n\
-         Usage: regchain run --scenario <F>\n\n\
+         Usage: regchain run [OPTIONS] --scenario <F>\n\n\
          Options:\n      \
-         --scenario <F>  \n  \
+         --scenario <F>  The scenario; - is the standard input\n      \
+         --table <F>     The signatures that are valid\n  \
          -h, --help          Print help\n",
     ),
 ];

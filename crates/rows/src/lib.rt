@@ -4,7 +4,11 @@
 #[cfg(test)]
 mod answers;
 #[cfg(test)]
+mod block_options;
+#[cfg(test)]
 mod command_line;
+#[cfg(test)]
+mod context_free;
 #[cfg(test)]
 mod outside_blocks;
 #[cfg(test)]
@@ -13,3 +17,5 @@ mod play;
 mod scenario_faults;
 #[cfg(test)]
 mod streams;
+#[cfg(test)]
+mod table_files;

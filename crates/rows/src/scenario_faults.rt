@@ -9,14 +9,13 @@ use std::test::Fail;
 struct Case(&'static [u8], usize);
 
 /// What a definition can't be.
-const DEFINITIONS: [Case; 22] = [
+const DEFINITIONS: [Case; 21] = [
     // a word that isn't known, or hasn't come yet
     Case(b"blok b1 genesis\nclient a\n", 1),
-    Case(b"tx A 1 0\nclient a\n", 1),
-    Case(b"verdict aa 00 A 0 51 1\nclient a\n", 1),
+    Case(b"transaction A 1 0\nclient a\n", 1),
     // too few words, and too many
     Case(b"block b1\nclient a\n", 1),
-    Case(b"block b1 genesis time=1296688700\nclient a\n", 1),
+    Case(b"tx A 1\nclient a\n", 1),
     Case(b"chain c 2\nclient a\n", 1),
     // names that are taken, reserved, or no names
     Case(b"block b1 genesis\nblock b1 genesis\nclient a\n", 2),
@@ -45,6 +44,77 @@ const DEFINITIONS: [Case; 22] = [
     Case(b"block b1 genesis\n# \xff\nblock \xff b1\nclient a\n", 3),
     // the first of two
     Case(b"block b1 nowhere\nbogus\n", 1),
+];
+
+/// What a transaction can't be.
+const TRANSACTIONS: [Case; 22] = [
+    // lines of no transaction
+    Case(b"in null -\nclient a\n", 1),
+    Case(b"tx A 1 0\nblock b1 genesis\nout 1 51\nclient a\n", 3),
+    // names
+    Case(b"tx null 1 0\nclient a\n", 1),
+    Case(b"tx genesis 1 0\nclient a\n", 1),
+    Case(b"tx A.cb 1 0\nclient a\n", 1),
+    Case(b"tx A 1 0\ntx A 1 0\nclient a\n", 2),
+    Case(b"tx A 1 0\nblock A genesis\nclient a\n", 2),
+    Case(b"chain c 2 genesis\ntx c2 1 0\nclient a\n", 2),
+    // outputs that are spent
+    Case(b"tx A 1 0\nin A:0 -\nclient a\n", 2),
+    Case(b"tx A 1 0\nin B:0 -\nclient a\n", 2),
+    Case(b"tx A 1 0\nin genesis:0 -\nclient a\n", 2),
+    Case(b"tx A 1 0\nin genesis.cb -\nclient a\n", 2),
+    Case(b"tx A 1 0\nin genesis.cb:4294967296 -\nclient a\n", 2),
+    // numbers and bytes
+    Case(b"tx A 2147483648 0\nclient a\n", 1),
+    Case(b"tx A 1 -1\nclient a\n", 1),
+    Case(b"tx A +1 0\nclient a\n", 1),
+    Case(b"tx A 1 0\nin null - 4294967296\nclient a\n", 2),
+    Case(b"tx A 1 0\nin null 5\nclient a\n", 2),
+    Case(b"tx A 1 0\nout 9223372036854775808 -\nclient a\n", 2),
+    Case(b"tx A 1 0\nout --1 -\nclient a\n", 2),
+    Case(b"tx A 1 0\nout 1\nclient a\n", 2),
+    // a transaction that its lines don't begin
+    Case(b"tx A 1 0\nclient a\nout 1 51\n", 3),
+];
+
+/// What is no option of a block, and what is no transaction of it.
+const OPTIONS: [Case; 18] = [
+    Case(b"block b1 genesis size=5\nclient a\n", 1),
+    Case(b"block b1 genesis time\nclient a\n", 1),
+    Case(b"block b1 genesis time=\nclient a\n", 1),
+    Case(b"block b1 genesis time=4294967296\nclient a\n", 1),
+    Case(b"block b1 genesis time=5 time=5\nclient a\n", 1),
+    Case(b"block b1 genesis nonce=-1\nclient a\n", 1),
+    Case(b"block b1 genesis reward=-1\nclient a\n", 1),
+    Case(b"block b1 genesis bits=207FFFFF\nclient a\n", 1),
+    Case(b"block b1 genesis bits=207fff\nclient a\n", 1),
+    Case(b"block b1 genesis root=00\nclient a\n", 1),
+    Case(b"block b1 genesis cb=none cb=51\nclient a\n", 1),
+    Case(b"block b1 genesis cb=51 cb=none\nclient a\n", 1),
+    Case(b"block b1 genesis cb=none cb=none\nclient a\n", 1),
+    Case(b"block b1 genesis pay=none\nclient a\n", 1),
+    Case(b"block b1 genesis A\ntx A 1 0\nclient a\n", 1),
+    Case(
+        b"block b1 genesis cb=none\nblock b2 b1 b1.cb\nclient a\n",
+        2,
+    ),
+    Case(b"block b1 genesis null\nclient a\n", 1),
+    // a second after the last there is
+    Case(
+        b"block b1 genesis time=4294967295\nblock b2 b1 time=5\nblock b3 b1\nclient a\n",
+        3,
+    ),
+];
+
+/// What a verdict can't be.
+const VERDICTS: [Case; 7] = [
+    Case(b"verdict aa 00 A 0 51 1\nclient a\n", 1),
+    Case(b"verdict aa 00 genesis.cb 1 51 1\nclient a\n", 1),
+    Case(b"verdict aa 00 genesis.cb 0 51 256\nclient a\n", 1),
+    Case(b"verdict aa 00 genesis.cb 0 51 -1\nclient a\n", 1),
+    Case(b"verdict AA 00 genesis.cb 0 51 1\nclient a\n", 1),
+    Case(b"verdict aa 00 genesis.cb 0 51\nclient a\n", 1),
+    Case(b"verdict aa 00 genesis 0 51 1\nclient a\n", 1),
 ];
 
 /// What a client and its commands can't be.
@@ -101,6 +171,21 @@ fn expect_lines<R: Files + AllocGlobal + Abort>(rt: &R, cases: &[Case]) -> Resul
 #[test]
 fn definitions(rt: HostRuntime) -> Result<(), Fail> {
     expect_lines(&rt, &DEFINITIONS)
+}
+
+#[test]
+fn transactions(rt: HostRuntime) -> Result<(), Fail> {
+    expect_lines(&rt, &TRANSACTIONS)
+}
+
+#[test]
+fn options_of_blocks(rt: HostRuntime) -> Result<(), Fail> {
+    expect_lines(&rt, &OPTIONS)
+}
+
+#[test]
+fn verdicts(rt: HostRuntime) -> Result<(), Fail> {
+    expect_lines(&rt, &VERDICTS)
 }
 
 #[test]

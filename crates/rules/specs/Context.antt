@@ -1,14 +1,14 @@
 -- The rules that a block obeys by its place in the tree.
 use Rattle.std.specs.Prelude.{ℕ, ◌+◌, ◌==◌, ◌&&◌, not, nat_lt, nat_le, List, [], ◌∷◌}
 use Rattle.std.specs.List.{list_all, starts_with}
-use Rattle.txn.specs.declared.input.TxIn.{TxIn}
 use Rattle.txn.specs.declared.tx.Tx.{Tx}
 use Rattle.txn.specs.declared.reason.Reason.TheVariants.{WrongBits, TimeTooOld, TimeTooNew, BadVersion, NonFinal, CoinbaseHeight}
 use Rattle.block.specs.declared.header.Header.{Header}
 use Rattle.block.specs.declared.block.Block.{Block}
 use Rattle.locks.specs.Finality.{is_final}
 use Rattle.rules.specs.declared.in_force.InForce.{InForce}
-use Rattle.rules.specs.First.{Rules}
+use Rattle.txn.specs.Check.{first_script}
+use Rattle.txn.specs.First.{Rules}
 use Rattle.rules.specs.Height.{height_push}
 use Rattle.rules.specs.InForce.{is_outdated}
 
@@ -20,10 +20,6 @@ header_rules rules header cutoff now =
     ∷ (nat_lt (now + 7200) header.time, TimeTooNew)
     ∷ (is_outdated rules header.version, BadVersion)
     ∷ []
-
-abbrev pub first_script : List TxIn → List ℕ
-first_script [] = []
-first_script (input ∷ inputs) = input.script
 
 -- the script of the first transaction's first input
 abbrev pub coinbase_script : List Tx → List ℕ

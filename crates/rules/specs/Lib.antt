@@ -1,4 +1,4 @@
+pub mod Alone
 pub mod Context
-pub mod First
 pub mod Height
 pub mod InForce

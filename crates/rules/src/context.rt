@@ -1,7 +1,7 @@
 ghost use Rattle.std.specs.Prelude.{◌≡◌, ◌+◌, nat_lt};
 ghost use Rattle.std.specs.List.{list_all};
 ghost use Rattle.locks.specs.Finality.{is_final};
-ghost use Rattle.rules.specs.First.{first_broken};
+ghost use Rattle.txn.specs.First.{first_broken};
 ghost use Rattle.rules.specs.InForce.{all};
 ghost use Rattle.rules.specs.Context.{header_rules, block_rules, coinbase_script};
 

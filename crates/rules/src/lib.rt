@@ -1,10 +1,13 @@
-//! The rules that a block obeys by its place in the tree.
+//! The rules that a block obeys by itself, and by its place in the tree.
 #![tactic(auto)]
 
+mod alone;
 mod context;
 mod height;
 mod in_force;
+mod sigops;
 
+pub use alone::{MAX_BLOCK_SIGOPS, MAX_BLOCK_SIZE, block_alone};
 pub use context::{MAX_FUTURE_BLOCK_TIME, REGTEST_BITS, block_context, header_context};
 pub use in_force::InForce;
 

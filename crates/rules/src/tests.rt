@@ -1,5 +1,5 @@
 use super::*;
-use block::{Block, GENESIS_ID, GENESIS_ROOT, Header, Txs};
+use block::{Block, GENESIS, GENESIS_ID, GENESIS_ROOT, Header, Txs};
 use std::alloc::{AllocError, Global};
 use std::test::*;
 use txn::{Inputs, OutPoint, Outputs, Reason, Script, Tx, TxIn};
@@ -48,6 +48,19 @@ fn block(alloc: Global, script: &[u8], lock_time: u32) -> Result<Block, AllocErr
         header: HEADER,
         txs: Txs::from_vec(txs),
     })
+}
+
+#[test]
+fn genesis_alone(rt: HostRuntime) -> Result<(), Fail> {
+    let genesis = block::read(&GENESIS, rt.alloc())?;
+    assert_eq!(rt; block_alone(&genesis, rt.alloc())?, None);
+    let empty = Block {
+        header: genesis.header,
+        txs: Txs::from_vec(Vec::new(rt.alloc())),
+    };
+    let found = block_alone(&empty, rt.alloc())?;
+    assert_eq!(rt; found, Some(Reason::BadMerkleRoot));
+    Ok(())
 }
 
 #[test]

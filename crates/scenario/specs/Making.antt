@@ -1,12 +1,17 @@
 -- The blocks that a scenario defines.
-use Rattle.std.specs.Prelude.{◌≡◌, ℕ, ◌+◌, ◌<◌, ◌^◌, pos, List, [], ◌∷◌, string_bytes}
+use Rattle.std.specs.Prelude.{◌≡◌, ℕ, ◌+◌, ◌<◌, ◌^◌, pos, Bool, List, ◌∷◌, cond, Option, Some, None, IfSome, option_map, string_bytes}
+use Rattle.txn.specs.declared.tx.Tx.{Tx}
 use Rattle.txn.specs.Identity as txn
 use Rattle.block.specs.declared.header.Header.{Header}
 use Rattle.block.specs.declared.block.Block.{Block}
 use Rattle.block.specs.Grammar.{block}
 use Rattle.block.specs.Identity.{id_of}
+use Rattle.block.specs.Merkle.{root}
 use Rattle.block.specs.Target.{MeetsTarget}
-use Rattle.scenario.specs.Coinbase.{coinbase_of}
+use Rattle.scenario.specs.declared.recipe.HeaderRecipe.{HeaderRecipe}
+use Rattle.scenario.specs.declared.recipe.CoinbaseRecipe.{CoinbaseRecipe}
+use Rattle.scenario.specs.declared.recipe.Recipe.{Recipe}
+use Rattle.scenario.specs.Coinbase.{said_or, coinbase_of}
 use Rattle.scenario.specs.declared.making.Named.{Named}
 
 abbrev pub with_nonce : Header → ℕ → Header
@@ -22,27 +27,44 @@ IsMined h mined =
 abbrev pub IsBarren : Header → Type 0
 IsBarren h = (n : ℕ) → n < 2 ^ 32 → ¬ MeetsTarget (id_of (with_nonce h n))
 
--- the header of the block of this name on a parent, before it is mined
-abbrev pub draft : List ℕ → Named → Header
-draft name parent = record {
-  version = pos 4;
+-- the header with the nonce that the line says, by default the lowest that meets the target
+abbrev pub IsSealed : Option ℕ → Header → Header → Type 0
+IsSealed None h made = IsMined h made
+IsSealed (Some nonce) h made = made ≡ with_nonce h nonce
+
+-- the header of these transactions on a parent, before its nonce: by default one second younger, with the
+-- true root
+abbrev pub draft : HeaderRecipe → Named → List Tx → Header
+draft recipe parent txs = record {
+  version = said_or (pos 4) recipe.version;
   prev = parent.id;
-  root = txn.id_of (coinbase_of name (parent.height + 1));
-  time = parent.time + 1;
-  bits = 0x207fffff;
+  root = said_or (root (txn.ids_of txs)) recipe.root;
+  time = said_or (parent.time + 1) recipe.time;
+  bits = said_or 0x207fffff recipe.bits;
   nonce = 0;
 }
 
--- the block of this name on a parent: of a coinbase alone, one second younger, mined
-abbrev pub IsChildBlock : List ℕ → Named → Block → Type 0
-IsChildBlock name parent b = IsMined (draft name parent) b.header × (b.txs ≡ coinbase_of name (parent.height + 1) ∷ [])
+-- the coinbase, unless the line says that there is none
+abbrev pub coinbase_said : Bool → CoinbaseRecipe → List ℕ → ℕ → Option Tx
+coinbase_said has_coinbase recipe name height = cond has_coinbase (Some (coinbase_of recipe name height)) None
 
--- that block under its name, at its height, with its time, id and bytes
-pub record IsChild (name : List ℕ) (parent child : Named) : Type 0 where
+abbrev pub with_first : Option Tx → List Tx → List Tx
+with_first None txs = txs
+with_first (Some tx) txs = tx ∷ txs
+
+-- the coinbase and the transactions that the line names
+abbrev pub txs_of : Recipe → List ℕ → ℕ → List Tx
+txs_of recipe name height = with_first (coinbase_said recipe.has_coinbase recipe.coinbase name height) recipe.transactions.items
+
+-- the block that a line says, on a parent, under its name, at its height, with its time, id, bytes and coinbase
+pub record IsMade (recipe : Recipe) (name : List ℕ) (parent made : Named) : Type 0 where
   pub whole : Block
-  pub made : IsChildBlock name parent whole
-  pub named : string_bytes child.name ≡ name
-  pub id : child.id ≡ id_of whole.header
-  pub height : child.height ≡ parent.height + 1
-  pub time : child.time ≡ parent.time + 1
-  pub bytes : child.bytes.items ≡ block.spell whole
+  pub txs : whole.txs ≡ txs_of recipe name (parent.height + 1)
+  pub header : IsSealed recipe.header.nonce (draft recipe.header parent whole.txs) whole.header
+  pub named : string_bytes made.name ≡ name
+  pub id : made.id ≡ id_of whole.header
+  pub height : made.height ≡ parent.height + 1
+  pub time : made.time ≡ whole.header.time
+  pub bytes : made.bytes.items ≡ block.spell whole
+  pub coinbase : option_map (λ known. known.tx) made.coinbase ≡ coinbase_said recipe.has_coinbase recipe.coinbase name (parent.height + 1)
+  pub coinbase_id : IfSome made.coinbase (λ known. known.id ≡ txn.id_of known.tx)

@@ -1,32 +1,42 @@
 //! The coinbase of a block that a scenario defines.
 
-ghost use Rattle.std.specs.Prelude.{◌≡◌, ◌<◌, ◌≤◌, ◌^◌, ◌++◌, ◌∷◌, length, IfOk, OnOk};
-ghost use Rattle.node.specs.Early.{height_push};
-ghost use Rattle.scenario.specs.Coinbase.{coinbase_of};
+ghost use Rattle.std.specs.Prelude.{◌≡◌, ◌≤◌, ◌++◌, [], ◌∷◌, length, IfOk, OnOk};
+ghost use Rattle.rules.specs.Height.{height_push};
+ghost use Rattle.scenario.specs.Coinbase.{said_or, script_of, coinbase_of};
 
+use crate::recipe::CoinbaseRecipe;
 use block::subsidy;
+use script::Num;
+use script::opcode::OP_1;
 use std::alloc::Global;
 use txn::{Inputs, OutPoint, Outputs, Script, Tx, TxIn, TxOut};
 use wire::Memory;
 
-/// OP_1, which succeeds: anyone may spend the output.
-const OP_1: u8 = 0x51;
-
-/// The coinbase of the block of this name and height: it pays the subsidy to anyone.
-pub fn coinbase(alloc: Global, name: &str, height: u32) -> Result<Tx, Memory>
+/// The coinbase of the block of this name and height: by default it pays the subsidy to anyone.
+pub fn coinbase(
+    alloc: Global,
+    recipe: CoinbaseRecipe,
+    name: &str,
+    height: u32,
+) -> Result<Tx, Memory>
     requires { length name.now ≤ 75 }
-    ensures { height < 2 ^ 23 → IfOk result (λ tx. tx ≡ coinbase_of name.now height) }
+    ensures { IfOk result (λ tx. tx ≡ coinbase_of recipe name.now height) }
 {
-    let mut script = height_push(alloc, height)?;
-    push(&mut script, name.as_bytes())?;
+    let CoinbaseRecipe {
+        script,
+        reward,
+        pay,
+    } = recipe;
+    let script = input_script(alloc, script, name, height)?;
+    let value = reward.unwrap_or(subsidy(height));
+    let output = TxOut {
+        value,
+        script: output_script(alloc, pay)?,
+    };
     let input = TxIn {
         prev: OutPoint::NULL,
-        script: Script::from_vec(script),
+        script,
         sequence: u32::MAX,
-    };
-    let output = TxOut {
-        value: subsidy(height),
-        script: Script::from_vec(vec![in alloc; OP_1]?),
     };
     Ok(Tx {
         version: 1,
@@ -36,25 +46,47 @@ pub fn coinbase(alloc: Global, name: &str, height: u32) -> Result<Tx, Memory>
     })
 }
 
-/// The script that pushes a height (BIP 34): an opcode of its own up to 16, else the number in the fewest
+/// The script that is said, by default one by which the coinbase differs from those of other heights and names.
+fn input_script(
+    alloc: Global,
+    said: Option<Script>,
+    name: &str,
+    height: u32,
+) -> Result<Script, Memory>
+    requires { length name.now ≤ 75 }
+    ensures { IfOk result (λ script. script ≡ said_or (script_of name.now height) said) }
+{
+    if let Some(script) = said {
+        return Ok(script);
+    }
+    let mut script = height_push(alloc, height)?;
+    push(&mut script, name.as_bytes())?;
+    Ok(Script::from_vec(script))
+}
+
+/// The script that is said, by default one that anyone may spend.
+fn output_script(alloc: Global, said: Option<Script>) -> Result<Script, Memory>
+    ensures { IfOk result (λ script. script ≡ said_or (0x51 ∷ []) said) }
+{
+    match said {
+        Some(script) => Ok(script),
+        None => Ok(Script::from_vec(vec![in alloc; OP_1]?)),
+    }
+}
+
+/// The script that pushes a height (BIP 34): an opcode of its own for 1 to 16, else the number in the fewest
 /// bytes, of which the highest bit is the sign's.
+#[tactic(auto, unfolding(rules::specs::Height::height_push))]
 fn height_push(alloc: Global, height: u32) -> Result<Vec<u8>, Memory>
-    ensures { height < 2 ^ 23 → IfOk result (λ script. script.items ≡ height_push height) }
+    ensures { IfOk result (λ script. script.items ≡ height_push height) }
 {
     let mut script = Vec::new(alloc);
-    if height <= 16 {
+    if height >= 1 && height <= 16 {
         script.push(OP_1 - 1 + height as u8)?;
         return Ok(script);
     }
-    let bytes = u64::from(height).to_le_bytes();
-    let len = match height {
-        0..=0x7f => 1,
-        0x80..=0x7fff => 2,
-        0x8000..=0x7f_ffff => 3,
-        0x80_0000..=0x7fff_ffff => 4,
-        _ => 5,
-    };
-    push(&mut script, &bytes[..len])?;
+    let number = Num(i64::from(height)).spell(alloc)?;
+    push(&mut script, number.as_slice())?;
     Ok(script)
 }
 

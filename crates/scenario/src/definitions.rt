@@ -1,32 +1,57 @@
-//! The definitions of a scenario: its blocks, by their names.
+//! The definitions of a scenario: its blocks and transactions, by their names, and its valid signatures.
 
+ghost use Rattle.std.specs.Prelude.{◌≤◌, length, OnOk};
+
+use crate::draft::Draft;
 use crate::fault::{Fault, LineFault};
+use crate::known::Known;
 use crate::label::Label;
-use crate::line::{Line, is_name, number};
-use crate::making::{Named, child, genesis};
+use crate::line::{Line, bytes, is_name, number};
+use crate::making::{Named, genesis, made};
+use crate::recipe::Recipe;
+use crate::verdict::{Verdict, add_verdict};
+use curve::Table;
 use hash::Id;
-use std::alloc::{AllocError, Global};
+use std::alloc::Global;
 use std::collections::BTreeMap;
+use txn::OutPoint;
+use wire::Memory;
 
 /// The most blocks that a `chain` line has.
 const MAX_CHAIN: u64 = 1000;
 
-/// The blocks of a scenario.
+/// What ends the name of a block where its coinbase is meant.
+const COINBASE: &str = "cb";
+
+/// What the lines of a scenario define.
 #[derive(Drop)]
 pub struct Definitions {
     alloc: Global,
     blocks: BTreeMap<String, Named>,
-    /// The first name of each id.
+    transactions: BTreeMap<String, Known>,
+    /// The first name of each block's id.
     names: BTreeMap<Id, String>,
+    /// The valid signatures.
+    table: Table,
+    /// The transaction whose lines are being read.
+    draft: Option<Draft>,
 }
 
 impl Definitions {
-    /// The blocks that these lines define, each of which names earlier ones alone. `genesis` is given.
-    pub fn read(alloc: Global, lines: &[Line<'_>]) -> Result<Definitions, Fault<'static>> {
+    /// What these lines define, each of which names earlier ones alone. `genesis` is given, and so are the
+    /// valid signatures of this table.
+    pub fn read(
+        alloc: Global,
+        lines: &[Line<'_>],
+        table: Table,
+    ) -> Result<Definitions, Fault<'static>> {
         let mut definitions = Definitions {
             alloc,
             blocks: BTreeMap::new(alloc),
+            transactions: BTreeMap::new(alloc),
             names: BTreeMap::new(alloc),
+            table,
+            draft: None,
         };
         definitions.insert(genesis(alloc)?)?;
         for line in lines {
@@ -34,6 +59,7 @@ impl Definitions {
                 .define(line.words.as_slice())
                 .map_err(|fault| fault.at(line.number))?;
         }
+        definitions.finish_draft()?;
         Ok(definitions)
     }
 
@@ -50,19 +76,85 @@ impl Definitions {
         }
     }
 
+    /// The signatures that are valid.
+    pub fn table(&self) -> &Table {
+        &self.table
+    }
+
     fn define(&mut self, words: &[&str]) -> Result<(), LineFault> {
         match words {
-            ["block", name, parent] => self.block(name, parent),
+            ["in", ..] | ["out", ..] => self.draft_line(words),
+            _ => {
+                self.finish_draft()?;
+                self.definition(words)
+            }
+        }
+    }
+
+    /// A line of its own, which ends those of a transaction.
+    fn definition(&mut self, words: &[&str]) -> Result<(), LineFault> {
+        match words {
+            ["tx", name, version, lock_time] => {
+                self.check_free(name)?;
+                self.draft = Some(Draft::new(self.alloc, name, version, lock_time)?);
+                Ok(())
+            }
+            ["block", name, parent, options @ ..] => {
+                let recipe = self.recipe(options)?;
+                self.block(name, parent, recipe)
+            }
             ["chain", name, count, parent] => self.chain(name, number(count)?, parent),
+            ["verdict", key, signature, tx, input, code, kind] => {
+                self.verdict(key, signature, tx, number(input)?, code, number(kind)?)
+            }
             _ => Err(LineFault::Unreadable),
         }
     }
 
-    fn block(&mut self, name: &str, parent: &str) -> Result<(), LineFault> {
-        if !is_name(name) || name == "null" || self.blocks.contains_key(name) {
+    /// A line of the transaction that is being read.
+    fn draft_line(&mut self, words: &[&str]) -> Result<(), LineFault> {
+        let Some(mut draft) = self.draft.take() else {
             return Err(LineFault::Unreadable);
+        };
+        match words {
+            ["in", prev, script] => draft.input(self.outpoint(prev)?, script, None)?,
+            ["in", prev, script, sequence] => {
+                draft.input(self.outpoint(prev)?, script, Some(*sequence))?
+            }
+            ["out", value, script] => draft.output(value, script)?,
+            _ => return Err(LineFault::Unreadable),
         }
-        let block = child(self.alloc, name, self.find(parent)?)?;
+        self.draft = Some(draft);
+        Ok(())
+    }
+
+    /// From now on the transaction that was read can be named.
+    fn finish_draft(&mut self) -> Result<(), Memory> {
+        if let Some(draft) = self.draft.take() {
+            let (name, tx) = draft.finish();
+            let known = Known::from_tx(self.alloc, tx)?;
+            self.transactions.insert(name, known)?;
+        }
+        Ok(())
+    }
+
+    /// What these words say of a block: options, and the names of transactions.
+    fn recipe(&self, words: &[&str]) -> Result<Recipe, LineFault> {
+        let mut recipe = Recipe::new(self.alloc);
+        for word in words {
+            match word.split_once('=') {
+                Some((option, value)) => recipe.set(self.alloc, option, value)?,
+                None => recipe
+                    .transactions
+                    .push(self.transaction(word)?.tx.copy()?)?,
+            }
+        }
+        Ok(recipe)
+    }
+
+    fn block(&mut self, name: &str, parent: &str, recipe: Recipe) -> Result<(), LineFault> {
+        self.check_free(name)?;
+        let block = made(self.alloc, name, self.find(parent)?, recipe)?;
         self.insert(block)?;
         Ok(())
     }
@@ -75,13 +167,76 @@ impl Definitions {
         let mut above = String::from_str(self.alloc, parent)?;
         for place in 1..=count {
             let next = format!(in self.alloc; "{name}{place}")?;
-            self.block(next.as_str(), above.as_str())?;
+            self.block(next.as_str(), above.as_str(), Recipe::new(self.alloc))?;
             above = next;
         }
         Ok(())
     }
 
-    fn insert(&mut self, block: Named) -> Result<(), AllocError> {
+    /// Makes a signature valid.
+    fn verdict(
+        &mut self,
+        key: &str,
+        signature: &str,
+        tx: &str,
+        input: usize,
+        code: &str,
+        kind: u8,
+    ) -> Result<(), LineFault> {
+        let key = bytes(self.alloc, key)?;
+        let signature = bytes(self.alloc, signature)?;
+        let code = bytes(self.alloc, code)?;
+        let tx = self.transaction(tx)?.tx.copy()?;
+        if input >= tx.inputs.len() {
+            return Err(LineFault::Unreadable);
+        }
+        let verdict = Verdict {
+            key: key.as_slice(),
+            signature: signature.as_slice(),
+            tx: &tx,
+            input,
+            code: code.as_slice(),
+            kind,
+        };
+        add_verdict(&mut self.table, self.alloc, &verdict)?;
+        Ok(())
+    }
+
+    /// The transaction of this name; the coinbase of the block B is `B.cb`.
+    fn transaction(&self, name: &str) -> Result<&Known, LineFault> {
+        let known = match name.split_once('.') {
+            Some((block, COINBASE)) => self.find(block)?.coinbase.as_ref(),
+            _ => self.transactions.get(name),
+        };
+        known.ok_or(LineFault::Unreadable)
+    }
+
+    /// The outpoint that a word names: `null`, or a transaction and an output's number.
+    fn outpoint(&self, word: &str) -> Result<OutPoint, LineFault> {
+        if word == "null" {
+            return Ok(OutPoint::NULL);
+        }
+        let (tx, index) = word.split_once(':').ok_or(LineFault::Unreadable)?;
+        Ok(OutPoint {
+            id: self.transaction(tx)?.id,
+            index: number(index)?,
+        })
+    }
+
+    /// A name that is given once: to a block or to a transaction.
+    fn check_free(&self, name: &str) -> Result<(), LineFault>
+        ensures { OnOk result (length name.now ≤ 32) }
+    {
+        let is_taken = name == "null"
+            || self.blocks.contains_key(name)
+            || self.transactions.contains_key(name);
+        if is_taken || !is_name(name) {
+            return Err(LineFault::Unreadable);
+        }
+        Ok(())
+    }
+
+    fn insert(&mut self, block: Named) -> Result<(), Memory> {
         let name = block.name.clone()?;
         if !self.names.contains_key(&block.id) {
             self.names.insert(block.id, block.name.clone()?)?;

@@ -11,6 +11,8 @@ pub enum Fault<'w> {
     CommandLine(clap::Error),
     /// This line of the scenario, counted from 1, can't be read.
     ScenarioLine(usize),
+    /// This line of the table, counted from 1, can't be read.
+    TableLine(usize),
     /// This file can't be read; `-` is the standard input.
     CannotRead(&'w str),
     /// This file can't be written; `-` is the standard output.
@@ -26,6 +28,7 @@ impl fmt::Display for Fault<'_> {
         match self {
             Fault::CommandLine(error) => error.fmt(f),
             Fault::ScenarioLine(number) => writeln!(f, "regchain: scenario line {number}"),
+            Fault::TableLine(number) => writeln!(f, "regchain: table line {number}"),
             Fault::CannotRead(file) => writeln!(f, "regchain: cannot read {file}"),
             Fault::CannotWrite(file) => writeln!(f, "regchain: cannot write {file}"),
             Fault::Memory => writeln!(f, "regchain: memory"),
@@ -40,6 +43,12 @@ impl From<clap::Error> for Fault<'_> {
             clap::error::ErrorKind::OutOfMemory => Fault::Memory,
             _ => Fault::CommandLine(error),
         }
+    }
+}
+
+impl From<Memory> for Fault<'_> {
+    fn from(_fault: Memory) -> Self {
+        Fault::Memory
     }
 }
 
@@ -69,6 +78,15 @@ impl From<node::Fault> for Fault<'_> {
         match fault {
             node::Fault::Memory => Fault::Memory,
             _ => Fault::Closed,
+        }
+    }
+}
+
+impl From<curve::TableFault> for Fault<'_> {
+    fn from(fault: curve::TableFault) -> Self {
+        match fault {
+            curve::TableFault::BadLine(number) => Fault::TableLine(number),
+            curve::TableFault::Memory => Fault::Memory,
         }
     }
 }

@@ -5,13 +5,20 @@ mod answer;
 mod client;
 mod coinbase;
 mod definitions;
+mod draft;
 mod fault;
 mod journal;
+mod known;
 mod label;
 mod line;
 mod making;
 mod options;
+mod recipe;
 mod report;
 mod run;
+mod verdict;
 
 pub use run::{program, words};
+
+#[cfg(test)]
+mod tests;

@@ -4,8 +4,11 @@ ghost use Rattle.std.specs.Prelude.{◌≤◌, length};
 ghost use Rattle.std.specs.Bool.{OnTrue};
 
 use crate::fault::LineFault;
+use hash::Id;
+use hex::{FromHex, FromHexError};
 use std::alloc::{AllocError, Global};
 use std::str;
+use std::str::FromStr;
 
 /// A line that says something.
 #[derive(Drop)]
@@ -64,11 +67,29 @@ pub fn is_name(word: &str) -> bool
 }
 
 /// A number in decimal digits, without a sign.
-pub fn number(word: &str) -> Result<u64, LineFault> {
-    if !word.bytes().all(|byte| byte.is_ascii_digit()) {
+pub fn number<N: FromStr>(word: &str) -> Result<N, LineFault>
+where
+    N::Err: Drop,
+{
+    if !is_decimal(word) {
         return Err(LineFault::Unreadable);
     }
-    word.parse::<u64>().map_err(|_| LineFault::Unreadable)
+    word.parse::<N>().map_err(|_| LineFault::Unreadable)
+}
+
+/// A number in decimal digits, with `-` before one below zero.
+pub fn signed<N: FromStr>(word: &str) -> Result<N, LineFault>
+where
+    N::Err: Drop,
+{
+    if !is_decimal(word.strip_prefix('-').unwrap_or(word)) {
+        return Err(LineFault::Unreadable);
+    }
+    word.parse::<N>().map_err(|_| LineFault::Unreadable)
+}
+
+fn is_decimal(word: &str) -> bool {
+    word.bytes().all(|byte| byte.is_ascii_digit())
 }
 
 /// Bytes in lower-case hexadecimal digits; `-` is no byte.
@@ -76,12 +97,26 @@ pub fn bytes(alloc: Global, word: &str) -> Result<Vec<u8>, LineFault> {
     if word == "-" {
         return Ok(Vec::new(alloc));
     }
+    match hex::decode(alloc, lower_case(word)?) {
+        Ok(bytes) => Ok(bytes),
+        Err(FromHexError::OutOfMemory) => Err(LineFault::Memory),
+        Err(_) => Err(LineFault::Unreadable),
+    }
+}
+
+/// Four bytes in lower-case hexadecimal digits.
+pub fn array(word: &str) -> Result<[u8; 4], LineFault> {
+    <[u8; 4]>::from_hex(lower_case(word)?).map_err(|_| LineFault::Unreadable)
+}
+
+/// An id in lower-case digits, as ids are printed.
+pub fn id(word: &str) -> Result<Id, LineFault> {
+    Id::read(lower_case(word)?.as_bytes()).ok_or(LineFault::Unreadable)
+}
+
+fn lower_case(word: &str) -> Result<&str, LineFault> {
     if word.bytes().any(|byte| byte.is_ascii_uppercase()) {
         return Err(LineFault::Unreadable);
     }
-    match hex::decode(alloc, word) {
-        Ok(bytes) => Ok(bytes),
-        Err(hex::FromHexError::OutOfMemory) => Err(LineFault::Memory),
-        Err(_) => Err(LineFault::Unreadable),
-    }
+    Ok(word)
 }

@@ -1,19 +1,28 @@
 //! Blocks as a scenario defines them.
 
-ghost use Rattle.std.specs.Prelude.{◌+◌, ◌<◌, ◌≤◌, ◌^◌, length, IfOk, IfSome, IfNone};
-ghost use Rattle.scenario.specs.Making.{IsMined, IsBarren, IsChild};
+ghost use Rattle.std.specs.Prelude.{◌≡◌, ◌+◌, ◌<◌, ◌≤◌, ◌^◌, length, IfOk, OnOk, IfSome, IfNone, option_map};
+ghost use Rattle.txn.specs.Identity as identity;
+ghost use Rattle.block.specs.Merkle as tree;
+ghost use Rattle.scenario.specs.Making.{IsMined, IsBarren, IsSealed, IsMade, coinbase_said, with_first, draft};
 
 use crate::coinbase::coinbase;
 use crate::fault::LineFault;
-use block::{Block, GENESIS, GENESIS_ID, GENESIS_TIME, Header, Txs, meets_target};
+use crate::known::Known;
+use crate::recipe::{CoinbaseRecipe, HeaderRecipe, Recipe};
+use block::{Block, GENESIS, GENESIS_ID, GENESIS_TIME, Header, Txs, meets_target, merkle};
 use hash::Id;
-use std::alloc::{AllocError, Global};
+use std::alloc::Global;
+use txn::{Tx, ids};
+use wire::{Cursor, Memory};
 
-/// The bits of each block.
+/// The bits of each block by default.
 const BITS: u32 = 0x207f_ffff;
 
-/// The version of each block.
+/// The version of each block by default.
 const VERSION: i32 = 4;
+
+/// Where the coinbase of the genesis block begins: after the header and a count of one byte.
+const COINBASE_AT: usize = 81;
 
 /// A block that has a name.
 #[derive(Drop)]
@@ -24,48 +33,130 @@ pub struct Named {
     /// In seconds since 1970.
     pub time: u32,
     pub bytes: Vec<u8>,
+    pub coinbase: Option<Known>,
 }
 
 /// The genesis block.
-pub fn genesis(alloc: Global) -> Result<Named, AllocError> {
+pub fn genesis(alloc: Global) -> Result<Named, Memory> {
+    let mut bytes = Cursor::new(&GENESIS[COINBASE_AT..]);
+    // Its bytes have no fault, so want of memory is the only one.
+    let coinbase = txn::read(&mut bytes, alloc).map_err(|_| Memory)?;
     Ok(Named {
         name: String::from_str(alloc, "genesis")?,
         id: GENESIS_ID,
         height: 0,
         time: GENESIS_TIME,
         bytes: Vec::from_slice(alloc, &GENESIS)?,
+        coinbase: Some(Known::from_tx(alloc, coinbase)?),
     })
 }
 
-/// The block of this name on a parent, one second younger: of a coinbase alone, with the lowest nonce.
+/// The block of this name on a parent, as a line says it.
 ///
-/// There is none on a parent of the greatest height or the greatest time.
-pub fn child(alloc: Global, name: &str, parent: &Named) -> Result<Named, LineFault>
+/// There is none on a parent of the greatest height, by default on one of the greatest time, and where no
+/// nonce meets the target.
+pub fn made(alloc: Global, name: &str, parent: &Named, recipe: Recipe) -> Result<Named, LineFault>
     requires { length name.now ≤ 75 }
-    ensures { parent.now.height + 1 < 2 ^ 23 → IfOk result (IsChild name.now parent.now) }
+    ensures { IfOk result (IsMade recipe name.now parent.now) }
 {
     let height = parent.height.checked_add(1).ok_or(LineFault::Unreadable)?;
-    let time = parent.time.checked_add(1).ok_or(LineFault::Unreadable)?;
-    let coinbase = coinbase(alloc, name, height)?;
-    let header = Header {
-        version: VERSION,
-        prev: parent.id,
-        root: coinbase.id(alloc)?,
-        time,
-        bits: BITS,
-        nonce: 0,
+    let Recipe {
+        header,
+        has_coinbase,
+        coinbase,
+        mut transactions,
+    } = recipe;
+    let coinbase = known(alloc, has_coinbase, coinbase, name, height)?;
+    put_first(&mut transactions, &coinbase)?;
+    let draft = drafted(alloc, header, parent, transactions.as_slice())?;
+    let Some(header) = sealed(draft, header.nonce) else {
+        return Err(LineFault::Unreadable);
     };
-    let header = mined(header).ok_or(LineFault::Unreadable)?;
-    let txs = Txs::from_vec(vec![in alloc; coinbase]?);
+    let txs = Txs::from_vec(transactions);
     let mut bytes = Vec::new(alloc);
     block::write(&Block { header, txs }, &mut bytes)?;
     Ok(Named {
         name: String::from_str(alloc, name)?,
         id: header.id(),
         height,
-        time,
+        time: header.time,
         bytes,
+        coinbase,
     })
+}
+
+/// The coinbase, unless there is none.
+fn known(
+    alloc: Global,
+    has_coinbase: bool,
+    recipe: CoinbaseRecipe,
+    name: &str,
+    height: u32,
+) -> Result<Option<Known>, Memory>
+    requires { length name.now ≤ 75 }
+    ensures tx { IfOk result (λ known. option_map (λ k. k.tx) known ≡ coinbase_said has_coinbase recipe name.now height) }
+    ensures id { IfOk result (λ known. IfSome known (λ k. k.id ≡ identity.id_of k.tx)) }
+{
+    if !has_coinbase {
+        return Ok(None);
+    }
+    let coinbase = coinbase(alloc, recipe, name, height)?;
+    Ok(Some(Known::from_tx(alloc, coinbase)?))
+}
+
+/// Puts a copy of the coinbase first, if there is one.
+fn put_first(transactions: &mut Vec<Tx>, coinbase: &Option<Known>) -> Result<(), Memory>
+    ensures { OnOk result (transactions.new.items ≡ with_first (option_map (λ k. k.tx) coinbase.now) transactions.old.items) }
+{
+    if let Some(known) = coinbase {
+        transactions.insert(0, known.tx.copy()?)?;
+    }
+    Ok(())
+}
+
+/// The header of these transactions on a parent, before its nonce.
+fn drafted(
+    alloc: Global,
+    recipe: HeaderRecipe,
+    parent: &Named,
+    txs: &[Tx],
+) -> Result<Header, LineFault>
+    ensures { IfOk result (λ header. header ≡ draft recipe parent.now txs.now) }
+{
+    let time = match recipe.time {
+        Some(time) => time,
+        None => parent.time.checked_add(1).ok_or(LineFault::Unreadable)?,
+    };
+    let root = match recipe.root {
+        Some(root) => root,
+        None => true_root(alloc, txs)?,
+    };
+    Ok(Header {
+        version: recipe.version.unwrap_or(VERSION),
+        prev: parent.id,
+        root,
+        time,
+        bits: recipe.bits.unwrap_or(BITS),
+        nonce: 0,
+    })
+}
+
+/// The header with this nonce, by default the lowest that meets the target.
+fn sealed(header: Header, nonce: Option<u32>) -> Option<Header>
+    ensures { IfSome result (IsSealed nonce header) }
+{
+    match nonce {
+        Some(nonce) => Some(Header { nonce, ..header }),
+        None => mined(header),
+    }
+}
+
+/// The Merkle root of these transactions.
+fn true_root(alloc: Global, txs: &[Tx]) -> Result<Id, Memory>
+    ensures { IfOk result (λ id. id ≡ tree.root (identity.ids_of txs.now)) }
+{
+    let (root, _) = merkle(ids(txs, alloc)?.as_slice(), alloc)?;
+    Ok(root)
 }
 
 /// The header with the lowest nonce that meets the target, if one does.

@@ -13,8 +13,11 @@ pub const STANDARD: &str = "-";
 /// What the command line asks for.
 #[derive(Clone, Copy)]
 pub enum Options<'w> {
-    /// To run the scenario of this file.
-    Run { scenario: &'w str },
+    /// To run the scenario of this file, over the valid signatures of the table in this one.
+    Run {
+        scenario: &'w str,
+        table: Option<&'w str>,
+    },
 }
 
 impl<'w> Options<'w> {
@@ -22,13 +25,19 @@ impl<'w> Options<'w> {
     /// scenario on the standard input.
     pub fn read(alloc: Global, words: &'w [&'w str]) -> Result<Options<'w>, Error> {
         if words.len() <= 1 {
-            return Ok(Options::Run { scenario: STANDARD });
+            return Ok(Options::Run {
+                scenario: STANDARD,
+                table: None,
+            });
         }
         let mut command = command(alloc)?;
         let matches = command.try_get_matches_from_mut(words)?;
         match matches.subcommand() {
             Some(("run", run)) => match run.get_str("scenario") {
-                Some(scenario) => Ok(Options::Run { scenario }),
+                Some(scenario) => Ok(Options::Run {
+                    scenario,
+                    table: run.get_str("table"),
+                }),
                 None => Err(command.error(ErrorKind::MissingRequiredArgument, "no scenario")?),
             },
             _ => Err(command.error(ErrorKind::InvalidSubcommand, "'audit' is not there yet")?),
@@ -45,11 +54,12 @@ pub fn no_text(alloc: Global) -> Result<Error, AllocError> {
 fn command<'w>(alloc: Global) -> Result<Command<'w>, AllocError> {
     let run = Command::new(alloc, "run")
         .about("Runs a scenario, and prints what its clients are answered")
-        .arg(file(alloc, "scenario").required(true))?;
+        .arg(file(alloc, "scenario", "The scenario; - is the standard input").required(true))?
+        .arg(file(alloc, "table", "The signatures that are valid"))?;
     let audit = Command::new(alloc, "audit")
         .about("Replays a journal (not there yet)")
-        .arg(file(alloc, "journal").required(true))?
-        .arg(file(alloc, "blk").required(true))?;
+        .arg(file(alloc, "journal", "The journal").required(true))?
+        .arg(file(alloc, "blk", "The blocks that were submitted").required(true))?;
     Command::new(alloc, NAME)
         .about("The chainstate of a Bitcoin node on regtest")
         .subcommand_required(true)
@@ -58,9 +68,10 @@ fn command<'w>(alloc: Global) -> Result<Command<'w>, AllocError> {
 }
 
 /// An option that takes a file.
-fn file<'w>(alloc: Global, name: &'w str) -> Arg<'w> {
+fn file<'w>(alloc: Global, name: &'w str, help: &'w str) -> Arg<'w> {
     Arg::new(alloc, name)
         .long(name)
         .value_name("F")
+        .help(help)
         .action(ArgAction::Set)
 }

@@ -8,6 +8,7 @@ use crate::fault::Fault;
 use crate::line::{lines, number_after};
 use crate::options::{NAME, Options, STANDARD, no_text};
 use crate::report::Report;
+use curve::Table;
 use std::alloc::{AllocError, Global};
 use std::convert::AsStr;
 use std::io::{ErrorKind, Read, Write};
@@ -106,14 +107,15 @@ where
     O: Write,
 {
     let alloc = rt.alloc();
-    let Options::Run { scenario } = Options::read(alloc, words)?;
+    let Options::Run { scenario, table } = Options::read(alloc, words)?;
     let text = read(rt, scenario, input)?;
+    let table = read_table(rt, table)?;
     let lines = lines(alloc, text.as_slice())?;
     let is_client = lines
         .iter()
         .position(|line| line.words.first() == Some(&"client"));
     let (above, below) = lines.split_at(is_client.unwrap_or(lines.len()));
-    let definitions = Definitions::read(alloc, above)?;
+    let definitions = Definitions::read(alloc, above, table)?;
     let clients = read_clients(alloc, &definitions, below)?;
     if clients.is_empty() {
         return Err(Fault::ScenarioLine(number_after(text.as_slice())));
@@ -123,22 +125,39 @@ where
     print(out, text.as_str()).map_err(|_| Fault::CannotWrite(STANDARD))
 }
 
-/// The bytes of a file, all of them.
+/// The bytes of a scenario's file, all of them.
 fn read<'w, R, I>(rt: &R, file: &'w str, input: &mut I) -> Result<Vec<u8>, Fault<'w>>
 where
     R: Files + AllocGlobal,
     I: Read,
 {
-    let read = if file == STANDARD {
-        let mut bytes = Vec::new(rt.alloc());
-        input.read_to_end(&mut bytes).map(|_| bytes)
-    } else {
-        fs::read(rt, file)
+    if file != STANDARD {
+        return fs::read(rt, file).map_err(|error| unread(error.kind(), file));
+    }
+    let mut bytes = Vec::new(rt.alloc());
+    match input.read_to_end(&mut bytes) {
+        Ok(_) => Ok(bytes),
+        Err(error) => Err(unread(error.kind(), file)),
+    }
+}
+
+/// The valid signatures of a table's file: none, where there is no file.
+fn read_table<'w, R>(rt: &R, file: Option<&'w str>) -> Result<Table, Fault<'w>>
+where
+    R: Files + AllocGlobal,
+{
+    let Some(file) = file else {
+        return Ok(Table::new(rt.alloc()));
     };
-    read.map_err(|error| match error.kind() {
+    let text = fs::read(rt, file).map_err(|error| unread(error.kind(), file))?;
+    Ok(Table::from_lines(rt.alloc(), text.as_slice())?)
+}
+
+fn unread<'w>(kind: ErrorKind, file: &'w str) -> Fault<'w> {
+    match kind {
         ErrorKind::OutOfMemory => Fault::Memory,
         _ => Fault::CannotRead(file),
-    })
+    }
 }
 
 fn print<O: Write>(out: &mut O, text: &str) -> io::Result<()> {

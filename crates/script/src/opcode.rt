@@ -21,6 +21,9 @@ pub const OP_EQUAL: u8 = 0x87;
 
 pub const OP_HASH160: u8 = 0xa9;
 
+/// Signed code begins after it.
+pub const OP_CODESEPARATOR: u8 = 0xab;
+
 pub const OP_CHECKSIG: u8 = 0xac;
 
 pub const OP_CHECKSIGVERIFY: u8 = 0xad;

@@ -1,1 +1,3 @@
 pub mod Coinbase
+pub mod Passed
+pub mod Sorted

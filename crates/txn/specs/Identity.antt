@@ -1,4 +1,5 @@
--- The id of a transaction.
+-- The ids of transactions.
+use Rattle.std.specs.Prelude.{List, map}
 use Rattle.hash.specs.Double.{double_sha}
 use Rattle.hash.specs.declared.id.Id.{Id}
 use Rattle.txn.specs.declared.tx.Tx.{Tx}
@@ -7,3 +8,6 @@ use Rattle.txn.specs.Grammar.{transaction}
 -- double SHA-256 of its spelling
 abbrev pub id_of : Tx → Id
 id_of t = record { 0 = double_sha (transaction.spell t) }
+
+abbrev pub ids_of : List Tx → List Id
+ids_of txs = map id_of txs

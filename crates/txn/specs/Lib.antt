@@ -1,5 +1,8 @@
+pub mod Check
+pub mod CheckLaws
 pub mod Coinbase
 pub mod Faults
+pub mod First
 pub mod Grammar
 pub mod Identity
 pub mod Laws

@@ -1,6 +1,7 @@
 //! Transactions: their parts, their bytes, their ids, and the reasons for which a block is refused.
 #![tactic(auto)]
 
+mod checking;
 mod fault;
 mod input;
 pub mod laws;
@@ -12,6 +13,7 @@ mod script;
 mod tx;
 mod writing;
 
+pub use checking::{MAX_COINBASE_SCRIPT, MAX_MONEY, MIN_COINBASE_SCRIPT, check};
 pub use fault::TxFault;
 pub use input::{Inputs, TxIn};
 pub use outpoint::OutPoint;
@@ -19,7 +21,7 @@ pub use output::{Outputs, TxOut};
 pub use reading::read;
 pub use reason::Reason;
 pub use script::Script;
-pub use tx::Tx;
+pub use tx::{Tx, ids};
 pub use writing::write;
 
 #[cfg(test)]

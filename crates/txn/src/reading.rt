@@ -17,6 +17,12 @@ use hash::Id;
 use std::alloc::Global;
 use wire::Cursor;
 
+/// The fewest bytes of an input: an id of 32, an index of 4, the count of an empty script, a sequence of 4.
+const LEAST_INPUT: usize = 41;
+
+/// The fewest bytes of an output: a value of 8, the count of an empty script.
+const LEAST_OUTPUT: usize = 9;
+
 #[tactic(auto, unfolding(crate::specs::Reading::outpoint_at))]
 fn outpoint(bytes: &mut Cursor) -> Result<OutPoint, TxFault>
     ensures { Gives spoken result bytes.new (outpoint_at bytes.old) }
@@ -64,7 +70,8 @@ fn inputs(bytes: &mut Cursor, alloc: Global) -> Result<Inputs, TxFault>
     ensures { Gives spoken result bytes.new (counted_at tx_in_at bytes.old) }
 {
     let count = bytes.compact()?;
-    let mut items = Vec::new(alloc);
+    // A count alone takes no memory: there is no room for more than the bytes can spell.
+    let mut items = Vec::with_capacity(alloc, bytes.room(count, LEAST_INPUT))?;
     for _ in 0..count {
         items.push(tx_in(bytes, alloc)?)?;
     }
@@ -76,7 +83,7 @@ fn outputs(bytes: &mut Cursor, alloc: Global) -> Result<Outputs, TxFault>
     ensures { Gives spoken result bytes.new (counted_at tx_out_at bytes.old) }
 {
     let count = bytes.compact()?;
-    let mut items = Vec::new(alloc);
+    let mut items = Vec::with_capacity(alloc, bytes.room(count, LEAST_OUTPUT))?;
     for _ in 0..count {
         items.push(tx_out(bytes, alloc)?)?;
     }

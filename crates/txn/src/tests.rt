@@ -1,5 +1,6 @@
 use super::*;
 use hash::Id;
+use std::alloc::{AllocError, Global};
 use std::test::*;
 use wire::Cursor;
 
@@ -37,6 +38,10 @@ fn one(rt: HostRuntime) -> Result<(), Fail> {
     }
     assert!(rt; !tx.is_coinbase());
     assert_eq!(rt; Id::read(ID.as_bytes()), Some(tx.id(rt.alloc())?));
+    assert_eq!(rt;
+        ids(&[tx.copy()?], rt.alloc())?.as_slice(),
+        &[tx.id(rt.alloc())?]
+    );
     let mut out = Vec::new(rt.alloc());
     write(&tx.copy()?, &mut out)?;
     assert_eq!(rt; out.as_slice(), &BYTES[..62]);
@@ -55,6 +60,57 @@ fn faults(rt: HostRuntime) -> Result<(), Fail> {
     let mut none = Cursor::new(&[0; 10]);
     assert!(rt; read(&mut none, rt.alloc())?.inputs.is_empty());
     Ok(())
+}
+
+/// A transaction of inputs that spend these outpoints and of one output of all the money there can be.
+fn spending(alloc: Global, outpoints: &[OutPoint]) -> Result<Tx, AllocError> {
+    let mut inputs = Vec::new(alloc);
+    for prev in outpoints {
+        inputs.push(TxIn {
+            prev: *prev,
+            script: Script::from_vec(Vec::new(alloc)),
+            sequence: 0,
+        })?;
+    }
+    let mut outputs = Vec::new(alloc);
+    outputs.push(TxOut {
+        value: MAX_MONEY,
+        script: Script::from_vec(Vec::new(alloc)),
+    })?;
+    Ok(Tx {
+        version: 1,
+        inputs: Inputs::from_vec(inputs),
+        outputs: Outputs::from_vec(outputs),
+        lock_time: 0,
+    })
+}
+
+#[test]
+fn rules_of_a_transaction(rt: HostRuntime) -> Result<(), Fail> {
+    let negative = read(&mut Cursor::new(&BYTES), rt.alloc())?;
+    let found = check(&negative, rt.alloc())?;
+    assert_eq!(rt; found, Some(Reason::OutputNegative));
+    let one = OutPoint {
+        id: Id([7; 32]),
+        index: 2,
+    };
+    let other = OutPoint { index: 1, ..one };
+    let sound = spending(rt.alloc(), &[one, other])?;
+    assert_eq!(rt; check(&sound, rt.alloc())?, None);
+    let twice = spending(rt.alloc(), &[one, other, one])?;
+    let found = check(&twice, rt.alloc())?;
+    assert_eq!(rt; found, Some(Reason::DuplicateInputs));
+    Ok(())
+}
+
+/// A version, a count of 33554432 inputs, and 91 bytes of which two inputs can be read.
+#[test]
+fn a_count_alone_takes_no_room(rt: HostRuntime) {
+    let mut bytes = [0; 100];
+    bytes[4] = 254;
+    bytes[8] = 2;
+    let mut cursor = Cursor::new(&bytes);
+    assert_eq!(rt; read(&mut cursor, rt.alloc()).err(), Some(TxFault::Short));
 }
 
 #[test]

@@ -1,6 +1,6 @@
 ghost use Rattle.std.specs.Prelude.{◌≡◌, IfOk, IsTrue, ◌↔◌};
 ghost use Rattle.txn.specs.Coinbase.{IsCoinbase};
-ghost use Rattle.txn.specs.Identity.{id_of};
+ghost use Rattle.txn.specs.Identity.{id_of, ids_of};
 
 use crate::input::Inputs;
 use crate::output::Outputs;
@@ -58,4 +58,15 @@ impl Tx {
             _ => false,
         }
     }
+}
+
+/// The ids of transactions, in order.
+pub fn ids(txs: &[Tx], alloc: Global) -> Result<Vec<Id>, Memory>
+    ensures { IfOk result (λ ids. ids.items ≡ ids_of txs.now) }
+{
+    let mut ids = Vec::with_capacity(alloc, txs.len())?;
+    for tx in txs {
+        ids.push(tx.id(alloc)?)?;
+    }
+    Ok(ids)
 }

@@ -1,4 +1,4 @@
-ghost use Rattle.std.specs.Prelude.{◌≡◌, ℕ, ◌≤◌, ◌++◌, List, length, Err, IfOk, IfErr, OnErr, IsOkAnd};
+ghost use Rattle.std.specs.Prelude.{◌≡◌, ℕ, ◌≤◌, ◌<◌, ◌/◌, min, ◌++◌, List, length, Err, IfOk, IfErr, OnErr, IsOkAnd};
 ghost use Rattle.wire.specs.declared.fault.WireFault.{WireFault};
 ghost use Rattle.wire.specs.Grammar.{IsBytes, piece, number, signed32, signed64, count};
 ghost use Rattle.wire.specs.Reading.{Reads, number_at, i32_at, i64_at, piece_at, compact_at, long_at};
@@ -37,6 +37,17 @@ impl<'a> Cursor<'a> {
         ensures bytes { IsBytes self.now }
     {
         in_range(self.rest)
+    }
+
+    /// The room that a list of `count` parts can need, each of at least `least` bytes.
+    ///
+    /// However great the count, no more parts are left than the bytes have room for.
+    pub fn room(&self, count: u64, least: usize) -> usize
+        requires { 0 < least }
+        ensures { result ≡ min count (length self.now / least) }
+    {
+        let most = self.rest.len() / least;
+        most.min(count as usize)
     }
 
     /// The next `len` bytes.

@@ -38,6 +38,13 @@ fn parts(rt: HostRuntime) -> Result<(), Fail> {
 }
 
 #[test]
+fn rooms(rt: HostRuntime) {
+    let cursor = Cursor::new(&[0; 100]);
+    assert_eq!(rt; cursor.room(33_554_432, 41), 2);
+    assert_eq!(rt; cursor.room(1, 41), 1);
+}
+
+#[test]
 fn messages(rt: HostRuntime) -> Result<(), Fail> {
     let text = format!(in rt.alloc(); "{}; {}", Memory, WireFault::Short)?;
     assert_eq!(rt; text.as_str(), "out of memory; the bytes end too early");

@@ -1,0 +1,5 @@
+use Rattle.block.proofs.OneReading.{one_split}
+use Rattle.block.proofs.laws.one_split.Goals as goal
+
+pub returns : goal.returns
+returns c = one_split

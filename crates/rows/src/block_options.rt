@@ -1,0 +1,78 @@
+//! Blocks with options and transactions.
+
+use crate::play::expect_output;
+use std::test::Fail;
+
+/// A block on genesis, built by another program: version -7, time 1296688700, bits 207ffffe and nonce 5, by
+/// which it misses the target; a coinbase with the script 51aabb that pays 7 to 6a52; and two transactions,
+/// of which the second spends the first.
+const BLOCK: &str =
+    "f9ffffff06226e46111a0b59caaf126043eb5bbf28c34f3a5e332a1fc7b2b73cf188910f81d862d97acd2dfae35d62d42c40e23495b2204801e38819d1ca304aaa7f3ed03ce6494dfeff7f20050000000301000000010000000000000000000000000000000000000000000000000000000000000000ffffffff0351aabbffffffff010700000000000000026a5200000000feffffff023ba3edfd7a7b12b27ac72c3e67768f617fc81bc3888a51323a9fb8aa4b1e5e4a00000000020151030000000000000000000000000000000000000000000000000000000000000000000000ffffffff00ffffffff02fbffffffffffffff016affffffffffffff7f00070000000100000001a2ceecb091a9da9c6c8689255ec120b1e04de699f7b0198fcea8587b43b07c860100000000ffffffff010100000000000000015100000000";
+
+/// Its definition. Inputs and outputs come in any order, and options between the transactions.
+const DEFINITION: &str = "tx T -2 7
+out -5 6a
+in genesis.cb:0 0151 3
+out 9223372036854775807 -
+in null -
+tx U 1 0
+in T:1 -
+out 1 51
+block x genesis bits=207ffffe cb=51aabb T nonce=5 pay=6a52 U reward=7 time=1296688700 version=-7
+";
+
+#[test]
+fn a_block_that_another_program_built(rt: HostRuntime) -> Result<(), Fail> {
+    let text = format!(in rt.alloc(); "{DEFINITION}client a\nraw {BLOCK}\nsubmit x\ncut x 80\n")?;
+    let output = format!(in rt.alloc();
+        "client a\n\
+         raw {BLOCK} = high-hash @1\n\
+         submit x = high-hash @2\n\
+         cut x 80 = decode-failed @2\n\
+         journal\n\
+         1 a submit x 1296688602 = high-hash\n\
+         2 a submit x 1296688602 = high-hash\n"
+    )?;
+    expect_output(&rt, text.as_bytes(), output.as_str());
+    Ok(())
+}
+
+/// The root that is said is read in reverse, as ids are printed. Here it is the one of `b1`, so the block has the
+/// header of `b1`, and its id, but another coinbase.
+#[test]
+fn a_root_that_is_said(rt: HostRuntime) {
+    expect_output(
+        &rt,
+        b"block b1 genesis\nblock c1 genesis root=96f90225b9cca865ed836750b78ecf031011922543c14729b83e2e5f0e06c94b\nclient a\nsubmit c1\nsubmit b1\n",
+        "client a\n\
+         submit c1 = bad-txnmrklroot @1\n\
+         submit b1 = accepted @2\n\
+         journal\n\
+         1 a submit b1 1296688602 = bad-txnmrklroot\n\
+         2 a submit b1 1296688602 = accepted\n",
+    );
+}
+
+/// A block pays at most the subsidy; less is plain, and so are any script of its output, a later version,
+/// a later time and any script of its coinbase that begins with the height.
+#[test]
+fn plain_blocks(rt: HostRuntime) {
+    expect_output(
+        &rt,
+        b"block b1 genesis reward=4999999999 pay=6a\n\
+          block b2 b1 version=5 time=1296695802 cb=5252 pay=-\n\
+          block b3 b2 cb=none b1.cb b2.cb\n\
+          block b4 b2 reward=5000000001\n\
+          client a\neach b 1 2\nsubmit b3\nsubmit b4\nbest\n",
+        "client a\n\
+         submit b1 = accepted @1\n\
+         submit b2 = accepted @2\n\
+         submit b3 = bad-cb-multiple @3\n\
+         submit b4 = unsupported\n\
+         best = b2 @3\n\
+         journal\n\
+         1 a submit b1 1296688602 = accepted\n\
+         2 a submit b2 1296688602 = accepted\n\
+         3 a submit b3 1296688602 = bad-cb-multiple\n",
+    );
+}

@@ -1,0 +1,45 @@
+//! The `verdict` lines of a scenario: signatures that are to be valid.
+
+ghost use Rattle.std.specs.Prelude.{◌≡◌, ◌<◌, ◌∷◌, [], length, OnOk, OnErr};
+ghost use Rattle.std.specs.FinSet as set;
+ghost use Rattle.curve.specs.Triple.{triple_of};
+ghost use Rattle.script.specs.Removal.{without};
+ghost use Rattle.sighash.specs.Digest.{digest_of};
+
+use curve::Table;
+use script::opcode::OP_CODESEPARATOR;
+use script::without;
+use sighash::digest;
+use std::alloc::Global;
+use txn::Tx;
+use wire::Memory;
+
+/// A signature, without its type byte, and what it signs: an input of a transaction, by its number, with a code.
+#[derive(Clone, Copy)]
+pub struct Verdict<'s> {
+    pub key: &'s [u8],
+    pub signature: &'s [u8],
+    pub tx: &'s Tx,
+    pub input: usize,
+    /// With its CODESEPARATORs, which aren't signed.
+    pub code: &'s [u8],
+    pub kind: u8,
+}
+
+/// Makes a signature valid.
+pub fn add_verdict(table: &mut Table, alloc: Global, verdict: &Verdict<'_>) -> Result<(), Memory>
+    requires { verdict.now.input < length verdict.now.tx.now.inputs }
+    ensures ok { let v = verdict.now in
+        let signed = digest_of v.tx.now v.input (without ((0xab ∷ []) ∷ []) v.code.now) v.kind in
+        OnOk result (table.new ≡ set.insert table.old (triple_of v.key.now v.signature.now signed)) }
+    ensures err { OnErr result (table.new ≡ table.old) }
+{
+    let pieces = without(alloc, verdict.code, &[&[OP_CODESEPARATOR]])?;
+    let signed = digest(
+        verdict.tx,
+        verdict.input,
+        pieces.as_slice(),
+        u32::from(verdict.kind),
+    );
+    table.add(verdict.key, verdict.signature, &signed)
+}
