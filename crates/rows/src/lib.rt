@@ -1,4 +1,4 @@
-//! Scenarios with the output that they must have, run through the program.
+//! Scenarios with the output that they must have, run through the program, and scripts with their verdicts.
 #![tactic(auto)]
 
 #[cfg(test)]
@@ -15,6 +15,8 @@ mod outside_blocks;
 mod play;
 #[cfg(test)]
 mod scenario_faults;
+#[cfg(test)]
+mod scripts;
 #[cfg(test)]
 mod streams;
 #[cfg(test)]

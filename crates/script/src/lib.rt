@@ -9,7 +9,7 @@ mod ops;
 mod removal;
 mod signatures;
 
-pub use kinds::{is_p2sh, push_only, unspendable};
+pub use kinds::{MAX_SCRIPT_SIZE, is_p2sh, push_only, unspendable};
 pub use num::Num;
 pub use ops::{Ops, number, pushed};
 pub use removal::without;

@@ -1,0 +1,76 @@
+-- Rows on stacks.
+use Rattle.std.proofs.Common.{◌≡◌, ℕ, zero, suc, ◌+◌, ◌-◌, ◌<◌, ◌≤◌, List, [], ◌∷◌, ◌++◌, length, reverse, take, drop, remove, get_or, slice_get, nat_lt, IsTrue, Some, None, refl, sym, ap, ◌∙◌, ⊎_elim, append_assoc, drop-cons, length-drop, zero-add, arith}
+use Rattle.std.proofs.lemmas.List.{take-append-drop, drop_at, reverse-append, length-reverse, length-take-le, map-append}
+use Rattle.std.specs.Borrow.{Bor}
+use Rattle.script.specs.Removal.{bytes_of}
+use Rattle.std.proofs.lemmas.List.Edits.{remove-append_right}
+use Rattle.std.specs.List.{list_all}
+use Rattle.std.proofs.lemmas.List.Folds.{list_all_at}
+use Rattle.std.proofs.lemmas.Option.{get_or_from_slice_get}
+use Rattle.std.proofs.lemmas.Bool.{false≢true, cases_lt}
+use borrow.Author.Tests.{le-ltb}
+use Rattle.interp.specs.Stack.{Bytes, Stack, pushed, nth, take_off}
+
+pub take_off-more : {A : Type 0} (n k : ℕ) (x : A) (s s' t t' : List A) → k < n → s ≡ x ∷ s' → t' ≡ x ∷ t → take_off (n - (k + 1)) s' t' ≡ take_off (n - k) s t
+take_off-more n k x s s' t t' below e f =
+    let m : n - k ≡ suc (n - (k + 1)) = omega arith in
+    rw (m, e, f) refl
+
+pub take_off-short : {A : Type 0} (n : ℕ) (s t : List A) → length s < n → take_off n s t ≡ None
+take_off-short zero s t h = absurd (omega arith)
+take_off-short (suc n) [] t h = refl
+take_off-short (suc n) (x ∷ s) t h = take_off-short n s (x ∷ t) (omega arith)
+
+pub pushed-push : (xs : Stack) (x : Bytes) (rest : Stack) → pushed (xs ++ x ∷ []) rest ≡ x ∷ pushed xs rest
+pushed-push [] x rest = refl
+pushed-push (y ∷ xs) x rest = pushed-push xs x (y ∷ rest)
+
+pub nth_got : (xs : Stack) (k : ℕ) (x : Bytes) → slice_get xs k ≡ Some x → x ≡ nth xs k
+nth_got xs k x e = sym (get_or_from_slice_get xs k x [] e)
+
+pub passes_at : (n i : ℕ) (xs : List ℕ) → i < length xs → IsTrue (list_all (λ k. nat_lt k n) xs) → get_or xs i 0 < n
+passes_at n i xs h all =
+    ⊎_elim (λ below. below) (λ past. absurd (false≢true (sym (list_all_at (λ k. nat_lt k n) xs i 0 h (le-ltb _ _ past)) ∙ all))) (cases_lt (get_or xs i 0) n)
+
+-- ---- piles, whose items stand the lowest first
+reversed-parts : {A : Type 0} (k : ℕ) (xs : List A) → reverse xs ≡ reverse (drop k xs) ++ reverse (take k xs)
+reversed-parts k xs = ap reverse (sym (take-append-drop k xs)) ∙ reverse-append (take k xs) (drop k xs)
+
+pub drop-reversed : {A : Type 0} (n k : ℕ) (xs : List A) → n + k ≡ length xs → reverse (take k xs) ≡ drop n (reverse xs)
+drop-reversed n k xs h =
+    let many : length (reverse (drop k xs)) ≡ n = omega (arith, length-reverse (drop k xs), length-drop k xs) in
+    sym (ap (drop n) (reversed-parts k xs) ∙ drop_at (reverse (drop k xs)) (reverse (take k xs)) n many)
+
+removed-seam : {A : Type 0} (front back : List A) (x : A) (n : ℕ) → length front ≡ n → remove (front ++ x ∷ back) n ≡ front ++ back
+removed-seam front back x n h =
+    let none : n - n ≡ 0 = omega arith in
+    remove-append_right front (x ∷ back) n n h (omega arith) ∙ ap (λ i. front ++ remove (x ∷ back) i) none
+
+pub remove-reversed : {A : Type 0} (n k : ℕ) (x : A) (xs : List A) → n + k + 1 ≡ length xs → reverse (remove xs k) ≡ remove (reverse xs) n
+remove-reversed n k x xs h =
+    let front = take k xs in
+    let back = drop (suc k) xs in
+    let y = get_or xs k x in
+    let split : xs ≡ front ++ y ∷ back = sym (take-append-drop k xs) ∙ ap (λ ys. front ++ ys) (drop-cons xs k x (omega arith)) in
+    let first : length front ≡ k = length-take-le k xs (omega arith) in
+    let many : length (reverse back) ≡ n = omega (arith, length-reverse back, length-drop (suc k) xs) in
+    let turned : reverse xs ≡ reverse back ++ y ∷ reverse front =
+    ap reverse split ∙ reverse-append front (y ∷ back) ∙ ap (λ ys. ys ++ reverse front) (reverse-append (y ∷ []) back) ∙ append_assoc (reverse back) (y ∷ []) (reverse front) in
+    ap (λ ys. reverse (remove ys k)) split ∙ ap reverse (removed-seam front back y k first) ∙ reverse-append front back
+    ∙ sym (ap (λ ys. remove ys n) turned ∙ removed-seam (reverse back) (reverse front) y n many)
+
+-- one more item of those from a place on
+pub taken-more : {A : Type 0} (at i : ℕ) (xs : List A) (x : A) → slice_get xs (at + i) ≡ Some x → take (i + 1) (drop at xs) ≡ take i (drop at xs) ++ x ∷ []
+taken-more at i [] x e = cc
+taken-more zero zero (y ∷ xs) x e = let same : y ≡ x = cc in ap (λ z. z ∷ []) same
+taken-more zero (suc i) (y ∷ xs) x e = let f : slice_get xs (0 + i) ≡ Some x = rw zero-add (rw zero-add at e) in let one : suc i + 1 ≡ suc (i + 1) = omega arith in rw one (ap (λ zs. y ∷ zs) (taken-more 0 i xs x f))
+taken-more (suc at) i (y ∷ xs) x e = let more : suc at + i ≡ suc (at + i) = omega arith in taken-more at i xs x (rw more at e)
+
+-- one more slice of the elements from a place on
+pub slices-more : (slices : List (Bor (List ℕ))) (x : Bor (List ℕ)) (y : Bytes) (from i : ℕ) (s : Stack) → bytes_of slices ≡ take (i - from) (drop from s) → from ≤ i
+    → slice_get s i ≡ Some y → x.now ≡ y → bytes_of (slices ++ x ∷ []) ≡ take (i + 1 - from) (drop from s)
+slices-more slices x y from i s so_far past got is =
+    let place : i ≡ from + (i - from) = omega arith in
+    let more : i + 1 - from ≡ (i - from) + 1 = omega arith in
+    map-append (λ slice. slice.now) slices (x ∷ []) ∙ ap (λ front. front ++ x.now ∷ []) so_far ∙ ap (λ z. take (i - from) (drop from s) ++ z ∷ []) is
+    ∙ sym (ap (λ n. take n (drop from s)) more ∙ taken-more from (i - from) s y (rw place at got))

@@ -1,0 +1,12 @@
+pub mod Stack
+pub mod Elements
+pub mod Spending
+pub mod State
+pub mod Signatures
+pub mod Locks
+pub mod Row
+pub mod Step
+pub mod Rules
+pub mod Examples
+pub mod Rows
+pub mod Meaning

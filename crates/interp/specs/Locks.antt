@@ -1,0 +1,36 @@
+-- The opcodes of BIP 65 and BIP 112.
+use Rattle.std.specs.Prelude.{ℕ, ◌%◌, ◌^◌, ◌==◌, Bool, true, false, not, ◌&&◌, ◌||◌, nat_lt, nat_le}
+use Rattle.std.specs.Option.{option_map_or}
+use Rattle.std.specs.Int.{w32, cast_unsigned, bit_at}
+use Rattle.txn.specs.declared.tx.Tx.{Tx}
+use Rattle.interp.specs.Stack.{Bytes}
+use Rattle.interp.specs.Elements.{natural_of}
+use Rattle.interp.specs.Spending.{sequence_of}
+
+-- a lock time below 500,000,000 is a height, and else a time
+abbrev pub is_height : ℕ → Bool
+is_height lock_time = nat_lt lock_time 500000000
+
+abbrev pub same : Bool → Bool → Bool
+same true b = b
+same false b = not b
+
+-- both are heights or both times; the transaction's is as late at least; and the input's sequence leaves it in force
+unfoldable pub locks_until : Tx → ℕ → ℕ → Bool
+locks_until tx input n =
+    same (is_height n) (is_height tx.lock_time) && nat_le n tx.lock_time && not (sequence_of tx input == 0xffffffff)
+
+-- the low 16 bits of one aren't above those of the other, and bit 22 is the same in both
+unfoldable pub is_as_long : ℕ → ℕ → Bool
+is_as_long n sequence = (bit_at n 22 == bit_at sequence 22) && nat_le (n % 2 ^ 16) (sequence % 2 ^ 16)
+
+-- bit 31 of the number asks for nothing; else the version is at least 2 as an unsigned number, the input's sequence
+-- is a relative lock, and it is as long at least
+unfoldable pub locks_for : Tx → ℕ → ℕ → Bool
+locks_for tx input n =
+    (bit_at n 31 == 1)
+    || (nat_le 2 (cast_unsigned w32 tx.version) && (bit_at (sequence_of tx input) 31 == 0) && is_as_long n (sequence_of tx input))
+
+-- a number of at most five bytes that isn't negative passes the test
+unfoldable pub is_met : (ℕ → Bool) → Bytes → Bool
+is_met test a = option_map_or test (natural_of 5 a) false

@@ -1,0 +1,17 @@
+-- What a script can look at beside its stacks: the transaction, the number of the input, and the valid signatures.
+use Rattle.std.specs.Prelude.{ℕ, slice_get}
+use Rattle.std.specs.Option.{option_map_or}
+use Rattle.txn.specs.declared.tx.Tx.{Tx}
+use Rattle.curve.specs.Triple.{Triples}
+
+pub record Spending : Type 0 where
+  pub tx : Tx
+  pub input : ℕ
+  pub triples : Triples
+
+abbrev pub spending_of : Tx → ℕ → Triples → Spending
+spending_of tx input triples = record { tx = tx; input = input; triples = triples }
+
+-- the sequence number of the input
+abbrev pub sequence_of : Tx → ℕ → ℕ
+sequence_of tx input = option_map_or (λ own. own.sequence) (slice_get tx.inputs input) 0

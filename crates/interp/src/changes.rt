@@ -1,0 +1,114 @@
+ghost use Rattle.std.specs.Prelude.{◌≡◌, ◌∷◌, Some, IfOk};
+ghost use Rattle.interp.specs.Stack.{Gives};
+ghost use Rattle.interp.specs.Row.{verify, if_dup, size, same_bytes};
+ghost use Rattle.interp.specs.Step.{effect};
+ghost use Rattle.interp.specs.Meaning.{change_of};
+
+use crate::element::Element;
+use crate::hashes::{Hash, digest_top};
+use crate::moves::{Move, rearrange};
+use crate::numbers::{Binary, Unary, change_number, join_numbers, push_number, within};
+use crate::pile::Pile;
+use crate::places::{pick, push_depth, roll};
+use std::alloc::Global;
+use wire::Memory;
+
+/// What is done to the main stack alone.
+#[derive(Clone, Copy, Debug, PartialEq, Eq)]
+pub enum Change {
+    MinusOne,
+    Small(u8),
+    Move(Move),
+    Verify,
+    IfDup,
+    Size,
+    Hash(Hash),
+    Unary(Unary),
+    Binary(Binary),
+    Within,
+    Depth,
+    Pick,
+    Roll,
+}
+
+/// Pushes some bytes.
+pub fn push(alloc: Global, stack: &mut Pile<Element>, bytes: &[u8]) -> Result<bool, Memory>
+    ensures { IfOk result (λ there. Gives there (Some (bytes.now ∷ stack.old)) stack.new) }
+{
+    stack.push(Element::from_slice(alloc, bytes)?)?;
+    Ok(true)
+}
+
+/// Takes the top, and tells whether it is true.
+pub fn verify(stack: &mut Pile<Element>) -> bool
+    ensures { Gives result (effect verify stack.old) stack.new }
+{
+    if stack.len() == 0 {
+        return false;
+    }
+    stack.pop().is_true()
+}
+
+/// Copies the top, if it is true.
+fn duplicate_if_true(alloc: Global, stack: &mut Pile<Element>) -> Result<bool, Memory>
+    ensures { IfOk result (λ there. Gives there (effect if_dup stack.old) stack.new) }
+{
+    if stack.len() == 0 {
+        return Ok(false);
+    }
+    let top = stack.pop();
+    if top.is_true() {
+        stack.push(top.copy(alloc)?)?;
+    }
+    stack.push(top)?;
+    Ok(true)
+}
+
+/// Pushes the length of the top.
+fn push_size(alloc: Global, stack: &mut Pile<Element>) -> Result<bool, Memory>
+    ensures { IfOk result (λ there. Gives there (effect size stack.old) stack.new) }
+{
+    if stack.len() == 0 {
+        return Ok(false);
+    }
+    let top = stack.pop();
+    let len = top.as_slice().len() as i64;
+    stack.push(top)?;
+    push_number(alloc, stack, len)?;
+    Ok(true)
+}
+
+/// Takes the two on top, and pushes whether they have the same bytes.
+pub fn compare(alloc: Global, stack: &mut Pile<Element>) -> Result<bool, Memory>
+    ensures { IfOk result (λ there. Gives there (effect same_bytes stack.old) stack.new) }
+{
+    if stack.len() < 2 {
+        return Ok(false);
+    }
+    let b = stack.pop();
+    let a = stack.pop();
+    let same = a.as_slice() == b.as_slice();
+    stack.push(Element::from_truth(alloc, same)?)?;
+    Ok(true)
+}
+
+/// Does it, and tells whether it could be done.
+pub fn apply(alloc: Global, stack: &mut Pile<Element>, by: Change) -> Result<bool, Memory>
+    ensures { IfOk result (λ there. Gives there (effect (change_of by) stack.old) stack.new) }
+{
+    match by {
+        Change::MinusOne => push(alloc, stack, &[0x81]),
+        Change::Small(n) => push(alloc, stack, &[n]),
+        Change::Move(by) => rearrange(alloc, stack, by),
+        Change::Verify => Ok(verify(stack)),
+        Change::IfDup => duplicate_if_true(alloc, stack),
+        Change::Size => push_size(alloc, stack),
+        Change::Hash(by) => digest_top(alloc, stack, by),
+        Change::Unary(by) => change_number(alloc, stack, by),
+        Change::Binary(by) => join_numbers(alloc, stack, by),
+        Change::Within => within(alloc, stack),
+        Change::Depth => push_depth(alloc, stack),
+        Change::Pick => pick(alloc, stack),
+        Change::Roll => roll(stack),
+    }
+}

@@ -1,0 +1,23 @@
+//! The script interpreter: whether an input may spend what it names.
+#![tactic(auto)]
+
+mod changes;
+mod element;
+mod hashes;
+mod job;
+mod machine;
+mod moves;
+mod multisig;
+mod numbers;
+mod op;
+mod pile;
+mod places;
+mod signatures;
+mod timelocks;
+mod verifying;
+
+pub use job::Job;
+pub use verifying::verify;
+
+#[cfg(test)]
+mod tests;

@@ -1,0 +1,380 @@
+ghost use Rattle.std.specs.Prelude.{◌≡◌, ◌<◌, ◌≤◌, ◌+◌, ℕ, List, [], length, IfOk, IfSome};
+ghost use Rattle.interp.specs.Stack.{Gives};
+ghost use Rattle.interp.specs.Spending.{Spending, spending_of};
+ghost use Rattle.interp.specs.State.{start, executing};
+ghost use Rattle.interp.specs.Locks.{locks_until, locks_for};
+ghost use Rattle.interp.specs.Meaning.{meaning, check_of};
+ghost use Rattle.interp.specs.Step.{executed, skipped, verified, with_main, opened, turned, closed, to_alt, from_alt, counts_of, multisig_checked, asked, tested, acted, counted, bounded, step_at, step, finished};
+ghost use Rattle.interp.specs.Row.{push_row, row_of, AndVerifies};
+
+use crate::changes::{apply, compare, push, verify};
+use crate::element::Element;
+use crate::job::Job;
+use crate::multisig::{answer, many};
+use crate::numbers::{Binary, join_numbers};
+use crate::op::{Op, Test, op_of};
+use crate::pile::Pile;
+use crate::signatures::check_sig;
+use crate::timelocks::{meets_lock_time, meets_sequence};
+use curve::Table;
+use script::opcode::OP_16;
+use script::pushed;
+use std::alloc::Global;
+use std::marker::Model;
+use wire::Memory;
+
+/// How many bytes a push has at most (Bitcoin Core's `MAX_SCRIPT_ELEMENT_SIZE`).
+const MAX_PUSH: usize = 520;
+
+/// How many opcodes above OP_16 a script has at most (Bitcoin Core's `MAX_OPS_PER_SCRIPT`).
+const MAX_OPS: usize = 201;
+
+/// How many elements both stacks have at most (Bitcoin Core's `MAX_STACK_SIZE`).
+const MAX_ELEMENTS: usize = 1000;
+
+/// How many keys CHECKMULTISIG has at most (Bitcoin Core's `MAX_PUBKEYS_PER_MULTISIG`).
+const MAX_KEYS: usize = 20;
+
+/// What a script runs on.
+#[derive(Drop)]
+pub struct Machine<'a> {
+    main: Pile<Element>,
+    alt: Pile<Element>,
+    /// For each open condition, the innermost on top, whether its branch is taken.
+    conditions: Pile<bool>,
+    /// Opcodes above OP_16, and the keys of each CHECKMULTISIG.
+    count: usize,
+    /// The script from after its last executed CODESEPARATOR.
+    code: &'a [u8],
+}
+
+impl<'a> Model for Machine<'a> {
+    ghost use Rattle.interp.specs.State.{State};
+
+    ghost Value = { State };
+
+    ghost view = { λ m. record { main = m.main; alt = m.alt; conditions = m.conditions; count = m.count; code = m.code.now } };
+}
+
+impl<'a> Machine<'a> {
+    /// Before the first opcode.
+    pub fn new(alloc: Global, script: &'a [u8], main: Pile<Element>) -> Machine<'a>
+        ensures { result ≡ start script.now main }
+    {
+        Machine {
+            main,
+            alt: Pile::new(alloc),
+            conditions: Pile::new(alloc),
+            count: 0,
+            code: script,
+        }
+    }
+
+    /// Whether each open branch is taken.
+    fn is_executing(&self) -> bool
+        ensures { result ≡ executing self.now }
+    {
+        self.conditions.all_true()
+    }
+
+    /// Takes the top, and tells whether it is true.
+    fn verify(&mut self) -> bool
+        ensures { Gives result (with_main self.old (verified self.old.main)) self.new }
+    {
+        verify(&mut self.main)
+    }
+
+    fn open(&mut self, at: bool) -> Result<bool, Memory>
+        ensures { IfOk result (λ done. Gives done (opened at self.old self.old.main) self.new) }
+    {
+        if self.main.len() == 0 {
+            return Ok(false);
+        }
+        let is_true = self.main.pop().is_true();
+        self.conditions.push(is_true == at)?;
+        Ok(true)
+    }
+
+    fn turn(&mut self) -> Result<bool, Memory>
+        ensures { IfOk result (λ done. Gives done (turned self.old self.old.conditions) self.new) }
+    {
+        if self.conditions.len() == 0 {
+            return Ok(false);
+        }
+        let taken = self.conditions.pop();
+        self.conditions.push(!taken)?;
+        Ok(true)
+    }
+
+    fn close(&mut self) -> bool
+        ensures { Gives result (closed self.old self.old.conditions) self.new }
+    {
+        if self.conditions.len() == 0 {
+            return false;
+        }
+        let _ = self.conditions.pop();
+        true
+    }
+
+    /// Moves the top to the alternative stack.
+    fn put_aside(&mut self) -> Result<bool, Memory>
+        ensures { IfOk result (λ done. Gives done (to_alt self.old self.old.main) self.new) }
+    {
+        if self.main.len() == 0 {
+            return Ok(false);
+        }
+        let top = self.main.pop();
+        self.alt.push(top)?;
+        Ok(true)
+    }
+
+    /// Moves the top of the alternative stack back.
+    fn take_back(&mut self) -> Result<bool, Memory>
+        ensures { IfOk result (λ done. Gives done (from_alt self.old self.old.alt) self.new) }
+    {
+        if self.alt.len() == 0 {
+            return Ok(false);
+        }
+        let top = self.alt.pop();
+        self.main.push(top)?;
+        Ok(true)
+    }
+
+    /// How many keys and signatures CHECKMULTISIG takes, if they are there and not too many.
+    #[tactic(auto, unfolding(crate::specs::Step::counts_of))]
+    fn counts(&self) -> Option<(usize, usize)>
+        ensures value { result ≡ counts_of self.now }
+        ensures there { IfSome result (λ counts. counts.0 + counts.1 + 3 ≤ length self.now.main) }
+        ensures few { IfSome result (λ counts. counts.0 ≤ 20) }
+        ensures no_more { IfSome result (λ counts. counts.1 ≤ counts.0) }
+        ensures counted { IfSome result (λ counts. self.now.count + counts.0 ≤ 201) }
+    {
+        let keys = many(&self.main, 0, MAX_KEYS)?;
+        let signatures = many(&self.main, keys + 1, keys)?;
+        if self.main.len() < keys + signatures + 3 {
+            return None;
+        }
+        if self.count > MAX_OPS - keys {
+            return None;
+        }
+        Some((keys, signatures))
+    }
+
+    /// CHECKMULTISIG: takes its keys, its signatures and one element more, and pushes its answer.
+    #[tactic(auto, unfolding(crate::specs::Step::multisig_checked))]
+    fn check_multisig(&mut self, alloc: Global, job: &Job, table: &Table) -> Result<bool, Memory>
+        requires { job.now.input < length job.now.tx.now.inputs }
+        ensures { IfOk result (λ done. Gives done (multisig_checked (spending_of job.now.tx.now job.now.input table.now) self.old) self.new) }
+    {
+        let Some(counts) = self.counts() else {
+            return Ok(false);
+        };
+        let Some(valid) = answer(alloc, job, table, self.code, &self.main, counts)? else {
+            return Ok(false);
+        };
+        self.main.drop_top(counts.0 + counts.1 + 3);
+        self.main.push(Element::from_truth(alloc, valid)?)?;
+        self.count += counts.0;
+        Ok(true)
+    }
+
+    /// What leaves a truth or a number.
+    fn test(&mut self, alloc: Global, job: &Job, table: &Table, by: Test) -> Result<bool, Memory>
+        requires { job.now.input < length job.now.tx.now.inputs }
+        ensures { IfOk result (λ done. Gives done (tested (spending_of job.now.tx.now job.now.input table.now) (check_of by) self.old) self.new) }
+    {
+        match by {
+            Test::Equal => compare(alloc, &mut self.main),
+            Test::NumEqual => join_numbers(alloc, &mut self.main, Binary::NumEqual),
+            Test::CheckSig => check_sig(alloc, job, table, self.code, &mut self.main),
+            Test::CheckMultisig => self.check_multisig(alloc, job, table),
+        }
+    }
+
+    fn test_verify(
+        &mut self,
+        alloc: Global,
+        job: &Job,
+        table: &Table,
+        by: Test,
+    ) -> Result<bool, Memory>
+        requires { job.now.input < length job.now.tx.now.inputs }
+        ensures { IfOk result (λ done. Gives done (executed (spending_of job.now.tx.now job.now.input table.now) [] (AndVerifies (check_of by)) self.old) self.new) }
+    {
+        if !self.test(alloc, job, table, by)? {
+            return Ok(false);
+        }
+        Ok(self.verify())
+    }
+
+    /// Whether the top is there and a lock time that the transaction keeps.
+    #[tactic(auto, unfolding(crate::specs::Step::asked))]
+    fn ask_lock_time(&self, job: &Job) -> bool
+        requires { job.now.input < length job.now.tx.now.inputs }
+        ensures { Gives result (asked (λ n. locks_until job.now.tx.now job.now.input n) self.now self.now.main) self.now }
+    {
+        self.main.len() > 0 && meets_lock_time(job, self.main.at(0).as_slice())
+    }
+
+    /// Whether the top is there and a relative lock that the input keeps.
+    #[tactic(auto, unfolding(crate::specs::Step::asked))]
+    fn ask_sequence(&self, job: &Job) -> bool
+        requires { job.now.input < length job.now.tx.now.inputs }
+        ensures { Gives result (asked (λ n. locks_for job.now.tx.now job.now.input n) self.now self.now.main) self.now }
+    {
+        self.main.len() > 0 && meets_sequence(job, self.main.at(0).as_slice())
+    }
+
+    /// An opcode that is executed; `after` follows it in the script.
+    fn execute(
+        &mut self,
+        alloc: Global,
+        job: &Job,
+        table: &Table,
+        after: &'a [u8],
+        op: Op,
+    ) -> Result<bool, Memory>
+        requires { job.now.input < length job.now.tx.now.inputs }
+        ensures { IfOk result (λ done. Gives done (executed (spending_of job.now.tx.now job.now.input table.now) after.now (meaning op) self.old) self.new) }
+    {
+        match op {
+            Op::Disabled | Op::Fails => Ok(false),
+            Op::Nothing => Ok(true),
+            Op::Change(by) => apply(alloc, &mut self.main, by),
+            Op::Test(by) => self.test(alloc, job, table, by),
+            Op::TestVerify(by) => self.test_verify(alloc, job, table, by),
+            Op::If => self.open(true),
+            Op::NotIf => self.open(false),
+            Op::Else => self.turn(),
+            Op::EndIf => Ok(self.close()),
+            Op::ToAlt => self.put_aside(),
+            Op::FromAlt => self.take_back(),
+            Op::CodeSeparator => {
+                self.code = after;
+                Ok(true)
+            }
+            Op::LockTime => Ok(self.ask_lock_time(job)),
+            Op::Sequence => Ok(self.ask_sequence(job)),
+        }
+    }
+
+    /// An opcode in a branch that isn't taken.
+    fn skip(&mut self, op: Op) -> Result<bool, Memory>
+        ensures { IfOk result (λ done. Gives done (skipped (meaning op) self.old) self.new) }
+    {
+        match op {
+            Op::Disabled => Ok(false),
+            Op::If | Op::NotIf => {
+                self.conditions.push(false)?;
+                Ok(true)
+            }
+            Op::Else => self.turn(),
+            Op::EndIf => Ok(self.close()),
+            _ => Ok(true),
+        }
+    }
+
+    /// An opcode that is no push of bytes.
+    #[tactic(auto, unfolding(crate::specs::Step::acted))]
+    fn act(
+        &mut self,
+        alloc: Global,
+        job: &Job,
+        table: &Table,
+        after: &'a [u8],
+        op: Op,
+    ) -> Result<bool, Memory>
+        requires { job.now.input < length job.now.tx.now.inputs }
+        ensures { IfOk result (λ done. Gives done (acted (spending_of job.now.tx.now job.now.input table.now) after.now (meaning op) self.old) self.new) }
+    {
+        if self.is_executing() {
+            self.execute(alloc, job, table, after, op)
+        } else {
+            self.skip(op)
+        }
+    }
+
+    /// A push of bytes.
+    #[tactic(auto, unfolding(crate::specs::Step::acted))]
+    fn act_push(&mut self, alloc: Global, bytes: &[u8]) -> Result<bool, Memory>
+        ensures { IfOk result (λ done. (p : Spending) (after : List ℕ) → Gives done (acted p after (push_row bytes.now) self.old) self.new) }
+    {
+        if bytes.len() > MAX_PUSH {
+            return Ok(false);
+        }
+        if self.is_executing() {
+            return push(alloc, &mut self.main, bytes);
+        }
+        Ok(true)
+    }
+
+    /// One more opcode of this number, unless there were as many as there may be.
+    #[tactic(auto, unfolding(crate::specs::Step::counted))]
+    fn count_one(&mut self, number: u8) -> bool
+        ensures { Gives result (counted number self.old) self.new }
+    {
+        if number <= OP_16 {
+            return true;
+        }
+        if self.count >= MAX_OPS {
+            return false;
+        }
+        self.count += 1;
+        true
+    }
+
+    /// Whether the stacks are small enough.
+    #[tactic(auto, unfolding(crate::specs::Step::bounded))]
+    fn is_bounded(&self) -> bool
+        ensures { Gives result (bounded self.now) self.now }
+    {
+        let main = self.main.len();
+        main <= MAX_ELEMENTS && self.alt.len() <= MAX_ELEMENTS - main
+    }
+
+    /// One opcode with its bytes; `after` follows it in the script.
+    #[tactic(auto, unfolding(crate::specs::Step::step, crate::specs::Step::step_at, crate::specs::Row::row_of))]
+    pub fn step(
+        &mut self,
+        alloc: Global,
+        job: &Job,
+        table: &Table,
+        after: &'a [u8],
+        op: &[u8],
+    ) -> Result<bool, Memory>
+        requires { job.now.input < length job.now.tx.now.inputs }
+        ensures { IfOk result (λ done. Gives done (step (spending_of job.now.tx.now job.now.input table.now) after.now op.now self.old) self.new) }
+    {
+        let Some(number) = op.first() else {
+            return Ok(false);
+        };
+        let number = *number;
+        if !self.count_one(number) {
+            return Ok(false);
+        }
+        let done = if number < 0x4f {
+            self.act_push(alloc, pushed(op))?
+        } else {
+            self.act(alloc, job, table, after, op_of(number))?
+        };
+        Ok(done && self.is_bounded())
+    }
+
+    /// The main stack, if no condition is open.
+    pub fn finish(self) -> Option<Pile<Element>>
+        ensures { result ≡ finished self.entry }
+    {
+        let Machine {
+            main,
+            alt: _,
+            conditions,
+            count: _,
+            code: _,
+        } = self;
+        if conditions.len() == 0 {
+            Some(main)
+        } else {
+            None
+        }
+    }
+}

@@ -1,0 +1,120 @@
+ghost use Rattle.std.specs.Prelude.{◌≡◌, ◌+◌, ◌-◌, ◌<◌, ◌≤◌, length, take, drop, IfOk, IfSome, Some};
+ghost use Rattle.std.specs.List.{concat, position};
+ghost use Rattle.std.specs.FinSet as set;
+ghost use Rattle.script.specs.Removal.{bytes_of};
+ghost use Rattle.curve.specs.Triple.{triple_of};
+ghost use Rattle.interp.specs.Spending.{spending_of};
+ghost use Rattle.interp.specs.Signatures.{is_valid, proper, signed_code, tried};
+ghost use Rattle.interp.specs.Step.{many, keys_in, signatures_in, multisig_answer};
+
+use crate::element::{Element, natural};
+use crate::job::Job;
+use crate::pile::Pile;
+use crate::signatures::{digest_for, is_shaped, is_valid, signed_parts};
+use curve::Table;
+use std::alloc::Global;
+use wire::Memory;
+
+/// The number so far below the top, if it is from 0 to `most`.
+pub fn many(stack: &Pile<Element>, at: usize, most: usize) -> Option<usize>
+    ensures value { result ≡ many most (drop at stack.now) }
+    ensures bound { IfSome result (λ n. n ≤ most) }
+{
+    if at >= stack.len() {
+        return None;
+    }
+    let n = natural(stack.at(at).as_slice(), 4)?;
+    if n > most as u64 {
+        return None;
+    }
+    Some(n as usize)
+}
+
+/// The elements from one so far below the top to before another.
+fn slices(
+    alloc: Global,
+    stack: &Pile<Element>,
+    from: usize,
+    to: usize,
+) -> Result<Vec<&[u8]>, Memory>
+    requires order { from ≤ to }
+    requires there { to ≤ length stack.now }
+    ensures { IfOk result (λ slices. bytes_of slices.items ≡ take (to - from) (drop from stack.now)) }
+{
+    let mut slices = Vec::new(alloc);
+    for i in from..to {
+        slices.push(stack.at(i).as_slice())?;
+    }
+    Ok(slices)
+}
+
+/// The place of the first key for which a signature is valid over this digest.
+fn first_key(table: &Table, digest: &[u8; 32], signature: &[u8], keys: &[&[u8]]) -> Option<usize>
+    requires { 0 < length signature.now }
+    ensures value { result ≡ position (λ key. set.contains table.now (triple_of key.now (proper signature.now) digest.now)) keys.now }
+    ensures bound { IfSome result (λ i. i < length keys.now) }
+{
+    keys.iter()
+        .position(|key| is_valid(table, digest, signature, key))
+}
+
+/// Tries signatures and keys in order: None where one that is tried has not the shape.
+fn try_pairs(
+    job: &Job,
+    table: &Table,
+    code: &[&[u8]],
+    signatures: &[&[u8]],
+    keys: &[&[u8]],
+) -> Option<bool>
+    requires { job.now.input < length job.now.tx.now.inputs }
+    ensures { result ≡ tried (spending_of job.now.tx.now job.now.input table.now) (concat (bytes_of code.now)) (bytes_of signatures.now) (bytes_of keys.now) }
+{
+    let [signature, others @ ..] = signatures else {
+        return Some(true);
+    };
+    if keys.len() <= others.len() {
+        return Some(false);
+    }
+    if !is_shaped(signature) {
+        return None;
+    }
+    if signature.is_empty() {
+        return Some(false);
+    }
+    let digest = digest_for(job, code, signature);
+    let (spare, _) = keys.split_at(keys.len() - others.len());
+    let Some(used) = first_key(table, &digest, signature, spare) else {
+        return Some(false);
+    };
+    let (_, left) = keys.split_at(used + 1);
+    try_pairs(job, table, code, others, left)
+}
+
+/// What CHECKMULTISIG answers, with so many keys and signatures on the stack.
+pub fn answer(
+    alloc: Global,
+    job: &Job,
+    table: &Table,
+    code: &[u8],
+    stack: &Pile<Element>,
+    counts: (usize, usize),
+) -> Result<Option<bool>, Memory>
+    requires input { job.now.input < length job.now.tx.now.inputs }
+    requires few { counts.0 ≤ 20 }
+    requires no_more { counts.1 ≤ counts.0 }
+    requires there { counts.0 + counts.1 + 3 ≤ length stack.now }
+    ensures { IfOk result (λ answer. answer ≡ multisig_answer (spending_of job.now.tx.now job.now.input table.now) code.now stack.now counts) }
+{
+    let (keys, signatures) = counts;
+    let middle = keys + 2;
+    let keys = slices(alloc, stack, 1, keys + 1)?;
+    let signatures = slices(alloc, stack, middle, middle + signatures)?;
+    let parts = signed_parts(alloc, code, signatures.as_slice())?;
+    Ok(try_pairs(
+        job,
+        table,
+        parts.as_slice(),
+        signatures.as_slice(),
+        keys.as_slice(),
+    ))
+}

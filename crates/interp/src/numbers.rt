@@ -1,0 +1,140 @@
+ghost use Rattle.std.specs.Prelude.{◌≡◌, ◌^◌, ◌∷◌, pos, negsuc, ◌<ℤ◌, IfOk, OnOk, MatchOption, IfSome, Some, None};
+ghost use Rattle.script.specs.Num.{operand, spelled};
+ghost use Rattle.interp.specs.Stack.{Gives};
+ghost use Rattle.interp.specs.Step.{top_number, on_number, on_two_numbers, on_three_numbers};
+ghost use Rattle.interp.specs.Rows.{unary_of, binary_of, within_of};
+
+use crate::element::Element;
+use crate::pile::Pile;
+use script::Num;
+use std::alloc::Global;
+use wire::Memory;
+
+/// Opcodes that change the number on top.
+#[derive(Clone, Copy, Debug, PartialEq, Eq)]
+pub enum Unary {
+    Add1,
+    Sub1,
+    Negate,
+    Abs,
+    Not,
+    NotZero,
+}
+
+/// Opcodes that make a number of the two on top.
+#[derive(Clone, Copy, Debug, PartialEq, Eq)]
+pub enum Binary {
+    Add,
+    Sub,
+    BoolAnd,
+    BoolOr,
+    NumEqual,
+    NumNotEqual,
+    Less,
+    Greater,
+    LessOrEqual,
+    GreaterOrEqual,
+    Min,
+    Max,
+}
+
+/// How many bytes an operand has at most.
+const MAX_OPERAND: usize = 4;
+
+/// The number of an operand.
+fn number(bytes: &[u8]) -> Option<i64>
+    ensures value { result ≡ operand 4 bytes.now }
+    ensures above { IfSome result (λ z. negsuc (2 ^ 31) <ℤ z) }
+    ensures below { IfSome result (λ z. z <ℤ pos (2 ^ 31)) }
+{
+    let Num(z) = Num::read(bytes, MAX_OPERAND)?;
+    Some(z)
+}
+
+/// Takes the number on top.
+#[tactic(auto, unfolding(crate::specs::Step::top_number))]
+fn pop_number(stack: &mut Pile<Element>) -> Option<i64>
+    ensures value { MatchOption result (top_number stack.old ≡ None) (λ z. top_number stack.old ≡ Some (z, stack.new)) }
+    ensures above { IfSome result (λ z. negsuc (2 ^ 31) <ℤ z) }
+    ensures below { IfSome result (λ z. z <ℤ pos (2 ^ 31)) }
+{
+    if stack.len() == 0 {
+        return None;
+    }
+    let top = stack.pop();
+    number(top.as_slice())
+}
+
+/// Pushes the shortest spelling of a number.
+pub fn push_number(alloc: Global, stack: &mut Pile<Element>, z: i64) -> Result<(), Memory>
+    ensures { OnOk result (stack.new ≡ spelled z ∷ stack.old) }
+{
+    stack.push(Element::from_number(alloc, z)?)
+}
+
+// The numbers that are taken, the lowest first, and the one that is pushed.
+macro_rules! row {
+    ($alloc:ident, $stack:ident; $a:ident -> $result:expr) => {{
+        let Some($a) = pop_number($stack) else {
+            return Ok(false);
+        };
+        push_number($alloc, $stack, $result)?;
+        Ok(true)
+    }};
+    ($alloc:ident, $stack:ident; $a:ident $b:ident -> $result:expr) => {{
+        let Some($b) = pop_number($stack) else {
+            return Ok(false);
+        };
+        row!($alloc, $stack; $a -> $result)
+    }};
+    ($alloc:ident, $stack:ident; $a:ident $b:ident $c:ident -> $result:expr) => {{
+        let Some($c) = pop_number($stack) else {
+            return Ok(false);
+        };
+        row!($alloc, $stack; $a $b -> $result)
+    }};
+}
+
+/// Changes the number on top, if there is one.
+#[tactic(auto, unfolding(crate::specs::Step::on_number))]
+pub fn change_number(alloc: Global, stack: &mut Pile<Element>, by: Unary) -> Result<bool, Memory>
+    ensures { IfOk result (λ there. Gives there (on_number (unary_of by) stack.old) stack.new) }
+{
+    match by {
+        Unary::Add1 => row!(alloc, stack; a -> a + 1),
+        Unary::Sub1 => row!(alloc, stack; a -> a - 1),
+        Unary::Negate => row!(alloc, stack; a -> -a),
+        Unary::Abs => row!(alloc, stack; a -> a.abs()),
+        Unary::Not => row!(alloc, stack; a -> i64::from(a == 0)),
+        Unary::NotZero => row!(alloc, stack; a -> i64::from(a != 0)),
+    }
+}
+
+/// Makes a number of the two on top, if they are there.
+#[tactic(auto, unfolding(crate::specs::Step::on_two_numbers))]
+pub fn join_numbers(alloc: Global, stack: &mut Pile<Element>, by: Binary) -> Result<bool, Memory>
+    ensures { IfOk result (λ there. Gives there (on_two_numbers (binary_of by) stack.old) stack.new) }
+{
+    match by {
+        Binary::Add => row!(alloc, stack; a b -> a + b),
+        Binary::Sub => row!(alloc, stack; a b -> a - b),
+        Binary::BoolAnd => row!(alloc, stack; a b -> i64::from(a != 0 && b != 0)),
+        Binary::BoolOr => row!(alloc, stack; a b -> i64::from(a != 0 || b != 0)),
+        Binary::NumEqual => row!(alloc, stack; a b -> i64::from(a == b)),
+        Binary::NumNotEqual => row!(alloc, stack; a b -> i64::from(a != b)),
+        Binary::Less => row!(alloc, stack; a b -> i64::from(a < b)),
+        Binary::Greater => row!(alloc, stack; a b -> i64::from(a > b)),
+        Binary::LessOrEqual => row!(alloc, stack; a b -> i64::from(a <= b)),
+        Binary::GreaterOrEqual => row!(alloc, stack; a b -> i64::from(a >= b)),
+        Binary::Min => row!(alloc, stack; a b -> a.min(b)),
+        Binary::Max => row!(alloc, stack; a b -> a.max(b)),
+    }
+}
+
+/// Whether a number lies from the second on and below the third, if the three are there.
+#[tactic(auto, unfolding(crate::specs::Step::on_three_numbers))]
+pub fn within(alloc: Global, stack: &mut Pile<Element>) -> Result<bool, Memory>
+    ensures { IfOk result (λ there. Gives there (on_three_numbers within_of stack.old) stack.new) }
+{
+    row!(alloc, stack; x min max -> i64::from(min <= x && x < max))
+}

@@ -1,0 +1,128 @@
+ghost use Rattle.std.specs.Prelude.{◌≡◌, ◌+◌, ◌<◌, ◌≤◌, ℕ, List, [], ◌∷◌, length, reverse, remove, drop, slice_get, pos, OnOk, IfOk, Some};
+ghost use Rattle.std.specs.List.{list_all};
+ghost use Rattle.interp.specs.Stack.{take_off};
+
+use crate::element::Element;
+use std::alloc::Global;
+use std::marker::Model;
+use wire::Memory;
+
+/// Values on top of one another: a list, the top first.
+#[derive(Drop)]
+pub struct Pile<T: Drop> {
+    items: Vec<T>,
+}
+
+impl<T: Drop> Model for Pile<T> {
+    ghost Value = { List T };
+
+    ghost view = { λ p. reverse p.items.items };
+}
+
+impl<T: Drop> Pile<T> {
+    pub fn new(alloc: Global) -> Pile<T>
+        ensures { result ≡ [] }
+    {
+        Pile {
+            items: Vec::new(alloc),
+        }
+    }
+
+    pub fn len(&self) -> usize
+        ensures { result ≡ length self.now }
+    {
+        self.items.len()
+    }
+
+    /// One more on top.
+    pub fn push(&mut self, x: T) -> Result<(), Memory>
+        ensures { OnOk result (self.new ≡ x ∷ self.old) }
+    {
+        self.items.push(x)?;
+        Ok(())
+    }
+
+    /// Takes the top.
+    pub fn pop(&mut self) -> T
+        requires { 0 < length self.old }
+        ensures { self.old ≡ result ∷ self.new }
+    {
+        self.items.pop().unwrap()
+    }
+
+    /// The one `n` places below the top.
+    pub fn at(&self, n: usize) -> &T
+        requires { n < length self.now }
+        ensures { slice_get self.now n ≡ Some result.now }
+    {
+        &self.items[self.items.len() - 1 - n]
+    }
+
+    /// Takes out the one `n` places below the top.
+    pub fn remove(&mut self, n: usize) -> T
+        requires { n < length self.old }
+        ensures value { slice_get self.old n ≡ Some result }
+        ensures others { self.new ≡ remove self.old n }
+    {
+        self.items.remove(self.items.len() - 1 - n)
+    }
+
+    /// Drops `n` from the top.
+    pub fn drop_top(&mut self, n: usize)
+        requires { n ≤ length self.old }
+        ensures { self.new ≡ drop n self.old }
+    {
+        self.items.truncate(self.items.len() - n);
+    }
+
+    /// Takes `n` off, as a pile whose top was the lowest.
+    pub fn take_off(&mut self, alloc: Global, n: usize) -> Result<Pile<T>, Memory>
+        requires { n ≤ length self.old }
+        ensures many { IfOk result (λ p. length p ≡ n) }
+        ensures taken { IfOk result (λ p. take_off n self.old [] ≡ Some (p, self.new)) }
+    {
+        let mut taken = Pile::new(alloc);
+        for _ in 0..n {
+            taken.push(self.pop())?;
+        }
+        Ok(taken)
+    }
+}
+
+impl Pile<bool> {
+    /// Whether each is true.
+    pub fn all_true(&self) -> bool
+        ensures { result ≡ list_all (λ c. c) self.now }
+    {
+        self.items.iter().all(|c| *c)
+    }
+}
+
+impl Pile<Element> {
+    /// How many elements there are.
+    pub fn depth(&self) -> i64
+        ensures { result ≡ pos (length self.now) }
+    {
+        self.items.as_slice().len() as i64
+    }
+
+    /// An equal pile.
+    pub fn copy(&self, alloc: Global) -> Result<Pile<Element>, Memory>
+        ensures { IfOk result (λ p. p ≡ self.now) }
+    {
+        Ok(Pile {
+            items: copies(alloc, self.items.as_slice())?,
+        })
+    }
+}
+
+/// Equal elements.
+fn copies(alloc: Global, elements: &[Element]) -> Result<Vec<Element>, Memory>
+    ensures { IfOk result (λ copies. copies.items ≡ elements.now) }
+{
+    let mut copies = Vec::new(alloc);
+    for element in elements {
+        copies.push(element.copy(alloc)?)?;
+    }
+    Ok(copies)
+}

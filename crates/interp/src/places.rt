@@ -1,0 +1,60 @@
+ghost use Rattle.std.specs.Prelude.{◌≡◌, ◌<◌, ◌∷◌, length, remove, IfOk, IfSome, MatchOption, pos, None, Some};
+ghost use Rattle.script.specs.Num.{spelled};
+ghost use Rattle.interp.specs.Stack.{Gives};
+ghost use Rattle.interp.specs.Step.{picked, rolled, top_place};
+
+use crate::element::{Element, natural};
+use crate::numbers::push_number;
+use crate::pile::Pile;
+use std::alloc::Global;
+use wire::Memory;
+
+/// Pushes the number of elements.
+pub fn push_depth(alloc: Global, stack: &mut Pile<Element>) -> Result<bool, Memory>
+    ensures { IfOk result (λ there. Gives there (Some (spelled (pos (length stack.old)) ∷ stack.old)) stack.new) }
+{
+    push_number(alloc, stack, stack.depth())?;
+    Ok(true)
+}
+
+/// Takes a number, if it is that of a place among the others: 0 is their top.
+#[tactic(auto, unfolding(crate::specs::Step::top_place))]
+fn pop_place(stack: &mut Pile<Element>) -> Option<usize>
+    ensures value { MatchOption result (top_place stack.old ≡ None) (λ n. top_place stack.old ≡ Some (n, stack.new)) }
+    ensures bound { IfSome result (λ n. n < length stack.new) }
+{
+    if stack.len() == 0 {
+        return None;
+    }
+    let n = natural(stack.pop().as_slice(), 4)?;
+    if n >= stack.len() as u64 {
+        return None;
+    }
+    Some(n as usize)
+}
+
+/// Copies an element to the top.
+#[tactic(auto, unfolding(crate::specs::Step::picked))]
+pub fn pick(alloc: Global, stack: &mut Pile<Element>) -> Result<bool, Memory>
+    ensures { IfOk result (λ there. Gives there (picked stack.old) stack.new) }
+{
+    let Some(n) = pop_place(stack) else {
+        return Ok(false);
+    };
+    let copy = stack.at(n).copy(alloc)?;
+    stack.push(copy)?;
+    Ok(true)
+}
+
+/// Moves an element to the top.
+#[tactic(auto, unfolding(crate::specs::Step::rolled))]
+pub fn roll(stack: &mut Pile<Element>) -> Result<bool, Memory>
+    ensures { IfOk result (λ there. Gives there (rolled stack.old) stack.new) }
+{
+    let Some(n) = pop_place(stack) else {
+        return Ok(false);
+    };
+    let moved = stack.remove(n);
+    stack.push(moved)?;
+    Ok(true)
+}

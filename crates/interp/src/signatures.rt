@@ -1,0 +1,150 @@
+ghost use Rattle.std.specs.Prelude.{◌≡◌, ◌<◌, length, map, IfOk};
+ghost use Rattle.std.specs.List.{concat, position};
+ghost use Rattle.std.specs.FinSet as set;
+ghost use Rattle.script.specs.Removal.{bytes_of};
+ghost use Rattle.sighash.specs.Digest.{digest_of};
+ghost use Rattle.curve.specs.Triple.{triple_of};
+ghost use Rattle.interp.specs.Stack.{Gives};
+ghost use Rattle.interp.specs.Spending.{spending_of};
+ghost use Rattle.interp.specs.Signatures.{push_of, pieces_of, signed_code, type_of, proper, is_valid, has_shape};
+ghost use Rattle.interp.specs.Step.{sig_checked};
+
+use crate::element::Element;
+use crate::job::Job;
+use crate::pile::Pile;
+use curve::{Table, der_shape};
+use script::opcode::OP_CODESEPARATOR;
+use script::without;
+use std::alloc::Global;
+use wire::Memory;
+
+/// The shortest opcode by length that pushes these bytes.
+#[tactic(auto, unfolding(crate::specs::Signatures::push_of))]
+fn push_of(alloc: Global, bytes: &[u8]) -> Result<Element, Memory>
+    ensures { IfOk result (λ op. op ≡ push_of bytes.now) }
+{
+    let len = bytes.len();
+    let mut op = Vec::new(alloc);
+    if len < 76 {
+        op.push(len as u8)?;
+    } else if len < 0x100 {
+        op.extend_from_slice(&[76, len as u8])?;
+    } else if len < 0x1_0000 {
+        let [a, b] = (len as u16).to_le_bytes();
+        op.extend_from_slice(&[77, a, b])?;
+    } else {
+        let [a, b, c, d] = ((len % 0x1_0000_0000) as u32).to_le_bytes();
+        op.extend_from_slice(&[78, a, b, c, d])?;
+    }
+    op.extend_from_slice(bytes)?;
+    Ok(Element::from_vec(op))
+}
+
+/// The pushes of some signatures.
+fn pushes_of(alloc: Global, signatures: &[&[u8]]) -> Result<Vec<Element>, Memory>
+    ensures { IfOk result (λ ops. ops.items ≡ map push_of (bytes_of signatures.now)) }
+{
+    let mut ops = Vec::new(alloc);
+    for signature in signatures {
+        ops.push(push_of(alloc, signature)?)?;
+    }
+    Ok(ops)
+}
+
+/// Some elements, lent.
+fn slices_of(alloc: Global, elements: &[Element]) -> Result<Vec<&[u8]>, Memory>
+    ensures { IfOk result (λ slices. bytes_of slices.items ≡ elements.now) }
+{
+    let mut slices = Vec::new(alloc);
+    for element in elements {
+        slices.push(element.as_slice())?;
+    }
+    Ok(slices)
+}
+
+/// The parts of a code that are signed: all but the signatures' pushes and CODESEPARATORs.
+pub fn signed_parts<'a>(
+    alloc: Global,
+    code: &'a [u8],
+    signatures: &[&[u8]],
+) -> Result<Vec<&'a [u8]>, Memory>
+    ensures { IfOk result (λ parts. concat (bytes_of parts.items) ≡ signed_code code.now (bytes_of signatures.now)) }
+{
+    let ops = pushes_of(alloc, signatures)?;
+    let mut pieces = slices_of(alloc, ops.as_slice())?;
+    pieces.push(&[OP_CODESEPARATOR])?;
+    without(alloc, code, pieces.as_slice())
+}
+
+/// What a signature signs: its last byte is its type.
+pub fn digest_for(job: &Job, code: &[&[u8]], signature: &[u8]) -> [u8; 32]
+    requires { job.now.input < length job.now.tx.now.inputs }
+    ensures { result ≡ digest_of job.now.tx.now job.now.input (concat (bytes_of code.now)) (type_of signature.now) }
+{
+    let kind = match signature.last() {
+        Some(kind) => u32::from(*kind),
+        None => 0,
+    };
+    sighash::digest(job.tx, job.input, code, kind)
+}
+
+/// Whether a signature that isn't empty is valid for a key over this digest.
+pub fn is_valid(table: &Table, digest: &[u8; 32], signature: &[u8], key: &[u8]) -> bool
+    requires { 0 < length signature.now }
+    ensures { result ≡ set.contains table.now (triple_of key.now (proper signature.now) digest.now) }
+{
+    table.has(key, &signature[..signature.len() - 1], digest)
+}
+
+/// Whether a signature is valid for a key.
+#[tactic(auto, unfolding(crate::specs::Signatures::is_valid))]
+fn check(job: &Job, table: &Table, code: &[&[u8]], signature: &[u8], key: &[u8]) -> bool
+    requires { job.now.input < length job.now.tx.now.inputs }
+    ensures { result ≡ is_valid (spending_of job.now.tx.now job.now.input table.now) (concat (bytes_of code.now)) signature.now key.now }
+{
+    if signature.is_empty() {
+        return false;
+    }
+    let digest = digest_for(job, code, signature);
+    is_valid(table, &digest, signature, key)
+}
+
+/// Whether a signature is empty or strictly encoded.
+pub fn is_shaped(signature: &[u8]) -> bool
+    ensures { result ≡ has_shape signature.now }
+{
+    der_shape(signature)
+}
+
+/// CHECKSIG: takes a signature and a key above it, and pushes whether they are a valid pair, if the
+/// signature has the shape.
+#[tactic(auto, unfolding(crate::specs::Step::sig_checked, crate::specs::Signatures::judged))]
+pub fn check_sig(
+    alloc: Global,
+    job: &Job,
+    table: &Table,
+    code: &[u8],
+    stack: &mut Pile<Element>,
+) -> Result<bool, Memory>
+    requires { job.now.input < length job.now.tx.now.inputs }
+    ensures { IfOk result (λ done. Gives done (sig_checked (spending_of job.now.tx.now job.now.input table.now) code.now stack.old) stack.new) }
+{
+    if stack.len() < 2 {
+        return Ok(false);
+    }
+    let key = stack.pop();
+    let signature = stack.pop();
+    if !is_shaped(signature.as_slice()) {
+        return Ok(false);
+    }
+    let parts = signed_parts(alloc, code, &[signature.as_slice()])?;
+    let valid = check(
+        job,
+        table,
+        parts.as_slice(),
+        signature.as_slice(),
+        key.as_slice(),
+    );
+    stack.push(Element::from_truth(alloc, valid)?)?;
+    Ok(true)
+}

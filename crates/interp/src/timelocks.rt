@@ -1,0 +1,86 @@
+ghost use Rattle.std.specs.Prelude.{◌≡◌, ◌<◌, ◌^◌, ◌==◌, length, Bool};
+ghost use Rattle.interp.specs.Spending.{sequence_of};
+ghost use Rattle.interp.specs.Locks.{is_height, locks_until, is_as_long, locks_for, is_met};
+
+use crate::element::natural;
+use crate::job::Job;
+
+/// A lock time below it is a height, and else seconds since 1970 (Bitcoin Core's `LOCKTIME_THRESHOLD`).
+const LOCKTIME_THRESHOLD: u64 = 500_000_000;
+
+/// The sequence number of an input that puts the lock time out of force.
+const SEQUENCE_FINAL: u32 = 0xffff_ffff;
+
+/// The least version, as an unsigned number, of a transaction with relative locks (BIP 68).
+const LEAST_VERSION: u32 = 2;
+
+/// How many bytes a lock on the stack has at most.
+const MAX_LOCK: usize = 5;
+
+fn sequence(job: &Job) -> u32
+    requires { job.now.input < length job.now.tx.now.inputs }
+    ensures { result ≡ sequence_of job.now.tx.now job.now.input }
+{
+    job.tx.inputs.as_slice()[job.input].sequence
+}
+
+fn is_height(lock_time: u64) -> bool
+    ensures { result ≡ is_height lock_time }
+{
+    lock_time < LOCKTIME_THRESHOLD
+}
+
+/// Whether the transaction can't stand in a block before this height or time.
+#[tactic(auto, unfolding(crate::specs::Locks::locks_until))]
+fn locks_until(job: &Job, n: u64) -> bool
+    requires { job.now.input < length job.now.tx.now.inputs }
+    ensures { result ≡ locks_until job.now.tx.now job.now.input n }
+{
+    let lock_time = u64::from(job.tx.lock_time);
+    is_height(n) == is_height(lock_time) && n <= lock_time && sequence(job) != SEQUENCE_FINAL
+}
+
+/// Whether the input's relative lock is as long at least.
+#[tactic(auto, unfolding(crate::specs::Locks::is_as_long))]
+fn is_as_long(n: u64, sequence: u64) -> bool
+    ensures { result ≡ is_as_long n sequence }
+{
+    n / 0x40_0000 % 2 == sequence / 0x40_0000 % 2 && n % 0x1_0000 <= sequence % 0x1_0000
+}
+
+/// Whether the input waits for as many blocks or seconds as this lock asks for.
+#[tactic(auto, unfolding(crate::specs::Locks::locks_for))]
+fn locks_for(job: &Job, n: u64) -> bool
+    requires { job.now.input < length job.now.tx.now.inputs }
+    ensures { result ≡ locks_for job.now.tx.now job.now.input n }
+{
+    let sequence = u64::from(sequence(job));
+    n / 0x8000_0000 % 2 == 1
+        || job.tx.version.cast_unsigned() >= LEAST_VERSION
+            && sequence / 0x8000_0000 % 2 == 0
+            && is_as_long(n, sequence)
+}
+
+/// What CHECKLOCKTIMEVERIFY asks of the element on top (BIP 65).
+#[tactic(auto, unfolding(crate::specs::Locks::is_met))]
+pub fn meets_lock_time(job: &Job, top: &[u8]) -> bool
+    requires { job.now.input < length job.now.tx.now.inputs }
+    ensures { result ≡ is_met (λ n. locks_until job.now.tx.now job.now.input n) top.now }
+{
+    match natural(top, MAX_LOCK) {
+        Some(n) => locks_until(job, n),
+        None => false,
+    }
+}
+
+/// What CHECKSEQUENCEVERIFY asks of the element on top (BIP 112).
+#[tactic(auto, unfolding(crate::specs::Locks::is_met))]
+pub fn meets_sequence(job: &Job, top: &[u8]) -> bool
+    requires { job.now.input < length job.now.tx.now.inputs }
+    ensures { result ≡ is_met (λ n. locks_for job.now.tx.now job.now.input n) top.now }
+{
+    match natural(top, MAX_LOCK) {
+        Some(n) => locks_for(job, n),
+        None => false,
+    }
+}

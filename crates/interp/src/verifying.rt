@@ -1,0 +1,144 @@
+ghost use Rattle.std.specs.Prelude.{◌≡◌, ◌<◌, ◌↔◌, [], ◌∷◌, ◌++◌, length, IsTrue, IfOk, MatchOption};
+ghost use Rattle.script.specs.Ops.{ops, rest};
+ghost use Rattle.interp.specs.Spending.{spending_of};
+ghost use Rattle.interp.specs.Rules.{Accepts};
+ghost use Rattle.interp.specs.Step.{outcome, ends_true, accepted_inner, accepted_on, accepted};
+
+use crate::element::Element;
+use crate::job::Job;
+use crate::machine::Machine;
+use crate::pile::Pile;
+use curve::Table;
+use script::{MAX_SCRIPT_SIZE, Ops, is_p2sh, push_only};
+use std::alloc::Global;
+use wire::Memory;
+
+/// Whether the input may spend the output: the scripts run, and end with a true element on top (Bitcoin Core's
+/// `VerifyScript`, with the rules of BIPs 16, 65, 66 and 112). The signatures of the table are the valid ones.
+pub fn verify(job: &Job, table: &Table, alloc: Global) -> Result<bool, Memory>
+    // The input is one of the transaction's.
+    requires { job.now.input < length job.now.tx.now.inputs }
+    ensures { IfOk result (λ yes. IsTrue yes ↔ Accepts job.now.tx.now job.now.input job.now.spent.now table.now) }
+{
+    let script = job.tx.inputs.as_slice()[job.input].script.as_slice();
+    let yes = accepts(alloc, job, table, script)?;
+    Ok(yes)
+}
+
+/// The opcode at the front of a script, if it is whole, and what follows it.
+fn first_op(script: &[u8]) -> Option<(&[u8], &[u8])>
+    ensures { MatchOption result ((ops script.now ≡ []) × (rest script.now ≡ script.now))
+        (λ parts. (ops script.now ≡ parts.0.now ∷ ops parts.1.now) × (script.now ≡ parts.0.now ++ parts.1.now)) }
+{
+    let mut ops = Ops::new(script);
+    let op = ops.next()?;
+    Some((op, ops.rest()))
+}
+
+/// Runs a script on a stack, and gives the stack that it leaves, or nothing where it fails.
+#[tactic(auto, unfolding(crate::specs::Step::outcome))]
+fn run(
+    alloc: Global,
+    job: &Job,
+    table: &Table,
+    script: &[u8],
+    stack: Pile<Element>,
+) -> Result<Option<Pile<Element>>, Memory>
+    requires { job.now.input < length job.now.tx.now.inputs }
+    ensures { IfOk result (λ end. end ≡ outcome (spending_of job.now.tx.now job.now.input table.now) script.now stack) }
+{
+    if script.len() > MAX_SCRIPT_SIZE {
+        return Ok(None);
+    }
+    let mut machine = Machine::new(alloc, script, stack);
+    let mut ahead = script;
+    while let Some((op, after)) = first_op(ahead) {
+        if !machine.step(alloc, job, table, after, op)? {
+            return Ok(None);
+        }
+        ahead = after;
+    }
+    if !ahead.is_empty() {
+        return Ok(None);
+    }
+    Ok(machine.finish())
+}
+
+/// Whether a script runs on a stack, and leaves a true element on top.
+#[tactic(auto, unfolding(crate::specs::Step::ends_true))]
+fn runs_to_true(
+    alloc: Global,
+    job: &Job,
+    table: &Table,
+    script: &[u8],
+    stack: Pile<Element>,
+) -> Result<bool, Memory>
+    requires { job.now.input < length job.now.tx.now.inputs }
+    ensures { IfOk result (λ yes. yes ≡ ends_true (outcome (spending_of job.now.tx.now job.now.input table.now) script.now stack)) }
+{
+    let Some(end) = run(alloc, job, table, script, stack)? else {
+        return Ok(false);
+    };
+    if end.len() == 0 {
+        return Ok(false);
+    }
+    Ok(end.at(0).is_true())
+}
+
+/// Whether the top of a stack, run as a script on the others, leaves a true element on top, and the input script
+/// that left the stack only pushes (BIP 16).
+#[tactic(auto, unfolding(crate::specs::Step::accepted_inner))]
+fn accepts_inner(
+    alloc: Global,
+    job: &Job,
+    table: &Table,
+    script: &[u8],
+    left: Pile<Element>,
+) -> Result<bool, Memory>
+    requires { job.now.input < length job.now.tx.now.inputs }
+    ensures { IfOk result (λ yes. yes ≡ accepted_inner (spending_of job.now.tx.now job.now.input table.now) script.now left) }
+{
+    if !push_only(script) {
+        return Ok(false);
+    }
+    if left.len() == 0 {
+        return Ok(false);
+    }
+    let mut left = left;
+    let inner = left.pop();
+    runs_to_true(alloc, job, table, inner.as_slice(), left)
+}
+
+/// Whether the scripts accept, with the stack that the input script left.
+#[tactic(auto, unfolding(crate::specs::Step::accepted_on))]
+fn accepts_on(
+    alloc: Global,
+    job: &Job,
+    table: &Table,
+    script: &[u8],
+    left: Pile<Element>,
+) -> Result<bool, Memory>
+    requires { job.now.input < length job.now.tx.now.inputs }
+    ensures { IfOk result (λ yes. yes ≡ accepted_on (spending_of job.now.tx.now job.now.input table.now) script.now job.now.spent.now left) }
+{
+    if !is_p2sh(job.spent) {
+        return runs_to_true(alloc, job, table, job.spent, left);
+    }
+    let same = left.copy(alloc)?;
+    if !runs_to_true(alloc, job, table, job.spent, same)? {
+        return Ok(false);
+    }
+    accepts_inner(alloc, job, table, script, left)
+}
+
+/// Whether the scripts accept, with the input script.
+#[tactic(auto, unfolding(crate::specs::Step::accepted))]
+fn accepts(alloc: Global, job: &Job, table: &Table, script: &[u8]) -> Result<bool, Memory>
+    requires { job.now.input < length job.now.tx.now.inputs }
+    ensures { IfOk result (λ yes. yes ≡ accepted (spending_of job.now.tx.now job.now.input table.now) script.now job.now.spent.now) }
+{
+    let Some(left) = run(alloc, job, table, script, Pile::new(alloc))? else {
+        return Ok(false);
+    };
+    accepts_on(alloc, job, table, script, left)
+}
