@@ -1,7 +1,8 @@
 use super::*;
 use hex::FromHex;
+use std::process::Abort;
 use std::test::*;
-use txn::Outputs;
+use txn::{Inputs, Outputs, Tx, TxIn, TxOut};
 use wire::Cursor;
 
 /// Three inputs and three outputs, spelled by python3-bitcoinlib.
@@ -49,16 +50,33 @@ fn each_kind(rt: HostRuntime) -> Result<(), Fail> {
     Ok(())
 }
 
+/// The second of two inputs, with one output.
 #[test]
 fn single_without_an_output(rt: HostRuntime) -> Result<(), Fail> {
     let bytes = <[u8; 166]>::from_hex(BYTES)?;
     let mut tx = txn::read(&mut Cursor::new(&bytes), rt.alloc())?;
-    assert_eq!(rt; tx.inputs.len(), 3);
-    tx.outputs = Outputs::from_vec(Vec::new(rt.alloc()));
+    tx.inputs = Inputs::from_vec(vec![in rt.alloc(); input(&rt, &tx)?, input(&rt, &tx)?]?);
+    tx.outputs = Outputs::from_vec(vec![in rt.alloc(); output(&rt, &tx)?]?);
+    assert_eq!(rt; (tx.inputs.len(), tx.outputs.len()), (2, 1));
     let mut one = [0; 32];
     one[0] = 1;
     for kind in [3, 35, 67, 131] {
         assert_eq!(rt; digest(&tx, 1, &[], kind), one);
     }
+    assert_ne!(rt; digest(&tx, 0, &[], 3), one);
     Ok(())
+}
+
+fn input<R: AllocGlobal + Abort>(rt: &R, tx: &Tx) -> Result<TxIn, Fail> {
+    match tx.inputs.as_slice().first() {
+        Some(input) => Ok(input.copy()?),
+        None => panic!(rt; "no input"),
+    }
+}
+
+fn output<R: AllocGlobal + Abort>(rt: &R, tx: &Tx) -> Result<TxOut, Fail> {
+    match tx.outputs.as_slice().first() {
+        Some(output) => Ok(output.copy()?),
+        None => panic!(rt; "no output"),
+    }
 }
