@@ -1,9 +1,8 @@
 -- The small chainstate: a chain of blocks of a coinbase alone.
-use Rattle.std.specs.Prelude.{ℕ, ◌+◌, ◌/◌, ◌%◌, ◌==◌, ◌&&◌, Bool, false, not, nat_lt, nat_le, if◌then◌else◌, pos, int_le, List, [], ◌∷◌, ◌++◌, length, Option, Some, None}
+use Rattle.std.specs.Prelude.{ℕ, ◌==◌, ◌&&◌, Bool, false, not, nat_le, if◌then◌else◌, pos, int_le, List, [], ◌∷◌, ◌++◌, length, Option, Some, None, is_none}
 use lib.Pointwise.{pointwise}
-use Rattle.std.specs.List.{list_any, starts_with}
+use Rattle.std.specs.List.{list_any}
 use Rattle.hash.specs.declared.id.Id.{Id}
-use Rattle.txn.specs.declared.input.TxIn.{TxIn}
 use Rattle.txn.specs.declared.output.TxOut.{TxOut}
 use Rattle.txn.specs.declared.tx.Tx.{Tx}
 use Rattle.txn.specs.declared.reason.Reason.{Reason}
@@ -15,6 +14,8 @@ use Rattle.block.specs.Identity.{id_of}
 use Rattle.block.specs.Decoding.{decoded}
 use Rattle.block.specs.Reward.{subsidy_of}
 use Rattle.rules.specs.Alone.{alone_rules}
+use Rattle.rules.specs.Context.{header_rules, block_rules}
+use Rattle.rules.specs.InForce.{all}
 use Rattle.node.specs.declared.command.Command.{Command}
 use Rattle.node.specs.declared.command.Command.TheVariants as command
 use Rattle.node.specs.declared.reply.Reply.{Reply}
@@ -47,43 +48,29 @@ is_kept chain id = list_any (λ block. same_id block.id id) chain.kept
 abbrev pub has_coinbase : Chain → Id → Bool
 has_coinbase chain id = list_any (λ block. same_id block.coinbase id) chain.kept
 
--- the shortest bytes of a number below 2^23, the lowest first, in which the highest bit is the sign's
-abbrev pub number_bytes : ℕ → List ℕ
-number_bytes n =
-    if nat_lt n 128 then n ∷ []
-    else if nat_lt n 32768 then n % 256 ∷ n / 256 ∷ []
-    else n % 256 ∷ n / 256 % 256 ∷ n / 65536 ∷ []
-
--- the push of a height (BIP 34): an opcode of its own for 1 to 16
-abbrev pub height_push : ℕ → List ℕ
-height_push n = if nat_le n 16 then (80 + n) ∷ [] else length (number_bytes n) ∷ number_bytes n
-
--- the parent is the tip, and bits, version and time are lawful
+-- the parent is the tip, whose time stands for the median time past
 abbrev pub header_fits : Chain → ℕ → Header → Bool
-header_fits chain now h =
-    same_id h.prev chain.tip.id && (h.bits == 0x207fffff) && int_le (pos 4) h.version
-    && nat_lt chain.tip.time h.time && nat_le h.time (now + 7200)
+header_fits chain now h = same_id h.prev chain.tip.id && is_none (first_broken (header_rules all h chain.tip.time now))
 
--- the coinbase's only input begins with the height's push
-abbrev pub input_fits : ℕ → List TxIn → Bool
-input_fits height (i ∷ []) = starts_with ◌==◌ i.script (height_push height)
-input_fits height inputs = false
+-- the rules of its height
+abbrev pub place_fits : Chain → Block → Bool
+place_fits chain b = is_none (first_broken (block_rules all b (length chain.kept) chain.tip.time))
 
--- its only output pays at most the subsidy
+-- one output, that pays at most the subsidy
 abbrev pub output_fits : ℕ → List TxOut → Bool
 output_fits height (o ∷ []) = int_le o.value (pos (subsidy_of height))
 output_fits height outputs = false
 
--- the only transaction: a coinbase whose id, the root, was never there
-abbrev pub txs_fit : Chain → Id → List Tx → Bool
-txs_fit chain root (t ∷ []) =
-    (t.lock_time == 0) && input_fits (length chain.kept) t.inputs && output_fits (length chain.kept) t.outputs
-    && not (has_coinbase chain root)
-txs_fit chain root txs = false
+-- a coinbase alone, without a lock time
+abbrev pub txs_fit : ℕ → List Tx → Bool
+txs_fit height (t ∷ []) = (t.lock_time == 0) && output_fits height t.outputs
+txs_fit height txs = false
 
--- what a block that breaks no rule by itself has to be besides
+-- what a block that breaks no rule by itself has to be besides; its root, the coinbase's id, was never there
 abbrev pub is_plain : Chain → ℕ → Block → Bool
-is_plain chain now b = header_fits chain now b.header && txs_fit chain b.header.root b.txs
+is_plain chain now b =
+    header_fits chain now b.header && place_fits chain b && txs_fit (length chain.kept) b.txs
+    && not (has_coinbase chain b.header.root)
 
 abbrev pub kept_of : Block → Kept
 kept_of b = record { id = id_of b.header; coinbase = b.header.root; time = b.header.time }

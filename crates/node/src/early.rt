@@ -1,26 +1,16 @@
 //! The small chainstate: a chain of blocks of a coinbase alone.
 
-ghost use Rattle.std.specs.List.{starts_with};
-ghost use Rattle.std.specs.Prelude.{◌≡◌, ◌==◌, ◌<◌, length, IfOk, OnOk, OnErr};
-ghost use Rattle.node.specs.Early.{is_kept, has_coinbase, height_push, header_fits, input_fits, output_fits, txs_fit, is_plain, opening};
+ghost use Rattle.std.specs.Prelude.{◌≡◌, ◌<◌, length, IfOk, OnOk, OnErr};
+ghost use Rattle.node.specs.Early.{is_kept, has_coinbase, header_fits, place_fits, output_fits, txs_fit, is_plain, opening};
 ghost use Rattle.node.specs.Verdict.{Judges, extended};
 
 use block::{Block, GENESIS_ID, GENESIS_ROOT, GENESIS_TIME, Header, ReadFault, subsidy};
 use hash::Id;
-use rules::block_alone;
+use rules::{block_alone, block_context, header_context};
 use std::alloc::Global;
 use std::marker::Model;
-use txn::{Reason, Tx, TxIn, TxOut};
+use txn::{Reason, Tx, TxOut};
 use wire::Memory;
-
-/// Regtest's bits.
-const BITS: u32 = 0x207f_ffff;
-
-/// The lowest version of a block (BIPs 34, 65 and 66).
-const LEAST_VERSION: i32 = 4;
-
-/// How far a block's time may be ahead, in seconds.
-const MAX_FUTURE: u128 = 7200;
 
 /// The most blocks that are kept.
 const MAX_BLOCKS: usize = 1_000_000;
@@ -142,68 +132,47 @@ impl Early {
         ensures { result ≡ is_plain self.now now block.now }
     {
         self.header_fits(&block.header, now)
-            && self.txs_fit(&block.header.root, block.txs.as_slice())
+            && self.place_fits(block)
+            && txs_fit(self.height(), block.txs.as_slice())
+            && !self.has_coinbase(&block.header.root)
+    }
+
+    /// The height of the next block.
+    fn height(&self) -> u32
+        requires { length self.now.kept < 1000000 }
+        ensures { result ≡ length self.now.kept }
+    {
+        self.kept.len() as u32
     }
 
     fn header_fits(&self, header: &Header, now: u64) -> bool
         ensures { result ≡ header_fits self.now now header.now }
     {
-        header.prev == self.tip.id
-            && header.bits == BITS
-            && header.version >= LEAST_VERSION
-            && header.time > self.tip.time
-            && u128::from(header.time) <= u128::from(now) + MAX_FUTURE
+        header.prev == self.tip.id && header_context(header, self.tip.time, now).is_none()
     }
 
-    fn txs_fit(&self, root: &Id, txs: &[Tx]) -> bool
+    fn place_fits(&self, block: &Block) -> bool
         requires { length self.now.kept < 1000000 }
-        ensures { result ≡ txs_fit self.now root.now txs.now }
+        ensures { result ≡ place_fits self.now block.now }
     {
-        let [tx] = txs else {
-            return false;
-        };
-        let height = self.kept.len();
-        tx.lock_time == 0
-            && input_fits(height, tx.inputs.as_slice())
-            && output_fits(height, tx.outputs.as_slice())
-            && !self.has_coinbase(root)
+        block_context(block, self.height(), self.tip.time).is_none()
     }
 }
 
-fn input_fits(height: usize, inputs: &[TxIn]) -> bool
-    requires { height < 1000000 }
-    ensures { result ≡ input_fits height inputs.now }
+fn txs_fit(height: u32, txs: &[Tx]) -> bool
+    ensures { result ≡ txs_fit height txs.now }
 {
-    let [input] = inputs else {
-        return false;
-    };
-    pushes_height(input.script.as_slice(), height)
+    match txs {
+        [tx] => tx.lock_time == 0 && output_fits(height, tx.outputs.as_slice()),
+        _ => false,
+    }
 }
 
-/// Whether a script begins with the height's push (BIP 34).
-fn pushes_height(script: &[u8], height: usize) -> bool
-    requires { height < 1000000 }
-    ensures { result ≡ starts_with ◌==◌ script.now (height_push height) }
-{
-    if height <= 16 {
-        return script.starts_with(&[80 + height as u8]);
-    }
-    if height < 128 {
-        return script.starts_with(&[1, height as u8]);
-    }
-    let low = (height % 256) as u8;
-    if height < 32768 {
-        return script.starts_with(&[2, low, (height / 256) as u8]);
-    }
-    script.starts_with(&[3, low, (height / 256 % 256) as u8, (height / 65536) as u8])
-}
-
-fn output_fits(height: usize, outputs: &[TxOut]) -> bool
-    requires { height < 1000000 }
+fn output_fits(height: u32, outputs: &[TxOut]) -> bool
     ensures { result ≡ output_fits height outputs.now }
 {
-    let [output] = outputs else {
-        return false;
-    };
-    output.value <= subsidy(height as u32)
+    match outputs {
+        [output] => output.value <= subsidy(height),
+        _ => false,
+    }
 }
