@@ -68,13 +68,7 @@ fn expect_all<R: AllocGlobal + Abort>(
     let table = Table::new(rt.alloc());
     for (digits, expected) in rows {
         let spent = hex::decode(rt.alloc(), *digits)?;
-        let accepted = is_accepted(
-            rt,
-            locks,
-            Vec::new(rt.alloc()),
-            spent.as_slice(),
-            &table,
-        )?;
+        let accepted = is_accepted(rt, locks, Vec::new(rt.alloc()), spent.as_slice(), &table)?;
         assert_eq!(rt; accepted, *expected, "{digits}");
     }
     Ok(())
@@ -94,13 +88,7 @@ fn expect_joined<R: AllocGlobal + Abort>(
         }
     }
     let table = Table::new(rt.alloc());
-    let accepted = is_accepted(
-        rt,
-        &PLAIN,
-        Vec::new(rt.alloc()),
-        spent.as_slice(),
-        &table,
-    )?;
+    let accepted = is_accepted(rt, &PLAIN, Vec::new(rt.alloc()), spent.as_slice(), &table)?;
     assert_eq!(rt; accepted, expected);
     Ok(())
 }
