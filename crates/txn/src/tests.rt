@@ -40,7 +40,7 @@ fn one(rt: HostRuntime) -> Result<(), Fail> {
     assert_eq!(rt; Id::read(ID.as_bytes()), Some(tx.id(rt.alloc())?));
     assert_eq!(rt;
         ids(&[tx.copy()?], rt.alloc())?.as_slice(),
-        &[tx.id(rt.alloc())?]
+        [tx.id(rt.alloc())?].as_slice()
     );
     let mut out = Vec::new(rt.alloc());
     write(&tx.copy()?, &mut out)?;
