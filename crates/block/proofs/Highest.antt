@@ -1,6 +1,9 @@
 -- An id against the target, by its highest three bytes and the others.
 use Rattle.std.proofs.Common.{◌≡◌, ◌↔◌, ℕ, suc, ◌+◌, ◌*◌, ◌^◌, ◌≤◌, Bool, true, false, ◌&&◌, List, [], ◌∷◌, ◌++◌, length, refl, sym, ap, subst, ◌∙◌, arith}
-use Rattle.std.specs.Prelude.{◌==◌}
+use Rattle.std.specs.Prelude.{◌==◌, IsTrue, nat_le}
+use Rattle.std.proofs.lemmas.Bool.Decides.{nat_tests}
+use native.Mathlib.Decide.{dec_le}
+use mathlib.Core.Logic.{dite}
 use Rattle.std.specs.List.{list_all}
 use Rattle.std.proofs.Math.Nat.{pow-succ', mul_assoc, mul_comm}
 use Rattle.std.proofs.lemmas.Bool.{eqb-true, eq-eqb}
@@ -50,3 +53,11 @@ zero_below bytes low high top e len is limit =
     let least = at_limit (256 ^ 29) rest 0x7fffff in
     let P : ℕ → Type 0 = λ n. n ≤ 0x7fffff * 256 ^ 29 in
     (λ h. subst P (sym whole) (least.0 (zero.0 h)), λ h. zero.1 (least.1 (subst P whole h)))
+
+-- what is true exactly where an order holds is its test
+pub as_test : (b : Bool) (n m : ℕ) → (IsTrue b ↔ n ≤ m) → b ≡ nat_le n m
+as_test true n m h = let le : n ≤ m = h.0 refl in grind (arith, nat_tests)
+as_test false n m h =
+    dite (dec_le n m)
+    (λ (le : n ≤ m). let both : false ≡ true = h.1 le in absurd cc)
+    (λ (not : ¬ (n ≤ m)). grind (arith, nat_tests))

@@ -3,5 +3,7 @@ pub mod Highest
 pub mod OneReading
 pub mod Parts
 pub mod Records
+pub mod Lawful
+pub mod Lengths
 pub mod Tree
 pub mod Whole

@@ -7,7 +7,7 @@ use Rattle.byteorder.specs.Numbers.{little_number-reads_back}
 use Rattle.wire.specs.Spelling.{limit}
 use Rattle.block.specs.declared.blk_fault.BlkFault.{BlkFault}
 use Rattle.block.specs.declared.blk_fault.BlkFault.TheVariants.{Foreign, Cut, TooLong, Read, Memory, Stopped}
-use Rattle.block.specs.Blk.{magic, head, spelled, IsRecord, IsEnd, IsCut, IsTooLong, IsFault, IsOutside, Splits}
+use Rattle.block.specs.Blk.{magic, head, spelled, IsRecord, IsEnd, IsCut, IsTooLong, IsFault, IsOutside, Splits, Gave, IsLast}
 
 -- no head is another
 same_head : (n m : ℕ) (a b : List ℕ) → n < 256 ^ 4 → m < 256 ^ 4 → head n ++ a ≡ head m ++ b → (n ≡ m) × (a ≡ b)
@@ -88,3 +88,21 @@ one_split_of (a ∷ blocks) (b ∷ others) rest last e p q nop noq =
 
 pub one_split : (file : List ℕ) (blocks others : List (List ℕ)) (rest last : List ℕ) → Splits file blocks rest → Splits file others last → (blocks ≡ others) × (rest ≡ last)
 one_split file blocks others rest last p q = one_split_of blocks others rest last (sym p.whole ∙ q.whole) p.each q.each p.last q.last
+
+-- at what a call tells that finds no block, no record stands
+no_record : (rest : List ℕ) → IsLast rest → (block after : List ℕ) → IsRecord block rest after → ⊥
+no_record rest (inl h) block after p = record_end rest block after p h
+no_record rest (inr (inl f)) block after p = f.1 _ (after_head block rest after p)
+no_record rest (inr (inr (inl c))) block after p = record_cut rest block after p c
+no_record rest (inr (inr (inr c))) block after p = record_long rest block after p c
+
+gave_whole : (file : List ℕ) (blocks : List (List ℕ)) (rest : List ℕ) → Gave file blocks rest → file ≡ flat_map spelled blocks ++ rest
+gave_whole file [] rest h = h
+gave_whole file (block ∷ blocks) rest h = h.1.1 ∙ ap (λ (t : List ℕ). spelled block ++ t) (gave_whole h.0 blocks rest h.2) ∙ sym (first block blocks rest)
+
+gave_each : (file : List ℕ) (blocks : List (List ℕ)) (rest : List ℕ) → Gave file blocks rest → AllByRecursion (λ block. length block ≤ limit) blocks
+gave_each file [] rest h = tt
+gave_each file (block ∷ blocks) rest h = (h.1.0, gave_each h.0 blocks rest h.2)
+
+pub run_splits : (file rest : List ℕ) (blocks : List (List ℕ)) → Gave file blocks rest → IsLast rest → Splits file blocks rest
+run_splits file rest blocks h last = record { whole = gave_whole file blocks rest h; each = gave_each file blocks rest h; last = no_record rest last }

@@ -1,9 +1,10 @@
 -- Merkle trees: levels from left to right, and that a level has the root of the level above.
-use Rattle.std.proofs.Common.{◌≡◌, ◌⊎◌, inl, inr, ℕ, zero, suc, ◌+◌, ◌-◌, ◌*◌, ◌<◌, ◌≤◌, Bool, false, ◌||◌, List, [], ◌∷◌, ◌++◌, length, take, drop, set, get_or, replicate, refl, sym, ap, ◌∙◌, append_assoc, arith}
+use Rattle.std.proofs.Common.{◌≡◌, ℕ, zero, suc, ◌+◌, ◌-◌, ◌*◌, ◌/◌, ◌%◌, ◌<◌, ◌≤◌, Bool, false, ◌||◌, List, [], ◌∷◌, ◌++◌, length, take, drop, set, get_or, replicate, refl, sym, ap, ◌∙◌, arith}
 use Rattle.std.proofs.Math.Seq.{drop-cons}
 use Rattle.std.proofs.lemmas.Grind.{take-set_at}
-use Rattle.std.proofs.lemmas.List.{append-nil, drop-set-lt, drop_all, drop-drop, get_or-drop, length-drop, length-set}
+use Rattle.std.proofs.lemmas.List.{drop_all, drop_at, get_or-drop, length-append, length-drop, take_at}
 use Rattle.hash.specs.declared.id.Id.{Id}
+use Rattle.lanes.specs.Level.{paired}
 use Rattle.block.specs.Merkle.{pair, next, root_within, root, same_id, has_twin, twin_within, twin}
 
 -- ---- pairs from left to right
@@ -87,60 +88,52 @@ root_first [] d lt ge = absurd (omega (arith, ge))
 root_first (x ∷ []) d lt ge = refl
 root_first (x ∷ y ∷ ids) d lt ge = absurd (omega (arith, lt))
 
--- ---- a level, as it is put in the place of the one below
-
--- the first k ids are those of the level above, and the others are still those below
-pub record Halfway (old now : List Id) (k : ℕ) : Type 0 where
-  pub long : length now ≡ length old
-  pub front : take k now ++ next (drop (2 * k) old) ≡ next old
-  pub back : drop k now ≡ drop k old
-
-pub halfway_start : (old : List Id) → Halfway old old 0
-halfway_start old = record { long = refl; front = refl; back = refl }
-
 get_below : (old now : List Id) (k j : ℕ) (d : Id) → drop k now ≡ drop k old → k ≤ j → get_or now j d ≡ get_or old j d
 get_below old now k j d e le =
     let at : k + (j - k) ≡ j = omega (arith, le) in
     ap (λ (i : ℕ). get_or now i d) (sym at) ∙ sym (get_or-drop k now (j - k) d) ∙ ap (λ (l : List Id). get_or l (j - k) d) e ∙ get_or-drop k old (j - k) d ∙ ap (λ (i : ℕ). get_or old i d) at
 
-heads : (x y : Id) → (x ∷ []) ≡ (y ∷ []) → x ≡ y
-heads x y e = cc
+-- ---- the level above, by its pairs and an odd level's last id
 
--- the pair from place 2k on is hashed to v
-next_two : (old : List Id) (k : ℕ) (v a b : Id) → 2 * k + 1 < length old → a ≡ get_or old (2 * k) a → b ≡ get_or old (2 * k + 1) b → v ≡ pair a b
-    → next (drop (2 * k) old) ≡ v ∷ next (drop (2 * (k + 1)) old)
-next_two old k v a b lt ea eb ev =
-    ap next (drop_two old k a b lt)
-    ∙ ap (λ (x : Id). pair x (get_or old (2 * k + 1) b) ∷ next (drop (2 * (k + 1)) old)) (sym ea)
-    ∙ ap (λ (y : Id). pair a y ∷ next (drop (2 * (k + 1)) old)) (sym eb)
-    ∙ ap (λ (w : Id). w ∷ next (drop (2 * (k + 1)) old)) (sym ev)
+length-paired : (ids : List Id) → length (paired ids) ≡ length ids / 2
+length-paired [] = refl
+length-paired (a ∷ []) = refl
+length-paired (a ∷ b ∷ ids) = omega (arith, length-paired ids)
 
-next_last : (old : List Id) (k : ℕ) (v a b : Id) → 2 * k < length old → length old ≤ 2 * k + 1 → a ≡ get_or old (2 * k) a → b ≡ get_or old (2 * k) b → v ≡ pair a b
-    → next (drop (2 * k) old) ≡ v ∷ next (drop (2 * (k + 1)) old)
-next_last old k v a b lt le ea eb ev =
-    let one : drop (2 * k) old ≡ a ∷ [] = drop_last old k a lt le ∙ ap (λ (x : Id). x ∷ []) (sym ea) in
-    let other : drop (2 * k) old ≡ b ∷ [] = drop_last old k b lt le ∙ ap (λ (x : Id). x ∷ []) (sym eb) in
-    let same : a ≡ b = heads a b (sym one ∙ other) in
-    let hashed : pair a a ≡ v = ap (pair a) same ∙ sym ev in
-    ap next one ∙ ap (λ (w : Id). w ∷ []) hashed ∙ ap (λ (l : List Id). v ∷ next l) (sym (drop_all (2 * (k + 1)) old (omega (arith, le))))
+next-even : (ids : List Id) (k : ℕ) → length ids ≡ 2 * k → next ids ≡ paired ids
+next-even [] k e = refl
+next-even (a ∷ []) k e = absurd (omega arith)
+next-even (a ∷ b ∷ ids) k e = ap (λ (l : List Id). pair a b ∷ l) (next-even ids (k - 1) (omega arith))
 
-pub halfway_step : (old now : List Id) (k right : ℕ) (v a b : Id) → Halfway old now k → 2 * k < length old
-    → a ≡ get_or now (2 * k) a → b ≡ get_or now right b → v ≡ pair a b
-    → ((2 * k + 1 < length old) × (right ≡ 2 * k + 1)) ⊎ ((length old ≤ 2 * k + 1) × (right ≡ 2 * k))
-    → Halfway old (set now k v) (k + 1)
-halfway_step old now k right v a b h lt ea eb ev which =
-    let a_old : a ≡ get_or old (2 * k) a = ea ∙ get_below old now k (2 * k) a h.back (omega arith) in
-    let hashed : next (drop (2 * k) old) ≡ v ∷ next (drop (2 * (k + 1)) old) = elim which [
-      | inl w ↦ next_two old k v a b w.0 a_old (eb ∙ ap (λ (j : ℕ). get_or now j b) w.1 ∙ get_below old now k (2 * k + 1) b h.back (omega arith)) ev
-      | inr w ↦ next_last old k v a b lt w.0 a_old (eb ∙ ap (λ (j : ℕ). get_or now j b) w.1 ∙ get_below old now k (2 * k) b h.back (omega arith)) ev
-    ] in
-    let rest : List Id = next (drop (2 * (k + 1)) old) in
-    record {
-      long = length-set now k v ∙ h.long;
-      front = ap (λ (l : List Id). l ++ rest) (take-set_at now k (k + 1) v refl (omega (arith, lt, h.long))) ∙ append_assoc (take k now) (v ∷ []) rest ∙ ap (λ (l : List Id). take k now ++ l) (sym hashed) ∙ h.front;
-      back = drop-set-lt (k + 1) now k v (omega arith) ∙ sym (drop-drop 1 k now) ∙ ap (drop 1) h.back ∙ drop-drop 1 k old;
-    }
+next-odd : (ids : List Id) (k : ℕ) (d : Id) → length ids ≡ 2 * k + 1 → next ids ≡ paired ids ++ pair (get_or ids (2 * k) d) (get_or ids (2 * k) d) ∷ []
+next-odd [] k d e = absurd (omega arith)
+next-odd (a ∷ []) k d e =
+    let none : 2 * k ≡ 0 = omega arith in
+    ap (λ (j : ℕ). pair (get_or (a ∷ []) j d) (get_or (a ∷ []) j d) ∷ []) (sym none)
+next-odd (a ∷ b ∷ ids) k d e =
+    let at : suc (suc (2 * (k - 1))) ≡ 2 * k = omega arith in
+    ap (λ (l : List Id). pair a b ∷ l) (next-odd ids (k - 1) d (omega arith))
+    ∙ ap (λ (j : ℕ). pair a b ∷ (paired ids ++ pair (get_or (a ∷ b ∷ ids) j d) (get_or (a ∷ b ∷ ids) j d) ∷ [])) at
 
-pub halfway_end : (old now : List Id) (k : ℕ) → Halfway old now k → length old ≤ 2 * k → take k now ≡ next old
-halfway_end old now k h le =
-    sym (append-nil (take k now)) ∙ ap (λ (l : List Id). take k now ++ next l) (sym (drop_all (2 * k) old le)) ∙ h.front
+-- the pairs stand in the front, and the rest is as before
+pub above-length : (old now : List Id) → now ≡ paired old ++ drop (length old / 2) old → length now ≡ length old
+above-length old now e = omega (arith, ap length e, length-append (paired old) (drop (length old / 2) old), length-paired old, length-drop (length old / 2) old)
+
+pub above-even : (old now : List Id) → now ≡ paired old ++ drop (length old / 2) old → length old % 2 ≡ 0 → take (length old / 2) now ≡ next old
+above-even old now e even =
+    ap (take (length old / 2)) e ∙ take_at (paired old) (drop (length old / 2) old) (length old / 2) (length-paired old)
+    ∙ sym (next-even old (length old / 2) (omega (arith, even)))
+
+pub above-odd : (old now : List Id) (v d : Id) → now ≡ paired old ++ drop (length old / 2) old → length old % 2 ≡ 1
+    → v ≡ pair (get_or now (length old - 1) d) (get_or now (length old - 1) d) → take (length old / 2 + 1) (set now (length old / 2) v) ≡ next old
+above-odd old now v d e odd ev =
+    let k : ℕ = length old / 2 in
+    let len : length old ≡ 2 * k + 1 = omega (arith, odd) in
+    let back : drop k now ≡ drop k old = ap (drop k) e ∙ drop_at (paired old) (drop k old) k (length-paired old) in
+    let front : take k now ≡ paired old = ap (take k) e ∙ take_at (paired old) (drop k old) k (length-paired old) in
+    let room : k < length now = omega (arith, ap length e, length-append (paired old) (drop k old), length-paired old, length-drop k old, len) in
+    let at : length old - 1 ≡ 2 * k = omega (arith, len) in
+    let last : get_or now (length old - 1) d ≡ get_or old (2 * k) d = ap (λ (j : ℕ). get_or now j d) at ∙ get_below old now k (2 * k) d back (omega arith) in
+    take-set_at now k (k + 1) v refl room
+    ∙ (λ i. front i ++ (ev ∙ (λ j. pair (last j) (last j))) i ∷ [])
+    ∙ sym (next-odd old k d len)

@@ -5,7 +5,7 @@ use Rattle.std.proofs.lemmas.List.{append-nil}
 use Rattle.wire.specs.declared.fault.WireFault.{WireFault}
 use Rattle.wire.specs.declared.fault.WireFault.TheVariants as wire
 use Rattle.wire.specs.Grammar.{IsBytes}
-use Rattle.wire.specs.Laws.{found_law, refused_law, same_read, same_fault, not_both}
+use Rattle.wire.specs.laws.Reading.{found_law, refused_law, same_read, same_fault, not_both}
 use Rattle.txn.specs.declared.fault.TxFault.{TxFault}
 use Rattle.txn.specs.declared.fault.TxFault.TheVariants as txn
 use Rattle.txn.specs.Faults.{spoken}
@@ -15,9 +15,10 @@ use Rattle.block.specs.declared.fault.ReadFault.TheVariants as faults
 use Rattle.block.specs.Faults.{told}
 use Rattle.block.specs.Grammar.{block}
 use Rattle.block.specs.Whole.{Faulty, HasExtra}
-use Rattle.block.specs.Reading.{block_at}
-use Rattle.block.specs.Laws.{block_decides}
-use Rattle.block.specs.Decoding.{decoded, read_again, read_faulty, read_extra, decoded-faulty}
+use Rattle.block.specs.computed.Reading.{block_at}
+use Rattle.block.specs.laws.Reading.{block_decides}
+use Rattle.block.specs.Decoding.{decoded}
+use Rattle.block.specs.laws.Decoding.{read_again, read_faulty, read_extra, decoded-faulty}
 
 abbrev pub told_wire : WireFault → ReadFault
 told_wire wire.Short = faults.Short

@@ -81,3 +81,12 @@ pub record Splits (file : List ℕ) (blocks : List (List ℕ)) (rest : List ℕ)
 -- of the bytes to come some may have come, from their front
 abbrev pub Remain : List ℕ → List ℕ → Type 0
 Remain old new = (came : List ℕ) × (old ≡ came ++ new)
+
+-- a run of calls that gave these blocks: each block's record was next, and left what came after it
+abbrev pub Gave : List ℕ → List (List ℕ) → List ℕ → Type 0
+Gave rest [] last = rest ≡ last
+Gave rest (block ∷ blocks) last = (after : List ℕ) × IsRecord block rest after × Gave after blocks last
+
+-- what a call tells that finds no block: the end, or a fault of the bytes
+abbrev pub IsLast : List ℕ → Type 0
+IsLast rest = IsEnd rest ⊎ IsForeign rest ⊎ IsCut rest ⊎ IsTooLong rest

@@ -70,9 +70,9 @@ fn end<R: Source>(source: &mut R, front: &[u8], place: u64) -> Result<(), BlkFau
 
 /// The next record's block, or none at the file's end. The place is that of the bytes to come.
 fn next_record<R: Source>(
+    alloc: Global,
     source: &mut R,
     place: u64,
-    alloc: Global,
 ) -> Result<Option<Vec<u8>>, BlkFault>
     ensures found { IfOk result (λ found. MatchOption found (IsEnd (R.to_come source.old) × (R.to_come source.new ≡ []))
         (λ block. IsRecord block.items (R.to_come source.old) (R.to_come source.new))) }
@@ -81,13 +81,13 @@ fn next_record<R: Source>(
     ensures failed { CountsFailures result (R.failed source.old) (R.failed source.new) }
 {
     let mut front = [0; HEAD];
-    let count = fill(source, &mut front)?;
+    let count = fill(source, &mut front, 0)?;
     let front = &front[..count];
     let Some(len) = block_len(front, place)? else {
         end(source, front, place)?;
         return Ok(None);
     };
-    let block = take(source, len, alloc)?;
+    let block = take(alloc, source, len)?;
     if block.len() < len {
         return Err(BlkFault::Cut(place));
     }
@@ -120,7 +120,7 @@ impl<R: Source> Model for BlkReader<R> {
 
 impl<R: Source> BlkReader<R> {
     /// A reader of what is to come of the source.
-    pub fn new(source: R, alloc: Global) -> BlkReader<R>
+    pub fn new(alloc: Global, source: R) -> BlkReader<R>
         ensures { result ≡ record { offset = 0; to_come = R.to_come source; failed = R.failed source; stage = stages.Reading } }
     {
         BlkReader {
@@ -160,7 +160,7 @@ impl<R: Source> BlkReader<R> {
             Stage::Stopped => return Err(BlkFault::Stopped),
             Stage::Reading => {}
         }
-        let found = next_record(&mut self.source, self.offset, self.alloc);
+        let found = next_record(self.alloc, &mut self.source, self.offset);
         match &found {
             Ok(Some(block)) => self.offset += (HEAD + block.len()) as u64,
             Ok(None) => self.stage = Stage::Ended,

@@ -1,3 +1,4 @@
+use crate::pieces::take;
 use crate::{BlkFault, BlkReader, GENESIS, ReadFailed, SliceSource, Source};
 use std::alloc::{AllocError, Global};
 use std::test::*;
@@ -67,7 +68,7 @@ fn record(alloc: Global, after: &[u8]) -> Result<Vec<u8>, AllocError> {
 #[test]
 fn zero_bytes_end_the_file(rt: HostRuntime) -> Result<(), Fail> {
     let file = record(rt.alloc(), &[0, 0])?;
-    let mut reader = BlkReader::new(SliceSource::new(&file), rt.alloc());
+    let mut reader = BlkReader::new(rt.alloc(), SliceSource::new(&file));
     let block = reader.next()?.ok_or("a block")?;
     assert_eq!(rt; block.as_slice(), GENESIS.as_slice());
     assert!(rt; reader.next()?.is_none());
@@ -78,7 +79,7 @@ fn zero_bytes_end_the_file(rt: HostRuntime) -> Result<(), Fail> {
 #[test]
 fn foreign_bytes_stop_the_reader(rt: HostRuntime) -> Result<(), Fail> {
     let file = record(rt.alloc(), &[0, 0xfa])?;
-    let mut reader = BlkReader::new(SliceSource::new(&file), rt.alloc());
+    let mut reader = BlkReader::new(rt.alloc(), SliceSource::new(&file));
     let block = reader.next()?.ok_or("a block")?;
     assert_eq!(rt; block.as_slice(), GENESIS.as_slice());
     assert_eq!(rt; reader.next().err(), Some(BlkFault::Foreign(293)));
@@ -91,7 +92,7 @@ fn records_follow_byte_by_byte(rt: HostRuntime) -> Result<(), Fail> {
     let more = record(rt.alloc(), &[0, 0, 0, 0, 0, 0, 0, 0, 0])?;
     let file = record(rt.alloc(), &more)?;
     let inner = SliceSource::new(&file);
-    let mut reader = BlkReader::new(ByteByByte { inner }, rt.alloc());
+    let mut reader = BlkReader::new(rt.alloc(), ByteByByte { inner });
     for _ in 0..2 {
         let block = reader.next()?.ok_or("a block")?;
         assert_eq!(rt; block.as_slice(), GENESIS.as_slice());
@@ -114,11 +115,11 @@ fn fronts_of_a_record(rt: HostRuntime) -> Result<(), Fail> {
     let file = record(rt.alloc(), &[])?;
     for count in 0..293 {
         let (front, _) = file.split_at(count.min(file.len()));
-        let mut whole = BlkReader::new(SliceSource::new(front), rt.alloc());
+        let mut whole = BlkReader::new(rt.alloc(), SliceSource::new(front));
         let found = whole.next().map(|found| found.is_none());
         assert_eq!(rt; found, fault_of(count).map_or(Ok(true), Err));
         let inner = SliceSource::new(front);
-        let mut bytes = BlkReader::new(ByteByByte { inner }, rt.alloc());
+        let mut bytes = BlkReader::new(rt.alloc(), ByteByByte { inner });
         let found = bytes.next().map(|found| found.is_none());
         assert_eq!(rt; found, fault_of(count).map_or(Ok(true), Err));
     }
@@ -134,7 +135,7 @@ fn a_failed_read_stops_the_reader(rt: HostRuntime) -> Result<(), Fail> {
             left,
             has_failed: false,
         };
-        let mut reader = BlkReader::new(source, rt.alloc());
+        let mut reader = BlkReader::new(rt.alloc(), source);
         assert_eq!(rt; reader.next().err(), Some(BlkFault::Read));
         assert_eq!(rt; reader.next().err(), Some(BlkFault::Stopped));
     }
@@ -145,11 +146,11 @@ fn a_failed_read_stops_the_reader(rt: HostRuntime) -> Result<(), Fail> {
 fn a_length_above_the_limit(rt: HostRuntime) -> Result<(), Fail> {
     // 33554433, with nothing behind it
     let file = [0xfa, 0xbf, 0xb5, 0xda, 0x01, 0x00, 0x00, 0x02];
-    let mut reader = BlkReader::new(SliceSource::new(&file), rt.alloc());
+    let mut reader = BlkReader::new(rt.alloc(), SliceSource::new(&file));
     assert_eq!(rt; reader.next().err(), Some(BlkFault::TooLong(0)));
     // 33554432: the record is cut
     let file = [0xfa, 0xbf, 0xb5, 0xda, 0x00, 0x00, 0x00, 0x02];
-    let mut reader = BlkReader::new(SliceSource::new(&file), rt.alloc());
+    let mut reader = BlkReader::new(rt.alloc(), SliceSource::new(&file));
     assert_eq!(rt; reader.next().err(), Some(BlkFault::Cut(0)));
     Ok(())
 }
@@ -167,5 +168,14 @@ fn texts_of_faults(rt: HostRuntime) -> Result<(), Fail> {
     for (fault, text) in faults {
         assert_eq!(rt; format!(in rt.alloc(); "{fault}")?.as_str(), text);
     }
+    Ok(())
+}
+
+#[test]
+fn a_length_that_is_only_said_takes_no_room(rt: HostRuntime) -> Result<(), Fail> {
+    let mut source = SliceSource::new(&[1, 2, 3]);
+    let bytes = take(rt.alloc(), &mut source, 33_554_432)?;
+    assert_eq!(rt; bytes.as_slice(), [1, 2, 3].as_slice());
+    assert!(rt; bytes.capacity() <= 65_536);
     Ok(())
 }

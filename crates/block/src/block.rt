@@ -1,4 +1,4 @@
-ghost use Rattle.std.specs.Prelude.{◌≡◌, IfOk};
+ghost use Rattle.std.specs.Prelude.{◌≡◌, IfOk, IsTrue, ◌↔◌};
 ghost use Rattle.block.specs.Identity.{id_of};
 
 use crate::header::Header;
@@ -11,6 +11,31 @@ use wire::Memory;
 pub struct Block {
     pub header: Header,
     pub txs: Txs,
+}
+
+impl PartialEq for Block {
+    ghost use Rattle.std.specs.Cmp.{decided, partial_equiv_from_equiv};
+    ghost use Rattle.block.specs.Equality.{same_block};
+    ghost use Rattle.block.specs.laws.Equality.{same_block-decides};
+
+    ghost eq = { same_block };
+
+    ghost laws = { partial_equiv_from_equiv (decided same_block same_block-decides) };
+
+    fn eq(&self, other: &Block) -> bool
+        ensures fields { result ≡ same_block self.now other.now }
+        ensures equal { IsTrue result ↔ (self.now ≡ other.now) }
+    {
+        self.header == other.header && self.txs == other.txs
+    }
+}
+
+impl Eq for Block {
+    ghost use Rattle.std.specs.Cmp.{decided};
+    ghost use Rattle.block.specs.Equality.{same_block};
+    ghost use Rattle.block.specs.laws.Equality.{same_block-decides};
+
+    ghost laws = { decided same_block same_block-decides };
 }
 
 impl Block {

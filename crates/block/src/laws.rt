@@ -1,9 +1,17 @@
-//! What holds of the grammars of blocks and of blk files.
+//! What holds of the grammars of blocks and of blk files, of Merkle trees, and of the genesis block.
 
-ghost use Rattle.std.specs.Prelude.{◌≡◌, List, ℕ, [], ◌++◌};
+ghost use Rattle.std.specs.Prelude.{◌≡◌, ◌||◌, List, ℕ, [], ◌∷◌, ◌++◌, Some};
+ghost use Rattle.hash.specs.declared.id.Id.{Id};
+ghost use Rattle.txn.specs.Identity as txn;
 ghost use Rattle.block.specs.declared.block.Block.{Block};
 ghost use Rattle.block.specs.Grammar.{block};
-ghost use Rattle.block.specs.Blk.{Splits};
+ghost use Rattle.block.specs.Decoding.{decoded};
+ghost use Rattle.block.specs.Blk.{Splits, Gave, IsLast};
+ghost use Rattle.block.specs.Identity.{id_of};
+ghost use Rattle.block.specs.Merkle.{root, twin, has_twin, next};
+ghost use Rattle.block.specs.Genesis as genesis;
+
+use crate::genesis::{GENESIS, GENESIS_ID, GENESIS_ROOT, GENESIS_TIME};
 
 /// No spelling of a block begins another.
 pub fn no_front()
@@ -13,4 +21,33 @@ pub fn no_front()
 /// A blk file is the records of no other blocks, and ends with no other rest.
 pub fn one_split()
     ensures { (file : List ℕ) (blocks others : List (List ℕ)) (rest last : List ℕ) → Splits file blocks rest → Splits file others last → (blocks ≡ others) × (rest ≡ last) }
+{}
+
+/// The blocks that a run of calls gives, until one gives none, are those of the file's records, in order.
+pub fn a_run_gives_the_records()
+    ensures { (file rest : List ℕ) (blocks : List (List ℕ)) → Gave file blocks rest → IsLast rest → Splits file blocks rest }
+{}
+
+/// What is spelled of a lawful block is read again. What `write` has written is lawful where no list and no script
+/// is too long.
+pub fn what_is_spelled_is_read()
+    ensures { (b : Block) → block.Lawful b → decoded (block.spell b) ≡ Some b }
+{}
+
+/// Two ids or more have the root of the level above.
+pub fn root_is_that_of_the_level_above()
+    ensures { (a b : Id) (ids : List Id) → root (a ∷ b ∷ ids) ≡ root (next (a ∷ b ∷ ids)) }
+{}
+
+/// Two ids or more have a twin where this level has one, or the level above.
+pub fn twin_is_here_or_above()
+    ensures { (a b : Id) (ids : List Id) → twin (a ∷ b ∷ ids) ≡ (has_twin (a ∷ b ∷ ids) || twin (next (a ∷ b ∷ ids))) }
+{}
+
+/// The 285 bytes spell the genesis block, and the other constants are its id, its root and its time.
+pub fn genesis_is_its_parts()
+    ensures bytes { GENESIS ≡ block.spell genesis.genesis }
+    ensures root { (GENESIS_ROOT ≡ genesis.root) × (txn.id_of genesis.coinbase ≡ genesis.root) }
+    ensures id { (GENESIS_ID ≡ genesis.id) × (id_of genesis.header ≡ genesis.id) }
+    ensures time { GENESIS_TIME ≡ genesis.header.time }
 {}

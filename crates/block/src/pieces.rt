@@ -1,6 +1,6 @@
 //! What is read of a source in several reads.
 
-ghost use Rattle.std.specs.Prelude.{◌≡◌, ◌⊎◌, ◌+◌, ◌<◌, ◌≤◌, ◌==◌, [], ◌++◌, length, take, IfOk, IfErr, is_ok, if◌then◌else◌, MatchBool};
+ghost use Rattle.std.specs.Prelude.{◌≡◌, ◌⊎◌, ◌+◌, ◌^◌, ◌<◌, ◌≤◌, ◌==◌, max, ℕ, List, [], ◌++◌, length, take, IfOk, IfErr, OnOk, is_ok, if◌then◌else◌, MatchBool, vec_capacity};
 ghost use Rattle.std.specs.List.{list_all};
 ghost use Rattle.block.specs.declared.blk_fault.BlkFault.TheVariants.{Read, Memory};
 ghost use Rattle.block.specs.Blk.{IsEnd, Remain, CountsFailures};
@@ -10,19 +10,24 @@ use crate::source::{ReadFailed, Source};
 use crate::target::is_zero;
 use std::alloc::Global;
 
-/// How many bytes one read of a block asks for.
+/// How many bytes of a block are read at once.
 const PIECE: usize = 65_536;
 
-/// Fills the buffer, or puts all that is to come into its front. Returns how many bytes came.
-pub(crate) fn fill<R: Source>(source: &mut R, buffer: &mut [u8]) -> Result<usize, ReadFailed>
-    ensures room { IfOk result (λ count. count ≤ length buffer.new) }
-    ensures came { IfOk result (λ count. R.to_come source.old ≡ take count buffer.new ++ R.to_come source.new) }
-    ensures end { IfOk result (λ count. count < length buffer.new → R.to_come source.new ≡ []) }
+/// Fills the buffer from a place on, or puts all that is to come there. Returns the place up to which bytes came.
+pub(crate) fn fill<R: Source>(
+    source: &mut R,
+    buffer: &mut [u8],
+    from: usize,
+) -> Result<usize, ReadFailed>
+    requires { from ≤ length buffer.old }
+    ensures room { IfOk result (λ end. (from ≤ end) × (end ≤ length buffer.new)) }
+    ensures came { IfOk result (λ end. take from buffer.old ++ R.to_come source.old ≡ take end buffer.new ++ R.to_come source.new) }
+    ensures end { IfOk result (λ end. end < length buffer.new → R.to_come source.new ≡ []) }
     ensures remain { Remain (R.to_come source.old) (R.to_come source.new) }
     ensures failed { R.failed source.new ≡ (if is_ok result then R.failed source.old else R.failed source.old + 1) }
     ensures len { length buffer.new ≡ length buffer.old }
 {
-    let mut at = 0;
+    let mut at = from;
     while at < buffer.len() {
         let count = source.read(&mut buffer[at..])?;
         if count == 0 {
@@ -52,10 +57,12 @@ pub(crate) fn ends<R: Source>(source: &mut R) -> Result<bool, ReadFailed>
 }
 
 /// The next `len` bytes, or all that are to come where those are fewer.
+///
+/// They are read where they stay. Whatever `len` is, no room is asked for but for what has come and one piece more.
 pub(crate) fn take<R: Source>(
+    alloc: Global,
     source: &mut R,
     len: usize,
-    alloc: Global,
 ) -> Result<Vec<u8>, BlkFault>
     ensures came { IfOk result (λ bytes. R.to_come source.old ≡ bytes.items ++ R.to_come source.new) }
     ensures len { IfOk result (λ bytes. length bytes.items ≤ len) }
@@ -65,32 +72,45 @@ pub(crate) fn take<R: Source>(
     ensures failed { CountsFailures result (R.failed source.old) (R.failed source.new) }
 {
     let mut bytes = Vec::new(alloc);
-    let mut piece = [0; PIECE];
     while bytes.len() < len {
-        let want = (len - bytes.len()).min(PIECE);
-        if append(source, &mut piece[..want], &mut bytes)? == 0 {
+        let left = len - bytes.len();
+        let want = left.min(PIECE);
+        make_room(&mut bytes, want)?;
+        if !append(source, &mut bytes, want)? {
             return Ok(bytes);
         }
     }
     Ok(bytes)
 }
 
-/// One read into the piece. What came stands behind the bytes then.
-fn append<R: Source>(
-    source: &mut R,
-    piece: &mut [u8],
-    bytes: &mut Vec<u8>,
-) -> Result<usize, BlkFault>
-    ensures room { IfOk result (λ count. count ≤ length piece.new) }
-    ensures came { IfOk result (λ count. R.to_come source.old ≡ take count piece.new ++ R.to_come source.new) }
-    ensures added { IfOk result (λ count. bytes.new.items ≡ bytes.old.items ++ take count piece.new) }
-    ensures end { IfOk result (λ count. count ≡ 0 → 0 < length piece.new → R.to_come source.old ≡ []) }
+/// Puts the next `want` bytes behind those that are there, or all that are to come where those are fewer. Returns
+/// whether they all came.
+fn append<R: Source>(source: &mut R, bytes: &mut Vec<u8>, want: usize) -> Result<bool, BlkFault>
+    requires { length bytes.old.items + want < 2 ^ 64 }
+    ensures within { IfOk result (λ all. length bytes.new.items ≤ length bytes.old.items + want) }
+    ensures all { IfOk result (λ all. MatchBool all (length bytes.new.items ≡ length bytes.old.items + want) (R.to_come source.new ≡ [])) }
+    ensures came { IfOk result (λ all. bytes.old.items ++ R.to_come source.old ≡ bytes.new.items ++ R.to_come source.new) }
     ensures remain { Remain (R.to_come source.old) (R.to_come source.new) }
     ensures fault { IfErr result (λ e. (e ≡ Read) ⊎ (e ≡ Memory)) }
     ensures failed { CountsFailures result (R.failed source.old) (R.failed source.new) }
-    ensures len { length piece.new ≡ length piece.old }
 {
-    let count = source.read(piece)?;
-    bytes.extend_from_slice(&piece[..count])?;
-    Ok(count)
+    let at = bytes.len();
+    let whole = at + want;
+    bytes.resize(whole, 0)?;
+    let end = fill(source, bytes.as_mut_slice(), at)?;
+    bytes.truncate(end);
+    Ok(end == whole)
+}
+
+/// Makes room for `want` bytes more, and for no byte beyond them. A piece at a time costs little: the allocator
+/// moves the pages of a long vector and copies none of its bytes.
+fn make_room(bytes: &mut Vec<u8>, want: usize) -> Result<(), BlkFault>
+    requires { want ≤ 65536 }
+    ensures kept { bytes.new.items ≡ bytes.old.items }
+    ensures enough { OnOk result (length bytes.old.items + want ≤ vec_capacity bytes.new) }
+    ensures room { vec_capacity bytes.new ≤ max (vec_capacity bytes.old) (length bytes.old.items + want) }
+    ensures fault { IfErr result (λ e. e ≡ Memory) }
+{
+    bytes.reserve_exact(want)?;
+    Ok(())
 }

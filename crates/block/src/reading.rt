@@ -1,6 +1,6 @@
-ghost use Rattle.std.specs.Prelude.{◌≡◌, ◌⊎◌, IfOk, IfErr, IsOkUnless, Err};
-ghost use Rattle.wire.specs.Reading.{Gives, counted_at};
-ghost use Rattle.txn.specs.Reading.{tx_at};
+ghost use Rattle.std.specs.Prelude.{◌≡◌, ◌⊎◌, ◌/◌, min, [], length, vec_capacity, IfOk, IfErr, IsOkUnless, Err};
+ghost use Rattle.wire.specs.computed.Reading.{Gives, many_at, counted_at};
+ghost use Rattle.txn.specs.computed.Reading.{tx_at};
 ghost use Rattle.txn.specs.Faults.{spoken};
 ghost use Rattle.block.specs.Grammar.{block};
 ghost use Rattle.block.specs.Whole.{Faulty};
@@ -8,7 +8,8 @@ ghost use Rattle.block.specs.Decoding.{decoded, Decodes};
 ghost use Rattle.block.specs.declared.block.Block.{Block};
 ghost use Rattle.block.specs.declared.fault.ReadFault.{ReadFault};
 ghost use Rattle.block.specs.declared.fault.ReadFault.TheVariants.{Memory};
-ghost use Rattle.block.specs.Reading.{id_at, header_at, block_at};
+ghost use Rattle.block.specs.computed.Reading.{id_at, header_at, block_at};
+ghost use Rattle.block.specs.Room.{least_transaction};
 
 use crate::block::Block;
 use crate::fault::ReadFault;
@@ -16,13 +17,13 @@ use crate::header::Header;
 use crate::txs::Txs;
 use hash::Id;
 use std::alloc::Global;
-use txn::TxFault;
+use txn::{Tx, TxFault};
 use wire::Cursor;
 
 /// The fewest bytes of a transaction: a version of 4, two counts of 0, a lock time of 4.
 const LEAST_TRANSACTION: usize = 10;
 
-#[tactic(auto, unfolding(crate::specs::Reading::id_at))]
+#[tactic(auto, unfolding(crate::specs::computed::Reading::id_at))]
 fn id(bytes: &mut Cursor) -> Result<Id, TxFault>
     ensures { Gives spoken result bytes.new (id_at bytes.old) }
 {
@@ -31,7 +32,7 @@ fn id(bytes: &mut Cursor) -> Result<Id, TxFault>
     Ok(Id(id))
 }
 
-#[tactic(auto, unfolding(crate::specs::Reading::header_at))]
+#[tactic(auto, unfolding(crate::specs::computed::Reading::header_at))]
 fn header(bytes: &mut Cursor) -> Result<Header, TxFault>
     ensures { Gives spoken result bytes.new (header_at bytes.old) }
 {
@@ -51,32 +52,42 @@ fn header(bytes: &mut Cursor) -> Result<Header, TxFault>
     })
 }
 
-#[tactic(auto, unfolding(wire::specs::Reading::counted_at))]
-fn txs(bytes: &mut Cursor, alloc: Global) -> Result<Txs, TxFault>
+#[tactic(auto, unfolding(wire::specs::computed::Reading::counted_at))]
+fn txs(alloc: Global, bytes: &mut Cursor) -> Result<Txs, TxFault>
     ensures { Gives spoken result bytes.new (counted_at tx_at bytes.old) }
 {
     let count = bytes.compact()?;
     // A count alone takes no memory: there is no room for more than the bytes can spell.
-    let mut items = Vec::with_capacity(alloc, bytes.room(count, LEAST_TRANSACTION))?;
+    let empty = Vec::with_capacity(alloc, bytes.room(count, LEAST_TRANSACTION))?;
+    each_tx(alloc, bytes, count, empty)
+}
+
+/// So many transactions, read into an empty list with room for no more than the bytes can spell.
+fn each_tx(alloc: Global, bytes: &mut Cursor, count: u64, empty: Vec<Tx>) -> Result<Txs, TxFault>
+    requires empty { empty.items ≡ [] }
+    requires room { vec_capacity empty ≡ min count (length bytes.old / least_transaction) }
+    ensures { Gives spoken result bytes.new (many_at tx_at count bytes.old) }
+{
+    let mut items = empty;
     for _ in 0..count {
-        items.push(txn::read(bytes, alloc)?)?;
+        items.push(txn::read(alloc, bytes)?)?;
     }
     Ok(Txs::from_vec(items))
 }
 
-#[tactic(auto, unfolding(crate::specs::Reading::block_at))]
-fn front(bytes: &mut Cursor, alloc: Global) -> Result<Block, TxFault>
+#[tactic(auto, unfolding(crate::specs::computed::Reading::block_at))]
+fn front(alloc: Global, bytes: &mut Cursor) -> Result<Block, TxFault>
     ensures { Gives spoken result bytes.new (block_at bytes.old) }
 {
     let header = header(bytes)?;
-    let txs = txs(bytes, alloc)?;
+    let txs = txs(alloc, bytes)?;
     Ok(Block { header, txs })
 }
 
 /// The block that the bytes spell, all of them. Numbers have their lowest byte first.
 ///
 /// The first refusal met from the left is the answer.
-pub fn read(bytes: &[u8], alloc: Global) -> Result<Block, ReadFault>
+pub fn read(alloc: Global, bytes: &[u8]) -> Result<Block, ReadFault>
     // What is read is lawful, and the bytes are its spelling.
     ensures found { IfOk result (λ b. block.Lawful b × (bytes.now ≡ block.spell b)) }
     // A refusal names a fault that the bytes have, unless memory ran out.
@@ -89,7 +100,7 @@ pub fn read(bytes: &[u8], alloc: Global) -> Result<Block, ReadFault>
     ensures exact { Decodes result (decoded bytes.now) }
 {
     let mut cursor = Cursor::new(bytes);
-    let block = front(&mut cursor, alloc)?;
+    let block = front(alloc, &mut cursor)?;
     if !cursor.rest().is_empty() {
         return Err(ReadFault::Extra);
     }

@@ -2,6 +2,7 @@ ghost use Rattle.std.specs.Prelude.{◌≡◌, ◌<◌, IfOk, length};
 ghost use Rattle.block.specs.Merkle as tree;
 
 use hash::{Id, finish};
+use lanes::pairs;
 use sha2::{Digest, Sha256};
 use std::alloc::Global;
 use wire::Memory;
@@ -10,7 +11,7 @@ use wire::Memory;
 /// which such a pair is repeated, then has this root too (CVE-2012-2459).
 ///
 /// It is computed in place, over one copy of the ids.
-pub fn merkle(ids: &[Id], alloc: Global) -> Result<(Id, bool), Memory>
+pub fn merkle(alloc: Global, ids: &[Id]) -> Result<(Id, bool), Memory>
     ensures root { IfOk result (λ m. m.0 ≡ tree.root ids.now) }
     ensures twin { IfOk result (λ m. m.1 ≡ tree.twin ids.now) }
 {
@@ -57,16 +58,19 @@ fn has_twin(level: &[Id]) -> bool
     false
 }
 
-/// Puts the level above in the place of this one.
+/// Puts the level above in the place of this one: its pairs hashed, eight at once, and an odd level's last
+/// id with itself.
 fn go_up(level: &mut Vec<Id>)
     ensures { level.new.items ≡ tree.next level.old.items }
 {
     let len = level.len();
-    let half = len / 2 + len % 2;
-    for k in 0..half {
-        let right = if 2 * k + 1 < len { 2 * k + 1 } else { 2 * k };
-        let hashed = pair(&level[2 * k], &level[right]);
-        level[k] = hashed;
+    let half = len / 2;
+    pairs(level.as_mut_slice());
+    if len % 2 == 0 {
+        level.truncate(half);
+    } else {
+        let last = level[len - 1];
+        level[half] = pair(&last, &last);
+        level.truncate(half + 1);
     }
-    level.truncate(half);
 }

@@ -1,7 +1,7 @@
 ghost use Rattle.std.specs.Prelude.{◌≡◌, ◌==◌, IsTrue, ◌↔◌};
 ghost use Rattle.std.specs.List.{list_all};
 ghost use Rattle.wire.specs.Grammar.{IsBytes};
-ghost use Rattle.block.specs.Target.{MeetsTarget};
+ghost use Rattle.block.specs.Target.{MeetsTarget, meets_target};
 
 use byteorder::{ByteOrder, LittleEndian};
 use hash::Id;
@@ -12,7 +12,9 @@ const TARGET_TOP: u64 = 0x7f_ffff;
 /// Whether a block of this id has regtest's proof of work, whatever its bits say (Bitcoin Core's
 /// `CheckProofOfWork`).
 pub fn meets_target(id: &Id) -> bool
-    ensures { IsTrue result ↔ MeetsTarget id.now }
+    ensures target { IsTrue result ↔ MeetsTarget id.now }
+    // The same, as a test.
+    ensures test { result ≡ meets_target id.now }
 {
     let bytes = in_range(&id.0);
     let (low, high) = bytes.split_at(29);

@@ -10,7 +10,7 @@ const GENESIS_ROOT_TEXT: &str = "4a5e1e4baab89f3a32518a88c31bc87f618f76673e2cc77
 
 #[test]
 fn genesis(rt: HostRuntime) -> Result<(), Fail> {
-    let block = read(&GENESIS, rt.alloc())?;
+    let block = read(rt.alloc(), &GENESIS)?;
     assert_eq!(rt; Id::read(GENESIS_ROOT_TEXT.as_bytes()), Some(GENESIS_ROOT));
     assert_eq!(rt; (block.id(), block.header.root), (GENESIS_ID, GENESIS_ROOT));
     assert_eq!(rt;
@@ -20,9 +20,9 @@ fn genesis(rt: HostRuntime) -> Result<(), Fail> {
     assert_eq!(rt; (block.header.bits, block.header.nonce), (0x207f_ffff, 2));
     assert_eq!(rt; block.header.prev, OutPoint::NULL.id);
     assert!(rt; meets_target(&block.id()));
-    assert_eq!(rt; block.txs.len(), 1);
+    assert_eq!(rt; (block.txs.len(), size(&block)), (1, 285));
     for tx in block.txs.as_slice() {
-        assert_eq!(rt; tx.id(rt.alloc())?, GENESIS_ROOT);
+        assert_eq!(rt; tx.id(), GENESIS_ROOT);
         assert!(rt; tx.is_coinbase());
     }
     let mut out = Vec::new(rt.alloc());
@@ -35,11 +35,11 @@ fn genesis(rt: HostRuntime) -> Result<(), Fail> {
 fn faults(rt: HostRuntime) -> Result<(), Fail> {
     for count in 0..GENESIS.len() {
         let (front, _) = GENESIS.split_at(count);
-        assert_eq!(rt; read(front, rt.alloc()).err(), Some(ReadFault::Short));
+        assert_eq!(rt; read(rt.alloc(), front).err(), Some(ReadFault::Short));
     }
     let mut more = Vec::from_slice(rt.alloc(), &GENESIS)?;
     more.push(0)?;
-    assert_eq!(rt; read(&more, rt.alloc()).err(), Some(ReadFault::Extra));
+    assert_eq!(rt; read(rt.alloc(), &more).err(), Some(ReadFault::Extra));
     let text = format!(in rt.alloc(); "{}; {}", ReadFault::Extra, ReadFault::LongForm)?;
     assert_eq!(rt;
         text.as_str(),
@@ -94,16 +94,16 @@ fn merkle_roots(rt: HostRuntime) -> Result<(), Fail> {
         Id([4; 32]),
         Id([5; 32]),
     ];
-    assert_eq!(rt; merkle(&[], rt.alloc())?, (Id([0; 32]), false));
-    assert_eq!(rt; merkle(&ids[..1], rt.alloc())?, (ids[0], false));
+    assert_eq!(rt; merkle(rt.alloc(), &[])?, (Id([0; 32]), false));
+    assert_eq!(rt; merkle(rt.alloc(), &ids[..1])?, (ids[0], false));
     for (count, expected) in ROOTS {
         let expected = Id::read(expected.as_bytes()).ok_or("64 digits")?;
         let (front, _) = ids.split_at(count.min(5));
-        assert_eq!(rt; merkle(front, rt.alloc())?, (expected, false));
+        assert_eq!(rt; merkle(rt.alloc(), front)?, (expected, false));
     }
     // Three ids have the root of four of which the last two are equal: those are the twin.
-    let (three, _) = merkle(&ids[..3], rt.alloc())?;
+    let (three, _) = merkle(rt.alloc(), &ids[..3])?;
     let twin = [ids[0], ids[1], ids[2], ids[2]];
-    assert_eq!(rt; merkle(&twin, rt.alloc())?, (three, true));
+    assert_eq!(rt; merkle(rt.alloc(), &twin)?, (three, true));
     Ok(())
 }

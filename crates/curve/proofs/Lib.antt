@@ -1,3 +1,4 @@
+pub mod Once
 pub mod Parts
 pub mod Search
 pub mod Words

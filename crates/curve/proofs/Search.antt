@@ -1,17 +1,17 @@
 -- A search in a list in order, and the set of the list's elements.
-use Rattle.std.proofs.Common.{◌≡◌, ℕ, ◌+◌, ◌-◌, ◌≤◌, Bool, true, false, ◌||◌, List, ◌∷◌, length, get_or, Result, Ok, Err, refl, sym, ap, ◌∙◌, subst, inl, inr, arith}
+use Rattle.std.proofs.Common.{◌≡◌, ℕ, ◌≤◌, Bool, true, false, ◌||◌, List, ◌∷◌, length, get_or, Result, Ok, Err, refl, sym, ap, ◌∙◌, inl, inr, arith}
 use Rattle.std.specs.declared.cmp.Ordering.{Ordering}
 use Rattle.std.specs.declared.cmp.Ordering.TheVariants.{Less, Greater}
-use Rattle.std.specs.Ordering.{is_eq, is_lt, eq_by_cmp, ordering_reverse}
+use Rattle.std.specs.Ordering.{is_eq, eq_by_cmp, ordering_reverse}
 use Rattle.std.specs.Cmp.{IsTotalOrder, Equal-is}
 use Rattle.std.specs.Result.{is_ok}
 use Rattle.std.specs.List.{insert}
-use Rattle.std.specs.List.Sorted.{IsSorted, IsPermutation, IsSearchInRange, IsBinarySearchResult}
+use Rattle.std.specs.List.Sorted.{IsSorted, IsStrictlySortedBy, IsPermutation, IsSearchInRange, IsBinarySearchResult}
 use Rattle.std.specs.FinSet as set
+use Rattle.curve.proofs.Once.{sorted_from_strict, strict_insert}
 use Rattle.std.specs.FinSet.{FinSet, IsAntisymmetric}
-use Rattle.std.proofs.lemmas.Bool.{cases_lt, cases_eq}
+use Rattle.std.proofs.lemmas.Bool.{cases_lt}
 use Rattle.std.proofs.lemmas.Cmp.{tied_back}
-use Rattle.std.proofs.lemmas.List.Edits.{length-insert, get_or-insert_below, get_or-insert_at, get_or-insert_above}
 use Rattle.std.proofs.lemmas.List.Folds.{list_any_at, list_any_none}
 use Rattle.std.proofs.lemmas.List.Sorted.{searchable_from_sorted, list_any-IsPermutation, IsPermutation-insert}
 
@@ -34,27 +34,10 @@ module _ {K : Type 0} {R : K → K → Ordering} (o : IsTotalOrder R) where
       ]))
 
   -- an element at the place where a search missed it keeps the order
-  pub IsSorted-insert : (xs : List K) (k : K) (at : ℕ) → IsSorted R xs → at ≤ length xs → IsBinarySearchResult (λ x. R x k) xs (Err at) → IsSorted R (insert xs at k)
-  IsSorted-insert xs k at sorted in_range is i d low lt =
-      let long = length-insert xs at k in_range in
-      let parts = is (searchable_from_sorted o (λ x. x) xs k sorted) in
-      elim (cases_lt (i + 1) at) [
-        | inl before ↦ rw (get_or-insert_below xs at k d (i + 1) before in_range, get_or-insert_below xs at k d i (omega arith) in_range) (sorted i d (omega arith) (omega arith))
-        | inr from ↦ elim (cases_eq (i + 1) at) [
-          | inl here ↦
-              rw (here, get_or-insert_at xs at k d in_range, get_or-insert_below xs at k d i (omega arith) in_range)
-              (ap is_lt (below _ _ (parts.0 i d (omega arith) (omega arith))))
-          | inr past ↦
-              rw (get_or-insert_above xs at k d i (omega arith) in_range)
-              (elim (cases_eq i at) [
-                | inl first ↦ rw (first, get_or-insert_at xs at k d in_range) (ap is_lt (parts.1 at d (omega arith) (omega arith)))
-                | inr later ↦
-                    let e : i ≡ i - 1 + 1 = omega arith in
-                    let moved : get_or (insert xs at k) i d ≡ get_or xs (i - 1) d = ap (λ j. get_or (insert xs at k) j d) e ∙ get_or-insert_above xs at k d (i - 1) (omega arith) in_range in
-                    rw moved (subst (λ j. is_lt (R (get_or xs j d) (get_or xs (i - 1) d)) ≡ false) (sym e) (sorted (i - 1) d (omega arith) (omega arith)))
-              ])
-        ]
-      ]
+  pub strict-missed : (xs : List K) (k : K) (at : ℕ) → IsStrictlySortedBy R xs → at ≤ length xs → IsBinarySearchResult (λ x. R x k) xs (Err at) → IsStrictlySortedBy R (insert xs at k)
+  strict-missed xs k at strict in_range is =
+      let parts = is (searchable_from_sorted o (λ x. x) xs k (sorted_from_strict o xs strict)) in
+      strict_insert o at xs k strict in_range (λ i d h. parts.0 i d (omega arith) h) (λ i d low h. parts.1 i d low h)
 
   module _ (exact : IsAntisymmetric R) where
     -- a list's set doesn't depend on its order

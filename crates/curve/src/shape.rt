@@ -1,5 +1,6 @@
-ghost use Rattle.std.specs.Prelude.{◌↔◌, IsTrue};
+ghost use Rattle.std.specs.Prelude.{◌≡◌, ◌↔◌, IsTrue};
 ghost use Rattle.curve.specs.Shape.{IsInteger, IsSignature, IsStrict};
+ghost use Rattle.curve.specs.computed.Shape.{is_strict};
 
 /// The tag of a sequence of values.
 const SEQUENCE: u8 = 0x30;
@@ -13,7 +14,9 @@ const LONGEST: usize = 73;
 /// Whether a signature with its type byte has the strict encoding of BIP 66, or no byte at all
 /// (Bitcoin Core's `IsValidSignatureEncoding`).
 pub fn der_shape(bytes: &[u8]) -> bool
-    ensures { IsTrue result ↔ IsStrict bytes.now }
+    ensures shape { IsTrue result ↔ IsStrict bytes.now }
+    // The same by the test, for callers that compute.
+    ensures test { result ≡ is_strict bytes.now }
 {
     bytes.is_empty() || is_signature(bytes)
 }

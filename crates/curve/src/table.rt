@@ -14,13 +14,13 @@ use wire::Memory;
 /// that it signs. A triple that isn't there is not valid.
 #[derive(Clone, Drop)]
 pub struct Table {
-    /// In order.
+    /// In order, each once.
     entries: Vec<Entry>,
 }
 
 impl Model for Table {
     ghost use Rattle.std.specs.FinSet as set;
-    ghost use Rattle.std.specs.List.Sorted.{IsSorted};
+    ghost use Rattle.std.specs.List.Sorted.{IsStrictlySortedBy};
     ghost use Rattle.curve.specs.Triple.{triple_cmp, coded_triple};
 
     ghost Value = { set.FinSet triple_cmp };
@@ -29,7 +29,7 @@ impl Model for Table {
 
     ghost view = { λ t. set.from_list t.entries.items };
 
-    ghost invariant = { λ t. IsSorted triple_cmp t.entries.items };
+    ghost invariant = { λ t. IsStrictlySortedBy triple_cmp t.entries.items };
 }
 
 impl Table {
@@ -60,6 +60,7 @@ impl Table {
             }
         }
         entries.sort_unstable_by(|one, other| one.compare_entries(other));
+        entries.dedup_by(|entry, before| entry.compare_entries(before).is_eq());
         Ok(Table { entries })
     }
 

@@ -1,12 +1,7 @@
 pub mod Table
 pub mod Piles
 pub mod Truth
+pub mod FirstFalse
 pub mod Counts
-pub mod Shape
 pub mod Bounds
 pub mod Pairs
-pub mod Runs
-pub mod Affecting
-pub mod Checking
-pub mod Following
-pub mod Accepting

@@ -1,5 +1,5 @@
 -- Signatures that are tried one after the other, each with the keys that are left.
-use Rattle.std.proofs.Common.{◌≡◌, ℕ, zero, suc, ◌+◌, ◌-◌, ◌<◌, ◌≤◌, List, [], ◌∷◌, Bool, true, false, eqb, Some, None, length, take, drop, get_or, refl, sym, ap, ◌∙◌, ⊎_elim, arith}
+use Rattle.std.proofs.Common.{◌≡◌, ℕ, zero, suc, ◌+◌, ◌-◌, ◌<◌, ◌≤◌, List, [], ◌∷◌, Bool, true, false, not, ◌||◌, eqb, Some, None, length, take, drop, get_or, slice_get, refl, sym, ap, ◌∙◌, ⊎_elim, arith}
 use Rattle.std.specs.Borrow.{Bor}
 use Rattle.std.specs.List.{position, position_or_len}
 use Rattle.std.specs.FinSet as set
@@ -12,15 +12,18 @@ use Rattle.sighash.specs.Digest.{digest_of}
 use Rattle.curve.specs.Triple.{triple_of}
 use Rattle.std.proofs.lemmas.Bool.{cases_lt}
 use borrow.Author.Tests.{lt-ltb, le-ltb, ne_eqb}
-use Rattle.interp.specs.Stack.{Bytes, nth}
+use Rattle.interp.specs.Stack.{Bytes, Stack, nth}
 use Rattle.interp.specs.Spending.{Spending}
-use Rattle.interp.specs.Signatures.{is_valid, has_shape, judged, tried, type_of, proper}
+use Rattle.interp.specs.Signatures.{signed_code, is_valid, may_be_tried, judged, tried, type_of, proper}
+use Rattle.interp.specs.computed.Step.{keys_in, signatures_in, multisig_answer}
+use Rattle.interp.specs.declared.flags.Flags.{Flags}
+use Rattle.curve.specs.computed.Shape.{is_strict}
 
-judged-shaped : (p : Spending) (code : List ℕ) (signature key : Bytes) (valid : Bool) → has_shape signature ≡ true → is_valid p code signature key ≡ valid → judged p code signature key ≡ Some valid
+pub judged-shaped : (p : Spending) (code : List ℕ) (signature key : Bytes) (valid : Bool) → may_be_tried p.flags signature ≡ true → is_valid p code signature key ≡ valid → judged p code signature key ≡ Some valid
 unfolding judged
 judged-shaped p code signature key valid shaped is = rw (shaped, is) refl
 
-judged-unshaped : (p : Spending) (code : List ℕ) (signature key : Bytes) → has_shape signature ≡ false → judged p code signature key ≡ None
+judged-unshaped : (p : Spending) (code : List ℕ) (signature key : Bytes) → may_be_tried p.flags signature ≡ false → judged p code signature key ≡ None
 unfolding judged
 judged-unshaped p code signature key shaped = rw shaped refl
 
@@ -31,26 +34,26 @@ tried-short p code signature others [] h = refl
 tried-short p code signature others (key ∷ keys) h = rw (lt-ltb (length keys) (length others) (omega arith)) refl
 
 -- a signature that has not the shape
-pub tried-unshaped : (p : Spending) (code : List ℕ) (signature : Bytes) (others keys : List Bytes) → length others < length keys → has_shape signature ≡ false → tried p code (signature ∷ others) keys ≡ None
+pub tried-unshaped : (p : Spending) (code : List ℕ) (signature : Bytes) (others keys : List Bytes) → length others < length keys → may_be_tried p.flags signature ≡ false → tried p code (signature ∷ others) keys ≡ None
 unfolding tried
 tried-unshaped p code signature others [] h shaped = absurd (omega arith)
 tried-unshaped p code signature others (key ∷ keys) h shaped =
     rw (le-ltb (length keys) (length others) (omega arith), judged-unshaped p code signature key shaped) refl
 
 -- a valid pair
-tried-valid : (p : Spending) (code : List ℕ) (signature key : Bytes) (others keys : List Bytes) → length others ≤ length keys → has_shape signature ≡ true → is_valid p code signature key ≡ true → tried p code (signature ∷ others) (key ∷ keys) ≡ tried p code others keys
+tried-valid : (p : Spending) (code : List ℕ) (signature key : Bytes) (others keys : List Bytes) → length others ≤ length keys → may_be_tried p.flags signature ≡ true → is_valid p code signature key ≡ true → tried p code (signature ∷ others) (key ∷ keys) ≡ tried p code others keys
 unfolding tried
 tried-valid p code signature key others keys h shaped is =
     rw (le-ltb (length keys) (length others) h, judged-shaped p code signature key true shaped is) refl
 
 -- another pair
-tried-other : (p : Spending) (code : List ℕ) (signature key : Bytes) (others keys : List Bytes) → length others ≤ length keys → has_shape signature ≡ true → is_valid p code signature key ≡ false → tried p code (signature ∷ others) (key ∷ keys) ≡ tried p code (signature ∷ others) keys
+tried-other : (p : Spending) (code : List ℕ) (signature key : Bytes) (others keys : List Bytes) → length others ≤ length keys → may_be_tried p.flags signature ≡ true → is_valid p code signature key ≡ false → tried p code (signature ∷ others) (key ∷ keys) ≡ tried p code (signature ∷ others) keys
 unfolding tried
 tried-other p code signature key others keys h shaped is =
     rw (le-ltb (length keys) (length others) h, judged-shaped p code signature key false shaped is) refl
 
 -- the first key for which the signature is valid
-pub tried-found : (i : ℕ) (p : Spending) (code : List ℕ) (signature : Bytes) (others keys : List Bytes) → i + length others < length keys → has_shape signature ≡ true
+pub tried-found : (i : ℕ) (p : Spending) (code : List ℕ) (signature : Bytes) (others keys : List Bytes) → i + length others < length keys → may_be_tried p.flags signature ≡ true
     → ((k : ℕ) → k < i → is_valid p code signature (nth keys k) ≡ false) → is_valid p code signature (nth keys i) ≡ true
     → tried p code (signature ∷ others) keys ≡ tried p code others (drop (i + 1) keys)
 tried-found i p code signature others [] h shaped before is = absurd (omega arith)
@@ -62,7 +65,7 @@ tried-found (suc i) p code signature others (key ∷ keys) h shaped before is =
     ∙ (let one : suc (i + 1) ≡ suc i + 1 = omega arith in ap (λ n. tried p code others (drop n (key ∷ keys))) one)
 
 -- none, among those of which enough are left after it
-pub tried-none : (p : Spending) (code : List ℕ) (signature : Bytes) (others keys : List Bytes) → has_shape signature ≡ true
+pub tried-none : (p : Spending) (code : List ℕ) (signature : Bytes) (others keys : List Bytes) → may_be_tried p.flags signature ≡ true
     → ((k : ℕ) → k + length others < length keys → is_valid p code signature (nth keys k) ≡ false)
     → tried p code (signature ∷ others) keys ≡ Some false
 tried-none p code signature others [] shaped none = tried-short p code signature others [] (omega arith)
@@ -138,14 +141,14 @@ pairs-short p code (x ∷ xs) keys h few =
     ∙ tried-short p code x.now (bytes_of others) (bytes_of keys) (omega (arith, length-map keys (λ y. y.now), length-map others (λ y. y.now)))
 
 pub pairs-unshaped : (p : Spending) (code : List ℕ) (signatures keys : List (Bor (List ℕ))) (d : Bor (List ℕ)) → 1 ≤ length signatures → length (later signatures) < length keys
-    → has_shape (get_or signatures 0 d).now ≡ false → tried p code (bytes_of signatures) (bytes_of keys) ≡ None
+    → may_be_tried p.flags (get_or signatures 0 d).now ≡ false → tried p code (bytes_of signatures) (bytes_of keys) ≡ None
 pairs-unshaped p code signatures keys d h few shaped =
     let others = later signatures in
     ap (λ ss. tried p code ss (bytes_of keys)) (head-tail signatures d h)
     ∙ tried-unshaped p code (get_or signatures 0 d).now (bytes_of others) (bytes_of keys) (omega (arith, length-map keys (λ y. y.now), length-map others (λ y. y.now))) shaped
 
 pub pairs-empty : (p : Spending) (code : List ℕ) (signatures keys : List (Bor (List ℕ))) (d : Bor (List ℕ)) → 1 ≤ length signatures
-    → has_shape (get_or signatures 0 d).now ≡ true → length (get_or signatures 0 d).now ≡ 0 → tried p code (bytes_of signatures) (bytes_of keys) ≡ Some false
+    → may_be_tried p.flags (get_or signatures 0 d).now ≡ true → length (get_or signatures 0 d).now ≡ 0 → tried p code (bytes_of signatures) (bytes_of keys) ≡ Some false
 pairs-empty p code signatures keys d h shaped none =
     let signature = (get_or signatures 0 d).now in
     ap (λ ss. tried p code ss (bytes_of keys)) (head-tail signatures d h)
@@ -156,7 +159,7 @@ abbrev pub goes : Spending → List ℕ → List ℕ → List ℕ → Bool
 goes p signature digest key = set.contains p.triples (triple_of key (proper signature) digest)
 
 pub pairs-none : (p : Spending) (code digest : List ℕ) (signatures keys : List (Bor (List ℕ))) (d : Bor (List ℕ)) → 1 ≤ length signatures → length (later signatures) < length keys
-    → has_shape (get_or signatures 0 d).now ≡ true → 0 < length (get_or signatures 0 d).now
+    → may_be_tried p.flags (get_or signatures 0 d).now ≡ true → 0 < length (get_or signatures 0 d).now
     → digest ≡ digest_of p.tx p.input code (type_of (get_or signatures 0 d).now)
     → position (λ key. goes p (get_or signatures 0 d).now digest key.now) (take (length keys - length (later signatures)) keys) ≡ None
     → tried p code (bytes_of signatures) (bytes_of keys) ≡ Some false
@@ -170,7 +173,7 @@ pairs-none p code digest signatures keys d h few shaped some is e =
     ∙ none-passes (goes p signature digest) keys n k d (omega arith) e (omega (arith, length-map keys (λ y. y.now), length-map others (λ y. y.now))))
 
 pub pairs-found : (p : Spending) (code digest : List ℕ) (signatures keys : List (Bor (List ℕ))) (d : Bor (List ℕ)) (i : ℕ) → 1 ≤ length signatures → length (later signatures) < length keys
-    → has_shape (get_or signatures 0 d).now ≡ true → 0 < length (get_or signatures 0 d).now
+    → may_be_tried p.flags (get_or signatures 0 d).now ≡ true → 0 < length (get_or signatures 0 d).now
     → digest ≡ digest_of p.tx p.input code (type_of (get_or signatures 0 d).now)
     → position (λ key. goes p (get_or signatures 0 d).now digest key.now) (take (length keys - length (later signatures)) keys) ≡ Some i
     → tried p code (bytes_of signatures) (bytes_of keys) ≡ tried p code (bytes_of (later signatures)) (bytes_of (drop (i + 1) keys))
@@ -187,7 +190,7 @@ pairs-found p code digest signatures keys d i h few shaped some is e =
 
 -- the same, where the keys that may go with it are lent as a slice
 pub spare-none : (p : Spending) (code digest : List ℕ) (signatures keys spare : List (Bor (List ℕ))) (d : Bor (List ℕ)) → 1 ≤ length signatures → length (later signatures) < length keys
-    → has_shape (get_or signatures 0 d).now ≡ true → 0 < length (get_or signatures 0 d).now
+    → may_be_tried p.flags (get_or signatures 0 d).now ≡ true → 0 < length (get_or signatures 0 d).now
     → digest ≡ digest_of p.tx p.input code (type_of (get_or signatures 0 d).now)
     → spare ≡ take (length keys - length (later signatures)) keys
     → position (λ key. goes p (get_or signatures 0 d).now digest key.now) spare ≡ None
@@ -196,7 +199,7 @@ spare-none p code digest signatures keys spare d h few shaped some is cut e =
     pairs-none p code digest signatures keys d h few shaped some is (ap (position (λ key. goes p (get_or signatures 0 d).now digest key.now)) (sym cut) ∙ e)
 
 pub spare-found : (p : Spending) (code digest : List ℕ) (signatures keys spare : List (Bor (List ℕ))) (d : Bor (List ℕ)) (i : ℕ) → 1 ≤ length signatures → length (later signatures) < length keys
-    → has_shape (get_or signatures 0 d).now ≡ true → 0 < length (get_or signatures 0 d).now
+    → may_be_tried p.flags (get_or signatures 0 d).now ≡ true → 0 < length (get_or signatures 0 d).now
     → digest ≡ digest_of p.tx p.input code (type_of (get_or signatures 0 d).now)
     → spare ≡ take (length keys - length (later signatures)) keys
     → position (λ key. goes p (get_or signatures 0 d).now digest key.now) spare ≡ Some i
@@ -207,3 +210,29 @@ spare-found p code digest signatures keys spare d i h few shaped some is cut e =
 pub some-there : (n : ℕ) → false ≡ eqb n 0 → 0 < n
 some-there zero e = cc
 some-there (suc n) e = omega arith
+
+-- ---- where no code is needed
+no-bytes : (flags : Flags) (signature : Bytes) → length signature ≡ 0 → may_be_tried flags signature ≡ true
+unfolding may_be_tried is_strict
+no-bytes flags signature none = rw none (or_true (not flags.dersig))
+  where
+    or_true : (b : Bool) → (b || true) ≡ true
+    or_true true = refl
+    or_true false = refl
+
+pub answer-none : (p : Spending) (code : List ℕ) (s : Stack) (counts : ℕ × ℕ) (slices : List (Bor (List ℕ))) → bytes_of slices ≡ signatures_in counts.0 counts.1 s → None ≡ slice_get slices 0 → Some true ≡ multisig_answer p code s counts
+unfolding tried
+answer-none p code s counts [] is none = rw (sym is) refl
+answer-none p code s counts (slice ∷ slices) is none = cc
+
+pub answer-empty : (p : Spending) (code : List ℕ) (s : Stack) (counts : ℕ × ℕ) (first : Bor (List ℕ)) (slices : List (Bor (List ℕ))) → bytes_of slices ≡ signatures_in counts.0 counts.1 s → Some first ≡ slice_get slices 0 → length first.now ≡ 0
+    → Some false ≡ multisig_answer p code s counts
+answer-empty p code s counts first [] is there none = cc
+answer-empty p code s counts first (slice ∷ slices) is there none =
+    let same : first ≡ slice = cc in
+    let no_bytes : length slice.now ≡ 0 = ap (λ (x : Bor (List ℕ)). length x.now) (sym same) ∙ none in
+    let signatures = bytes_of (slice ∷ slices) in
+    let signed = signed_code code signatures in
+    let keys = keys_in counts.0 s in
+    sym (tried-none p signed slice.now (bytes_of slices) keys (no-bytes p.flags slice.now no_bytes) (λ k below. empty-invalid p signed slice.now (nth keys k) no_bytes))
+    ∙ ap (λ ss. tried p (signed_code code ss) ss keys) is

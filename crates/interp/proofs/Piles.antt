@@ -1,36 +1,10 @@
 -- Rows on stacks.
-use Rattle.std.proofs.Common.{◌≡◌, ℕ, zero, suc, ◌+◌, ◌-◌, ◌<◌, ◌≤◌, List, [], ◌∷◌, ◌++◌, length, reverse, take, drop, remove, get_or, slice_get, nat_lt, IsTrue, Some, None, refl, sym, ap, ◌∙◌, ⊎_elim, append_assoc, drop-cons, length-drop, zero-add, arith}
+use Rattle.std.proofs.Common.{◌≡◌, ℕ, zero, suc, ◌+◌, ◌-◌, ◌≤◌, List, [], ◌∷◌, ◌++◌, length, reverse, take, drop, remove, get_or, slice_get, Some, sym, ap, ◌∙◌, append_assoc, drop-cons, length-drop, zero-add, arith}
 use Rattle.std.proofs.lemmas.List.{take-append-drop, drop_at, reverse-append, length-reverse, length-take-le, map-append}
 use Rattle.std.specs.Borrow.{Bor}
 use Rattle.script.specs.Removal.{bytes_of}
 use Rattle.std.proofs.lemmas.List.Edits.{remove-append_right}
-use Rattle.std.specs.List.{list_all}
-use Rattle.std.proofs.lemmas.List.Folds.{list_all_at}
-use Rattle.std.proofs.lemmas.Option.{get_or_from_slice_get}
-use Rattle.std.proofs.lemmas.Bool.{false≢true, cases_lt}
-use borrow.Author.Tests.{le-ltb}
-use Rattle.interp.specs.Stack.{Bytes, Stack, pushed, nth, take_off}
-
-pub take_off-more : {A : Type 0} (n k : ℕ) (x : A) (s s' t t' : List A) → k < n → s ≡ x ∷ s' → t' ≡ x ∷ t → take_off (n - (k + 1)) s' t' ≡ take_off (n - k) s t
-take_off-more n k x s s' t t' below e f =
-    let m : n - k ≡ suc (n - (k + 1)) = omega arith in
-    rw (m, e, f) refl
-
-pub take_off-short : {A : Type 0} (n : ℕ) (s t : List A) → length s < n → take_off n s t ≡ None
-take_off-short zero s t h = absurd (omega arith)
-take_off-short (suc n) [] t h = refl
-take_off-short (suc n) (x ∷ s) t h = take_off-short n s (x ∷ t) (omega arith)
-
-pub pushed-push : (xs : Stack) (x : Bytes) (rest : Stack) → pushed (xs ++ x ∷ []) rest ≡ x ∷ pushed xs rest
-pushed-push [] x rest = refl
-pushed-push (y ∷ xs) x rest = pushed-push xs x (y ∷ rest)
-
-pub nth_got : (xs : Stack) (k : ℕ) (x : Bytes) → slice_get xs k ≡ Some x → x ≡ nth xs k
-nth_got xs k x e = sym (get_or_from_slice_get xs k x [] e)
-
-pub passes_at : (n i : ℕ) (xs : List ℕ) → i < length xs → IsTrue (list_all (λ k. nat_lt k n) xs) → get_or xs i 0 < n
-passes_at n i xs h all =
-    ⊎_elim (λ below. below) (λ past. absurd (false≢true (sym (list_all_at (λ k. nat_lt k n) xs i 0 h (le-ltb _ _ past)) ∙ all))) (cases_lt (get_or xs i 0) n)
+use Rattle.interp.specs.Stack.{Bytes, Stack}
 
 -- ---- piles, whose items stand the lowest first
 reversed-parts : {A : Type 0} (k : ℕ) (xs : List A) → reverse xs ≡ reverse (drop k xs) ++ reverse (take k xs)

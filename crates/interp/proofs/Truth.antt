@@ -1,8 +1,5 @@
-use Rattle.std.proofs.Common.{◌≡◌, ℕ, zero, suc, ◌+◌, ◌<◌, ◌≤◌, List, [], ◌∷◌, Bool, true, false, not, ◌&&◌, ◌||◌, nat_lt, eqb, get_or, drop, length, refl, ap, ◌∙◌, drop-cons, length-drop, add-one, arith}
-use Rattle.std.proofs.Common.{◌++◌, reverse}
-use Rattle.std.specs.List.{list_all}
-use Rattle.std.proofs.lemmas.List.{reverse-append}
-use Rattle.std.proofs.lemmas.List.Folds.{list_all-append}
+-- Where the first byte stands that isn't 0.
+use Rattle.std.proofs.Common.{◌≡◌, ℕ, zero, suc, ◌+◌, ◌<◌, ◌≤◌, List, [], ◌∷◌, true, false, not, ◌||◌, nat_lt, eqb, get_or, drop, length, refl, ◌∙◌, drop-cons, length-drop, add-one, arith}
 use borrow.Author.Tests.{ne_eqb, lt-ltb, le-ltb}
 use Rattle.interp.specs.Elements.{truth}
 
@@ -41,21 +38,3 @@ truth_end [] zero h = refl
 truth_end [] (suc i) h = refl
 truth_end (b ∷ bytes) zero h = absurd (omega arith)
 truth_end (b ∷ bytes) (suc i) h = truth_end bytes i (omega arith)
-
-all_append : (xs ys : List Bool) → list_all (λ c. c) (xs ++ ys) ≡ (list_all (λ c. c) xs && list_all (λ c. c) ys)
-all_append xs ys = list_all-append (λ c. c) xs ys
-
-and_comm : (a b : Bool) → (a && b) ≡ (b && a)
-and_comm true true = refl
-and_comm true false = refl
-and_comm false true = refl
-and_comm false false = refl
-
-and_one : (a : Bool) → (a && true) ≡ a
-and_one true = refl
-and_one false = refl
-
--- each of a list turned round
-pub all_reverse : (xs : List Bool) → list_all (λ c. c) (reverse xs) ≡ list_all (λ c. c) xs
-all_reverse [] = refl
-all_reverse (x ∷ xs) = ap (list_all (λ c. c)) (reverse-append (x ∷ []) xs) ∙ all_append (reverse xs) (x ∷ []) ∙ rw (all_reverse xs, and_one x) (and_comm (list_all (λ c. c) xs) x)

@@ -1,3 +1,4 @@
+pub mod Limits
 pub mod Stack
 pub mod Elements
 pub mod Spending
@@ -5,8 +6,6 @@ pub mod State
 pub mod Signatures
 pub mod Locks
 pub mod Row
-pub mod Step
 pub mod Rules
-pub mod Examples
-pub mod Rows
-pub mod Meaning
+pub mod computed
+pub mod laws

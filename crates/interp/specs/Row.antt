@@ -9,9 +9,11 @@ use Rattle.hash.specs.Double.{double_sha}
 use Rattle.hash.specs.KeyHash.{hash160}
 use Rattle.script.specs.Num.{spelled}
 use Rattle.script.specs.Op.{pushed_of}
+use Rattle.interp.specs.Limits.{max_element_size}
 use Rattle.interp.specs.Stack.{Bytes}
 use Rattle.interp.specs.Elements.{truth, truth_bytes, flag}
 use Rattle.interp.specs.Spending.{Spending}
+use Rattle.interp.specs.declared.flags.Flags.{Flags}
 use Rattle.interp.specs.Locks.{locks_until, locks_for}
 
 -- what is done to the main stack alone
@@ -56,8 +58,8 @@ pub data Row : Type 0 where
   FromAlt : Row
   -- signed code begins after it
   Separates : Row
-  -- fails unless the number on top, which stays, passes the test
-  Asks : (Spending → ℕ → Bool) → Row
+  -- where its rule is in force, fails unless the number on top, which stays, passes the test; else does nothing
+  Asks : (Flags → Bool) → (Spending → ℕ → Bool) → Row
 
 -- places in a row, from the lowest
 abbrev pub a : ℕ
@@ -129,85 +131,85 @@ Rows = List (ℕ × Row)
 -- by the opcode's number
 abbrev pub rows : Rows
 rows =
-    (0x4f, Changes (Puts (0x81 ∷ [])))
-    ∷ (0x61, Nothing)
-    ∷ (0x63, Opens true)
-    ∷ (0x64, Opens false)
-    ∷ (0x65, Disabled)
-    ∷ (0x66, Disabled)
-    ∷ (0x67, Turns)
-    ∷ (0x68, Closes)
-    ∷ (0x69, Changes verify)
-    ∷ (0x6b, ToAlt)
-    ∷ (0x6c, FromAlt)
-    ∷ (0x6d, moves 2 [])
-    ∷ (0x6e, moves 2 (a ∷ b ∷ a ∷ b ∷ []))
-    ∷ (0x6f, moves 3 (a ∷ b ∷ c ∷ a ∷ b ∷ c ∷ []))
-    ∷ (0x70, moves 4 (a ∷ b ∷ c ∷ d ∷ a ∷ b ∷ []))
-    ∷ (0x71, moves 6 (c ∷ d ∷ e ∷ f ∷ a ∷ b ∷ []))
-    ∷ (0x72, moves 4 (c ∷ d ∷ a ∷ b ∷ []))
-    ∷ (0x73, Changes if_dup)
-    ∷ (0x74, Changes Depth)
-    ∷ (0x75, moves 1 [])
-    ∷ (0x76, moves 1 (a ∷ a ∷ []))
-    ∷ (0x77, moves 2 (b ∷ []))
-    ∷ (0x78, moves 2 (a ∷ b ∷ a ∷ []))
-    ∷ (0x79, Changes Picks)
-    ∷ (0x7a, Changes Rolls)
-    ∷ (0x7b, moves 3 (b ∷ c ∷ a ∷ []))
-    ∷ (0x7c, moves 2 (b ∷ a ∷ []))
-    ∷ (0x7d, moves 2 (b ∷ a ∷ b ∷ []))
-    ∷ (0x7e, Disabled)
-    ∷ (0x7f, Disabled)
-    ∷ (0x80, Disabled)
-    ∷ (0x81, Disabled)
-    ∷ (0x82, Changes size)
-    ∷ (0x83, Disabled)
-    ∷ (0x84, Disabled)
-    ∷ (0x85, Disabled)
-    ∷ (0x86, Disabled)
-    ∷ (0x87, Tests (Of same_bytes))
-    ∷ (0x88, AndVerifies (Of same_bytes))
-    ∷ (0x8b, one_number (λ x. x +ℤ pos 1))
-    ∷ (0x8c, one_number (λ x. x -ℤ pos 1))
-    ∷ (0x8d, Disabled)
-    ∷ (0x8e, Disabled)
-    ∷ (0x8f, one_number neg_ℤ)
-    ∷ (0x90, one_number (λ x. pos (unsigned_abs x)))
-    ∷ (0x91, one_number (λ x. flag (is_zero x)))
-    ∷ (0x92, one_number (λ x. flag (not (is_zero x))))
-    ∷ (0x93, two_numbers ◌+ℤ◌)
-    ∷ (0x94, two_numbers ◌-ℤ◌)
-    ∷ (0x95, Disabled)
-    ∷ (0x96, Disabled)
-    ∷ (0x97, Disabled)
-    ∷ (0x98, Disabled)
-    ∷ (0x99, Disabled)
-    ∷ (0x9a, test (λ x y. not (is_zero x) && not (is_zero y)))
-    ∷ (0x9b, test (λ x y. not (is_zero x) || not (is_zero y)))
-    ∷ (0x9c, Tests (Of same_number))
-    ∷ (0x9d, AndVerifies (Of same_number))
-    ∷ (0x9e, test (λ x y. not (num_eq x y)))
-    ∷ (0x9f, test (λ x y. int_lt x y))
-    ∷ (0xa0, test (λ x y. int_lt y x))
-    ∷ (0xa1, test (λ x y. not (int_lt y x)))
-    ∷ (0xa2, test (λ x y. not (int_lt x y)))
-    ∷ (0xa3, two_numbers int_min)
-    ∷ (0xa4, two_numbers int_max)
-    ∷ (0xa5, Changes (ThreeNumbers (λ x min max. flag (is_within x min max))))
-    ∷ (0xa6, digest ripemd160)
-    ∷ (0xa7, digest sha1)
-    ∷ (0xa8, digest sha256)
-    ∷ (0xa9, digest hash160)
-    ∷ (0xaa, digest double_sha)
-    ∷ (0xab, Separates)
-    ∷ (0xac, Tests Sig)
-    ∷ (0xad, AndVerifies Sig)
-    ∷ (0xae, Tests Multisig)
-    ∷ (0xaf, AndVerifies Multisig)
-    ∷ (0xb0, Nothing)
-    ∷ (0xb1, Asks (λ p n. locks_until p.tx p.input n))
-    ∷ (0xb2, Asks (λ p n. locks_for p.tx p.input n))
+    (0x4f, Changes (Puts (0x81 ∷ [])))  -- OP_1NEGATE
+    ∷ (0x61, Nothing)  -- OP_NOP
+    ∷ (0x63, Opens true)  -- OP_IF
+    ∷ (0x64, Opens false)  -- OP_NOTIF
+    ∷ (0x65, Disabled)  -- OP_VERIF
+    ∷ (0x66, Disabled)  -- OP_VERNOTIF
+    ∷ (0x67, Turns)  -- OP_ELSE
+    ∷ (0x68, Closes)  -- OP_ENDIF
+    ∷ (0x69, Changes verify)  -- OP_VERIFY
+    ∷ (0x6b, ToAlt)  -- OP_TOALTSTACK
+    ∷ (0x6c, FromAlt)  -- OP_FROMALTSTACK
+    ∷ (0x6d, moves 2 [])  -- OP_2DROP
+    ∷ (0x6e, moves 2 (a ∷ b ∷ a ∷ b ∷ []))  -- OP_2DUP
+    ∷ (0x6f, moves 3 (a ∷ b ∷ c ∷ a ∷ b ∷ c ∷ []))  -- OP_3DUP
+    ∷ (0x70, moves 4 (a ∷ b ∷ c ∷ d ∷ a ∷ b ∷ []))  -- OP_2OVER
+    ∷ (0x71, moves 6 (c ∷ d ∷ e ∷ f ∷ a ∷ b ∷ []))  -- OP_2ROT
+    ∷ (0x72, moves 4 (c ∷ d ∷ a ∷ b ∷ []))  -- OP_2SWAP
+    ∷ (0x73, Changes if_dup)  -- OP_IFDUP
+    ∷ (0x74, Changes Depth)  -- OP_DEPTH
+    ∷ (0x75, moves 1 [])  -- OP_DROP
+    ∷ (0x76, moves 1 (a ∷ a ∷ []))  -- OP_DUP
+    ∷ (0x77, moves 2 (b ∷ []))  -- OP_NIP
+    ∷ (0x78, moves 2 (a ∷ b ∷ a ∷ []))  -- OP_OVER
+    ∷ (0x79, Changes Picks)  -- OP_PICK
+    ∷ (0x7a, Changes Rolls)  -- OP_ROLL
+    ∷ (0x7b, moves 3 (b ∷ c ∷ a ∷ []))  -- OP_ROT
+    ∷ (0x7c, moves 2 (b ∷ a ∷ []))  -- OP_SWAP
+    ∷ (0x7d, moves 2 (b ∷ a ∷ b ∷ []))  -- OP_TUCK
+    ∷ (0x7e, Disabled)  -- OP_CAT
+    ∷ (0x7f, Disabled)  -- OP_SUBSTR
+    ∷ (0x80, Disabled)  -- OP_LEFT
+    ∷ (0x81, Disabled)  -- OP_RIGHT
+    ∷ (0x82, Changes size)  -- OP_SIZE
+    ∷ (0x83, Disabled)  -- OP_INVERT
+    ∷ (0x84, Disabled)  -- OP_AND
+    ∷ (0x85, Disabled)  -- OP_OR
+    ∷ (0x86, Disabled)  -- OP_XOR
+    ∷ (0x87, Tests (Of same_bytes))  -- OP_EQUAL
+    ∷ (0x88, AndVerifies (Of same_bytes))  -- OP_EQUALVERIFY
+    ∷ (0x8b, one_number (λ x. x +ℤ pos 1))  -- OP_1ADD
+    ∷ (0x8c, one_number (λ x. x -ℤ pos 1))  -- OP_1SUB
+    ∷ (0x8d, Disabled)  -- OP_2MUL
+    ∷ (0x8e, Disabled)  -- OP_2DIV
+    ∷ (0x8f, one_number neg_ℤ)  -- OP_NEGATE
+    ∷ (0x90, one_number (λ x. pos (unsigned_abs x)))  -- OP_ABS
+    ∷ (0x91, one_number (λ x. flag (is_zero x)))  -- OP_NOT
+    ∷ (0x92, one_number (λ x. flag (not (is_zero x))))  -- OP_0NOTEQUAL
+    ∷ (0x93, two_numbers ◌+ℤ◌)  -- OP_ADD
+    ∷ (0x94, two_numbers ◌-ℤ◌)  -- OP_SUB
+    ∷ (0x95, Disabled)  -- OP_MUL
+    ∷ (0x96, Disabled)  -- OP_DIV
+    ∷ (0x97, Disabled)  -- OP_MOD
+    ∷ (0x98, Disabled)  -- OP_LSHIFT
+    ∷ (0x99, Disabled)  -- OP_RSHIFT
+    ∷ (0x9a, test (λ x y. not (is_zero x) && not (is_zero y)))  -- OP_BOOLAND
+    ∷ (0x9b, test (λ x y. not (is_zero x) || not (is_zero y)))  -- OP_BOOLOR
+    ∷ (0x9c, Tests (Of same_number))  -- OP_NUMEQUAL
+    ∷ (0x9d, AndVerifies (Of same_number))  -- OP_NUMEQUALVERIFY
+    ∷ (0x9e, test (λ x y. not (num_eq x y)))  -- OP_NUMNOTEQUAL
+    ∷ (0x9f, test (λ x y. int_lt x y))  -- OP_LESSTHAN
+    ∷ (0xa0, test (λ x y. int_lt y x))  -- OP_GREATERTHAN
+    ∷ (0xa1, test (λ x y. not (int_lt y x)))  -- OP_LESSTHANOREQUAL
+    ∷ (0xa2, test (λ x y. not (int_lt x y)))  -- OP_GREATERTHANOREQUAL
+    ∷ (0xa3, two_numbers int_min)  -- OP_MIN
+    ∷ (0xa4, two_numbers int_max)  -- OP_MAX
+    ∷ (0xa5, Changes (ThreeNumbers (λ x min max. flag (is_within x min max))))  -- OP_WITHIN
+    ∷ (0xa6, digest ripemd160)  -- OP_RIPEMD160
+    ∷ (0xa7, digest sha1)  -- OP_SHA1
+    ∷ (0xa8, digest sha256)  -- OP_SHA256
+    ∷ (0xa9, digest hash160)  -- OP_HASH160
+    ∷ (0xaa, digest double_sha)  -- OP_HASH256
+    ∷ (0xab, Separates)  -- OP_CODESEPARATOR
+    ∷ (0xac, Tests Sig)  -- OP_CHECKSIG
+    ∷ (0xad, AndVerifies Sig)  -- OP_CHECKSIGVERIFY
+    ∷ (0xae, Tests Multisig)  -- OP_CHECKMULTISIG
+    ∷ (0xaf, AndVerifies Multisig)  -- OP_CHECKMULTISIGVERIFY
+    ∷ (0xb0, Nothing)  -- OP_NOP1
+    ∷ (0xb1, Asks (λ flags. flags.cltv) (λ p n. locks_until p.tx p.input n))  -- OP_CHECKLOCKTIMEVERIFY
+    ∷ (0xb2, Asks (λ flags. flags.csv) (λ p n. locks_for p.tx p.input n))  -- OP_CHECKSEQUENCEVERIFY
     ∷ []
 
 -- an opcode that stands in no row fails
@@ -221,9 +223,9 @@ row_at number =
     if nat_le 0x51 number && nat_le number 0x60 then Changes (Puts ((number - 0x50) ∷ []))
     else (if nat_le 0xb3 number && nat_le number 0xb9 then Nothing else row_among rows number)
 
--- a push of over 520 bytes fails, also in a branch that isn't taken
+-- a push of too many bytes fails, also in a branch that isn't taken
 abbrev pub push_row : Bytes → Row
-push_row bytes = if nat_lt 520 (length bytes) then Disabled else Changes (Puts bytes)
+push_row bytes = if nat_lt max_element_size (length bytes) then Disabled else Changes (Puts bytes)
 
 unfoldable pub row_of : List ℕ → Row
 row_of [] = Fails

@@ -2,17 +2,18 @@
 use Rattle.std.specs.Prelude.{◌≡◌, ◌⊎◌, ℕ, ◌+◌, ◌<◌, ◌≤◌, List, [], ◌∷◌, ◌++◌, length, Bool, true, false, not, Option, Some, pos, ℤ, slice_get, remove}
 use Rattle.std.specs.List.{concat}
 use Rattle.script.specs.Ops.{ops, rest}
-use Rattle.script.specs.Kinds.{is_push_only, is_p2sh}
+use Rattle.script.specs.Kinds.{is_push_only, is_p2sh, max_script_size}
 use Rattle.script.specs.Num.{num_value, spelled}
 use Rattle.txn.specs.declared.tx.Tx.{Tx}
 use Rattle.txn.specs.declared.input.TxIn.{TxIn}
-use Rattle.curve.specs.Shape.{IsStrict}
 use Rattle.curve.specs.Triple.{Triples}
+use Rattle.interp.specs.Limits.{max_ops, max_keys, max_elements, max_number_size, max_lock_size}
 use Rattle.interp.specs.Stack.{Stack, Bytes, Rearranges, pushed, nth}
 use Rattle.interp.specs.Elements.{truth, truth_bytes}
 use Rattle.interp.specs.Spending.{Spending, spending_of}
+use Rattle.interp.specs.declared.flags.Flags.{Flags}
 use Rattle.interp.specs.State.{State, executing, start}
-use Rattle.interp.specs.Signatures.{signed_code, is_valid, Tries}
+use Rattle.interp.specs.Signatures.{signed_code, is_valid, MayBeTried, Tries}
 use Rattle.interp.specs.Row.{Effect, Puts, Moves, One, Two, OneNumber, TwoNumbers, ThreeNumbers, Depth, Picks, Rolls, Check, Of, Sig, Multisig, Row, Disabled, Fails, Nothing, Changes, Tests, AndVerifies, Opens, Turns, Closes, ToAlt, FromAlt, Separates, Asks, row_of}
 
 -- ---- the main stack
@@ -30,22 +31,22 @@ MapsTwo f old new =
 
 abbrev pub MapsNumber : (ℤ → ℤ) → Stack → Stack → Type 0
 MapsNumber f old new =
-    (a : Bytes) × (rest : Stack) × (x : ℤ) × (old ≡ a ∷ rest) × IsNumber 4 a x × (new ≡ spelled (f x) ∷ rest)
+    (a : Bytes) × (rest : Stack) × (x : ℤ) × (old ≡ a ∷ rest) × IsNumber max_number_size a x × (new ≡ spelled (f x) ∷ rest)
 
 abbrev pub JoinsNumbers : (ℤ → ℤ → ℤ) → Stack → Stack → Type 0
 JoinsNumbers f old new =
-    (a b : Bytes) × (rest : Stack) × (x y : ℤ) × (old ≡ b ∷ a ∷ rest) × IsNumber 4 a x × IsNumber 4 b y
+    (a b : Bytes) × (rest : Stack) × (x y : ℤ) × (old ≡ b ∷ a ∷ rest) × IsNumber max_number_size a x × IsNumber max_number_size b y
     × (new ≡ spelled (f x y) ∷ rest)
 
 abbrev pub JoinsThree : (ℤ → ℤ → ℤ → ℤ) → Stack → Stack → Type 0
 JoinsThree f old new =
-    (a b c : Bytes) × (rest : Stack) × (x y z : ℤ) × (old ≡ c ∷ b ∷ a ∷ rest) × IsNumber 4 a x × IsNumber 4 b y × IsNumber 4 c z
+    (a b c : Bytes) × (rest : Stack) × (x y z : ℤ) × (old ≡ c ∷ b ∷ a ∷ rest) × IsNumber max_number_size a x × IsNumber max_number_size b y × IsNumber max_number_size c z
     × (new ≡ spelled (f x y z) ∷ rest)
 
 -- the number on top is that of a place among the others, from 0 below it
 abbrev pub Placing : (Stack → ℕ → Stack) → Stack → Stack → Type 0
 Placing f old new =
-    (a : Bytes) × (rest : Stack) × (n : ℕ) × (old ≡ a ∷ rest) × IsNumber 4 a (pos n) × (n < length rest) × (new ≡ f rest n)
+    (a : Bytes) × (rest : Stack) × (n : ℕ) × (old ≡ a ∷ rest) × IsNumber max_number_size a (pos n) × (n < length rest) × (new ≡ f rest n)
 
 abbrev pub Affects : Effect → Stack → Stack → Type 0
 Affects (Puts x) old new = new ≡ x ∷ old
@@ -79,10 +80,10 @@ Turning s t = (c : Bool) × (cs : List Bool) × (s.conditions ≡ c ∷ cs) × (
 abbrev pub Closing : State → State → Type 0
 Closing s t = (c : Bool) × (cs : List Bool) × (s.conditions ≡ c ∷ cs) × (t ≡ record s { conditions = cs })
 
--- `sig key -> T or F`: the signature has the shape
+-- `sig key -> T or F`
 abbrev pub ChecksOne : Spending → List ℕ → Stack → Stack → Type 0
 ChecksOne p code old new =
-    (signature key : Bytes) × (rest : Stack) × (old ≡ key ∷ signature ∷ rest) × IsStrict signature
+    (signature key : Bytes) × (rest : Stack) × (old ≡ key ∷ signature ∷ rest) × MayBeTried p.flags signature
     × (new ≡ truth_bytes (is_valid p (signed_code code (signature ∷ [])) signature key) ∷ rest)
 
 -- from the top: the number of keys, the keys, the number of signatures, the signatures, and one more
@@ -94,11 +95,11 @@ pub record ChecksMany (p : Spending) (s t : State) : Type 0 where
   pub extra : Bytes
   pub below : Stack
   pub before : s.main ≡ n ∷ (keys ++ m ∷ (signatures ++ extra ∷ below))
-  pub n_is : IsNumber 4 n (pos (length keys))
-  pub m_is : IsNumber 4 m (pos (length signatures))
-  pub at_most_20 : length keys ≤ 20
+  pub n_is : IsNumber max_number_size n (pos (length keys))
+  pub m_is : IsNumber max_number_size m (pos (length signatures))
+  pub few_keys : length keys ≤ max_keys
   pub no_more : length signatures ≤ length keys
-  pub at_most_201 : s.count + length keys ≤ 201
+  pub few_ops : s.count + length keys ≤ max_ops
   pub answer : Bool
   pub tries : Tries p (signed_code s.code signatures) signatures keys answer
   pub after : t ≡ record s { main = truth_bytes answer ∷ below; count = s.count + length keys }
@@ -106,7 +107,7 @@ pub record ChecksMany (p : Spending) (s t : State) : Type 0 where
 -- a number of at most five bytes, which isn't negative and stays, passes the test
 abbrev pub Asking : (ℕ → Bool) → State → State → Type 0
 Asking test s t =
-    (a : Bytes) × (rest : Stack) × (n : ℕ) × (s.main ≡ a ∷ rest) × IsNumber 5 a (pos n) × (test n ≡ true) × (t ≡ s)
+    (a : Bytes) × (rest : Stack) × (n : ℕ) × (s.main ≡ a ∷ rest) × IsNumber max_lock_size a (pos n) × (test n ≡ true) × (t ≡ s)
 
 abbrev pub Checks : Spending → Check → State → State → Type 0
 Checks p (Of x) s t = OnMain (Affects x) s t
@@ -127,7 +128,8 @@ Executed p after Closes s t = Closing s t
 Executed p after ToAlt s t = (a : Bytes) × (rest : Stack) × (s.main ≡ a ∷ rest) × (t ≡ record s { main = rest; alt = a ∷ s.alt })
 Executed p after FromAlt s t = (a : Bytes) × (rest : Stack) × (s.alt ≡ a ∷ rest) × (t ≡ record s { main = a ∷ s.main; alt = rest })
 Executed p after Separates s t = t ≡ record s { code = after }
-Executed p after (Asks test) s t = Asking (test p) s t
+Executed p after (Asks in_force test) s t =
+    ((in_force p.flags ≡ true) × Asking (test p) s t) ⊎ ((in_force p.flags ≡ false) × (t ≡ s))
 
 -- ---- one opcode in a branch that isn't taken
 abbrev pub Skipped : Row → State → State → Type 0
@@ -143,21 +145,21 @@ Skipped (AndVerifies check) s t = t ≡ s
 Skipped ToAlt s t = t ≡ s
 Skipped FromAlt s t = t ≡ s
 Skipped Separates s t = t ≡ s
-Skipped (Asks test) s t = t ≡ s
+Skipped (Asks in_force test) s t = t ≡ s
 
 abbrev pub Acts : Spending → List ℕ → Row → State → State → Type 0
 Acts p after row s t = ((executing s ≡ true) × Executed p after row s t) ⊎ ((executing s ≡ false) × Skipped row s t)
 
 -- an opcode above 60 is counted, and there are at most 201
 abbrev pub Counts : ℕ → State → State → Type 0
-Counts number s t = ((number ≤ 0x60) × (t ≡ s)) ⊎ ((0x60 < number) × (s.count < 201) × (t ≡ record s { count = s.count + 1 }))
+Counts number s t = ((number ≤ 0x60) × (t ≡ s)) ⊎ ((0x60 < number) × (s.count < max_ops) × (t ≡ record s { count = s.count + 1 }))
 
 -- one opcode with its bytes, and what follows it in the script; after it both stacks have at most 1,000 elements
 abbrev pub Step1 : Spending → List ℕ → List ℕ → State → State → Type 0
 Step1 p after [] s t = ⊥
 Step1 p after (number ∷ bytes) s t =
     (counted : State) × Counts number s counted × Acts p after (row_of (number ∷ bytes)) counted t
-    × (length t.main + length t.alt ≤ 1000)
+    × (length t.main + length t.alt ≤ max_elements)
 
 -- ---- a script
 abbrev pub Chain : Spending → List (List ℕ) → State → State → Type 0
@@ -166,7 +168,7 @@ Chain p (op ∷ others) s t = (mid : State) × Step1 p (concat others) op s mid 
 
 -- the script runs on the stack over all its opcodes, and leaves this stack
 pub record Run (p : Spending) (script : List ℕ) (stack end : Stack) : Type 0 where
-  pub short : length script ≤ 10000
+  pub short : length script ≤ max_script_size
   -- no push is cut short
   pub whole : rest script ≡ []
   pub last : State
@@ -190,9 +192,9 @@ AcceptsInner p script left =
 
 -- the input script runs from an empty stack; the spent script, on the stack that it left, ends with a true top; and
 -- so does the inner script, where the spent script is that of BIP 16
-abbrev pub Accepts : Tx → ℕ → List ℕ → Triples → Type 0
-Accepts tx input spent triples =
-    let p = spending_of tx input triples in
+abbrev pub Accepts : Tx → ℕ → List ℕ → Flags → Triples → Type 0
+Accepts tx input spent flags triples =
+    let p = spending_of tx input flags triples in
     (own : TxIn) × (slice_get tx.inputs input ≡ Some own)
     × ((left : Stack) × Run p own.script [] left × RunsToTrue p spent left
     × (is_p2sh spent ≡ true → AcceptsInner p own.script left))

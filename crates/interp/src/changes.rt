@@ -1,8 +1,8 @@
 ghost use Rattle.std.specs.Prelude.{◌≡◌, ◌∷◌, Some, IfOk};
 ghost use Rattle.interp.specs.Stack.{Gives};
 ghost use Rattle.interp.specs.Row.{verify, if_dup, size, same_bytes};
-ghost use Rattle.interp.specs.Step.{effect};
-ghost use Rattle.interp.specs.Meaning.{change_of};
+ghost use Rattle.interp.specs.computed.Step.{effect};
+ghost use Rattle.interp.specs.computed.Meaning.{change_of};
 
 use crate::element::Element;
 use crate::hashes::{Hash, digest_top};
@@ -50,6 +50,7 @@ pub fn verify(stack: &mut Pile<Element>) -> bool
 }
 
 /// Copies the top, if it is true.
+#[inline(never)]
 fn duplicate_if_true(alloc: Global, stack: &mut Pile<Element>) -> Result<bool, Memory>
     ensures { IfOk result (λ there. Gives there (effect if_dup stack.old) stack.new) }
 {
@@ -65,6 +66,7 @@ fn duplicate_if_true(alloc: Global, stack: &mut Pile<Element>) -> Result<bool, M
 }
 
 /// Pushes the length of the top.
+#[inline(never)]
 fn push_size(alloc: Global, stack: &mut Pile<Element>) -> Result<bool, Memory>
     ensures { IfOk result (λ there. Gives there (effect size stack.old) stack.new) }
 {
@@ -92,6 +94,8 @@ pub fn compare(alloc: Global, stack: &mut Pile<Element>) -> Result<bool, Memory>
     Ok(true)
 }
 
+// Rows are calls that aren't drawn in (`inline(never)`): in one frame each opcode would pay for clearing a slot for
+// each value of each row.
 /// Does it, and tells whether it could be done.
 pub fn apply(alloc: Global, stack: &mut Pile<Element>, by: Change) -> Result<bool, Memory>
     ensures { IfOk result (λ there. Gives there (effect (change_of by) stack.old) stack.new) }

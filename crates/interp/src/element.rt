@@ -1,4 +1,4 @@
-ghost use Rattle.std.specs.Prelude.{◌≡◌, ◌≤◌, ℕ, List, IfOk};
+ghost use Rattle.std.specs.Prelude.{◌≡◌, ℕ, List, min, IfOk};
 ghost use Rattle.script.specs.Num.{spelled};
 ghost use Rattle.interp.specs.Elements.{truth, truth_bytes, natural_of};
 
@@ -86,10 +86,9 @@ fn is_true(bytes: &[u8]) -> bool
     false
 }
 
-/// The number of at most so many bytes, unless it is negative.
+/// The number of at most so many bytes, and of at most 8, unless it is negative.
 pub fn natural(bytes: &[u8], most: usize) -> Option<u64>
-    requires { most ≤ 8 }
-    ensures { result ≡ natural_of most bytes.now }
+    ensures { result ≡ natural_of (min most 8) bytes.now }
 {
     let Num(z) = Num::read(bytes, most)?;
     if z < 0 {

@@ -2,8 +2,8 @@ ghost use Rattle.std.specs.Prelude.{◌≡◌, IfOk, [], ◌∷◌, Some};
 ghost use Rattle.sha1.specs.Sha1.{sha1};
 ghost use Rattle.sha2.specs.Sha256.{sha256};
 ghost use Rattle.interp.specs.Stack.{Gives};
-ghost use Rattle.interp.specs.Step.{on_one};
-ghost use Rattle.interp.specs.Rows.{hash_of};
+ghost use Rattle.interp.specs.computed.Step.{on_one};
+ghost use Rattle.interp.specs.computed.Rows.{hash_of};
 
 use crate::element::Element;
 use crate::pile::Pile;
@@ -48,6 +48,7 @@ macro_rules! row {
 }
 
 /// Puts a digest in place of the top, if there is one.
+#[inline(never)]
 pub fn digest_top(alloc: Global, stack: &mut Pile<Element>, by: Hash) -> Result<bool, Memory>
     ensures { IfOk result (λ there. Gives there (on_one (λ x. Some (hash_of by x ∷ [])) stack.old) stack.new) }
 {

@@ -2,9 +2,12 @@
 #![tactic(auto)]
 
 mod changes;
+mod conditions;
 mod element;
+mod flags;
 mod hashes;
 mod job;
+pub mod laws;
 mod machine;
 mod moves;
 mod multisig;
@@ -16,6 +19,7 @@ mod signatures;
 mod timelocks;
 mod verifying;
 
+pub use flags::Flags;
 pub use job::Job;
 pub use verifying::verify;
 

@@ -3,18 +3,19 @@ ghost use Rattle.interp.specs.Stack.{Gives};
 ghost use Rattle.interp.specs.Spending.{Spending, spending_of};
 ghost use Rattle.interp.specs.State.{start, executing};
 ghost use Rattle.interp.specs.Locks.{locks_until, locks_for};
-ghost use Rattle.interp.specs.Meaning.{meaning, check_of};
-ghost use Rattle.interp.specs.Step.{executed, skipped, verified, with_main, opened, turned, closed, to_alt, from_alt, counts_of, multisig_checked, asked, tested, acted, counted, bounded, step_at, step, finished};
+ghost use Rattle.interp.specs.computed.Meaning.{meaning, check_of};
+ghost use Rattle.interp.specs.computed.Step.{executed, skipped, verified, with_main, opened, turned, closed, to_alt, from_alt, counts_of, sig_checked, multisig_checked, asked, tested, acted, counted, bounded, step_at, step, finished};
 ghost use Rattle.interp.specs.Row.{push_row, row_of, AndVerifies};
 
 use crate::changes::{apply, compare, push, verify};
+use crate::conditions::Conditions;
 use crate::element::Element;
 use crate::job::Job;
 use crate::multisig::{answer, many};
 use crate::numbers::{Binary, join_numbers};
 use crate::op::{Op, Test, op_of};
 use crate::pile::Pile;
-use crate::signatures::check_sig;
+use crate::signatures::judge;
 use crate::timelocks::{meets_lock_time, meets_sequence};
 use curve::Table;
 use script::opcode::OP_16;
@@ -41,7 +42,7 @@ pub struct Machine<'a> {
     main: Pile<Element>,
     alt: Pile<Element>,
     /// For each open condition, the innermost on top, whether its branch is taken.
-    conditions: Pile<bool>,
+    conditions: Conditions,
     /// Opcodes above OP_16, and the keys of each CHECKMULTISIG.
     count: usize,
     /// The script from after its last executed CODESEPARATOR.
@@ -56,6 +57,19 @@ impl<'a> Model for Machine<'a> {
     ghost view = { λ m. record { main = m.main; alt = m.alt; conditions = m.conditions; count = m.count; code = m.code.now } };
 }
 
+// A signature opcode: how many elements are taken, and the answer that is pushed in their place, without which the
+// script fails.
+macro_rules! row {
+    ($alloc:ident, $machine:ident; $taken:expr => $answer:expr) => {{
+        let Some(valid) = $answer else {
+            return Ok(false);
+        };
+        $machine.main.drop_top($taken);
+        $machine.main.push(Element::from_truth($alloc, valid)?)?;
+        Ok(true)
+    }};
+}
+
 impl<'a> Machine<'a> {
     /// Before the first opcode.
     pub fn new(alloc: Global, script: &'a [u8], main: Pile<Element>) -> Machine<'a>
@@ -64,7 +78,7 @@ impl<'a> Machine<'a> {
         Machine {
             main,
             alt: Pile::new(alloc),
-            conditions: Pile::new(alloc),
+            conditions: Conditions::new(alloc),
             count: 0,
             code: script,
         }
@@ -74,7 +88,7 @@ impl<'a> Machine<'a> {
     fn is_executing(&self) -> bool
         ensures { result ≡ executing self.now }
     {
-        self.conditions.all_true()
+        self.conditions.all_taken()
     }
 
     /// Takes the top, and tells whether it is true.
@@ -91,7 +105,7 @@ impl<'a> Machine<'a> {
             return Ok(false);
         }
         let is_true = self.main.pop().is_true();
-        self.conditions.push(is_true == at)?;
+        self.conditions.open(is_true == at)?;
         Ok(true)
     }
 
@@ -101,8 +115,8 @@ impl<'a> Machine<'a> {
         if self.conditions.len() == 0 {
             return Ok(false);
         }
-        let taken = self.conditions.pop();
-        self.conditions.push(!taken)?;
+        let taken = self.conditions.close();
+        self.conditions.open(!taken)?;
         Ok(true)
     }
 
@@ -112,7 +126,7 @@ impl<'a> Machine<'a> {
         if self.conditions.len() == 0 {
             return false;
         }
-        let _ = self.conditions.pop();
+        let _ = self.conditions.close();
         true
     }
 
@@ -141,7 +155,7 @@ impl<'a> Machine<'a> {
     }
 
     /// How many keys and signatures CHECKMULTISIG takes, if they are there and not too many.
-    #[tactic(auto, unfolding(crate::specs::Step::counts_of))]
+    #[tactic(auto, unfolding(crate::specs::computed::Step::counts_of))]
     fn counts(&self) -> Option<(usize, usize)>
         ensures value { result ≡ counts_of self.now }
         ensures there { IfSome result (λ counts. counts.0 + counts.1 + 3 ≤ length self.now.main) }
@@ -160,33 +174,42 @@ impl<'a> Machine<'a> {
         Some((keys, signatures))
     }
 
+    /// CHECKSIG: takes a signature and a key above it, and pushes whether they are a valid pair.
+    #[tactic(auto, unfolding(crate::specs::computed::Step::sig_checked))]
+    fn check_sig(&mut self, alloc: Global, job: &Job, table: &Table) -> Result<bool, Memory>
+        requires { job.now.input < length job.now.tx.now.inputs }
+        ensures { IfOk result (λ done. Gives done (with_main self.old (sig_checked (spending_of job.now.tx.now job.now.input job.now.flags table.now) self.old.code self.old.main)) self.new) }
+    {
+        if self.main.len() < 2 {
+            return Ok(false);
+        }
+        let key = self.main.at(0).as_slice();
+        let signature = self.main.at(1).as_slice();
+        row!(alloc, self; 2 => judge(alloc, job, table, self.code, signature, key)?)
+    }
+
     /// CHECKMULTISIG: takes its keys, its signatures and one element more, and pushes its answer.
-    #[tactic(auto, unfolding(crate::specs::Step::multisig_checked))]
+    #[tactic(auto, unfolding(crate::specs::computed::Step::multisig_checked))]
     fn check_multisig(&mut self, alloc: Global, job: &Job, table: &Table) -> Result<bool, Memory>
         requires { job.now.input < length job.now.tx.now.inputs }
-        ensures { IfOk result (λ done. Gives done (multisig_checked (spending_of job.now.tx.now job.now.input table.now) self.old) self.new) }
+        ensures { IfOk result (λ done. Gives done (multisig_checked (spending_of job.now.tx.now job.now.input job.now.flags table.now) self.old) self.new) }
     {
         let Some(counts) = self.counts() else {
             return Ok(false);
         };
-        let Some(valid) = answer(alloc, job, table, self.code, &self.main, counts)? else {
-            return Ok(false);
-        };
-        self.main.drop_top(counts.0 + counts.1 + 3);
-        self.main.push(Element::from_truth(alloc, valid)?)?;
         self.count += counts.0;
-        Ok(true)
+        row!(alloc, self; counts.0 + counts.1 + 3 => answer(alloc, job, table, self.code, &self.main, counts)?)
     }
 
     /// What leaves a truth or a number.
     fn test(&mut self, alloc: Global, job: &Job, table: &Table, by: Test) -> Result<bool, Memory>
         requires { job.now.input < length job.now.tx.now.inputs }
-        ensures { IfOk result (λ done. Gives done (tested (spending_of job.now.tx.now job.now.input table.now) (check_of by) self.old) self.new) }
+        ensures { IfOk result (λ done. Gives done (tested (spending_of job.now.tx.now job.now.input job.now.flags table.now) (check_of by) self.old) self.new) }
     {
         match by {
             Test::Equal => compare(alloc, &mut self.main),
             Test::NumEqual => join_numbers(alloc, &mut self.main, Binary::NumEqual),
-            Test::CheckSig => check_sig(alloc, job, table, self.code, &mut self.main),
+            Test::CheckSig => self.check_sig(alloc, job, table),
             Test::CheckMultisig => self.check_multisig(alloc, job, table),
         }
     }
@@ -199,7 +222,7 @@ impl<'a> Machine<'a> {
         by: Test,
     ) -> Result<bool, Memory>
         requires { job.now.input < length job.now.tx.now.inputs }
-        ensures { IfOk result (λ done. Gives done (executed (spending_of job.now.tx.now job.now.input table.now) [] (AndVerifies (check_of by)) self.old) self.new) }
+        ensures { IfOk result (λ done. Gives done (executed (spending_of job.now.tx.now job.now.input job.now.flags table.now) [] (AndVerifies (check_of by)) self.old) self.new) }
     {
         if !self.test(alloc, job, table, by)? {
             return Ok(false);
@@ -207,8 +230,8 @@ impl<'a> Machine<'a> {
         Ok(self.verify())
     }
 
-    /// Whether the top is there and a lock time that the transaction keeps.
-    #[tactic(auto, unfolding(crate::specs::Step::asked))]
+    /// Whether the top is there and a lock time that the transaction keeps (BIP 65).
+    #[tactic(auto, unfolding(crate::specs::computed::Step::asked))]
     fn ask_lock_time(&self, job: &Job) -> bool
         requires { job.now.input < length job.now.tx.now.inputs }
         ensures { Gives result (asked (λ n. locks_until job.now.tx.now job.now.input n) self.now self.now.main) self.now }
@@ -216,8 +239,8 @@ impl<'a> Machine<'a> {
         self.main.len() > 0 && meets_lock_time(job, self.main.at(0).as_slice())
     }
 
-    /// Whether the top is there and a relative lock that the input keeps.
-    #[tactic(auto, unfolding(crate::specs::Step::asked))]
+    /// Whether the top is there and a relative lock that the input keeps (BIP 112).
+    #[tactic(auto, unfolding(crate::specs::computed::Step::asked))]
     fn ask_sequence(&self, job: &Job) -> bool
         requires { job.now.input < length job.now.tx.now.inputs }
         ensures { Gives result (asked (λ n. locks_for job.now.tx.now job.now.input n) self.now self.now.main) self.now }
@@ -235,7 +258,7 @@ impl<'a> Machine<'a> {
         op: Op,
     ) -> Result<bool, Memory>
         requires { job.now.input < length job.now.tx.now.inputs }
-        ensures { IfOk result (λ done. Gives done (executed (spending_of job.now.tx.now job.now.input table.now) after.now (meaning op) self.old) self.new) }
+        ensures { IfOk result (λ done. Gives done (executed (spending_of job.now.tx.now job.now.input job.now.flags table.now) after.now (meaning op) self.old) self.new) }
     {
         match op {
             Op::Disabled | Op::Fails => Ok(false),
@@ -253,8 +276,8 @@ impl<'a> Machine<'a> {
                 self.code = after;
                 Ok(true)
             }
-            Op::LockTime => Ok(self.ask_lock_time(job)),
-            Op::Sequence => Ok(self.ask_sequence(job)),
+            Op::LockTime => Ok(!job.flags.cltv || self.ask_lock_time(job)),
+            Op::Sequence => Ok(!job.flags.csv || self.ask_sequence(job)),
         }
     }
 
@@ -265,7 +288,7 @@ impl<'a> Machine<'a> {
         match op {
             Op::Disabled => Ok(false),
             Op::If | Op::NotIf => {
-                self.conditions.push(false)?;
+                self.conditions.open(false)?;
                 Ok(true)
             }
             Op::Else => self.turn(),
@@ -275,7 +298,7 @@ impl<'a> Machine<'a> {
     }
 
     /// An opcode that is no push of bytes.
-    #[tactic(auto, unfolding(crate::specs::Step::acted))]
+    #[tactic(auto, unfolding(crate::specs::computed::Step::acted))]
     fn act(
         &mut self,
         alloc: Global,
@@ -285,7 +308,7 @@ impl<'a> Machine<'a> {
         op: Op,
     ) -> Result<bool, Memory>
         requires { job.now.input < length job.now.tx.now.inputs }
-        ensures { IfOk result (λ done. Gives done (acted (spending_of job.now.tx.now job.now.input table.now) after.now (meaning op) self.old) self.new) }
+        ensures { IfOk result (λ done. Gives done (acted (spending_of job.now.tx.now job.now.input job.now.flags table.now) after.now (meaning op) self.old) self.new) }
     {
         if self.is_executing() {
             self.execute(alloc, job, table, after, op)
@@ -295,7 +318,7 @@ impl<'a> Machine<'a> {
     }
 
     /// A push of bytes.
-    #[tactic(auto, unfolding(crate::specs::Step::acted))]
+    #[tactic(auto, unfolding(crate::specs::computed::Step::acted))]
     fn act_push(&mut self, alloc: Global, bytes: &[u8]) -> Result<bool, Memory>
         ensures { IfOk result (λ done. (p : Spending) (after : List ℕ) → Gives done (acted p after (push_row bytes.now) self.old) self.new) }
     {
@@ -309,7 +332,7 @@ impl<'a> Machine<'a> {
     }
 
     /// One more opcode of this number, unless there were as many as there may be.
-    #[tactic(auto, unfolding(crate::specs::Step::counted))]
+    #[tactic(auto, unfolding(crate::specs::computed::Step::counted))]
     fn count_one(&mut self, number: u8) -> bool
         ensures { Gives result (counted number self.old) self.new }
     {
@@ -324,7 +347,7 @@ impl<'a> Machine<'a> {
     }
 
     /// Whether the stacks are small enough.
-    #[tactic(auto, unfolding(crate::specs::Step::bounded))]
+    #[tactic(auto, unfolding(crate::specs::computed::Step::bounded))]
     fn is_bounded(&self) -> bool
         ensures { Gives result (bounded self.now) self.now }
     {
@@ -333,7 +356,7 @@ impl<'a> Machine<'a> {
     }
 
     /// One opcode with its bytes; `after` follows it in the script.
-    #[tactic(auto, unfolding(crate::specs::Step::step, crate::specs::Step::step_at, crate::specs::Row::row_of))]
+    #[tactic(auto, unfolding(crate::specs::computed::Step::step, crate::specs::computed::Step::step_at, crate::specs::Row::row_of))]
     pub fn step(
         &mut self,
         alloc: Global,
@@ -343,7 +366,7 @@ impl<'a> Machine<'a> {
         op: &[u8],
     ) -> Result<bool, Memory>
         requires { job.now.input < length job.now.tx.now.inputs }
-        ensures { IfOk result (λ done. Gives done (step (spending_of job.now.tx.now job.now.input table.now) after.now op.now self.old) self.new) }
+        ensures { IfOk result (λ done. Gives done (step (spending_of job.now.tx.now job.now.input job.now.flags table.now) after.now op.now self.old) self.new) }
     {
         let Some(number) = op.first() else {
             return Ok(false);

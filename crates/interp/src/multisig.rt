@@ -5,12 +5,12 @@ ghost use Rattle.script.specs.Removal.{bytes_of};
 ghost use Rattle.curve.specs.Triple.{triple_of};
 ghost use Rattle.interp.specs.Spending.{spending_of};
 ghost use Rattle.interp.specs.Signatures.{is_valid, proper, signed_code, tried};
-ghost use Rattle.interp.specs.Step.{many, keys_in, signatures_in, multisig_answer};
+ghost use Rattle.interp.specs.computed.Step.{many, keys_in, signatures_in, multisig_answer};
 
 use crate::element::{Element, natural};
 use crate::job::Job;
 use crate::pile::Pile;
-use crate::signatures::{digest_for, is_shaped, is_valid, signed_parts};
+use crate::signatures::{digest_for, is_valid, may_be_tried, signed_parts};
 use curve::Table;
 use std::alloc::Global;
 use wire::Memory;
@@ -58,7 +58,7 @@ fn first_key(table: &Table, digest: &[u8; 32], signature: &[u8], keys: &[&[u8]])
         .position(|key| is_valid(table, digest, signature, key))
 }
 
-/// Tries signatures and keys in order: None where one that is tried has not the shape.
+/// Tries signatures and keys in order: None where one that is tried may not be.
 fn try_pairs(
     job: &Job,
     table: &Table,
@@ -67,7 +67,7 @@ fn try_pairs(
     keys: &[&[u8]],
 ) -> Option<bool>
     requires { job.now.input < length job.now.tx.now.inputs }
-    ensures { result ≡ tried (spending_of job.now.tx.now job.now.input table.now) (concat (bytes_of code.now)) (bytes_of signatures.now) (bytes_of keys.now) }
+    ensures { result ≡ tried (spending_of job.now.tx.now job.now.input job.now.flags table.now) (concat (bytes_of code.now)) (bytes_of signatures.now) (bytes_of keys.now) }
 {
     let [signature, others @ ..] = signatures else {
         return Some(true);
@@ -75,7 +75,7 @@ fn try_pairs(
     if keys.len() <= others.len() {
         return Some(false);
     }
-    if !is_shaped(signature) {
+    if !may_be_tried(job.flags, signature) {
         return None;
     }
     if signature.is_empty() {
@@ -103,12 +103,18 @@ pub fn answer(
     requires few { counts.0 ≤ 20 }
     requires no_more { counts.1 ≤ counts.0 }
     requires there { counts.0 + counts.1 + 3 ≤ length stack.now }
-    ensures { IfOk result (λ answer. answer ≡ multisig_answer (spending_of job.now.tx.now job.now.input table.now) code.now stack.now counts) }
+    ensures { IfOk result (λ answer. answer ≡ multisig_answer (spending_of job.now.tx.now job.now.input job.now.flags table.now) code.now stack.now counts) }
 {
     let (keys, signatures) = counts;
     let middle = keys + 2;
     let keys = slices(alloc, stack, 1, keys + 1)?;
     let signatures = slices(alloc, stack, middle, middle + signatures)?;
+    let Some(first) = signatures.first() else {
+        return Ok(Some(true));
+    };
+    if first.is_empty() {
+        return Ok(Some(false));
+    }
     let parts = signed_parts(alloc, code, signatures.as_slice())?;
     Ok(try_pairs(
         job,

@@ -1,8 +1,8 @@
 ghost use Rattle.std.specs.Prelude.{◌≡◌, ◌^◌, ◌∷◌, pos, negsuc, ◌<ℤ◌, IfOk, OnOk, MatchOption, IfSome, Some, None};
 ghost use Rattle.script.specs.Num.{operand, spelled};
 ghost use Rattle.interp.specs.Stack.{Gives};
-ghost use Rattle.interp.specs.Step.{top_number, on_number, on_two_numbers, on_three_numbers};
-ghost use Rattle.interp.specs.Rows.{unary_of, binary_of, within_of};
+ghost use Rattle.interp.specs.computed.Step.{top_number, on_number, on_two_numbers, on_three_numbers};
+ghost use Rattle.interp.specs.computed.Rows.{unary_of, binary_of, within_of};
 
 use crate::element::Element;
 use crate::pile::Pile;
@@ -52,7 +52,7 @@ fn number(bytes: &[u8]) -> Option<i64>
 }
 
 /// Takes the number on top.
-#[tactic(auto, unfolding(crate::specs::Step::top_number))]
+#[tactic(auto, unfolding(crate::specs::computed::Step::top_number))]
 fn pop_number(stack: &mut Pile<Element>) -> Option<i64>
     ensures value { MatchOption result (top_number stack.old ≡ None) (λ z. top_number stack.old ≡ Some (z, stack.new)) }
     ensures above { IfSome result (λ z. negsuc (2 ^ 31) <ℤ z) }
@@ -96,7 +96,8 @@ macro_rules! row {
 }
 
 /// Changes the number on top, if there is one.
-#[tactic(auto, unfolding(crate::specs::Step::on_number))]
+#[tactic(auto, unfolding(crate::specs::computed::Step::on_number))]
+#[inline(never)]
 pub fn change_number(alloc: Global, stack: &mut Pile<Element>, by: Unary) -> Result<bool, Memory>
     ensures { IfOk result (λ there. Gives there (on_number (unary_of by) stack.old) stack.new) }
 {
@@ -111,7 +112,8 @@ pub fn change_number(alloc: Global, stack: &mut Pile<Element>, by: Unary) -> Res
 }
 
 /// Makes a number of the two on top, if they are there.
-#[tactic(auto, unfolding(crate::specs::Step::on_two_numbers))]
+#[tactic(auto, unfolding(crate::specs::computed::Step::on_two_numbers))]
+#[inline(never)]
 pub fn join_numbers(alloc: Global, stack: &mut Pile<Element>, by: Binary) -> Result<bool, Memory>
     ensures { IfOk result (λ there. Gives there (on_two_numbers (binary_of by) stack.old) stack.new) }
 {
@@ -132,7 +134,8 @@ pub fn join_numbers(alloc: Global, stack: &mut Pile<Element>, by: Binary) -> Res
 }
 
 /// Whether a number lies from the second on and below the third, if the three are there.
-#[tactic(auto, unfolding(crate::specs::Step::on_three_numbers))]
+#[tactic(auto, unfolding(crate::specs::computed::Step::on_three_numbers))]
+#[inline(never)]
 pub fn within(alloc: Global, stack: &mut Pile<Element>) -> Result<bool, Memory>
     ensures { IfOk result (λ there. Gives there (on_three_numbers within_of stack.old) stack.new) }
 {

@@ -1,6 +1,4 @@
-ghost use Rattle.std.specs.Prelude.{◌≡◌, ◌+◌, ◌<◌, ◌≤◌, ℕ, List, [], ◌∷◌, length, reverse, remove, drop, slice_get, pos, OnOk, IfOk, Some};
-ghost use Rattle.std.specs.List.{list_all};
-ghost use Rattle.interp.specs.Stack.{take_off};
+ghost use Rattle.std.specs.Prelude.{◌≡◌, ◌+◌, ◌<◌, ◌≤◌, ℕ, List, [], ◌∷◌, length, reverse, remove, drop, slice_get, pos, OnOk, OnErr, IfOk, Some};
 
 use crate::element::Element;
 use std::alloc::Global;
@@ -36,7 +34,8 @@ impl<T: Drop> Pile<T> {
 
     /// One more on top.
     pub fn push(&mut self, x: T) -> Result<(), Memory>
-        ensures { OnOk result (self.new ≡ x ∷ self.old) }
+        ensures ok { OnOk result (self.new ≡ x ∷ self.old) }
+        ensures err { OnErr result (self.new ≡ self.old) }
     {
         self.items.push(x)?;
         Ok(())
@@ -73,28 +72,6 @@ impl<T: Drop> Pile<T> {
         ensures { self.new ≡ drop n self.old }
     {
         self.items.truncate(self.items.len() - n);
-    }
-
-    /// Takes `n` off, as a pile whose top was the lowest.
-    pub fn take_off(&mut self, alloc: Global, n: usize) -> Result<Pile<T>, Memory>
-        requires { n ≤ length self.old }
-        ensures many { IfOk result (λ p. length p ≡ n) }
-        ensures taken { IfOk result (λ p. take_off n self.old [] ≡ Some (p, self.new)) }
-    {
-        let mut taken = Pile::new(alloc);
-        for _ in 0..n {
-            taken.push(self.pop())?;
-        }
-        Ok(taken)
-    }
-}
-
-impl Pile<bool> {
-    /// Whether each is true.
-    pub fn all_true(&self) -> bool
-        ensures { result ≡ list_all (λ c. c) self.now }
-    {
-        self.items.iter().all(|c| *c)
     }
 }
 

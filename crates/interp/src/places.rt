@@ -1,7 +1,7 @@
 ghost use Rattle.std.specs.Prelude.{◌≡◌, ◌<◌, ◌∷◌, length, remove, IfOk, IfSome, MatchOption, pos, None, Some};
 ghost use Rattle.script.specs.Num.{spelled};
 ghost use Rattle.interp.specs.Stack.{Gives};
-ghost use Rattle.interp.specs.Step.{picked, rolled, top_place};
+ghost use Rattle.interp.specs.computed.Step.{picked, rolled, top_place};
 
 use crate::element::{Element, natural};
 use crate::numbers::push_number;
@@ -10,6 +10,7 @@ use std::alloc::Global;
 use wire::Memory;
 
 /// Pushes the number of elements.
+#[inline(never)]
 pub fn push_depth(alloc: Global, stack: &mut Pile<Element>) -> Result<bool, Memory>
     ensures { IfOk result (λ there. Gives there (Some (spelled (pos (length stack.old)) ∷ stack.old)) stack.new) }
 {
@@ -18,7 +19,7 @@ pub fn push_depth(alloc: Global, stack: &mut Pile<Element>) -> Result<bool, Memo
 }
 
 /// Takes a number, if it is that of a place among the others: 0 is their top.
-#[tactic(auto, unfolding(crate::specs::Step::top_place))]
+#[tactic(auto, unfolding(crate::specs::computed::Step::top_place))]
 fn pop_place(stack: &mut Pile<Element>) -> Option<usize>
     ensures value { MatchOption result (top_place stack.old ≡ None) (λ n. top_place stack.old ≡ Some (n, stack.new)) }
     ensures bound { IfSome result (λ n. n < length stack.new) }
@@ -34,7 +35,8 @@ fn pop_place(stack: &mut Pile<Element>) -> Option<usize>
 }
 
 /// Copies an element to the top.
-#[tactic(auto, unfolding(crate::specs::Step::picked))]
+#[tactic(auto, unfolding(crate::specs::computed::Step::picked))]
+#[inline(never)]
 pub fn pick(alloc: Global, stack: &mut Pile<Element>) -> Result<bool, Memory>
     ensures { IfOk result (λ there. Gives there (picked stack.old) stack.new) }
 {
@@ -47,7 +49,8 @@ pub fn pick(alloc: Global, stack: &mut Pile<Element>) -> Result<bool, Memory>
 }
 
 /// Moves an element to the top.
-#[tactic(auto, unfolding(crate::specs::Step::rolled))]
+#[tactic(auto, unfolding(crate::specs::computed::Step::rolled))]
+#[inline(never)]
 pub fn roll(stack: &mut Pile<Element>) -> Result<bool, Memory>
     ensures { IfOk result (λ there. Gives there (rolled stack.old) stack.new) }
 {

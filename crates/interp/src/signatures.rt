@@ -1,17 +1,15 @@
-ghost use Rattle.std.specs.Prelude.{◌≡◌, ◌<◌, length, map, IfOk};
+ghost use Rattle.std.specs.Prelude.{◌≡◌, ◌<◌, [], ◌∷◌, length, map, IfOk};
 ghost use Rattle.std.specs.List.{concat, position};
 ghost use Rattle.std.specs.FinSet as set;
 ghost use Rattle.script.specs.Removal.{bytes_of};
 ghost use Rattle.sighash.specs.Digest.{digest_of};
 ghost use Rattle.curve.specs.Triple.{triple_of};
-ghost use Rattle.interp.specs.Stack.{Gives};
 ghost use Rattle.interp.specs.Spending.{spending_of};
-ghost use Rattle.interp.specs.Signatures.{push_of, pieces_of, signed_code, type_of, proper, is_valid, has_shape};
-ghost use Rattle.interp.specs.Step.{sig_checked};
+ghost use Rattle.interp.specs.Signatures.{push_of, pieces_of, signed_code, type_of, proper, is_valid, may_be_tried, judged};
 
 use crate::element::Element;
+use crate::flags::Flags;
 use crate::job::Job;
-use crate::pile::Pile;
 use curve::{Table, der_shape};
 use script::opcode::OP_CODESEPARATOR;
 use script::without;
@@ -96,55 +94,35 @@ pub fn is_valid(table: &Table, digest: &[u8; 32], signature: &[u8], key: &[u8]) 
     table.has(key, &signature[..signature.len() - 1], digest)
 }
 
-/// Whether a signature is valid for a key.
-#[tactic(auto, unfolding(crate::specs::Signatures::is_valid))]
-fn check(job: &Job, table: &Table, code: &[&[u8]], signature: &[u8], key: &[u8]) -> bool
-    requires { job.now.input < length job.now.tx.now.inputs }
-    ensures { result ≡ is_valid (spending_of job.now.tx.now job.now.input table.now) (concat (bytes_of code.now)) signature.now key.now }
+/// Whether a signature is strictly encoded or empty, where that is asked for.
+#[tactic(auto, unfolding(crate::specs::Signatures::may_be_tried))]
+pub fn may_be_tried(flags: Flags, signature: &[u8]) -> bool
+    ensures { result ≡ may_be_tried flags signature.now }
 {
-    if signature.is_empty() {
-        return false;
-    }
-    let digest = digest_for(job, code, signature);
-    is_valid(table, &digest, signature, key)
+    !flags.dersig || der_shape(signature)
 }
 
-/// Whether a signature is empty or strictly encoded.
-pub fn is_shaped(signature: &[u8]) -> bool
-    ensures { result ≡ has_shape signature.now }
-{
-    der_shape(signature)
-}
-
-/// CHECKSIG: takes a signature and a key above it, and pushes whether they are a valid pair, if the
-/// signature has the shape.
-#[tactic(auto, unfolding(crate::specs::Step::sig_checked, crate::specs::Signatures::judged))]
-pub fn check_sig(
+/// Whether a signature is valid for a key over a running script's code: None where it may not be tried.
+#[tactic(auto, unfolding(crate::specs::Signatures::judged, crate::specs::Signatures::is_valid))]
+pub fn judge(
     alloc: Global,
     job: &Job,
     table: &Table,
     code: &[u8],
-    stack: &mut Pile<Element>,
-) -> Result<bool, Memory>
+    signature: &[u8],
+    key: &[u8],
+) -> Result<Option<bool>, Memory>
     requires { job.now.input < length job.now.tx.now.inputs }
-    ensures { IfOk result (λ done. Gives done (sig_checked (spending_of job.now.tx.now job.now.input table.now) code.now stack.old) stack.new) }
+    ensures { IfOk result (λ valid. valid ≡ judged (spending_of job.now.tx.now job.now.input job.now.flags table.now)
+        (signed_code code.now (signature.now ∷ [])) signature.now key.now) }
 {
-    if stack.len() < 2 {
-        return Ok(false);
+    if !may_be_tried(job.flags, signature) {
+        return Ok(None);
     }
-    let key = stack.pop();
-    let signature = stack.pop();
-    if !is_shaped(signature.as_slice()) {
-        return Ok(false);
+    if signature.is_empty() {
+        return Ok(Some(false));
     }
-    let parts = signed_parts(alloc, code, &[signature.as_slice()])?;
-    let valid = check(
-        job,
-        table,
-        parts.as_slice(),
-        signature.as_slice(),
-        key.as_slice(),
-    );
-    stack.push(Element::from_truth(alloc, valid)?)?;
-    Ok(true)
+    let parts = signed_parts(alloc, code, &[signature])?;
+    let digest = digest_for(job, parts.as_slice(), signature);
+    Ok(Some(is_valid(table, &digest, signature, key)))
 }

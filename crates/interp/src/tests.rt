@@ -44,8 +44,9 @@ fn is_accepted<R: AllocGlobal + Abort>(
         tx: &tx,
         input: 1,
         spent,
+        flags: Flags::ALL,
     };
-    Ok(verify(&job, table, rt.alloc())?)
+    Ok(verify(rt.alloc(), &job, table)?)
 }
 
 #[test]

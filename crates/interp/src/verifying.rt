@@ -2,7 +2,7 @@ ghost use Rattle.std.specs.Prelude.{◌≡◌, ◌<◌, ◌↔◌, [], ◌∷◌
 ghost use Rattle.script.specs.Ops.{ops, rest};
 ghost use Rattle.interp.specs.Spending.{spending_of};
 ghost use Rattle.interp.specs.Rules.{Accepts};
-ghost use Rattle.interp.specs.Step.{outcome, ends_true, accepted_inner, accepted_on, accepted};
+ghost use Rattle.interp.specs.computed.Step.{outcome, ends_true, accepted_inner, accepted_on, accepted};
 
 use crate::element::Element;
 use crate::job::Job;
@@ -15,10 +15,10 @@ use wire::Memory;
 
 /// Whether the input may spend the output: the scripts run, and end with a true element on top (Bitcoin Core's
 /// `VerifyScript`, with the rules of BIPs 16, 65, 66 and 112). The signatures of the table are the valid ones.
-pub fn verify(job: &Job, table: &Table, alloc: Global) -> Result<bool, Memory>
+pub fn verify(alloc: Global, job: &Job, table: &Table) -> Result<bool, Memory>
     // The input is one of the transaction's.
     requires { job.now.input < length job.now.tx.now.inputs }
-    ensures { IfOk result (λ yes. IsTrue yes ↔ Accepts job.now.tx.now job.now.input job.now.spent.now table.now) }
+    ensures { IfOk result (λ yes. IsTrue yes ↔ Accepts job.now.tx.now job.now.input job.now.spent.now job.now.flags table.now) }
 {
     let script = job.tx.inputs.as_slice()[job.input].script.as_slice();
     let yes = accepts(alloc, job, table, script)?;
@@ -36,7 +36,7 @@ fn first_op(script: &[u8]) -> Option<(&[u8], &[u8])>
 }
 
 /// Runs a script on a stack, and gives the stack that it leaves, or nothing where it fails.
-#[tactic(auto, unfolding(crate::specs::Step::outcome))]
+#[tactic(auto, unfolding(crate::specs::computed::Step::outcome))]
 fn run(
     alloc: Global,
     job: &Job,
@@ -45,7 +45,7 @@ fn run(
     stack: Pile<Element>,
 ) -> Result<Option<Pile<Element>>, Memory>
     requires { job.now.input < length job.now.tx.now.inputs }
-    ensures { IfOk result (λ end. end ≡ outcome (spending_of job.now.tx.now job.now.input table.now) script.now stack) }
+    ensures { IfOk result (λ end. end ≡ outcome (spending_of job.now.tx.now job.now.input job.now.flags table.now) script.now stack) }
 {
     if script.len() > MAX_SCRIPT_SIZE {
         return Ok(None);
@@ -65,7 +65,7 @@ fn run(
 }
 
 /// Whether a script runs on a stack, and leaves a true element on top.
-#[tactic(auto, unfolding(crate::specs::Step::ends_true))]
+#[tactic(auto, unfolding(crate::specs::computed::Step::ends_true))]
 fn runs_to_true(
     alloc: Global,
     job: &Job,
@@ -74,7 +74,7 @@ fn runs_to_true(
     stack: Pile<Element>,
 ) -> Result<bool, Memory>
     requires { job.now.input < length job.now.tx.now.inputs }
-    ensures { IfOk result (λ yes. yes ≡ ends_true (outcome (spending_of job.now.tx.now job.now.input table.now) script.now stack)) }
+    ensures { IfOk result (λ yes. yes ≡ ends_true (outcome (spending_of job.now.tx.now job.now.input job.now.flags table.now) script.now stack)) }
 {
     let Some(end) = run(alloc, job, table, script, stack)? else {
         return Ok(false);
@@ -87,7 +87,7 @@ fn runs_to_true(
 
 /// Whether the top of a stack, run as a script on the others, leaves a true element on top, and the input script
 /// that left the stack only pushes (BIP 16).
-#[tactic(auto, unfolding(crate::specs::Step::accepted_inner))]
+#[tactic(auto, unfolding(crate::specs::computed::Step::accepted_inner))]
 fn accepts_inner(
     alloc: Global,
     job: &Job,
@@ -96,7 +96,7 @@ fn accepts_inner(
     left: Pile<Element>,
 ) -> Result<bool, Memory>
     requires { job.now.input < length job.now.tx.now.inputs }
-    ensures { IfOk result (λ yes. yes ≡ accepted_inner (spending_of job.now.tx.now job.now.input table.now) script.now left) }
+    ensures { IfOk result (λ yes. yes ≡ accepted_inner (spending_of job.now.tx.now job.now.input job.now.flags table.now) script.now left) }
 {
     if !push_only(script) {
         return Ok(false);
@@ -110,7 +110,7 @@ fn accepts_inner(
 }
 
 /// Whether the scripts accept, with the stack that the input script left.
-#[tactic(auto, unfolding(crate::specs::Step::accepted_on))]
+#[tactic(auto, unfolding(crate::specs::computed::Step::accepted_on))]
 fn accepts_on(
     alloc: Global,
     job: &Job,
@@ -119,7 +119,7 @@ fn accepts_on(
     left: Pile<Element>,
 ) -> Result<bool, Memory>
     requires { job.now.input < length job.now.tx.now.inputs }
-    ensures { IfOk result (λ yes. yes ≡ accepted_on (spending_of job.now.tx.now job.now.input table.now) script.now job.now.spent.now left) }
+    ensures { IfOk result (λ yes. yes ≡ accepted_on (spending_of job.now.tx.now job.now.input job.now.flags table.now) script.now job.now.spent.now left) }
 {
     if !is_p2sh(job.spent) {
         return runs_to_true(alloc, job, table, job.spent, left);
@@ -132,10 +132,10 @@ fn accepts_on(
 }
 
 /// Whether the scripts accept, with the input script.
-#[tactic(auto, unfolding(crate::specs::Step::accepted))]
+#[tactic(auto, unfolding(crate::specs::computed::Step::accepted))]
 fn accepts(alloc: Global, job: &Job, table: &Table, script: &[u8]) -> Result<bool, Memory>
     requires { job.now.input < length job.now.tx.now.inputs }
-    ensures { IfOk result (λ yes. yes ≡ accepted (spending_of job.now.tx.now job.now.input table.now) script.now job.now.spent.now) }
+    ensures { IfOk result (λ yes. yes ≡ accepted (spending_of job.now.tx.now job.now.input job.now.flags table.now) script.now job.now.spent.now) }
 {
     let Some(left) = run(alloc, job, table, script, Pile::new(alloc))? else {
         return Ok(false);

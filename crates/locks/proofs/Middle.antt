@@ -5,7 +5,7 @@ use Rattle.std.specs.List.Sorted.{IsPermutation, IsNonDecreasing}
 use Rattle.std.proofs.lemmas.List.Sorted.{sum_by-IsPermutation, IsPermutation-sym, Contains-permutation, length_permutation}
 use Rattle.std.proofs.lemmas.Bool.{le-leb, le-ltb, and_from, lt-ltb}
 use Rattle.locks.specs.MedianTime.{below, at_most, is_middle, IsMedian}
-use Rattle.locks.specs.Laws.{count_by-cons}
+use Rattle.locks.specs.laws.MedianTime.{count_by-cons}
 
 abbrev counted : Bool → ℕ
 counted b = cond b 1 0

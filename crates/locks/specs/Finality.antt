@@ -2,10 +2,11 @@
 use Rattle.std.specs.Prelude.{ℕ, ◌==◌, ◌||◌, Bool, nat_lt, if◌then◌else◌}
 use Rattle.std.specs.List.{list_all}
 use Rattle.txn.specs.declared.tx.Tx.{Tx}
+use Rattle.txn.specs.LockTime.{lock_time_threshold}
 
--- a lock time below 500,000,000 is a height, and else a time
+-- a lock time is a height or a time
 abbrev pub has_passed : ℕ → ℕ → ℕ → Bool
-has_passed lock_time height cutoff = if nat_lt lock_time 500000000 then nat_lt lock_time height else nat_lt lock_time cutoff
+has_passed lock_time height cutoff = if nat_lt lock_time lock_time_threshold then nat_lt lock_time height else nat_lt lock_time cutoff
 
 -- no lock time, or one that has passed, or one that no input asks for (Bitcoin Core's IsFinalTx)
 unfoldable pub is_final : Tx → ℕ → ℕ → Bool

@@ -1,4 +1,4 @@
 pub mod Finality
-pub mod Laws
 pub mod MedianTime
 pub mod Relative
+pub mod laws

@@ -2,10 +2,7 @@ ghost use Rattle.std.specs.Prelude.{◌≡◌, ◌==◌};
 ghost use Rattle.std.specs.List.{list_all};
 ghost use Rattle.locks.specs.Finality.{has_passed, is_final};
 
-use txn::{Tx, TxIn};
-
-/// A lock time below it is a height, and else seconds since 1970 (Bitcoin Core's `LOCKTIME_THRESHOLD`).
-pub const LOCKTIME_THRESHOLD: u32 = 500_000_000;
+use txn::{LOCKTIME_THRESHOLD, Tx, TxIn};
 
 /// The sequence number of an input that asks for no lock time (Bitcoin Core's `SEQUENCE_FINAL`).
 pub const SEQUENCE_FINAL: u32 = 0xffff_ffff;

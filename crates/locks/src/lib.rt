@@ -6,7 +6,7 @@ pub mod laws;
 mod median_time;
 mod relative;
 
-pub use finality::{LOCKTIME_THRESHOLD, SEQUENCE_FINAL, is_final};
+pub use finality::{SEQUENCE_FINAL, is_final};
 pub use median_time::{MEDIAN_TIME_SPAN, median};
 pub use relative::{Place, relative_ok};
 

@@ -9,7 +9,7 @@ use Rattle.node.specs.declared.entry.Entry.{Entry}
 use Rattle.node.specs.History.{left, state_after, Legal, Answers, own_of, entry}
 use Rattle.node.specs.Early.{Chain, early, opening, step, says}
 use Rattle.node.specs.Pass.{Pass, IsLater, Wrote}
-use Rattle.node.specs.Laws.{state_after-append, legal_push, own_of-append, own_of-one}
+use Rattle.node.specs.laws.History.{state_after-append, legal_push, own_of-append, own_of-one}
 
 -- what holds after a submission's step
 pub record Taken (seats : ℕ) (journal : List Entry) (next : Chain) : Type 0 where

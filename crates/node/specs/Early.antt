@@ -14,8 +14,8 @@ use Rattle.block.specs.Identity.{id_of}
 use Rattle.block.specs.Decoding.{decoded}
 use Rattle.block.specs.Reward.{subsidy_of}
 use Rattle.rules.specs.Alone.{alone_rules}
-use Rattle.rules.specs.Context.{header_rules, block_rules}
-use Rattle.rules.specs.InForce.{all}
+use Rattle.rules.specs.Context.{header_rules, place_rules}
+use Rattle.rules.specs.Params.{at, regtest}
 use Rattle.node.specs.declared.command.Command.{Command}
 use Rattle.node.specs.declared.command.Command.TheVariants as command
 use Rattle.node.specs.declared.reply.Reply.{Reply}
@@ -50,11 +50,11 @@ has_coinbase chain id = list_any (λ block. same_id block.coinbase id) chain.kep
 
 -- the parent is the tip, whose time stands for the median time past
 abbrev pub header_fits : Chain → ℕ → Header → Bool
-header_fits chain now h = same_id h.prev chain.tip.id && is_none (first_broken (header_rules all h chain.tip.time now))
+header_fits chain now h = same_id h.prev chain.tip.id && is_none (first_broken (header_rules (at regtest (length chain.kept)) h chain.tip.time now))
 
 -- the rules of its height
 abbrev pub place_fits : Chain → Block → Bool
-place_fits chain b = is_none (first_broken (block_rules all b (length chain.kept) chain.tip.time))
+place_fits chain b = is_none (first_broken (place_rules (at regtest (length chain.kept)) b (length chain.kept) chain.tip.time))
 
 -- one output, that pays at most the subsidy
 abbrev pub output_fits : ℕ → List TxOut → Bool

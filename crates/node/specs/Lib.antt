@@ -1,8 +1,8 @@
 pub mod Calls
 pub mod Early
 pub mod History
-pub mod Laws
 pub mod Machine
 pub mod Opening
 pub mod Pass
 pub mod Verdict
+pub mod laws

@@ -6,7 +6,7 @@ ghost use Rattle.node.specs.Verdict.{Judges, extended};
 
 use block::{Block, GENESIS_ID, GENESIS_ROOT, GENESIS_TIME, Header, ReadFault, subsidy};
 use hash::Id;
-use rules::{block_alone, block_context, header_context};
+use rules::{Params, block_alone, block_context, header_context};
 use std::alloc::Global;
 use std::marker::Model;
 use txn::{Reason, Tx, TxOut};
@@ -77,7 +77,7 @@ impl Early {
     pub fn judge(&self, alloc: Global, bytes: &[u8], now: u64) -> Result<Verdict, Memory>
         ensures { IfOk result (λ verdict. Judges verdict self.now bytes.now now) }
     {
-        let block = match block::read(bytes, alloc) {
+        let block = match block::read(alloc, bytes) {
             Ok(block) => block,
             Err(ReadFault::Memory) => return Err(Memory),
             Err(_) => return Ok(Verdict::DecodeFailed),
@@ -89,7 +89,7 @@ impl Early {
         if self.kept.len() >= MAX_BLOCKS {
             return Ok(Verdict::TreeFull);
         }
-        if let Some(reason) = block_alone(&block, alloc)? {
+        if let Some(reason) = block_alone(alloc, &block)? {
             return Ok(Verdict::Rejected(reason));
         }
         if !self.is_plain(&block, now) {
@@ -146,16 +146,19 @@ impl Early {
     }
 
     fn header_fits(&self, header: &Header, now: u64) -> bool
+        requires { length self.now.kept < 1000000 }
         ensures { result ≡ header_fits self.now now header.now }
     {
-        header.prev == self.tip.id && header_context(header, self.tip.time, now).is_none()
+        let height = self.height();
+        header.prev == self.tip.id
+            && header_context(header, height, self.tip.time, now, &Params::regtest()).is_none()
     }
 
     fn place_fits(&self, block: &Block) -> bool
         requires { length self.now.kept < 1000000 }
         ensures { result ≡ place_fits self.now block.now }
     {
-        block_context(block, self.height(), self.tip.time).is_none()
+        block_context(block, self.height(), self.tip.time, &Params::regtest()).is_none()
     }
 }
 

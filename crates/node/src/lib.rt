@@ -8,7 +8,6 @@ mod fault;
 mod history;
 pub mod laws;
 mod node;
-mod params;
 mod reply;
 mod seat;
 
@@ -16,8 +15,8 @@ pub use command::{Bytes, Command};
 pub use entry::Entry;
 pub use fault::{Fault, OpenFault};
 pub use node::Node;
-pub use params::Params;
 pub use reply::{MarkReply, Reply, SubmitReply};
+pub use rules::Params;
 pub use seat::{Seat, Stamped};
 
 #[cfg(test)]

@@ -1,6 +1,7 @@
 //! The node: what the seats share.
 
 ghost use Rattle.std.specs.Prelude.{◌≡◌, ℕ, ◌≤◌, [], ◌∷◌, IfOk, IfErr, Some, slice_get};
+ghost use Rattle.rules.specs.Params.{regtest};
 ghost use Rattle.node.specs.Early.{early};
 ghost use Rattle.node.specs.History.{Legal};
 ghost use Rattle.node.specs.Pass.{Pass, IsStanding, fresh, fresh_seats};
@@ -10,8 +11,8 @@ ghost use Rattle.node.specs.declared.fault.Fault.TheVariants as faults;
 use crate::entry::Entry;
 use crate::fault::{Fault, OpenFault};
 use crate::history::History;
-use crate::params::Params;
 use crate::seat::Seat;
+use rules::Params;
 use std::alloc::Global;
 use std::marker::Model;
 use wire::Memory;
@@ -35,13 +36,14 @@ impl Model for Node {
 }
 
 impl Node {
-    /// A node and its seats, numbered from 0. This version has one seat.
+    /// A node and its seats, numbered from 0. This version has one seat, and the heights of regtest.
     pub fn open(
         alloc: Global,
-        _params: Params,
+        params: Params,
         workers: usize,
         seats: usize,
     ) -> Result<(Node, Vec<Seat>), OpenFault>
+        requires { params ≡ regtest }
         ensures opened { IfOk result (λ r. (1 ≤ workers) × (workers ≤ 16) × (seats ≡ 1) × (r.0 ≡ seats) × (r.1.items ≡ fresh_seats seats seats)) }
         ensures refused { IfErr result (λ fault. Refused workers seats fault) }
     {

@@ -75,7 +75,7 @@ fn one_seat(rt: HostRuntime) -> Result<(), Fail> {
 /// The same block, with the lowest nonce that misses the target.
 #[test]
 fn work_that_is_missing(rt: HostRuntime) -> Result<(), Fail> {
-    let mut block = block::read(FIRST, rt.alloc())?;
+    let mut block = block::read(rt.alloc(), FIRST)?;
     for nonce in 0..=u32::MAX {
         block.header.nonce = nonce;
         if !meets_target(&block.id()) {

@@ -1,8 +1,8 @@
 //! The program that users run.
 #![tactic(auto)]
 
-pub use scenario::program;
-use scenario::words;
+pub use program::program;
+use program::words;
 use std::process::ExitCode;
 
 fn main(rt: HostRuntime) -> ExitCode {

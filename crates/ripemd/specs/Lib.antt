@@ -3,4 +3,4 @@ pub mod Block
 pub mod Ripemd160
 pub mod Hasher
 pub mod Inside
-pub mod Laws
+pub mod laws

@@ -1,7 +1,7 @@
 //! The command line.
 
 use crate::play::{expect_fault, play};
-use scenario::words;
+use program::words;
 use std::fs;
 use std::test::Fail;
 

@@ -97,17 +97,19 @@ fn each_reason(rt: HostRuntime) {
 }
 
 /// A header that misses the target: that is looked at before its transactions. Another program found the
-/// nonces of `b1` that meet the target; 3 is none of them.
+/// nonces of `b1` and `b2` that meet the target; 3 is none of them.
 #[test]
 fn work_is_missed(rt: HostRuntime) {
     expect_output(
         &rt,
-        b"block b1 genesis nonce=3\nblock b2 genesis nonce=3 cb=none\nclient a\nsubmit b1\nbest\n",
+        b"block b1 genesis nonce=3\nblock b2 genesis nonce=3 cb=none\nclient a\nsubmit b1\nsubmit b2\nbest\n",
         "client a\n\
          submit b1 = high-hash @1\n\
-         best = genesis @1\n\
+         submit b2 = high-hash @2\n\
+         best = genesis @2\n\
          journal\n\
-         1 a submit b1 1296688602 = high-hash\n",
+         1 a submit b1 1296688602 = high-hash\n\
+         2 a submit b2 1296688602 = high-hash\n",
     );
 }
 

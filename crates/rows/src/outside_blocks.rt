@@ -15,6 +15,10 @@ const FIRST_ID: &str = "2405fee2b5db4a6c607abb4c3cde55d59d28f53158f341cc789bacc9
 const LATER: &str =
     "040000005fee918f4466d2f1efc4d4446bd7058377cd39ef110e80cb8e935a68fcb648701889711932165f9d1888f8f0bbb100acc83fdb0ca2799b494e77e3e9b3bd13875ae6494dffff7f20000000000101000000010000000000000000000000000000000000000000000000000000000000000000ffffffff080280000463313238ffffffff0100f2052a01000000015100000000";
 
+/// The genesis block.
+const GENESIS: &str =
+    "0100000000000000000000000000000000000000000000000000000000000000000000003ba3edfd7a7b12b27ac72c3e67768f617fc81bc3888a51323a9fb8aa4b1e5e4adae5494dffff7f20020000000101000000010000000000000000000000000000000000000000000000000000000000000000ffffffff4d04ffff001d0104455468652054696d65732030332f4a616e2f32303039204368616e63656c6c6f72206f6e206272696e6b206f66207365636f6e64206261696c6f757420666f722062616e6b73ffffffff0100f2052a01000000434104678afdb0fe5548271967f1a67130b7105cd6a828e03909a67962e0ea1f61deb649f6bc3f4cef38c4f35504e51ec112de5c384df7ba0b8d578a4c702b6bf11d5fac00000000";
+
 #[test]
 fn a_block_that_has_no_name(rt: HostRuntime) -> Result<(), Fail> {
     let text = format!(in rt.alloc(); "client a\nraw {FIRST}\nbest\n")?;
@@ -72,4 +76,15 @@ fn long_chain_output(alloc: Global) -> Result<String, AllocError> {
         write!(output, "{place} a submit c{place} 1296688602 = accepted\n")?;
     }
     Ok(output)
+}
+
+/// The genesis block and one byte more: a row that would show a fault of the bytes told as want of memory.
+#[test]
+fn genesis_and_one_byte_more(rt: HostRuntime) -> Result<(), Fail> {
+    let text = format!(in rt.alloc(); "client a\nraw {GENESIS}00\nraw {GENESIS}\n")?;
+    let expected = format!(in rt.alloc();
+        "client a\nraw {GENESIS}00 = decode-failed @0\nraw {GENESIS} = duplicate @1\njournal\n1 a submit genesis 1296688602 = duplicate\n"
+    )?;
+    expect_output(&rt, text.as_bytes(), expected.as_str());
+    Ok(())
 }

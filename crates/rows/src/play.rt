@@ -1,6 +1,6 @@
 //! The program on given words and a given standard input.
 
-use scenario::program;
+use program::program;
 use std::process::Abort;
 use std::rt::Files;
 

@@ -78,7 +78,7 @@ const TRANSACTIONS: [Case; 22] = [
 ];
 
 /// What is no option of a block, and what is no transaction of it.
-const OPTIONS: [Case; 18] = [
+const OPTIONS: [Case; 20] = [
     Case(b"block b1 genesis size=5\nclient a\n", 1),
     Case(b"block b1 genesis time\nclient a\n", 1),
     Case(b"block b1 genesis time=\nclient a\n", 1),
@@ -93,6 +93,8 @@ const OPTIONS: [Case; 18] = [
     Case(b"block b1 genesis cb=51 cb=none\nclient a\n", 1),
     Case(b"block b1 genesis cb=none cb=none\nclient a\n", 1),
     Case(b"block b1 genesis pay=none\nclient a\n", 1),
+    Case(b"block b1 genesis pay=\nclient a\n", 1),
+    Case(b"block b1 genesis cb=\nclient a\n", 1),
     Case(b"block b1 genesis A\ntx A 1 0\nclient a\n", 1),
     Case(
         b"block b1 genesis cb=none\nblock b2 b1 b1.cb\nclient a\n",

@@ -2,20 +2,48 @@
 
 use curve::Table;
 use hash::{Id, hash160};
-use interp::{Job, verify};
+use interp::{Flags, Job, verify};
 use std::alloc::Global;
 use std::process::Abort;
 use std::test::Fail;
 use txn::{Inputs, OutPoint, Outputs, Script, Tx, TxIn, TxOut};
 
-/// What a transaction says of its locks: version, lock time, and the sequence of the input.
-struct Locks(i32, u32, u32);
+/// What a script runs with: what the transaction says of its locks, and the rules that are in force.
+#[derive(Drop)]
+struct Setting {
+    version: i32,
+    lock_time: u32,
+    sequence: u32,
+    flags: Flags,
+}
 
-/// A transaction without a lock.
-const PLAIN: Locks = Locks(1, 0, 0);
+/// A transaction without a lock, with all rules in force.
+const PLAIN: Setting = Setting {
+    version: 1,
+    lock_time: 0,
+    sequence: 0,
+    flags: Flags::ALL,
+};
+
+impl Setting {
+    /// A transaction without a lock.
+    fn under(flags: Flags) -> Setting {
+        Setting { flags, ..PLAIN }
+    }
+
+    /// A transaction with locks, and all rules in force.
+    fn locked(version: i32, lock_time: u32, sequence: u32) -> Setting {
+        Setting {
+            version,
+            lock_time,
+            sequence,
+            ..PLAIN
+        }
+    }
+}
 
 /// A transaction of two inputs and one output, whose second input has this script.
-fn spender(alloc: Global, locks: &Locks, script: Vec<u8>) -> Result<Tx, Fail> {
+fn spender(alloc: Global, setting: &Setting, script: Vec<u8>) -> Result<Tx, Fail> {
     let mut inputs = Vec::new(alloc);
     for script in [Vec::new(alloc), script] {
         let prev = OutPoint {
@@ -25,7 +53,7 @@ fn spender(alloc: Global, locks: &Locks, script: Vec<u8>) -> Result<Tx, Fail> {
         inputs.push(TxIn {
             prev,
             script: Script::from_vec(script),
-            sequence: locks.2,
+            sequence: setting.sequence,
         })?;
     }
     let mut outputs = Vec::new(alloc);
@@ -34,41 +62,42 @@ fn spender(alloc: Global, locks: &Locks, script: Vec<u8>) -> Result<Tx, Fail> {
         script: Script::from_vec(Vec::new(alloc)),
     })?;
     Ok(Tx {
-        version: locks.0,
+        version: setting.version,
         inputs: Inputs::from_vec(inputs),
         outputs: Outputs::from_vec(outputs),
-        lock_time: locks.1,
+        lock_time: setting.lock_time,
     })
 }
 
 /// Whether the second input of such a transaction is accepted.
 fn is_accepted<R: AllocGlobal + Abort>(
     rt: &R,
-    locks: &Locks,
+    setting: &Setting,
     script: Vec<u8>,
     spent: &[u8],
     table: &Table,
 ) -> Result<bool, Fail> {
-    let tx = spender(rt.alloc(), locks, script)?;
+    let tx = spender(rt.alloc(), setting, script)?;
     assert_eq!(rt; tx.inputs.len(), 2);
     let job = Job {
         tx: &tx,
         input: 1,
         spent,
+        flags: setting.flags,
     };
-    Ok(verify(&job, table, rt.alloc())?)
+    Ok(verify(rt.alloc(), &job, table)?)
 }
 
 /// Scripts in hexadecimal that are spent with an empty input script and no signature, and whether they are accepted.
 fn expect_all<R: AllocGlobal + Abort>(
     rt: &R,
-    locks: &Locks,
+    setting: &Setting,
     rows: &[(&str, bool)],
 ) -> Result<(), Fail> {
     let table = Table::new(rt.alloc());
     for (digits, expected) in rows {
         let spent = hex::decode(rt.alloc(), *digits)?;
-        let accepted = is_accepted(rt, locks, Vec::new(rt.alloc()), spent.as_slice(), &table)?;
+        let accepted = is_accepted(rt, setting, Vec::new(rt.alloc()), spent.as_slice(), &table)?;
         assert_eq!(rt; accepted, *expected, "{digits}");
     }
     Ok(())
@@ -213,9 +242,13 @@ const LOCK_TIMES: [(&str, bool); 5] = [
 
 #[test]
 fn lock_times(rt: HostRuntime) -> Result<(), Fail> {
-    expect_all(&rt, &Locks(1, 100, 0), &LOCK_TIMES)?;
+    expect_all(&rt, &Setting::locked(1, 100, 0), &LOCK_TIMES)?;
     for (digits, _) in LOCK_TIMES {
-        expect_all(&rt, &Locks(1, 100, 0xffff_ffff), &[(digits, false)])?;
+        expect_all(
+            &rt,
+            &Setting::locked(1, 100, 0xffff_ffff),
+            &[(digits, false)],
+        )?;
     }
     Ok(())
 }
@@ -230,11 +263,47 @@ const RELATIVE_LOCKS: [(&str, bool); 5] = [
 
 #[test]
 fn relative_locks(rt: HostRuntime) -> Result<(), Fail> {
-    expect_all(&rt, &Locks(2, 0, 3), &RELATIVE_LOCKS)?;
+    expect_all(&rt, &Setting::locked(2, 0, 3), &RELATIVE_LOCKS)?;
     expect_all(
         &rt,
-        &Locks(1, 0, 3),
+        &Setting::locked(1, 0, 3),
         &[("53b2", false), ("050000008000b2", true)],
     )?;
-    expect_all(&rt, &Locks(-1, 0, 3), &[("53b2", true)])
+    expect_all(&rt, &Setting::locked(-1, 0, 3), &[("53b2", true)])
+}
+
+/// A false signature check, negated; a negative lock time; a negative sequence.
+const BY_FLAGS: [&str; 3] = ["5151ac91", "4fb1", "4fb2"];
+
+/// Whether these scripts are accepted under some flags.
+fn expect_by_flags<R: AllocGlobal + Abort>(
+    rt: &R,
+    flags: Flags,
+    expected: [bool; 3],
+) -> Result<(), Fail> {
+    let [signature, lock_time, sequence] = BY_FLAGS;
+    let [dersig, cltv, csv] = expected;
+    let rows = [(signature, dersig), (lock_time, cltv), (sequence, csv)];
+    expect_all(rt, &Setting::under(flags), &rows)
+}
+
+#[test]
+fn rules_in_force(rt: HostRuntime) -> Result<(), Fail> {
+    expect_by_flags(&rt, Flags::NONE, [true, true, true])?;
+    expect_by_flags(&rt, Flags::ALL, [false, false, false])?;
+    let dersig = Flags {
+        dersig: true,
+        ..Flags::NONE
+    };
+    expect_by_flags(&rt, dersig, [false, true, true])?;
+    let cltv = Flags {
+        cltv: true,
+        ..Flags::NONE
+    };
+    expect_by_flags(&rt, cltv, [true, false, true])?;
+    let csv = Flags {
+        csv: true,
+        ..Flags::NONE
+    };
+    expect_by_flags(&rt, csv, [true, true, false])
 }

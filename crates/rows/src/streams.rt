@@ -1,6 +1,6 @@
 //! Standard streams that fail.
 
-use scenario::program;
+use program::program;
 use std::io;
 use std::io::{ErrorKind, Read, Write};
 

@@ -6,7 +6,8 @@ use Rattle.std.specs.Option.{option_or}
 use Rattle.txn.specs.declared.reason.Reason.{Reason}
 use Rattle.txn.specs.declared.tx.Tx.{Tx}
 use Rattle.txn.specs.Check.{tx_rules}
-use Rattle.txn.specs.First.{Rules, first_broken, first_of_both}
+use Rattle.txn.specs.First.{Rules, first_broken}
+use Rattle.txn.specs.laws.First.{first_of_both}
 
 -- the transaction at a place begins the rest
 drop_item : (txs : List Tx) (i : ℕ) (tx : Tx) → i < length txs → tx ≡ get_or txs i tx → drop i txs ≡ tx ∷ drop (i + 1) txs

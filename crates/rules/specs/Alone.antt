@@ -1,5 +1,5 @@
 -- The rules that a block obeys by itself (Bitcoin Core's `CheckBlock`).
-use Rattle.std.specs.Prelude.{ℕ, ◌+◌, ◌==◌, ◌||◌, Bool, false, not, nat_lt, List, [], ◌∷◌, ◌++◌, length, drop, map, sum_by}
+use Rattle.std.specs.Prelude.{ℕ, ◌+◌, ◌==◌, ◌||◌, Bool, false, not, nat_lt, List, [], ◌∷◌, ◌++◌, length, drop, sum_by}
 use Rattle.std.specs.List.{list_any, flat_map}
 use Rattle.script.specs.Signatures.{sigops}
 use Rattle.script.specs.declared.signatures.Counting.TheVariants.{Plain}
@@ -8,20 +8,19 @@ use Rattle.txn.specs.declared.reason.Reason.TheVariants.{HighHash, BadMerkleRoot
 use Rattle.txn.specs.Check.{is_coinbase, tx_rules}
 use Rattle.txn.specs.First.{Rules}
 use Rattle.txn.specs.Identity as txn
-use Rattle.block.specs.declared.header.Header.{Header}
 use Rattle.block.specs.declared.block.Block.{Block}
-use Rattle.block.specs.Grammar as grammar
 use Rattle.block.specs.Identity.{id_of}
 use Rattle.block.specs.Merkle.{root, same_id, twin}
-use Rattle.block.specs.Target.{number_of, target}
+use Rattle.block.specs.Size.{size_of}
+use Rattle.block.specs.Target.{meets_target}
 
--- its id is above the target
-unfoldable pub misses_target : Header → Bool
-misses_target header = nat_lt target (number_of (id_of header))
+-- the most bytes of a block (`MAX_BLOCK_BASE_SIZE`, as before segregated witness)
+abbrev pub max_block_size : ℕ
+max_block_size = 1000000
 
--- the bytes of its spelling
-unfoldable pub size_of : Block → ℕ
-size_of b = length (grammar.block.spell b)
+-- the most signature operations in the scripts of a block (`MAX_BLOCK_SIGOPS`)
+abbrev pub max_block_sigops : ℕ
+max_block_sigops = 20000
 
 abbrev pub begins_with_coinbase : List Tx → Bool
 begins_with_coinbase [] = false
@@ -34,12 +33,12 @@ tx_sigops tx = sum_by (λ input. sigops Plain input.script) tx.inputs + sum_by (
 -- of a block
 unfoldable pub alone_rules : Block → Rules
 alone_rules b =
-    (misses_target b.header, HighHash)
+    (not (meets_target (id_of b.header)), HighHash)
     ∷ (not (same_id b.header.root (root (txn.ids_of b.txs))), BadMerkleRoot)
     ∷ (twin (txn.ids_of b.txs), DuplicateTransactions)
-    ∷ ((length b.txs == 0) || nat_lt 1000000 (size_of b), BadBlockLength)
+    ∷ ((length b.txs == 0) || nat_lt max_block_size (size_of b), BadBlockLength)
     ∷ (not (begins_with_coinbase b.txs), CoinbaseMissing)
     ∷ (list_any is_coinbase (drop 1 b.txs), CoinbaseMultiple)
     ∷ flat_map tx_rules b.txs
-    ++ (nat_lt 20000 (sum_by tx_sigops b.txs), TooManySigops)
+    ++ (nat_lt max_block_sigops (sum_by tx_sigops b.txs), TooManySigops)
     ∷ []

@@ -12,12 +12,20 @@ use Rattle.txn.specs.First.{Rules}
 use Rattle.rules.specs.Height.{height_push}
 use Rattle.rules.specs.InForce.{is_outdated}
 
+-- regtest's target, in its compact form
+abbrev pub regtest_bits : ℕ
+regtest_bits = 0x207fffff
+
+-- by how many seconds a header's time may be above the clock's (`MAX_FUTURE_BLOCK_TIME`)
+abbrev pub max_future_block_time : ℕ
+max_future_block_time = 7200
+
 -- of a header, where the cutoff is its parent's median time past
 abbrev pub header_rules : InForce → Header → ℕ → ℕ → Rules
 header_rules rules header cutoff now =
-    (not (header.bits == 0x207fffff), WrongBits)
+    (not (header.bits == regtest_bits), WrongBits)
     ∷ (nat_le header.time cutoff, TimeTooOld)
-    ∷ (nat_lt (now + 7200) header.time, TimeTooNew)
+    ∷ (nat_lt (now + max_future_block_time) header.time, TimeTooNew)
     ∷ (is_outdated rules header.version, BadVersion)
     ∷ []
 
@@ -27,8 +35,8 @@ coinbase_script [] = []
 coinbase_script (coinbase ∷ txs) = first_script coinbase.inputs
 
 -- of the transactions of a block at a height
-abbrev pub block_rules : InForce → Block → ℕ → ℕ → Rules
-block_rules rules block height cutoff =
+abbrev pub place_rules : InForce → Block → ℕ → ℕ → Rules
+place_rules rules block height cutoff =
     (not (list_all (λ tx. is_final tx height cutoff) block.txs), NonFinal)
     ∷ (rules.bip34 && not (starts_with (λ x y. x == y) (coinbase_script block.txs) (height_push height)), CoinbaseHeight)
     ∷ []

@@ -1,10 +1,6 @@
 -- The rules that came with soft forks.
-use Rattle.std.specs.Prelude.{Bool, true, ◌&&◌, ◌||◌, ℤ, pos, int_lt}
+use Rattle.std.specs.Prelude.{Bool, ◌&&◌, ◌||◌, ℤ, pos, int_lt}
 use Rattle.rules.specs.declared.in_force.InForce.{InForce}
-
--- those in force for every block after genesis
-abbrev pub all : InForce
-all = record { bip34 = true; bip65 = true; bip66 = true }
 
 -- below version 2, which came with BIP 34, below 3, with BIP 66, or below 4, with BIP 65
 abbrev pub is_outdated : InForce → ℤ → Bool

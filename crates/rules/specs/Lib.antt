@@ -2,3 +2,4 @@ pub mod Alone
 pub mod Context
 pub mod Height
 pub mod InForce
+pub mod Params

@@ -4,38 +4,56 @@ ghost use Rattle.std.specs.Prelude.{◌≡◌, ◌==◌, ◌||◌, ◌++◌, ◌
 ghost use Rattle.std.specs.List.{list_any, flat_map};
 ghost use Rattle.txn.specs.Check.{is_coinbase, tx_rules};
 ghost use Rattle.txn.specs.First.{first_broken};
+ghost use Rattle.txn.specs.Identity.{ids_of};
 ghost use Rattle.txn.specs.declared.reason.Reason.TheVariants as reason;
-ghost use Rattle.rules.specs.Alone.{misses_target, size_of, begins_with_coinbase, tx_sigops, alone_rules};
+ghost use Rattle.block.specs.Size.{size_of};
+ghost use Rattle.rules.specs.Alone.{max_block_size, max_block_sigops, begins_with_coinbase, tx_sigops, alone_rules};
 
 use crate::sigops::txs_sigops;
-use block::{Block, Header, meets_target, merkle};
+use block::{Block, meets_target, merkle, size};
+use hash::Id;
 use std::alloc::Global;
 use txn::{Reason, Tx, check, ids};
 use wire::Memory;
 
 /// The most bytes of a block (Bitcoin Core's `MAX_BLOCK_BASE_SIZE`, as before segregated witness).
-pub const MAX_BLOCK_SIZE: usize = 1_000_000;
+pub const MAX_BLOCK_SIZE: u64 = 1_000_000;
 
 /// The most signature operations in the scripts of a block (Bitcoin Core's `MAX_BLOCK_SIGOPS`).
 pub const MAX_BLOCK_SIGOPS: u32 = 20_000;
 
 /// The first rule that a block breaks by itself (Bitcoin Core's `CheckBlock`).
 #[tactic(auto, unfolding(crate::specs::Alone::alone_rules))]
-pub fn block_alone(block: &Block, alloc: Global) -> Result<Option<Reason>, Memory>
+pub fn block_alone(alloc: Global, block: &Block) -> Result<Option<Reason>, Memory>
     ensures { IfOk result (λ found. found ≡ first_broken (alone_rules block.now)) }
 {
-    if misses_target(&block.header) {
+    // Of a block without work no transaction is hashed.
+    let has_work = meets_target(&block.id());
+    if !has_work {
+        return Ok(Some(Reason::HighHash));
+    }
+    let ids = ids(alloc, block.txs.as_slice())?;
+    block_alone_with(alloc, block, &ids)
+}
+
+/// The same with the ids of its transactions, got before by [`txn::ids`], so that each is hashed once.
+#[tactic(auto, unfolding(crate::specs::Alone::alone_rules))]
+pub fn block_alone_with(alloc: Global, block: &Block, ids: &[Id]) -> Result<Option<Reason>, Memory>
+    requires { ids.now ≡ ids_of block.now.txs }
+    ensures { IfOk result (λ found. found ≡ first_broken (alone_rules block.now)) }
+{
+    if !meets_target(&block.id()) {
         return Ok(Some(Reason::HighHash));
     }
     let txs = block.txs.as_slice();
-    let (root, twin) = merkle(ids(txs, alloc)?.as_slice(), alloc)?;
+    let (root, twin) = merkle(alloc, ids)?;
     if block.header.root != root {
         return Ok(Some(Reason::BadMerkleRoot));
     }
     if twin {
         return Ok(Some(Reason::DuplicateTransactions));
     }
-    if has_bad_length(block, alloc)? {
+    if has_bad_length(block) {
         return Ok(Some(Reason::BadBlockLength));
     }
     if !begins_with_coinbase(txs) {
@@ -44,42 +62,21 @@ pub fn block_alone(block: &Block, alloc: Global) -> Result<Option<Reason>, Memor
     if has_later_coinbase(txs) {
         return Ok(Some(Reason::CoinbaseMultiple));
     }
-    broken_within(txs, alloc)
-}
-
-/// Whether its id is above the target.
-#[tactic(auto, unfolding(crate::specs::Alone::misses_target))]
-fn misses_target(header: &Header) -> bool
-    ensures { result ≡ misses_target header.now }
-{
-    !meets_target(&header.id())
+    broken_within(alloc, txs)
 }
 
 /// Whether it has no transaction, or too many bytes.
-fn has_bad_length(block: &Block, alloc: Global) -> Result<bool, Memory>
-    ensures { IfOk result (λ bad. bad ≡ ((length block.now.txs == 0) || nat_lt 1000000 (size_of block.now))) }
+fn has_bad_length(block: &Block) -> bool
+    ensures { result ≡ ((length block.now.txs == 0) || nat_lt max_block_size (size_of block.now)) }
 {
-    if block.txs.is_empty() {
-        return Ok(true);
-    }
-    Ok(size(block, alloc)? > MAX_BLOCK_SIZE)
-}
-
-/// The bytes of its spelling, which is written for it.
-#[tactic(auto, unfolding(crate::specs::Alone::size_of))]
-fn size(block: &Block, alloc: Global) -> Result<usize, Memory>
-    ensures { IfOk result (λ size. size ≡ size_of block.now) }
-{
-    let mut bytes = Vec::new(alloc);
-    block::write(block, &mut bytes)?;
-    Ok(bytes.len())
+    block.txs.is_empty() || size(block) > MAX_BLOCK_SIZE
 }
 
 fn begins_with_coinbase(txs: &[Tx]) -> bool
     ensures { result ≡ begins_with_coinbase txs.now }
 {
     match txs.first() {
-        Some(tx) => is_coinbase(tx),
+        Some(tx) => tx.is_coinbase(),
         None => false,
     }
 }
@@ -94,20 +91,14 @@ fn has_later_coinbase(txs: &[Tx]) -> bool
 fn has_coinbase(txs: &[Tx]) -> bool
     ensures { result ≡ list_any is_coinbase txs.now }
 {
-    txs.iter().any(|tx| is_coinbase(tx))
-}
-
-fn is_coinbase(tx: &Tx) -> bool
-    ensures { result ≡ is_coinbase tx.now }
-{
-    tx.is_coinbase()
+    txs.iter().any(|tx| tx.is_coinbase())
 }
 
 /// The first rule that its transactions break, one by one and then all together.
-fn broken_within(txs: &[Tx], alloc: Global) -> Result<Option<Reason>, Memory>
-    ensures { IfOk result (λ found. found ≡ first_broken (flat_map tx_rules txs.now ++ (nat_lt 20000 (sum_by tx_sigops txs.now), reason.TooManySigops) ∷ [])) }
+fn broken_within(alloc: Global, txs: &[Tx]) -> Result<Option<Reason>, Memory>
+    ensures { IfOk result (λ found. found ≡ first_broken (flat_map tx_rules txs.now ++ (nat_lt max_block_sigops (sum_by tx_sigops txs.now), reason.TooManySigops) ∷ [])) }
 {
-    if let Some(reason) = broken_tx(txs, alloc)? {
+    if let Some(reason) = broken_tx(alloc, txs)? {
         return Ok(Some(reason));
     }
     if has_many_sigops(txs) {
@@ -117,11 +108,11 @@ fn broken_within(txs: &[Tx], alloc: Global) -> Result<Option<Reason>, Memory>
 }
 
 /// The first rule that a transaction breaks by itself.
-fn broken_tx(txs: &[Tx], alloc: Global) -> Result<Option<Reason>, Memory>
+fn broken_tx(alloc: Global, txs: &[Tx]) -> Result<Option<Reason>, Memory>
     ensures { IfOk result (λ found. found ≡ first_broken (flat_map tx_rules txs.now)) }
 {
     for tx in txs {
-        if let Some(reason) = check(tx, alloc)? {
+        if let Some(reason) = check(alloc, tx)? {
             return Ok(Some(reason));
         }
     }
@@ -129,7 +120,7 @@ fn broken_tx(txs: &[Tx], alloc: Global) -> Result<Option<Reason>, Memory>
 }
 
 fn has_many_sigops(txs: &[Tx]) -> bool
-    ensures { result ≡ nat_lt 20000 (sum_by tx_sigops txs.now) }
+    ensures { result ≡ nat_lt max_block_sigops (sum_by tx_sigops txs.now) }
 {
     txs_sigops(txs) > u128::from(MAX_BLOCK_SIGOPS)
 }

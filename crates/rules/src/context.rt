@@ -2,11 +2,11 @@ ghost use Rattle.std.specs.Prelude.{◌≡◌, ◌+◌, nat_lt};
 ghost use Rattle.std.specs.List.{list_all};
 ghost use Rattle.locks.specs.Finality.{is_final};
 ghost use Rattle.txn.specs.First.{first_broken};
-ghost use Rattle.rules.specs.InForce.{all};
-ghost use Rattle.rules.specs.Context.{header_rules, block_rules, coinbase_script};
+ghost use Rattle.rules.specs.Params.{at};
+ghost use Rattle.rules.specs.Context.{max_future_block_time, header_rules, place_rules, coinbase_script};
 
 use crate::height::begins_with_height;
-use crate::in_force::InForce;
+use crate::params::Params;
 use block::{Block, Header};
 use locks::is_final;
 use txn::{Reason, Tx};
@@ -20,9 +20,15 @@ pub const MAX_FUTURE_BLOCK_TIME: u64 = 7200;
 /// The first rule that a header breaks by its place (Bitcoin Core's `ContextualCheckBlockHeader`).
 ///
 /// The cutoff is the median time past of its parent; `now` is the time of the clock; both and the header's
-/// time are in seconds since 1970.
-pub fn header_context(header: &Header, cutoff: u32, now: u64) -> Option<Reason>
-    ensures { result ≡ first_broken (header_rules all header.now cutoff now) }
+/// time are in seconds since 1970. The rules on versions are those of the height.
+pub fn header_context(
+    header: &Header,
+    height: u32,
+    cutoff: u32,
+    now: u64,
+    params: &Params,
+) -> Option<Reason>
+    ensures { result ≡ first_broken (header_rules (at params.now height) header.now cutoff now) }
 {
     if header.bits != REGTEST_BITS {
         return Some(Reason::WrongBits);
@@ -33,7 +39,7 @@ pub fn header_context(header: &Header, cutoff: u32, now: u64) -> Option<Reason>
     if is_too_new(header.time, now) {
         return Some(Reason::TimeTooNew);
     }
-    if InForce::ALL.is_outdated(header.version) {
+    if params.at(height).is_outdated(header.version) {
         return Some(Reason::BadVersion);
     }
     None
@@ -41,22 +47,23 @@ pub fn header_context(header: &Header, cutoff: u32, now: u64) -> Option<Reason>
 
 /// Whether a time lies too far ahead of the clock. No time of a header is near the bound at which the sum stops.
 fn is_too_new(time: u32, now: u64) -> bool
-    ensures { result ≡ nat_lt (now + 7200) time }
+    ensures { result ≡ nat_lt (now + max_future_block_time) time }
 {
     now.saturating_add(MAX_FUTURE_BLOCK_TIME) < u64::from(time)
 }
 
 /// The first rule that a block's transactions break by its place (Bitcoin Core's `ContextualCheckBlock`).
 ///
-/// The cutoff is the median time past of the block's parent (BIP 113). The first transaction is taken as the
-/// coinbase.
-pub fn block_context(block: &Block, height: u32, cutoff: u32) -> Option<Reason>
-    ensures { result ≡ first_broken (block_rules all block.now height cutoff) }
+/// The cutoff of finality is the caller's: the median time past of the block's parent where the rules of BIP 113
+/// are in force, and else the block's own time. The first transaction is taken as the coinbase.
+pub fn block_context(block: &Block, height: u32, cutoff: u32, params: &Params) -> Option<Reason>
+    ensures { result ≡ first_broken (place_rules (at params.now height) block.now height cutoff) }
 {
     if !is_each_final(block.txs.as_slice(), height, cutoff) {
         return Some(Reason::NonFinal);
     }
-    if InForce::ALL.bip34 && !begins_with_height(coinbase_script(block.txs.as_slice()), height) {
+    let rules = params.at(height);
+    if rules.bip34 && !begins_with_height(coinbase_script(block.txs.as_slice()), height) {
         return Some(Reason::CoinbaseHeight);
     }
     None

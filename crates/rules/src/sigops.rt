@@ -19,7 +19,9 @@ pub(crate) fn txs_sigops(txs: &[Tx]) -> u128
     sum
 }
 
-fn tx_sigops(tx: &Tx) -> u128
+/// Those of all scripts of a transaction, whether or not they are run, counted plainly (Bitcoin Core's
+/// `GetLegacySigOpCount`).
+pub fn tx_sigops(tx: &Tx) -> u128
     ensures { result ≡ min (tx_sigops tx.now) (2 ^ 128 - 1) }
 {
     input_sigops(tx.inputs.as_slice()).saturating_add(output_sigops(tx.outputs.as_slice()))

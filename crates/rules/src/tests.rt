@@ -52,13 +52,13 @@ fn block(alloc: Global, script: &[u8], lock_time: u32) -> Result<Block, AllocErr
 
 #[test]
 fn genesis_alone(rt: HostRuntime) -> Result<(), Fail> {
-    let genesis = block::read(&GENESIS, rt.alloc())?;
-    assert_eq!(rt; block_alone(&genesis, rt.alloc())?, None);
+    let genesis = block::read(rt.alloc(), &GENESIS)?;
+    assert_eq!(rt; block_alone(rt.alloc(), &genesis)?, None);
     let empty = Block {
         header: genesis.header,
         txs: Txs::from_vec(Vec::new(rt.alloc())),
     };
-    let found = block_alone(&empty, rt.alloc())?;
+    let found = block_alone(rt.alloc(), &empty)?;
     assert_eq!(rt; found, Some(Reason::BadMerkleRoot));
     Ok(())
 }
@@ -67,21 +67,36 @@ fn genesis_alone(rt: HostRuntime) -> Result<(), Fail> {
 fn headers(rt: HostRuntime) {
     let time = HEADER.time;
     let now = u64::from(time);
-    assert_eq!(rt; header_context(&HEADER, time - 1, now), None);
+    assert_eq!(rt;
+        header_context(&HEADER, 1, time - 1, now, &Params::regtest()),
+        None
+    );
     let bits = Header {
         bits: 0x207f_fffe,
         ..HEADER
     };
-    assert_eq!(rt; header_context(&bits, time, 0), Some(Reason::WrongBits));
-    assert_eq!(rt; header_context(&HEADER, time, 0), Some(Reason::TimeTooOld));
-    let ahead = header_context(&HEADER, time - 1, now - 7201);
+    assert_eq!(rt;
+        header_context(&bits, 1, time, 0, &Params::regtest()),
+        Some(Reason::WrongBits)
+    );
+    assert_eq!(rt;
+        header_context(&HEADER, 1, time, 0, &Params::regtest()),
+        Some(Reason::TimeTooOld)
+    );
+    let ahead = header_context(&HEADER, 1, time - 1, now - 7201, &Params::regtest());
     assert_eq!(rt; ahead, Some(Reason::TimeTooNew));
-    assert_eq!(rt; header_context(&HEADER, time - 1, now - 7200), None);
-    assert_eq!(rt; header_context(&HEADER, time - 1, u64::MAX), None);
+    assert_eq!(rt;
+        header_context(&HEADER, 1, time - 1, now - 7200, &Params::regtest()),
+        None
+    );
+    assert_eq!(rt;
+        header_context(&HEADER, 1, time - 1, u64::MAX, &Params::regtest()),
+        None
+    );
     for version in [3, 0, -1, i32::MIN] {
         let old = Header { version, ..HEADER };
         assert_eq!(rt;
-            header_context(&old, time - 1, now),
+            header_context(&old, 1, time - 1, now, &Params::regtest()),
             Some(Reason::BadVersion)
         );
     }
@@ -101,34 +116,81 @@ fn pushes_of_heights(rt: HostRuntime) -> Result<(), Fail> {
         (32_768, &[0x03, 0x00, 0x80, 0x00]),
         (4_294_967_295, &[0x05, 0xff, 0xff, 0xff, 0xff, 0x00]),
     ];
+    let always = Params {
+        bip34: 0,
+        ..Params::regtest()
+    };
     for (height, push) in cases {
         let mut script = Vec::from_slice(rt.alloc(), push)?;
         script.push(0xaa)?;
         let longer = block(rt.alloc(), &script, 0)?;
-        assert_eq!(rt; block_context(&longer, height, 0), None);
-        let other = block_context(&longer, height - 1, 0);
+        assert_eq!(rt; block_context(&longer, height, 0, &always), None);
+        let other = block_context(&longer, height - 1, 0, &always);
         assert_eq!(rt; other, Some(Reason::CoinbaseHeight));
         let cut = block(rt.alloc(), &push[..push.len() - 1], 0)?;
-        let short = block_context(&cut, height, 0);
+        let short = block_context(&cut, height, 0, &always);
         assert_eq!(rt; short, Some(Reason::CoinbaseHeight));
     }
     let byte = block(rt.alloc(), &[0x01, 0x10], 0)?;
-    assert_eq!(rt; block_context(&byte, 16, 0), Some(Reason::CoinbaseHeight));
+    assert_eq!(rt;
+        block_context(&byte, 16, 0, &always),
+        Some(Reason::CoinbaseHeight)
+    );
     Ok(())
 }
 
 #[test]
 fn finality_before_the_height(rt: HostRuntime) -> Result<(), Fail> {
     let early = block(rt.alloc(), &[0x52], 5)?;
-    assert_eq!(rt; block_context(&early, 5, 0), Some(Reason::NonFinal));
-    assert_eq!(rt; block_context(&early, 6, 0), Some(Reason::CoinbaseHeight));
-    let passed = block(rt.alloc(), &[0x56], 5)?;
-    assert_eq!(rt; block_context(&passed, 6, 0), None);
-    let time = block(rt.alloc(), &[0x56], 1_296_688_603)?;
     assert_eq!(rt;
-        block_context(&time, 6, 1_296_688_603),
+        block_context(&early, 5, 0, &Params::regtest()),
         Some(Reason::NonFinal)
     );
-    assert_eq!(rt; block_context(&time, 6, 1_296_688_604), None);
+    assert_eq!(rt;
+        block_context(&early, 6, 0, &Params::regtest()),
+        Some(Reason::CoinbaseHeight)
+    );
+    let passed = block(rt.alloc(), &[0x56], 5)?;
+    assert_eq!(rt; block_context(&passed, 6, 0, &Params::regtest()), None);
+    let time = block(rt.alloc(), &[0x56], 1_296_688_603)?;
+    assert_eq!(rt;
+        block_context(&time, 6, 1_296_688_603, &Params::regtest()),
+        Some(Reason::NonFinal)
+    );
+    assert_eq!(rt;
+        block_context(&time, 6, 1_296_688_604, &Params::regtest()),
+        None
+    );
+    Ok(())
+}
+
+#[test]
+fn rules_by_height(rt: HostRuntime) -> Result<(), Fail> {
+    let regtest = Params::regtest();
+    let late = Params {
+        bip65: 5,
+        ..regtest
+    };
+    let old = Header {
+        version: 3,
+        ..HEADER
+    };
+    let now = u64::from(HEADER.time);
+    assert_eq!(rt; header_context(&old, 4, 0, now, &late), None);
+    assert_eq!(rt;
+        header_context(&old, 5, 0, now, &late),
+        Some(Reason::BadVersion)
+    );
+    let late = Params {
+        bip34: 3,
+        ..regtest
+    };
+    let without = block(rt.alloc(), &[0x00, 0x02], 0)?;
+    assert_eq!(rt; block_context(&without, 2, 0, &late), None);
+    assert_eq!(rt;
+        block_context(&without, 3, 0, &late),
+        Some(Reason::CoinbaseHeight)
+    );
+    assert!(rt; !late.at(2).bip34 && late.at(2).bip65 && late.at(2).bip66 && late.at(2).csv);
     Ok(())
 }

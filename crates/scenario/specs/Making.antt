@@ -8,6 +8,7 @@ use Rattle.block.specs.Grammar.{block}
 use Rattle.block.specs.Identity.{id_of}
 use Rattle.block.specs.Merkle.{root}
 use Rattle.block.specs.Target.{MeetsTarget}
+use Rattle.rules.specs.Context.{regtest_bits}
 use Rattle.scenario.specs.declared.recipe.HeaderRecipe.{HeaderRecipe}
 use Rattle.scenario.specs.declared.recipe.CoinbaseRecipe.{CoinbaseRecipe}
 use Rattle.scenario.specs.declared.recipe.Recipe.{Recipe}
@@ -34,13 +35,13 @@ IsSealed (Some nonce) h made = made ≡ with_nonce h nonce
 
 -- the header of these transactions on a parent, before its nonce: by default one second younger, with the
 -- true root
-abbrev pub draft : HeaderRecipe → Named → List Tx → Header
-draft recipe parent txs = record {
+abbrev pub unsealed : HeaderRecipe → Named → List Tx → Header
+unsealed recipe parent txs = record {
   version = said_or (pos 4) recipe.version;
   prev = parent.id;
   root = said_or (root (txn.ids_of txs)) recipe.root;
   time = said_or (parent.time + 1) recipe.time;
-  bits = said_or 0x207fffff recipe.bits;
+  bits = said_or regtest_bits recipe.bits;
   nonce = 0;
 }
 
@@ -60,7 +61,7 @@ txs_of recipe name height = with_first (coinbase_said recipe.has_coinbase recipe
 pub record IsMade (recipe : Recipe) (name : List ℕ) (parent made : Named) : Type 0 where
   pub whole : Block
   pub txs : whole.txs ≡ txs_of recipe name (parent.height + 1)
-  pub header : IsSealed recipe.header.nonce (draft recipe.header parent whole.txs) whole.header
+  pub header : IsSealed recipe.header.nonce (unsealed recipe.header parent whole.txs) whole.header
   pub named : string_bytes made.name ≡ name
   pub id : made.id ≡ id_of whole.header
   pub height : made.height ≡ parent.height + 1

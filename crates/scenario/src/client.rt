@@ -1,7 +1,7 @@
 //! The clients of a scenario, and their commands.
 
 use crate::definitions::Definitions;
-use crate::fault::{Fault, LineFault};
+use crate::fault::{LineFault, ScenarioFault};
 use crate::line::{Line, bytes, is_name, number};
 use block::GENESIS_TIME;
 use std::alloc::Global;
@@ -53,7 +53,7 @@ pub fn read_clients<'d, 't>(
     alloc: Global,
     definitions: &'d Definitions,
     lines: &[Line<'t>],
-) -> Result<Vec<Client<'d, 't>>, Fault<'static>> {
+) -> Result<Vec<Client<'d, 't>>, ScenarioFault> {
     let mut clients = Vec::new(alloc);
     for line in lines {
         read_line(alloc, definitions, line, &mut clients).map_err(|fault| fault.at(line.number))?;

@@ -3,7 +3,7 @@
 ghost use Rattle.std.specs.Prelude.{◌≤◌, length, OnOk};
 
 use crate::draft::Draft;
-use crate::fault::{Fault, LineFault};
+use crate::fault::{LineFault, ScenarioFault};
 use crate::known::Known;
 use crate::label::Label;
 use crate::line::{Line, bytes, is_name, number};
@@ -44,7 +44,7 @@ impl Definitions {
         alloc: Global,
         lines: &[Line<'_>],
         table: Table,
-    ) -> Result<Definitions, Fault<'static>> {
+    ) -> Result<Definitions, ScenarioFault> {
         let mut definitions = Definitions {
             alloc,
             blocks: BTreeMap::new(alloc),
@@ -132,7 +132,7 @@ impl Definitions {
     fn finish_draft(&mut self) -> Result<(), Memory> {
         if let Some(draft) = self.draft.take() {
             let (name, tx) = draft.finish();
-            let known = Known::from_tx(self.alloc, tx)?;
+            let known = Known::from_tx(tx);
             self.transactions.insert(name, known)?;
         }
         Ok(())

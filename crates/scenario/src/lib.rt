@@ -1,24 +1,24 @@
-//! The program: a scenario's text is read, its blocks are made, its clients run, and what they were answered is printed.
+//! A scenario's text: the blocks, transactions and signatures that it defines, and what its clients ask.
 #![tactic(auto)]
 
-mod answer;
 mod client;
 mod coinbase;
 mod definitions;
 mod draft;
 mod fault;
-mod journal;
 mod known;
 mod label;
 mod line;
 mod making;
-mod options;
 mod recipe;
-mod report;
-mod run;
 mod verdict;
 
-pub use run::{program, words};
+pub use client::{Call, Client, Payload, Request, Words, read_clients};
+pub use definitions::Definitions;
+pub use fault::{LineFault, ScenarioFault};
+pub use label::Label;
+pub use line::{Line, lines, number_after};
+pub use making::Named;
 
 #[cfg(test)]
 mod tests;

@@ -97,6 +97,9 @@ pub fn bytes(alloc: Global, word: &str) -> Result<Vec<u8>, LineFault> {
     if word == "-" {
         return Ok(Vec::new(alloc));
     }
+    if word.is_empty() {
+        return Err(LineFault::Unreadable);
+    }
     match hex::decode(alloc, lower_case(word)?) {
         Ok(bytes) => Ok(bytes),
         Err(FromHexError::OutOfMemory) => Err(LineFault::Memory),

@@ -3,7 +3,7 @@
 ghost use Rattle.std.specs.Prelude.{◌≡◌, ◌+◌, ◌<◌, ◌≤◌, ◌^◌, length, IfOk, OnOk, IfSome, IfNone, option_map};
 ghost use Rattle.txn.specs.Identity as identity;
 ghost use Rattle.block.specs.Merkle as tree;
-ghost use Rattle.scenario.specs.Making.{IsMined, IsBarren, IsSealed, IsMade, coinbase_said, with_first, draft};
+ghost use Rattle.scenario.specs.Making.{IsMined, IsBarren, IsSealed, IsMade, coinbase_said, with_first, unsealed};
 
 use crate::coinbase::coinbase;
 use crate::fault::LineFault;
@@ -40,14 +40,14 @@ pub struct Named {
 pub fn genesis(alloc: Global) -> Result<Named, Memory> {
     let mut bytes = Cursor::new(&GENESIS[COINBASE_AT..]);
     // Its bytes have no fault, so want of memory is the only one.
-    let coinbase = txn::read(&mut bytes, alloc).map_err(|_| Memory)?;
+    let coinbase = txn::read(alloc, &mut bytes).map_err(|_| Memory)?;
     Ok(Named {
         name: String::from_str(alloc, "genesis")?,
         id: GENESIS_ID,
         height: 0,
         time: GENESIS_TIME,
         bytes: Vec::from_slice(alloc, &GENESIS)?,
-        coinbase: Some(Known::from_tx(alloc, coinbase)?),
+        coinbase: Some(Known::from_tx(coinbase)),
     })
 }
 
@@ -101,7 +101,7 @@ fn known(
         return Ok(None);
     }
     let coinbase = coinbase(alloc, recipe, name, height)?;
-    Ok(Some(Known::from_tx(alloc, coinbase)?))
+    Ok(Some(Known::from_tx(coinbase)))
 }
 
 /// Puts a copy of the coinbase first, if there is one.
@@ -121,7 +121,7 @@ fn drafted(
     parent: &Named,
     txs: &[Tx],
 ) -> Result<Header, LineFault>
-    ensures { IfOk result (λ header. header ≡ draft recipe parent.now txs.now) }
+    ensures { IfOk result (λ header. header ≡ unsealed recipe parent.now txs.now) }
 {
     let time = match recipe.time {
         Some(time) => time,
@@ -155,7 +155,7 @@ fn sealed(header: Header, nonce: Option<u32>) -> Option<Header>
 fn true_root(alloc: Global, txs: &[Tx]) -> Result<Id, Memory>
     ensures { IfOk result (λ id. id ≡ tree.root (identity.ids_of txs.now)) }
 {
-    let (root, _) = merkle(ids(txs, alloc)?.as_slice(), alloc)?;
+    let (root, _) = merkle(alloc, ids(alloc, txs)?.as_slice())?;
     Ok(root)
 }
 

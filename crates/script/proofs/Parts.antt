@@ -5,7 +5,7 @@ use Rattle.std.proofs.Math.Seq.{take-append_seam, drop-append_seam}
 use Rattle.std.proofs.lemmas.List.Folds.{concat-append}
 use Rattle.script.specs.Ops.{ops, rest}
 use Rattle.script.specs.Removal.{is_among, without}
-use Rattle.script.specs.Laws.{rest-more, rest-none, take_more-front, drop_more-front}
+use Rattle.script.specs.laws.Ops.{rest-more, rest-none, take_more-front, drop_more-front}
 
 -- an opcode at the front that equals a piece
 pub without-taken : (pieces : List (List ℕ)) (bytes op more : List ℕ) → ops bytes ≡ op ∷ ops more → bytes ≡ op ++ more → is_among pieces op ≡ true → without pieces bytes ≡ without pieces more

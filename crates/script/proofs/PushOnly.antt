@@ -3,7 +3,7 @@ use borrow.Author.Tests.{lt-leb, le-leb}
 use Rattle.script.specs.Op.{number_of}
 use Rattle.script.specs.Ops.{ops}
 use Rattle.script.specs.Kinds.{is_push_only}
-use Rattle.script.specs.Laws.{rest-more, rest-none}
+use Rattle.script.specs.laws.Ops.{rest-more, rest-none}
 
 -- an opcode above OP_16 at the front
 pub push_only-above : (bytes op more : List ℕ) → ops bytes ≡ op ∷ ops more → 96 < number_of op → is_push_only bytes ≡ false

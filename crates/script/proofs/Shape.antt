@@ -3,7 +3,7 @@ use Rattle.std.proofs.lemmas.Bool.{and_parts, and_from}
 use Rattle.std.proofs.lemmas.List.{take-append-drop, nil_from_length}
 use Rattle.std.proofs.Math.Seq.{get_or-append_seam}
 use borrow.Author.Tests.{eqb-true}
-use Rattle.script.specs.Laws.{length_taken}
+use Rattle.script.specs.laws.Ops.{length_taken}
 use Rattle.script.specs.Kinds.{is_p2sh, IsP2sh}
 
 -- twenty bytes and one

@@ -17,6 +17,10 @@ unfoldable pub is_p2sh : List ℕ → Bool
 is_p2sh script =
     (length script == 23) && (slice_index script 0 == 0xa9) && (slice_index script 1 == 20) && (slice_index script 22 == 0x87)
 
+-- bytes of a script that may run (Bitcoin Core's `MAX_SCRIPT_SIZE`)
+abbrev pub max_script_size : ℕ
+max_script_size = 10000
+
 -- begins with OP_RETURN, or is longer than a script may be (Bitcoin Core's `IsUnspendable`)
 unfoldable pub is_unspendable : List ℕ → Bool
-is_unspendable script = (number_of script == 0x6a) || nat_lt 10000 (length script)
+is_unspendable script = (number_of script == 0x6a) || nat_lt max_script_size (length script)

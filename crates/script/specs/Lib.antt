@@ -4,5 +4,4 @@ pub mod Kinds
 pub mod Signatures
 pub mod Removal
 pub mod Num
-pub mod Laws
-pub mod CutShort
+pub mod laws

@@ -1,9 +1,12 @@
-ghost use Rattle.std.specs.Prelude.{◌≡◌, ◌<◌, ◌≤◌, ◌^◌, ◌+◌, ◌*◌, ◌++◌, ◌%◌, ◌/◌, List, ℕ, ℤ, length, nat_le, option_map, IfOk, OnOk};
+ghost use Rattle.std.specs.Prelude.{◌≡◌, ◌<◌, ◌≤◌, ◌^◌, ◌+◌, ◌*◌, ◌++◌, ◌%◌, ◌/◌, List, ℕ, ℤ, length, min, nat_le, option_map, IfOk, OnOk};
 ghost use Rattle.wire.specs.Grammar.{IsBytes};
 ghost use Rattle.script.specs.Num.{magnitude, signed, num_value, operand, spelled, spelled_with};
 
 use std::alloc::Global;
 use wire::Memory;
+
+/// How many bytes a number that is read has at most.
+const MAX_LEN: usize = 8;
 
 /// A number that a script computes with (Bitcoin Core's `CScriptNum`).
 #[derive(Clone, Copy, Debug, PartialEq, Eq, PartialOrd, Ord)]
@@ -11,12 +14,11 @@ pub struct Num(pub i64);
 
 impl Num {
     /// The number that at most `most` bytes spell, be it needlessly long: the lowest byte first, the highest
-    /// bit of the last byte the sign. None where there are more bytes.
+    /// bit of the last byte the sign. None where there are more bytes, or more than the 8 of an `i64`.
     pub fn read(bytes: &[u8], most: usize) -> Option<Num>
-        requires { most ≤ 8 }
-        ensures { option_map (λ n. n.0) result ≡ operand most bytes.now }
+        ensures { option_map (λ n. n.0) result ≡ operand (min most 8) bytes.now }
     {
-        if bytes.len() > most {
+        if bytes.len() > most.min(MAX_LEN) {
             return None;
         }
         Some(Num(value(bytes)))

@@ -43,7 +43,7 @@ impl<'a> Iterator for Ops<'a> {
 
     ghost remaining = { item_count ops };
 
-    #[tactic(auto, using(crate::specs::Laws::op_rules))]
+    #[tactic(auto, using(crate::specs::laws::Ops::op_rules))]
     fn next(&mut self) -> Option<&'a [u8]>
         ensures steps { YieldsFirstRef ops self.old result self.new }
         ensures goes { MakesProgress (λ _. Unit {0}) (item_count ops) self.old result self.new }

@@ -17,12 +17,3 @@ flat-next {X = X} {Y = Y} f g fed xs k x lt is =
     ∙ flat_map-append f front (g x ∷ [])
     ∙ ap (λ (t : List ℕ). flat_map f front ++ t) (append-nil (f (g x))) in
     append_assoc fed (flat_map f front) (f (g x)) ∙ ap (λ (t : List ℕ). fed ++ t) (sym next)
-
-pub list-next : {X : Type 0} (f : X → List ℕ) (fed : List ℕ) (xs : List X) (k : ℕ) (x : X) → k < length xs → x ≡ get_or xs k x
-    → (fed ++ flat_map f (take k xs)) ++ f x ≡ fed ++ flat_map f (take (k + 1) xs)
-list-next {X = X} f fed xs k x lt is =
-    let next : flat_map f (take (k + 1) xs) ≡ flat_map f (take k xs) ++ f x =
-    ap (flat_map f) (take-next xs k x lt is)
-    ∙ flat_map-append f (take k xs) (x ∷ [])
-    ∙ ap (λ (t : List ℕ). flat_map f (take k xs) ++ t) (append-nil (f x)) in
-    append_assoc fed (flat_map f (take k xs)) (f x) ∙ ap (λ (t : List ℕ). fed ++ t) (sym next)

@@ -3,7 +3,6 @@
 ghost use Rattle.std.specs.Prelude.{◌≡◌, ◌<◌, ℕ, List, ◌++◌, length, map, true};
 ghost use Rattle.std.specs.List.{concat, flat_map};
 ghost use Rattle.sha2.specs.Hashers.{Holds256};
-ghost use Rattle.wire.specs.Spelling.{compact};
 ghost use Rattle.wire.specs.Grammar.{sized, counted};
 ghost use Rattle.txn.specs.Grammar as grammar;
 ghost use Rattle.script.specs.Removal.{bytes_of};
@@ -12,27 +11,8 @@ ghost use Rattle.sighash.specs.Kind as kinds;
 
 use crate::kind::{frees_sequences, is_alone, is_none, is_single};
 use sha2::{Digest, Sha256};
+use txn::feeding::{feed_count, feed_each_output, feed_outpoint, feed_outputs};
 use txn::{TxIn, TxOut};
-
-/// Feeds a count, in the shortest of its forms.
-#[tactic(auto, unfolding(wire::specs::Spelling::compact))]
-pub fn feed_count(hasher: &mut Sha256, n: u128)
-    ensures { (fed : List ℕ) → Holds256 hasher.old fed → Holds256 hasher.new (fed ++ compact n) }
-{
-    if n < 253 {
-        hasher.update([n as u8]);
-    } else if n < 0x1_0000 {
-        let [a, b] = (n as u16).to_le_bytes();
-        hasher.update([253, a, b]);
-    } else if n < 0x1_0000_0000 {
-        let [a, b, c, d] = (n as u32).to_le_bytes();
-        hasher.update([254, a, b, c, d]);
-    } else {
-        let low = (n % 0x1_0000_0000_0000_0000) as u64;
-        let [a, b, c, d, e, f, g, h] = low.to_le_bytes();
-        hasher.update([255, a, b, c, d, e, f, g, h]);
-    }
-}
 
 /// The length of pieces that are joined.
 fn joined_len(pieces: &[&[u8]]) -> u128
@@ -65,8 +45,7 @@ fn feed_script(hasher: &mut Sha256, pieces: &[&[u8]])
 fn feed_input(hasher: &mut Sha256, input: &TxIn, pieces: &[&[u8]], sequence: u32)
     ensures { (fed : List ℕ) → Holds256 hasher.old fed → Holds256 hasher.new (fed ++ grammar.input.spell (record { prev = input.now.prev; script = concat (bytes_of pieces.now); sequence = sequence })) }
 {
-    hasher.update(input.prev.id.0);
-    hasher.update(input.prev.index.to_le_bytes());
+    feed_outpoint(hasher, &input.prev);
     feed_script(hasher, pieces);
     hasher.update(sequence.to_le_bytes());
 }
@@ -93,7 +72,7 @@ fn feed_others(hasher: &mut Sha256, inputs: &[TxIn], kind: u32)
 }
 
 /// Feeds the inputs, of which number `n` is the signed one.
-pub fn feed_inputs(hasher: &mut Sha256, inputs: &[TxIn], n: usize, code: &[&[u8]], kind: u32)
+pub fn feed_signed_inputs(hasher: &mut Sha256, inputs: &[TxIn], n: usize, code: &[&[u8]], kind: u32)
     requires { n < length inputs.now }
     ensures { (fed : List ℕ) → Holds256 hasher.old fed → Holds256 hasher.new (fed ++ (counted grammar.input).spell (signed_inputs kind n (concat (bytes_of code.now)) inputs.now)) }
 {
@@ -111,24 +90,6 @@ pub fn feed_inputs(hasher: &mut Sha256, inputs: &[TxIn], n: usize, code: &[&[u8]
     feed_others(hasher, after, kind);
 }
 
-/// Feeds an output.
-fn feed_output(hasher: &mut Sha256, output: &TxOut)
-    ensures { (fed : List ℕ) → Holds256 hasher.old fed → Holds256 hasher.new (fed ++ grammar.output.spell output.now) }
-{
-    hasher.update(output.value.to_le_bytes());
-    feed_count(hasher, output.script.len() as u128);
-    hasher.update(output.script.as_slice());
-}
-
-/// Feeds outputs.
-fn feed_list(hasher: &mut Sha256, outputs: &[TxOut])
-    ensures { (fed : List ℕ) → Holds256 hasher.old fed → Holds256 hasher.new (fed ++ flat_map grammar.output.spell outputs.now) }
-{
-    for output in outputs {
-        feed_output(hasher, output);
-    }
-}
-
 /// Feeds so many outputs of value -1 without a script.
 fn feed_blanks(hasher: &mut Sha256, outputs: &[TxOut])
     ensures { (fed : List ℕ) → Holds256 hasher.old fed → Holds256 hasher.new (fed ++ flat_map grammar.output.spell (map (λ _. blank) outputs.now)) }
@@ -139,7 +100,7 @@ fn feed_blanks(hasher: &mut Sha256, outputs: &[TxOut])
 }
 
 /// Feeds the outputs, for the input of number `n`.
-pub fn feed_outputs(hasher: &mut Sha256, outputs: &[TxOut], n: usize, kind: u32)
+pub fn feed_signed_outputs(hasher: &mut Sha256, outputs: &[TxOut], n: usize, kind: u32)
     requires { kinds.is_single kind ≡ true → n < length outputs.now }
     ensures { (fed : List ℕ) → Holds256 hasher.old fed → Holds256 hasher.new (fed ++ (counted grammar.output).spell (signed_outputs kind n outputs.now)) }
 {
@@ -150,9 +111,8 @@ pub fn feed_outputs(hasher: &mut Sha256, outputs: &[TxOut], n: usize, kind: u32)
         let (last, _) = rest.split_at(1);
         feed_count(hasher, before.len() as u128 + 1);
         feed_blanks(hasher, before);
-        feed_list(hasher, last);
+        feed_each_output(hasher, last);
     } else {
-        feed_count(hasher, outputs.len() as u128);
-        feed_list(hasher, outputs);
+        feed_outputs(hasher, outputs);
     }
 }

@@ -3,7 +3,7 @@ ghost use Rattle.std.specs.List.{concat};
 ghost use Rattle.script.specs.Removal.{bytes_of};
 ghost use Rattle.sighash.specs.Digest.{digest_of};
 
-use crate::feeding::{feed_inputs, feed_outputs};
+use crate::feeding::{feed_signed_inputs, feed_signed_outputs};
 use crate::kind::is_single;
 use hash::finish;
 use sha2::{Digest, Sha256};
@@ -25,8 +25,8 @@ pub fn digest(tx: &Tx, input: usize, code: &[&[u8]], kind: u32) -> [u8; 32]
     }
     let mut hasher = Sha256::new();
     hasher.update(tx.version.to_le_bytes());
-    feed_inputs(&mut hasher, tx.inputs.as_slice(), input, code, kind);
-    feed_outputs(&mut hasher, outputs, input, kind);
+    feed_signed_inputs(&mut hasher, tx.inputs.as_slice(), input, code, kind);
+    feed_signed_outputs(&mut hasher, outputs, input, kind);
     hasher.update(tx.lock_time.to_le_bytes());
     hasher.update(kind.to_le_bytes());
     finish(hasher)

@@ -40,7 +40,7 @@ const DIGESTS: [(u32, &str); 6] = [
 #[test]
 fn each_kind(rt: HostRuntime) -> Result<(), Fail> {
     let bytes = <[u8; 166]>::from_hex(BYTES)?;
-    let tx = txn::read(&mut Cursor::new(&bytes), rt.alloc())?;
+    let tx = txn::read(rt.alloc(), &mut Cursor::new(&bytes))?;
     assert_eq!(rt; tx.inputs.len(), 3);
     let pieces: [&[u8]; 3] = [&[0x76, 0xa9], &[], &[1, 2, 0xac]];
     for (kind, expected) in DIGESTS {
@@ -54,7 +54,7 @@ fn each_kind(rt: HostRuntime) -> Result<(), Fail> {
 #[test]
 fn single_without_an_output(rt: HostRuntime) -> Result<(), Fail> {
     let bytes = <[u8; 166]>::from_hex(BYTES)?;
-    let mut tx = txn::read(&mut Cursor::new(&bytes), rt.alloc())?;
+    let mut tx = txn::read(rt.alloc(), &mut Cursor::new(&bytes))?;
     tx.inputs = Inputs::from_vec(vec![in rt.alloc(); input(&rt, &tx)?, input(&rt, &tx)?]?);
     tx.outputs = Outputs::from_vec(vec![in rt.alloc(); output(&rt, &tx)?]?);
     assert_eq!(rt; (tx.inputs.len(), tx.outputs.len()), (2, 1));

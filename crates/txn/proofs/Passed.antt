@@ -3,7 +3,8 @@ use Rattle.std.proofs.Common.{◌≡◌, ◌↔◌, ◌==◌, length, Bool, true
 use Rattle.std.proofs.Math.Dec.{eqb-suc-zero}
 use Rattle.std.specs.Option.{option_or}
 use Rattle.txn.specs.declared.reason.Reason.{Reason}
-use Rattle.txn.specs.First.{Rules, first_broken, first_of_both}
+use Rattle.txn.specs.First.{Rules, first_broken}
+use Rattle.txn.specs.laws.First.{first_of_both}
 
 -- after two rules that are not, the first broken one of xs and then ys
 two : (a b : Bool) (r s : Reason) (xs ys : Rules) → a ≡ false → b ≡ false → first_broken ((a, r) ∷ (b, s) ∷ xs ++ ys) ≡ option_or (first_broken xs) (first_broken ys)

@@ -10,7 +10,7 @@ use Rattle.std.specs.Ordering.{on, then_cmp, ordering_then, ordering_reverse}
 use Rattle.txn.specs.declared.outpoint.OutPoint.{OutPoint}
 use Rattle.txn.specs.declared.input.TxIn.{TxIn}
 use Rattle.txn.specs.Check.{same_outpoint, has_twice, prevs}
-use Rattle.txn.specs.CheckLaws.{same_outpoint-refl, same_outpoint-true, twice_from_places, not_twice}
+use Rattle.txn.specs.laws.Check.{same_outpoint-refl, same_outpoint-true, twice_from_places, not_twice}
 
 -- by their ids, and then by their indices
 abbrev pub outpoint_cmp : OutPoint → OutPoint → Ordering

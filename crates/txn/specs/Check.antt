@@ -1,24 +1,18 @@
 -- The rules that a transaction obeys by itself (Bitcoin Core's `CheckTransaction`).
 use Rattle.std.specs.Prelude.{ℕ, ◌*◌, ◌==◌, ◌&&◌, ◌||◌, Bool, false, not, nat_le, ℤ, pos, ◌+ℤ◌, int_lt, List, [], ◌∷◌, ◌++◌, length, fold, map}
 use Rattle.std.specs.List.{list_any}
-use lib.Pointwise.{pointwise}
 use Rattle.txn.specs.declared.outpoint.OutPoint.{OutPoint}
 use Rattle.txn.specs.declared.input.TxIn.{TxIn}
 use Rattle.txn.specs.declared.output.TxOut.{TxOut}
 use Rattle.txn.specs.declared.tx.Tx.{Tx}
 use Rattle.txn.specs.declared.reason.Reason.TheVariants.{NoInputs, NoOutputs, OutputNegative, OutputTooLarge, OutputSumTooLarge, DuplicateInputs, CoinbaseLength, NullPrevout}
-use Rattle.txn.specs.Coinbase.{null}
+pub use Rattle.txn.specs.Coinbase.{is_null, is_only_null, is_coinbase}
+pub use Rattle.txn.specs.Equality.{same_outpoint}
 use Rattle.txn.specs.First.{Rules}
 
 -- all the money there can be: 21 million coins of 10^8 satoshis (`MAX_MONEY`)
 abbrev pub max_money : ℤ
 max_money = pos (21000000 * 100000000)
-
-abbrev pub same_outpoint : OutPoint → OutPoint → Bool
-same_outpoint a b = pointwise ◌==◌ a.id.0 b.id.0 && (a.index == b.index)
-
-abbrev pub is_null : OutPoint → Bool
-is_null outpoint = same_outpoint outpoint null
 
 -- one outpoint stands at two places
 abbrev pub has_twice : List OutPoint → Bool
@@ -29,23 +23,20 @@ has_twice (p ∷ ps) = list_any (same_outpoint p) ps || has_twice ps
 abbrev pub prevs : List TxIn → List OutPoint
 prevs inputs = map (λ input. input.prev) inputs
 
-abbrev pub is_only_null : List TxIn → Bool
-is_only_null [] = false
-is_only_null (input ∷ []) = is_null input.prev
-is_only_null (input ∷ other ∷ inputs) = false
-
--- exactly one input, with the null outpoint (`IsCoinBase`)
-abbrev pub is_coinbase : Tx → Bool
-is_coinbase tx = is_only_null tx.inputs
-
 -- the script of the first input
 abbrev pub first_script : List TxIn → List ℕ
 first_script [] = []
 first_script (input ∷ inputs) = input.script
 
--- 2 to 100 bytes
+-- the bytes that a coinbase's script has at least, and at most
+abbrev pub min_coinbase_script : ℕ
+min_coinbase_script = 2
+
+abbrev pub max_coinbase_script : ℕ
+max_coinbase_script = 100
+
 abbrev pub fits_coinbase : List ℕ → Bool
-fits_coinbase script = nat_le 2 (length script) && nat_le (length script) 100
+fits_coinbase script = nat_le min_coinbase_script (length script) && nat_le (length script) max_coinbase_script
 
 -- the sum of the values of outputs
 abbrev pub total : List TxOut → ℤ

@@ -1,7 +1,5 @@
 -- Rules in their order.
-use Rattle.std.specs.Prelude.{◌≡◌, Bool, true, false, cond, List, [], ◌∷◌, ◌++◌, Option, None, Some}
-use Rattle.std.specs.Option.{option_or}
-use Rattle.std.proofs.Common.{refl}
+use Rattle.std.specs.Prelude.{Bool, cond, List, [], ◌∷◌, Option, None, Some}
 use Rattle.txn.specs.declared.reason.Reason.{Reason}
 
 -- whether each rule is broken, and the reason that it gives
@@ -12,15 +10,3 @@ Rules = List (Bool × Reason)
 abbrev pub first_broken : Rules → Option Reason
 first_broken [] = None
 first_broken (rule ∷ rules) = cond rule.0 (Some rule.1) (first_broken rules)
-
--- ---- laws
-
--- of rules after others
-pub first_of_both : (xs ys : Rules) → first_broken (xs ++ ys) ≡ option_or (first_broken xs) (first_broken ys)
-first_of_both [] ys = refl
-first_of_both (rule ∷ xs) ys = at rule.0 (first_of_both xs ys)
-  where
-    at : (b : Bool) → first_broken (xs ++ ys) ≡ option_or (first_broken xs) (first_broken ys)
-        → cond b (Some rule.1) (first_broken (xs ++ ys)) ≡ option_or (cond b (Some rule.1) (first_broken xs)) (first_broken ys)
-    at true h = refl
-    at false h = h

@@ -1,10 +1,14 @@
 pub mod Check
-pub mod CheckLaws
 pub mod Coinbase
+pub mod Equality
 pub mod Faults
 pub mod First
 pub mod Grammar
 pub mod Identity
-pub mod Laws
-pub mod Reading
+pub mod Limits
+pub mod LockTime
+pub mod Marks
 pub mod Reason
+pub mod Room
+pub mod computed
+pub mod laws

@@ -25,7 +25,7 @@ pub const MAX_COINBASE_SCRIPT: usize = 100;
 
 /// The first rule that a transaction breaks by itself (Bitcoin Core's `CheckTransaction`).
 #[tactic(auto, unfolding(crate::specs::Check::tx_rules))]
-pub fn check(tx: &Tx, alloc: Global) -> Result<Option<Reason>, Memory>
+pub fn check(alloc: Global, tx: &Tx) -> Result<Option<Reason>, Memory>
     ensures found { IfOk result (λ found. found ≡ first_broken (tx_rules tx.now)) }
     // Of one input or none no memory is taken.
     ensures quiet { length tx.now.inputs < 2 → IsOk result }
@@ -39,7 +39,7 @@ pub fn check(tx: &Tx, alloc: Global) -> Result<Option<Reason>, Memory>
     if let Some(reason) = broken_output(tx.outputs.as_slice()) {
         return Ok(Some(reason));
     }
-    if has_twice(tx.inputs.as_slice(), alloc)? {
+    if has_twice(alloc, tx.inputs.as_slice())? {
         return Ok(Some(Reason::DuplicateInputs));
     }
     if has_bad_length(tx) {
@@ -86,14 +86,14 @@ fn broken_value(value: i64, before: i64) -> Option<Reason>
 }
 
 /// Whether two inputs spend one outpoint.
-fn has_twice(inputs: &[TxIn], alloc: Global) -> Result<bool, Memory>
+fn has_twice(alloc: Global, inputs: &[TxIn]) -> Result<bool, Memory>
     ensures twice { IfOk result (λ twice. twice ≡ has_twice (prevs inputs.now)) }
     ensures quiet { length inputs.now < 2 → IsOk result }
 {
     if inputs.len() < 2 {
         return Ok(false);
     }
-    let mut outpoints = prevs(inputs, alloc)?;
+    let mut outpoints = prevs(alloc, inputs)?;
     outpoints.sort_unstable();
     // What stands twice in a sorted list stands at two places that follow each other.
     for later in 1..outpoints.len() {
@@ -105,7 +105,7 @@ fn has_twice(inputs: &[TxIn], alloc: Global) -> Result<bool, Memory>
 }
 
 /// The outpoints that inputs spend.
-fn prevs(inputs: &[TxIn], alloc: Global) -> Result<Vec<OutPoint>, Memory>
+fn prevs(alloc: Global, inputs: &[TxIn]) -> Result<Vec<OutPoint>, Memory>
     ensures { IfOk result (λ outpoints. outpoints.items ≡ prevs inputs.now) }
 {
     let mut outpoints = Vec::with_capacity(alloc, inputs.len())?;
@@ -119,20 +119,14 @@ fn prevs(inputs: &[TxIn], alloc: Global) -> Result<Vec<OutPoint>, Memory>
 fn has_bad_length(tx: &Tx) -> bool
     ensures { result ≡ (is_coinbase tx.now && not (fits_coinbase (first_script tx.now.inputs))) }
 {
-    is_coinbase(tx) && !fits_coinbase(first_script(tx.inputs.as_slice()))
+    tx.is_coinbase() && !fits_coinbase(first_script(tx.inputs.as_slice()))
 }
 
 /// Whether it isn't one, and spends the null outpoint.
 fn has_null(tx: &Tx) -> bool
     ensures { result ≡ (not (is_coinbase tx.now) && list_any (λ input. is_null input.prev) tx.now.inputs) }
 {
-    !is_coinbase(tx) && spends_null(tx.inputs.as_slice())
-}
-
-fn is_coinbase(tx: &Tx) -> bool
-    ensures { result ≡ is_coinbase tx.now }
-{
-    tx.is_coinbase()
+    !tx.is_coinbase() && spends_null(tx.inputs.as_slice())
 }
 
 /// The script of the first input.
@@ -156,11 +150,5 @@ fn fits_coinbase(script: &[u8]) -> bool
 fn spends_null(inputs: &[TxIn]) -> bool
     ensures { result ≡ list_any (λ input. is_null input.prev) inputs.now }
 {
-    inputs.iter().any(|input| is_null(&input.prev))
-}
-
-fn is_null(outpoint: &OutPoint) -> bool
-    ensures { result ≡ is_null outpoint.now }
-{
-    *outpoint == OutPoint::NULL
+    inputs.iter().any(|input| input.prev.is_null())
 }

@@ -1,9 +1,8 @@
-ghost use Rattle.std.specs.Prelude.{◌≡◌, IfOk, IsTrue, ◌↔◌, [], length};
+ghost use Rattle.std.specs.Prelude.{◌≡◌, IfOk, IsTrue, ◌↔◌};
 
 use crate::outpoint::OutPoint;
 use crate::script::Script;
-use std::marker::Model;
-use wire::Memory;
+use wire::{Memory, Parts};
 
 /// An input of a transaction: the output that it spends, its script, and its sequence number.
 #[derive(Clone, Debug, Drop)]
@@ -13,19 +12,32 @@ pub struct TxIn {
     pub sequence: u32,
 }
 
-/// The inputs of a transaction, in order. A clause sees their list.
-#[derive(Clone, Debug, Drop)]
-pub struct Inputs {
-    items: Vec<TxIn>,
+/// The inputs of a transaction, in order.
+pub type Inputs = Parts<TxIn>;
+
+impl PartialEq for TxIn {
+    ghost use Rattle.std.specs.Cmp.{decided, partial_equiv_from_equiv};
+    ghost use Rattle.txn.specs.Equality.{same_input};
+    ghost use Rattle.txn.specs.laws.Equality.{same_input-decides};
+
+    ghost eq = { same_input };
+
+    ghost laws = { partial_equiv_from_equiv (decided same_input same_input-decides) };
+
+    fn eq(&self, other: &TxIn) -> bool
+        ensures fields { result ≡ same_input self.now other.now }
+        ensures equal { IsTrue result ↔ (self.now ≡ other.now) }
+    {
+        self.prev == other.prev && self.script == other.script && self.sequence == other.sequence
+    }
 }
 
-impl Model for Inputs {
-    ghost use Rattle.std.specs.Prelude.{List};
-    ghost use Rattle.txn.specs.declared.input.TxIn.{TxIn};
+impl Eq for TxIn {
+    ghost use Rattle.std.specs.Cmp.{decided};
+    ghost use Rattle.txn.specs.Equality.{same_input};
+    ghost use Rattle.txn.specs.laws.Equality.{same_input-decides};
 
-    ghost Value = { List TxIn };
-
-    ghost view = { λ s. s.items.items };
+    ghost laws = { decided same_input same_input-decides };
 }
 
 impl TxIn {
@@ -34,43 +46,5 @@ impl TxIn {
         ensures { IfOk result (λ input. input ≡ self.now) }
     {
         Ok(self.clone()?)
-    }
-}
-
-impl Inputs {
-    /// The inputs of this list.
-    pub fn from_vec(items: Vec<TxIn>) -> Inputs
-        ensures { result ≡ items.items }
-    {
-        Inputs { items }
-    }
-
-    /// Their list, given back.
-    pub fn into_vec(self) -> Vec<TxIn>
-        ensures { result.items ≡ self }
-    {
-        let Inputs { items } = self;
-        items
-    }
-
-    /// The inputs, lent.
-    pub fn as_slice(&self) -> &[TxIn]
-        ensures { result.now ≡ self.now }
-    {
-        self.items.as_slice()
-    }
-
-    /// How many there are.
-    pub fn len(&self) -> usize
-        ensures { result ≡ length self.now }
-    {
-        self.items.len()
-    }
-
-    /// Whether there is none.
-    pub fn is_empty(&self) -> bool
-        ensures { IsTrue result ↔ (self.now ≡ []) }
-    {
-        self.items.is_empty()
     }
 }

@@ -3,8 +3,10 @@
 
 mod checking;
 mod fault;
+pub mod feeding;
 mod input;
 pub mod laws;
+mod many_ids;
 mod outpoint;
 mod output;
 mod reading;
@@ -16,12 +18,13 @@ mod writing;
 pub use checking::{MAX_COINBASE_SCRIPT, MAX_MONEY, MIN_COINBASE_SCRIPT, check};
 pub use fault::TxFault;
 pub use input::{Inputs, TxIn};
+pub use many_ids::ids;
 pub use outpoint::OutPoint;
 pub use output::{Outputs, TxOut};
 pub use reading::read;
 pub use reason::Reason;
 pub use script::Script;
-pub use tx::{Tx, ids};
+pub use tx::{LOCKTIME_THRESHOLD, Tx};
 pub use writing::write;
 
 #[cfg(test)]

@@ -10,16 +10,19 @@ pub struct OutPoint {
 }
 
 impl OutPoint {
-    ghost use Rattle.txn.specs.Coinbase.{null};
+    ghost use Rattle.txn.specs.Coinbase.{null, is_null};
 
     /// The outpoint that names no output: a coinbase's input has it.
     pub const NULL: OutPoint = OutPoint {
         id: Id([0; 32]),
         index: u32::MAX,
     };
+
     /// Whether it is [`OutPoint::NULL`] (Bitcoin Core's `COutPoint::IsNull`).
     pub fn is_null(&self) -> bool
-        ensures { IsTrue result ↔ (self.now ≡ null) }
+        ensures null { IsTrue result ↔ (self.now ≡ null) }
+        // The same, as a test.
+        ensures test { result ≡ is_null self.now }
     {
         *self == OutPoint::NULL
     }

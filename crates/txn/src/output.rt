@@ -1,8 +1,7 @@
-ghost use Rattle.std.specs.Prelude.{◌≡◌, IfOk, IsTrue, ◌↔◌, [], length};
+ghost use Rattle.std.specs.Prelude.{◌≡◌, IfOk, IsTrue, ◌↔◌};
 
 use crate::script::Script;
-use std::marker::Model;
-use wire::Memory;
+use wire::{Memory, Parts};
 
 /// An output of a transaction: its value in satoshis, and its script.
 #[derive(Clone, Debug, Drop)]
@@ -11,19 +10,32 @@ pub struct TxOut {
     pub script: Script,
 }
 
-/// The outputs of a transaction, in order. A clause sees their list.
-#[derive(Clone, Debug, Drop)]
-pub struct Outputs {
-    items: Vec<TxOut>,
+/// The outputs of a transaction, in order.
+pub type Outputs = Parts<TxOut>;
+
+impl PartialEq for TxOut {
+    ghost use Rattle.std.specs.Cmp.{decided, partial_equiv_from_equiv};
+    ghost use Rattle.txn.specs.Equality.{same_output};
+    ghost use Rattle.txn.specs.laws.Equality.{same_output-decides};
+
+    ghost eq = { same_output };
+
+    ghost laws = { partial_equiv_from_equiv (decided same_output same_output-decides) };
+
+    fn eq(&self, other: &TxOut) -> bool
+        ensures fields { result ≡ same_output self.now other.now }
+        ensures equal { IsTrue result ↔ (self.now ≡ other.now) }
+    {
+        self.value == other.value && self.script == other.script
+    }
 }
 
-impl Model for Outputs {
-    ghost use Rattle.std.specs.Prelude.{List};
-    ghost use Rattle.txn.specs.declared.output.TxOut.{TxOut};
+impl Eq for TxOut {
+    ghost use Rattle.std.specs.Cmp.{decided};
+    ghost use Rattle.txn.specs.Equality.{same_output};
+    ghost use Rattle.txn.specs.laws.Equality.{same_output-decides};
 
-    ghost Value = { List TxOut };
-
-    ghost view = { λ s. s.items.items };
+    ghost laws = { decided same_output same_output-decides };
 }
 
 impl TxOut {
@@ -32,43 +44,5 @@ impl TxOut {
         ensures { IfOk result (λ output. output ≡ self.now) }
     {
         Ok(self.clone()?)
-    }
-}
-
-impl Outputs {
-    /// The outputs of this list.
-    pub fn from_vec(items: Vec<TxOut>) -> Outputs
-        ensures { result ≡ items.items }
-    {
-        Outputs { items }
-    }
-
-    /// Their list, given back.
-    pub fn into_vec(self) -> Vec<TxOut>
-        ensures { result.items ≡ self }
-    {
-        let Outputs { items } = self;
-        items
-    }
-
-    /// The outputs, lent.
-    pub fn as_slice(&self) -> &[TxOut]
-        ensures { result.now ≡ self.now }
-    {
-        self.items.as_slice()
-    }
-
-    /// How many there are.
-    pub fn len(&self) -> usize
-        ensures { result ≡ length self.now }
-    {
-        self.items.len()
-    }
-
-    /// Whether there is none.
-    pub fn is_empty(&self) -> bool
-        ensures { IsTrue result ↔ (self.now ≡ []) }
-    {
-        self.items.is_empty()
     }
 }

@@ -1,11 +1,12 @@
-ghost use Rattle.std.specs.Prelude.{◌≡◌, ◌++◌, ℕ, List, Ok, Err, IfOk, IfErr, OnErr, IfSome};
+ghost use Rattle.std.specs.Prelude.{◌≡◌, ◌++◌, ℕ, ◌/◌, min, List, [], length, vec_capacity, Ok, Err, IfOk, IfErr, OnErr, IfSome};
 ghost use Rattle.wire.specs.declared.fault.WireFault.{WireFault};
 ghost use Rattle.wire.specs.Grammar.{IsBytes};
-ghost use Rattle.wire.specs.Reading.{Gives, sized_at, counted_at};
+ghost use Rattle.wire.specs.computed.Reading.{Gives, sized_at, many_at, counted_at};
 ghost use Rattle.txn.specs.declared.tx.Tx.{Tx};
 ghost use Rattle.txn.specs.Faults.{spoken};
 ghost use Rattle.txn.specs.Grammar.{transaction};
-ghost use Rattle.txn.specs.Reading.{outpoint_at, tx_in_at, tx_out_at, tx_at};
+ghost use Rattle.txn.specs.Room.{least_input, least_output};
+ghost use Rattle.txn.specs.computed.Reading.{outpoint_at, tx_in_at, tx_out_at, tx_at};
 
 use crate::fault::TxFault;
 use crate::input::{Inputs, TxIn};
@@ -23,7 +24,7 @@ const LEAST_INPUT: usize = 41;
 /// The fewest bytes of an output: a value of 8, the count of an empty script.
 const LEAST_OUTPUT: usize = 9;
 
-#[tactic(auto, unfolding(crate::specs::Reading::outpoint_at))]
+#[tactic(auto, unfolding(crate::specs::computed::Reading::outpoint_at))]
 fn outpoint(bytes: &mut Cursor) -> Result<OutPoint, TxFault>
     ensures { Gives spoken result bytes.new (outpoint_at bytes.old) }
 {
@@ -33,8 +34,8 @@ fn outpoint(bytes: &mut Cursor) -> Result<OutPoint, TxFault>
     Ok(OutPoint { id: Id(id), index })
 }
 
-#[tactic(auto, unfolding(wire::specs::Reading::sized_at))]
-fn script(bytes: &mut Cursor, alloc: Global) -> Result<Script, TxFault>
+#[tactic(auto, unfolding(wire::specs::computed::Reading::sized_at))]
+fn script(alloc: Global, bytes: &mut Cursor) -> Result<Script, TxFault>
     ensures { Gives spoken result bytes.new (sized_at bytes.old) }
 {
     let len = bytes.compact()?;
@@ -42,12 +43,12 @@ fn script(bytes: &mut Cursor, alloc: Global) -> Result<Script, TxFault>
     Ok(Script::from_vec(Vec::from_slice(alloc, piece)?))
 }
 
-#[tactic(auto, unfolding(crate::specs::Reading::tx_in_at))]
-fn tx_in(bytes: &mut Cursor, alloc: Global) -> Result<TxIn, TxFault>
+#[tactic(auto, unfolding(crate::specs::computed::Reading::tx_in_at))]
+fn tx_in(alloc: Global, bytes: &mut Cursor) -> Result<TxIn, TxFault>
     ensures { Gives spoken result bytes.new (tx_in_at bytes.old) }
 {
     let prev = outpoint(bytes)?;
-    let script = script(bytes, alloc)?;
+    let script = script(alloc, bytes)?;
     let sequence = bytes.u32le()?;
     Ok(TxIn {
         prev,
@@ -56,47 +57,77 @@ fn tx_in(bytes: &mut Cursor, alloc: Global) -> Result<TxIn, TxFault>
     })
 }
 
-#[tactic(auto, unfolding(crate::specs::Reading::tx_out_at))]
-fn tx_out(bytes: &mut Cursor, alloc: Global) -> Result<TxOut, TxFault>
+#[tactic(auto, unfolding(crate::specs::computed::Reading::tx_out_at))]
+fn tx_out(alloc: Global, bytes: &mut Cursor) -> Result<TxOut, TxFault>
     ensures { Gives spoken result bytes.new (tx_out_at bytes.old) }
 {
     let value = bytes.i64le()?;
-    let script = script(bytes, alloc)?;
+    let script = script(alloc, bytes)?;
     Ok(TxOut { value, script })
 }
 
-#[tactic(auto, unfolding(wire::specs::Reading::counted_at))]
-fn inputs(bytes: &mut Cursor, alloc: Global) -> Result<Inputs, TxFault>
+#[tactic(auto, unfolding(wire::specs::computed::Reading::counted_at))]
+fn inputs(alloc: Global, bytes: &mut Cursor) -> Result<Inputs, TxFault>
     ensures { Gives spoken result bytes.new (counted_at tx_in_at bytes.old) }
 {
     let count = bytes.compact()?;
     // A count alone takes no memory: there is no room for more than the bytes can spell.
-    let mut items = Vec::with_capacity(alloc, bytes.room(count, LEAST_INPUT))?;
+    let empty = Vec::with_capacity(alloc, bytes.room(count, LEAST_INPUT))?;
+    each_input(alloc, bytes, count, empty)
+}
+
+/// So many inputs, read into an empty list with room for no more than the bytes can spell.
+fn each_input(
+    alloc: Global,
+    bytes: &mut Cursor,
+    count: u64,
+    empty: Vec<TxIn>,
+) -> Result<Inputs, TxFault>
+    requires empty { empty.items ≡ [] }
+    requires room { vec_capacity empty ≡ min count (length bytes.old / least_input) }
+    ensures { Gives spoken result bytes.new (many_at tx_in_at count bytes.old) }
+{
+    let mut items = empty;
     for _ in 0..count {
-        items.push(tx_in(bytes, alloc)?)?;
+        items.push(tx_in(alloc, bytes)?)?;
     }
     Ok(Inputs::from_vec(items))
 }
 
-#[tactic(auto, unfolding(wire::specs::Reading::counted_at))]
-fn outputs(bytes: &mut Cursor, alloc: Global) -> Result<Outputs, TxFault>
+#[tactic(auto, unfolding(wire::specs::computed::Reading::counted_at))]
+fn outputs(alloc: Global, bytes: &mut Cursor) -> Result<Outputs, TxFault>
     ensures { Gives spoken result bytes.new (counted_at tx_out_at bytes.old) }
 {
     let count = bytes.compact()?;
-    let mut items = Vec::with_capacity(alloc, bytes.room(count, LEAST_OUTPUT))?;
+    let empty = Vec::with_capacity(alloc, bytes.room(count, LEAST_OUTPUT))?;
+    each_output(alloc, bytes, count, empty)
+}
+
+/// So many outputs, read into an empty list with room for no more than the bytes can spell.
+fn each_output(
+    alloc: Global,
+    bytes: &mut Cursor,
+    count: u64,
+    empty: Vec<TxOut>,
+) -> Result<Outputs, TxFault>
+    requires empty { empty.items ≡ [] }
+    requires room { vec_capacity empty ≡ min count (length bytes.old / least_output) }
+    ensures { Gives spoken result bytes.new (many_at tx_out_at count bytes.old) }
+{
+    let mut items = empty;
     for _ in 0..count {
-        items.push(tx_out(bytes, alloc)?)?;
+        items.push(tx_out(alloc, bytes)?)?;
     }
     Ok(Outputs::from_vec(items))
 }
 
-#[tactic(auto, unfolding(crate::specs::Reading::tx_at))]
-fn tx(bytes: &mut Cursor, alloc: Global) -> Result<Tx, TxFault>
+#[tactic(auto, unfolding(crate::specs::computed::Reading::tx_at))]
+fn tx(alloc: Global, bytes: &mut Cursor) -> Result<Tx, TxFault>
     ensures { Gives spoken result bytes.new (tx_at bytes.old) }
 {
     let version = bytes.i32le()?;
-    let inputs = inputs(bytes, alloc)?;
-    let outputs = outputs(bytes, alloc)?;
+    let inputs = inputs(alloc, bytes)?;
+    let outputs = outputs(alloc, bytes)?;
     let lock_time = bytes.u32le()?;
     Ok(Tx {
         version,
@@ -107,13 +138,13 @@ fn tx(bytes: &mut Cursor, alloc: Global) -> Result<Tx, TxFault>
 }
 
 /// The transaction at the front, as it is read from left to right.
-fn front(bytes: &mut Cursor, alloc: Global) -> Result<Tx, TxFault>
+fn front(alloc: Global, bytes: &mut Cursor) -> Result<Tx, TxFault>
     ensures exact { Gives spoken result bytes.new (tx_at bytes.old) }
     ensures kept { OnErr result (bytes.new ≡ bytes.old) }
     ensures bytes { IsBytes bytes.old }
 {
     let mut ahead = Cursor::new(bytes.rest());
-    let tx = tx(&mut ahead, alloc)?;
+    let tx = tx(alloc, &mut ahead)?;
     *bytes = ahead;
     Ok(tx)
 }
@@ -121,7 +152,7 @@ fn front(bytes: &mut Cursor, alloc: Global) -> Result<Tx, TxFault>
 /// The transaction at the front. Numbers have their lowest byte first.
 ///
 /// A count of 0 inputs is read as such. The first refusal met from the left is the answer.
-pub fn read(bytes: &mut Cursor, alloc: Global) -> Result<Tx, TxFault>
+pub fn read(alloc: Global, bytes: &mut Cursor) -> Result<Tx, TxFault>
     // What is read is lawful, and spelled at the front.
     ensures found { IfOk result (λ t. transaction.Lawful t × (bytes.old ≡ transaction.spell t ++ bytes.new)) }
     // A refusal names a fault that the bytes have, unless memory ran out.
@@ -135,5 +166,5 @@ pub fn read(bytes: &mut Cursor, alloc: Global) -> Result<Tx, TxFault>
     // The same, as reading from left to right.
     ensures exact { Gives spoken result bytes.new (tx_at bytes.old) }
 {
-    front(bytes, alloc)
+    front(alloc, bytes)
 }

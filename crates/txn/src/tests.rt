@@ -18,7 +18,7 @@ const ID: &str = "d4869026d57b97544a104bd5443e7412c8d4096ffa1ddc64402796dbcfab8b
 #[test]
 fn one(rt: HostRuntime) -> Result<(), Fail> {
     let mut cursor = Cursor::new(&BYTES);
-    let tx = read(&mut cursor, rt.alloc())?;
+    let tx = read(rt.alloc(), &mut cursor)?;
     assert_eq!(rt; cursor.rest(), [0xaa, 0xbb].as_slice());
     assert_eq!(rt; (tx.version, tx.lock_time), (1, 9));
     assert_eq!(rt; (tx.inputs.len(), tx.outputs.len()), (1, 1));
@@ -26,7 +26,7 @@ fn one(rt: HostRuntime) -> Result<(), Fail> {
     for input in tx.inputs.as_slice() {
         let copy = input.copy()?;
         assert_eq!(rt; (copy.prev.id, copy.prev.index), (Id([7; 32]), 2));
-        assert_eq!(rt; copy.script.copy()?.as_slice(), [0x51, 0x52].as_slice());
+        assert_eq!(rt; copy.script.clone()?.as_slice(), [0x51, 0x52].as_slice());
         assert_eq!(rt;
             (copy.sequence, copy.script.is_empty()),
             (0xffff_ffff, false)
@@ -37,10 +37,10 @@ fn one(rt: HostRuntime) -> Result<(), Fail> {
         assert_eq!(rt; (copy.value, copy.script.len()), (-3, 0));
     }
     assert!(rt; !tx.is_coinbase());
-    assert_eq!(rt; Id::read(ID.as_bytes()), Some(tx.id(rt.alloc())?));
+    assert_eq!(rt; Id::read(ID.as_bytes()), Some(tx.id()));
     assert_eq!(rt;
-        ids(&[tx.copy()?], rt.alloc())?.as_slice(),
-        [tx.id(rt.alloc())?].as_slice()
+        ids(rt.alloc(), &[tx.copy()?])?.as_slice(),
+        [tx.id()].as_slice()
     );
     let mut out = Vec::new(rt.alloc());
     write(&tx.copy()?, &mut out)?;
@@ -48,17 +48,32 @@ fn one(rt: HostRuntime) -> Result<(), Fail> {
     Ok(())
 }
 
+/// Eight of them are hashed at once, and the ninth alone.
+#[test]
+fn nine(rt: HostRuntime) -> Result<(), Fail> {
+    let mut txs = Vec::new(rt.alloc());
+    for _ in 0..9 {
+        txs.push(read(rt.alloc(), &mut Cursor::new(&BYTES))?)?;
+    }
+    let found = ids(rt.alloc(), txs.as_slice())?;
+    assert_eq!(rt; found.len(), 9);
+    for id in found.as_slice() {
+        assert_eq!(rt; Some(*id), Id::read(ID.as_bytes()));
+    }
+    Ok(())
+}
+
 #[test]
 fn faults(rt: HostRuntime) -> Result<(), Fail> {
     let mut short = Cursor::new(&BYTES[..61]);
-    assert_eq!(rt; read(&mut short, rt.alloc()).err(), Some(TxFault::Short));
+    assert_eq!(rt; read(rt.alloc(), &mut short).err(), Some(TxFault::Short));
     assert_eq!(rt; short.rest().len(), 61);
     let mut long = Cursor::new(&[1, 0, 0, 0, 253, 252, 0]);
-    assert_eq!(rt; read(&mut long, rt.alloc()).err(), Some(TxFault::LongForm));
+    assert_eq!(rt; read(rt.alloc(), &mut long).err(), Some(TxFault::LongForm));
     let mut large = Cursor::new(&[1, 0, 0, 0, 254, 1, 0, 0, 2]);
-    assert_eq!(rt; read(&mut large, rt.alloc()).err(), Some(TxFault::TooLarge));
+    assert_eq!(rt; read(rt.alloc(), &mut large).err(), Some(TxFault::TooLarge));
     let mut none = Cursor::new(&[0; 10]);
-    assert!(rt; read(&mut none, rt.alloc())?.inputs.is_empty());
+    assert!(rt; read(rt.alloc(), &mut none)?.inputs.is_empty());
     Ok(())
 }
 
@@ -87,8 +102,8 @@ fn spending(alloc: Global, outpoints: &[OutPoint]) -> Result<Tx, AllocError> {
 
 #[test]
 fn rules_of_a_transaction(rt: HostRuntime) -> Result<(), Fail> {
-    let negative = read(&mut Cursor::new(&BYTES), rt.alloc())?;
-    let found = check(&negative, rt.alloc())?;
+    let negative = read(rt.alloc(), &mut Cursor::new(&BYTES))?;
+    let found = check(rt.alloc(), &negative)?;
     assert_eq!(rt; found, Some(Reason::OutputNegative));
     let one = OutPoint {
         id: Id([7; 32]),
@@ -96,9 +111,9 @@ fn rules_of_a_transaction(rt: HostRuntime) -> Result<(), Fail> {
     };
     let other = OutPoint { index: 1, ..one };
     let sound = spending(rt.alloc(), &[one, other])?;
-    assert_eq!(rt; check(&sound, rt.alloc())?, None);
+    assert_eq!(rt; check(rt.alloc(), &sound)?, None);
     let twice = spending(rt.alloc(), &[one, other, one])?;
-    let found = check(&twice, rt.alloc())?;
+    let found = check(rt.alloc(), &twice)?;
     assert_eq!(rt; found, Some(Reason::DuplicateInputs));
     Ok(())
 }
@@ -110,7 +125,7 @@ fn a_count_alone_takes_no_room(rt: HostRuntime) {
     bytes[4] = 254;
     bytes[8] = 2;
     let mut cursor = Cursor::new(&bytes);
-    assert_eq!(rt; read(&mut cursor, rt.alloc()).err(), Some(TxFault::Short));
+    assert_eq!(rt; read(rt.alloc(), &mut cursor).err(), Some(TxFault::Short));
 }
 
 #[test]

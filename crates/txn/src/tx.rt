@@ -1,15 +1,19 @@
 ghost use Rattle.std.specs.Prelude.{◌≡◌, IfOk, IsTrue, ◌↔◌};
-ghost use Rattle.txn.specs.Coinbase.{IsCoinbase};
-ghost use Rattle.txn.specs.Identity.{id_of, ids_of};
+ghost use Rattle.txn.specs.Coinbase.{IsCoinbase, is_coinbase};
+ghost use Rattle.txn.specs.Identity.{id_of};
 
+use crate::feeding::feed_tx;
 use crate::input::Inputs;
 use crate::output::Outputs;
-use crate::writing::write;
-use hash::{Id, double_sha};
-use std::alloc::{AllocError, Global};
+use hash::{Id, finish};
+use sha2::{Digest, Sha256};
+use std::alloc::AllocError;
 use wire::Memory;
 
-/// A transaction. `lock_time` is a height below 500,000,000, and else seconds since 1970.
+/// A lock time below it is a height, and else seconds since 1970 (Bitcoin Core's `LOCKTIME_THRESHOLD`).
+pub const LOCKTIME_THRESHOLD: u32 = 500_000_000;
+
+/// A transaction. `lock_time` is a height below [`LOCKTIME_THRESHOLD`], and else seconds since 1970.
 #[derive(Debug, Drop)]
 pub struct Tx {
     pub version: i32,
@@ -32,6 +36,34 @@ impl Clone for Tx {
     }
 }
 
+impl PartialEq for Tx {
+    ghost use Rattle.std.specs.Cmp.{decided, partial_equiv_from_equiv};
+    ghost use Rattle.txn.specs.Equality.{same_tx};
+    ghost use Rattle.txn.specs.laws.Equality.{same_tx-decides};
+
+    ghost eq = { same_tx };
+
+    ghost laws = { partial_equiv_from_equiv (decided same_tx same_tx-decides) };
+
+    fn eq(&self, other: &Tx) -> bool
+        ensures fields { result ≡ same_tx self.now other.now }
+        ensures equal { IsTrue result ↔ (self.now ≡ other.now) }
+    {
+        self.version == other.version
+            && self.inputs == other.inputs
+            && self.outputs == other.outputs
+            && self.lock_time == other.lock_time
+    }
+}
+
+impl Eq for Tx {
+    ghost use Rattle.std.specs.Cmp.{decided};
+    ghost use Rattle.txn.specs.Equality.{same_tx};
+    ghost use Rattle.txn.specs.laws.Equality.{same_tx-decides};
+
+    ghost laws = { decided same_tx same_tx-decides };
+}
+
 impl Tx {
     /// An equal transaction.
     pub fn copy(&self) -> Result<Tx, Memory>
@@ -40,33 +72,24 @@ impl Tx {
         Ok(self.clone()?)
     }
 
-    /// The transaction's id: double SHA-256 of its bytes, which are written once for it.
-    pub fn id(&self, alloc: Global) -> Result<Id, Memory>
-        ensures { IfOk result (λ id. id ≡ id_of self.now) }
+    /// The transaction's id: double SHA-256 of its bytes, which are fed to the hasher as they are spelled.
+    pub fn id(&self) -> Id
+        ensures { result ≡ id_of self.now }
     {
-        let mut bytes = Vec::new(alloc);
-        write(self, &mut bytes)?;
-        Ok(Id(double_sha(bytes.as_slice())))
+        let mut hasher = Sha256::new();
+        feed_tx(&mut hasher, self);
+        Id(finish(hasher))
     }
 
     /// Whether it makes new coins, as the first transaction of a block does (Bitcoin Core's `IsCoinBase`).
     pub fn is_coinbase(&self) -> bool
-        ensures { IsTrue result ↔ IsCoinbase self.now }
+        ensures coinbase { IsTrue result ↔ IsCoinbase self.now }
+        // The same, as a test.
+        ensures test { result ≡ is_coinbase self.now }
     {
         match self.inputs.as_slice() {
             [input] => input.prev.is_null(),
             _ => false,
         }
     }
-}
-
-/// The ids of transactions, in order.
-pub fn ids(txs: &[Tx], alloc: Global) -> Result<Vec<Id>, Memory>
-    ensures { IfOk result (λ ids. ids.items ≡ ids_of txs.now) }
-{
-    let mut ids = Vec::with_capacity(alloc, txs.len())?;
-    for tx in txs {
-        ids.push(tx.id(alloc)?)?;
-    }
-    Ok(ids)
 }

@@ -1,7 +1,9 @@
-ghost use Rattle.std.specs.Prelude.{◌≡◌, ◌++◌, OnOk, OnErr};
+ghost use Rattle.std.specs.Prelude.{◌≡◌, ◌≤◌, ◌++◌, length, OnOk, OnErr};
 ghost use Rattle.wire.specs.Grammar.{sized, counted};
+ghost use Rattle.wire.specs.Spelling.{limit};
 ghost use Rattle.wire.specs.Writing.{Extends};
 ghost use Rattle.txn.specs.Grammar.{outpoint, input, output, transaction};
+ghost use Rattle.txn.specs.Limits.{AreInputsWithin, AreOutputsWithin, IsWithinLimits};
 
 use crate::input::{Inputs, TxIn};
 use crate::outpoint::OutPoint;
@@ -10,30 +12,42 @@ use crate::script::Script;
 use crate::tx::Tx;
 use wire::{Memory, put_compact};
 
-#[tactic(auto, using(wire::specs::Writing::extending))]
+#[tactic(auto, using(wire::specs::laws::Writing::extending))]
 fn put_outpoint(out: &mut Vec<u8>, p: &OutPoint) -> Result<(), Memory>
     ensures written { OnOk result (out.new.items ≡ out.old.items ++ outpoint.spell p.now) }
     ensures extends { Extends out.old.items out.new.items }
+    ensures lawful { outpoint.Lawful p.now }
 {
+    knows_outpoint(*p);
     out.extend_from_slice(&p.id.0)?;
     out.extend_from_slice(&p.index.to_le_bytes())?;
     Ok(())
 }
 
-#[tactic(auto, using(wire::specs::Writing::extending))]
+/// An outpoint is lawful, whatever it is: its fields have their types' ranges.
+fn knows_outpoint(p: OutPoint)
+    ensures { outpoint.Lawful p }
+{
+    let _id = p.id.0;
+}
+
+#[tactic(auto, using(wire::specs::laws::Writing::extending))]
 fn put_script(out: &mut Vec<u8>, s: &Script) -> Result<(), Memory>
     ensures written { OnOk result (out.new.items ≡ out.old.items ++ sized.spell s.now) }
     ensures extends { Extends out.old.items out.new.items }
+    ensures lawful { length s.now ≤ limit → sized.Lawful s.now }
 {
-    put_compact(out, s.len() as u64)?;
-    out.extend_from_slice(s.as_slice())?;
+    let bytes = s.as_slice();
+    put_compact(out, bytes.len() as u64)?;
+    out.extend_from_slice(bytes)?;
     Ok(())
 }
 
-#[tactic(auto, using(wire::specs::Writing::extending))]
+#[tactic(auto, using(wire::specs::laws::Writing::extending))]
 fn put_tx_in(out: &mut Vec<u8>, i: &TxIn) -> Result<(), Memory>
     ensures written { OnOk result (out.new.items ≡ out.old.items ++ input.spell i.now) }
     ensures extends { Extends out.old.items out.new.items }
+    ensures lawful { OnOk result (length i.now.script ≤ limit → input.Lawful i.now) }
 {
     put_outpoint(out, &i.prev)?;
     put_script(out, &i.script)?;
@@ -41,19 +55,21 @@ fn put_tx_in(out: &mut Vec<u8>, i: &TxIn) -> Result<(), Memory>
     Ok(())
 }
 
-#[tactic(auto, using(wire::specs::Writing::extending))]
+#[tactic(auto, using(wire::specs::laws::Writing::extending))]
 fn put_tx_out(out: &mut Vec<u8>, o: &TxOut) -> Result<(), Memory>
     ensures written { OnOk result (out.new.items ≡ out.old.items ++ output.spell o.now) }
     ensures extends { Extends out.old.items out.new.items }
+    ensures lawful { OnOk result (length o.now.script ≤ limit → output.Lawful o.now) }
 {
     out.extend_from_slice(&o.value.to_le_bytes())?;
     put_script(out, &o.script)
 }
 
-#[tactic(auto, using(wire::specs::Writing::extending))]
+#[tactic(auto, using(wire::specs::laws::Writing::extending))]
 fn put_inputs(out: &mut Vec<u8>, inputs: &Inputs) -> Result<(), Memory>
     ensures written { OnOk result (out.new.items ≡ out.old.items ++ (counted input).spell inputs.now) }
     ensures extends { Extends out.old.items out.new.items }
+    ensures lawful { OnOk result (AreInputsWithin inputs.now → (counted input).Lawful inputs.now) }
 {
     put_compact(out, inputs.len() as u64)?;
     for i in inputs.as_slice() {
@@ -62,10 +78,11 @@ fn put_inputs(out: &mut Vec<u8>, inputs: &Inputs) -> Result<(), Memory>
     Ok(())
 }
 
-#[tactic(auto, using(wire::specs::Writing::extending))]
+#[tactic(auto, using(wire::specs::laws::Writing::extending))]
 fn put_outputs(out: &mut Vec<u8>, outputs: &Outputs) -> Result<(), Memory>
     ensures written { OnOk result (out.new.items ≡ out.old.items ++ (counted output).spell outputs.now) }
     ensures extends { Extends out.old.items out.new.items }
+    ensures lawful { OnOk result (AreOutputsWithin outputs.now → (counted output).Lawful outputs.now) }
 {
     put_compact(out, outputs.len() as u64)?;
     for o in outputs.as_slice() {
@@ -74,10 +91,11 @@ fn put_outputs(out: &mut Vec<u8>, outputs: &Outputs) -> Result<(), Memory>
     Ok(())
 }
 
-#[tactic(auto, using(wire::specs::Writing::extending))]
+#[tactic(auto, using(wire::specs::laws::Writing::extending))]
 fn put_tx(out: &mut Vec<u8>, t: &Tx) -> Result<(), Memory>
     ensures written { OnOk result (out.new.items ≡ out.old.items ++ transaction.spell t.now) }
     ensures extends { Extends out.old.items out.new.items }
+    ensures lawful { OnOk result (IsWithinLimits t.now → transaction.Lawful t.now) }
 {
     out.extend_from_slice(&t.version.to_le_bytes())?;
     put_inputs(out, &t.inputs)?;
@@ -87,10 +105,13 @@ fn put_tx(out: &mut Vec<u8>, t: &Tx) -> Result<(), Memory>
 }
 
 /// Writes the bytes of a transaction at the end.
-#[tactic(auto, using(wire::specs::Writing::extending))]
+#[tactic(auto, using(wire::specs::laws::Writing::extending))]
 pub fn write(tx: &Tx, out: &mut Vec<u8>) -> Result<(), Memory>
     ensures written { OnOk result (out.new.items ≡ out.old.items ++ transaction.spell tx.now) }
     ensures kept { OnErr result (out.new.items ≡ out.old.items) }
+    // What is written is lawful, and so read again (`laws::what_is_spelled_is_read`), unless a list or a
+    // script is too long.
+    ensures lawful { OnOk result (IsWithinLimits tx.now → transaction.Lawful tx.now) }
 {
     let before = out.len();
     let written = put_tx(out, tx);

@@ -1,15 +1,19 @@
 //! Numbers, counts and pieces of bytes, read from left to right, as Bitcoin's messages spell them.
 #![tactic(auto)]
 
+mod compact_size;
 mod cursor;
 mod fault;
 pub mod laws;
 mod memory;
+mod parts;
 mod writing;
 
+pub use compact_size::CompactSize;
 pub use cursor::{Cursor, LIMIT};
 pub use fault::WireFault;
 pub use memory::Memory;
+pub use parts::Parts;
 pub use writing::put_compact;
 
 #[cfg(test)]

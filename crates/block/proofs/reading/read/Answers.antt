@@ -5,7 +5,7 @@ use Rattle.std.proofs.lemmas.Grind.{common_steps}
 use Rattle.std.proofs.lemmas.Bool.{eqb-true}
 use Rattle.block.proofs.Whole.{whole_found, whole_extra, whole_reads, whole_refused, only_memory, front_refuses, extra_only, as_refusal, decodes_or_not}
 use Rattle.block.specs.declared.fault.ReadFault.TheVariants as faults
-use Rattle.block.specs.Decoding.{decoded-spelled, decoded-faulty}
+use Rattle.block.specs.laws.Decoding.{decoded-spelled, decoded-faulty}
 use Rattle.block.proofs.reading.read.Goals as goal
 
 pub returns-in_err-block-clause-refused : goal.returns-in_err-block-clause-refused

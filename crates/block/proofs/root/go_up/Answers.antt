@@ -1,14 +1,24 @@
-use Rattle.std.proofs.Common.{inl, inr, ◌*◌, ◌<◌, length, arith}
-use Rattle.block.proofs.Tree.{halfway_step}
+use Rattle.std.proofs.Common.{◌≡◌, length, ◌∙◌, arith}
+use Rattle.std.proofs.lemmas.List.{with_items_is}
+use Rattle.block.specs.Merkle.{pair}
+use Rattle.block.proofs.Tree.{above-even, above-length, above-odd}
 use Rattle.block.proofs.root.go_up.Goals as goal
-use Rattle.block.proofs.root.go_up.Goals.{then-k-len, else-k-len}
 
-pub loop-k-preserved : goal.loop-k-preserved
-loop-k-preserved c =
-    let below : 2 * c.loop-k.k < length c.args.level.now.items = omega (arith, c.loop-k-test.true, c.len-len.ensures) in
-    halfway_step c.args.level.now.items c.loop-k.level.items c.loop-k.k c.if-k-len.right c.pair-hashed.result c.index.result.now c.index-in-loop-k.result.now
-    c.loop-k.invariant below c.index.ensures c.index-in-loop-k.ensures c.pair-hashed.ensures
-    (elim c.if-k-len.branch [
-      | then-k-len w ↦ inl (omega (arith, w.if-k-len.true, c.len-len.ensures), w.right-is)
-      | else-k-len w ↦ inr (omega (arith, w.if-k-len.false, c.len-len.ensures), w.right-is)
-    ])
+pub returns-then-len-eq0 : goal.returns-then-len-eq0
+returns-then-len-eq0 c =
+    let old = c.args.level.now in
+    let len : c.len-len.result ≡ length old.items = omega (arith, c.len-len.ensures, c.as_mut_slice.ensures.len) in
+    let paired = rw c.as_mut_slice.ensures.value at c.pairs.ensures in
+    let same = with_items_is old c.pairs.new.level (omega (arith, above-length old.items c.pairs.new.level paired, c.as_mut_slice.ensures.len)) in
+    (rw len at c.truncate.ensures.items) ∙ above-even old.items _ (same ∙ paired) (omega (arith, c.if-len-eq0.true, c.len-len.ensures))
+
+pub returns-else-len-eq0 : goal.returns-else-len-eq0
+returns-else-len-eq0 c =
+    let old = c.args.level.now in
+    let len : c.len-len.result ≡ length old.items = omega (arith, c.len-len.ensures, c.as_mut_slice.ensures.len) in
+    let paired = rw c.as_mut_slice.ensures.value at c.pairs.ensures in
+    let same = with_items_is old c.pairs.new.level (omega (arith, above-length old.items c.pairs.new.level paired, c.as_mut_slice.ensures.len)) in
+    let last = rw len at c.index.ensures in
+    (rw len at c.truncate-else-len-eq0.ensures.items)
+    ∙ above-odd old.items _ c.pair.result c.index.result.now (same ∙ paired) (omega (arith, c.if-len-eq0.false, c.len-len.ensures))
+    (c.pair.ensures ∙ (λ i. pair (last i) (last i)))

@@ -1,4 +1,4 @@
-use Rattle.wire.specs.Writing.{extends-trans}
+use Rattle.wire.specs.laws.Writing.{extends-trans}
 use Rattle.block.proofs.writing.put_block.Goals as goal
 
 pub returns-clause-extends : goal.returns-clause-extends

@@ -1,6 +1,6 @@
 use Rattle.std.proofs.Common.{rules}
 use Rattle.block.proofs.Parts.{Numbers, header_after}
-use Rattle.wire.specs.Writing.{extends-if, extends-trans}
+use Rattle.wire.specs.laws.Writing.{extends-if, extends-trans}
 use Rattle.block.proofs.writing.put_header.Goals as goal
 
 pub returns-in_err-extend_from_slice-2-clause-extends : goal.returns-in_err-extend_from_slice-2-clause-extends

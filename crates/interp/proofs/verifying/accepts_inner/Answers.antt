@@ -1,5 +1,5 @@
 use Rattle.std.proofs.Common.{◌∙◌, sym}
-use Rattle.interp.proofs.Accepting.{inner-empty}
+use Rattle.interp.specs.laws.Accepting.{inner-empty}
 use Rattle.interp.proofs.verifying.accepts_inner.Goals as goal
 
 pub returns-then-len-eq0 : goal.returns-then-len-eq0

@@ -1,7 +1,7 @@
 use Rattle.std.proofs.Common.{◌≡◌, ◌∙◌, ◌==◌, length, true, Some, sym, ap, arith}
 use Rattle.script.specs.Ops.{is_whole}
-use Rattle.script.specs.Laws.{rest-more}
-use Rattle.interp.proofs.Runs.{gave, gave_none, run-went, run-stuck, run-ended, outcome-long, outcome-cut, outcome-ran, outcome-stuck}
+use Rattle.script.specs.laws.Ops.{rest-more}
+use Rattle.interp.specs.laws.Runs.{gave, gave_none, run-went, run-stuck, run-ended, outcome-long, outcome-cut, outcome-ran, outcome-stuck}
 use Rattle.interp.proofs.verifying.run.Goals as goal
 
 pub returns-then-script-gt-MAX_SCRIPT_SIZE : goal.returns-then-script-gt-MAX_SCRIPT_SIZE

@@ -1,4 +1,4 @@
-use Rattle.locks.specs.Laws as laws
+use Rattle.locks.specs.laws.MedianTime as laws
 use Rattle.locks.proofs.laws.one_median.Goals as goal
 
 pub returns : goal.returns

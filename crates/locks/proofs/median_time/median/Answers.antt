@@ -1,7 +1,7 @@
 use Rattle.std.proofs.Common.{◌/◌, length, get_or, subst, refl, arith}
 use Rattle.std.specs.List.Sorted.{IsPermutation}
 use Rattle.std.proofs.lemmas.List.Sorted.{IsNonDecreasingBy-from_sort}
-use Rattle.locks.specs.Laws.{one_median}
+use Rattle.locks.specs.laws.MedianTime.{one_median}
 use Rattle.locks.proofs.Middle.{middle}
 use Rattle.locks.proofs.median_time.median.Goals as goal
 

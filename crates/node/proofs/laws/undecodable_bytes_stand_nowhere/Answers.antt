@@ -1,5 +1,5 @@
 use Rattle.node.specs.Early.{early, opening}
-use Rattle.node.specs.Laws.{stands_within, undecodable}
+use Rattle.node.specs.laws.History.{stands_within, undecodable}
 use Rattle.node.proofs.laws.undecodable_bytes_stand_nowhere.Goals as goal
 
 pub returns : goal.returns

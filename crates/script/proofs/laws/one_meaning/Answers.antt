@@ -1,4 +1,4 @@
-use Rattle.script.specs.Laws.{pushed-spelled, number-spelled}
+use Rattle.script.specs.laws.Ops.{pushed-spelled, number-spelled}
 use Rattle.script.proofs.laws.one_meaning.Goals as goal
 
 pub returns-clause-number : goal.returns-clause-number

@@ -1,5 +1,5 @@
-use Rattle.script.specs.Laws.{splits, alone}
-use Rattle.script.specs.CutShort.{rest-cut_short}
+use Rattle.script.specs.laws.Ops.{splits, alone}
+use Rattle.script.specs.laws.CutShort.{rest-cut_short}
 use Rattle.script.proofs.laws.one_split.Goals as goal
 
 pub returns-clause-splits : goal.returns-clause-splits

@@ -1,6 +1,6 @@
 use Rattle.std.proofs.Common.{◌≡◌, true, false, sym, ap, ◌∙◌, arith}
 use Rattle.txn.specs.Check.{has_twice, same_outpoint}
-use Rattle.txn.specs.CheckLaws.{has_twice-permuted}
+use Rattle.txn.specs.laws.Check.{has_twice-permuted}
 use Rattle.txn.proofs.Sorted.{none_twice, neighbours, short}
 use Rattle.txn.proofs.checking.has_twice.Goals as goal
 

@@ -1,4 +1,4 @@
-use Rattle.txn.specs.CheckLaws.{is_coinbase-means}
+use Rattle.txn.specs.laws.Check.{is_coinbase-means}
 use Rattle.txn.proofs.laws.coinbases_have_one_null_input.Goals as goal
 
 pub returns : goal.returns

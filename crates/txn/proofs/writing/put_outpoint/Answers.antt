@@ -1,4 +1,4 @@
-use Rattle.wire.specs.Writing.{extends-if, extends-trans}
+use Rattle.wire.specs.laws.Writing.{extends-if, extends-trans}
 use Rattle.txn.proofs.writing.put_outpoint.Goals as goal
 
 pub returns-clause-extends : goal.returns-clause-extends

@@ -1,4 +1,4 @@
-use Rattle.wire.specs.Writing.{extends-either, extends-if, extends-trans}
+use Rattle.wire.specs.laws.Writing.{extends-either, extends-if, extends-trans}
 use Rattle.txn.proofs.writing.put_script.Goals as goal
 
 pub returns-clause-extends : goal.returns-clause-extends

@@ -1,4 +1,4 @@
-use Rattle.wire.specs.Writing.{extends-if, extends-trans}
+use Rattle.wire.specs.laws.Writing.{extends-if, extends-trans}
 use Rattle.txn.proofs.writing.put_tx.Goals as goal
 
 pub returns-in_err-put_inputs-clause-extends : goal.returns-in_err-put_inputs-clause-extends

@@ -2,17 +2,18 @@ use Rattle.std.proofs.Common.{◌≡◌, true, ap, sym, ◌∙◌}
 use Rattle.std.specs.Result.{is_ok}
 use Rattle.std.specs.FinSet as set
 use Rattle.std.specs.List.{insert}
-use Rattle.std.specs.List.Sorted.{IsSorted}
+use Rattle.std.specs.List.Sorted.{IsStrictlySortedBy}
 use Rattle.curve.specs.Triple.{triple_of, triple_cmp}
 use Rattle.curve.specs.Order.{triple_cmp-total, triple_cmp-exact}
-use Rattle.curve.proofs.Search.{is_ok-search, IsSorted-insert, from_list-insert, insert_again}
+use Rattle.curve.proofs.Once.{sorted_from_strict}
+use Rattle.curve.proofs.Search.{is_ok-search, strict-missed, from_list-insert, insert_again}
 use Rattle.curve.proofs.table.Table.add.Goals as goal
 
 pub invariant_of-self : goal.invariant_of-self
 invariant_of-self c =
     let items = c.self.inside.entries.items in
-    let kept : IsSorted triple_cmp (insert items c.in-Err.at c.in_ok-entry.entry) =
-    rw c.in_ok-entry.ensures (IsSorted-insert triple_cmp-total items _ c.in-Err.at c.self.invariant (rw c.as_slice.ensures.value at c.in-Err.ensures.bound) (rw c.as_slice.ensures.value at c.in-Err.ensures.position)) in
+    let kept : IsStrictlySortedBy triple_cmp (insert items c.in-Err.at c.in_ok-entry.entry) =
+    rw c.in_ok-entry.ensures (strict-missed triple_cmp-total items _ c.in-Err.at c.self.invariant (rw c.as_slice.ensures.value at c.in-Err.ensures.bound) (rw c.as_slice.ensures.value at c.in-Err.ensures.position)) in
     rw c.in_ok-insert.ensures.items kept
 
 pub returns-in_ok-insert-clause-ok : goal.returns-in_ok-insert-clause-ok
@@ -27,6 +28,6 @@ pub returns-in_default-clause-ok : goal.returns-in_default-clause-ok
 returns-in_default-clause-ok c =
     let t = triple_of c.args.key.now c.args.signature.now c.args.digest.now in
     let items = c.self.inside.entries.items in
-    let found = is_ok-search triple_cmp-total items t c.place.result c.self.invariant (rw c.as_slice.ensures.value at c.place.ensures.bound) (rw c.as_slice.ensures.value at c.place.ensures.position) in
+    let found = is_ok-search triple_cmp-total items t c.place.result (sorted_from_strict triple_cmp-total items c.self.invariant) (rw c.as_slice.ensures.value at c.place.ensures.bound) (rw c.as_slice.ensures.value at c.place.ensures.position) in
     let there : set.contains c.args.self.now t ≡ true = ap (λ s. set.contains s t) (sym c.self.view_is) ∙ sym found ∙ ap is_ok c.in_default.is in
     sym (insert_again triple_cmp-total triple_cmp-exact c.args.self.now t there)

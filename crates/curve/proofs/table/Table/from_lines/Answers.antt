@@ -1,7 +1,8 @@
-use Rattle.std.proofs.Common.{◌==◌, ◌+◌, length, sym, ap, ◌∙◌, rules, arith}
+use Rattle.std.proofs.Common.{◌==◌, ◌+◌, length, refl, sym, ap, ◌∙◌, rules, arith}
 use Rattle.std.specs.FinSet as set
-use Rattle.std.specs.Ordering.{is_lt}
-use Rattle.std.proofs.lemmas.Fn.{always_returns_same}
+use Rattle.std.specs.Ordering.{is_lt, eq_by_cmp}
+use Rattle.std.proofs.lemmas.Fn.{always_returns_same, dedup_same}
+use Rattle.std.proofs.lemmas.List.Kept.{IsStrictlySortedBy-dedup}
 use Rattle.std.proofs.lemmas.Iterator.Consumers.{YieldsList-turn, YieldsList-end}
 use Rattle.std.proofs.lemmas.Iterator.Splits.{YieldsList-from_slice_split}
 use Rattle.std.proofs.lemmas.List.{length_push, take_all}
@@ -10,6 +11,7 @@ use Rattle.std.proofs.lemmas.Result.{err_from_is_err_and}
 use Rattle.curve.specs.Lines.{lines}
 use Rattle.curve.specs.Triple.{triple_cmp}
 use Rattle.curve.specs.Order.{triple_cmp-total, triple_cmp-exact}
+use Rattle.curve.proofs.Once.{from_list_once}
 use Rattle.curve.proofs.Search.{from_list-IsPermutation}
 use Rattle.curve.proofs.Tables.{table_none, table_skips, table_adds, one_more, fault_from}
 use Rattle.curve.proofs.table.Table.from_lines.Goals as goal
@@ -52,7 +54,9 @@ returns-in_err-entry-clause-refused c =
 
 pub invariant_of-result : goal.invariant_of-result
 invariant_of-result c =
-    c.sort_unstable_by.ensures.sorted (λ x y. is_lt (triple_cmp x y)) (ranks_by triple_cmp-total (λ x. x)) (always_returns_same _ _ _ (λ a r f called. search rules))
+    let sorted = c.sort_unstable_by.ensures.sorted (λ x y. is_lt (triple_cmp x y)) (ranks_by triple_cmp-total (λ x. x)) (always_returns_same _ _ _ (λ a r f called. search rules)) in
+    let once = dedup_same _ (eq_by_cmp triple_cmp) _ (λ x y b f' x' y' k. search rules) _ _ c.dedup_by.ensures.filtered in
+    rw once (IsStrictlySortedBy-dedup triple_cmp-total (λ x y. refl) c.sort_unstable_by.new.self.items sorted)
 
 pub returns-clause-found : goal.returns-clause-found
 returns-clause-found c =
@@ -60,4 +64,6 @@ returns-clause-found c =
     let end = YieldsList-end all c.loop-line.yielded _ c.loop-line.yielded_by _ _ c.in-None.is c.next.ensures.steps in
     let whole = take_all (length c.loop-line.yielded) (lines c.args.text.now) (omega (arith, end.1)) in
     let sorted = from_list-IsPermutation triple_cmp-total triple_cmp-exact c.loop-line.entries.items c.sort_unstable_by.new.self.items c.sort_unstable_by.ensures.permutation in
-    rw (← sorted) (rw whole at c.loop-line.invariant.table)
+    let once = dedup_same _ (eq_by_cmp triple_cmp) _ (λ x y b f' x' y' k. search rules) _ _ c.dedup_by.ensures.filtered in
+    let same = ap (set.from_list {R = triple_cmp}) once ∙ from_list_once triple_cmp-total triple_cmp-exact c.sort_unstable_by.new.self.items in
+    rw same (rw (← sorted) (rw whole at c.loop-line.invariant.table))

@@ -1,0 +1,485 @@
+// The workloads of crates/bench, in plain C++: prints name, size, seconds and check of one of them.
+#include <atomic>
+#include <chrono>
+#include <cstdio>
+#include <cstdlib>
+#include <functional>
+#include <map>
+#include <string>
+#include <thread>
+
+#include "coins.h"
+#include "scripts.h"
+
+using Clock = std::chrono::steady_clock;
+
+static Clock::time_point begun;
+static double spent_seconds;
+static void start() { begun = Clock::now(); }
+static void stop() { spent_seconds = std::chrono::duration<double>(Clock::now() - begun).count(); }
+
+template <class Digest>
+static std::string hex(const Digest& digest) {
+    std::string text;
+    char digits[3];
+    for (uint8_t byte : digest) std::snprintf(digits, 3, "%02x", byte), text += digits;
+    return text;
+}
+static std::string shown(Hash id) {
+    std::reverse(id.begin(), id.end());
+    return hex(id);
+}
+
+static std::string double_sha_chain(size_t size) {
+    auto message = Filling{1}.bytes<80>();
+    Hash digest{};
+    start();
+    for (size_t i = 0; i < size; i++) {
+        digest = double_sha(message.data(), message.size());
+        std::copy(digest.begin(), digest.end(), message.begin());
+    }
+    stop();
+    return hex(digest);
+}
+static std::string ripemd_chain(size_t size) {
+    auto message = Filling{2}.bytes<32>();
+    ShortHash digest{};
+    start();
+    for (size_t i = 0; i < size; i++) {
+        digest = ripemd(message.data(), message.size());
+        std::copy(digest.begin(), digest.end(), message.begin());
+    }
+    stop();
+    return hex(digest);
+}
+static std::string ripemd_long(size_t size) {
+    Bytes message(size);
+    Filling{3}.fill(message.data(), size);
+    start();
+    ShortHash digest = ripemd(message.data(), size);
+    stop();
+    return hex(digest);
+}
+static std::string merkle_root(size_t size) {
+    Filling filling{4};
+    std::vector<Hash> ids;
+    for (size_t i = 0; i < size; i++) ids.push_back(filling.bytes<32>());
+    start();
+    Hash root = merkle(ids).first;
+    stop();
+    return shown(root);
+}
+
+static Bytes to_key_hash(const ShortHash& hash) {
+    Bytes script{0x76, 0xa9, 20};
+    script.insert(script.end(), hash.begin(), hash.end());
+    script.push_back(0x88);
+    script.push_back(0xac);
+    return script;
+}
+static Tx spending(OutPoint prev, Bytes script, std::vector<TxOut> outputs) {
+    return Tx{1, {TxIn{prev, std::move(script), 0xffffffff}}, std::move(outputs), 0};
+}
+static Tx payment(Filling& filling) {
+    OutPoint prev{filling.bytes<32>(), 0};
+    auto input = filling.bytes<106>();
+    input[0] = 71, input[72] = 33;
+    std::vector<TxOut> outputs;
+    for (int64_t value : {1000, 2000}) outputs.push_back(TxOut{value, to_key_hash(filling.bytes<20>())});
+    return spending(prev, Bytes(input.begin(), input.end()), outputs);
+}
+static Block block_with(std::vector<Tx> payments) {
+    Block block;
+    block.txs.push_back(spending(OutPoint{Hash{}, 0xffffffff}, {0x51, 0x51}, {TxOut{5000000000, {0x51}}}));
+    for (Tx& tx : payments) block.txs.push_back(std::move(tx));
+    block.header = Header{1, Hash{}, merkle(ids_of(block.txs)).first, 1296688602, 0x207fffff, 0};
+    while (!meets_target(id_of(block.header))) block.header.nonce++;
+    return block;
+}
+static Block block_of(size_t size) {
+    Filling filling{5};
+    std::vector<Tx> payments;
+    for (size_t i = 0; i < size; i++) payments.push_back(payment(filling));
+    return block_with(std::move(payments));
+}
+static Bytes spelled(const Block& block) {
+    Bytes bytes;
+    VectorSink sink{bytes};
+    put_block(sink, block);
+    return bytes;
+}
+static std::string decode(size_t size) {
+    Bytes bytes = spelled(block_of(size));
+    start();
+    Block block = read_block(bytes);
+    stop();
+    return shown(id_of(block.txs.back()));
+}
+static std::string write(size_t size) {
+    Block block = block_of(size);
+    start();
+    Bytes bytes = spelled(block);
+    stop();
+    return hex(double_sha(bytes.data(), bytes.size()));
+}
+static std::string payment_ids(size_t size) {
+    Block block = block_of(size);
+    start();
+    std::vector<Hash> ids = ids_of(block.txs);
+    stop();
+    return shown(ids.back());
+}
+static std::string alone(size_t size) {
+    Block block = block_of(size);
+    start();
+    bool holds = block_alone(block);
+    stop();
+    return holds ? shown(block.header.root) : "refused";
+}
+static std::string records(size_t size) {
+    Bytes genesis = spelled(block_of(0));
+    genesis.resize(285);
+    Bytes file;
+    VectorSink sink{file};
+    for (size_t i = 0; i < size; i++) {
+        put(sink, uint32_t(0xdab5bffa));
+        put(sink, uint32_t(genesis.size()));
+        sink.write(genesis.data(), genesis.size());
+    }
+    start();
+    Reader from{file.data(), file.data() + file.size()};
+    uint64_t total = 0;
+    while (from.at != from.end) {
+        if (from.number<uint32_t>() != 0xdab5bffa) break;
+        Bytes record(from.number<uint32_t>());
+        from.read(record.data(), record.size());
+        total += record.size();
+    }
+    stop();
+    return std::to_string(total);
+}
+
+struct Spends {
+    std::vector<std::pair<Tx, Bytes>> list;
+    Table table;
+    std::vector<Job> jobs() const {
+        std::vector<Job> jobs;
+        for (const auto& [tx, spent] : list) jobs.push_back(Job{&tx, 0, &spent});
+        return jobs;
+    }
+};
+static Bytes new_key(Filling& filling, uint64_t number) {
+    auto key = filling.bytes<33>();
+    key[0] = 2;
+    for (int i = 0; i < 8; i++) key[1 + i] = uint8_t(number >> (56 - 8 * i));
+    return Bytes(key.begin(), key.end());
+}
+static Bytes new_signature(Filling& filling) {
+    auto bytes = filling.bytes<70>();
+    bytes[0] = 0x30, bytes[1] = 68;
+    for (int at : {2, 36}) bytes[at] = 2, bytes[at + 1] = 32, bytes[at + 2] = bytes[at + 2] % 127 + 1;
+    Bytes signature(bytes.begin(), bytes.end());
+    signature.push_back(1);
+    return signature;
+}
+static void put_push(Bytes& script, const Bytes& bytes) {
+    script.push_back(uint8_t(bytes.size()));
+    script.insert(script.end(), bytes.begin(), bytes.end());
+}
+static Tx spender(Filling& filling, const Bytes& input) {
+    OutPoint prev{filling.bytes<32>(), 0};
+    return spending(prev, input, {TxOut{1000, to_key_hash(filling.bytes<20>())}});
+}
+static void add(Table& table, const Bytes& key, const Bytes& signature, const Hash& digest) {
+    table.add(Triple{key, Bytes(signature.begin(), signature.end() - 1), digest});
+}
+static Spends to_keys(size_t size) {
+    Filling filling{6};
+    Spends spends;
+    for (size_t number = 0; number < size; number++) {
+        Bytes key = new_key(filling, number), signature = new_signature(filling), input;
+        put_push(input, signature);
+        put_push(input, key);
+        Tx tx = spender(filling, input);
+        Bytes spent = to_key_hash(hash160(key.data(), key.size()));
+        add(spends.table, key, signature, signature_hash(tx, 0, spent));
+        spends.list.emplace_back(std::move(tx), std::move(spent));
+    }
+    return spends;
+}
+static Spends to_two_of_three(size_t size) {
+    Filling filling{7};
+    Spends spends;
+    for (size_t number = 0; number < size; number++) {
+        Bytes keys[3], signatures[2], input{0}, spent{0x52};
+        for (int i = 0; i < 3; i++) keys[i] = new_key(filling, 3 * number + i);
+        for (Bytes& signature : signatures) signature = new_signature(filling), put_push(input, signature);
+        Tx tx = spender(filling, input);
+        for (const Bytes& key : keys) put_push(spent, key);
+        spent.push_back(0x53);
+        spent.push_back(0xae);
+        Hash digest = signature_hash(tx, 0, spent);
+        for (int i = 0; i < 2; i++) add(spends.table, keys[i], signatures[i], digest);
+        spends.list.emplace_back(std::move(tx), std::move(spent));
+    }
+    return spends;
+}
+static Spends one(const Bytes& input, Bytes spent) {
+    Filling filling{8};
+    Spends spends;
+    spends.list.emplace_back(spender(filling, input), std::move(spent));
+    return spends;
+}
+static Spends swaps() {
+    Filling filling{9};
+    Bytes input;
+    for (int i = 0; i < 2; i++) {
+        auto element = filling.bytes<520>();
+        for (uint8_t byte : {0x4d, 8, 2}) input.push_back(byte);
+        input.insert(input.end(), element.begin(), element.end());
+    }
+    return one(input, Bytes(201, 0x7c));
+}
+static Spends hashes() {
+    auto element = Filling{10}.bytes<32>();
+    Bytes input;
+    put_push(input, Bytes(element.begin(), element.end()));
+    return one(input, Bytes(200, 0xaa));
+}
+static Spends long_code() {
+    Filling filling{11};
+    Bytes key = new_key(filling, 0), signature = new_signature(filling), input, spent{0, 0x63};
+    put_push(input, signature);
+    put_push(input, key);
+    spent.resize(9401, 0x51);
+    spent.push_back(0x68);
+    for (int i = 0; i < 66; i++)
+        for (uint8_t op : {0x6e, 0xac, 0x75}) spent.push_back(op);
+    Spends spends = one(input, spent);
+    add(spends.table, key, signature, signature_hash(spends.list[0].first, 0, spent));
+    return spends;
+}
+static Spends conditions() {
+    Bytes spent(101, 0x63);
+    spent[0] = 0;
+    spent.resize(9801, 0x51);
+    spent.resize(9901, 0x68);
+    spent.push_back(0x51);
+    return one({}, spent);
+}
+static std::string verify_each(const Spends& spends, size_t times = 1) {
+    std::vector<Job> jobs = spends.jobs();
+    uint64_t count = 0;
+    start();
+    for (size_t i = 0; i < times; i++)
+        for (const Job& job : jobs) count += verify(job, spends.table);
+    stop();
+    return std::to_string(count);
+}
+
+static Tx many_inputs(size_t size, const Bytes& script) {
+    Filling filling{12};
+    Tx tx;
+    for (size_t i = 0; i < size; i++) tx.inputs.push_back(TxIn{OutPoint{filling.bytes<32>(), 0}, script, 0});
+    return tx;
+}
+static std::string digests(size_t size) {
+    Tx tx = many_inputs(1000, {});
+    Bytes code(25, 0xac);
+    Hash last{};
+    start();
+    for (size_t i = 0; i < size; i++) last = signature_hash(tx, i % 1000, code);
+    stop();
+    return hex(last);
+}
+static std::string each_input(size_t size) {
+    Filling filling{13};
+    Bytes key = new_key(filling, 0), signature = new_signature(filling), input, spent;
+    put_push(input, signature);
+    put_push(spent, key);
+    spent.push_back(0xac);
+    Tx tx = many_inputs(size, input);
+    Table table;
+    for (size_t i = 0; i < size; i++) add(table, key, signature, signature_hash(tx, i, spent));
+    uint64_t count = 0;
+    start();
+    for (size_t i = 0; i < size; i++) count += verify(Job{&tx, i, &spent}, table);
+    stop();
+    return std::to_string(count);
+}
+
+// The least place of a job that fails, by so many workers; the caller is one of them.
+static size_t first_failure(const std::vector<Job>& jobs, const Table& table, size_t workers) {
+    std::atomic<size_t> next{0}, least{jobs.size()};
+    auto work = [&] {
+        for (size_t place; (place = next.fetch_add(1)) < jobs.size();) {
+            if (place > least.load() || verify(jobs[place], table)) continue;
+            size_t old = least.load();
+            while (place < old && !least.compare_exchange_weak(old, place)) {}
+        }
+    };
+    std::vector<std::thread> threads;
+    for (size_t i = 1; i < workers; i++) threads.emplace_back(work);
+    work();
+    for (std::thread& thread : threads) thread.join();
+    return least;
+}
+static std::string queue(size_t size, size_t workers, size_t times) {
+    Spends spends = to_keys(size);
+    std::vector<Job> jobs = spends.jobs();
+    uint64_t count = 0;
+    start();
+    for (size_t i = 0; i < times; i++) count += first_failure(jobs, spends.table, workers) == jobs.size();
+    stop();
+    return std::to_string(count);
+}
+
+static std::pair<OutPoint, Coin> next_coin(Filling& filling) {
+    OutPoint at{filling.bytes<32>(), 0};
+    at.index = filling.next() % 4;
+    Bytes script = to_key_hash(filling.bytes<20>());
+    return {at, Coin{int64_t(filling.next() % 5000000000), script, 7, false}};
+}
+static std::string coins_insert(size_t size) {
+    Filling filling{14};
+    std::vector<std::pair<OutPoint, Coin>> coins;
+    for (size_t i = 0; i < size; i++) coins.push_back(next_coin(filling));
+    CoinMap map;
+    uint64_t sum = 0;
+    start();
+    for (auto& [at, coin] : coins) {
+        sum += coin.value;
+        map.emplace(at, std::move(coin));
+    }
+    stop();
+    return std::to_string(sum);
+}
+static std::pair<CoinMap, std::vector<OutPoint>> filled(size_t size) {
+    Filling filling{14}, order{15};
+    CoinMap map;
+    std::vector<OutPoint> places;
+    for (size_t i = 0; i < size; i++) {
+        auto [at, coin] = next_coin(filling);
+        map.emplace(at, std::move(coin));
+        places.push_back(at);
+    }
+    for (size_t i = 0; i < size; i++) std::swap(places[i], places[order.next() % size]);
+    return {std::move(map), std::move(places)};
+}
+static std::string coins_look_up(size_t size) {
+    auto [map, places] = filled(size);
+    Cache layer(map);
+    uint64_t sum = 0;
+    start();
+    for (const OutPoint& at : places)
+        if (const Coin* coin = layer.get(at)) sum += coin->value;
+    stop();
+    return std::to_string(sum);
+}
+static std::string coins_spend(size_t size) {
+    auto [map, places] = filled(size);
+    Cache layer(map);
+    uint64_t sum = 0;
+    start();
+    for (const OutPoint& at : places)
+        if (layer.get(at)) sum += layer.spend(at)->value;
+    stop();
+    return std::to_string(sum);
+}
+
+// Bitcoin Core's ConnectBlock, and the flush of its view: the coins that each transaction but the first spent.
+static std::optional<std::vector<std::vector<Coin>>> connect(
+    const CoinMap& map, const Block& block, const std::vector<Hash>& ids, uint32_t height, const Table& table, size_t workers) {
+    Cache view(map);
+    for (size_t t = 0; t < block.txs.size(); t++)
+        for (uint32_t i = 0; i < block.txs[t].outputs.size(); i++)
+            if (view.get(OutPoint{ids[t], i})) return std::nullopt;
+    std::vector<std::vector<Coin>> undo;
+    std::vector<Job> jobs;
+    int64_t fees = 0;
+    unsigned counted = 0;
+    for (size_t t = 0; t < block.txs.size(); t++) {
+        const Tx& tx = block.txs[t];
+        for (const TxIn& input : tx.inputs) counted += sigops(input.script);
+        for (const TxOut& output : tx.outputs) counted += sigops(output.script);
+        if (counted > 20000) return std::nullopt;
+        int64_t worth = 0, paid = 0;
+        for (const TxOut& output : tx.outputs) paid += output.value;
+        if (t > 0) {
+            for (const TxIn& input : tx.inputs) {
+                const Coin* coin = view.get(input.prev);
+                if (!coin || (coin->coinbase && height < coin->height + 100)) return std::nullopt;
+                worth += coin->value;
+            }
+            if (worth < paid) return std::nullopt;
+            fees += worth - paid;
+            std::vector<Coin>& spent = undo.emplace_back();
+            for (const TxIn& input : tx.inputs) spent.push_back(std::move(*view.spend(input.prev)));
+            for (size_t i = 0; i < spent.size(); i++) jobs.push_back(Job{&tx, i, &spent[i].script});
+        }
+        for (uint32_t i = 0; i < tx.outputs.size(); i++)
+            view.add(OutPoint{ids[t], i}, Coin{tx.outputs[i].value, tx.outputs[i].script, height, t == 0});
+    }
+    if (block.txs[0].outputs[0].value > 5000000000 + fees) return std::nullopt;
+    if (first_failure(jobs, table, workers) != jobs.size()) return std::nullopt;
+    Cache::Entries below;
+    view.flush(below);
+    return undo;
+}
+static std::string connected(size_t size, size_t workers) {
+    CoinMap map = filled(size).first;
+    Spends spends = to_keys(2000);
+    std::vector<Tx> payments;
+    for (auto& [tx, spent] : spends.list) {
+        map.emplace(tx.inputs[0].prev, Coin{5000, spent, 7, false});
+        payments.push_back(tx);
+    }
+    Block block = block_with(std::move(payments));
+    std::vector<Hash> ids = ids_of(block.txs);
+    if (!block_alone(block)) return "refused";
+    start();
+    auto undo = connect(map, block, ids, 101, spends.table, workers);
+    stop();
+    return undo ? std::to_string(undo->size()) : "refused";
+}
+
+int main(int count, char** words) {
+    using Workload = std::function<std::string(size_t)>;
+    const std::map<std::string, Workload> workloads{
+        {"double-sha", double_sha_chain},
+        {"ripemd", ripemd_chain},
+        {"ripemd-long", ripemd_long},
+        {"merkle", merkle_root},
+        {"decode", decode},
+        {"write", write},
+        {"ids", payment_ids},
+        {"alone", alone},
+        {"records", records},
+        {"key-hash", [](size_t n) { return verify_each(to_keys(n)); }},
+        {"two-of-three", [](size_t n) { return verify_each(to_two_of_three(n)); }},
+        {"swaps", [](size_t n) { return verify_each(swaps(), n); }},
+        {"hashes", [](size_t n) { return verify_each(hashes(), n); }},
+        {"long-code", [](size_t n) { return verify_each(long_code(), n); }},
+        {"conditions", [](size_t n) { return verify_each(conditions(), n); }},
+        {"digests", digests},
+        {"each-input", each_input},
+        {"queue-1", [](size_t n) { return queue(n, 1, 1); }},
+        {"queue-2", [](size_t n) { return queue(n, 2, 1); }},
+        {"queue-4", [](size_t n) { return queue(n, 4, 1); }},
+        {"queue-8", [](size_t n) { return queue(n, 8, 1); }},
+        {"queue-start", [](size_t n) { return queue(4, 4, n); }},
+        {"coins-insert", coins_insert},
+        {"coins-look-up", coins_look_up},
+        {"coins-spend", coins_spend},
+        {"connect-1", [](size_t n) { return connected(n, 1); }},
+        {"connect-4", [](size_t n) { return connected(n, 4); }},
+    };
+    auto workload = count == 3 ? workloads.find(words[1]) : workloads.end();
+    if (workload == workloads.end()) {
+        std::fprintf(stderr, "baseline: usage: baseline WORKLOAD SIZE\n");
+        return 1;
+    }
+    size_t size = std::strtoull(words[2], nullptr, 10);
+    std::string check = workload->second(size);
+    std::printf("%s %zu %.9f %s\n", words[1], size, spent_seconds, check.c_str());
+}

@@ -1,0 +1,193 @@
+"""Runs each workload of crates/bench and of the baseline in turn, and writes a table and a plot of them."""
+
+import math
+import os
+import platform
+import subprocess
+import sys
+import time
+
+HERE = os.path.dirname(os.path.abspath(__file__))
+OURS = os.path.join(HERE, "..", "crates", "bench", "out", "bench")
+BASELINE = os.path.join(HERE, "out", "baseline")
+# Hides the processor's SHA instructions from OpenSSL.
+HIDDEN = {"OPENSSL_ia32cap": ":~0x20000000"}
+
+# Name, what it is, the goal as a ratio to the baseline, and sizes, the last of which goes into the table.
+WORKLOADS = [
+    ("double-sha", "double SHA-256 of 80 bytes", "hash", [1_000_000]),
+    ("ripemd", "RIPEMD-160 of 32 bytes", "hash", [1_000_000]),
+    ("ripemd-long", "RIPEMD-160 of one message, by its bytes", "hash", [1_000_000]),
+    ("merkle", "Merkle root of ids", "hash", [500, 1000, 2000, 4000]),
+    ("ids", "ids of payments", "hash", [550, 1100, 2200, 4400]),
+    ("alone", "a block of payments judged by itself", "hash", [550, 1100, 2200, 4400]),
+    ("decode", "reading a block of payments", "work", [550, 1100, 2200, 4400]),
+    ("write", "writing a block of payments", "work", [550, 1100, 2200, 4400]),
+    ("records", "records of a blk file", "work", [1250, 2500, 5000, 10_000]),
+    ("key-hash", "inputs that spend a key's hash", "work", [1250, 2500, 5000, 10_000]),
+    ("two-of-three", "inputs that spend two of three keys", "work", [1250, 2500, 5000, 10_000]),
+    ("swaps", "scripts of 201 SWAP on 520 bytes", "work", [1000]),
+    ("hashes", "scripts of 200 HASH256", "hash", [200]),
+    ("long-code", "scripts of 66 CHECKSIG over 9,600 opcodes", "work", [20]),
+    ("conditions", "scripts of 9,700 opcodes under 100 open conditions", "work", [500]),
+    ("digests", "what a signature signs in a transaction of 1,000 inputs", "hash", [1000]),
+    ("each-input", "CHECKSIG of each input of one transaction", "hash", [625, 1250, 2500, 5000]),
+    ("queue-1", "the same as key-hash, by the queue with 1 worker", "work", [10_000]),
+    ("queue-2", "with 2 workers", "work", [10_000]),
+    ("queue-4", "with 4 workers", "work", [10_000]),
+    ("queue-8", "with 8 workers", "work", [10_000]),
+    ("queue-start", "four inputs by four workers, again and again", "work", [1000]),
+    ("coins-insert", "coins into a map", "work", [125_000, 250_000, 500_000, 1_000_000]),
+    ("coins-look-up", "coins looked up through a layer", "work", [125_000, 250_000, 500_000, 1_000_000]),
+    ("coins-spend", "coins spent in a layer", "work", [125_000, 250_000, 500_000, 1_000_000]),
+    ("connect-1", "a block of 2,000 payments connected over coins, 1 worker", "work", [125_000, 250_000, 500_000, 1_000_000]),
+    ("connect-4", "the same with 4 workers", "work", [125_000, 250_000, 500_000, 1_000_000]),
+]
+
+
+def once(program, name, size, environment):
+    """Seconds and check of one run."""
+    words = [program, name, str(size)]
+    done = subprocess.run(words, capture_output=True, text=True, env={**os.environ, **environment})
+    if done.returncode != 0:
+        sys.exit(f"bench: {' '.join(words)}: {done.stderr.strip()}")
+    _, _, seconds, check = done.stdout.split()
+    return float(seconds), check
+
+
+def least(name, size, sides, limit):
+    """The least time of each side, of runs in turn, up to seven rounds or so many seconds."""
+    best = [math.inf] * len(sides)
+    begin = time.monotonic()
+    for _ in range(7):
+        checks = set()
+        for at, (program, environment) in enumerate(sides):
+            seconds, check = once(program, name, size, environment)
+            best[at] = min(best[at], seconds)
+            checks.add(check)
+        if len(checks) != 1:
+            sys.exit(f"bench: {name} {size}: the sides did not do the same: {' '.join(sorted(checks))}")
+        if time.monotonic() - begin > limit:
+            break
+    return best
+
+
+def processor():
+    with open("/proc/cpuinfo", encoding="utf-8") as file:
+        lines = file.read().splitlines()
+    names = [line.split(":")[1].strip() for line in lines if line.startswith("model name")]
+    flags = next(line for line in lines if line.startswith("flags")).split()
+    return names[0], len(names), "sha_ni" in flags
+
+
+def measure(names, has_sha):
+    sides = [(OURS, {}), (BASELINE, {})] + ([(BASELINE, HIDDEN)] if has_sha else [])
+    rows = []
+    for name, what, kind, sizes in WORKLOADS:
+        if names and name not in names:
+            continue
+        costs = [(size, least(name, size, sides, 10 if size == sizes[-1] else 2)) for size in sizes]
+        size, times = costs[-1]
+        print(f"{name:14} {size:9} " + " ".join(f"{t:12.6f}" for t in times), flush=True)
+        rows.append((name, what, kind, costs))
+    return rows
+
+
+def table(rows, has_sha):
+    name, cores, _ = processor()
+    without = " | baseline without SHA instructions | ratio" if has_sha else ""
+    text = [
+        "# Results",
+        "",
+        f"{name}, {cores} cores, {platform.system()}; {'with' if has_sha else 'without'} SHA instructions. "
+        f"Ours is built for {os.environ.get('BENCH_BUILD', 'the default processor').removeprefix('--cpu=')}. "
+        "Least of up to seven runs, in seconds; a ratio below 1 means that ours is faster. What the workloads are: "
+        "[README](README.md).",
+        "",
+        f"| workload | size | what | ours | baseline | ratio{without} |",
+        "|---|---:|---|---:|---:|---:|" + ("---:|---:|" if has_sha else ""),
+    ]
+    for row in rows:
+        workload, what, _, costs = row
+        size, times = costs[-1]
+        cells = [f"{times[0]:.6f}"]
+        for other in times[1:]:
+            cells += [f"{other:.6f}", f"{times[0] / other:.2f}"]
+        text.append(f"| {workload} | {size:,} | {what} | " + " | ".join(cells) + " |")
+    return "\n".join(text) + "\n"
+
+
+def ratios(rows):
+    """Bars: how long ours takes where the baseline takes 1."""
+    out = ['<text x="10" y="20" class="head">Ours over the baseline (1 is equal)</text>']
+    unit = 200
+    for at, (name, _, _, costs) in enumerate(rows):
+        times = costs[-1][1]
+        ratio = times[0] / times[-1]
+        y = 34 + 18 * at
+        colour = "#4a8" if ratio <= 1 else "#d90" if ratio <= 1.25 else "#c44"
+        out.append(f'<text x="120" y="{y + 11}" text-anchor="end">{name}</text>')
+        out.append(f'<rect x="128" y="{y}" width="{min(ratio, 3) * unit:.0f}" height="13" fill="{colour}"/>')
+        out.append(f'<text x="{134 + min(ratio, 3) * unit:.0f}" y="{y + 11}">{ratio:.2f}</text>')
+    end = 34 + 18 * len(rows)
+    out.append(f'<line x1="{128 + unit}" y1="28" x2="{128 + unit}" y2="{end}" stroke="#000"/>')
+    return out, end
+
+
+def growth(rows, top):
+    """Lines: seconds by size, both on doubling axes."""
+    drawn = [row for row in rows if len(row[3]) > 1]
+    if not drawn:
+        return [], top
+    left, width, height = 60, 600, 320
+    sizes = [math.log2(size) for row in drawn for size, _ in row[3]]
+    times = [math.log2(t) for row in drawn for _, costs in row[3] for t in (costs[0], costs[-1])]
+    low, high, least_time, most_time = min(sizes), max(sizes), min(times), max(times)
+
+    def point(size, seconds):
+        x = left + width * (math.log2(size) - low) / (high - low)
+        y = top + 40 + height * (most_time - math.log2(seconds)) / (most_time - least_time)
+        return f"{x:.1f},{y:.1f}"
+
+    out = [f'<text x="10" y="{top + 25}" class="head">Seconds by size, both axes doubling (full: ours, dashed: baseline)</text>']
+    for at, (name, _, _, costs) in enumerate(drawn):
+        colour = f"hsl({at * 360 // len(drawn)},65%,40%)"
+        for side, dash in ((0, ""), (-1, ' stroke-dasharray="5 4"')):
+            points = " ".join(point(size, t[side]) for size, t in costs)
+            out.append(f'<polyline points="{points}" fill="none" stroke="{colour}" stroke-width="1.5"{dash}/>')
+        x, y = point(costs[-1][0], costs[-1][1][0]).split(",")
+        out.append(f'<text x="{float(x) + 5:.0f}" y="{y}" fill="{colour}">{name}</text>')
+    for power in range(math.ceil(least_time), math.floor(most_time) + 1, 3):
+        y = point(2**low, 2**power).split(",")[1]
+        out.append(f'<text x="{left - 6}" y="{y}" text-anchor="end">2^{power} s</text>')
+    for power in range(math.ceil(low), math.floor(high) + 1, 2):
+        x = point(2**power, 2**least_time).split(",")[0]
+        out.append(f'<text x="{x}" y="{top + height + 60}" text-anchor="middle">{2**power:,}</text>')
+    return out, top + height + 80
+
+
+def plot(rows):
+    bars, end = ratios(rows)
+    lines, end = growth(rows, end + 20)
+    head = f'<svg xmlns="http://www.w3.org/2000/svg" width="800" height="{end}" font-family="sans-serif" font-size="11">'
+    style = "<style>.head{font-size:14px;font-weight:bold}</style>"
+    ground = '<rect width="100%" height="100%" fill="#fff"/>'
+    return "\n".join([head, style, ground, *bars, *lines, "</svg>"]) + "\n"
+
+
+def main():
+    names = sys.argv[1:]
+    unknown = set(names) - {row[0] for row in WORKLOADS}
+    if unknown:
+        sys.exit(f"bench: no such workload: {' '.join(sorted(unknown))}")
+    has_sha = processor()[2]
+    rows = measure(names, has_sha)
+    if names:
+        return
+    with open(os.path.join(HERE, "results.md"), "w", encoding="utf-8") as file:
+        file.write(table(rows, has_sha))
+    with open(os.path.join(HERE, "results.svg"), "w", encoding="utf-8") as file:
+        file.write(plot(rows))
+
+
+main()

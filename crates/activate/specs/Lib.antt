@@ -1,0 +1,13 @@
+pub mod Context
+pub mod Regtest
+pub mod Replay
+pub mod Rules
+pub mod Settle
+pub mod Sound
+pub mod Step
+pub mod Submission
+pub mod Total
+pub mod Try
+pub mod Valid
+pub mod computed
+pub mod laws

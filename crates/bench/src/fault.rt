@@ -1,0 +1,52 @@
+//! Why a run ends without its lines.
+
+use std::alloc::{AllocError, AllocFailed};
+use std::{fmt, io};
+use wire::Memory;
+
+/// Why a run ends without its lines. Its `Display` is the line on the standard error.
+#[derive(Debug, Drop)]
+pub enum Fault {
+    /// The command line has other words than a workload's name and a size.
+    Words,
+    Memory,
+    /// The clock can't be read, or the output can't be written.
+    Io,
+    /// A block that was made here isn't read again.
+    Unread,
+}
+
+impl fmt::Display for Fault {
+    fn fmt<W: fmt::Write>(&self, f: &mut fmt::Formatter<W>) -> fmt::Result {
+        match self {
+            Fault::Words => writeln!(f, "bench: usage: bench [WORKLOAD SIZE]"),
+            Fault::Memory => writeln!(f, "bench: memory"),
+            Fault::Io => writeln!(f, "bench: the clock or the output failed"),
+            Fault::Unread => writeln!(f, "bench: a block is not read"),
+        }
+    }
+}
+
+impl From<Memory> for Fault {
+    fn from(_fault: Memory) -> Self {
+        Fault::Memory
+    }
+}
+
+impl From<AllocError> for Fault {
+    fn from(_error: AllocError) -> Self {
+        Fault::Memory
+    }
+}
+
+impl<T: Drop> From<AllocFailed<T>> for Fault {
+    fn from(_error: AllocFailed<T>) -> Self {
+        Fault::Memory
+    }
+}
+
+impl From<io::Error> for Fault {
+    fn from(_error: io::Error) -> Self {
+        Fault::Io
+    }
+}

@@ -1,0 +1,59 @@
+//! Digests of short and long messages, and Merkle roots.
+
+use crate::check::Check;
+use crate::fault::Fault;
+use crate::filling::Filling;
+use crate::timing::Outcome;
+use block::merkle;
+use hash::{Id, double_sha};
+use std::rt::Clock;
+use std::time::Instant;
+
+/// Double SHA-256 of 80 bytes, so often, each message with the digest before in it.
+pub fn double_sha_chain(clock: &impl Clock, size: usize) -> Result<Outcome, Fault> {
+    let mut message: [u8; 80] = Filling::new(1).bytes();
+    let mut digest = [0; 32];
+    let begin = Instant::now(clock)?;
+    for _ in 0..size {
+        digest = double_sha(message.as_slice());
+        put_front(&mut message, &digest);
+    }
+    Outcome::since(clock, begin, Check::Digest(digest))
+}
+
+fn put_front(message: &mut [u8; 80], digest: &[u8; 32]) {
+    message[..32].copy_from_slice(digest.as_slice());
+}
+
+/// RIPEMD-160 of 32 bytes, so often, each message with the digest before in it.
+pub fn ripemd_chain(clock: &impl Clock, size: usize) -> Result<Outcome, Fault> {
+    let mut message: [u8; 32] = Filling::new(2).bytes();
+    let mut digest = [0; 20];
+    let begin = Instant::now(clock)?;
+    for _ in 0..size {
+        digest = ripemd::digest(message.as_slice());
+        message[..20].copy_from_slice(digest.as_slice());
+    }
+    Outcome::since(clock, begin, Check::Short(digest))
+}
+
+/// RIPEMD-160 of a message of so many bytes.
+pub fn ripemd_long<R: AllocGlobal + Clock>(rt: &R, size: usize) -> Result<Outcome, Fault> {
+    let mut message = vec![in rt.alloc(); 0; size]?;
+    Filling::new(3).fill(message.as_mut_slice());
+    let begin = Instant::now(rt)?;
+    let digest = ripemd::digest(message.as_slice());
+    Outcome::since(rt, begin, Check::Short(digest))
+}
+
+/// The Merkle root of so many ids.
+pub fn merkle_root<R: AllocGlobal + Clock>(rt: &R, size: usize) -> Result<Outcome, Fault> {
+    let mut filling = Filling::new(4);
+    let mut ids = Vec::with_capacity(rt.alloc(), size)?;
+    for _ in 0..size {
+        ids.push(Id(filling.bytes()))?;
+    }
+    let begin = Instant::now(rt)?;
+    let (root, _) = merkle(rt.alloc(), ids.as_slice())?;
+    Outcome::since(rt, begin, Check::Id(root))
+}

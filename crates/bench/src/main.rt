@@ -1,0 +1,25 @@
+//! Times one workload, or does each of them at a small size.
+#![tactic(auto)]
+
+mod check;
+mod coin_work;
+mod connecting;
+mod decoding;
+mod fault;
+mod filling;
+mod hashing;
+mod payments;
+mod queueing;
+mod scripts;
+mod signing;
+mod spends;
+mod timing;
+mod words;
+mod workload;
+
+use std::process::ExitCode;
+
+fn main(rt: HostRuntime) -> ExitCode {
+    let mut err = rt.stderr();
+    words::status(words::attempt(&rt, &mut rt.stdout()), &mut err)
+}

@@ -1,0 +1,127 @@
+//! Scripts that are run, and how many of them accept.
+
+use crate::check::Check;
+use crate::fault::Fault;
+use crate::filling::Filling;
+use crate::spends::{Spend, Spends, digest, key, put_push, put_signature, signature, spender};
+use crate::timing::Outcome;
+use curve::Table;
+use interp::{Job, verify};
+use std::alloc::Global;
+use std::rt::Clock;
+use std::time::Instant;
+use wire::Memory;
+
+const OP_0: u8 = 0x00;
+
+const OP_1: u8 = 0x51;
+
+const OP_IF: u8 = 0x63;
+
+const OP_ENDIF: u8 = 0x68;
+
+const OP_2DUP: u8 = 0x6e;
+
+const OP_DROP: u8 = 0x75;
+
+const OP_SWAP: u8 = 0x7c;
+
+const OP_HASH256: u8 = 0xaa;
+
+const OP_CHECKSIG: u8 = 0xac;
+
+/// Verifies each job of these, and counts those that are accepted.
+pub fn verify_each<R: AllocGlobal + Clock>(rt: &R, spends: &Spends) -> Result<Outcome, Fault> {
+    let jobs = spends.jobs(rt.alloc())?;
+    let begin = Instant::now(rt)?;
+    let count = accepted(rt.alloc(), jobs.as_slice(), &spends.table)?;
+    Outcome::since(rt, begin, Check::Count(count))
+}
+
+/// Verifies one job so often.
+pub fn verify_again<R: AllocGlobal + Clock>(
+    rt: &R,
+    spends: &Spends,
+    size: usize,
+) -> Result<Outcome, Fault> {
+    let jobs = spends.jobs(rt.alloc())?;
+    let begin = Instant::now(rt)?;
+    let mut count = 0u64;
+    for _ in 0..size {
+        count = count.wrapping_add(accepted(rt.alloc(), jobs.as_slice(), &spends.table)?);
+    }
+    Outcome::since(rt, begin, Check::Count(count))
+}
+
+/// How many jobs are accepted.
+pub fn accepted(alloc: Global, jobs: &[Job], table: &Table) -> Result<u64, Memory> {
+    let mut count = 0u64;
+    for job in jobs {
+        if job.input < job.tx.inputs.len() && verify(alloc, job, table)? {
+            count = count.wrapping_add(1);
+        }
+    }
+    Ok(count)
+}
+
+/// One transaction whose input of this script spends that one.
+fn one(alloc: Global, input: &[u8], spent: Vec<u8>) -> Result<Spends, Fault> {
+    let mut spends = Spends::new(alloc);
+    let tx = spender(alloc, &mut Filling::new(8), input)?;
+    spends.list.push(Spend { tx, spent })?;
+    Ok(spends)
+}
+
+/// 201 times SWAP on two elements of 520 bytes.
+pub fn swaps(alloc: Global) -> Result<Spends, Fault> {
+    let mut filling = Filling::new(9);
+    let mut input = Vec::new(alloc);
+    for _ in 0..2 {
+        let element: [u8; 520] = filling.bytes();
+        input.extend_from_slice(&[0x4d, 8, 2])?;
+        input.extend_from_slice(element.as_slice())?;
+    }
+    one(alloc, input.as_slice(), vec![in alloc; OP_SWAP; 201]?)
+}
+
+/// 200 times HASH256.
+pub fn hashes(alloc: Global) -> Result<Spends, Fault> {
+    let element: [u8; 32] = Filling::new(10).bytes();
+    let mut input = Vec::new(alloc);
+    put_push(&mut input, element.as_slice())?;
+    one(alloc, input.as_slice(), vec![in alloc; OP_HASH256; 200]?)
+}
+
+/// 9,700 opcodes under 100 open conditions.
+pub fn conditions(alloc: Global) -> Result<Spends, Fault> {
+    let mut spent = vec![in alloc; OP_0]?;
+    spent.resize(101, OP_IF)?;
+    spent.resize(9801, OP_1)?;
+    spent.resize(9901, OP_ENDIF)?;
+    spent.push(OP_1)?;
+    one(alloc, &[], spent)
+}
+
+/// 66 times CHECKSIG in a script of 9,600 opcodes, most of which aren't executed.
+pub fn long_code(alloc: Global) -> Result<Spends, Fault> {
+    let mut filling = Filling::new(11);
+    let key = key(&mut filling, 0);
+    let signature = signature(&mut filling);
+    let mut input = Vec::new(alloc);
+    put_signature(&mut input, &signature)?;
+    put_push(&mut input, key.as_slice())?;
+    let mut spent = vec![in alloc; OP_0, OP_IF]?;
+    spent.resize(9401, OP_1)?;
+    spent.push(OP_ENDIF)?;
+    for _ in 0..66 {
+        spent.extend_from_slice(&[OP_2DUP, OP_CHECKSIG, OP_DROP])?;
+    }
+    let mut spends = one(alloc, input.as_slice(), spent)?;
+    if let Some(spend) = spends.list.as_slice().first() {
+        let digest = digest(&spend.tx, 0, spend.spent.as_slice());
+        spends
+            .table
+            .add(key.as_slice(), signature.as_slice(), &digest)?;
+    }
+    Ok(spends)
+}

@@ -1,0 +1,169 @@
+//! Inputs with the scripts that they spend, and the signatures that are valid for them.
+
+use crate::fault::Fault;
+use crate::filling::Filling;
+use crate::payments::{script, spending, to_key_hash};
+use curve::Table;
+use hash::{Id, hash160};
+use interp::{Flags, Job};
+use std::alloc::Global;
+use txn::{OutPoint, Tx, TxOut};
+use wire::Memory;
+
+/// The hash type ALL.
+pub const ALL: u8 = 1;
+
+/// A transaction, whose only input spends a script.
+#[derive(Drop)]
+pub struct Spend {
+    pub tx: Tx,
+    pub spent: Vec<u8>,
+}
+
+/// Such transactions, and the signatures that are valid for them.
+#[derive(Drop)]
+pub struct Spends {
+    pub list: Vec<Spend>,
+    pub table: Table,
+}
+
+impl Spends {
+    pub fn new(alloc: Global) -> Spends {
+        Spends {
+            list: Vec::new(alloc),
+            table: Table::new(alloc),
+        }
+    }
+
+    /// A job for each of them, with all rules in force.
+    pub fn jobs(&self, alloc: Global) -> Result<Vec<Job<'_>>, Memory> {
+        let mut jobs = Vec::with_capacity(alloc, self.list.len())?;
+        for spend in self.list.as_slice() {
+            jobs.push(Job {
+                tx: &spend.tx,
+                input: 0,
+                spent: spend.spent.as_slice(),
+                flags: Flags::ALL,
+            })?;
+        }
+        Ok(jobs)
+    }
+}
+
+/// A compressed key of this number, in whose order the keys are.
+pub fn key(filling: &mut Filling, number: u64) -> [u8; 33] {
+    let mut key: [u8; 33] = filling.bytes();
+    key[0] = 2;
+    key[1..9].copy_from_slice(number.to_be_bytes().as_slice());
+    key
+}
+
+/// A signature of the strict encoding, without a hash type.
+pub fn signature(filling: &mut Filling) -> [u8; 70] {
+    let mut bytes: [u8; 70] = filling.bytes();
+    bytes[0] = 0x30;
+    bytes[1] = 68;
+    for at in [2, 36] {
+        bytes[at] = 2;
+        bytes[at + 1] = 32;
+        bytes[at + 2] = bytes[at + 2] % 127 + 1;
+    }
+    bytes
+}
+
+/// Puts the push of these bytes, of which there are at most 75, behind a script.
+pub fn put_push(script: &mut Vec<u8>, bytes: &[u8]) -> Result<(), Memory> {
+    script.push((bytes.len() % 76) as u8)?;
+    script.extend_from_slice(bytes)?;
+    Ok(())
+}
+
+/// Puts the push of a signature with its hash type behind a script.
+pub fn put_signature(script: &mut Vec<u8>, signature: &[u8; 70]) -> Result<(), Memory> {
+    script.push(71)?;
+    script.extend_from_slice(signature.as_slice())?;
+    script.push(ALL)?;
+    Ok(())
+}
+
+/// A transaction with one input of this script, and one output.
+pub fn spender(alloc: Global, filling: &mut Filling, input: &[u8]) -> Result<Tx, Fault> {
+    let prev = OutPoint {
+        id: Id(filling.bytes()),
+        index: 0,
+    };
+    let hash: [u8; 20] = filling.bytes();
+    let mut outputs = Vec::with_capacity(alloc, 1)?;
+    outputs.push(TxOut {
+        value: 1000,
+        script: script(alloc, to_key_hash(&hash).as_slice())?,
+    })?;
+    spending(alloc, prev, script(alloc, input)?, outputs)
+}
+
+/// What a signature of an input signs, by ALL. Where there is no such input, zeros.
+pub fn digest(tx: &Tx, input: usize, code: &[u8]) -> [u8; 32] {
+    if input < tx.inputs.len() {
+        return sighash::digest(tx, input, &[code], u32::from(ALL));
+    }
+    [0; 32]
+}
+
+/// Payments to the hash of a key.
+pub fn to_keys(alloc: Global, size: usize) -> Result<Spends, Fault> {
+    let mut filling = Filling::new(6);
+    let mut spends = Spends::new(alloc);
+    for number in 0..size {
+        let key = key(&mut filling, number as u64);
+        let signature = signature(&mut filling);
+        let mut input = Vec::new(alloc);
+        put_signature(&mut input, &signature)?;
+        put_push(&mut input, key.as_slice())?;
+        let tx = spender(alloc, &mut filling, input.as_slice())?;
+        let spent = Vec::from_slice(alloc, to_key_hash(&hash160(key.as_slice())).as_slice())?;
+        let digest = digest(&tx, 0, spent.as_slice());
+        spends
+            .table
+            .add(key.as_slice(), signature.as_slice(), &digest)?;
+        spends.list.push(Spend { tx, spent })?;
+    }
+    Ok(spends)
+}
+
+/// The bare script of two of three keys.
+fn two_of_three(alloc: Global, keys: &[[u8; 33]; 3]) -> Result<Vec<u8>, Memory> {
+    let mut bytes = vec![in alloc; 0x52]?;
+    for key in keys {
+        put_push(&mut bytes, key.as_slice())?;
+    }
+    bytes.extend_from_slice(&[0x53, 0xae])?;
+    Ok(bytes)
+}
+
+/// Payments to two of three keys, signed by the first two.
+pub fn to_two_of_three(alloc: Global, size: usize) -> Result<Spends, Fault> {
+    let mut filling = Filling::new(7);
+    let mut spends = Spends::new(alloc);
+    for number in 0..size {
+        let first = (number as u64).wrapping_mul(3);
+        let mut keys = [[0; 33]; 3];
+        for (at, place) in keys.iter_mut().enumerate() {
+            *place = key(&mut filling, first.wrapping_add(at as u64));
+        }
+        let signatures = [signature(&mut filling), signature(&mut filling)];
+        let mut input = vec![in alloc; 0]?;
+        for signature in &signatures {
+            put_signature(&mut input, signature)?;
+        }
+        let tx = spender(alloc, &mut filling, input.as_slice())?;
+        let spent = two_of_three(alloc, &keys)?;
+        let digest = digest(&tx, 0, spent.as_slice());
+        for (signature, key) in signatures.iter().zip(keys.iter()) {
+            spends
+                .table
+                .add(key.as_slice(), signature.as_slice(), &digest)?;
+        }
+        spends.list.push(Spend { tx, spent })?;
+    }
+    Ok(spends)
+}

@@ -1,0 +1,5 @@
+use Rattle.block.proofs.OneReading.{run_splits}
+use Rattle.block.proofs.laws.a_run_gives_the_records.Goals as goal
+
+pub returns : goal.returns
+returns c = run_splits

@@ -1,0 +1,4 @@
+-- What holds of the definitions.
+pub mod Reading
+pub mod Equality
+pub mod Decoding

@@ -1,0 +1,4 @@
+pub mod Layers
+pub mod Listing
+pub mod Merging
+pub mod Rooms

@@ -1,0 +1,207 @@
+-- Changes laid over coins.
+use Rattle.std.proofs.Common.{◌≡◌, ℕ, zero, suc, ◌<◌, length, get_or, inl, inr, ◌⊎◌, arith, Bool, true, false, cond, List, [], ◌∷◌, ◌++◌, Option, Some, None, refl, sym, ap, ◌∙◌}
+use Rattle.std.specs.Prelude.{is_some, ◌||◌}
+use Rattle.std.specs.List.{list_any, AllByRecursion, IsDistinct}
+use Rattle.std.proofs.lemmas.List.Folds.{list_any-append}
+use Rattle.std.specs.Map.{keys_of}
+use Rattle.std.specs.FinMap as map
+use Rattle.std.specs.FinMap.{get-insert, get-remove}
+use Rattle.txn.specs.declared.outpoint.OutPoint.{OutPoint}
+use Rattle.coins.specs.declared.coin.Coin.{Coin}
+use Rattle.coins.specs.Coins.{Coins, outpoint_cmp, same, put}
+use Rattle.coins.specs.laws.Lookups.{total_order, same_coins, same-true, same-self, same-sym, get-put, found}
+use Rattle.coins.specs.Changes.{Changes, laid, Opened, Covered, HasRoomFor, Changed}
+use Rattle.coins.specs.laws.Changing.{get-laid, written_at}
+use Rattle.coins.specs.laws.Lookups.{get-entries}
+use Rattle.std.specs.FinMap.{from_entries}
+
+-- a write at a place that none of the rest has can come first
+apart : (k : OutPoint) (ws : Changes) → AllByRecursion (λ y. same k y ≡ false) (keys_of ws) → found ws k ≡ None
+apart k [] a = refl
+apart k (e ∷ ws) a = ap (λ b. cond b (Some e.1) (found ws k)) a.0 ∙ apart k ws a.1
+
+swap_here : (b : Bool) (k q : OutPoint) (m : Coins) (w : Option Coin) (ws : Changes) → same q k ≡ b → found ws k ≡ None → written_at (found ws q) (cond b w (map.get m q)) ≡ cond b w (written_at (found ws q) (map.get m q))
+swap_here true k q m w ws h n = ap (λ o. written_at o w) (ap (found ws) (same-true q k h) ∙ n)
+swap_here false k q m w ws h n = refl
+
+pub laid_first : (m : Coins) (k : OutPoint) (w : Option Coin) (ws : Changes) → IsDistinct same (keys_of ((k, w) ∷ ws)) → laid (put m k w) ws ≡ laid m ((k, w) ∷ ws)
+unfolding IsDistinct laid
+laid_first m k w ws d = same_coins _ _ (λ q.
+    get-laid (put m k w) ws q
+    ∙ ap (written_at (found ws q)) (get-put m k w q)
+    ∙ swap_here (same q k) k q m w ws refl (apart k ws d.0)
+    ∙ sym (get-put (laid m ws) k w q ∙ ap (cond (same q k) w) (get-laid m ws q)))
+
+pub rest_distinct : (k : OutPoint) (w : Option Coin) (ws : Changes) → IsDistinct same (keys_of ((k, w) ∷ ws)) → IsDistinct same (keys_of ws)
+unfolding IsDistinct
+rest_distinct k w ws d = d.1
+
+room_put : (m : Coins) (k : OutPoint) (w : Option Coin) (ws : Changes) → AllByRecursion (λ y. same k y ≡ false) (keys_of ws) → AllByRecursion (λ e. is_some e.1 ≡ true → is_some (map.get m e.0) ≡ true) ws → AllByRecursion (λ e. is_some e.1 ≡ true → is_some (map.get (put m k w) e.0) ≡ true) ws
+room_put m k w [] d h = tt
+room_put m k w (e ∷ ws) d h = ((λ s. ap (λ o. is_some o) (get-put m k w e.0 ∙ ap (λ b. cond b w (map.get m e.0)) (same-sym e.0 k ∙ d.0)) ∙ h.0 s), room_put m k w ws d.1 h.1)
+
+pub room_rest : (m : Coins) (k : OutPoint) (w : Option Coin) (ws : Changes) → IsDistinct same (keys_of ((k, w) ∷ ws)) → HasRoomFor m ((k, w) ∷ ws) → HasRoomFor (put m k w) ws
+unfolding IsDistinct
+room_rest m k w ws d r = record { all = room_put m k w ws d.0 r.all.1 }
+
+pub room_here : (m : Coins) (k : OutPoint) (w : Option Coin) (ws : Changes) → HasRoomFor m ((k, w) ∷ ws) → is_some w ≡ true → is_some (map.get m k) ≡ true
+room_here m k w ws r = r.all.0
+
+-- changes cover what was made ready for them
+cover_here : (o : Option (Option Coin)) (a b : Option Coin) → (o ≡ None → a ≡ b) → written_at o a ≡ written_at o b
+cover_here None a b h = h refl
+cover_here (Some w) a b h = refl
+
+pub covered_laid : (m n : Coins) (ws : Changes) → Covered m n ws → laid n ws ≡ laid m ws
+covered_laid m n ws c = same_coins _ _ (λ q. get-laid n ws q ∙ cover_here (found ws q) (map.get n q) (map.get m q) (c.at q) ∙ sym (get-laid m ws q))
+
+-- making room
+pub opened_none : (m : Coins) → Opened m m []
+opened_none m = record { at = λ q. refl }
+
+or_here : (a b : Bool) (n w : Option Coin) → (b ≡ true → n ≡ None) → cond a None n ≡ cond (a || b) None n
+or_here true b n w h = refl
+or_here false true n w h = h refl
+or_here false false n w h = refl
+
+tied_none : (b : Bool) (n : Coins) (k q : OutPoint) → same q k ≡ b → map.get n k ≡ None → b ≡ true → map.get n q ≡ None
+tied_none true n k q h e t = ap (map.get n) (same-true q k h) ∙ e
+tied_none false n k q h e t = cc
+
+any_push : (q k : OutPoint) (added : List OutPoint) → list_any (same q) (added ++ k ∷ []) ≡ (list_any (same q) added || (same q k || false))
+any_push q k added = list_any-append (same q) added (k ∷ [])
+
+or_none : (b : Bool) → (b || false) ≡ b
+or_none true = refl
+or_none false = refl
+
+-- one more outpoint, where no coin stands yet
+pub opened_push : (n m : Coins) (added : List OutPoint) (k : OutPoint) → Opened n m added → map.get n k ≡ None → Opened n m (added ++ k ∷ [])
+opened_push n m added k o e = record {
+  at = λ q.
+      o.at q
+      ∙ or_here (list_any (same q) added) (same q k) (map.get n q) None (tied_none (same q k) n k q refl e)
+      ∙ sym (ap (λ b. cond b None (map.get n q)) (any_push q k added ∙ ap (λ b. list_any (same q) added || b) (or_none (same q k))));
+}
+
+hide_here : (a b : Bool) (c n : Option Coin) → (b ≡ true → a ≡ true) → cond a None n ≡ cond a None (cond b c n)
+hide_here true b c n h = refl
+hide_here false true c n h = let x : false ≡ true = h refl in cc
+hide_here false false c n h = refl
+
+or_right : (a b c : Bool) → b ≡ true → (a || (b || c)) ≡ true
+or_right true b c h = refl
+or_right false b c h = ap (λ x. x || c) h
+
+-- and then a coin there
+pub opened_put : (n m : Coins) (added : List OutPoint) (k : OutPoint) (c : Coin) → Opened n m (added ++ k ∷ []) → Opened (map.insert n k c) m (added ++ k ∷ [])
+opened_put n m added k c o = record {
+  at = λ q.
+      o.at q
+      ∙ hide_here (list_any (same q) (added ++ k ∷ [])) (same q k) (Some c) (map.get n q) (λ h. any_push q k added ∙ or_right (list_any (same q) added) (same q k) false h)
+      ∙ ap (cond (list_any (same q) (added ++ k ∷ [])) None) (sym (get-insert total_order n k c q));
+}
+
+-- the map that comes back
+pub opened_back : (n m x : Coins) (added : List OutPoint) → Opened n m added → Opened n x added → x ≡ m
+opened_back n m x added o p = same_coins _ _ (λ q. p.at q ∙ sym (o.at q))
+
+-- the coins of entries after a write
+pub changed_put : (es fs : List (OutPoint × Coin)) (k : OutPoint) (w : Option Coin) → Changed es fs k w → from_entries {R = outpoint_cmp} fs ≡ put (from_entries es) k w
+changed_put es fs k w h = same_coins _ _ (λ q.
+    get-entries fs q ∙ h.at q
+    ∙ ap (λ b. cond b w (found es q)) (same-sym k q)
+    ∙ sym (get-put (from_entries es) k w q ∙ ap (cond (same q k) w) (get-entries es q)))
+
+covered_here : (b : Bool) (f : Option (Option Coin)) (a c : Option Coin) → a ≡ cond b None c → (b ≡ true → is_some f ≡ true) → f ≡ None → c ≡ a
+covered_here true f a c e h n = let x : is_some f ≡ true = h refl in let y : is_some f ≡ false = ap (λ o. is_some o) n in cc
+covered_here false f a c e h n = sym e
+
+-- the outpoints that have been made ready are among the changes
+pub covered_from : (n m : Coins) (added : List OutPoint) (ws : Changes) → Opened n m added → ((q : OutPoint) → list_any (same q) added ≡ true → is_some (found ws q) ≡ true) → Covered m n ws
+covered_from n m added ws o h = record { at = λ q none. covered_here (list_any (same q) added) (found ws q) (map.get m q) (map.get n q) (o.at q) (h q) none }
+
+both_here : (a b : Bool) (n : Option Coin) → cond b None (cond a None n) ≡ cond (a || (b || false)) None n
+both_here true true n = refl
+both_here true false n = refl
+both_here false true n = refl
+both_here false false n = refl
+
+-- one more taken away
+pub opened_more : (n m : Coins) (added : List OutPoint) (k : OutPoint) → Opened n m added → Opened n (map.remove m k) (added ++ k ∷ [])
+opened_more n m added k o = record {
+  at = λ q.
+      get-remove total_order m k q
+      ∙ ap (cond (same q k) None) (o.at q)
+      ∙ both_here (list_any (same q) added) (same q k) (map.get n q)
+      ∙ sym (ap (λ b. cond b None (map.get n q)) (any_push q k added));
+}
+
+-- a map that has all the coins of another, and one more
+put_keeps : (b : Bool) (c : Coin) (o : Option Coin) → is_some o ≡ true → is_some (cond b (Some c) o) ≡ true
+put_keeps true c o h = refl
+put_keeps false c o h = h
+
+pub insert_keeps : (n : Coins) (k : OutPoint) (c : Coin) (q : OutPoint) → is_some (map.get n q) ≡ true → is_some (map.get (map.insert n k c) q) ≡ true
+insert_keeps n k c q h = ap (λ o. is_some o) (get-insert total_order n k c q) ∙ put_keeps (same q k) c (map.get n q) h
+
+pub insert_there : (n : Coins) (k : OutPoint) (c : Coin) → is_some (map.get (map.insert n k c) k) ≡ true
+insert_there n k c = ap (λ o. is_some o) (get-insert total_order n k c k ∙ ap (λ b. cond b (Some c) (map.get n k)) (same-self k))
+
+pub none_from : {A : Type 0} (o : Option A) → is_some o ≡ false → o ≡ None
+none_from None h = refl
+none_from (Some x) h = cc
+
+-- room for the first changes, and for one more
+room_all : (n p : Coins) (cs : Changes) → ((q : OutPoint) → is_some (map.get n q) ≡ true → is_some (map.get p q) ≡ true)
+    → AllByRecursion (λ c. is_some c.1 ≡ true → is_some (map.get n c.0) ≡ true) cs → AllByRecursion (λ c. is_some c.1 ≡ true → is_some (map.get p c.0) ≡ true) cs
+room_all n p [] keeps a = tt
+room_all n p (c ∷ cs) keeps a = ((λ s. keeps c.0 (a.0 s)), room_all n p cs keeps a.1)
+
+all_push : {A : Type 0} (P : A → Type 0) (xs : List A) (x : A) → AllByRecursion P xs → P x → AllByRecursion P (xs ++ x ∷ [])
+all_push P [] x a p = (p, tt)
+all_push P (y ∷ xs) x a p = (a.0, all_push P xs x a.1 p)
+
+pub room_more : (n p : Coins) (cs : Changes) (c : OutPoint × Option Coin) → ((q : OutPoint) → is_some (map.get n q) ≡ true → is_some (map.get p q) ≡ true)
+    → (is_some c.1 ≡ true → is_some (map.get p c.0) ≡ true) → HasRoomFor n cs → HasRoomFor p (cs ++ c ∷ [])
+room_more n p cs c keeps here r = record { all = all_push (λ x. is_some x.1 ≡ true → is_some (map.get p x.0) ≡ true) cs c (room_all n p cs keeps r.all) here }
+
+-- what is noted is among the changes
+named_here : (b : Bool) (w : Option Coin) (o : Option (Option Coin)) → (b ≡ true → is_some (cond b (Some w) o) ≡ true)
+named_here true w o h = refl
+named_here false w o h = cc
+
+named_on : (b : Bool) (w : Option Coin) (o : Option (Option Coin)) → is_some o ≡ true → is_some (cond b (Some w) o) ≡ true
+named_on true w o h = refl
+named_on false w o h = h
+
+pub named_at : (cs : Changes) (i : ℕ) (d : OutPoint × Option Coin) → i < length cs → is_some (found cs (get_or cs i d).0) ≡ true
+named_at [] i d h = absurd (omega arith)
+named_at (c ∷ cs) zero d h = ap (λ b. is_some (cond b (Some c.1) (found cs c.0))) (same-self c.0)
+named_at (c ∷ cs) (suc i) d h = named_on (same (get_or cs i d).0 c.0) c.1 (found cs (get_or cs i d).0) (named_at cs i d (omega arith))
+
+named_tied : (b : Bool) (cs : Changes) (k q : OutPoint) → same q k ≡ b → is_some (found cs k) ≡ true → b ≡ true → is_some (found cs q) ≡ true
+named_tied true cs k q h n t = ap (λ x. is_some (found cs x)) (same-true q k h) ∙ n
+named_tied false cs k q h n t = cc
+
+or_split : (a b : Bool) (P : Type 0) → (a ≡ true → P) → (b ≡ true → P) → (a || (b || false)) ≡ true → P
+or_split true b P f g h = f refl
+or_split false true P f g h = g refl
+or_split false false P f g h = cc
+
+pub named_more : (cs : Changes) (added more : List OutPoint) (k : OutPoint) → (more ≡ added) ⊎ (more ≡ added ++ k ∷ []) → is_some (found cs k) ≡ true
+    → ((q : OutPoint) → list_any (same q) added ≡ true → is_some (found cs q) ≡ true)
+    → (q : OutPoint) → list_any (same q) more ≡ true → is_some (found cs q) ≡ true
+named_more cs added more k e n h q t = elim e [
+  | inl f ↦ h q (ap (list_any (same q)) (sym f) ∙ t)
+  | inr f ↦ or_split (list_any (same q) added) (same q k) (is_some (found cs q) ≡ true) (h q) (named_tied (same q k) cs k q refl n)
+      (sym (any_push q k added) ∙ sym (ap (list_any (same q)) f) ∙ t)
+]
+
+pub laid_nothing : (m : Coins) → laid m [] ≡ m
+unfolding laid
+laid_nothing m = refl
+
+pub no_length : {A : Type 0} (xs : List A) → length xs ≡ 0 → xs ≡ []
+no_length [] h = refl
+no_length (x ∷ xs) h = absurd (omega arith)

@@ -1,0 +1,128 @@
+//! A layer of changes over a base, on which further layers can stand.
+
+ghost use Rattle.std.specs.Prelude.{◌≡◌, IfOk, OnOk, OnErr, None, Some, IsSome};
+ghost use Rattle.std.specs.Option.{option_copied};
+ghost use Rattle.std.specs.FinMap as map;
+ghost use Rattle.coins.specs.Changes.{AreChanges, laid};
+ghost use Rattle.coins.specs.Entries.{over, IsSound};
+
+use crate::base::Base;
+use crate::changes::list;
+use crate::coin::Coin;
+use crate::entry::{Entry, added, lay_all, make_room, take, write};
+use crate::writes::Writes;
+use std::alloc::Global;
+use std::collections::BTreeMap;
+use std::marker::Model;
+use txn::OutPoint;
+use wire::Memory;
+
+/// A layer of changes over a base (Bitcoin Core's `CCoinsViewCache`). A clause sees the coins of the
+/// base, and those of the layer.
+#[derive(Drop)]
+pub struct Cache<'a, B: Base> {
+    base: &'a B,
+    entries: BTreeMap<OutPoint, Entry>,
+}
+
+impl<'a, B: Base> Model for Cache<'a, B> {
+    ghost use Rattle.coins.specs.Coins.{Layer, coded_layer};
+
+    ghost Value = { Layer };
+
+    ghost coded = { coded_layer };
+
+    ghost use Rattle.coins.specs.Entries.{over, IsSound};
+
+    ghost view = { λ c. record { base = B.coins c.base.now; coins = over (B.coins c.base.now) c.entries.entries } };
+
+    ghost invariant = { λ c. IsSound (B.coins c.base.now) c.entries.entries };
+}
+
+impl<'a, B: Base> Cache<'a, B> {
+    /// A layer that changes nothing.
+    pub fn over(alloc: Global, base: &'a B) -> Cache<'a, B>
+        ensures below { result.base ≡ B.coins base.now }
+        ensures coins { result.coins ≡ B.coins base.now }
+    {
+        Cache {
+            base,
+            entries: BTreeMap::new(alloc),
+        }
+    }
+
+    /// The coin at an outpoint, lent.
+    pub fn get(&self, at: &OutPoint) -> Option<&Coin>
+        ensures { option_copied result ≡ map.get self.now.coins at.now }
+    {
+        match self.entries.get(at) {
+            Some(Entry::Dirty(coin)) => coin.as_ref(),
+            Some(Entry::Fresh(coin)) => Some(coin),
+            Some(Entry::Clean) => self.base.get(at),
+            None => self.base.get(at),
+        }
+    }
+
+    /// Puts a coin where there is none.
+    pub fn add(&mut self, at: OutPoint, coin: Coin) -> Result<(), Memory>
+        requires { map.get self.old.coins at ≡ None }
+        ensures ok { OnOk result (self.new ≡ record self.old { coins = map.insert self.old.coins at coin }) }
+        ensures err { OnErr result (self.new ≡ self.old) }
+    {
+        let entry = added(self.entries.get(&at), coin);
+        write(&mut self.entries, at, entry)
+    }
+
+    /// Takes the coin that is there. It is copied only where it isn't this layer's own.
+    pub fn spend(&mut self, at: &OutPoint) -> Result<Coin, Memory>
+        requires { IsSome (map.get self.old.coins at.now) }
+        ensures coin { IfOk result (λ coin. map.get self.old.coins at.now ≡ Some coin) }
+        ensures ok { OnOk result (self.new ≡ record self.old { coins = map.remove self.old.coins at.now }) }
+        ensures err { OnErr result (self.new ≡ self.old) }
+    {
+        if let Some(coin) = take(&mut self.entries, at) {
+            return Ok(coin);
+        }
+        let coin = self.base.get(at).unwrap().copy()?;
+        write(&mut self.entries, *at, Entry::Dirty(None))?;
+        Ok(coin)
+    }
+
+    /// The outpoints at which the base and this layer differ, in order, each with the coin that stands
+    /// there now, or None where it is gone.
+    pub fn changes(&self, alloc: Global) -> Result<Vec<(OutPoint, Option<Coin>)>, Memory>
+        ensures differences { IfOk result (λ changes. AreChanges self.now.base self.now.coins changes.items) }
+        // Laid over the base, they give the coins of this layer.
+        ensures laid { IfOk result (λ changes. laid self.now.base changes.items ≡ self.now.coins) }
+    {
+        list(alloc, &self.entries, self.base)
+    }
+
+    /// What this layer wrote, without the base.
+    pub fn into_writes(self) -> Writes
+        ensures sound { IsSound self.entry.base result }
+        ensures over { over self.entry.base result ≡ self.entry.coins }
+    {
+        let Cache { base: _, entries } = self;
+        Writes { entries }
+    }
+
+    /// Writes what a layer over these coins wrote: all of it, or nothing.
+    pub fn absorb(&mut self, writes: Writes) -> Result<(), Memory>
+        requires { IsSound self.old.coins writes }
+        ensures ok { OnOk result (self.new ≡ record self.old { coins = over self.old.coins writes }) }
+        ensures err { OnErr result (self.new ≡ self.old) }
+    {
+        make_room(&mut self.entries, &writes.entries)?;
+        lay_all(&mut self.entries, writes.entries);
+        Ok(())
+    }
+}
+
+impl<'a, B: Base> Base for Cache<'a, B> {
+    ghost coins = { λ c. c.coins };
+
+    fn get(&self, at: &OutPoint) -> Option<&Coin> {
+        Cache::get(self, at)
+    }
+}

@@ -1,0 +1,40 @@
+//! Outputs that aren't spent.
+
+ghost use Rattle.std.specs.Prelude.{◌≡◌, ◌↔◌, IfOk, IsTrue};
+
+use txn::Script;
+use wire::Memory;
+
+/// An output that isn't spent (Bitcoin Core's `Coin`): its value in satoshis, its script, the height of
+/// its block, and whether a coinbase made it.
+#[derive(Clone, Debug, Drop)]
+pub struct Coin {
+    pub value: i64,
+    pub script: Script,
+    pub height: u32,
+    pub coinbase: bool,
+}
+
+impl Coin {
+    /// An equal coin.
+    pub fn copy(&self) -> Result<Coin, Memory>
+        ensures { IfOk result (λ coin. coin ≡ self.now) }
+    {
+        Ok(Coin {
+            value: self.value,
+            script: self.script.clone()?,
+            height: self.height,
+            coinbase: self.coinbase,
+        })
+    }
+
+    /// Whether all fields are equal.
+    pub fn same(&self, other: &Coin) -> bool
+        ensures { IsTrue result ↔ (self.now ≡ other.now) }
+    {
+        self.value == other.value
+            && self.height == other.height
+            && self.coinbase == other.coinbase
+            && self.script.as_slice() == other.script.as_slice()
+    }
+}

@@ -1,0 +1,155 @@
+//! The entries of a layer.
+
+ghost use Rattle.std.specs.Prelude.{◌≡◌, OnOk, OnErr, IsOk, IfNone, None, Some, IsSome, is_some};
+ghost use Rattle.std.specs.Option.{option_copied};
+ghost use Rattle.txn.specs.declared.outpoint.OutPoint.{OutPoint};
+ghost use Rattle.coins.specs.Entries.{added_entry, is_fresh, own_coin, emptied, entry_at, Written, AreReadied, HasRoom, merged, merged_at};
+
+use crate::coin::Coin;
+use std::collections::BTreeMap;
+use txn::OutPoint;
+use wire::Memory;
+
+/// What a layer knows of an outpoint (Bitcoin Core's `CCoinsCacheEntry`).
+#[derive(Debug, Drop)]
+pub enum Entry {
+    /// As below: a place that is ready to be written.
+    Clean,
+    /// DIRTY: it may differ from below. A coin, or none where that was spent.
+    Dirty(Option<Coin>),
+    /// DIRTY and FRESH: a coin where none stands below, so that nothing is left once it is spent.
+    Fresh(Coin),
+}
+
+/// The entry of a coin that is added: fresh, unless one was spent here.
+pub(crate) fn added(before: Option<&Entry>, coin: Coin) -> Entry
+    ensures { result ≡ added_entry (option_copied before.entry) coin }
+{
+    match before {
+        Some(Entry::Dirty(_)) => Entry::Dirty(Some(coin)),
+        _ => Entry::Fresh(coin),
+    }
+}
+
+fn is_fresh(entry: Option<&Entry>) -> bool
+    ensures { result ≡ is_fresh (option_copied entry.entry) }
+{
+    matches!(entry, Some(Entry::Fresh(_)))
+}
+
+fn holds_coin(entry: Option<&Entry>) -> bool
+    ensures { result ≡ is_some (own_coin (option_copied entry.entry)) }
+{
+    matches!(entry, Some(Entry::Dirty(Some(_))) | Some(Entry::Fresh(_)))
+}
+
+fn coin_of(entry: Option<Entry>) -> Option<Coin>
+    ensures { result ≡ own_coin entry }
+{
+    match entry {
+        Some(Entry::Fresh(coin)) => Some(coin),
+        Some(Entry::Dirty(coin)) => coin,
+        _ => None,
+    }
+}
+
+/// Puts an entry at an outpoint. Where one stands already, it takes no memory.
+pub(crate) fn write(
+    entries: &mut BTreeMap<OutPoint, Entry>,
+    at: OutPoint,
+    entry: Entry,
+) -> Result<(), Memory>
+    ensures ok { OnOk result (Written entries.old.entries entries.new.entries at (Some entry)) }
+    ensures err { OnErr result (entries.new.entries ≡ entries.old.entries) }
+    ensures present { IsSome (entry_at entries.old.entries at) → IsOk result }
+{
+    entries.insert(at, entry)?;
+    Ok(())
+}
+
+/// Puts an entry in another's place, which takes no memory.
+fn replace(entries: &mut BTreeMap<OutPoint, Entry>, at: OutPoint, entry: Entry) -> Option<Entry>
+    requires { IsSome (entry_at entries.old.entries at) }
+    ensures before { result ≡ entry_at entries.old.entries at }
+    ensures written { Written entries.old.entries entries.new.entries at (Some entry) }
+{
+    match entries.insert(at, entry) {
+        Ok(before) => before,
+        Err(_) => None,
+    }
+}
+
+fn forget(entries: &mut BTreeMap<OutPoint, Entry>, at: &OutPoint)
+    ensures { Written entries.old.entries entries.new.entries at.now None }
+{
+    entries.remove(at);
+}
+
+/// Takes out the coin that this layer holds, if it holds one, which takes no memory.
+pub(crate) fn take(entries: &mut BTreeMap<OutPoint, Entry>, at: &OutPoint) -> Option<Coin>
+    ensures coin { result ≡ own_coin (entry_at entries.old.entries at.now) }
+    ensures taken { IsSome result → Written entries.old.entries entries.new.entries at.now (emptied (entry_at entries.old.entries at.now)) }
+    ensures none { IfNone result (entries.new.entries ≡ entries.old.entries) }
+{
+    if !holds_coin(entries.get(at)) {
+        return None;
+    }
+    if is_fresh(entries.get(at)) {
+        return coin_of(entries.remove(at));
+    }
+    coin_of(replace(entries, *at, Entry::Dirty(None)))
+}
+
+/// Has an entry at each outpoint that is going to be written, a clean one where there was none.
+pub(crate) fn make_room(
+    entries: &mut BTreeMap<OutPoint, Entry>,
+    writes: &BTreeMap<OutPoint, Entry>,
+) -> Result<(), Memory>
+    ensures readied { AreReadied entries.old.entries entries.new.entries }
+    ensures room { OnOk result (HasRoom entries.new.entries writes.now.entries) }
+{
+    for (at, _) in writes {
+        if !entries.contains_key(at) {
+            write(entries, *at, Entry::Clean)?;
+        }
+    }
+    Ok(())
+}
+
+/// Lays an entry of the layer above over the one that is there, which takes no memory.
+fn lay_one(entries: &mut BTreeMap<OutPoint, Entry>, at: OutPoint, entry: Entry)
+    requires { IsSome (entry_at entries.old.entries at) }
+    ensures { Written entries.old.entries entries.new.entries at (merged (entry_at entries.old.entries at) entry) }
+{
+    match entry {
+        Entry::Clean => {}
+        Entry::Dirty(None) => {
+            if is_fresh(entries.get(&at)) {
+                forget(entries, &at);
+            } else {
+                let _ = write(entries, at, Entry::Dirty(None));
+            }
+        }
+        Entry::Dirty(Some(coin)) => {
+            if is_fresh(entries.get(&at)) {
+                let _ = write(entries, at, Entry::Fresh(coin));
+            } else {
+                let _ = write(entries, at, Entry::Dirty(Some(coin)));
+            }
+        }
+        Entry::Fresh(coin) => {
+            let entry = added(entries.get(&at), coin);
+            let _ = write(entries, at, entry);
+        }
+    }
+}
+
+/// Lays all entries of the layer above over those that are there, which takes no memory.
+pub(crate) fn lay_all(entries: &mut BTreeMap<OutPoint, Entry>, writes: BTreeMap<OutPoint, Entry>)
+    requires { HasRoom entries.old.entries writes.entries }
+    ensures { (q : OutPoint) → entry_at entries.new.entries q ≡ merged_at (entry_at entries.old.entries q) (entry_at writes.entries q) }
+{
+    for (at, entry) in writes {
+        lay_one(entries, at, entry);
+    }
+}

@@ -1,0 +1,104 @@
+//! Lists of changes laid over a plain map.
+
+ghost use Rattle.std.specs.Prelude.{◌≡◌, ◌⊎◌, ◌∷◌, [], ◌++◌, OnOk, OnErr, true, is_some};
+ghost use Rattle.std.specs.FinMap as map;
+ghost use Rattle.txn.specs.declared.outpoint.OutPoint.{OutPoint};
+ghost use Rattle.coins.specs.Coins.{Coins};
+ghost use Rattle.coins.specs.Changes.{IsInOrder, laid, Opened, Covered, HasRoomFor};
+
+use crate::coin::Coin;
+use crate::coin_map::CoinMap;
+use std::alloc::Global;
+use txn::{OutPoint, Script};
+use wire::Memory;
+
+impl CoinMap {
+    /// Lays changes over this map: all of them, or none.
+    pub fn lay(
+        &mut self,
+        alloc: Global,
+        changes: Vec<(OutPoint, Option<Coin>)>,
+    ) -> Result<(), Memory>
+        requires { IsInOrder changes.items }
+        ensures ok { OnOk result (self.new ≡ laid self.old changes.items) }
+        ensures err { OnErr result (self.new ≡ self.old) }
+    {
+        make_room(alloc, self, changes.as_slice())?;
+        set_all(self, changes);
+        Ok(())
+    }
+}
+
+/// A coin that stands where another is to come. It takes no memory of its own.
+fn nothing(alloc: Global) -> Coin {
+    Coin {
+        value: 0,
+        script: Script::from_vec(Vec::new(alloc)),
+        height: 0,
+        coinbase: false,
+    }
+}
+
+/// Has some coin wherever one is going to be written, or leaves the map as it was.
+fn make_room(
+    alloc: Global,
+    coins: &mut CoinMap,
+    changes: &[(OutPoint, Option<Coin>)],
+) -> Result<(), Memory>
+    ensures room { OnOk result (HasRoomFor coins.new changes.now) }
+    ensures others { OnOk result (Covered coins.old coins.new changes.now) }
+    ensures err { OnErr result (coins.new ≡ coins.old) }
+{
+    let mut added = Vec::new(alloc);
+    for (at, coin) in changes {
+        if open(alloc, coins, &mut added, *at, coin).is_err() {
+            close_all(coins, &added);
+            return Err(Memory);
+        }
+    }
+    Ok(())
+}
+
+/// Has some coin where one is going to be written. Where none stands, the outpoint is noted first.
+fn open(
+    alloc: Global,
+    coins: &mut CoinMap,
+    added: &mut Vec<OutPoint>,
+    at: OutPoint,
+    coin: &Option<Coin>,
+) -> Result<(), Memory>
+    ensures opened { (m : Coins) → Opened coins.old m added.old.items → Opened coins.new m added.new.items }
+    ensures added { (added.new.items ≡ added.old.items) ⊎ (added.new.items ≡ added.old.items ++ at ∷ []) }
+    ensures keeps { (q : OutPoint) → is_some (map.get coins.old q) ≡ true → is_some (map.get coins.new q) ≡ true }
+    ensures ready { OnOk result (is_some coin.now ≡ true → is_some (map.get coins.new at) ≡ true) }
+{
+    if coin.is_none() {
+        return Ok(());
+    }
+    if coins.has(&at) {
+        return Ok(());
+    }
+    added.push(at)?;
+    coins.insert(at, nothing(alloc))?;
+    Ok(())
+}
+
+/// Takes away the coins at these outpoints.
+fn close_all(coins: &mut CoinMap, added: &[OutPoint])
+    ensures { Opened coins.old coins.new added.now }
+{
+    for at in added {
+        coins.remove(at);
+    }
+}
+
+/// Writes all changes where there is room for them, which takes no memory.
+fn set_all(coins: &mut CoinMap, changes: Vec<(OutPoint, Option<Coin>)>)
+    requires in_order { IsInOrder changes.items }
+    requires room { HasRoomFor coins.old changes.items }
+    ensures { coins.new ≡ laid coins.old changes.items }
+{
+    for (at, coin) in changes {
+        coins.set(at, coin);
+    }
+}

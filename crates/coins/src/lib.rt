@@ -1,0 +1,22 @@
+//! Coins by their outpoints: a plain map of them, and layers of changes over a map.
+#![tactic(auto)]
+
+mod base;
+mod cache;
+mod changes;
+mod coin;
+mod coin_map;
+mod entry;
+pub mod laws;
+mod laying;
+mod writes;
+
+pub use base::Base;
+pub use cache::Cache;
+pub use coin::Coin;
+pub use coin_map::CoinMap;
+pub use entry::Entry;
+pub use writes::Writes;
+
+#[cfg(test)]
+mod tests;

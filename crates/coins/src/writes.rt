@@ -1,0 +1,20 @@
+//! What a layer wrote, apart from what it stands on.
+
+use crate::entry::Entry;
+use std::collections::BTreeMap;
+use std::marker::Model;
+use txn::OutPoint;
+
+/// What a layer wrote, taken out of it. A clause sees the list of its entries.
+#[derive(Drop)]
+pub struct Writes {
+    pub(crate) entries: BTreeMap<OutPoint, Entry>,
+}
+
+impl Model for Writes {
+    ghost use Rattle.coins.specs.Entries.{Entries};
+
+    ghost Value = { Entries };
+
+    ghost view = { λ w. w.entries.entries };
+}

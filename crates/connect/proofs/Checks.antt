@@ -1,0 +1,75 @@
+-- Lists of scripts that have to accept.
+use Rattle.std.proofs.Common.{◌≡◌, inl, inr, ℕ, zero, suc, ◌+◌, ◌<◌, List, [], ◌∷◌, ◌++◌, length, get_or, map, Option, Some, None, slice_get, refl, sym, ap, ap₂, subst, ◌∙◌, arith}
+use Rattle.std.specs.List.{zip, enumerate_from, AllZip}
+use Rattle.std.proofs.lemmas.List.{map-append, length-map}
+use Rattle.txn.specs.declared.reason.Reason.TheVariants.{ScriptRefused}
+use Rattle.txn.specs.declared.tx.Tx.{Tx}
+use Rattle.coins.specs.declared.coin.Coin.{Coin}
+use Rattle.interp.specs.declared.flags.Flags.{Flags}
+use Rattle.curve.specs.Triple.{Triples}
+use Rattle.interp.specs.declared.job.Job.{Job}
+use Rattle.queue.specs.Jobs.{question, asked, IsAccepted, AcceptsAt, FailsAt}
+use Rattle.connect.specs.Scripts.{Check, input_checks, IsFirstRefused}
+use Rattle.connect.specs.Inside.{listed}
+
+pub zip_push : {A B : Type 0} (xs : List A) (ys : List B) (x : A) (y : B) → length xs ≡ length ys → zip (xs ++ x ∷ []) (ys ++ y ∷ []) ≡ zip xs ys ++ (x, y) ∷ []
+zip_push [] [] x y h = refl
+zip_push [] (b ∷ ys) x y h = absurd (omega arith)
+zip_push (a ∷ xs) [] x y h = absurd (omega arith)
+zip_push (a ∷ xs) (b ∷ ys) x y h = ap (λ l. (a, b) ∷ l) (zip_push xs ys x y (omega arith))
+
+pub enumerate_push : {A : Type 0} (n : ℕ) (xs : List A) (x : A) → enumerate_from n (xs ++ x ∷ []) ≡ enumerate_from n xs ++ (n + length xs, x) ∷ []
+enumerate_push n [] x = ap (λ k. (k, x) ∷ []) (omega arith)
+enumerate_push n (y ∷ xs) x = ap (λ l. (n, y) ∷ l) (enumerate_push (n + 1) xs x ∙ ap (λ k. enumerate_from (n + 1) xs ++ (k, x) ∷ []) (omega arith))
+
+-- ---- the first that fails
+
+some_is : {A : Type 0} (x y : A) → ◌≡◌ {A = Option A} (Some x) (Some y) → x ≡ y
+some_is x y h = cc
+
+pub none_refused : (triples : Triples) (places : List ℕ) (jobs : List Job) → ((k : ℕ) → AcceptsAt triples jobs k) → IsFirstRefused triples (zip places (map asked jobs)) None
+none_refused triples [] jobs h = refl
+none_refused triples (p ∷ places) [] h = refl
+none_refused triples (p ∷ places) (job ∷ jobs) h = inr (h 0 job refl, none_refused triples places jobs (λ k other e. h (suc k) other e))
+
+pub first_refused_is : (triples : Triples) (places : List ℕ) (jobs : List Job) (least t : ℕ) (job : Job) → length places ≡ length jobs → least < length places
+    → t ≡ get_or places least t → job ≡ get_or jobs least job → FailsAt triples jobs least → ((k : ℕ) → k < least → AcceptsAt triples jobs k)
+    → IsFirstRefused triples (zip places (map asked jobs)) (Some (ScriptRefused t job.input))
+first_refused_is triples [] jobs least t job alike h et ej fails others = absurd (omega arith)
+first_refused_is triples (p ∷ places) [] least t job alike h et ej fails others = absurd (omega arith)
+first_refused_is triples (p ∷ places) (j ∷ jobs) zero t job alike h et ej fails others =
+    inl (subst (λ (x : Job). ¬ IsAccepted (asked x) triples) (sym (some_is j fails.0 fails.1)) fails.2, ap₂ (λ x (y : Job). Some (ScriptRefused x y.input)) et ej)
+first_refused_is triples (p ∷ places) (j ∷ jobs) (suc least) t job alike h et ej fails others =
+    inr (others 0 (omega arith) j refl, first_refused_is triples places jobs least t job (omega arith) (omega arith) et ej fails (λ k lt other e. others (suc k) (omega arith) other e))
+
+pub below_of : {A : Type 0} (xs : List A) (k : ℕ) (x : A) → slice_get xs k ≡ Some x → k < length xs
+below_of [] k x h = cc
+below_of (y ∷ xs) zero x h = omega arith
+below_of (y ∷ xs) (suc k) x h = omega (arith, below_of xs k x h)
+
+-- ---- listing them
+
+pub input_push : (flags : Flags) (place : ℕ) (tx : Tx) (coins : List Coin) (x : Coin) → input_checks flags place tx (coins ++ x ∷ []) ≡ input_checks flags place tx coins ++ (place, question tx (length coins) x.script flags) ∷ []
+input_push flags place tx coins x =
+    let check : ℕ × Coin → Check = λ c. (place, question tx c.0 c.1.script flags) in
+    ap (map check) (enumerate_push 0 coins x)
+    ∙ map-append check (enumerate_from 0 coins) ((0 + length coins, x) ∷ [])
+    ∙ ap (λ n. map check (enumerate_from 0 coins) ++ check (n, x) ∷ []) (omega arith)
+
+pub checks_push : (places : List ℕ) (jobs : List Job) (place : ℕ) (job : Job) → length places ≡ length jobs → zip (places ++ place ∷ []) (map asked (jobs ++ job ∷ [])) ≡ zip places (map asked jobs) ++ (place, asked job) ∷ []
+checks_push places jobs place job even =
+    ap (zip (places ++ place ∷ [])) (map-append asked jobs (job ∷ [])) ∙ zip_push places (map asked jobs) place (asked job) (even ∙ sym (length-map jobs asked))
+
+pub listed_next : (flags : Flags) (place : ℕ) (tx : Tx) (txs : List Tx) (coins : List Coin) (undo : List (List Coin)) → listed flags place (tx ∷ txs) (coins ∷ undo) ≡ input_checks flags place tx coins ++ listed flags (place + 1) txs undo
+unfolding listed
+listed_next flags place tx txs coins undo = refl
+
+pub listed_none : (flags : Flags) (place : ℕ) (undo : List (List Coin)) → listed flags place [] undo ≡ []
+unfolding listed
+listed_none flags place undo = refl
+
+pub alike_length : {A B : Type 0} (R : A → B → Type 0) (xs : List A) (ys : List B) → AllZip R xs ys → length xs ≡ length ys
+alike_length R [] [] h = refl
+alike_length R [] (y ∷ ys) h = absurd h
+alike_length R (x ∷ xs) [] h = absurd h
+alike_length R (x ∷ xs) (y ∷ ys) h = ap (λ n. suc n) (alike_length R xs ys h.1)

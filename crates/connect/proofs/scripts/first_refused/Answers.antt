@@ -1,0 +1,42 @@
+use Rattle.std.proofs.Common.{rules, ◌≡◌, List, length, Some, None, ap, subst, ◌∙◌, arith}
+use Rattle.txn.specs.declared.reason.Reason.TheVariants.{ScriptRefused}
+use Rattle.interp.specs.declared.flags.Flags.{Flags}
+use Rattle.queue.specs.Jobs.{IsFirstFailure}
+use Rattle.connect.specs.Scripts.{Check, flags_of, IsFirstRefused}
+use Rattle.connect.specs.Inside.{listed, checks_in}
+use Rattle.connect.proofs.Checks.{none_refused, first_refused_is, below_of}
+use Rattle.connect.proofs.scripts.first_refused.Goals as goal
+
+pub returns-in_default : goal.returns-in_default
+returns-in_default g c =
+    let triples = c.args.env.now.table.now in
+    let checks = c.in_ok-checks.checks in
+    let all : checks_in checks ≡ listed (flags_of c.args.rules) 1 c.args.txs.now c.args.undo.now = c.in_ok-checks.ensures.listed ∙ ap (λ (f : Flags). listed f 1 c.args.txs.now c.args.undo.now) c.flags_of.ensures in
+    let none : IsFirstFailure triples checks.jobs.items None = search rules in
+    subst (λ (l : List Check). IsFirstRefused triples l None) all (none_refused triples checks.places.items checks.jobs.items none)
+
+pub index-requires : goal.index-requires
+index-requires g c =
+    let checks = c.in_ok-checks.checks in
+    let first : IsFirstFailure c.args.env.now.table.now checks.jobs.items (Some c.in-Some.place) = search rules in
+    let below = below_of checks.jobs.items c.in-Some.place first.0.0 first.0.1 in
+    omega (arith, c.in_ok-checks.ensures.even)
+
+pub index-requires-2 : goal.index-requires-2
+index-requires-2 g c =
+    let checks = c.in_ok-checks.checks in
+    let first : IsFirstFailure c.args.env.now.table.now checks.jobs.items (Some c.in-Some.place) = search rules in
+    let below = below_of checks.jobs.items c.in-Some.place first.0.0 first.0.1 in
+    omega arith
+
+pub returns : goal.returns
+returns g c =
+    let triples = c.args.env.now.table.now in
+    let checks = c.in_ok-checks.checks in
+    let place = c.in-Some.place in
+    let all : checks_in checks ≡ listed (flags_of c.args.rules) 1 c.args.txs.now c.args.undo.now = c.in_ok-checks.ensures.listed ∙ ap (λ (f : Flags). listed f 1 c.args.txs.now c.args.undo.now) c.flags_of.ensures in
+    let first : IsFirstFailure triples checks.jobs.items (Some place) = search rules in
+    let below = below_of checks.jobs.items place first.0.0 first.0.1 in
+    let even : length checks.places.items ≡ length checks.jobs.items = c.in_ok-checks.ensures.even in
+    subst (λ (l : List Check). IsFirstRefused triples l (Some (ScriptRefused c.index.result.now c.index-2.result.now.input))) all
+    (first_refused_is triples checks.places.items checks.jobs.items place c.index.result.now c.index-2.result.now even (omega (arith, even, below)) c.index.ensures c.index-2.ensures first.0 first.1)

@@ -1,0 +1,52 @@
+-- The scripts of a block, which run last.
+use Rattle.std.specs.Prelude.{◌≡◌, ◌⊎◌, ℕ, List, [], ◌∷◌, map, Option, Some, None}
+use Rattle.std.specs.List.{flat_map, enumerate_from}
+use Rattle.txn.specs.declared.tx.Tx.{Tx}
+use Rattle.txn.specs.declared.reason.Reason.{Reason}
+use Rattle.txn.specs.declared.reason.Reason.TheVariants.{ScriptRefused}
+use Rattle.txn.specs.First.{first_broken}
+use Rattle.curve.specs.Triple.{Triples}
+use Rattle.interp.specs.declared.flags.Flags.{Flags}
+use Rattle.queue.specs.Jobs.{Question, question, IsAccepted}
+use Rattle.coins.specs.declared.coin.Coin.{Coin}
+use Rattle.coins.specs.Coins.{Coins}
+use Rattle.rules.specs.declared.in_force.InForce.{InForce}
+use Rattle.connect.specs.Setting.{Setting}
+use Rattle.connect.specs.Turns.{spent_in, turns}
+use Rattle.connect.specs.Faults.{connect_rules}
+
+-- the rules of scripts that are in force with those of blocks (`GetBlockScriptFlags`)
+abbrev pub flags_of : InForce → Flags
+flags_of rules = record { dersig = rules.bip66; cltv = rules.bip65; csv = rules.csv }
+
+-- a script that has to accept, with the place of its transaction in the block
+abbrev pub Check : Type 0
+Check = ℕ × Question
+
+-- of each input of the transaction at this place, the script of the coin that it spends
+abbrev pub input_checks : Flags → ℕ → Tx → List Coin → List Check
+input_checks flags place tx coins = map (λ c. (place, question tx c.0 c.1.script flags)) (enumerate_from 0 coins)
+
+-- of a block, by transaction and then by input
+abbrev pub script_checks : Setting → Coins → List Tx → List Check
+script_checks s m txs = flat_map (λ t. input_checks (flags_of s.rules) t.0 t.1.tx (spent_in t.1)) (enumerate_from 0 (turns s.height m 0 txs))
+
+abbrev pub refusal : Check → Reason
+refusal check = ScriptRefused check.0 check.1.input
+
+-- the first whose script isn't accepted, or none
+abbrev pub IsFirstRefused : Triples → List Check → Option Reason → Type 0
+IsFirstRefused triples [] found = found ≡ None
+IsFirstRefused triples (check ∷ checks) found =
+    (¬ IsAccepted check.1 triples × (found ≡ Some (refusal check)))
+    ⊎ (IsAccepted check.1 triples × IsFirstRefused triples checks found)
+
+-- a broken rule, or else what the scripts give
+abbrev pub IsBefore : Option Reason → (Option Reason → Type 0) → Option Reason → Type 0
+IsBefore (Some reason) Last found = found ≡ Some reason
+IsBefore None Last found = Last found
+
+-- the first rule that a block breaks over the coins of its parent's branch, its scripts last
+abbrev pub IsConnectFault : Setting → Coins → List Tx → Triples → Option Reason → Type 0
+IsConnectFault s m txs triples found =
+    IsBefore (first_broken (connect_rules s m txs)) (IsFirstRefused triples (script_checks s m txs)) found

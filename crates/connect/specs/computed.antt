@@ -1,0 +1,2 @@
+-- The same as functions.
+pub mod Scripts

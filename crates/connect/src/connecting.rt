@@ -1,0 +1,189 @@
+//! Connecting a block.
+
+ghost use Rattle.std.specs.Prelude.{◌≡◌, ◌+ℤ◌, ◌≤◌, ◌≤ℤ◌, ◌^◌, ◌∷◌, neg_ℤ, pos, int_lt, map, All, IfOk, IfErr, OnOk, OnErr, None, length};
+ghost use Rattle.std.specs.List.{AllByRecursion, list_any, flat_map};
+ghost use Rattle.std.specs.Result.{result_err};
+ghost use Rattle.txn.specs.Check.{total};
+ghost use Rattle.txn.specs.First.{first_broken};
+ghost use Rattle.txn.specs.Identity.{ids_of};
+ghost use Rattle.block.specs.Reward.{subsidy_of};
+ghost use Rattle.coins.specs.Entries.{over, IsSound};
+ghost use Rattle.rules.specs.Alone.{max_block_sigops, alone_rules};
+ghost use Rattle.connect.specs.Setting.{setting};
+ghost use Rattle.connect.specs.Turns.{spent_in, turns, effect, undo_of};
+ghost use Rattle.connect.specs.Faults.{overwrites, fees, turn_rules, connect_rules};
+ghost use Rattle.connect.specs.Scripts.{IsConnectFault};
+ghost use Rattle.connect.specs.Connecting.{IsConnected};
+ghost use Rattle.connect.specs.Inside.{IsReason, IsLawful};
+
+use crate::amounts::paid;
+use crate::context::{Context, Env};
+use crate::lookups::overwrites;
+use crate::scripts::first_refused;
+use crate::stop::Stop;
+use crate::turn::connect_tx;
+use block::{Block, subsidy};
+use coins::{Base, Cache, Writes};
+use hash::Id;
+use queue::{Crew, Gate};
+use std::alloc::Global;
+use txn::{Reason, Tx, TxOut};
+use undo::BlockUndo;
+use wire::Memory;
+
+/// Connects a block to the coins of its parent's branch: the first rule that it breaks over them, its scripts
+/// last, or else the coins after it with what it spent (Bitcoin Core's `ConnectBlock`).
+///
+/// The ids are those of its transactions, got before by `txn::ids`. The answer depends on neither the crew, the
+/// number of workers, the gate nor the early verdicts.
+pub fn connect<B: Base, C: Crew>(
+    alloc: Global,
+    cache: &mut Cache<'_, B>,
+    context: &Context,
+    block: &Block,
+    ids: &[Id],
+    env: &Env<'_, C>,
+    gate: &(dyn Gate + Sync),
+) -> Result<Result<BlockUndo, Reason>, Memory>
+    // It breaks no rule by itself.
+    requires alone { first_broken (alone_rules block.now) ≡ None }
+    requires ids { ids.now ≡ ids_of block.now.txs }
+    requires ready { C.is_ready env.now.crew.now }
+    requires workers { (1 ≤ env.now.workers) × (env.now.workers ≤ 16) }
+    requires same_table { All (λ v. v.triples ≡ env.now.table.now) env.now.early.now }
+    ensures fault { IfOk result (λ answer. IsConnectFault (setting context.now) cache.old.coins block.now.txs env.now.table.now (result_err answer)) }
+    ensures coins { IfOk result (λ answer. OnOk answer (cache.new ≡ record cache.old { coins = effect context.now.height cache.old.coins block.now.txs })) }
+    // With its undo it can be taken back by `disconnect`.
+    ensures connected { IfOk result (λ answer. IfOk answer (λ undo. IsConnected (setting context.now) cache.old.coins block.now cache.new.coins undo)) }
+    // A reason leaves the coins as they were, and so does want of memory.
+    ensures kept { IfOk result (λ answer. OnErr answer (cache.new ≡ cache.old)) }
+    ensures err { OnErr result (cache.new ≡ cache.old) }
+{
+    match attempt(alloc, &*cache, context, block, ids) {
+        Err(Stop::Broken(reason)) => Ok(Err(reason)),
+        Err(Stop::Memory) => Err(Memory),
+        Ok((undo, writes)) => {
+            let others = &block.txs.as_slice()[1..];
+            let rules = context.params.at(context.height);
+            if let Some(reason) = first_refused(alloc, others, &undo, rules, env, gate)? {
+                return Ok(Err(reason));
+            }
+            cache.absorb(writes)?;
+            Ok(Ok(undo))
+        }
+    }
+}
+
+/// What a block that breaks no rule but those of scripts spends, and what it writes on a layer over these coins.
+fn attempt<B: Base>(
+    alloc: Global,
+    base: &B,
+    context: &Context,
+    block: &Block,
+    ids: &[Id],
+) -> Result<(BlockUndo, Writes), Stop>
+    requires alone { first_broken (alone_rules block.now) ≡ None }
+    requires ids { ids.now ≡ ids_of block.now.txs }
+    ensures fault { IfErr result (IsReason (first_broken (connect_rules (setting context.now) (B.coins base.now) block.now.txs))) }
+    ensures none { OnOk result (first_broken (connect_rules (setting context.now) (B.coins base.now) block.now.txs) ≡ None) }
+    ensures undo { IfOk result (λ done. done.0 ≡ undo_of context.now.height (B.coins base.now) block.now.txs) }
+    ensures sound { IfOk result (λ done. IsSound (B.coins base.now) done.1) }
+    ensures over { IfOk result (λ done. over (B.coins base.now) done.1 ≡ effect context.now.height (B.coins base.now) block.now.txs) }
+{
+    let mut layer = Cache::over(alloc, base);
+    let undo = connect_txs(alloc, &mut layer, context, block.txs.as_slice(), ids)?;
+    Ok((undo, layer.into_writes()))
+}
+
+/// Tests and applies the transactions of a block.
+fn connect_txs<B: Base>(
+    alloc: Global,
+    layer: &mut Cache<'_, B>,
+    context: &Context,
+    txs: &[Tx],
+    ids: &[Id],
+) -> Result<BlockUndo, Stop>
+    requires some { 1 ≤ length txs.now }
+    requires few { length txs.now ≤ 1000000 }
+    requires lawful { AllByRecursion IsLawful txs.now }
+    requires ids { ids.now ≡ ids_of txs.now }
+    ensures fault { IfErr result (IsReason (first_broken (connect_rules (setting context.now) layer.old.coins txs.now))) }
+    ensures none { OnOk result (first_broken (connect_rules (setting context.now) layer.old.coins txs.now) ≡ None) }
+    ensures undo { IfOk result (λ undo. undo ≡ undo_of context.now.height layer.old.coins txs.now) }
+    ensures coins { OnOk result (layer.new ≡ record layer.old { coins = effect context.now.height layer.old.coins txs.now }) }
+{
+    if is_overwriting(&*layer, txs, ids) {
+        return Err(Stop::Broken(Reason::OverwritesCoin));
+    }
+    let (_, coinbase) = connect_tx(alloc, layer, context, &txs[0], ids[0], 0)?;
+    let (undo, fees) = connect_others(
+        alloc,
+        layer,
+        context,
+        &txs[1..],
+        &ids[1..],
+        coinbase.counted,
+    )?;
+    if is_overpaid(context.height, fees, txs[0].outputs.as_slice()) {
+        return Err(Stop::Broken(Reason::CoinbaseAmount));
+    }
+    Ok(undo)
+}
+
+/// Whether an output of a transaction is a coin already.
+fn is_overwriting<B: Base>(layer: &Cache<'_, B>, txs: &[Tx], ids: &[Id]) -> bool
+    requires lawful { AllByRecursion IsLawful txs.now }
+    requires ids { ids.now ≡ ids_of txs.now }
+    ensures { result ≡ list_any (overwrites layer.now.coins) txs.now }
+{
+    for index in 0..txs.len() {
+        if overwrites(layer, &txs[index], ids[index]) {
+            return true;
+        }
+    }
+    false
+}
+
+/// Tests and applies transactions, after others that counted so many signature operations. It gives the coins
+/// that each spent, and the sum of their fees.
+fn connect_others<B: Base>(
+    alloc: Global,
+    layer: &mut Cache<'_, B>,
+    context: &Context,
+    txs: &[Tx],
+    ids: &[Id],
+    counted: u128,
+) -> Result<(BlockUndo, i128), Stop>
+    requires few { length txs.now ≤ 1000000 }
+    requires lawful { AllByRecursion IsLawful txs.now }
+    requires ids { ids.now ≡ ids_of txs.now }
+    requires counted { counted ≤ max_block_sigops }
+    ensures fault { IfErr result (IsReason (first_broken (flat_map (turn_rules (setting context.now)) (turns context.now.height layer.old.coins counted txs.now)))) }
+    ensures none { OnOk result (first_broken (flat_map (turn_rules (setting context.now)) (turns context.now.height layer.old.coins counted txs.now)) ≡ None) }
+    ensures undo { IfOk result (λ done. done.0 ≡ map spent_in (turns context.now.height layer.old.coins counted txs.now)) }
+    ensures fees { IfOk result (λ done. done.1 ≡ fees (turns context.now.height layer.old.coins counted txs.now)) }
+    ensures low { IfOk result (λ done. neg_ℤ (pos (2 ^ 104)) ≤ℤ done.1) }
+    ensures high { IfOk result (λ done. done.1 ≤ℤ pos (2 ^ 104)) }
+    ensures coins { OnOk result (layer.new ≡ record layer.old { coins = effect context.now.height layer.old.coins txs.now }) }
+{
+    let mut undo = BlockUndo::new(alloc);
+    let mut fees = 0;
+    let mut so_far = counted;
+    for index in 0..txs.len() {
+        let (spent, passed) = connect_tx(alloc, layer, context, &txs[index], ids[index], so_far)?;
+        undo.push(spent)?;
+        fees += passed.fee;
+        so_far = passed.counted;
+    }
+    Ok((undo, fees))
+}
+
+/// Whether a coinbase pays more than subsidy and fees.
+fn is_overpaid(height: u32, fees: i128, outputs: &[TxOut]) -> bool
+    requires few { length outputs.now ≤ 1000000 }
+    requires low { neg_ℤ (pos (2 ^ 104)) ≤ℤ fees }
+    requires high { fees ≤ℤ pos (2 ^ 104) }
+    ensures { result ≡ int_lt (pos (subsidy_of height) +ℤ fees) (total outputs.now) }
+{
+    i128::from(subsidy(height)) + fees < paid(outputs)
+}

@@ -1,0 +1,128 @@
+//! The scripts of a block, run after all else.
+
+ghost use Rattle.std.specs.Prelude.{◌≡◌, ◌+◌, ◌<◌, ◌≤◌, ◌^◌, ◌++◌, All, IfOk, OnOk, length, sum_by};
+ghost use Rattle.std.specs.List.{AllZip};
+ghost use Rattle.queue.specs.Jobs.{HasInput};
+ghost use Rattle.connect.specs.Scripts.{flags_of, input_checks, IsFirstRefused};
+ghost use Rattle.connect.specs.Inside.{listed, checks_in, IsEven};
+
+use crate::context::Env;
+use coins::Coin;
+use interp::{Flags, Job};
+use queue::{Crew, Gate};
+use rules::InForce;
+use std::alloc::Global;
+use txn::{Reason, Tx};
+use undo::BlockUndo;
+use wire::Memory;
+
+/// The scripts of a block that have to accept, by transaction and then by input, each with the place of its
+/// transaction. They borrow the coins that the block spends from its undo.
+#[derive(Drop)]
+struct Checks<'a> {
+    jobs: Vec<Job<'a>>,
+    places: Vec<usize>,
+}
+
+/// The first script that isn't accepted, of transactions of a block but the first, with the coins that they
+/// spend.
+pub(crate) fn first_refused<'a, C: Crew>(
+    alloc: Global,
+    txs: &'a [Tx],
+    undo: &'a BlockUndo,
+    rules: InForce,
+    env: &Env<'_, C>,
+    gate: &(dyn Gate + Sync),
+) -> Result<Option<Reason>, Memory>
+    requires ready { C.is_ready env.now.crew.now }
+    requires workers { (1 ≤ env.now.workers) × (env.now.workers ≤ 16) }
+    requires same_table { All (λ v. v.triples ≡ env.now.table.now) env.now.early.now }
+    requires alike { AllZip (λ tx coins. length coins ≤ length tx.inputs) txs.now undo.now }
+    requires few { sum_by (λ coins. length coins) undo.now ≤ 1000000 }
+    ensures { IfOk result (λ found. IsFirstRefused env.now.table.now (listed (flags_of rules) 1 txs.now undo.now) found) }
+{
+    let checks = list(alloc, txs, undo, flags_of(rules))?;
+    let found = env.crew.first_failure_with(
+        alloc,
+        &checks.jobs,
+        env.early,
+        env.table,
+        env.workers,
+        gate,
+    )?;
+    let Some(place) = found else {
+        return Ok(None);
+    };
+    Ok(Some(Reason::ScriptRefused {
+        transaction: checks.places[place],
+        input: checks.jobs[place].input,
+    }))
+}
+
+/// The rules of scripts that are in force with those of blocks (Bitcoin Core's `GetBlockScriptFlags`).
+fn flags_of(rules: InForce) -> Flags
+    ensures { result ≡ flags_of rules }
+{
+    Flags {
+        dersig: rules.bip66,
+        cltv: rules.bip65,
+        csv: rules.csv,
+    }
+}
+
+/// The checks of transactions but the first.
+fn list<'a>(
+    alloc: Global,
+    txs: &'a [Tx],
+    undo: &'a BlockUndo,
+    flags: Flags,
+) -> Result<Checks<'a>, Memory>
+    requires alike { AllZip (λ tx coins. length coins ≤ length tx.inputs) txs.now undo.now }
+    ensures listed { IfOk result (λ checks. checks_in checks ≡ listed flags 1 txs.now undo.now) }
+    ensures even { IfOk result (λ checks. IsEven checks) }
+    ensures inputs { IfOk result (λ checks. All HasInput checks.jobs.items) }
+    ensures few { IfOk result (λ checks. length checks.jobs.items ≡ sum_by (λ coins. length coins) undo.now) }
+{
+    let mut checks = Checks {
+        jobs: Vec::new(alloc),
+        places: Vec::new(alloc),
+    };
+    for index in 0..txs.len() {
+        add(
+            &mut checks,
+            index + 1,
+            &txs[index],
+            undo.as_slice()[index].as_slice(),
+            flags,
+        )?;
+    }
+    Ok(checks)
+}
+
+/// Adds the checks of the transaction at a place.
+fn add<'a>(
+    checks: &mut Checks<'a>,
+    place: usize,
+    tx: &'a Tx,
+    coins: &'a [Coin],
+    flags: Flags,
+) -> Result<(), Memory>
+    requires each { length coins.now ≤ length tx.now.inputs }
+    requires even { IsEven checks.old }
+    requires inputs { All HasInput checks.old.jobs.items }
+    ensures listed { OnOk result (checks_in checks.new ≡ checks_in checks.old ++ input_checks flags place tx.now coins.now) }
+    ensures even { OnOk result (IsEven checks.new) }
+    ensures inputs { OnOk result (All HasInput checks.new.jobs.items) }
+    ensures few { OnOk result (length checks.new.jobs.items ≡ length checks.old.jobs.items + length coins.now) }
+{
+    for (input, coin) in coins.iter().enumerate() {
+        checks.jobs.push(Job {
+            tx,
+            input,
+            spent: coin.script.as_slice(),
+            flags,
+        })?;
+        checks.places.push(place)?;
+    }
+    Ok(())
+}

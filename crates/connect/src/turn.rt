@@ -1,0 +1,175 @@
+//! A transaction in its turn: tested over the coins that it finds, and applied.
+
+ghost use Rattle.std.specs.Prelude.{◌≡◌, ◌≤◌, ◌^◌, ◌≤ℤ◌, ◌&&◌, neg_ℤ, pos, int_lt, not, map, length, None, IfOk, IfErr, OnOk};
+ghost use Rattle.std.specs.List.{list_any};
+ghost use Rattle.txn.specs.Check.{is_coinbase};
+ghost use Rattle.txn.specs.First.{first_broken};
+ghost use Rattle.txn.specs.Identity.{id_of};
+ghost use Rattle.locks.specs.Relative.{are_met};
+ghost use Rattle.undo.specs.Effect.{spends};
+ghost use Rattle.rules.specs.Alone.{max_block_sigops};
+ghost use Rattle.connect.specs.Setting.{setting, median_below};
+ghost use Rattle.connect.specs.Turns.{turn, left_by, spent_in, full_count};
+ghost use Rattle.connect.specs.Faults.{is_immature, place_of, fee, turn_rules};
+ghost use Rattle.connect.specs.Inside.{coins_of, IsReason, IsLawful};
+
+use crate::amounts::{paid, worth};
+use crate::context::Context;
+use crate::counts::inner_sigops;
+use crate::lookups::{overwrites, spent_coins};
+use crate::stop::Stop;
+use coins::{Base, Cache, Coin};
+use hash::Id;
+use locks::{Place, relative_ok};
+use rules::{MAX_BLOCK_SIGOPS, tx_sigops};
+use std::alloc::Global;
+use txn::{Reason, Tx};
+use undo::{Spent, apply_in_layer};
+use wire::Memory;
+
+/// So many blocks above a coinbase its coins may be spent (Bitcoin Core's `COINBASE_MATURITY`).
+pub const COINBASE_MATURITY: u32 = 100;
+
+/// What a transaction gives in its turn.
+#[derive(Clone, Copy)]
+pub(crate) struct Passed {
+    /// What it spends without what it pays, in satoshis.
+    pub fee: i128,
+    /// The signature operations of the block up to and with it.
+    pub counted: u128,
+}
+
+/// Tests and applies a transaction, after others that counted so many signature operations.
+pub(crate) fn connect_tx<B: Base>(
+    alloc: Global,
+    layer: &mut Cache<'_, B>,
+    context: &Context,
+    tx: &Tx,
+    id: Id,
+    counted: u128,
+) -> Result<(Spent, Passed), Stop>
+    requires lawful { IsLawful tx.now }
+    requires id { id ≡ id_of tx.now }
+    requires counted { counted ≤ max_block_sigops }
+    ensures fault { IfErr result (IsReason (first_broken (turn_rules (setting context.now) (turn tx.now layer.old.coins counted)))) }
+    ensures none { OnOk result (first_broken (turn_rules (setting context.now) (turn tx.now layer.old.coins counted)) ≡ None) }
+    ensures spent { IfOk result (λ done. done.0 ≡ spent_in (turn tx.now layer.old.coins counted)) }
+    ensures fee { IfOk result (λ done. done.1.fee ≡ fee (turn tx.now layer.old.coins counted)) }
+    ensures low { IfOk result (λ done. neg_ℤ (pos (2 ^ 84)) ≤ℤ done.1.fee) }
+    ensures high { IfOk result (λ done. done.1.fee ≤ℤ pos (2 ^ 84)) }
+    ensures counted { IfOk result (λ done. done.1.counted ≡ full_count (turn tx.now layer.old.coins counted)) }
+    ensures few { IfOk result (λ done. done.1.counted ≤ max_block_sigops) }
+    ensures coins { OnOk result (layer.new ≡ record layer.old { coins = left_by context.now.height (turn tx.now layer.old.coins counted) }) }
+{
+    let passed = test_tx(alloc, &*layer, context, tx, id, counted)?;
+    let spent = apply_in_layer(alloc, layer, tx, id, context.height)?;
+    Ok((spent, passed))
+}
+
+/// The first rule that a transaction breaks over the coins that it finds, or what it gives.
+fn test_tx<B: Base>(
+    alloc: Global,
+    layer: &Cache<'_, B>,
+    context: &Context,
+    tx: &Tx,
+    id: Id,
+    counted: u128,
+) -> Result<Passed, Stop>
+    requires lawful { IsLawful tx.now }
+    requires id { id ≡ id_of tx.now }
+    requires counted { counted ≤ max_block_sigops }
+    ensures fault { IfErr result (IsReason (first_broken (turn_rules (setting context.now) (turn tx.now layer.now.coins counted)))) }
+    ensures none { OnOk result (first_broken (turn_rules (setting context.now) (turn tx.now layer.now.coins counted)) ≡ None) }
+    ensures fee { IfOk result (λ passed. passed.fee ≡ fee (turn tx.now layer.now.coins counted)) }
+    ensures low { IfOk result (λ passed. neg_ℤ (pos (2 ^ 84)) ≤ℤ passed.fee) }
+    ensures high { IfOk result (λ passed. passed.fee ≤ℤ pos (2 ^ 84)) }
+    ensures counted { IfOk result (λ passed. passed.counted ≡ full_count (turn tx.now layer.now.coins counted)) }
+    ensures few { IfOk result (λ passed. passed.counted ≤ max_block_sigops) }
+{
+    let plain = counted.saturating_add(tx_sigops(tx));
+    if plain > u128::from(MAX_BLOCK_SIGOPS) {
+        return Err(Stop::Broken(Reason::TooManySigops));
+    }
+    let Some(found) = spent_coins(alloc, layer, tx)? else {
+        return Err(Stop::Broken(Reason::InputsMissingOrSpent));
+    };
+    let coins = found.as_slice();
+    if has_immature(coins, context.height) {
+        return Err(Stop::Broken(Reason::PrematureCoinbaseSpend));
+    }
+    let worth = worth(coins);
+    let paid = paid(tx.outputs.as_slice());
+    if pays_too_much(tx, worth, paid) {
+        return Err(Stop::Broken(Reason::InputsBelowOutputs));
+    }
+    if is_locked(alloc, tx, coins, context)? {
+        return Err(Stop::Broken(Reason::NonFinal));
+    }
+    let counted = plain.saturating_add(inner_sigops(coins, tx));
+    if counted > u128::from(MAX_BLOCK_SIGOPS) {
+        return Err(Stop::Broken(Reason::TooManySigops));
+    }
+    if overwrites(layer, tx, id) {
+        return Err(Stop::Broken(Reason::OverwritesCoin));
+    }
+    Ok(Passed {
+        fee: worth - paid,
+        counted,
+    })
+}
+
+/// Whether a coinbase's coin is spent too early.
+fn has_immature(coins: &[&Coin], height: u32) -> bool
+    ensures { result ≡ list_any (λ coin. is_immature height coin.now) coins.now }
+{
+    coins.iter().any(|coin| is_immature(coin, height))
+}
+
+fn is_immature(coin: &Coin, height: u32) -> bool
+    ensures { result ≡ is_immature height coin.now }
+{
+    coin.coinbase && u64::from(height) < u64::from(coin.height) + u64::from(COINBASE_MATURITY)
+}
+
+/// Whether a transaction pays more than it spends. A coinbase makes new coins.
+fn pays_too_much(tx: &Tx, worth: i128, paid: i128) -> bool
+    ensures { result ≡ (not (is_coinbase tx.now) && int_lt worth paid) }
+{
+    !tx.is_coinbase() && worth < paid
+}
+
+/// Whether a relative lock of a transaction isn't met, where such locks are in force. A coinbase has none.
+fn is_locked(alloc: Global, tx: &Tx, coins: &[&Coin], context: &Context) -> Result<bool, Memory>
+    requires { length coins.now ≡ length (spends tx.now) }
+    ensures { IfOk result (λ yes. yes ≡ ((setting context.now).rules.csv && not (are_met tx.now (map (place_of context.now.medians.now) (coins_of coins.now)) context.now.height context.now.cutoff))) }
+{
+    if tx.is_coinbase() || !context.params.at(context.height).csv {
+        return Ok(false);
+    }
+    let places = places(alloc, coins, context.medians)?;
+    Ok(!relative_ok(tx, &places, context.height, context.cutoff))
+}
+
+/// From where the relative locks count of the inputs that spend these coins.
+fn places(alloc: Global, coins: &[&Coin], medians: &[u32]) -> Result<Vec<Place>, Memory>
+    ensures { IfOk result (λ places. places.items ≡ map (place_of medians.now) (coins_of coins.now)) }
+{
+    let mut places = Vec::with_capacity(alloc, coins.len())?;
+    for coin in coins {
+        places.push(Place {
+            height: coin.height,
+            median: median_below(medians, coin.height),
+        })?;
+    }
+    Ok(places)
+}
+
+/// The median time past of the block below one of this height, or of genesis where it has none below.
+fn median_below(medians: &[u32], height: u32) -> u32
+    ensures { result ≡ median_below medians.now height }
+{
+    match medians.get(height.saturating_sub(1) as usize) {
+        Some(median) => *median,
+        None => 0,
+    }
+}

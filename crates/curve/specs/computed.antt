@@ -1,0 +1,2 @@
+-- Definitions as tests that compute.
+pub mod Shape

@@ -1,0 +1,7 @@
+-- What holds of the definitions.
+pub mod Runs
+pub mod Affecting
+pub mod Checking
+pub mod Following
+pub mod Accepting
+pub mod Verdict

@@ -1,0 +1,261 @@
+-- What is computed of signatures is what the relations say.
+use Rattle.std.proofs.Common.{◌≡◌, ◌⊎◌, inl, inr, ℕ, suc, ◌+◌, ◌<◌, ◌≤◌, List, [], ◌∷◌, ◌++◌, Bool, true, false, not, ◌||◌, cond, ltb, Option, Some, None, length, take, drop, refl, sym, ap, ◌∙◌, subst, ⊎_elim, pos, length-append, length-drop, arith}
+use Rattle.std.proofs.lemmas.Bool.{cases_lt}
+use Rattle.std.proofs.lemmas.List.{take_at, drop_at, take-append-drop, length-take-le}
+use Rattle.std.proofs.Math.Seq.{drop-append-add}
+use borrow.Author.Tests.{lt-ltb, le-ltb}
+use Rattle.std.specs.Option.{option_and_then}
+use Rattle.curve.specs.Shape.{IsStrict}
+use Rattle.curve.specs.laws.Shape.{strict-sound, strict-again}
+use Rattle.curve.specs.computed.Shape.{is_strict}
+use Rattle.interp.specs.Stack.{Stack, Bytes, pushed}
+use Rattle.interp.specs.Elements.{truth_bytes, natural_of}
+use Rattle.interp.specs.Spending.{Spending}
+use Rattle.interp.specs.declared.flags.Flags.{Flags}
+use Rattle.interp.specs.State.{State}
+use Rattle.interp.specs.Signatures.{signed_code, is_valid, may_be_tried, MayBeTried, judged, tried, Tries}
+use Rattle.interp.specs.computed.Step.{sig_answer, sig_checked, many, keys_in, signatures_in, counts_of, multisig_answer, after_multisig, multisig_checked}
+use Rattle.interp.specs.Rules.{IsNumber, ChecksOne, ChecksMany}
+use Rattle.interp.specs.laws.Affecting.{then-some, map-some, natural-sound, natural-again, two-sound}
+
+-- ---- a pair
+may-sound : (flags : Flags) (signature : Bytes) → may_be_tried flags signature ≡ true → MayBeTried flags signature
+unfolding may_be_tried
+may-sound flags signature e = λ asked. strict-sound signature (rw asked at e)
+
+may-again : (flags : Flags) (signature : Bytes) → MayBeTried flags signature → may_be_tried flags signature ≡ true
+unfolding may_be_tried
+may-again flags signature h = by flags.dersig h
+  where
+    by : (asked : Bool) → (asked ≡ true → IsStrict signature) → (not asked || is_strict signature) ≡ true
+    by true h = strict-again signature (h refl)
+    by false h = refl
+
+judged-by : (p : Spending) (code : List ℕ) (signature key : Bytes) (valid b : Bool) → may_be_tried p.flags signature ≡ b → cond b (Some (is_valid p code signature key)) None ≡ Some valid → (may_be_tried p.flags signature ≡ true) × (is_valid p code signature key ≡ valid)
+judged-by p code signature key valid true is e = (is, cc)
+judged-by p code signature key valid false is e = cc
+
+judged-sound : (p : Spending) (code : List ℕ) (signature key : Bytes) (valid : Bool) → judged p code signature key ≡ Some valid → MayBeTried p.flags signature × (is_valid p code signature key ≡ valid)
+unfolding judged
+judged-sound p code signature key valid e =
+    let h = judged-by p code signature key valid (may_be_tried p.flags signature) refl e in (may-sound p.flags signature h.0, h.1)
+
+judged-again : (p : Spending) (code : List ℕ) (signature key : Bytes) (valid : Bool) → MayBeTried p.flags signature → is_valid p code signature key ≡ valid → judged p code signature key ≡ Some valid
+unfolding judged
+judged-again p code signature key valid h is = rw (may-again p.flags signature h, is) refl
+
+-- ---- CHECKSIG
+pub sig-sound : (p : Spending) (code : List ℕ) (old new : Stack) → sig_checked p code old ≡ Some new → ChecksOne p code old new
+unfolding sig_checked
+sig-sound p code old new e =
+    let h = two-sound (sig_answer p code) old new e in
+    sig-by h.0 h.1 h.2 h.3 h.4 h.5 h.6
+  where
+    sig-by : (signature key : Bytes) (rest : Stack) (left : List Bytes) → old ≡ key ∷ signature ∷ rest → sig_answer p code signature key ≡ Some left → new ≡ pushed left rest → ChecksOne p code old new
+    sig-by signature key rest left is gives after =
+        let g = map-some (judged p (signed_code code (signature ∷ [])) signature key) (λ valid. truth_bytes valid ∷ []) left gives in
+        let j = judged-sound p (signed_code code (signature ∷ [])) signature key g.0 g.1 in
+        (signature, key, rest, is, j.0, after ∙ ap (λ l. pushed l rest) (g.2 ∙ ap (λ valid. truth_bytes valid ∷ []) (sym j.1)))
+
+pub sig-again : (p : Spending) (code : List ℕ) (old new : Stack) → ChecksOne p code old new → sig_checked p code old ≡ Some new
+unfolding sig_checked
+sig-again p code old new (signature, key, rest, is, strict, after) =
+    let j = judged-again p (signed_code code (signature ∷ [])) signature key _ strict refl in
+    rw (is, j, after) refl
+
+-- ---- pairs
+pair-by : (p : Spending) (code : List ℕ) (signature key : Bytes) (signatures keys : List Bytes) (answer valid : Bool) → is_valid p code signature key ≡ valid
+    → cond valid (tried p code signatures keys) (tried p code (signature ∷ signatures) keys) ≡ Some answer
+    → (tried p code signatures keys ≡ Some answer → Tries p code signatures keys answer)
+    → (tried p code (signature ∷ signatures) keys ≡ Some answer → Tries p code (signature ∷ signatures) keys answer)
+    → ((is_valid p code signature key ≡ true) × Tries p code signatures keys answer) ⊎ ((is_valid p code signature key ≡ false) × Tries p code (signature ∷ signatures) keys answer)
+pair-by p code signature key signatures keys answer true is e used kept = inl (is, used e)
+pair-by p code signature key signatures keys answer false is e used kept = inr (is, kept e)
+
+tried-sound : (p : Spending) (code : List ℕ) (signatures keys : List Bytes) (answer : Bool) → tried p code signatures keys ≡ Some answer → Tries p code signatures keys answer
+unfolding tried
+tried-sound p code [] keys answer e = cc
+tried-sound p code (signature ∷ signatures) [] answer e = cc
+tried-sound p code (signature ∷ signatures) (key ∷ keys) answer e =
+    ⊎_elim (λ short. let f = rw (lt-ltb (length keys) (length signatures) short) at e in inl (short, cc))
+    (λ enough.
+    let f = rw (le-ltb (length keys) (length signatures) enough) at e in
+    let h = then-some (judged p code signature key) (λ valid. cond valid (tried p code signatures keys) (tried p code (signature ∷ signatures) keys)) answer f in
+    let j = judged-sound p code signature key h.0 h.1 in
+    inr (enough, j.0, pair-by p code signature key signatures keys answer h.0 j.1 h.2 (tried-sound p code signatures keys answer) (tried-sound p code (signature ∷ signatures) keys answer)))
+    (cases_lt (length keys) (length signatures))
+
+tried-again : (p : Spending) (code : List ℕ) (signatures keys : List Bytes) (answer : Bool) → Tries p code signatures keys answer → tried p code signatures keys ≡ Some answer
+unfolding tried
+tried-again p code [] keys answer r = ap Some (sym r)
+tried-again p code (signature ∷ signatures) [] answer r = ap Some (sym r)
+tried-again p code (signature ∷ signatures) (key ∷ keys) answer r =
+    ⊎_elim (λ h. rw (lt-ltb (length keys) (length signatures) h.0, h.1) refl)
+    (λ h. ⊎_elim (λ v. rw (le-ltb (length keys) (length signatures) h.0, judged-again p code signature key true h.1 v.0) (tried-again p code signatures keys answer v.1))
+    (λ v. rw (le-ltb (length keys) (length signatures) h.0, judged-again p code signature key false h.1 v.0) (tried-again p code (signature ∷ signatures) keys answer v.1)) h.2) r
+
+-- ---- how the elements of CHECKMULTISIG lie
+abbrev layout : Bytes → List Bytes → Bytes → List Bytes → Bytes → Stack → Stack
+layout n keys m signatures extra below = n ∷ (keys ++ m ∷ (signatures ++ extra ∷ below))
+
+module _ (n m extra : Bytes) (keys signatures : List Bytes) (below : Stack) where
+  at-keys : keys_in (length keys) (layout n keys m signatures extra below) ≡ keys
+  at-keys = take_at keys (m ∷ (signatures ++ extra ∷ below)) (length keys) refl
+
+  at-m : drop (length keys + 1) (layout n keys m signatures extra below) ≡ m ∷ (signatures ++ extra ∷ below)
+  at-m =
+      let one : length keys + 1 ≡ suc (length keys) = omega arith in
+      ap (λ k. drop k (layout n keys m signatures extra below)) one ∙ drop_at keys (m ∷ (signatures ++ extra ∷ below)) (length keys) refl
+
+  at-signatures : signatures_in (length keys) (length signatures) (layout n keys m signatures extra below) ≡ signatures
+  at-signatures =
+      let two : length keys + 2 ≡ suc (length keys + 1) = omega arith in
+      ap (take (length signatures)) (ap (λ k. drop k (layout n keys m signatures extra below)) two ∙ drop-append-add keys (m ∷ (signatures ++ extra ∷ below)) 1)
+      ∙ take_at signatures (extra ∷ below) (length signatures) refl
+
+  at-end : drop (length keys + length signatures + 3) (layout n keys m signatures extra below) ≡ below
+  at-end =
+      let all : length keys + length signatures + 3 ≡ suc (length keys + suc (length signatures + 1)) = omega arith in
+      ap (λ k. drop k (layout n keys m signatures extra below)) all ∙ drop-append-add keys (m ∷ (signatures ++ extra ∷ below)) (suc (length signatures + 1))
+      ∙ drop-append-add signatures (extra ∷ below) 1
+
+  long : length (layout n keys m signatures extra below) ≡ length keys + length signatures + 3 + length below
+  long = omega (arith, length-append keys (m ∷ (signatures ++ extra ∷ below)), length-append signatures (extra ∷ below))
+
+-- ---- counts
+many-sound : (most : ℕ) (s : Stack) (n : ℕ) → many most s ≡ Some n → (a : Bytes) × (rest : Stack) × (s ≡ a ∷ rest) × IsNumber 4 a (pos n) × (n ≤ most)
+unfolding many
+many-sound most [] n e = cc
+many-sound most (a ∷ rest) n e =
+    let h = then-some (natural_of 4 a) (λ k. cond (ltb most k) None (Some k)) n e in
+    ⊎_elim (λ above. let f = rw (lt-ltb most h.0 above) at h.2 in cc)
+    (λ within. let f = rw (le-ltb most h.0 within) at h.2 in
+    let same : h.0 ≡ n = cc in
+    (a, rest, refl, subst (λ (k : ℕ). IsNumber 4 a (pos k)) same (natural-sound 4 a h.0 h.1), omega arith)) (cases_lt most h.0)
+
+many-again : (most : ℕ) (a : Bytes) (rest : Stack) (n : ℕ) → IsNumber 4 a (pos n) → n ≤ most → many most (a ∷ rest) ≡ Some n
+unfolding many
+many-again most a rest n h within = rw (natural-again 4 a n h, le-ltb most n within) refl
+
+abbrev limits : State → ℕ → ℕ → Option (ℕ × ℕ)
+limits s keys signatures = cond (ltb (length s.main) (keys + signatures + 3)) None (cond (ltb 201 (s.count + keys)) None (Some (keys, signatures)))
+
+limited : (s : State) (keys signatures n m : ℕ) → limits s keys signatures ≡ Some (n, m)
+    → (keys ≡ n) × (signatures ≡ m) × (keys + signatures + 3 ≤ length s.main) × (s.count + keys ≤ 201)
+limited s keys signatures n m e =
+    ⊎_elim (λ few. let f = rw (lt-ltb (length s.main) (keys + signatures + 3) few) at e in cc)
+    (λ there. let f = rw (le-ltb (length s.main) (keys + signatures + 3) there) at e in
+    ⊎_elim (λ over. let g = rw (lt-ltb 201 (s.count + keys) over) at f in cc)
+    (λ under. let g = rw (le-ltb 201 (s.count + keys) under) at f in
+    let p : ◌≡◌ {A = ℕ × ℕ} (keys, signatures) (n, m) = cc in
+    (ap (λ (q : ℕ × ℕ). q.0) p, ap (λ (q : ℕ × ℕ). q.1) p, there, under)) (cases_lt 201 (s.count + keys)))
+    (cases_lt (length s.main) (keys + signatures + 3))
+
+counts-by : (s : State) (keys signatures n m : ℕ) → many 20 s.main ≡ Some keys → many keys (drop (keys + 1) s.main) ≡ Some signatures → limits s keys signatures ≡ Some (n, m)
+    → (many 20 s.main ≡ Some n) × (many n (drop (n + 1) s.main) ≡ Some m) × (n + m + 3 ≤ length s.main) × (s.count + n ≤ 201)
+counts-by s keys signatures n m a b e =
+    let l = limited s keys signatures n m e in
+    (a ∙ ap Some l.0, ap (λ k. many k (drop (k + 1) s.main)) (sym l.0) ∙ b ∙ ap Some l.1, omega (arith, l.0, l.1, l.2), omega (arith, l.0, l.3))
+
+counts-sound : (s : State) (n m : ℕ) → counts_of s ≡ Some (n, m) → (many 20 s.main ≡ Some n) × (many n (drop (n + 1) s.main) ≡ Some m) × (n + m + 3 ≤ length s.main) × (s.count + n ≤ 201)
+unfolding counts_of
+counts-sound s n m e =
+    let h = then-some (many 20 s.main) (λ keys. option_and_then (limits s keys) (many keys (drop (keys + 1) s.main))) (n, m) e in
+    let g = then-some (many h.0 (drop (h.0 + 1) s.main)) (limits s h.0) (n, m) h.2 in
+    counts-by s h.0 g.0 n m h.1 g.1 g.2
+
+counts-again : (s : State) (n m : ℕ) → many 20 s.main ≡ Some n → many n (drop (n + 1) s.main) ≡ Some m → n + m + 3 ≤ length s.main → s.count + n ≤ 201 → counts_of s ≡ Some (n, m)
+unfolding counts_of
+counts-again s n m a b there under =
+    rw (a, b, le-ltb (length s.main) (n + m + 3) there, le-ltb 201 (s.count + n) under) refl
+
+-- the elements of a stack that is long enough lie so
+record Lies (n m : ℕ) (nb : Bytes) (main : Stack) : Type 0 where
+  keys : List Bytes
+  signatures : List Bytes
+  mb : Bytes
+  extra : Bytes
+  below : Stack
+  lies : main ≡ layout nb keys mb signatures extra below
+  many_keys : length keys ≡ n
+  many_signatures : length signatures ≡ m
+  m_is : IsNumber 4 mb (pos m)
+  no_more : m ≤ n
+
+lying : (n m : ℕ) (nb mb : Bytes) (others after tail : Stack) → n ≤ length others → drop n others ≡ mb ∷ after → IsNumber 4 mb (pos m) → m ≤ n → m ≤ length after → drop m after ≡ tail → 0 < length tail → Lies n m nb (nb ∷ others)
+lying n m nb mb others after [] few cut is no_more enough end some = absurd (omega arith)
+lying n m nb mb others after (extra ∷ below) few cut is no_more enough end some = record {
+  keys = take n others;
+  signatures = take m after;
+  mb = mb;
+  extra = extra;
+  below = below;
+  lies = ap (λ s. nb ∷ s) (sym (take-append-drop n others) ∙ ap (λ s. take n others ++ s) (cut ∙ ap (λ s. mb ∷ s) (sym (take-append-drop m after) ∙ ap (λ s. take m after ++ s) end)));
+  many_keys = length-take-le n others few;
+  many_signatures = length-take-le m after enough;
+  m_is = is;
+  no_more = no_more;
+}
+
+lies-by : (n m : ℕ) (nb : Bytes) (others main : Stack) → main ≡ nb ∷ others → many n (drop (n + 1) main) ≡ Some m → n + m + 3 ≤ length main → Lies n m nb main
+lies-by n m nb others main is e there =
+    let one : n + 1 ≡ suc n = omega arith in
+    let at : drop (n + 1) main ≡ drop n others = ap (drop (n + 1)) is ∙ ap (λ k. drop k (nb ∷ others)) one in
+    let h = many-sound n (drop (n + 1) main) m e in
+    let cut : drop n others ≡ h.0 ∷ h.1 = sym at ∙ h.2 in
+    let all = ap length is in
+    let some = ap length cut in
+    subst (Lies n m nb) (sym is)
+    (lying n m nb h.0 others h.1 (drop m h.1) (omega (arith, length-drop n others)) cut h.3 h.4 (omega (arith, length-drop n others)) refl (omega (arith, length-drop n others, length-drop m h.1)))
+
+-- ---- CHECKMULTISIG
+pub multisig-sound : (p : Spending) (s t : State) → multisig_checked p s ≡ Some t → ChecksMany p s t
+unfolding multisig_checked
+multisig-sound p s t e =
+    let h = then-some (counts_of s) (λ counts. option_and_then (λ valid. Some (after_multisig s counts valid)) (multisig_answer p s.code s.main counts)) t e in
+    let g = then-some (multisig_answer p s.code s.main h.0) (λ valid. Some (after_multisig s h.0 valid)) t h.2 in
+    let n = h.0.0 in
+    let m = h.0.1 in
+    let k = counts-sound s n m h.1 in
+    let top = many-sound 20 s.main n k.0 in
+    let l = lies-by n m top.0 top.1 s.main top.2 k.1 k.2 in
+    let keys_are : keys_in n s.main ≡ l.keys = ap (keys_in n) l.lies ∙ ap (λ j. keys_in j (layout top.0 l.keys l.mb l.signatures l.extra l.below)) (sym l.many_keys) ∙ at-keys top.0 l.mb l.extra l.keys l.signatures l.below in
+    let signatures_are : signatures_in n m s.main ≡ l.signatures = ap (signatures_in n m) l.lies ∙ cc (l.many_keys, l.many_signatures, at-signatures top.0 l.mb l.extra l.keys l.signatures l.below) in
+    let left : drop (n + m + 3) s.main ≡ l.below = ap (drop (n + m + 3)) l.lies ∙ ap (λ j. drop (j + m + 3) (layout top.0 l.keys l.mb l.signatures l.extra l.below)) (sym l.many_keys) ∙ ap (λ j. drop (length l.keys + j + 3) (layout top.0 l.keys l.mb l.signatures l.extra l.below)) (sym l.many_signatures) ∙ at-end top.0 l.mb l.extra l.keys l.signatures l.below in
+    let answered : tried p (signed_code s.code l.signatures) l.signatures l.keys ≡ Some g.0 =
+    sym (ap (λ ks. tried p (signed_code s.code (signatures_in n m s.main)) (signatures_in n m s.main) ks) keys_are ∙ ap (λ ss. tried p (signed_code s.code ss) ss l.keys) signatures_are) ∙ g.1 in
+    let ended : t ≡ after_multisig s h.0 g.0 = sym (cc (g.2)) in
+    record {
+      keys = l.keys;
+      signatures = l.signatures;
+      n = top.0;
+      m = l.mb;
+      extra = l.extra;
+      below = l.below;
+      before = l.lies;
+      n_is = subst (λ (j : ℕ). IsNumber 4 top.0 (pos j)) (sym l.many_keys) top.3;
+      m_is = subst (λ (j : ℕ). IsNumber 4 l.mb (pos j)) (sym l.many_signatures) l.m_is;
+      few_keys = omega (arith, top.4, l.many_keys);
+      no_more = omega (arith, l.no_more, l.many_keys, l.many_signatures);
+      few_ops = omega (arith, k.3, l.many_keys);
+      answer = g.0;
+      tries = tried-sound p (signed_code s.code l.signatures) l.signatures l.keys g.0 answered;
+      after = ended ∙ ap (λ main. record s { main = truth_bytes g.0 ∷ main; count = s.count + n }) left ∙ ap (λ j. record s { main = truth_bytes g.0 ∷ l.below; count = s.count + j }) (sym l.many_keys);
+    }
+
+pub multisig-again : (p : Spending) (s t : State) → ChecksMany p s t → multisig_checked p s ≡ Some t
+unfolding multisig_checked
+multisig-again p s t r =
+    let n = length r.keys in
+    let m = length r.signatures in
+    let top : many 20 s.main ≡ Some n = ap (many 20) r.before ∙ many-again 20 r.n (r.keys ++ r.m ∷ (r.signatures ++ r.extra ∷ r.below)) n r.n_is r.few_keys in
+    let next : many n (drop (n + 1) s.main) ≡ Some m =
+    ap (λ main. many n (drop (n + 1) main)) r.before ∙ ap (many n) (at-m r.n r.m r.extra r.keys r.signatures r.below)
+    ∙ many-again n r.m (r.signatures ++ r.extra ∷ r.below) m r.m_is r.no_more in
+    let there : n + m + 3 ≤ length s.main = omega (arith, ap length r.before, long r.n r.m r.extra r.keys r.signatures r.below) in
+    let counts : counts_of s ≡ Some (n, m) = counts-again s n m top next there r.few_ops in
+    let keys_are : keys_in n s.main ≡ r.keys = ap (keys_in n) r.before ∙ at-keys r.n r.m r.extra r.keys r.signatures r.below in
+    let signatures_are : signatures_in n m s.main ≡ r.signatures = ap (signatures_in n m) r.before ∙ at-signatures r.n r.m r.extra r.keys r.signatures r.below in
+    let left : drop (n + m + 3) s.main ≡ r.below = ap (drop (n + m + 3)) r.before ∙ at-end r.n r.m r.extra r.keys r.signatures r.below in
+    let answered : multisig_answer p s.code s.main (n, m) ≡ Some r.answer = rw (keys_are, signatures_are) (tried-again p (signed_code s.code r.signatures) r.signatures r.keys r.answer r.tries) in
+    rw (counts, answered) (ap Some (ap (λ main. record s { main = truth_bytes r.answer ∷ main; count = s.count + n }) left ∙ sym r.after))

@@ -1,0 +1,28 @@
+//! The rules of scripts that came by soft forks.
+
+/// Which rules of scripts that came by soft forks are in force for the block that holds the transaction.
+#[derive(Clone, Copy, Debug, PartialEq, Eq)]
+pub struct Flags {
+    /// A signature that is tried is strictly encoded (BIP 66).
+    pub dersig: bool,
+    /// The opcode b1 is CHECKLOCKTIMEVERIFY (BIP 65), and else does nothing.
+    pub cltv: bool,
+    /// The opcode b2 is CHECKSEQUENCEVERIFY (BIP 112), and else does nothing.
+    pub csv: bool,
+}
+
+impl Flags {
+    /// All of these rules are in force.
+    pub const ALL: Flags = Flags {
+        dersig: true,
+        cltv: true,
+        csv: true,
+    };
+
+    /// None of them is.
+    pub const NONE: Flags = Flags {
+        dersig: false,
+        cltv: false,
+        csv: false,
+    };
+}

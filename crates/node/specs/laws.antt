@@ -1,0 +1,2 @@
+-- What holds of the definitions.
+pub mod History

@@ -1,0 +1,102 @@
+//! Why a run ends without its whole output.
+
+use scenario::ScenarioFault;
+use std::alloc::{AllocError, AllocFailed};
+use std::fmt;
+use wire::Memory;
+
+/// Why a run ends without its whole output. Its `Display` is the line that users read.
+#[derive(Debug, Drop)]
+pub enum Fault<'w> {
+    /// The command line isn't one of ours: `clap`'s text.
+    CommandLine(clap::Error),
+    /// This line of the scenario, counted from 1, can't be read.
+    ScenarioLine(usize),
+    /// This line of the table, counted from 1, can't be read.
+    TableLine(usize),
+    /// This file can't be read; `-` is the standard input.
+    CannotRead(&'w str),
+    /// This file can't be written; `-` is the standard output.
+    CannotWrite(&'w str),
+    /// There was no memory.
+    Memory,
+    /// The node has no seat or no history to give.
+    Closed,
+}
+
+impl fmt::Display for Fault<'_> {
+    fn fmt<W: fmt::Write>(&self, f: &mut fmt::Formatter<W>) -> fmt::Result {
+        match self {
+            Fault::CommandLine(error) => error.fmt(f),
+            Fault::ScenarioLine(number) => writeln!(f, "regchain: scenario line {number}"),
+            Fault::TableLine(number) => writeln!(f, "regchain: table line {number}"),
+            Fault::CannotRead(file) => writeln!(f, "regchain: cannot read {file}"),
+            Fault::CannotWrite(file) => writeln!(f, "regchain: cannot write {file}"),
+            Fault::Memory => writeln!(f, "regchain: memory"),
+            Fault::Closed => writeln!(f, "regchain: closed"),
+        }
+    }
+}
+
+impl From<clap::Error> for Fault<'_> {
+    fn from(error: clap::Error) -> Self {
+        match error.kind() {
+            clap::error::ErrorKind::OutOfMemory => Fault::Memory,
+            _ => Fault::CommandLine(error),
+        }
+    }
+}
+
+impl From<Memory> for Fault<'_> {
+    fn from(_fault: Memory) -> Self {
+        Fault::Memory
+    }
+}
+
+impl From<AllocError> for Fault<'_> {
+    fn from(_error: AllocError) -> Self {
+        Fault::Memory
+    }
+}
+
+impl<T: Drop> From<AllocFailed<T>> for Fault<'_> {
+    fn from(_error: AllocFailed<T>) -> Self {
+        Fault::Memory
+    }
+}
+
+impl From<node::OpenFault> for Fault<'_> {
+    fn from(fault: node::OpenFault) -> Self {
+        match fault {
+            node::OpenFault::Memory => Fault::Memory,
+            _ => Fault::Closed,
+        }
+    }
+}
+
+impl From<node::Fault> for Fault<'_> {
+    fn from(fault: node::Fault) -> Self {
+        match fault {
+            node::Fault::Memory => Fault::Memory,
+            _ => Fault::Closed,
+        }
+    }
+}
+
+impl From<ScenarioFault> for Fault<'_> {
+    fn from(fault: ScenarioFault) -> Self {
+        match fault {
+            ScenarioFault::Line(number) => Fault::ScenarioLine(number),
+            ScenarioFault::Memory => Fault::Memory,
+        }
+    }
+}
+
+impl From<curve::TableFault> for Fault<'_> {
+    fn from(fault: curve::TableFault) -> Self {
+        match fault {
+            curve::TableFault::BadLine(number) => Fault::TableLine(number),
+            curve::TableFault::Memory => Fault::Memory,
+        }
+    }
+}

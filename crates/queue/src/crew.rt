@@ -1,0 +1,87 @@
+//! Who runs the jobs.
+
+ghost use Rattle.std.specs.Prelude.{◌≡◌, ◌<◌, ◌≤◌, ◌^◌, length, All, IfOk};
+ghost use denote.Param.Send.{IsSync};
+ghost use Rattle.queue.specs.Jobs.{HasInput, IsFirstFailure};
+
+use crate::gate::Gate;
+use crate::index::Index;
+use crate::jobs::JobList;
+use crate::verdict::Verdict;
+use crate::workers::{first_failure_with, first_refused_alone};
+use curve::Table;
+use interp::Job;
+use std::alloc::Global;
+use std::thread::Threads;
+use wire::Memory;
+
+/// Who runs the jobs of a list: threads, or the caller alone. Whoever takes a crew needs no leave to start threads.
+pub trait Crew {
+    /// What a crew needs to know of its own type: of threads, that they may share the handle that starts them.
+    ghost is_ready: { Self → Type 0 };
+
+    /// The least place whose job isn't accepted, or none. A job that a verdict fits isn't run.
+    fn first_failure_with(
+        &self,
+        alloc: Global,
+        jobs: &[Job],
+        verdicts: &[Verdict],
+        table: &Table,
+        workers: usize,
+        gate: &(dyn Gate + Sync),
+    ) -> Result<Option<usize>, Memory>
+        requires ready { is_ready self.now }
+        requires workers { (1 ≤ workers) × (workers ≤ 16) }
+        requires few { length jobs.now < 2 ^ 32 }
+        requires inputs { All HasInput jobs.now }
+        requires same_table { All (λ v. v.triples ≡ table.now) verdicts.now }
+        ensures { IfOk result (λ place. IsFirstFailure table.now jobs.now place) };
+}
+
+/// The caller and threads that it starts, up to the number of workers.
+#[derive(Clone, Copy)]
+pub struct Threaded<'r, R> {
+    pub rt: &'r R,
+}
+
+impl<'r, R: Threads + Sync> Crew for Threaded<'r, R> {
+    ghost is_ready = { λ _. IsSync R.row };
+
+    fn first_failure_with(
+        &self,
+        alloc: Global,
+        jobs: &[Job],
+        verdicts: &[Verdict],
+        table: &Table,
+        workers: usize,
+        gate: &(dyn Gate + Sync),
+    ) -> Result<Option<usize>, Memory> {
+        first_failure_with(self.rt, alloc, jobs, verdicts, table, workers, &gate)
+    }
+}
+
+/// The caller alone, whatever the number of workers: for where no thread may be started.
+#[derive(Clone, Copy)]
+pub struct Alone;
+
+impl Crew for Alone {
+    ghost is_ready = { λ _. Unit {0} };
+
+    fn first_failure_with(
+        &self,
+        alloc: Global,
+        jobs: &[Job],
+        verdicts: &[Verdict],
+        table: &Table,
+        _workers: usize,
+        gate: &(dyn Gate + Sync),
+    ) -> Result<Option<usize>, Memory> {
+        let index = Index::new(alloc, verdicts, table)?;
+        let list = JobList {
+            jobs,
+            table,
+            index: &index,
+        };
+        first_refused_alone(alloc, &list, &gate)
+    }
+}

@@ -1,0 +1,6 @@
+mod Changes
+mod Cleared
+mod Grown
+mod Opened
+mod Times
+mod Views

@@ -1,0 +1,10 @@
+pub mod Branches
+pub mod Limits
+pub mod MedianTime
+pub mod Names
+pub mod Naming
+pub mod Nodes
+pub mod Sound
+pub mod State
+pub mod Tips
+pub mod laws

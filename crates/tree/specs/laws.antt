@@ -1,0 +1,8 @@
+-- Theorems on the tree, for any blocks.
+pub mod Added
+pub mod Branches
+pub mod Leaves
+pub mod Marks
+pub mod Parents
+pub mod Ranks
+pub mod Sets

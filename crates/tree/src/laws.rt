@@ -1,0 +1,29 @@
+//! What holds of every tree, whatever its blocks are.
+
+ghost use Rattle.std.specs.Prelude.{◌≡◌, ℕ, ◌≤◌, ◌<◌, ◌↔◌, ◌⊎◌, suc, true, length};
+ghost use Rattle.tree.specs.Branches.{Blocks, on, height, parent_at};
+ghost use Rattle.tree.specs.State.{State, better, called};
+ghost use Rattle.tree.specs.Sound.{Precedes};
+
+/// A block is better where it is higher; as high and called precious later; or as high, neither called, and earlier.
+pub fn better_is_by_height_rank_and_arrival<B>()
+    ensures { (s : State B) (a b : ℕ) → (better s a b ≡ true) ↔ Precedes s a b }
+{}
+
+/// Of two blocks one is better, and not the other.
+pub fn of_two_blocks_one_is_better<B>()
+    ensures one { (s : State B) (a b : ℕ) → (a ≡ b → ⊥) → (better s a b ≡ true) ⊎ (better s b a ≡ true) }
+    ensures not_both { (s : State B) (a b : ℕ) → better s a b ≡ true → better s b a ≡ true → ⊥ }
+    ensures through { (s : State B) (a b c : ℕ) → better s a b ≡ true → better s b c ≡ true → better s a c ≡ true }
+{}
+
+/// A block that is called precious is better than all that aren't higher, and between two others nothing changes.
+pub fn a_call_raises_one_block<B>()
+    ensures raised { (s : State B) (p d : ℕ) → (p ≡ d → ⊥) → height s.blocks d ≤ height s.blocks p → better (called s p) p d ≡ true }
+    ensures others { (s : State B) (p a b : ℕ) → (p ≡ a → ⊥) → (p ≡ b → ⊥) → better (called s p) a b ≡ better s a b }
+{}
+
+/// A block stands on one that came before it, and is one higher.
+pub fn a_block_is_one_higher_than_its_parent<B>()
+    ensures { (t : Blocks B) (p : ℕ) → 0 < p → p ≤ length t → (parent_at t p < p) × (height t p ≡ suc (height t (parent_at t p))) × (on t p (parent_at t p) ≡ true) }
+{}

@@ -1,0 +1,23 @@
+//! The tree of kept blocks: branches, marks, which block is the better one, and tips.
+#![tactic(auto)]
+
+mod clearing;
+mod fault;
+mod growing;
+pub mod laws;
+mod leaf;
+mod node;
+mod opening;
+mod past;
+mod spoiling;
+mod standing;
+mod tip;
+mod tree;
+mod walk;
+
+pub use fault::AddFault;
+pub use tip::Status;
+pub use tree::{MAX_BLOCKS, Tree};
+
+#[cfg(test)]
+mod tests;

@@ -1,0 +1,40 @@
+//! The genesis block, as the tree keeps it.
+
+ghost use Rattle.std.specs.Prelude.{◌≡◌};
+ghost use Rattle.tree.specs.Names.{genesis};
+ghost use Rattle.tree.specs.Nodes.{first_node};
+
+use crate::node::Node;
+use block::{Block, GENESIS_ID, GENESIS_ROOT, GENESIS_TIME, Header, Txs};
+use hash::Id;
+use std::alloc::Global;
+
+/// Its header without its transaction, which makes no coin.
+fn genesis_block(alloc: Global) -> Block
+    ensures { result ≡ genesis }
+{
+    let header = Header {
+        version: 1,
+        prev: Id([0; 32]),
+        root: GENESIS_ROOT,
+        time: GENESIS_TIME,
+        bits: 0x207f_ffff,
+        nonce: 2,
+    };
+    Block {
+        header,
+        txs: Txs::from_vec(Vec::new(alloc)),
+    }
+}
+
+pub(crate) fn genesis_node(alloc: Global) -> Node
+    ensures { result ≡ first_node }
+{
+    Node {
+        block: genesis_block(alloc),
+        id: GENESIS_ID,
+        parent: 0,
+        height: 0,
+        median: GENESIS_TIME,
+    }
+}

@@ -1,0 +1,134 @@
+use super::*;
+use block::{Block, GENESIS_ID, GENESIS_TIME, Header, Txs};
+use hash::Id;
+use std::alloc::Global;
+use std::test::*;
+
+/// A block on the one of this id.
+fn block(alloc: Global, prev: Id, time: u32) -> Block {
+    let header = Header {
+        version: 4,
+        prev,
+        root: Id([0; 32]),
+        time,
+        bits: 0x207f_ffff,
+        nonce: 0,
+    };
+    Block {
+        header,
+        txs: Txs::from_vec(Vec::new(alloc)),
+    }
+}
+
+/// Adds a block so many seconds after genesis; a parent that isn't kept is answered like a full tree.
+fn grow(tree: &mut Tree, alloc: Global, parent: usize, seconds: u32) -> Result<usize, AddFault> {
+    if parent >= tree.len() {
+        return Err(AddFault::Full);
+    }
+    let block = block(alloc, tree.id(parent), GENESIS_TIME.wrapping_add(seconds));
+    let id = block.id();
+    tree.add(block, id, parent)
+}
+
+fn is_better(tree: &Tree, one: usize, other: usize) -> bool {
+    one < tree.len() && other < tree.len() && tree.better(one, other)
+}
+
+fn is_usable(tree: &Tree, place: usize) -> bool {
+    place < tree.len() && tree.usable(place)
+}
+
+fn is_seen(tree: &Tree, place: usize) -> bool {
+    place < tree.len() && tree.seen(place)
+}
+
+fn see(tree: &mut Tree, place: usize) {
+    if place < tree.len() {
+        tree.see(place);
+    }
+}
+
+fn id(tree: &Tree, place: usize) -> Option<Id> {
+    if place < tree.len() {
+        return Some(tree.id(place));
+    }
+    None
+}
+
+fn mark(tree: &mut Tree, place: usize) {
+    if place > 0 && place < tree.len() {
+        tree.mark(place);
+    }
+}
+
+#[test]
+fn genesis_alone(rt: HostRuntime) -> Result<(), Fail> {
+    let tree = Tree::new(rt.alloc())?;
+    assert_eq!(rt; tree.len(), 1);
+    assert_eq!(rt; tree.find(&GENESIS_ID), Some(0));
+    assert_eq!(rt; tree.find(&Id([7; 32])), None);
+    assert!(rt; is_usable(&tree, 0));
+    assert!(rt; is_seen(&tree, 0));
+    Ok(())
+}
+
+/// Two blocks on the first one, and a third on one of them.
+#[test]
+fn marks_and_ranks(rt: HostRuntime) -> Result<(), Fail> {
+    let mut tree = Tree::new(rt.alloc())?;
+    let b1 = grow(&mut tree, rt.alloc(), 0, 1)?;
+    let p2 = grow(&mut tree, rt.alloc(), b1, 2)?;
+    let q2 = grow(&mut tree, rt.alloc(), b1, 3)?;
+    assert!(rt; is_better(&tree, p2, q2));
+    assert!(rt; !is_better(&tree, q2, p2));
+    if q2 < tree.len() {
+        tree.precious(q2)?;
+    }
+    assert!(rt; is_better(&tree, q2, p2));
+    let p3 = grow(&mut tree, rt.alloc(), p2, 4)?;
+    assert!(rt; is_better(&tree, p3, q2));
+    mark(&mut tree, p2);
+    assert!(rt; !is_usable(&tree, p3));
+    assert!(rt; is_usable(&tree, q2));
+    if p3 < tree.len() {
+        tree.clear(rt.alloc(), p3)?;
+    }
+    see(&mut tree, p3);
+    assert!(rt; is_usable(&tree, p3));
+    assert!(rt; is_seen(&tree, p3));
+    assert!(rt; !is_seen(&tree, p2));
+    Ok(())
+}
+
+#[test]
+fn a_branch(rt: HostRuntime) -> Result<(), Fail> {
+    let mut tree = Tree::new(rt.alloc())?;
+    let one = grow(&mut tree, rt.alloc(), 0, 1)?;
+    grow(&mut tree, rt.alloc(), 0, 2)?;
+    let three = grow(&mut tree, rt.alloc(), one, 3)?;
+    assert!(rt; three < tree.len());
+    if three < tree.len() {
+        let branch = tree.branch(rt.alloc(), three)?;
+        assert_eq!(rt; branch.as_slice(), [3, 1, 0].as_slice());
+        assert_eq!(rt; tree.parent(three), 1);
+        assert_eq!(rt; tree.height(three), 2);
+        assert_eq!(rt; tree.find(&tree.id(three)), Some(3));
+        assert_eq!(rt; Some(tree.block(three).header.prev), id(&tree, 1));
+    }
+    Ok(())
+}
+
+/// Of the times 2 to 12 the one in the middle is 7.
+#[test]
+fn median_time_past(rt: HostRuntime) -> Result<(), Fail> {
+    let mut tree = Tree::new(rt.alloc())?;
+    let mut tip = 0;
+    for seconds in 1..13 {
+        tip = grow(&mut tree, rt.alloc(), tip, seconds)?;
+    }
+    assert!(rt; tip < tree.len());
+    if tip < tree.len() {
+        assert_eq!(rt; tree.median(tip), GENESIS_TIME + 7);
+    }
+    Ok(())
+}

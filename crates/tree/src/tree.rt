@@ -1,0 +1,276 @@
+//! The tree.
+
+ghost use Rattle.std.specs.Prelude.{◌≡◌, ◌↔◌, ◌≤◌, ◌<◌, suc, length, IfOk, OnOk, OnErr, Err};
+ghost use Rattle.block.specs.Identity.{id_of};
+ghost use Rattle.tree.specs.declared.fault.AddFault.TheVariants.{Full};
+ghost use Rattle.tree.specs.Limits.{max_blocks};
+ghost use Rattle.tree.specs.Branches.{has, height, parent_at, place_of, block_at, id_at, blocks_at, branch};
+ghost use Rattle.tree.specs.State.{opening, usable, rank, better, with_block, marked, cleared, saw, called};
+ghost use Rattle.tree.specs.MedianTime.{median_time_past};
+ghost use Rattle.tree.specs.Names.{names};
+
+use crate::clearing::{related, take_marks};
+use crate::fault::AddFault;
+use crate::growing::{enter, leaf_of, node_on};
+use crate::leaf::Leaf;
+use crate::node::{Mark, Node};
+use crate::opening::genesis_node;
+use crate::spoiling::spoil;
+use crate::standing::Standing;
+use crate::walk::branch_of;
+use block::{Block, GENESIS_ID};
+use hash::Id;
+use std::alloc::Global;
+use std::collections::{BTreeMap, BTreeSet};
+use std::marker::Model;
+use wire::Memory;
+
+/// So many blocks are kept, genesis among them.
+pub const MAX_BLOCKS: usize = 1_000_000;
+
+/// The kept blocks, each named by its place in the order of arrival: genesis has place 0. A clause sees the
+/// state that the definitions speak of.
+#[derive(Drop)]
+pub struct Tree {
+    nodes: Vec<Node>,
+    marks: Vec<Mark>,
+    /// The places that were called precious, in the order of the calls.
+    calls: Vec<usize>,
+    ids: BTreeMap<Id, usize>,
+    leaves: BTreeSet<Leaf>,
+}
+
+impl Model for Tree {
+    ghost use Rattle.block.specs.declared.block.Block.{Block};
+    ghost use Rattle.tree.specs.State.{State};
+    ghost use Rattle.tree.specs.Nodes.{state_of, IsRight};
+
+    ghost Value = { State Block };
+
+    ghost view = { λ t. state_of t.nodes.items t.marks.items t.calls.items };
+
+    ghost invariant = { λ t. IsRight t.nodes.items t.marks.items t.calls.items t.ids.entries t.leaves.keys };
+}
+
+impl Tree {
+    /// Genesis alone.
+    pub fn new(alloc: Global) -> Result<Tree, Memory>
+        ensures { IfOk result (λ tree. tree ≡ opening) }
+    {
+        let mut nodes = Vec::new(alloc);
+        nodes.push(genesis_node(alloc))?;
+        let mut marks = Vec::new(alloc);
+        marks.push(Mark {
+            bad: false,
+            seen: true,
+            usable: true,
+            rank: 0,
+        })?;
+        let mut ids = BTreeMap::new(alloc);
+        ids.insert(GENESIS_ID, 0)?;
+        let mut leaves = BTreeSet::new(alloc);
+        leaves.insert(Leaf {
+            depth: MAX_BLOCKS,
+            place: 0,
+        })?;
+        Ok(Tree {
+            nodes,
+            marks,
+            calls: Vec::new(alloc),
+            ids,
+            leaves,
+        })
+    }
+
+    /// How many blocks are kept, genesis among them.
+    pub fn len(&self) -> usize
+        ensures { result ≡ suc (length self.now.blocks) }
+    {
+        self.nodes.len()
+    }
+
+    /// The place of the block with this id.
+    pub fn find(&self, id: &Id) -> Option<usize>
+        ensures { result ≡ place_of names self.now.blocks id.now }
+    {
+        self.ids.get(id).copied()
+    }
+
+    /// The block at a place. Genesis has no transactions here.
+    pub fn block(&self, place: usize) -> &Block
+        requires { place ≤ length self.now.blocks }
+        ensures { result.now ≡ block_at names self.now.blocks place }
+    {
+        &self.nodes[place].block
+    }
+
+    /// The id of the block at a place.
+    pub fn id(&self, place: usize) -> Id
+        requires { place ≤ length self.now.blocks }
+        ensures { result ≡ id_at names self.now.blocks place }
+    {
+        self.nodes[place].id
+    }
+
+    /// The place of the block that this one stands on; 0 for genesis.
+    pub fn parent(&self, place: usize) -> usize
+        requires { place ≤ length self.now.blocks }
+        ensures { result ≡ parent_at self.now.blocks place }
+    {
+        self.nodes[place].parent
+    }
+
+    /// How many blocks its branch has before it.
+    pub fn height(&self, place: usize) -> usize
+        requires { place ≤ length self.now.blocks }
+        ensures { result ≡ height self.now.blocks place }
+    {
+        self.nodes[place].height
+    }
+
+    /// Whether no block of its branch is marked.
+    pub fn usable(&self, place: usize) -> bool
+        requires { place ≤ length self.now.blocks }
+        ensures { result ≡ usable self.now place }
+    {
+        self.marks[place].usable
+    }
+
+    /// Whether it was found valid once.
+    pub fn seen(&self, place: usize) -> bool
+        requires { place ≤ length self.now.blocks }
+        ensures { result ≡ has self.now.seen place }
+    {
+        self.marks[place].seen
+    }
+
+    /// Whether the first of two blocks is better: higher; or as high and called precious later; or as high, both
+    /// never called, and came earlier.
+    pub fn better(&self, one: usize, other: usize) -> bool
+        requires one { one ≤ length self.now.blocks }
+        requires other { other ≤ length self.now.blocks }
+        ensures { result ≡ better self.now one other }
+    {
+        self.standing(one).is_above(&self.standing(other))
+    }
+
+    fn standing(&self, place: usize) -> Standing
+        requires { place ≤ length self.now.blocks }
+        ensures { result ≡ record { height = height self.now.blocks place; rank = rank self.now place; place = place } }
+    {
+        Standing {
+            height: self.nodes[place].height,
+            rank: self.marks[place].rank,
+            place,
+        }
+    }
+
+    /// The median time past of its branch, in seconds since 1970 (BIP 113).
+    pub fn median(&self, place: usize) -> u32
+        requires { place ≤ length self.now.blocks }
+        ensures { let t = self.now.blocks in result ≡ median_time_past (blocks_at names t (branch t place)) }
+    {
+        self.nodes[place].median
+    }
+
+    /// The places from this one down to genesis.
+    pub fn branch(&self, alloc: Global, place: usize) -> Result<Vec<usize>, Memory>
+        requires { place ≤ length self.now.blocks }
+        ensures { IfOk result (λ places. places.items ≡ branch self.now.blocks place) }
+    {
+        branch_of(alloc, self.nodes.as_slice(), place)
+    }
+
+    /// Marks a block as invalid. It may walk all that came later.
+    pub fn mark(&mut self, place: usize)
+        requires not_genesis { 0 < place }
+        requires kept { place ≤ length self.old.blocks }
+        ensures { self.new ≡ marked self.old place }
+    {
+        self.marks[place].bad = true;
+        spoil(self.nodes.as_slice(), self.marks.as_mut_slice(), place);
+    }
+
+    /// Takes the marks from a block, its ancestors and its descendants. It walks all blocks.
+    pub fn clear(&mut self, alloc: Global, place: usize) -> Result<(), Memory>
+        requires { place ≤ length self.old.blocks }
+        ensures ok { OnOk result (self.new ≡ cleared self.old place) }
+        ensures err { OnErr result (self.new ≡ self.old) }
+    {
+        let related = related(alloc, self.nodes.as_slice(), place)?;
+        take_marks(
+            self.nodes.as_slice(),
+            self.marks.as_mut_slice(),
+            related.as_slice(),
+        );
+        Ok(())
+    }
+
+    /// Notes that a block was found valid.
+    pub fn see(&mut self, place: usize)
+        requires { place ≤ length self.old.blocks }
+        ensures { self.new ≡ saw self.old place }
+    {
+        self.marks[place].seen = true;
+    }
+
+    /// Calls a block precious: it is better than all that are as high.
+    pub fn precious(&mut self, place: usize) -> Result<(), Memory>
+        requires { place ≤ length self.old.blocks }
+        ensures ok { OnOk result (self.new ≡ called self.old place) }
+        ensures err { OnErr result (self.new ≡ self.old) }
+    {
+        self.calls.push(place)?;
+        self.marks[place].rank = self.calls.len();
+        Ok(())
+    }
+
+    /// Keeps a block that was made of this id, on this parent, and gives its place.
+    pub fn add(&mut self, block: Block, id: Id, parent: usize) -> Result<usize, AddFault>
+        requires parent { parent ≤ length self.old.blocks }
+        requires id { id ≡ id_of block.header }
+        ensures place { IfOk result (λ place. place ≡ suc (length self.old.blocks)) }
+        ensures ok { OnOk result (self.new ≡ with_block self.old block parent) }
+        ensures full { (result ≡ Err Full) ↔ (max_blocks ≤ suc (length self.old.blocks)) }
+        ensures err { OnErr result (self.new ≡ self.old) }
+    {
+        if self.nodes.len() >= MAX_BLOCKS {
+            return Err(AddFault::Full);
+        }
+        match self.keep(block, id, parent) {
+            Ok(place) => Ok(place),
+            Err(Memory) => Err(AddFault::Memory),
+        }
+    }
+
+    /// The same where there is room.
+    fn keep(&mut self, block: Block, id: Id, parent: usize) -> Result<usize, Memory>
+        requires room { suc (length self.old.blocks) < max_blocks }
+        requires parent { parent ≤ length self.old.blocks }
+        requires id { id ≡ id_of block.header }
+        ensures place { IfOk result (λ place. place ≡ suc (length self.old.blocks)) }
+        ensures ok { OnOk result (self.new ≡ with_block self.old block parent) }
+        ensures err { OnErr result (self.new ≡ self.old) }
+    {
+        self.nodes.reserve(1)?;
+        self.marks.reserve(1)?;
+        let node = node_on(self.nodes.as_slice(), block, id, parent);
+        let mark = Mark {
+            bad: false,
+            seen: false,
+            usable: self.marks[parent].usable,
+            rank: 0,
+        };
+        let place = self.nodes.len();
+        let leaf = Leaf {
+            depth: MAX_BLOCKS.saturating_sub(node.height),
+            place,
+        };
+        let below = leaf_of(self.nodes.as_slice(), parent);
+        enter(&mut self.ids, &mut self.leaves, id, leaf, &below)?;
+        // There is room for both.
+        self.nodes.push(node)?;
+        self.marks.push(mark)?;
+        Ok(place)
+    }
+}

@@ -1,0 +1,5 @@
+use Rattle.txn.specs.Marks.{AreMarks}
+use Rattle.txn.proofs.many_ids.spell_eight.Given as goal
+
+abbrev pub invariant-spelled : goal.invariant-spelled
+invariant-spelled l = AreMarks l.txs l.bytes.items l.marks l.k

@@ -1,0 +1,14 @@
+//! What a transaction does to the coins, applied and taken back.
+#![tactic(auto)]
+
+mod apply;
+mod block_undo;
+pub mod laws;
+mod revert;
+
+pub use apply::{apply_in_layer, apply_tx};
+pub use block_undo::{BlockUndo, Spent};
+pub use revert::{revert_in_layer, revert_tx};
+
+#[cfg(test)]
+mod tests;

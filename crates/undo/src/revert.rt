@@ -1,0 +1,134 @@
+//! A transaction taken back.
+
+ghost use Rattle.std.specs.Prelude.{◌≡◌, ℕ, ◌^◌, ◌≤◌, OnOk, OnErr, IfOk, false, length, IsSome, if◌then◌else◌};
+ghost use Rattle.std.specs.List.{zip};
+ghost use Rattle.std.specs.Map.{keys_of};
+ghost use Rattle.std.specs.FinMap as coin_map;
+ghost use Rattle.txn.specs.Check.{prevs};
+ghost use Rattle.script.specs.Kinds.{is_unspendable};
+ghost use Rattle.coins.specs.Coins.{Coins};
+ghost use Rattle.coins.specs.Entries.{over, IsSound};
+ghost use Rattle.undo.specs.Effect.{spends, spendable, without, with_coins, reverted, IsApplied, IsRevertible, AreCoins, AreNew};
+
+use crate::block_undo::Spent;
+use coins::{Base, Cache, Coin, Writes};
+use hash::Id;
+use script::unspendable;
+use std::alloc::Global;
+use txn::{OutPoint, Tx, TxIn, TxOut};
+use wire::Memory;
+
+/// Takes back a transaction of this id, with the coins that it spent (Bitcoin Core's
+/// `DisconnectBlock`). Of a coinbase only the outputs go.
+pub fn revert_tx<B: Base>(
+    alloc: Global,
+    cache: &mut Cache<'_, B>,
+    tx: &Tx,
+    id: Id,
+    spent: &Spent,
+) -> Result<(), Memory>
+    requires { (before : Coins) × (height : ℕ) × IsApplied before tx.now id height cache.old.coins spent.now }
+    ensures ok { (before : Coins) (height : ℕ) → IsApplied before tx.now id height cache.old.coins spent.now → OnOk result (cache.new ≡ record cache.old { coins = before }) }
+    ensures err { OnErr result (cache.new ≡ cache.old) }
+{
+    let writes = undone(alloc, &*cache, tx, id, spent)?;
+    cache.absorb(writes)
+}
+
+/// What taking a transaction back writes, on a layer over these coins.
+fn undone<B: Base>(
+    alloc: Global,
+    base: &B,
+    tx: &Tx,
+    id: Id,
+    spent: &Spent,
+) -> Result<Writes, Memory>
+    requires { IsRevertible (B.coins base.now) tx.now id spent.now }
+    ensures sound { IfOk result (λ writes. IsSound (B.coins base.now) writes) }
+    ensures over { IfOk result (λ writes. over (B.coins base.now) writes ≡ reverted (B.coins base.now) tx.now id spent.now) }
+{
+    let mut layer = Cache::over(alloc, base);
+    revert(&mut layer, tx, id, spent)?;
+    Ok(layer.into_writes())
+}
+
+/// The same in a layer that the caller drops at a refusal, since part of the transaction may then be
+/// taken back. It does half the work.
+pub fn revert_in_layer<B: Base>(
+    layer: &mut Cache<'_, B>,
+    tx: &Tx,
+    id: Id,
+    spent: &Spent,
+) -> Result<(), Memory>
+    requires { (before : Coins) × (height : ℕ) × IsApplied before tx.now id height layer.old.coins spent.now }
+    ensures ok { (before : Coins) (height : ℕ) → IsApplied before tx.now id height layer.old.coins spent.now → OnOk result (layer.new ≡ record layer.old { coins = before }) }
+    ensures base { layer.new.base ≡ layer.old.base }
+{
+    revert(layer, tx, id, spent)
+}
+
+fn revert<B: Base>(layer: &mut Cache<'_, B>, tx: &Tx, id: Id, spent: &Spent) -> Result<(), Memory>
+    requires { IsRevertible layer.old.coins tx.now id spent.now }
+    ensures ok { OnOk result (layer.new ≡ record layer.old { coins = reverted layer.old.coins tx.now id spent.now }) }
+    ensures base { layer.new.base ≡ layer.old.base }
+{
+    take_all(layer, id, tx.outputs.as_slice())?;
+    return_inputs(layer, tx, spent)
+}
+
+/// Puts the coins back that a transaction spent. A coinbase spent none.
+fn return_inputs<B: Base>(layer: &mut Cache<'_, B>, tx: &Tx, spent: &Spent) -> Result<(), Memory>
+    requires new { AreNew layer.old.coins (zip (spends tx.now) spent.now) }
+    requires alike { length spent.now ≡ length (spends tx.now) }
+    ensures ok { OnOk result (layer.new ≡ record layer.old { coins = with_coins layer.old.coins (zip (spends tx.now) spent.now) }) }
+    ensures base { layer.new.base ≡ layer.old.base }
+{
+    if tx.is_coinbase() {
+        return Ok(());
+    }
+    return_all(layer, tx.inputs.as_slice(), spent.as_slice())
+}
+
+/// Takes the coins of outputs away.
+fn take_all<B: Base>(layer: &mut Cache<'_, B>, id: Id, outputs: &[TxOut]) -> Result<(), Memory>
+    requires there { AreCoins layer.old.coins (keys_of (spendable id 0 outputs.now)) }
+    requires numbered { length outputs.now ≤ 2 ^ 32 }
+    ensures ok { OnOk result (layer.new ≡ record layer.old { coins = without layer.old.coins (keys_of (spendable id 0 outputs.now)) }) }
+    ensures base { layer.new.base ≡ layer.old.base }
+{
+    for (place, output) in outputs.iter().enumerate() {
+        let index = place as u32;
+        take_one(layer, OutPoint { id, index }, output)?;
+    }
+    Ok(())
+}
+
+/// Takes the coin of an output away, if it can be one.
+fn take_one<B: Base>(layer: &mut Cache<'_, B>, at: OutPoint, output: &TxOut) -> Result<(), Memory>
+    requires { is_unspendable output.now.script ≡ false → IsSome (coin_map.get layer.old.coins at) }
+    ensures ok { OnOk result (layer.new ≡ record layer.old { coins = (if is_unspendable output.now.script then layer.old.coins else coin_map.remove layer.old.coins at) }) }
+    ensures base { layer.new.base ≡ layer.old.base }
+{
+    if unspendable(output.script.as_slice()) {
+        return Ok(());
+    }
+    layer.spend(&at)?;
+    Ok(())
+}
+
+/// Puts the coins back that inputs took.
+fn return_all<B: Base>(
+    layer: &mut Cache<'_, B>,
+    inputs: &[TxIn],
+    spent: &[Coin],
+) -> Result<(), Memory>
+    requires new { AreNew layer.old.coins (zip (prevs inputs.now) spent.now) }
+    requires alike { length spent.now ≡ length inputs.now }
+    ensures ok { OnOk result (layer.new ≡ record layer.old { coins = with_coins layer.old.coins (zip (prevs inputs.now) spent.now) }) }
+    ensures base { layer.new.base ≡ layer.old.base }
+{
+    for index in 0..inputs.len() {
+        layer.add(inputs[index].prev, spent[index].copy()?)?;
+    }
+    Ok(())
+}
