@@ -1,4 +1,8 @@
+pub mod Chainstate
+pub mod Commands
 pub mod Context
+pub mod History
+pub mod Machine
 pub mod Regtest
 pub mod Replay
 pub mod Rules

@@ -3,7 +3,9 @@ pub mod Actives
 pub mod Bound
 pub mod Candidates
 pub mod Coins
+pub mod Commands
 pub mod Connected
+pub mod History
 pub mod Kept
 pub mod Ordinary
 pub mod Preferring

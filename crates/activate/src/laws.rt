@@ -1,6 +1,6 @@
 //! What holds of every chainstate, whatever its blocks and coins are, and of regtest's.
 
-ghost use Rattle.std.specs.Prelude.{◌≡◌, ℕ, ◌≤◌, ◌<◌, ◌↔◌, suc, ℤ, pos, ◌≤ℤ◌, true, false, length, ◌∷◌, List, Option, None, Some, IsSomeAnd};
+ghost use Rattle.std.specs.Prelude.{◌≡◌, ℕ, ◌≤◌, ◌<◌, ◌↔◌, suc, ℤ, pos, ◌≤ℤ◌, true, false, length, ◌∷◌, ◌++◌, List, Option, None, Some, IsSomeAnd};
 ghost use Rattle.txn.specs.declared.reason.Reason.{Reason};
 ghost use Rattle.hash.specs.declared.id.Id.{Id};
 ghost use Rattle.block.specs.declared.block.Block.{Block};
@@ -27,6 +27,12 @@ ghost use Rattle.activate.specs.Try.{tried};
 ghost use Rattle.activate.specs.Sound.{Sound, IsNew, IsFirstFault, Passes, OfCandidate, AllKept, IdsAreKeptOnce};
 ghost use Rattle.tree.specs.Limits.{max_blocks};
 ghost use Rattle.activate.specs.laws.Tries.{unmarked};
+ghost use mathlib.Core.List.{IsPrefix};
+ghost use Rattle.block.specs.Decoding.{decoded};
+ghost use Rattle.activate.specs.declared.command.Command.TheVariants as command;
+ghost use Rattle.activate.specs.declared.entry.Entry.{Entry};
+ghost use Rattle.activate.specs.History.{Legal, state_after as state_after_entries};
+ghost use Rattle.activate.specs.Chainstate.{chainstate};
 
 // ---- the definition of settling in other words
 
@@ -158,4 +164,26 @@ pub fn all_coins_of_regtest_are_worth_at_most_all_subsidies()
 /// And none of them is worth less than nothing.
 pub fn no_coin_of_regtest_is_worth_less_than_nothing()
     ensures { (params : Params) (triples : Triples) (cs : List (Request Block Id)) → let r = regtest params triples in AreNotNegative (coins r ledger (state_after r opening cs)) }
+{}
+
+// ---- histories
+
+/// What begins a legal history is legal.
+pub fn beginnings_are_legal()
+    ensures { (params : Params) (triples : Triples) (seats : ℕ) (front rest : List Entry) → Legal (chainstate params triples) seats (front ++ rest) → Legal (chainstate params triples) seats front }
+{}
+
+/// Of two beginnings of one history the shorter begins the longer.
+pub fn beginnings_are_ordered()
+    ensures { (a b history : List Entry) → IsPrefix a history → IsPrefix b history → length a ≤ length b → IsPrefix a b }
+{}
+
+/// The state after a history is the state after its rest, from the state after its beginning on.
+pub fn states_follow()
+    ensures { (params : Params) (triples : Triples) (front rest : List Entry) → let m = chainstate params triples in state_after_entries m opening (front ++ rest) ≡ state_after_entries m (state_after_entries m opening front) rest }
+{}
+
+/// Bytes that are no block stand in no legal history.
+pub fn undecodable_bytes_stand_nowhere()
+    ensures { (params : Params) (triples : Triples) (seats : ℕ) (front rest : List Entry) (e : Entry) (bytes : List ℕ) (now : ℕ) → Legal (chainstate params triples) seats (front ++ e ∷ rest) → e.command ≡ command.Submit bytes now → decoded bytes ≡ None → ⊥ }
 {}

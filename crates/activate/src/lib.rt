@@ -1,7 +1,11 @@
 //! The chainstate: which block is active, what a command does, and what it answers.
 #![tactic(auto)]
 
+mod command;
+mod entry;
 pub mod laws;
 mod reply;
 
+pub use command::{Bytes, Command};
+pub use entry::Entry;
 pub use reply::{MarkReply, Reply, SubmitReply};

@@ -1,5 +1,6 @@
 //! The replies of the chainstate.
 
+use std::fmt;
 use txn::Reason;
 
 /// What a submission came to (Bitcoin Core's `submitblock`).
@@ -9,11 +10,11 @@ pub enum SubmitReply {
     Accepted,
     /// The block is kept, and another is the active one.
     Inconclusive,
-    /// The block was kept before, and was found valid.
+    /// The block is kept before, and was found valid.
     Duplicate,
-    /// The block was kept before, and a block of its branch is marked.
+    /// The block is kept before, and a block of its branch is marked.
     DuplicateInvalid,
-    /// The block was kept before, and was never looked at whole.
+    /// The block is kept before, and was never looked at whole.
     DuplicateInconclusive,
     /// The block breaks a rule.
     Rejected(Reason),
@@ -21,6 +22,21 @@ pub enum SubmitReply {
     DecodeFailed,
     /// No more blocks can be kept.
     TreeFull,
+}
+
+impl fmt::Display for SubmitReply {
+    fn fmt<W: fmt::Write>(&self, f: &mut fmt::Formatter<W>) -> fmt::Result {
+        match self {
+            SubmitReply::Accepted => f.write_str("accepted"),
+            SubmitReply::Inconclusive => f.write_str("inconclusive"),
+            SubmitReply::Duplicate => f.write_str("duplicate"),
+            SubmitReply::DuplicateInvalid => f.write_str("duplicate-invalid"),
+            SubmitReply::DuplicateInconclusive => f.write_str("duplicate-inconclusive"),
+            SubmitReply::Rejected(reason) => reason.fmt(f),
+            SubmitReply::DecodeFailed => f.write_str("decode-failed"),
+            SubmitReply::TreeFull => f.write_str("tree-full"),
+        }
+    }
 }
 
 /// What `invalidate`, `reconsider` or `precious` came to.
@@ -33,9 +49,28 @@ pub enum MarkReply {
     Genesis,
 }
 
+impl fmt::Display for MarkReply {
+    fn fmt<W: fmt::Write>(&self, f: &mut fmt::Formatter<W>) -> fmt::Result {
+        f.write_str(match self {
+            MarkReply::Done => "done",
+            MarkReply::NotFound => "not-found",
+            MarkReply::Genesis => "genesis",
+        })
+    }
+}
+
 /// The reply of a step.
 #[derive(Clone, Copy, Debug, PartialEq, Eq)]
 pub enum Reply {
     Submit(SubmitReply),
     Mark(MarkReply),
+}
+
+impl fmt::Display for Reply {
+    fn fmt<W: fmt::Write>(&self, f: &mut fmt::Formatter<W>) -> fmt::Result {
+        match self {
+            Reply::Submit(reply) => reply.fmt(f),
+            Reply::Mark(reply) => reply.fmt(f),
+        }
+    }
 }

@@ -1,15 +1,15 @@
 -- Histories that grow by an entry, and what becomes of a seat's pass.
 use Rattle.std.proofs.Common.{◌≡◌, ℕ, ◌<◌, List, [], ◌∷◌, ◌++◌, length, Some, refl, sym, ap, subst, ◌∙◌}
 use Rattle.std.proofs.lemmas.List.{append-nil}
-use Rattle.node.specs.declared.command.Command.{Command}
-use Rattle.node.specs.declared.reply.Reply.{Reply}
-use Rattle.node.specs.declared.reply.Reply.TheVariants as reply
-use Rattle.node.specs.declared.reply.SubmitReply.{SubmitReply}
-use Rattle.node.specs.declared.entry.Entry.{Entry}
-use Rattle.node.specs.History.{left, state_after, Legal, Answers, own_of, entry}
+use Rattle.activate.specs.declared.command.Command.{Command}
+use Rattle.activate.specs.declared.reply.Reply.{Reply}
+use Rattle.activate.specs.declared.reply.Reply.TheVariants as reply
+use Rattle.activate.specs.declared.reply.SubmitReply.{SubmitReply}
+use Rattle.activate.specs.declared.entry.Entry.{Entry}
+use Rattle.activate.specs.History.{left, state_after, Legal, Answers, own_of, entry}
 use Rattle.node.specs.Early.{Chain, early, opening, step, says}
 use Rattle.node.specs.Pass.{Pass, IsLater, Wrote}
-use Rattle.node.specs.laws.History.{state_after-append, legal_push, own_of-append, own_of-one}
+use Rattle.activate.specs.laws.History.{state_after-append, legal_push, own_of-append, own_of-one}
 
 -- what holds after a submission's step
 pub record Taken (seats : ℕ) (journal : List Entry) (next : Chain) : Type 0 where

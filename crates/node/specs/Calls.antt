@@ -1,14 +1,14 @@
 -- What the writing calls of a seat answer.
 use Rattle.std.specs.Prelude.{◌≡◌, ℕ, List, ◌∷◌, [], ◌++◌, None, IsSome}
 use Rattle.block.specs.Decoding.{decoded}
-use Rattle.node.specs.declared.command.Command.TheVariants as command
+use Rattle.activate.specs.declared.command.Command.TheVariants as command
 use Rattle.node.specs.declared.fault.Fault.{Fault}
 use Rattle.node.specs.declared.fault.Fault.TheVariants.{Memory, Owed, Closed, Unsupported}
-use Rattle.node.specs.declared.reply.Reply.TheVariants as reply
-use Rattle.node.specs.declared.reply.SubmitReply.{SubmitReply}
-use Rattle.node.specs.declared.reply.SubmitReply.TheVariants.{DecodeFailed}
-use Rattle.node.specs.Machine.{Machine}
-use Rattle.node.specs.History.{state_after, entry}
+use Rattle.activate.specs.declared.reply.Reply.TheVariants as reply
+use Rattle.activate.specs.declared.reply.SubmitReply.{SubmitReply}
+use Rattle.activate.specs.declared.reply.SubmitReply.TheVariants.{DecodeFailed}
+use Rattle.activate.specs.Machine.{Machine}
+use Rattle.activate.specs.History.{state_after, entry}
 use Rattle.node.specs.Pass.{Pass, Wrote, Stayed}
 
 -- the reply of a step stands in the history; bytes that are no block stand nowhere

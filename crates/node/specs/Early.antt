@@ -16,14 +16,14 @@ use Rattle.block.specs.Reward.{subsidy_of}
 use Rattle.rules.specs.Alone.{alone_rules}
 use Rattle.rules.specs.Context.{header_rules, place_rules}
 use Rattle.rules.specs.Params.{at, regtest}
-use Rattle.node.specs.declared.command.Command.{Command}
-use Rattle.node.specs.declared.command.Command.TheVariants as command
-use Rattle.node.specs.declared.reply.Reply.{Reply}
-use Rattle.node.specs.declared.reply.Reply.TheVariants as reply
-use Rattle.node.specs.declared.reply.SubmitReply.{SubmitReply}
-use Rattle.node.specs.declared.reply.SubmitReply.TheVariants.{Accepted, Duplicate, Rejected, TreeFull}
+use Rattle.activate.specs.declared.command.Command.{Command}
+use Rattle.activate.specs.declared.command.Command.TheVariants as command
+use Rattle.activate.specs.declared.reply.Reply.{Reply}
+use Rattle.activate.specs.declared.reply.Reply.TheVariants as reply
+use Rattle.activate.specs.declared.reply.SubmitReply.{SubmitReply}
+use Rattle.activate.specs.declared.reply.SubmitReply.TheVariants.{Accepted, Duplicate, Rejected, TreeFull}
 use Rattle.node.specs.declared.early.Kept.{Kept}
-use Rattle.node.specs.Machine.{Machine}
+use Rattle.activate.specs.Machine.{Machine}
 
 -- the blocks of the chain, from genesis on, and the last of them
 pub record Chain : Type 0 where
@@ -102,6 +102,15 @@ abbrev pub step : Chain → Command → Option (Chain × Reply)
 step chain (command.Submit bytes now) = submitted chain now (decoded bytes)
 step chain (command.Invalidate id) = None
 step chain (command.Reconsider id) = None
+step chain (command.Precious id) = None
 
+-- it answers neither coins nor tips
 abbrev pub early : Machine
-early = record { State = Chain; opening = opening; step = step; best = λ chain. chain.tip.id }
+early = record {
+  State = Chain;
+  opening = opening;
+  step = step;
+  coin = λ chain outpoint. None;
+  best = λ chain. chain.tip.id;
+  tips = λ chain. [];
+}

@@ -1,7 +1,5 @@
 pub mod Calls
 pub mod Early
-pub mod History
-pub mod Machine
 pub mod Opening
 pub mod Pass
 pub mod Verdict

@@ -1,11 +1,11 @@
 -- The pass of a seat: what it has seen of the history, and what of it is its own.
 use Rattle.std.specs.Prelude.{◌≡◌, ℕ, zero, suc, List, [], ◌∷◌, ◌++◌, length, Option, Some, None}
 use mathlib.Core.List.{IsPrefix}
-use Rattle.node.specs.declared.command.Command.{Command}
-use Rattle.node.specs.declared.reply.Reply.{Reply}
-use Rattle.node.specs.declared.entry.Entry.{Entry}
-use Rattle.node.specs.Machine.{Machine}
-use Rattle.node.specs.History.{state_at, Legal, own_of, entry}
+use Rattle.activate.specs.declared.command.Command.{Command}
+use Rattle.activate.specs.declared.reply.Reply.{Reply}
+use Rattle.activate.specs.declared.entry.Entry.{Entry}
+use Rattle.activate.specs.Machine.{Machine}
+use Rattle.activate.specs.History.{state_at, Legal, own_of, entry}
 
 -- the seat's number, how many seats there are, the beginning of the history that the seat has seen, and
 -- its own entries in order

@@ -1,7 +1,7 @@
 -- What the small chainstate says of a submission.
 use Rattle.std.specs.Prelude.{◌≡◌, ℕ, List, Option, Some, None, IsSome}
-use Rattle.node.specs.declared.command.Command.TheVariants as command
-use Rattle.node.specs.declared.reply.SubmitReply.TheVariants as reply
+use Rattle.activate.specs.declared.command.Command.TheVariants as command
+use Rattle.activate.specs.declared.reply.SubmitReply.TheVariants as reply
 use Rattle.node.specs.declared.early.Kept.{Kept}
 use Rattle.node.specs.declared.early.Verdict.{Verdict}
 use Rattle.node.specs.declared.early.Verdict.TheVariants.{DecodeFailed, Duplicate, TreeFull, Rejected, Plain, Unsupported}

@@ -1,2 +1,2 @@
 -- What holds of the definitions.
-pub mod History
+pub mod Undecodable

@@ -1,16 +1,16 @@
 //! The history, and the chainstate after it.
 
 ghost use Rattle.std.specs.Prelude.{◌≡◌, ◌<◌, ◌++◌, ◌∷◌, [], length, Some, IfOk, OnOk, OnErr};
-ghost use Rattle.node.specs.declared.command.Command.TheVariants as command;
-ghost use Rattle.node.specs.declared.reply.Reply.TheVariants as reply;
-ghost use Rattle.node.specs.History.{state_after, Legal, entry};
+ghost use Rattle.activate.specs.declared.command.Command.TheVariants as command;
+ghost use Rattle.activate.specs.declared.reply.Reply.TheVariants as reply;
+ghost use Rattle.activate.specs.History.{state_after, Legal, entry};
 ghost use Rattle.node.specs.Early.{early, opening, step, says};
 ghost use Rattle.node.specs.Verdict.{Judges, extended};
 
-use crate::command::{Bytes, Command};
+use activate::{Bytes, Command};
 use crate::early::{Early, Kept, Verdict};
-use crate::entry::Entry;
-use crate::reply::{Reply, SubmitReply};
+use activate::Entry;
+use activate::{Reply, SubmitReply};
 use hash::Id;
 use std::alloc::Global;
 use std::marker::Model;
@@ -28,7 +28,7 @@ pub struct History {
 
 impl Model for History {
     ghost use Rattle.std.specs.Prelude.{◌≡◌};
-    ghost use Rattle.node.specs.History.{state_after, Legal};
+    ghost use Rattle.activate.specs.History.{state_after, Legal};
     ghost use Rattle.node.specs.Early.{early, opening};
     ghost use Rattle.node.specs.Pass.{Held};
 

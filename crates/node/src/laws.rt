@@ -3,10 +3,10 @@
 ghost use Rattle.std.specs.Prelude.{◌≡◌, ℕ, ◌≤◌, List, ◌∷◌, ◌++◌, length, None};
 ghost use mathlib.Core.List.{IsPrefix};
 ghost use Rattle.block.specs.Decoding.{decoded};
-ghost use Rattle.node.specs.declared.command.Command.TheVariants as command;
-ghost use Rattle.node.specs.declared.entry.Entry.{Entry};
+ghost use Rattle.activate.specs.declared.command.Command.TheVariants as command;
+ghost use Rattle.activate.specs.declared.entry.Entry.{Entry};
 ghost use Rattle.node.specs.Early.{early, opening};
-ghost use Rattle.node.specs.History.{Legal, state_after};
+ghost use Rattle.activate.specs.History.{Legal, state_after};
 
 /// What begins a legal history is legal.
 pub fn beginnings_are_legal()

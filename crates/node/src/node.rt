@@ -3,12 +3,12 @@
 ghost use Rattle.std.specs.Prelude.{◌≡◌, ℕ, ◌≤◌, [], ◌∷◌, IfOk, IfErr, Some, slice_get};
 ghost use Rattle.rules.specs.Params.{regtest};
 ghost use Rattle.node.specs.Early.{early};
-ghost use Rattle.node.specs.History.{Legal};
+ghost use Rattle.activate.specs.History.{Legal};
 ghost use Rattle.node.specs.Pass.{Pass, IsStanding, fresh, fresh_seats};
 ghost use Rattle.node.specs.Opening.{Refused};
 ghost use Rattle.node.specs.declared.fault.Fault.TheVariants as faults;
 
-use crate::entry::Entry;
+use activate::Entry;
 use crate::fault::{Fault, OpenFault};
 use crate::history::History;
 use crate::seat::Seat;

@@ -1,19 +1,19 @@
 //! Seats: a caller's place at the history.
 
 ghost use Rattle.std.specs.Prelude.{◌≡◌, ◌⊎◌, ◌<◌, [], IfOk, IfErr, IfSome, IfNone};
-ghost use Rattle.node.specs.declared.command.Command.TheVariants as command;
+ghost use Rattle.activate.specs.declared.command.Command.TheVariants as command;
 ghost use Rattle.node.specs.declared.fault.Fault.TheVariants as faults;
-ghost use Rattle.node.specs.declared.reply.Reply.TheVariants as reply;
-ghost use Rattle.node.specs.History.{state_after, Legal};
+ghost use Rattle.activate.specs.declared.reply.Reply.TheVariants as reply;
+ghost use Rattle.activate.specs.History.{state_after, Legal};
 ghost use Rattle.node.specs.Early.{early, opening, step, says};
 ghost use Rattle.node.specs.Verdict.{extended};
 
 use crate::early::{Kept, Verdict};
-use crate::entry::Entry;
+use activate::Entry;
 use crate::fault::Fault;
 use crate::history::History;
 use crate::node::Node;
-use crate::reply::SubmitReply;
+use activate::SubmitReply;
 use hash::Id;
 use std::marker::Model;
 
@@ -37,7 +37,7 @@ pub struct Seat {
 
 impl Model for Seat {
     ghost use Rattle.std.specs.Prelude.{◌≡◌, ◌<◌, IfSome};
-    ghost use Rattle.node.specs.History.{own_of};
+    ghost use Rattle.activate.specs.History.{own_of};
     ghost use Rattle.node.specs.Pass.{Pass, journal_of};
 
     ghost Value = { Pass };

@@ -25,6 +25,7 @@ pub fn block_of<'d>(definitions: &'d Definitions, entry: &Entry) -> Label<'d> {
         Command::Submit(bytes, _) => submitted(bytes.as_slice()),
         Command::Invalidate(id) => *id,
         Command::Reconsider(id) => *id,
+        Command::Precious(id) => *id,
     })
 }
 
@@ -41,6 +42,7 @@ impl fmt::Display for Step<'_, '_> {
             Command::Submit(_, now) => write!(f, "submit {} {now} = ", self.block)?,
             Command::Invalidate(_) => write!(f, "invalidate {} = ", self.block)?,
             Command::Reconsider(_) => write!(f, "reconsider {} = ", self.block)?,
+            Command::Precious(_) => write!(f, "precious {} = ", self.block)?,
         }
         match self.entry.reply {
             Some(reply) => writeln!(f, "{reply}"),

@@ -1,5 +1,5 @@
 use Rattle.node.specs.Early.{early, opening}
-use Rattle.node.specs.laws.History.{legal_front}
+use Rattle.activate.specs.laws.History.{legal_front}
 use Rattle.node.proofs.laws.beginnings_are_legal.Goals as goal
 
 pub returns : goal.returns

@@ -1,4 +1,4 @@
-use Rattle.node.specs.laws.History.{prefix_shorter}
+use Rattle.activate.specs.laws.History.{prefix_shorter}
 use Rattle.node.proofs.laws.beginnings_are_ordered.Goals as goal
 
 pub returns : goal.returns

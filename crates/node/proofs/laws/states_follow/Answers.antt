@@ -1,5 +1,5 @@
 use Rattle.node.specs.Early.{early, opening}
-use Rattle.node.specs.laws.History.{state_after-append}
+use Rattle.activate.specs.laws.History.{state_after-append}
 use Rattle.node.proofs.laws.states_follow.Goals as goal
 
 pub returns : goal.returns

@@ -1,5 +1,6 @@
 use Rattle.node.specs.Early.{early, opening}
-use Rattle.node.specs.laws.History.{stands_within, undecodable}
+use Rattle.activate.specs.laws.History.{stands_within}
+use Rattle.node.specs.laws.Undecodable.{undecodable}
 use Rattle.node.proofs.laws.undecodable_bytes_stand_nowhere.Goals as goal
 
 pub returns : goal.returns

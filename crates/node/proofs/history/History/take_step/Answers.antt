@@ -1,9 +1,9 @@
 use Rattle.std.proofs.Common.{◌≡◌, ◌<◌, List, [], ◌∷◌, ◌++◌, Some, refl, sym, ap, subst, ◌∙◌}
-use Rattle.node.specs.declared.command.Command.TheVariants as command
-use Rattle.node.specs.declared.reply.Reply.TheVariants as reply
-use Rattle.node.specs.declared.entry.Entry.{Entry}
+use Rattle.activate.specs.declared.command.Command.TheVariants as command
+use Rattle.activate.specs.declared.reply.Reply.TheVariants as reply
+use Rattle.activate.specs.declared.entry.Entry.{Entry}
 use Rattle.node.specs.Early.{Chain, early, opening, step, says}
-use Rattle.node.specs.History.{state_after, entry}
+use Rattle.activate.specs.History.{state_after, entry}
 use Rattle.node.specs.Pass.{Held}
 use Rattle.node.specs.Verdict.{extended}
 use Rattle.node.proofs.Grown.{Taken, taken}

@@ -1,8 +1,8 @@
 use Rattle.std.proofs.Common.{◌≡◌, ℕ, refl, ap, subst, ◌∙◌}
-use Rattle.node.specs.declared.command.Command.TheVariants as command
-use Rattle.node.specs.declared.reply.Reply.TheVariants as reply
+use Rattle.activate.specs.declared.command.Command.TheVariants as command
+use Rattle.activate.specs.declared.reply.Reply.TheVariants as reply
 use Rattle.node.specs.Early.{early}
-use Rattle.node.specs.History.{Legal}
+use Rattle.activate.specs.History.{Legal}
 use Rattle.node.specs.Pass.{Held}
 use Rattle.node.proofs.Grown.{later, wrote}
 use Rattle.node.proofs.seat.Seat.write.Goals as goal

@@ -1,3 +1,5 @@
+//! What is asked of the chainstate.
+
 ghost use Rattle.std.specs.Prelude.{◌≡◌, IfOk, IsTrue, ◌↔◌, [], length};
 
 use hash::Id;
@@ -66,7 +68,7 @@ impl Bytes {
     }
 }
 
-/// What a seat asks of the chainstate.
+/// What is asked of the chainstate, as a history keeps it.
 #[derive(Debug, Drop)]
 pub enum Command {
     /// To take the block of these bytes, at this moment in seconds since 1970.
@@ -75,6 +77,8 @@ pub enum Command {
     Invalidate(Id),
     /// To take the marks from the block of this id, its ancestors and its descendants.
     Reconsider(Id),
+    /// To prefer the block of this id to all that are as high.
+    Precious(Id),
 }
 
 // A clone is the same value, which a type that contains commands can build on.
@@ -86,6 +90,7 @@ impl Clone for Command {
             Command::Submit(bytes, now) => Ok(Command::Submit(bytes.clone()?, *now)),
             Command::Invalidate(id) => Ok(Command::Invalidate(*id)),
             Command::Reconsider(id) => Ok(Command::Reconsider(*id)),
+            Command::Precious(id) => Ok(Command::Precious(*id)),
         }
     }
 }

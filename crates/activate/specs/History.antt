@@ -1,9 +1,9 @@
 -- Histories: the state after some of their steps, and which of them may be.
 use Rattle.std.specs.Prelude.{◌≡◌, ℕ, ◌<◌, ◌==◌, cond, List, [], ◌∷◌, take, Option, Some, None}
-use Rattle.node.specs.declared.command.Command.{Command}
-use Rattle.node.specs.declared.reply.Reply.{Reply}
-use Rattle.node.specs.declared.entry.Entry.{Entry}
-use Rattle.node.specs.Machine.{Machine}
+use Rattle.activate.specs.declared.command.Command.{Command}
+use Rattle.activate.specs.declared.reply.Reply.{Reply}
+use Rattle.activate.specs.declared.entry.Entry.{Entry}
+use Rattle.activate.specs.Machine.{Machine}
 
 -- the state that a step leaves, or s where there was no step
 abbrev pub left : {S : Type 0} → S → Option (S × Reply) → S

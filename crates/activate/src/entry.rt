@@ -1,3 +1,5 @@
+//! The steps of a history.
+
 ghost use Rattle.std.specs.Prelude.{◌≡◌, IfOk};
 
 use crate::command::Command;
@@ -11,7 +13,7 @@ pub struct Entry {
     /// The seat's number, from 0.
     pub seat: usize,
     pub command: Command,
-    /// Without a reply the seat wasn't told: its answer was [`Fault::Owed`](crate::Fault::Owed).
+    /// Without one the step was taken and the seat wasn't told: its reply is owed.
     pub reply: Option<Reply>,
 }
 

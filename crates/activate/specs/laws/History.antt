@@ -1,15 +1,12 @@
 -- Histories that are put together, and their beginnings: for any chainstate.
-use Rattle.std.proofs.Common.{◌≡◌, ℕ, ◌≤◌, ◌==◌, Bool, true, false, cond, List, [], ◌∷◌, ◌++◌, length, Option, None, refl, ap, subst, arith}
+use Rattle.std.proofs.Common.{◌≡◌, ℕ, ◌≤◌, ◌==◌, Bool, true, false, cond, List, [], ◌∷◌, ◌++◌, length, Option, refl, ap, subst, arith}
 use Rattle.std.proofs.lemmas.Bool.{eq-eqb}
 use mathlib.Core.List.{IsPrefix}
-use Rattle.block.specs.Decoding.{decoded}
-use Rattle.node.specs.declared.command.Command.{Command}
-use Rattle.node.specs.declared.command.Command.TheVariants as command
-use Rattle.node.specs.declared.reply.Reply.{Reply}
-use Rattle.node.specs.declared.entry.Entry.{Entry}
-use Rattle.node.specs.Machine.{Machine}
-use Rattle.node.specs.History.{left, state_after, Answers, Stands, LegalFrom, own_of, entry}
-use Rattle.node.specs.Early.{Chain, early, submitted}
+use Rattle.activate.specs.declared.command.Command.{Command}
+use Rattle.activate.specs.declared.reply.Reply.{Reply}
+use Rattle.activate.specs.declared.entry.Entry.{Entry}
+use Rattle.activate.specs.Machine.{Machine}
+use Rattle.activate.specs.History.{left, state_after, Answers, Stands, LegalFrom, own_of, entry}
 
 pub state_after-append : (m : Machine) (s : m.State) (xs ys : List Entry) → state_after m s (xs ++ ys) ≡ state_after m (state_after m s xs) ys
 state_after-append m s [] ys = refl
@@ -49,10 +46,3 @@ prefix_shorter (x ∷ xs) (y ∷ ys) (z ∷ zs) p q le =
     let heads : x ≡ y = cc (p.1, q.1) in
     let rest = prefix_shorter xs ys zs (p.0, cc (p.1)) (q.0, cc (q.1)) (omega arith) in
     (rest.0, cc (heads, rest.1))
-
-no_answer : (r : Option Reply) (bytes : List ℕ) (now : ℕ) (s : Chain) → decoded bytes ≡ None → Answers r (submitted s now (decoded bytes)) → ⊥
-no_answer r bytes now s none h = rw none at h
-
--- bytes that are no block take no step of the small chainstate
-pub undecodable : (seats : ℕ) (s : Chain) (e : Entry) (bytes : List ℕ) (now : ℕ) → Stands early seats s e → e.command ≡ command.Submit bytes now → decoded bytes ≡ None → ⊥
-undecodable seats s e bytes now h is none = no_answer e.reply bytes now s none (subst (λ (k : Command). Answers e.reply (early.step s k)) is h.reply_is)
