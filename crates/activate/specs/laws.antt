@@ -5,6 +5,7 @@ pub mod Candidates
 pub mod Coins
 pub mod Commands
 pub mod Connected
+pub mod Fork
 pub mod History
 pub mod Kept
 pub mod Ordinary

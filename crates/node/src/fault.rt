@@ -1,6 +1,9 @@
+//! Why a call has no answer, and why a node can't be opened.
+
 ghost use Rattle.std.specs.Prelude.{◌≡◌};
 
-use std::alloc::{AllocError, AllocFailed};
+ghost use Rattle.std.specs.Prelude.{◌≡◌};
+
 use std::error::Error;
 use std::fmt;
 use wire::Memory;
@@ -37,26 +40,6 @@ impl From<Memory> for Fault {
     ghost from_gives = { λ _ fault. fault ≡ variants.Memory };
 
     fn from(_fault: Memory) -> Fault {
-        Fault::Memory
-    }
-}
-
-impl From<AllocError> for Fault {
-    ghost use Rattle.node.specs.declared.fault.Fault.TheVariants as variants;
-
-    ghost from_gives = { λ _ fault. fault ≡ variants.Memory };
-
-    fn from(_fault: AllocError) -> Fault {
-        Fault::Memory
-    }
-}
-
-impl<T: Drop> From<AllocFailed<T>> for Fault {
-    ghost use Rattle.node.specs.declared.fault.Fault.TheVariants as variants;
-
-    ghost from_gives = { λ _ fault. fault ≡ variants.Memory };
-
-    fn from(_fault: AllocFailed<T>) -> Fault {
         Fault::Memory
     }
 }

@@ -1,4 +1,5 @@
 -- Theorems on the tree, for any blocks.
+pub mod Above
 pub mod Added
 pub mod Branches
 pub mod Leaves

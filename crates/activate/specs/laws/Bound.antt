@@ -21,7 +21,7 @@ no_first : (broken refused : Option Reason) → option_or broken refused ≡ Non
 no_first None refused h = refl
 no_first (Some reason) refused h = cc
 
-rules_kept : (s : Setting) (m : Coins) (txs : List Tx) (triples : Triples) → connect_fault s m txs triples ≡ None → first_broken (connect_rules s m txs) ≡ None
+pub rules_kept : (s : Setting) (m : Coins) (txs : List Tx) (triples : Triples) → connect_fault s m txs triples ≡ None → first_broken (connect_rules s m txs) ≡ None
 unfolding connect_fault
 rules_kept s m txs triples h = no_first (first_broken (connect_rules s m txs)) _ h
 

@@ -27,7 +27,7 @@ module _ {B I C : Type 0} (r : Rules B I) (ledger : Ledger B C) (t : Blocks B) w
   abbrev at : ℕ → C
   at p = coins_at r ledger t p
 
-  length-blocks : (ps : List ℕ) → length (blocks_at r.names t ps) ≡ length ps
+  pub length-blocks : (ps : List ℕ) → length (blocks_at r.names t ps) ≡ length ps
   length-blocks [] = refl
   length-blocks (p ∷ ps) = ap suc (length-blocks ps)
 
@@ -46,7 +46,7 @@ module _ {B I C : Type 0} (r : Rules B I) (ledger : Ledger B C) (t : Blocks B) w
   coins-genesis = ap (λ (l : List ℕ). replay ledger (blocks_at r.names t l)) (branch-genesis t)
 
   module _ (p : ℕ) (z : 0 < p) (h : p ≤ length t) where
-    length-older : length (branch t (parent_at t p)) ≡ height t p
+    pub length-older : length (branch t (parent_at t p)) ≡ height t p
     unfolding height
     length-older = ap (λ (l : List ℕ). length l) (sym (before-parent t p z h))
 
