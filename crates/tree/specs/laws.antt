@@ -2,6 +2,7 @@
 pub mod Above
 pub mod Added
 pub mod Branches
+pub mod Calls
 pub mod Leaves
 pub mod Marks
 pub mod Parents

@@ -1,9 +1,10 @@
 //! What holds of every tree, whatever its blocks are.
 
-ghost use Rattle.std.specs.Prelude.{◌≡◌, ℕ, ◌≤◌, ◌<◌, ◌↔◌, ◌⊎◌, suc, true, length};
-ghost use Rattle.tree.specs.Branches.{Blocks, on, height, parent_at};
-ghost use Rattle.tree.specs.State.{State, better, called};
+ghost use Rattle.std.specs.Prelude.{◌≡◌, ℕ, ◌≤◌, ◌<◌, ◌↔◌, ◌⊎◌, suc, true, length, List, Some};
+ghost use Rattle.tree.specs.Branches.{Blocks, has, on, height, parent_at};
+ghost use Rattle.tree.specs.State.{State, rank_in, better, called};
 ghost use Rattle.tree.specs.Sound.{Precedes};
+ghost use Rattle.tree.specs.laws.Calls.{first_called};
 
 /// A block is better where it is higher; as high and called precious later; or as high, neither called, and earlier.
 pub fn better_is_by_height_rank_and_arrival<B>()
@@ -21,6 +22,12 @@ pub fn of_two_blocks_one_is_better<B>()
 pub fn a_call_raises_one_block<B>()
     ensures raised { (s : State B) (p d : ℕ) → (p ≡ d → ⊥) → height s.blocks d ≤ height s.blocks p → better (called s p) p d ≡ true }
     ensures others { (s : State B) (p a b : ℕ) → (p ≡ a → ⊥) → (p ≡ b → ⊥) → better (called s p) a b ≡ better s a b }
+{}
+
+/// Of two blocks that were called, the one called later has the higher rank: it stands first in the list in which
+/// each block stands once, where its last call put it.
+pub fn the_rank_is_the_place_of_the_last_call()
+    ensures { (calls : List ℕ) (a b : ℕ) → has calls a ≡ true → has calls b ≡ true → (a ≡ b → ⊥) → (rank_in calls b < rank_in calls a) ↔ (first_called calls a b ≡ Some a) }
 {}
 
 /// A block stands on one that came before it, and is one higher.
