@@ -11,6 +11,7 @@ pub mod Sound
 pub mod Step
 pub mod Submission
 pub mod Total
+pub mod Tracked
 pub mod Try
 pub mod Valid
 pub mod computed

@@ -6,6 +6,7 @@ pub mod Coins
 pub mod Commands
 pub mod Connected
 pub mod Fork
+pub mod Growing
 pub mod History
 pub mod Kept
 pub mod Ordinary

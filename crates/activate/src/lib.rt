@@ -3,9 +3,12 @@
 
 mod command;
 mod entry;
+mod linking;
 pub mod laws;
 mod reply;
+mod tracking;
 
 pub use command::{Bytes, Command};
 pub use entry::Entry;
 pub use reply::{MarkReply, Reply, SubmitReply};
+pub use tracking::Core;

@@ -97,7 +97,8 @@ module _ (params : Params) (triples : Triples) where
   abbrev r : Rules Block Id
   r = regtest params triples
 
-  not_negative-at : (t : Blocks Block) (p : ℕ) → AllKept r t → p ≤ length t → AreNotNegative (coins_at r ledger t p)
+  -- whatever block a branch ends with
+  pub not_negative-at : (t : Blocks Block) (p : ℕ) → AllKept r t → p ≤ length t → AreNotNegative (coins_at r ledger t p)
   not_negative-at t p all h =
       climb t 0 (λ x. AreNotNegative (coins_at r ledger t x))
       (subst AreNotNegative (sym (coins-genesis r ledger t)) none_at_first)
@@ -106,8 +107,3 @@ module _ (params : Params) (triples : Triples) where
       subst AreNotNegative (sym (step-up r ledger t x z k))
       (after-all (height t x) _ b.txs below (all_paid b.txs (lawful_block b (alone-at r t x all z k)).rules)))
       p h (on-genesis t p)
-
-  pub not_negative-reached : (cs : List (Request Block Id)) → AreNotNegative (coins r ledger (state_after r opening cs))
-  not_negative-reached cs =
-      let s = state_after r opening cs in
-      not_negative-at s.blocks (active r s) (after_kept r opening cs tt) (active_kept r s (after_sound r opening cs (opening_sound r)).genesis)

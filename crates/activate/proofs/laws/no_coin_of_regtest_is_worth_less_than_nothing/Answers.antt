@@ -1,5 +1,15 @@
-use Rattle.activate.specs.laws.Values.{not_negative-reached}
+use Rattle.tree.specs.State.{opening}
+use Rattle.activate.specs.Settle.{active}
+use Rattle.activate.specs.Step.{state_after}
+use Rattle.activate.specs.Regtest.{regtest}
+use Rattle.activate.specs.laws.Actives.{active_kept}
+use Rattle.activate.specs.laws.Kept.{after_kept}
+use Rattle.activate.specs.laws.Steps.{opening_sound, after_sound}
+use Rattle.activate.specs.laws.Values.{not_negative-at}
 use Rattle.activate.proofs.laws.no_coin_of_regtest_is_worth_less_than_nothing.Goals as goal
 
 pub returns : goal.returns
-returns g = not_negative-reached
+returns g = λ params triples cs.
+    let r = regtest params triples in
+    let s = state_after r opening cs in
+    not_negative-at params triples s.blocks (active r s) (after_kept r opening cs tt) (active_kept r s (after_sound r opening cs (opening_sound r)).genesis)

@@ -1,0 +1,59 @@
+-- A chainstate without its coins: the tree, which of its blocks is active, and the heights of soft forks.
+use Rattle.std.specs.Prelude.{◌≡◌, ℕ, List, map, reverse, take, min}
+use Rattle.block.specs.declared.block.Block.{Block}
+use Rattle.curve.specs.Triple.{Triples}
+use Rattle.coins.specs.declared.coin.Coin.{Coin}
+use Rattle.coins.specs.Coins.{Coins}
+use Rattle.rules.specs.declared.params.Params.{Params}
+use Rattle.connect.specs.Turns.{undo_of}
+use Rattle.tree.specs.Branches.{Blocks, branch, height, parent_at, block_at, blocks_at}
+use Rattle.tree.specs.State.{State, opening}
+use Rattle.tree.specs.Names.{names}
+use Rattle.activate.specs.Settle.{active}
+use Rattle.activate.specs.Replay.{replay}
+use Rattle.activate.specs.Regtest.{medians_of, ledger, regtest}
+use Rattle.activate.specs.Sound.{Sound, AllKept}
+
+pub record Tracked : Type 0 where
+  pub params : Params
+  pub state : State Block
+  -- the place of the active block
+  pub active : ℕ
+
+-- genesis alone
+abbrev pub genesis_alone : Params → Tracked
+genesis_alone params = record { params = params; state = opening; active = 0 }
+
+-- the blocks of the branch of a place, the newest first
+abbrev pub branch_blocks : Blocks Block → ℕ → List Block
+branch_blocks t p = blocks_at names t (branch t p)
+
+-- the coins that the active branch leaves
+abbrev pub coins_of : Tracked → Coins
+coins_of c = replay ledger (branch_blocks c.state.blocks c.active)
+
+-- under these valid signatures commands led to it, and the active block is the best of the valid ones
+pub record Follows (c : Tracked) (triples : Triples) : Type 0 where
+  pub sound : Sound (regtest c.params triples) c.state
+  pub kept : AllKept (regtest c.params triples) c.state.blocks
+  pub active_is : c.active ≡ active (regtest c.params triples) c.state
+
+-- ---- what is kept beside the tree
+
+-- what the transactions of the block at a place spend
+unfoldable pub undo_at : Blocks Block → ℕ → List (List Coin)
+undo_at t p = undo_of (height t p) (replay ledger (branch_blocks t (parent_at t p))) (block_at names t p).txs
+
+-- undo is kept of so many blocks at most (Bitcoin Core's `MIN_BLOCKS_TO_KEEP`)
+abbrev pub most_undo : ℕ
+most_undo = 288
+
+-- of the highest blocks of the branch of a place, but not of genesis, the lowest first
+unfoldable pub highest_undo : Blocks Block → ℕ → List (List (List Coin))
+highest_undo t p = reverse (map (undo_at t) (take (min most_undo (height t p)) (branch t p)))
+
+-- the active branch by height: its places, their medians time past, and the undo of the highest
+pub record IsBranch (t : Blocks Block) (p : ℕ) (places medians : List ℕ) (undo : List (List (List Coin))) : Type 0 where
+  pub places_are : places ≡ reverse (branch t p)
+  pub medians_are : medians ≡ reverse (medians_of (branch_blocks t p))
+  pub undo_is : undo ≡ highest_undo t p

@@ -1,0 +1,91 @@
+//! A chainstate over coins that are lent to it.
+
+ghost use Rattle.std.specs.Prelude.{◌≡◌, ◌≤◌, IfOk};
+ghost use Rattle.rules.specs.Params.{regtest};
+ghost use Rattle.tree.specs.Branches.{height, id_at};
+ghost use Rattle.tree.specs.Names.{names};
+ghost use Rattle.activate.specs.Tracked.{genesis_alone, most_undo};
+
+use block::GENESIS_TIME;
+use hash::Id;
+use rules::Params;
+use std::alloc::Global;
+use std::collections::VecDeque;
+use std::marker::Model;
+use tree::Tree;
+use undo::BlockUndo;
+use wire::Memory;
+
+/// The tree, the active block, and the undo of the highest active blocks; the coins lie with the caller. A clause
+/// sees the heights of soft forks, the state, and the active place.
+#[derive(Drop)]
+pub struct Core {
+    params: Params,
+    tree: Tree,
+    active: usize,
+    /// The places of the active branch, by height.
+    branch: Vec<usize>,
+    /// Their medians time past, by height.
+    medians: Vec<u32>,
+    /// What the highest of them spent, the lowest first.
+    undo: VecDeque<BlockUndo>,
+}
+
+impl Model for Core {
+    ghost use Rattle.std.specs.Prelude.{length, ◌≤◌};
+    ghost use Rattle.activate.specs.Tracked.{Tracked, IsBranch};
+
+    ghost Value = { Tracked };
+
+    ghost view = { λ c. record { params = c.params; state = c.tree; active = c.active } };
+
+    ghost invariant = { λ c. (c.active ≤ length c.tree.blocks) × IsBranch c.tree.blocks c.active c.branch.items c.medians.items c.undo.items };
+}
+
+impl Core {
+    /// Genesis alone, by the rules of regtest.
+    pub fn new(alloc: Global) -> Result<Core, Memory>
+        ensures { IfOk result (λ core. core ≡ genesis_alone regtest) }
+    {
+        Core::with(alloc, Params::regtest())
+    }
+
+    /// Genesis alone, with these heights of soft forks.
+    pub fn with(alloc: Global, params: Params) -> Result<Core, Memory>
+        ensures { IfOk result (λ core. core ≡ genesis_alone params) }
+    {
+        let mut branch = Vec::new(alloc);
+        branch.push(0)?;
+        let mut medians = Vec::new(alloc);
+        medians.push(GENESIS_TIME)?;
+        Ok(Core {
+            params,
+            tree: Tree::new(alloc)?,
+            active: 0,
+            branch,
+            medians,
+            undo: VecDeque::new(alloc),
+        })
+    }
+
+    /// The active block's id.
+    pub fn best(&self) -> Id
+        ensures { result ≡ id_at names self.now.state.blocks self.now.active }
+    {
+        self.tree.id(self.active)
+    }
+
+    /// The active block's height.
+    pub fn height(&self) -> usize
+        ensures { result ≡ height self.now.state.blocks self.now.active }
+    {
+        self.tree.height(self.active)
+    }
+
+    /// Of how many blocks undo is kept.
+    pub fn undo_kept(&self) -> usize
+        ensures { result ≤ most_undo }
+    {
+        self.undo.len()
+    }
+}
