@@ -7,7 +7,6 @@ use Rattle.hash.specs.declared.id.Id.{Id}
 use Rattle.block.specs.declared.block.Block.{Block}
 use Rattle.tree.specs.declared.node.Node.{Node}
 use Rattle.tree.specs.declared.node.Mark.{Mark}
-use Rattle.tree.specs.declared.leaf.Leaf.{Leaf}
 use Rattle.tree.specs.Branches.{Blocks, has, down_from}
 use Rattle.tree.specs.State.{State, usable, rank, joined}
 use Rattle.tree.specs.Nodes.{kept_of, blocks_of, blank, mark_at, places_where, state_of, IsNode, IsRight, AreIds}
@@ -55,7 +54,7 @@ module _ (f : Mark → Bool) where
 
 -- ---- a tree
 
-module _ {ns : List Node} {ms : List Mark} {cs : List ℕ} {is : List (Id × ℕ)} {ls : List Leaf} (right : IsRight ns ms cs is ls) {s : State Block} (view : state_of ns ms cs ≡ s) where
+module _ {ns : List Node} {ms : List Mark} {cs : List ℕ} {is : List (Id × ℕ)} {ls : List ℕ} (right : IsRight ns ms cs is ls) {s : State Block} (view : state_of ns ms cs ≡ s) where
   pub kept : length ns ≡ suc (length s.blocks)
   unfolding state_of
   kept = sym (length-blocks ns right.some) ∙ ap (λ (t : State Block). suc (length t.blocks)) view

@@ -6,3 +6,4 @@ pub mod Marks
 pub mod Parents
 pub mod Ranks
 pub mod Sets
+pub mod Slots
