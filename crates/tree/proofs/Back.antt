@@ -1,5 +1,5 @@
 -- A tree from which the last block is taken back is right.
-use Rattle.std.proofs.Common.{◌≡◌, ℕ, suc, ◌+◌, ◌-◌, ◌<◌, ◌≤◌, Bool, true, false, cond, eqb, List, [], ◌∷◌, ◌++◌, length, reverse, get_or, take, None, Some, sym, refl, ap, ◌∙◌, subst, inl, inr, arith}
+use Rattle.std.proofs.Common.{◌≡◌, ℕ, suc, ◌+◌, ◌-◌, ◌<◌, ◌≤◌, true, false, cond, eqb, List, [], ◌∷◌, ◌++◌, length, reverse, get_or, take, None, Some, sym, refl, ap, ◌∙◌, subst, inl, inr, arith}
 use Rattle.std.proofs.Math.ListN.{set, get_or-append}
 use Rattle.std.proofs.Math.Seq.{get_or-append_seam}
 use Rattle.std.proofs.lemmas.Bool.{cases_Bool, cases_eq}
@@ -17,10 +17,10 @@ use Rattle.tree.specs.declared.node.Node.{Node}
 use Rattle.tree.specs.declared.node.Mark.{Mark}
 use Rattle.tree.specs.Branches.{Kept, Blocks, has, older_of, id_at, place_of}
 use Rattle.tree.specs.Sound.{IsFresh}
-use Rattle.tree.specs.State.{State, usable, rank, with_block, without_last}
+use Rattle.tree.specs.State.{State, rank, without_last}
 use Rattle.tree.specs.MedianTime.{median_time_past}
 use Rattle.tree.specs.Names.{names, id_cmp}
-use Rattle.tree.specs.Nodes.{kept_of, blocks_of, blank, mark_at, state_of, IsNode, IsMark, IsRight, AreNodes, AreIds}
+use Rattle.tree.specs.Nodes.{kept_of, blocks_of, blank, mark_at, state_of, IsNode, IsMark, IsRight, AreIds}
 use Rattle.tree.specs.Slots.{AreInOrder, slot_of, leaves_of}
 use Rattle.tree.specs.laws.Branches.{parent_there, height_there}
 use Rattle.tree.specs.laws.Added.{block_there, id_there, id_here, blocks-old, usable_there}

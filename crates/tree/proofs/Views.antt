@@ -10,6 +10,7 @@ use Rattle.tree.specs.declared.node.Mark.{Mark}
 use Rattle.tree.specs.Branches.{Blocks, has, down_from}
 use Rattle.tree.specs.State.{State, usable, rank, joined}
 use Rattle.tree.specs.Nodes.{kept_of, blocks_of, blank, mark_at, places_where, state_of, IsNode, IsRight, AreIds}
+use Rattle.tree.specs.Slots.{AreInOrder, leaves_of}
 use Rattle.tree.specs.laws.Sets.{has-filter, filter_agree, has_filter-above}
 
 -- ---- the nodes as blocks
@@ -93,3 +94,11 @@ module _ {ns : List Node} {ms : List Mark} {cs : List ℕ} {is : List (Id × ℕ
   pub ids_are : AreIds s.blocks is
   unfolding state_of
   ids_are = subst (λ (t : State Block). AreIds t.blocks is) view right.are_ids
+
+  pub order_at : AreInOrder s.blocks
+  unfolding state_of
+  order_at = subst (λ (t : State Block). AreInOrder t.blocks) view right.in_order
+
+  pub leaves_at : ◌≡◌ {A = List ℕ} ls (leaves_of s.blocks)
+  unfolding state_of
+  leaves_at = right.are_leaves ∙ ap (λ (t : State Block). leaves_of t.blocks) view

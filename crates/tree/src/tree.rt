@@ -1,22 +1,26 @@
 //! The tree.
 
-ghost use Rattle.std.specs.Prelude.{◌≡◌, ◌↔◌, ◌≤◌, ◌<◌, suc, length, IfOk, OnOk, OnErr, Err, None};
+ghost use Rattle.std.specs.Prelude.{◌≡◌, ◌↔◌, ◌≤◌, ◌<◌, suc, length, map, reverse, IfOk, OnOk, OnErr, Err, None};
 ghost use Rattle.block.specs.Identity.{id_of};
 ghost use Rattle.tree.specs.declared.fault.AddFault.TheVariants.{Full};
 ghost use Rattle.tree.specs.Limits.{max_blocks};
 ghost use Rattle.tree.specs.Branches.{has, height, parent_at, place_of, block_at, id_at, blocks_at, branch};
 ghost use Rattle.tree.specs.State.{opening, usable, rank, better, with_block, without_last, marked, cleared, saw, called};
+ghost use Rattle.tree.specs.Slots.{AreInOrder, is_leaf, leaves_of};
 ghost use Rattle.tree.specs.Sound.{IsFresh};
+ghost use Rattle.tree.specs.Tips.{shown, tips};
 ghost use Rattle.tree.specs.MedianTime.{median_time_past};
 ghost use Rattle.tree.specs.Names.{names};
 
 use crate::clearing::{related, take_marks};
 use crate::fault::AddFault;
-use crate::growing::{enter, leave, node_on};
+use crate::growing::{enter, holds, leave, node_on};
 use crate::node::{Mark, Node};
 use crate::opening::genesis_node;
 use crate::spoiling::spoil;
 use crate::standing::Standing;
+use crate::tip::Tip;
+use crate::tips::{tip_at, tops};
 use crate::walk::branch_of;
 use block::{Block, GENESIS_ID};
 use hash::Id;
@@ -177,6 +181,38 @@ impl Tree {
         ensures { IfOk result (λ places. places.items ≡ branch self.now.blocks place) }
     {
         branch_of(alloc, self.nodes.as_slice(), place)
+    }
+
+    /// Whether no other block stands on it.
+    pub(crate) fn is_leaf(&self, place: usize) -> bool
+        requires { place ≤ length self.now.blocks }
+        ensures { result ≡ is_leaf self.now.blocks place }
+    {
+        holds(self.leaves.as_slice(), self.nodes[place].slot, place)
+    }
+
+    /// The blocks on which no other stands.
+    pub(crate) fn leaves(&self) -> &[usize]
+        ensures leaves { result.now ≡ leaves_of self.now.blocks }
+        ensures order { AreInOrder self.now.blocks }
+        ensures room { suc (length self.now.blocks) ≤ max_blocks }
+    {
+        self.leaves.as_slice()
+    }
+
+    /// The tips beside the active block `best`, by height downwards, then by arrival; `active` is its branch
+    /// from genesis on. It walks each tip's branch down to the active one.
+    pub fn tips(&self, alloc: Global, best: usize, active: &[usize]) -> Result<Vec<Tip>, Memory>
+        requires best { best ≤ length self.now.blocks }
+        requires active { active.now ≡ reverse (branch self.now.blocks best) }
+        ensures { IfOk result (λ list. list.items ≡ map shown (tips names self.now best)) }
+    {
+        let tops = tops(alloc, self, best)?;
+        let mut list = Vec::new(alloc);
+        for top in &tops {
+            list.push(tip_at(self, best, active, top.place))?;
+        }
+        Ok(list)
     }
 
     /// Marks a block as invalid. It may walk all that came later.

@@ -1,4 +1,4 @@
-use Rattle.std.proofs.Common.{◌≡◌, ℕ, ◌<◌, eqb, cond, true, false, List, length, get_or, sym, ap, ◌∙◌, subst, arith}
+use Rattle.std.proofs.Common.{◌≡◌, ℕ, ◌<◌, eqb, cond, List, length, get_or, sym, ap, ◌∙◌, subst, arith}
 use Rattle.tree.specs.declared.node.Node.{Node}
 use Rattle.tree.specs.Nodes.{AreNodes, IsNode, blocks_of}
 use Rattle.tree.specs.Slots.{AreInOrder, is_leaf, slots, slot_of, leaves_of}

@@ -13,7 +13,7 @@ use Rattle.tree.specs.State.{State, usable, with_block}
 use Rattle.tree.specs.Names.{names, id_cmp}
 use Rattle.tree.specs.Nodes.{IsNode, IsRight, blocks_of, kept_of, state_of}
 use Rattle.tree.specs.Slots.{AreInOrder, leaves_of}
-use Rattle.tree.proofs.Views.{kept, length-blocks, usable_at}
+use Rattle.tree.proofs.Views.{kept, usable_at}
 use Rattle.tree.proofs.Grown.{right_grown, state_grown, fresh_grown}
 use Rattle.tree.proofs.tree.Tree.keep.Goals as goal
 
