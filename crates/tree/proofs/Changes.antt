@@ -8,7 +8,6 @@ use Rattle.hash.specs.declared.id.Id.{Id}
 use Rattle.block.specs.declared.block.Block.{Block}
 use Rattle.tree.specs.declared.node.Node.{Node}
 use Rattle.tree.specs.declared.node.Mark.{Mark}
-use Rattle.tree.specs.declared.leaf.Leaf.{Leaf}
 use Rattle.tree.specs.Branches.{Blocks, has, branch, on, parent_at}
 use Rattle.tree.specs.State.{State, usable, rank, rank_in}
 use Rattle.tree.specs.Nodes.{blocks_of, blank, mark_at, places_where, state_of, IsNode, IsRight, AreNodes, AreUsable}
@@ -120,7 +119,7 @@ module _ (ns : List Node) (ms ls : List Mark) (some : 0 < length ns) (same : len
 
 -- ---- a right tree with other marks
 
-module _ {ns : List Node} {ms : List Mark} {cs : List ℕ} {is : List (Id × ℕ)} {ls : List Leaf} (right : IsRight ns ms cs is ls) where
+module _ {ns : List Node} {ms : List Mark} {cs : List ℕ} {is : List (Id × ℕ)} {ls : List ℕ} (right : IsRight ns ms cs is ls) where
   pub right-usable : AreUsable (state_of ns ms []) ms (length ns)
   right-usable p h = (right.are_marks p h).usable ∙ usable_bare ns ms cs [] p
 
@@ -135,7 +134,7 @@ module _ {ns : List Node} {ms : List Mark} {cs : List ℕ} {is : List (Id × ℕ
     are_marks = λ p h. record { usable = u p h ∙ usable_bare ns new [] ds p; rank = k p h };
     genesis = g;
     are_calls = c;
-    are_parents = right.are_parents;
+    in_order = right.in_order;
     are_ids = right.are_ids;
     are_leaves = right.are_leaves;
   }
@@ -186,7 +185,7 @@ module _ (ns : List Node) (ms : List Mark) (cs : List ℕ) {s : State Block} (vi
   precious-view = ap (λ (t : State Block). t.precious) view
 
 -- a right tree whose marks of invalid blocks stay
-pub right_flags : {ns : List Node} {ms : List Mark} {cs : List ℕ} {is : List (Id × ℕ)} {ls : List Leaf} (right : IsRight ns ms cs is ls) (new : List Mark) (ds : List ℕ) → length new ≡ length ns
+pub right_flags : {ns : List Node} {ms : List Mark} {cs : List ℕ} {is : List (Id × ℕ)} {ls : List ℕ} (right : IsRight ns ms cs is ls) (new : List Mark) (ds : List ℕ) → length new ≡ length ns
     → ((p : ℕ) → (mark_at new p).bad ≡ (mark_at ms p).bad) → ((p : ℕ) → (mark_at new p).usable ≡ (mark_at ms p).usable)
     → ((p : ℕ) → p < length ns → (mark_at new p).rank ≡ rank_in (reverse ds) p) → ((p : ℕ) → length ns ≤ p → has (reverse ds) p ≡ false) → IsRight ns new ds is ls
 right_flags {ns} {ms} right new ds e b u k c =

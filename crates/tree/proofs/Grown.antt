@@ -1,10 +1,10 @@
 -- A tree to which a block is added is right.
-use Rattle.std.proofs.Common.{◌≡◌, ℕ, suc, ◌-◌, ◌<◌, ◌≤◌, Bool, true, false, cond, not, ◌&&◌, ◌||◌, eqb, List, [], ◌∷◌, ◌++◌, length, reverse, get_or, Some, sym, refl, ap, ◌∙◌, subst, inl, inr, arith}
-use Rattle.std.proofs.Math.ListN.{get_or-append}
+use Rattle.std.proofs.Common.{◌≡◌, ℕ, suc, ◌-◌, ◌<◌, ◌≤◌, Bool, false, cond, ltb, List, [], ◌∷◌, ◌++◌, length, reverse, get_or, None, Some, sym, refl, ap, ◌∙◌, subst, inl, inr, arith}
+use Rattle.std.proofs.Math.ListN.{set, get_or-append}
 use Rattle.std.proofs.Math.Seq.{get_or-append_seam}
-use Rattle.std.proofs.lemmas.Bool.{cases_eq, eq-eqb, ne_eqb, or_cases, and_parts}
+use Rattle.std.proofs.lemmas.Bool.{cases_eq}
 use Rattle.std.proofs.lemmas.List.{length-append}
-use Rattle.std.specs.List.{list_any, filter}
+use Rattle.std.specs.List.{filter}
 use Rattle.std.specs.Map.{lookup}
 use Rattle.std.specs.BTreeMap.{is_at}
 use Rattle.std.specs.Ordering.{eq_by_cmp}
@@ -13,20 +13,21 @@ use Rattle.block.specs.declared.block.Block.{Block}
 use Rattle.block.specs.Identity.{id_of}
 use Rattle.tree.specs.declared.node.Node.{Node}
 use Rattle.tree.specs.declared.node.Mark.{Mark}
-use Rattle.tree.specs.declared.leaf.Leaf.{Leaf}
-use Rattle.tree.specs.Branches.{Kept, Blocks, place_of, down_from}
+use Rattle.tree.specs.Branches.{Kept, Blocks, has, place_of, down_from}
+use Rattle.tree.specs.Sound.{IsFresh}
 use Rattle.tree.specs.State.{State, usable, rank, with_block}
 use Rattle.tree.specs.Limits.{max_blocks}
 use Rattle.tree.specs.MedianTime.{median_time_past}
 use Rattle.tree.specs.Names.{names, id_cmp}
-use Rattle.tree.specs.Nodes.{kept_of, blocks_of, blank, mark_at, places_where, state_of, IsNode, IsMark, IsRight, AreNodes, AreIds, AreLeaves, is_leaf, leaf_at, leaf_cmp}
+use Rattle.tree.specs.Nodes.{kept_of, blocks_of, blank, mark_at, places_where, state_of, IsNode, IsMark, IsRight, AreNodes, AreIds}
+use Rattle.tree.specs.Slots.{AreInOrder, slot_of, leaves_of}
 use Rattle.tree.specs.laws.Sets.{filter_agree}
 use Rattle.tree.specs.laws.Branches.{parent_there, height_there}
-use Rattle.tree.specs.laws.Added.{block_there, id_there, blocks-old, usable_there, usable_new}
+use Rattle.tree.specs.laws.Added.{block_there, id_there, id_here, blocks-old, usable_there, usable_new}
 use Rattle.tree.specs.laws.Ranks.{rank-none}
-use Rattle.tree.specs.laws.Leaves.{same_leaf, same-self, other_leaf}
-use Rattle.tree.proofs.Views.{length-blocks, blocks-push, has_where-above}
-use Rattle.tree.proofs.Changes.{made}
+use Rattle.tree.specs.laws.Slots.{slot_there, leaves_grown}
+use Rattle.tree.proofs.Views.{kept, length-blocks, blocks-push, has_where-above}
+use Rattle.tree.proofs.Changes.{made, bad-view, seen-view, precious-view}
 
 node_there : (t : Blocks Block) (k : Kept Block) (p : ℕ) (n : Node) → p ≤ length t → IsNode t p n → IsNode (k ∷ t) p n
 node_there t k p n h is = record {
@@ -35,6 +36,7 @@ node_there t k p n h is = record {
   parent = is.parent ∙ sym (parent_there k t p h);
   height = is.height ∙ sym (height_there k t p h);
   median = is.median ∙ ap median_time_past (sym (blocks-old names k t p h));
+  slot = is.slot ∙ sym (slot_there k t p h);
 }
 
 -- a mark without flags adds no place
@@ -58,7 +60,13 @@ where_push f ms m z e =
         let last-is : suc (length ms - 1) ≡ length ms = omega arith in
         ap (λ (q : ℕ). f (mark_at (ms ++ m ∷ []) q)) last-is ∙ ap f (get_or-append_seam ms m [] blank) ∙ e
 
-module _ {ns : List Node} {ms : List Mark} {cs : List ℕ} {is : List (Id × ℕ)} {ls : List Leaf} (right : IsRight ns ms cs is ls) (n : Node) (m : Mark) where
+-- what is seen of the nodes and marks with one more
+pub state_pushed : (ns : List Node) (ms : List Mark) (cs : List ℕ) (n : Node) (m : Mark) → 0 < length ns → length ms ≡ length ns → m.bad ≡ false → m.seen ≡ false → state_of (ns ++ n ∷ []) (ms ++ m ∷ []) cs ≡ with_block (state_of ns ms cs) n.block n.parent
+unfolding state_of
+state_pushed ns ms cs n m z l b g =
+    made (ns ++ n ∷ []) (ms ++ m ∷ []) cs (blocks-push ns n z) (where_push (λ x. x.bad) ms m (omega arith) b) (where_push (λ x. x.seen) ms m (omega arith) g) refl
+
+module _ {ns : List Node} {ms : List Mark} {cs : List ℕ} {is : List (Id × ℕ)} {ls : List ℕ} (right : IsRight ns ms cs is ls) (n : Node) (m : Mark) where
   abbrev t : Blocks Block
   t = blocks_of ns
 
@@ -73,11 +81,7 @@ module _ {ns : List Node} {ms : List Mark} {cs : List ℕ} {is : List (Id × ℕ
 
   -- what is seen of the new tree
   pub state_grown : m.bad ≡ false → m.seen ≡ false → state_of (ns ++ n ∷ []) (ms ++ m ∷ []) cs ≡ with_block (state_of ns ms cs) n.block n.parent
-  unfolding state_of
-  state_grown b g =
-      let l = right.same in
-      let z = right.some in
-      made (ns ++ n ∷ []) (ms ++ m ∷ []) cs (blocks-push ns n right.some) (where_push (λ x. x.bad) ms m (omega arith) b) (where_push (λ x. x.seen) ms m (omega arith) g) refl
+  state_grown b g = state_pushed ns ms cs n m right.some right.same b g
 
   module _ (node : IsNode (kept_of n ∷ blocks_of ns) (length ns) n) (room : length ns < max_blocks) (parent : n.parent < length ns)
       (bad : m.bad ≡ false) (seen : m.seen ≡ false) (rank0 : m.rank ≡ 0) (usage : m.usable ≡ usable (state_of ns ms cs) n.parent) where
@@ -119,83 +123,6 @@ module _ {ns : List Node} {ms : List Mark} {cs : List ℕ} {is : List (Id × ℕ
               }
         ]
 
-    -- ---- the leaves
-
-    abbrev new_leaf : Leaf
-    new_leaf = leaf_at (kept_of n ∷ blocks_of ns) (length ns)
-
-    leaf_there : (p : ℕ) → p ≤ length t → leaf_at (k ∷ t) p ≡ leaf_at t p
-    leaf_there p h = ap (λ (x : ℕ). deep x p) (height_there k t p h)
-      where
-        deep : ℕ → ℕ → Leaf
-        deep x q = record { depth = max_blocks - x; place = q }
-
-    abbrev HasLeaves : List Leaf → Type 0
-    HasLeaves new = (l : Leaf) → list_any (is_at (leaf_cmp l)) new ≡ ((eq_by_cmp leaf_cmp new_leaf l || list_any (is_at (leaf_cmp l)) ls) && not (eq_by_cmp leaf_cmp (leaf_at t n.parent) l))
-
-    parent_leaf : (p : ℕ) → p ≤ length t → eq_by_cmp leaf_cmp (leaf_at t n.parent) (leaf_at t p) ≡ eqb n.parent p
-    parent_leaf p h =
-        elim (cases_eq n.parent p) [
-          | inl e ↦ ap (λ (q : ℕ). eq_by_cmp leaf_cmp (leaf_at t n.parent) (leaf_at t q)) (sym e) ∙ same-self (leaf_at t n.parent) ∙ sym (eq-eqb n.parent p e)
-          | inr e ↦ other_leaf (leaf_at t n.parent) (leaf_at t p) e ∙ sym (ne_eqb n.parent p e)
-        ]
-
-    fewer : (a b : Bool) → (b && not a) ≡ not (a || not b)
-    fewer true true = refl
-    fewer true false = refl
-    fewer false true = refl
-    fewer false false = refl
-
-    leaf_old : (p : ℕ) → p ≤ length t → ((eq_by_cmp leaf_cmp new_leaf (leaf_at t p) || list_any (is_at (leaf_cmp (leaf_at t p))) ls) && not (eq_by_cmp leaf_cmp (leaf_at t n.parent) (leaf_at t p))) ≡ is_leaf (k ∷ t) p
-    leaf_old p h =
-        let g = long in
-        ap (λ b. (b || list_any (is_at (leaf_cmp (leaf_at t p))) ls) && not (eq_by_cmp leaf_cmp (leaf_at t n.parent) (leaf_at t p))) (other_leaf new_leaf (leaf_at t p) (omega arith))
-        ∙ ap (λ b. b && not (eq_by_cmp leaf_cmp (leaf_at t n.parent) (leaf_at t p))) (right.are_leaves.all p h)
-        ∙ ap (λ b. is_leaf t p && not b) (parent_leaf p h)
-        ∙ both (eqb n.parent p) (list_any (λ j. eqb j.parent p) t)
-      where
-        both : (a b : Bool) → (not b && not a) ≡ not (a || b)
-        both true true = refl
-        both true false = refl
-        both false true = refl
-        both false false = refl
-
-    leaves_grown : (new : List Leaf) → HasLeaves new → AreLeaves (k ∷ t) new
-    leaves_grown new f = record { all = all; only = only }
-      where
-        new_is : eq_by_cmp leaf_cmp (leaf_at t n.parent) new_leaf ≡ false
-        new_is = other_leaf (leaf_at t n.parent) new_leaf (let p = parent in omega arith)
-
-        leaf_new : is_leaf (k ∷ t) (length ns) ≡ true
-        leaf_new = ap (λ b. not (b || list_any (λ j. eqb j.parent (length ns)) t)) (ne_eqb n.parent (length ns) (let p = parent in omega arith)) ∙ right.are_parents (length ns) (omega arith)
-
-        all : (p : ℕ) → p ≤ length (k ∷ t) → list_any (is_at (leaf_cmp (leaf_at (k ∷ t) p))) new ≡ is_leaf (k ∷ t) p
-        all p h =
-            let g = long in
-            elim (cases_eq p (length ns)) [
-              | inl w ↦
-                  ap (λ (q : ℕ). list_any (is_at (leaf_cmp (leaf_at (k ∷ t) q))) new) w ∙ f new_leaf
-                  ∙ ap (λ b. (b || list_any (is_at (leaf_cmp new_leaf)) ls) && not (eq_by_cmp leaf_cmp (leaf_at t n.parent) new_leaf)) (same-self new_leaf)
-                  ∙ ap (λ b. not b) new_is ∙ sym leaf_new ∙ ap (is_leaf (k ∷ t)) (sym w)
-              | inr w ↦
-                  ap (λ (l : Leaf). list_any (is_at (leaf_cmp l)) new) (leaf_there p (omega arith)) ∙ f (leaf_at t p) ∙ leaf_old p (omega arith)
-            ]
-
-        only : (l : Leaf) → list_any (is_at (leaf_cmp l)) new ≡ true → (l.place ≤ length (k ∷ t)) × (l ≡ leaf_at (k ∷ t) l.place)
-        only l h =
-            let g = long in
-            let b = and_parts (eq_by_cmp leaf_cmp new_leaf l || list_any (is_at (leaf_cmp l)) ls) (not (eq_by_cmp leaf_cmp (leaf_at t n.parent) l)) (sym (f l) ∙ h) in
-            elim (or_cases (eq_by_cmp leaf_cmp new_leaf l) (list_any (is_at (leaf_cmp l)) ls) b.0) [
-              | inl e ↦
-                  let same = same_leaf new_leaf l e in
-                  let at = ap (λ (x : Leaf). x.place) same in
-                  (omega arith, sym same ∙ ap (leaf_at (k ∷ t)) at)
-              | inr e ↦
-                  let o = right.are_leaves.only l e in
-                  let q = o.0 in
-                  (omega arith, o.1 ∙ sym (leaf_there l.place q))
-            ]
-
     ids_grown : (id : Id) (new : List (Id × ℕ)) → id ≡ id_of n.block.header
         → ((i : Id) → lookup (is_at (id_cmp i)) new ≡ cond (eq_by_cmp id_cmp id i) (Some (length ns)) (lookup (is_at (id_cmp i)) is)) → AreIds (k ∷ t) new
     unfolding place_of
@@ -204,9 +131,18 @@ module _ {ns : List Node} {ms : List Mark} {cs : List ℕ} {is : List (Id × ℕ
         ∙ ap (λ (x : ℕ). cond (eq_by_cmp id_cmp (id_of n.block.header) i) (Some x) (lookup (is_at (id_cmp i)) is)) (sym long)
         ∙ ap (cond (eq_by_cmp id_cmp (id_of n.block.header) i) (Some (suc (length t)))) (right.are_ids i)
 
+    -- the list of leaves
+    list_grown : ◌≡◌ {A = List ℕ} (cond (ltb n.slot (length ls)) (set ls n.slot (length ns)) (ls ++ length ns ∷ [])) (leaves_of (kept_of n ∷ blocks_of ns))
+    list_grown =
+        ap (λ (l : List ℕ). cond (ltb n.slot (length l)) (set l n.slot (length ns)) (l ++ length ns ∷ [])) right.are_leaves
+        ∙ ap (λ (i : ℕ). cond (ltb i (length (leaves_of t))) (set (leaves_of t) i (length ns)) (leaves_of t ++ length ns ∷ [])) node.slot
+        ∙ ap (λ (x : ℕ). cond (ltb (slot_of (k ∷ t) x) (length (leaves_of t))) (set (leaves_of t) (slot_of (k ∷ t) x) x) (leaves_of t ++ x ∷ [])) (sym long)
+        ∙ leaves_grown k t
+
     -- the whole
-    pub right_grown : (id : Id) (new-ids : List (Id × ℕ)) (new-leaves : List Leaf) → id ≡ id_of n.block.header
-        → ((i : Id) → lookup (is_at (id_cmp i)) new-ids ≡ cond (eq_by_cmp id_cmp id i) (Some (length ns)) (lookup (is_at (id_cmp i)) is)) → HasLeaves new-leaves
+    pub right_grown : (id : Id) (new-ids : List (Id × ℕ)) (new-leaves : List ℕ) → id ≡ id_of n.block.header
+        → ((i : Id) → lookup (is_at (id_cmp i)) new-ids ≡ cond (eq_by_cmp id_cmp id i) (Some (length ns)) (lookup (is_at (id_cmp i)) is))
+        → ◌≡◌ {A = List ℕ} new-leaves (cond (ltb n.slot (length ls)) (set ls n.slot (length ns)) (ls ++ length ns ∷ []))
         → IsRight (ns ++ n ∷ []) (ms ++ m ∷ []) cs new-ids new-leaves
     right_grown id new-ids new-leaves e f g =
         let l = length-append ns (n ∷ []) in
@@ -222,7 +158,22 @@ module _ {ns : List Node} {ms : List Mark} {cs : List ℕ} {is : List (Id × ℕ
           are_marks = λ p h. subst (λ (u : State Block). IsMark u p (mark_at (ms ++ m ∷ []) p)) (sym (state_grown bad seen)) (marks_grown p h);
           genesis = ap (λ x. x.bad) (get_or-append ms (m ∷ []) blank 0 (omega arith)) ∙ right.genesis;
           are_calls = λ p h. right.are_calls p (omega arith);
-          are_parents = λ p h. ap (λ (u : Blocks Block). is_leaf u p) push ∙ ap (λ b. not (b || list_any (λ j. eqb j.parent p) t)) (ne_eqb n.parent p (let q = parent in omega arith)) ∙ right.are_parents p (omega arith);
+          in_order = subst AreInOrder (sym push) ((let q = parent in let g = long in omega arith), right.in_order);
           are_ids = subst (λ (u : Blocks Block). AreIds u new-ids) (sym push) (ids_grown id new-ids e f);
-          are_leaves = subst (λ (u : Blocks Block). AreLeaves u new-leaves) (sym push) (leaves_grown new-leaves g);
+          are_leaves = g ∙ list_grown ∙ ap (λ (u : Blocks Block). leaves_of u) (sym push);
         }
+
+-- a new block is fresh if its id is
+pub fresh_grown : {ns : List Node} {ms : List Mark} {cs : List ℕ} {is : List (Id × ℕ)} {ls : List ℕ} (right : IsRight ns ms cs is ls) {s : State Block} (view : state_of ns ms cs ≡ s) (b : Block) (p : ℕ)
+    → place_of names s.blocks (id_of b.header) ≡ None → IsFresh names (with_block s b p)
+fresh_grown {ns} {ms} {cs} right {s} view b p e =
+    let k = kept right view in
+    let l = right.same in
+    let z = right.some in
+    record {
+      some = omega arith;
+      id = ap (place_of names s.blocks) (id_here names (record { block = b; parent = p }) s.blocks) ∙ e;
+      bad = ap (λ (x : List ℕ). has x (suc (length s.blocks))) (sym (bad-view ns ms cs view)) ∙ has_where-above (λ x. x.bad) ms (suc (length s.blocks)) (omega arith) (omega arith);
+      seen = ap (λ (x : List ℕ). has x (suc (length s.blocks))) (sym (seen-view ns ms cs view)) ∙ has_where-above (λ x. x.seen) ms (suc (length s.blocks)) (omega arith) (omega arith);
+      precious = ap (λ (x : List ℕ). has x (suc (length s.blocks))) (sym (precious-view ns ms cs view)) ∙ right.are_calls (suc (length s.blocks)) (omega arith);
+    }

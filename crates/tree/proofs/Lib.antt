@@ -1,3 +1,4 @@
+mod Back
 mod Changes
 mod Cleared
 mod Grown

@@ -1,6 +1,5 @@
 -- The tree of genesis alone is right.
-use Rattle.std.proofs.Common.{◌≡◌, ℕ, cond, List, [], ◌∷◌, get_or, Option, None, Some, sym, refl, ap, ◌∙◌, subst, arith}
-use Rattle.std.specs.List.{list_any}
+use Rattle.std.proofs.Common.{◌≡◌, ℕ, cond, List, [], ◌∷◌, get_or, Option, None, Some, sym, refl, subst, arith}
 use Rattle.std.specs.Map.{lookup}
 use Rattle.std.specs.BTreeMap.{is_at}
 use Rattle.std.specs.Ordering.{eq_by_cmp}
@@ -9,13 +8,12 @@ use Rattle.hash.specs.declared.id.Id.{Id}
 use Rattle.block.specs.declared.genesis.TheConstants.{GENESIS_ID}
 use Rattle.tree.specs.declared.node.Node.{Node}
 use Rattle.tree.specs.declared.node.Mark.{Mark}
-use Rattle.tree.specs.declared.leaf.Leaf.{Leaf}
 use Rattle.tree.specs.Branches.{down_from, branch, before, height, parent_at, block_at, id_at, place_of}
 use Rattle.tree.specs.State.{opening, usable, rank, rank_in}
 use Rattle.tree.specs.MedianTime.{median_time_past}
 use Rattle.tree.specs.Names.{id_cmp}
-use Rattle.tree.specs.Nodes.{blocks_of, mark_at, places_where, state_of, IsNode, IsMark, IsRight, is_leaf, leaf_at, leaf_cmp, first_node, first_mark, first_leaf}
-use Rattle.tree.specs.laws.Leaves.{same_leaf, same-self}
+use Rattle.tree.specs.Nodes.{blocks_of, mark_at, places_where, state_of, IsNode, IsMark, IsRight, first_node, first_mark}
+use Rattle.tree.specs.Slots.{slot_of, leaves_of}
 
 abbrev nodes : List Node
 nodes = first_node ∷ []
@@ -28,8 +26,8 @@ unfolding state_of blocks_of places_where down_from
 opened = refl
 
 node_zero : IsNode [] 0 first_node
-unfolding branch before height parent_at block_at id_at median_time_past median_of is_middle
-node_zero = record { block = refl; id = refl; parent = refl; height = refl; median = refl }
+unfolding branch before height parent_at block_at id_at median_time_past median_of is_middle slot_of
+node_zero = record { block = refl; id = refl; parent = refl; height = refl; median = refl; slot = refl }
 
 mark_zero : IsMark opening 0 first_mark
 unfolding usable branch rank rank_in
@@ -39,9 +37,9 @@ blocks_none : ◌≡◌ (blocks_of nodes) []
 unfolding blocks_of
 blocks_none = refl
 
-pub right_opened : (ids : List (Id × ℕ)) (leaves : List Leaf) → ((i : Id) → lookup (is_at (id_cmp i)) ids ≡ cond {A = Option ℕ} (eq_by_cmp id_cmp GENESIS_ID i) (Some 0) None)
-    → ((l : Leaf) → list_any (is_at (leaf_cmp l)) leaves ≡ eq_by_cmp leaf_cmp first_leaf l) → IsRight nodes marks [] ids leaves
-unfolding place_of blocks_of branch before height
+pub right_opened : (ids : List (Id × ℕ)) (leaves : List ℕ) → ((i : Id) → lookup (is_at (id_cmp i)) ids ≡ cond {A = Option ℕ} (eq_by_cmp id_cmp GENESIS_ID i) (Some 0) None)
+    → ◌≡◌ {A = List ℕ} leaves (0 ∷ []) → IsRight nodes marks [] ids leaves
+unfolding place_of blocks_of leaves_of
 right_opened ids leaves f g = record {
   some = omega arith;
   room = omega arith;
@@ -50,12 +48,9 @@ right_opened ids leaves f g = record {
   are_marks = λ p h. mark_at_zero p (omega arith);
   genesis = refl;
   are_calls = λ p h. refl;
-  are_parents = λ p h. refl;
+  in_order = tt;
   are_ids = f;
-  are_leaves = record {
-    all = λ p h. all_zero p (omega arith);
-    only = λ l h. let e = same_leaf first_leaf l (sym (g l) ∙ h) in let z = ap (λ (x : Leaf). x.place) e in (omega arith, sym e ∙ ap (leaf_at []) z);
-  };
+  are_leaves = g;
 }
   where
     at_zero : (p : ℕ) (d : Node) → p ≡ 0 → IsNode [] p (get_or nodes p d)
@@ -63,6 +58,3 @@ right_opened ids leaves f g = record {
 
     mark_at_zero : (p : ℕ) → p ≡ 0 → IsMark (state_of nodes marks []) p (mark_at marks p)
     mark_at_zero p e = subst (λ (q : ℕ). IsMark (state_of nodes marks []) q (mark_at marks q)) (sym e) (subst (λ s. IsMark s 0 first_mark) (sym opened) mark_zero)
-
-    all_zero : (p : ℕ) → p ≡ 0 → list_any (is_at (leaf_cmp (leaf_at [] p))) leaves ≡ is_leaf [] p
-    all_zero p e = ap (λ (q : ℕ). list_any (is_at (leaf_cmp (leaf_at [] q))) leaves) e ∙ g first_leaf ∙ same-self first_leaf

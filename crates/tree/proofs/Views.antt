@@ -7,10 +7,10 @@ use Rattle.hash.specs.declared.id.Id.{Id}
 use Rattle.block.specs.declared.block.Block.{Block}
 use Rattle.tree.specs.declared.node.Node.{Node}
 use Rattle.tree.specs.declared.node.Mark.{Mark}
-use Rattle.tree.specs.declared.leaf.Leaf.{Leaf}
 use Rattle.tree.specs.Branches.{Blocks, has, down_from}
 use Rattle.tree.specs.State.{State, usable, rank, joined}
 use Rattle.tree.specs.Nodes.{kept_of, blocks_of, blank, mark_at, places_where, state_of, IsNode, IsRight, AreIds}
+use Rattle.tree.specs.Slots.{AreInOrder, leaves_of}
 use Rattle.tree.specs.laws.Sets.{has-filter, filter_agree, has_filter-above}
 
 -- ---- the nodes as blocks
@@ -55,7 +55,7 @@ module _ (f : Mark → Bool) where
 
 -- ---- a tree
 
-module _ {ns : List Node} {ms : List Mark} {cs : List ℕ} {is : List (Id × ℕ)} {ls : List Leaf} (right : IsRight ns ms cs is ls) {s : State Block} (view : state_of ns ms cs ≡ s) where
+module _ {ns : List Node} {ms : List Mark} {cs : List ℕ} {is : List (Id × ℕ)} {ls : List ℕ} (right : IsRight ns ms cs is ls) {s : State Block} (view : state_of ns ms cs ≡ s) where
   pub kept : length ns ≡ suc (length s.blocks)
   unfolding state_of
   kept = sym (length-blocks ns right.some) ∙ ap (λ (t : State Block). suc (length t.blocks)) view
@@ -94,3 +94,11 @@ module _ {ns : List Node} {ms : List Mark} {cs : List ℕ} {is : List (Id × ℕ
   pub ids_are : AreIds s.blocks is
   unfolding state_of
   ids_are = subst (λ (t : State Block). AreIds t.blocks is) view right.are_ids
+
+  pub order_at : AreInOrder s.blocks
+  unfolding state_of
+  order_at = subst (λ (t : State Block). AreInOrder t.blocks) view right.in_order
+
+  pub leaves_at : ◌≡◌ {A = List ℕ} ls (leaves_of s.blocks)
+  unfolding state_of
+  leaves_at = right.are_leaves ∙ ap (λ (t : State Block). leaves_of t.blocks) view

@@ -4,6 +4,7 @@ pub mod MedianTime
 pub mod Names
 pub mod Naming
 pub mod Nodes
+pub mod Slots
 pub mod Sound
 pub mod State
 pub mod Tips

@@ -1,6 +1,5 @@
 -- How the program's tree is seen, and what is always right in it.
-use Rattle.std.specs.Prelude.{◌≡◌, ℕ, ◌-◌, ◌==◌, ◌<◌, ◌≤◌, Bool, true, false, not, ◌&&◌, List, [], ◌∷◌, length, map, reverse, filter, slice_index_or}
-use Rattle.std.specs.List.{list_any}
+use Rattle.std.specs.Prelude.{◌≡◌, ℕ, ◌-◌, ◌<◌, ◌≤◌, Bool, true, false, not, ◌&&◌, List, [], ◌∷◌, length, map, reverse, filter, slice_index_or}
 use Rattle.std.specs.declared.cmp.Ordering.{Ordering}
 use Rattle.std.specs.Ordering.{nat_cmp, ordering_then}
 use Rattle.std.specs.Map.{lookup}
@@ -11,6 +10,7 @@ use Rattle.tree.specs.declared.node.Node.{Node}
 use Rattle.tree.specs.declared.node.Mark.{Mark}
 use Rattle.tree.specs.declared.leaf.Leaf.{Leaf}
 use Rattle.tree.specs.Branches.{Kept, Blocks, has, down_from, branch, height, parent_at, block_at, id_at, blocks_at, place_of}
+use Rattle.tree.specs.Slots.{AreInOrder, slot_of, leaves_of}
 use Rattle.tree.specs.State.{State, usable, rank}
 use Rattle.tree.specs.Limits.{max_blocks}
 use Rattle.tree.specs.MedianTime.{median_time_past}
@@ -55,6 +55,7 @@ pub record IsNode (t : Blocks Block) (p : ℕ) (n : Node) : Type 0 where
   pub parent : n.parent ≡ parent_at t p
   pub height : n.height ≡ height t p
   pub median : n.median ≡ median_time_past (blocks_at names t (branch t p))
+  pub slot : n.slot ≡ slot_of t p
 
 -- of what follows from the marks of all blocks
 pub record IsMark (s : State Block) (p : ℕ) (m : Mark) : Type 0 where
@@ -74,16 +75,7 @@ leaf_cmp a b = ordering_then (nat_cmp a.depth b.depth) (nat_cmp a.place b.place)
 abbrev pub leaf_at : Blocks Block → ℕ → Leaf
 leaf_at t p = record { depth = max_blocks - height t p; place = p }
 
--- no block stands on p
-abbrev pub is_leaf : Blocks Block → ℕ → Bool
-is_leaf t p = not (list_any (λ k. k.parent == p) t)
-
--- the leaves, each once
-pub record AreLeaves (t : Blocks Block) (leaves : List Leaf) : Type 0 where
-  pub all : (p : ℕ) → p ≤ length t → list_any (is_at (leaf_cmp (leaf_at t p))) leaves ≡ is_leaf t p
-  pub only : (l : Leaf) → list_any (is_at (leaf_cmp l)) leaves ≡ true → (l.place ≤ length t) × (l ≡ leaf_at t l.place)
-
-pub record IsRight (nodes : List Node) (marks : List Mark) (calls : List ℕ) (ids : List (Id × ℕ)) (leaves : List Leaf) : Type 0 where
+pub record IsRight (nodes : List Node) (marks : List Mark) (calls : List ℕ) (ids : List (Id × ℕ)) (leaves : List ℕ) : Type 0 where
   pub some : 0 < length nodes
   pub room : length nodes ≤ max_blocks
   pub same : length marks ≡ length nodes
@@ -91,10 +83,9 @@ pub record IsRight (nodes : List Node) (marks : List Mark) (calls : List ℕ) (i
   pub are_marks : (p : ℕ) → p < length nodes → IsMark (state_of nodes marks calls) p (mark_at marks p)
   pub genesis : (mark_at marks 0).bad ≡ false
   pub are_calls : (p : ℕ) → length nodes ≤ p → has (reverse calls) p ≡ false
-  -- no block stands on one that isn't kept
-  pub are_parents : (p : ℕ) → length nodes ≤ p → is_leaf (blocks_of nodes) p ≡ true
+  pub in_order : AreInOrder (blocks_of nodes)
   pub are_ids : AreIds (blocks_of nodes) ids
-  pub are_leaves : AreLeaves (blocks_of nodes) leaves
+  pub are_leaves : leaves ≡ leaves_of (blocks_of nodes)
 
 -- ---- what a change of marks leaves
 
@@ -116,10 +107,7 @@ AreUsable s marks n = (p : ℕ) → p < n → (mark_at marks p).usable ≡ usabl
 -- ---- genesis
 
 abbrev pub first_node : Node
-first_node = record { block = genesis; id = GENESIS_ID; parent = 0; height = 0; median = GENESIS_TIME }
+first_node = record { block = genesis; id = GENESIS_ID; parent = 0; height = 0; median = GENESIS_TIME; slot = 0 }
 
 abbrev pub first_mark : Mark
 first_mark = record { bad = false; seen = true; usable = true; rank = 0 }
-
-abbrev pub first_leaf : Leaf
-first_leaf = record { depth = max_blocks; place = 0 }

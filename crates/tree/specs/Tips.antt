@@ -1,7 +1,9 @@
 -- The tips of the tree (Bitcoin Core's `getchaintips`), beside the active block at `a`.
 use Rattle.std.specs.Prelude.{ℕ, ◌-◌, ◌==◌, nat_lt, Bool, not, ◌&&◌, ◌||◌, cond, if◌then◌else◌, List, [], ◌∷◌, map, filter, find, unwrap_or}
 use Rattle.std.specs.List.{list_any}
+use Rattle.hash.specs.declared.id.Id.{Id}
 use Rattle.tree.specs.declared.tip.Status.{Status}
+use Rattle.tree.specs.declared.tip.Tip.{Tip}
 use Rattle.tree.specs.declared.tip.Status.TheVariants.{Active, Invalid, ValidFork, ValidHeaders}
 use Rattle.tree.specs.Naming.{Naming}
 use Rattle.tree.specs.Branches.{Blocks, has, places, branch, on, height, id_at}
@@ -51,3 +53,7 @@ module _ {B I : Type 0} (names : Naming B I) where
 
   unfoldable pub tips : State B → ℕ → List (TipOf I)
   tips s a = map (tip s a) (ordered (goes_first s.blocks) (filter (is_tip s.blocks a) (places s.blocks)))
+
+-- as the program tells it
+abbrev pub shown : TipOf Id → Tip
+shown t = record { id = t.id; height = t.height; length = t.length; status = t.status }

@@ -5,6 +5,10 @@ pub mod Branches
 pub mod Calls
 pub mod Leaves
 pub mod Marks
+pub mod Orders
 pub mod Parents
 pub mod Ranks
 pub mod Sets
+pub mod Slots
+pub mod Tips
+pub mod Walks

@@ -1,29 +1,28 @@
-//! How a block is added.
+//! How a block is added, and taken back.
 
-ghost use Rattle.std.specs.Prelude.{◌≡◌, ◌<◌, ◌||◌, ◌&&◌, not, cond, suc, length, OnOk, OnErr, Some, false, ◌∷◌};
-ghost use Rattle.std.specs.List.{list_any};
+ghost use Rattle.std.specs.Prelude.{◌≡◌, ℕ, ◌<◌, ◌-◌, ◌==◌, nat_lt, cond, length, OnOk, OnErr, Some, ◌∷◌, [], ◌++◌, take, slice_index, slice_set};
 ghost use Rattle.std.specs.Map.{lookup};
 ghost use Rattle.std.specs.BTreeMap.{is_at};
 ghost use Rattle.std.specs.Ordering.{eq_by_cmp};
 ghost use Rattle.hash.specs.declared.id.Id.{Id};
 ghost use Rattle.block.specs.Identity.{id_of};
-ghost use Rattle.tree.specs.declared.leaf.Leaf.{Leaf};
 ghost use Rattle.tree.specs.Limits.{max_blocks};
 ghost use Rattle.tree.specs.Names.{id_cmp};
-ghost use Rattle.tree.specs.Nodes.{AreNodes, IsNode, blocks_of, kept_of, leaf_at, leaf_cmp};
+ghost use Rattle.tree.specs.Nodes.{AreNodes, IsNode, blocks_of, kept_of};
+ghost use Rattle.tree.specs.Slots.{AreInOrder, is_leaf, slot_of, slots, leaves_of};
 
-use crate::leaf::Leaf;
 use crate::node::Node;
 use crate::past::median_on;
-use crate::tree::MAX_BLOCKS;
 use block::Block;
 use hash::Id;
-use std::collections::{BTreeMap, BTreeSet};
+use std::collections::BTreeMap;
 use wire::Memory;
 
 /// The node of a new block on this parent.
-pub(crate) fn node_on(nodes: &[Node], block: Block, id: Id, parent: usize) -> Node
+pub(crate) fn node_on(nodes: &[Node], leaves: &[usize], block: Block, id: Id, parent: usize) -> Node
     requires nodes { AreNodes (blocks_of nodes.now) nodes.now }
+    requires order { AreInOrder (blocks_of nodes.now) }
+    requires leaves { leaves.now ≡ leaves_of (blocks_of nodes.now) }
     requires kept { parent < length nodes.now }
     requires room { length nodes.now < max_blocks }
     requires id { id ≡ id_of block.header }
@@ -32,47 +31,73 @@ pub(crate) fn node_on(nodes: &[Node], block: Block, id: Id, parent: usize) -> No
 {
     let height = nodes[parent].height + 1;
     let median = median_on(nodes, parent, block.header.time);
+    let slot = slot_on(nodes, leaves, parent);
     Node {
         block,
         id,
         parent,
         height,
         median,
+        slot,
     }
 }
 
-/// The leaf that a block is, as long as none stands on it.
-pub(crate) fn leaf_of(nodes: &[Node], place: usize) -> Leaf
+/// The slot of a new block on this parent: the parent's if that is a leaf, and else a new one.
+fn slot_on(nodes: &[Node], leaves: &[usize], parent: usize) -> usize
     requires nodes { AreNodes (blocks_of nodes.now) nodes.now }
-    requires kept { place < length nodes.now }
-    ensures { result ≡ leaf_at (blocks_of nodes.now) place }
+    requires order { AreInOrder (blocks_of nodes.now) }
+    requires leaves { leaves.now ≡ leaves_of (blocks_of nodes.now) }
+    requires kept { parent < length nodes.now }
+    ensures { let t = blocks_of nodes.now in result ≡ cond (is_leaf t parent) (slot_of t parent) (slots t) }
 {
-    Leaf {
-        depth: MAX_BLOCKS.saturating_sub(nodes[place].height),
-        place,
+    let slot = nodes[parent].slot;
+    if holds(leaves, slot, parent) {
+        slot
+    } else {
+        leaves.len()
     }
 }
 
-/// Notes the id and the leaf of a new block, and that its parent is no leaf. A refusal leaves the ids, and the
-/// leaves that there were.
+/// Whether this block stands in this slot.
+pub(crate) fn holds(leaves: &[usize], slot: usize, place: usize) -> bool
+    requires { slot < length leaves.now }
+    ensures { result ≡ (slice_index leaves.now slot == place) }
+{
+    leaves[slot] == place
+}
+
+/// Notes the id of a new block, and puts it into its slot. A refusal leaves both lists.
 pub(crate) fn enter(
     ids: &mut BTreeMap<Id, usize>,
-    leaves: &mut BTreeSet<Leaf>,
+    leaves: &mut Vec<usize>,
     id: Id,
-    leaf: Leaf,
-    parent: &Leaf,
+    slot: usize,
+    place: usize,
 ) -> Result<(), Memory>
-    requires { list_any (is_at (leaf_cmp leaf)) leaves.old.keys ≡ false }
-    ensures ids { OnOk result ((i : Id) → lookup (is_at (id_cmp i)) ids.new.entries ≡ cond (eq_by_cmp id_cmp id i) (Some leaf.place) (lookup (is_at (id_cmp i)) ids.old.entries)) }
-    ensures leaves { OnOk result ((l : Leaf) → list_any (is_at (leaf_cmp l)) leaves.new.keys ≡ ((eq_by_cmp leaf_cmp leaf l || list_any (is_at (leaf_cmp l)) leaves.old.keys) && not (eq_by_cmp leaf_cmp parent.now l))) }
+    ensures ids { OnOk result ((i : Id) → lookup (is_at (id_cmp i)) ids.new.entries ≡ cond (eq_by_cmp id_cmp id i) (Some place) (lookup (is_at (id_cmp i)) ids.old.entries)) }
+    ensures leaves { OnOk result (leaves.new.items ≡ cond (nat_lt slot (length leaves.old.items)) (slice_set leaves.old.items slot place) (leaves.old.items ++ place ∷ [])) }
     ensures kept { OnErr result (ids.new.entries ≡ ids.old.entries) }
-    ensures same { OnErr result ((l : Leaf) → list_any (is_at (leaf_cmp l)) leaves.new.keys ≡ list_any (is_at (leaf_cmp l)) leaves.old.keys) }
+    ensures same { OnErr result (leaves.new.items ≡ leaves.old.items) }
 {
-    leaves.insert(leaf)?;
-    if ids.insert(id, leaf.place).is_err() {
-        leaves.remove(&leaf);
-        return Err(Memory);
+    leaves.reserve(1)?;
+    ids.insert(id, place)?;
+    if slot < leaves.len() {
+        leaves[slot] = place;
+        return Ok(());
     }
-    leaves.remove(parent);
+    // There is room for it.
+    leaves.push(place)?;
     Ok(())
+}
+
+/// Takes a block out of its slot, which goes back to its parent if that had it before.
+pub(crate) fn leave(leaves: &mut Vec<usize>, slot: usize, parent: usize, parents_slot: usize)
+    requires { slot < length leaves.old.items }
+    ensures { leaves.new.items ≡ cond (slot == parents_slot) (slice_set leaves.old.items slot parent) (take (length leaves.old.items - 1) leaves.old.items) }
+{
+    if slot == parents_slot {
+        leaves[slot] = parent;
+    } else {
+        leaves.pop();
+    }
 }

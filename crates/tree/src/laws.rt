@@ -2,7 +2,7 @@
 
 ghost use Rattle.std.specs.Prelude.{◌≡◌, ℕ, ◌≤◌, ◌<◌, ◌↔◌, ◌⊎◌, suc, true, length, List, Some};
 ghost use Rattle.tree.specs.Branches.{Blocks, has, on, height, parent_at};
-ghost use Rattle.tree.specs.State.{State, rank_in, better, called};
+ghost use Rattle.tree.specs.State.{State, rank_in, better, called, with_block, without_last};
 ghost use Rattle.tree.specs.Sound.{Precedes};
 ghost use Rattle.tree.specs.laws.Calls.{first_called};
 
@@ -33,4 +33,9 @@ pub fn the_rank_is_the_place_of_the_last_call()
 /// A block stands on one that came before it, and is one higher.
 pub fn a_block_is_one_higher_than_its_parent<B>()
     ensures { (t : Blocks B) (p : ℕ) → 0 < p → p ≤ length t → (parent_at t p < p) × (height t p ≡ suc (height t (parent_at t p))) × (on t p (parent_at t p) ≡ true) }
+{}
+
+/// Taking the last block back undoes adding it.
+pub fn taking_back_undoes_adding<B>()
+    ensures { (s : State B) (b : B) (p : ℕ) → without_last (with_block s b p) ≡ s }
 {}

@@ -12,11 +12,12 @@ mod past;
 mod spoiling;
 mod standing;
 mod tip;
+mod tips;
 mod tree;
 mod walk;
 
 pub use fault::AddFault;
-pub use tip::Status;
+pub use tip::{Status, Tip};
 pub use tree::{MAX_BLOCKS, Tree};
 
 #[cfg(test)]

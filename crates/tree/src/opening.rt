@@ -36,5 +36,6 @@ pub(crate) fn genesis_node(alloc: Global) -> Node
         parent: 0,
         height: 0,
         median: GENESIS_TIME,
+        slot: 0,
     }
 }

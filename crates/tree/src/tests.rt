@@ -3,6 +3,7 @@ use block::{Block, GENESIS_ID, GENESIS_TIME, Header, Txs};
 use hash::Id;
 use std::alloc::Global;
 use std::test::*;
+use wire::Memory;
 
 /// A block on the one of this id.
 fn block(alloc: Global, prev: Id, time: u32) -> Block {
@@ -114,6 +115,108 @@ fn a_branch(rt: HostRuntime) -> Result<(), Fail> {
         assert_eq!(rt; tree.height(three), 2);
         assert_eq!(rt; tree.find(&tree.id(three)), Some(3));
         assert_eq!(rt; Some(tree.block(three).header.prev), id(&tree, 1));
+    }
+    Ok(())
+}
+
+/// Its tips beside this active block; none where that isn't kept.
+fn tips(tree: &Tree, alloc: Global, best: usize) -> Result<Vec<Tip>, Memory> {
+    if best >= tree.len() {
+        return Ok(Vec::new(alloc));
+    }
+    let mut active = tree.branch(alloc, best)?;
+    active.reverse();
+    tree.tips(alloc, best, active.as_slice())
+}
+
+fn is_tip(tip: Option<&Tip>, id: Option<Id>, height: usize, length: usize, status: Status) -> bool {
+    match (tip, id) {
+        (Some(tip), Some(id)) => {
+            *tip == Tip {
+                id,
+                height,
+                length,
+                status,
+            }
+        }
+        _ => false,
+    }
+}
+
+/// A fork of one block, which becomes the active branch by a second one.
+#[test]
+fn tips_of_a_fork(rt: HostRuntime) -> Result<(), Fail> {
+    let mut tree = Tree::new(rt.alloc())?;
+    let b1 = grow(&mut tree, rt.alloc(), 0, 1)?;
+    let p2 = grow(&mut tree, rt.alloc(), b1, 2)?;
+    let q2 = grow(&mut tree, rt.alloc(), b1, 3)?;
+    see(&mut tree, p2);
+    let list = tips(&tree, rt.alloc(), p2)?;
+    assert_eq!(rt; list.len(), 2);
+    assert!(rt; is_tip(list.get(0), id(&tree, p2), 2, 0, Status::Active));
+    assert!(rt; is_tip(list.get(1), id(&tree, q2), 2, 1, Status::ValidHeaders));
+    let q3 = grow(&mut tree, rt.alloc(), q2, 4)?;
+    let list = tips(&tree, rt.alloc(), q3)?;
+    assert_eq!(rt; list.len(), 2);
+    assert!(rt; is_tip(list.get(0), id(&tree, q3), 3, 0, Status::Active));
+    assert!(rt; is_tip(list.get(1), id(&tree, p2), 2, 1, Status::ValidFork));
+    Ok(())
+}
+
+/// A longer branch with a marked block, and an active block below a marked one.
+#[test]
+fn tips_above_marks(rt: HostRuntime) -> Result<(), Fail> {
+    let mut tree = Tree::new(rt.alloc())?;
+    let b1 = grow(&mut tree, rt.alloc(), 0, 1)?;
+    let b2 = grow(&mut tree, rt.alloc(), b1, 2)?;
+    let x1 = grow(&mut tree, rt.alloc(), 0, 3)?;
+    let x2 = grow(&mut tree, rt.alloc(), x1, 4)?;
+    let x3 = grow(&mut tree, rt.alloc(), x2, 5)?;
+    mark(&mut tree, x2);
+    let list = tips(&tree, rt.alloc(), b2)?;
+    assert_eq!(rt; list.len(), 2);
+    assert!(rt; is_tip(list.get(0), id(&tree, x3), 3, 3, Status::Invalid));
+    assert!(rt; is_tip(list.get(1), id(&tree, b2), 2, 0, Status::Active));
+    mark(&mut tree, b2);
+    let list = tips(&tree, rt.alloc(), b1)?;
+    assert_eq!(rt; list.len(), 3);
+    assert!(rt; is_tip(list.get(1), id(&tree, b2), 2, 1, Status::Invalid));
+    assert!(rt; is_tip(list.get(2), id(&tree, b1), 1, 0, Status::Active));
+    Ok(())
+}
+
+/// Adds a block and takes it back, and gives its id.
+fn add_and_take_back(
+    tree: &mut Tree,
+    alloc: Global,
+    parent: usize,
+    seconds: u32,
+) -> Result<Id, AddFault> {
+    if parent >= tree.len() {
+        return Err(AddFault::Full);
+    }
+    let block = block(alloc, tree.id(parent), GENESIS_TIME.wrapping_add(seconds));
+    let id = block.id();
+    if tree.find(&id).is_some() {
+        return Err(AddFault::Full);
+    }
+    tree.add(block, id, parent)?;
+    tree.take_back();
+    Ok(id)
+}
+
+/// A first child, and a second one.
+#[test]
+fn a_block_taken_back(rt: HostRuntime) -> Result<(), Fail> {
+    let mut tree = Tree::new(rt.alloc())?;
+    let b1 = grow(&mut tree, rt.alloc(), 0, 1)?;
+    for parent in 0..2 {
+        let gone = add_and_take_back(&mut tree, rt.alloc(), parent, 2)?;
+        assert_eq!(rt; tree.len(), 2);
+        assert_eq!(rt; tree.find(&gone), None);
+        let list = tips(&tree, rt.alloc(), b1)?;
+        assert_eq!(rt; list.len(), 1);
+        assert!(rt; is_tip(list.get(0), id(&tree, b1), 1, 0, Status::Active));
     }
     Ok(())
 }

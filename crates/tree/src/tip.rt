@@ -2,6 +2,16 @@
 
 use hash::Id;
 
+/// The active block, or one on which no other stands (Bitcoin Core's `getchaintips`).
+#[derive(Clone, Copy, Debug, PartialEq, Eq)]
+pub struct Tip {
+    pub id: Id,
+    pub height: usize,
+    /// How many blocks of its branch aren't on the active one.
+    pub length: usize,
+    pub status: Status,
+}
+
 /// What is known of a tip (Bitcoin Core's `getchaintips`).
 #[derive(Clone, Copy, Debug, PartialEq, Eq)]
 pub enum Status {

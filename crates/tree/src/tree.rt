@@ -1,27 +1,31 @@
 //! The tree.
 
-ghost use Rattle.std.specs.Prelude.{◌≡◌, ◌↔◌, ◌≤◌, ◌<◌, suc, length, IfOk, OnOk, OnErr, Err};
+ghost use Rattle.std.specs.Prelude.{◌≡◌, ◌↔◌, ◌≤◌, ◌<◌, suc, length, map, reverse, IfOk, OnOk, OnErr, Err, None};
 ghost use Rattle.block.specs.Identity.{id_of};
 ghost use Rattle.tree.specs.declared.fault.AddFault.TheVariants.{Full};
 ghost use Rattle.tree.specs.Limits.{max_blocks};
 ghost use Rattle.tree.specs.Branches.{has, height, parent_at, place_of, block_at, id_at, blocks_at, branch};
-ghost use Rattle.tree.specs.State.{opening, usable, rank, better, with_block, marked, cleared, saw, called};
+ghost use Rattle.tree.specs.State.{opening, usable, rank, better, with_block, without_last, marked, cleared, saw, called};
+ghost use Rattle.tree.specs.Slots.{AreInOrder, is_leaf, leaves_of};
+ghost use Rattle.tree.specs.Sound.{IsFresh};
+ghost use Rattle.tree.specs.Tips.{shown, tips};
 ghost use Rattle.tree.specs.MedianTime.{median_time_past};
 ghost use Rattle.tree.specs.Names.{names};
 
 use crate::clearing::{related, take_marks};
 use crate::fault::AddFault;
-use crate::growing::{enter, leaf_of, node_on};
-use crate::leaf::Leaf;
+use crate::growing::{enter, holds, leave, node_on};
 use crate::node::{Mark, Node};
 use crate::opening::genesis_node;
 use crate::spoiling::spoil;
 use crate::standing::Standing;
+use crate::tip::Tip;
+use crate::tips::{tip_at, tops};
 use crate::walk::branch_of;
 use block::{Block, GENESIS_ID};
 use hash::Id;
 use std::alloc::Global;
-use std::collections::{BTreeMap, BTreeSet};
+use std::collections::BTreeMap;
 use std::marker::Model;
 use wire::Memory;
 
@@ -37,7 +41,8 @@ pub struct Tree {
     /// The places that were called precious, in the order of the calls.
     calls: Vec<usize>,
     ids: BTreeMap<Id, usize>,
-    leaves: BTreeSet<Leaf>,
+    /// The places of the blocks on which no other stands.
+    leaves: Vec<usize>,
 }
 
 impl Model for Tree {
@@ -49,7 +54,7 @@ impl Model for Tree {
 
     ghost view = { λ t. state_of t.nodes.items t.marks.items t.calls.items };
 
-    ghost invariant = { λ t. IsRight t.nodes.items t.marks.items t.calls.items t.ids.entries t.leaves.keys };
+    ghost invariant = { λ t. IsRight t.nodes.items t.marks.items t.calls.items t.ids.entries t.leaves.items };
 }
 
 impl Tree {
@@ -68,11 +73,8 @@ impl Tree {
         })?;
         let mut ids = BTreeMap::new(alloc);
         ids.insert(GENESIS_ID, 0)?;
-        let mut leaves = BTreeSet::new(alloc);
-        leaves.insert(Leaf {
-            depth: MAX_BLOCKS,
-            place: 0,
-        })?;
+        let mut leaves = Vec::new(alloc);
+        leaves.push(0)?;
         Ok(Tree {
             nodes,
             marks,
@@ -181,6 +183,38 @@ impl Tree {
         branch_of(alloc, self.nodes.as_slice(), place)
     }
 
+    /// Whether no other block stands on it.
+    pub(crate) fn is_leaf(&self, place: usize) -> bool
+        requires { place ≤ length self.now.blocks }
+        ensures { result ≡ is_leaf self.now.blocks place }
+    {
+        holds(self.leaves.as_slice(), self.nodes[place].slot, place)
+    }
+
+    /// The blocks on which no other stands.
+    pub(crate) fn leaves(&self) -> &[usize]
+        ensures leaves { result.now ≡ leaves_of self.now.blocks }
+        ensures order { AreInOrder self.now.blocks }
+        ensures room { suc (length self.now.blocks) ≤ max_blocks }
+    {
+        self.leaves.as_slice()
+    }
+
+    /// The tips beside the active block `best`, by height downwards, then by arrival; `active` is its branch
+    /// from genesis on. It walks each tip's branch down to the active one.
+    pub fn tips(&self, alloc: Global, best: usize, active: &[usize]) -> Result<Vec<Tip>, Memory>
+        requires best { best ≤ length self.now.blocks }
+        requires active { active.now ≡ reverse (branch self.now.blocks best) }
+        ensures { IfOk result (λ list. list.items ≡ map shown (tips names self.now best)) }
+    {
+        let tops = tops(alloc, self, best)?;
+        let mut list = Vec::new(alloc);
+        for top in &tops {
+            list.push(tip_at(self, best, active, top.place))?;
+        }
+        Ok(list)
+    }
+
     /// Marks a block as invalid. It may walk all that came later.
     pub fn mark(&mut self, place: usize)
         requires not_genesis { 0 < place }
@@ -231,6 +265,7 @@ impl Tree {
         requires id { id ≡ id_of block.header }
         ensures place { IfOk result (λ place. place ≡ suc (length self.old.blocks)) }
         ensures ok { OnOk result (self.new ≡ with_block self.old block parent) }
+        ensures fresh { OnOk result (place_of names self.old.blocks id ≡ None → IsFresh names self.new) }
         ensures full { (result ≡ Err Full) ↔ (max_blocks ≤ suc (length self.old.blocks)) }
         ensures err { OnErr result (self.new ≡ self.old) }
     {
@@ -250,11 +285,18 @@ impl Tree {
         requires id { id ≡ id_of block.header }
         ensures place { IfOk result (λ place. place ≡ suc (length self.old.blocks)) }
         ensures ok { OnOk result (self.new ≡ with_block self.old block parent) }
+        ensures fresh { OnOk result (place_of names self.old.blocks id ≡ None → IsFresh names self.new) }
         ensures err { OnErr result (self.new ≡ self.old) }
     {
         self.nodes.reserve(1)?;
         self.marks.reserve(1)?;
-        let node = node_on(self.nodes.as_slice(), block, id, parent);
+        let node = node_on(
+            self.nodes.as_slice(),
+            self.leaves.as_slice(),
+            block,
+            id,
+            parent,
+        );
         let mark = Mark {
             bad: false,
             seen: false,
@@ -262,15 +304,24 @@ impl Tree {
             rank: 0,
         };
         let place = self.nodes.len();
-        let leaf = Leaf {
-            depth: MAX_BLOCKS.saturating_sub(node.height),
-            place,
-        };
-        let below = leaf_of(self.nodes.as_slice(), parent);
-        enter(&mut self.ids, &mut self.leaves, id, leaf, &below)?;
+        enter(&mut self.ids, &mut self.leaves, id, node.slot, place)?;
         // There is room for both.
         self.nodes.push(node)?;
         self.marks.push(mark)?;
         Ok(place)
+    }
+
+    /// Takes back the block that came last, as if it had never been added. It takes no memory.
+    pub fn take_back(&mut self)
+        requires { IsFresh names self.old }
+        ensures { self.new ≡ without_last self.old }
+    {
+        let Some(node) = self.nodes.pop() else {
+            return;
+        };
+        self.marks.pop();
+        self.ids.remove(&node.id);
+        let parents_slot = self.nodes[node.parent].slot;
+        leave(&mut self.leaves, node.slot, node.parent, parents_slot);
     }
 }

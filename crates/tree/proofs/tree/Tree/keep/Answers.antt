@@ -1,6 +1,5 @@
-use Rattle.std.proofs.Common.{◌≡◌, ℕ, ◌-◌, false, ◌&&◌, ◌||◌, not, cond, List, [], ◌∷◌, ◌++◌, Some, length, sym, refl, ap, ◌∙◌, subst, arith, get_or}
-use Rattle.std.proofs.lemmas.Bool.{false_from_ne_true}
-use Rattle.std.specs.List.{list_any}
+use Rattle.std.proofs.Common.{◌≡◌, ℕ, false, cond, ltb, List, [], ◌∷◌, ◌++◌, Some, length, sym, refl, ap, ◌∙◌, subst, arith, get_or}
+use Rattle.std.proofs.Math.ListN.{set}
 use Rattle.std.specs.Map.{lookup}
 use Rattle.std.specs.BTreeMap.{is_at}
 use Rattle.std.specs.Ordering.{eq_by_cmp}
@@ -8,14 +7,14 @@ use Rattle.block.specs.declared.block.Block.{Block}
 use Rattle.block.specs.Identity.{id_of}
 use Rattle.tree.specs.declared.node.Node.{Node}
 use Rattle.tree.specs.declared.node.Mark.{Mark}
-use Rattle.tree.specs.declared.leaf.Leaf.{Leaf}
-use Rattle.tree.specs.Branches.{Kept, height}
+use Rattle.tree.specs.Branches.{Kept, place_of}
+use Rattle.tree.specs.Sound.{IsFresh}
 use Rattle.tree.specs.State.{State, usable, with_block}
-use Rattle.tree.specs.Limits.{max_blocks}
-use Rattle.tree.specs.Names.{id_cmp}
-use Rattle.tree.specs.Nodes.{IsNode, IsRight, blocks_of, kept_of, leaf_at, leaf_cmp, state_of}
-use Rattle.tree.proofs.Views.{kept, length-blocks, usable_at}
-use Rattle.tree.proofs.Grown.{right_grown, state_grown}
+use Rattle.tree.specs.Names.{names, id_cmp}
+use Rattle.tree.specs.Nodes.{IsNode, IsRight, blocks_of, kept_of, state_of}
+use Rattle.tree.specs.Slots.{AreInOrder, leaves_of}
+use Rattle.tree.proofs.Views.{kept, usable_at}
+use Rattle.tree.proofs.Grown.{right_grown, state_grown, fresh_grown}
 use Rattle.tree.proofs.tree.Tree.keep.Goals as goal
 
 pub node_on-node-requires-clause-kept : goal.node_on-node-requires-clause-kept
@@ -40,26 +39,12 @@ index-requires c =
     let v = ap (λ (l : List Mark). length l) c.in_ok-reserve-2.ensures.items in
     omega arith
 
-pub leaf_of-below-requires-clause-kept : goal.leaf_of-below-requires-clause-kept
-leaf_of-below-requires-clause-kept c =
-    let k = kept c.self.invariant c.self.view_is in
-    let r = c.requires.parent in
-    let v = ap (λ (l : List Node). length l) (c.as_slice-2.ensures.value ∙ c.in_ok-reserve.ensures.items) in
-    omega arith
+pub node_on-node-requires-clause-order : goal.node_on-node-requires-clause-order
+node_on-node-requires-clause-order c = subst (λ (l : List Node). AreInOrder (blocks_of l)) (sym (c.as_slice.ensures.value ∙ c.in_ok-reserve.ensures.items)) c.self.invariant.in_order
 
-unfoldable leaf : ℕ → ℕ → Leaf
-leaf x y = record { depth = x; place = y }
-
-leaf_is : (d p h q : ℕ) → d ≡ max_blocks - h → p ≡ q → ◌≡◌ {A = Leaf} (record { depth = d; place = p }) (record { depth = max_blocks - h; place = q })
-unfolding leaf
-leaf_is d p h q e f = ap (λ (x : ℕ). leaf x p) e ∙ ap (leaf (max_blocks - h)) f
-
-pub enter-requires : goal.enter-requires
-enter-requires c =
-    let k = length-blocks c.self.inside.nodes.items c.self.invariant.some in
-    let e = c.len-place.ensures in
-    let v = ap (λ (l : List Node). length l) c.in_ok-reserve.ensures.items in
-    false_from_ne_true _ (λ h. let o = (c.self.invariant.are_leaves.only (record { depth = c.saturating_sub.result; place = c.len-place.result }) h).0 in omega arith)
+pub node_on-node-requires-clause-leaves : goal.node_on-node-requires-clause-leaves
+node_on-node-requires-clause-leaves c =
+    c.as_slice-2.ensures.value ∙ c.self.invariant.are_leaves ∙ ap (λ (l : List Node). leaves_of (blocks_of l)) (sym (c.as_slice.ensures.value ∙ c.in_ok-reserve.ensures.items))
 
 pub invariant_of-self-2 : goal.invariant_of-self-2
 invariant_of-self-2 c =
@@ -76,7 +61,6 @@ invariant_of-self-2 c =
     let r = c.requires.parent in
     let q = c.requires.room in
     let lent = c.as_slice.ensures.value ∙ c.in_ok-reserve.ensures.items in
-    let lent-2 = c.as_slice-2.ensures.value ∙ c.in_ok-reserve.ensures.items in
     let up : n.parent ≡ p = ap (λ (x : Kept Block). x.parent) c.node_on-node.ensures.kept in
     let own : n.block ≡ c.args.block = ap (λ (x : Kept Block). x.block) c.node_on-node.ensures.kept in
     let node : IsNode (kept_of n ∷ t) (length ns) n = subst (λ (l : List Node). IsNode (kept_of n ∷ blocks_of l) (length l) n) lent c.node_on-node.ensures.node in
@@ -85,20 +69,12 @@ invariant_of-self-2 c =
     usable_at right view p r c.index.result.now at ∙ ap (λ (s : State Block). usable s p) (sym view) ∙ ap (usable (state_of ns ms cs)) (sym up)
     in
     let place : c.len-place.result ≡ length ns = let e = c.len-place.ensures in let v = ap (λ (l : List Node). length l) c.in_ok-reserve.ensures.items in omega arith in
-    let leaf : ◌≡◌ {A = Leaf} (record { depth = c.saturating_sub.result; place = c.len-place.result }) (leaf_at (kept_of n ∷ t) (length ns)) =
-    leaf_is c.saturating_sub.result c.len-place.result (height (kept_of n ∷ t) (length ns)) (length ns) (let e = c.saturating_sub.ensures in let h = node.height in omega arith) place
-    in
-    let below : c.leaf_of-below.result ≡ leaf_at t n.parent =
-    c.leaf_of-below.ensures ∙ ap (λ (l : List Node). leaf_at (blocks_of l) p) lent-2 ∙ ap (leaf_at t) (sym up)
-    in
-    subst (λ (l : List Node). IsRight l c.push-2.new.self.items cs c.enter.new.ids.entries c.enter.new.leaves.keys) (sym (c.in_ok-push.ensures.items ∙ ap (λ (l : List Node). l ++ n ∷ []) c.in_ok-reserve.ensures.items))
-    (subst (λ (l : List Mark). IsRight (ns ++ n ∷ []) l cs c.enter.new.ids.entries c.enter.new.leaves.keys) (sym (c.in_ok-push-2.ensures.items ∙ ap (λ (l : List Mark). l ++ m ∷ []) c.in_ok-reserve-2.ensures.items))
-    (right_grown right n m node (omega arith) (omega arith) refl refl refl usage c.args.id c.enter.new.ids.entries c.enter.new.leaves.keys
+    subst (λ (l : List Node). IsRight l c.push-2.new.self.items cs c.enter.new.ids.entries c.enter.new.leaves.items) (sym (c.in_ok-push.ensures.items ∙ ap (λ (l : List Node). l ++ n ∷ []) c.in_ok-reserve.ensures.items))
+    (subst (λ (l : List Mark). IsRight (ns ++ n ∷ []) l cs c.enter.new.ids.entries c.enter.new.leaves.items) (sym (c.in_ok-push-2.ensures.items ∙ ap (λ (l : List Mark). l ++ m ∷ []) c.in_ok-reserve-2.ensures.items))
+    (right_grown right n m node (omega arith) (omega arith) refl refl refl usage c.args.id c.enter.new.ids.entries c.enter.new.leaves.items
     (c.requires.id ∙ ap (λ (b : Block). id_of b.header) (sym own))
     (λ i. c.in_ok-enter.ensures.ids i ∙ ap (λ (x : ℕ). cond (eq_by_cmp id_cmp c.args.id i) (Some x) (lookup (is_at (id_cmp i)) c.self.inside.ids.entries)) place)
-    (λ l. c.in_ok-enter.ensures.leaves l
-    ∙ ap (λ (x : Leaf). (eq_by_cmp leaf_cmp x l || list_any (is_at (leaf_cmp l)) c.self.inside.leaves.keys) && not (eq_by_cmp leaf_cmp c.leaf_of-below.result l)) leaf
-    ∙ ap (λ (x : Leaf). (eq_by_cmp leaf_cmp (leaf_at (kept_of n ∷ t) (length ns)) l || list_any (is_at (leaf_cmp l)) c.self.inside.leaves.keys) && not (eq_by_cmp leaf_cmp x l)) below)))
+    (c.in_ok-enter.ensures.leaves ∙ ap (λ (x : ℕ). cond (ltb n.slot (length c.self.inside.leaves.items)) (set c.self.inside.leaves.items n.slot x) (c.self.inside.leaves.items ++ x ∷ [])) place)))
 
 pub returns-clause-place : goal.returns-clause-place
 returns-clause-place c =
@@ -120,3 +96,8 @@ returns-clause-ok c =
     ∙ state_grown right n m refl refl
     ∙ ap (λ (k : Kept Block). with_block (state_of ns ms cs) k.block k.parent) c.node_on-node.ensures.kept
     ∙ ap (λ (s : State Block). with_block s c.args.block c.args.parent) c.self.view_is
+
+pub returns-clause-fresh : goal.returns-clause-fresh
+returns-clause-fresh c = λ e.
+    subst (IsFresh names) (sym (returns-clause-ok c))
+    (fresh_grown c.self.invariant c.self.view_is c.args.block c.args.parent (ap (place_of names c.args.self.now.blocks) (sym c.requires.id) ∙ e))

@@ -53,7 +53,7 @@ invariant_of-self c =
     let lent = c.as_mut_slice.ensures.value in
     let ns-is = c.as_slice.ensures.value in
     let long : length new ≡ length ns = c.spoil.ensures.same ∙ ap (λ (xs : List Node). length xs) ns-is in
-    let right_new : IsRight ns new c.self.inside.calls.items c.self.inside.ids.entries c.self.inside.leaves.keys =
+    let right_new : IsRight ns new c.self.inside.calls.items c.self.inside.ids.entries c.self.inside.leaves.items =
     right_from right new c.self.inside.calls.items long
     (λ q g. c.spoil.ensures.usable q (let e = ap (λ (xs : List Node). length xs) ns-is in omega arith)
     ∙ ap (λ (xs : List Node). usable (state_of xs c.as_mut_slice.result.now []) q) ns-is
@@ -62,7 +62,7 @@ invariant_of-self c =
     ((c.spoil.ensures.flags 0).bad ∙ ap (λ (xs : List Mark). (mark_at xs 0).bad) lent ∙ ap (λ x. x.bad) (set_there ms p m n h is 0 (omega arith)) ∙ right.genesis)
     right.are_calls
     in
-    subst (λ (xs : List Mark). IsRight ns xs c.self.inside.calls.items c.self.inside.ids.entries c.self.inside.leaves.keys)
+    subst (λ (xs : List Mark). IsRight ns xs c.self.inside.calls.items c.self.inside.ids.entries c.self.inside.leaves.items)
     (sym (whole new (set ms p n) c.self.inside.marks.len (let v = c.as_mut_slice.ensures.len in let w = ap (λ (xs : List Mark). length xs) lent in let y = length-set ms p n in let e = ap (λ (xs : List Node). length xs) ns-is in omega arith)))
     right_new
 

@@ -1,5 +1,4 @@
-use Rattle.std.proofs.Common.{◌≡◌, ℕ, true, false, cond, List, [], ◌∷◌, ◌++◌, Option, Some, sym, refl, ap, ◌∙◌, subst}
-use Rattle.std.specs.List.{list_any}
+use Rattle.std.proofs.Common.{◌≡◌, ℕ, cond, List, [], ◌∷◌, ◌++◌, Option, Some, sym, ap, ◌∙◌, subst}
 use Rattle.std.specs.Map.{lookup}
 use Rattle.std.specs.BTreeMap.{is_at}
 use Rattle.std.specs.Ordering.{eq_by_cmp}
@@ -7,20 +6,15 @@ use Rattle.hash.specs.declared.id.Id.{Id}
 use Rattle.block.specs.declared.genesis.TheConstants.{GENESIS_ID}
 use Rattle.tree.specs.declared.node.Node.{Node}
 use Rattle.tree.specs.declared.node.Mark.{Mark}
-use Rattle.tree.specs.declared.leaf.Leaf.{Leaf}
 use Rattle.tree.specs.Names.{id_cmp}
-use Rattle.tree.specs.Nodes.{IsRight, leaf_cmp, state_of, first_node, first_mark, first_leaf}
+use Rattle.tree.specs.Nodes.{IsRight, state_of, first_node, first_mark}
 use Rattle.tree.proofs.Opened.{opened, right_opened}
 use Rattle.tree.proofs.tree.Tree.new.Goals as goal
-
-in_or_not : (b : _) → cond b true false ≡ b
-in_or_not true = refl
-in_or_not false = refl
 
 pub invariant_of-result : goal.invariant_of-result
 invariant_of-result c =
     let ids = c.insert.new.self.entries in
-    let leaves = c.insert-2.new.self.keys in
+    let leaves = c.push-3.new.self.items in
     let ns : ◌≡◌ {A = List Node} c.push.new.self.items (first_node ∷ []) = c.in_ok-push.ensures.items ∙ ap (λ (l : List Node). l ++ c.genesis_node.result ∷ []) c.new-nodes.ensures.items ∙ ap (λ (n : Node). n ∷ []) c.genesis_node.ensures in
     let ms : ◌≡◌ {A = List Mark} c.push-2.new.self.items (first_mark ∷ []) = c.in_ok-push-2.ensures.items ∙ ap (λ (l : List Mark). l ++ first_mark ∷ []) c.new-marks.ensures.items in
     subst (λ (l : List Node). IsRight l c.push-2.new.self.items c.new.result.items ids leaves) (sym ns)
@@ -28,8 +22,7 @@ invariant_of-result c =
     (subst (λ (l : List ℕ). IsRight (first_node ∷ []) (first_mark ∷ []) l ids leaves) (sym c.new.ensures.items)
     (right_opened ids leaves
     (λ i. c.in_ok-insert.ensures.updates.0 i ∙ ap (λ (es : List (Id × ℕ)). cond {A = Option ℕ} (eq_by_cmp id_cmp GENESIS_ID i) (Some 0) (lookup (is_at (id_cmp i)) es)) c.new-ids.ensures.empty)
-    (λ l. c.in_ok-insert-2.ensures.updates.0 l ∙ ap (λ (ks : List Leaf). cond (is_at (leaf_cmp first_leaf) l) true (list_any (is_at (leaf_cmp l)) ks)) c.new-leaves.ensures.empty
-    ∙ in_or_not (is_at (leaf_cmp first_leaf) l)))))
+    (c.in_ok-push-3.ensures.items ∙ ap (λ (l : List ℕ). l ++ 0 ∷ []) c.new-leaves.ensures.items))))
 
 pub returns : goal.returns
 returns c =
