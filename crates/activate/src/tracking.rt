@@ -1,9 +1,10 @@
 //! A chainstate over coins that are lent to it.
 
-ghost use Rattle.std.specs.Prelude.{◌≡◌, ◌≤◌, IfOk};
+ghost use Rattle.std.specs.Prelude.{◌≡◌, ◌≤◌, IfOk, map};
 ghost use Rattle.rules.specs.Params.{regtest};
 ghost use Rattle.tree.specs.Branches.{height, id_at};
 ghost use Rattle.tree.specs.Names.{names};
+ghost use Rattle.tree.specs.Tips.{shown, tips};
 ghost use Rattle.activate.specs.Tracked.{genesis_alone, most_undo};
 
 use block::GENESIS_TIME;
@@ -12,7 +13,7 @@ use rules::Params;
 use std::alloc::Global;
 use std::collections::VecDeque;
 use std::marker::Model;
-use tree::Tree;
+use tree::{Tip, Tree};
 use undo::BlockUndo;
 use wire::Memory;
 
@@ -80,6 +81,13 @@ impl Core {
         ensures { result ≡ height self.now.state.blocks self.now.active }
     {
         self.tree.height(self.active)
+    }
+
+    /// The tips of the tree, by height downwards, then by arrival (Bitcoin Core's `getchaintips`).
+    pub fn tips(&self, alloc: Global) -> Result<Vec<Tip>, Memory>
+        ensures { IfOk result (λ list. list.items ≡ map shown (tips names self.now.state self.now.active)) }
+    {
+        self.tree.tips(alloc, self.active, self.branch.as_slice())
     }
 
     /// Of how many blocks undo is kept.
