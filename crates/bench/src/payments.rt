@@ -4,6 +4,7 @@ use crate::fault::Fault;
 use crate::filling::Filling;
 use block::{Block, Header, Txs, meets_target, merkle};
 use hash::Id;
+use rules::REGTEST_BITS;
 use std::alloc::Global;
 use txn::{Inputs, OutPoint, Outputs, Script, Tx, TxIn, TxOut, ids};
 use wire::Memory;
@@ -115,7 +116,7 @@ fn mined(alloc: Global, txs: &[Tx]) -> Result<Header, Memory> {
         prev: Id([0; 32]),
         root,
         time: 1_296_688_602,
-        bits: 0x207f_ffff,
+        bits: REGTEST_BITS,
         nonce: 0,
     };
     for nonce in 0..1000 {

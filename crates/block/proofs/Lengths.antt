@@ -12,7 +12,7 @@ use Rattle.txn.specs.Grammar.{input, output, transaction}
 use Rattle.block.specs.declared.header.Header.{Header}
 use Rattle.block.specs.declared.block.Block.{Block}
 use Rattle.block.specs.Grammar.{header}
-use Rattle.block.specs.Size.{size_of}
+use Rattle.block.specs.Sizes.{size_of}
 
 pub of_script : (s : List ℕ) → length (sized.spell s) ≡ length (compact (length s)) + length s
 of_script s = length-append (compact (length s)) s

@@ -4,8 +4,9 @@ use Rattle.std.proofs.Math.Seq.{drop-cons}
 use Rattle.std.proofs.lemmas.Grind.{take-set_at}
 use Rattle.std.proofs.lemmas.List.{drop_all, drop_at, get_or-drop, length-append, length-drop, take_at}
 use Rattle.hash.specs.declared.id.Id.{Id}
+use Rattle.hash.specs.Id.{same_id}
 use Rattle.lanes.specs.Level.{paired}
-use Rattle.block.specs.Merkle.{pair, next, root_within, root, same_id, has_twin, twin_within, twin}
+use Rattle.block.specs.Merkle.{pair, next, root_within, root, has_twin, twin_within, twin}
 
 -- ---- pairs from left to right
 

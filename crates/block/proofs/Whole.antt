@@ -8,11 +8,11 @@ use Rattle.wire.specs.Grammar.{IsBytes}
 use Rattle.wire.specs.laws.Reading.{found_law, refused_law, same_read, same_fault, not_both}
 use Rattle.txn.specs.declared.fault.TxFault.{TxFault}
 use Rattle.txn.specs.declared.fault.TxFault.TheVariants as txn
-use Rattle.txn.specs.Faults.{spoken}
+use Rattle.txn.specs.Fault.{spoken}
 use Rattle.block.specs.declared.block.Block.{Block}
 use Rattle.block.specs.declared.fault.ReadFault.{ReadFault}
 use Rattle.block.specs.declared.fault.ReadFault.TheVariants as faults
-use Rattle.block.specs.Faults.{told}
+use Rattle.block.specs.Fault.{told}
 use Rattle.block.specs.Grammar.{block}
 use Rattle.block.specs.Whole.{Faulty, HasExtra}
 use Rattle.block.specs.computed.Reading.{block_at}

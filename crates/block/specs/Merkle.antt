@@ -1,8 +1,8 @@
 -- Merkle trees of ids (Bitcoin Core's `ComputeMerkleRoot`).
-use Rattle.std.specs.Prelude.{ℕ, zero, suc, Bool, false, ◌||◌, ◌==◌, List, [], ◌∷◌, ◌++◌, length, replicate}
-use lib.Pointwise.{pointwise}
+use Rattle.std.specs.Prelude.{ℕ, zero, suc, Bool, false, ◌||◌, List, [], ◌∷◌, ◌++◌, length, replicate}
 use Rattle.hash.specs.Double.{double_sha}
 use Rattle.hash.specs.declared.id.Id.{Id}
+use Rattle.hash.specs.Id.{same_id}
 
 -- double SHA-256 of two ids, one after the other
 abbrev pub pair : Id → Id → Id
@@ -24,9 +24,6 @@ root_within (suc levels) (a ∷ b ∷ ids) = root_within levels (next (a ∷ b �
 -- there are fewer levels than ids
 unfoldable pub root : List Id → Id
 root ids = root_within (length ids) ids
-
-abbrev pub same_id : Id → Id → Bool
-same_id a b = pointwise ◌==◌ a.0 b.0
 
 -- equal ids at places 2k and 2k + 1, before the last is repeated
 abbrev pub has_twin : List Id → Bool

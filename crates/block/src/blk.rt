@@ -109,9 +109,9 @@ pub struct BlkReader<R: Source> {
 impl<R: Source> Model for BlkReader<R> {
     ghost use Rattle.std.specs.Prelude.{◌≡◌, ◌+◌, ◌<◌, ◌^◌, [], length};
     ghost use Rattle.block.specs.declared.blk.Stage.TheVariants as stages;
-    ghost use Rattle.block.specs.Place.{Place};
+    ghost use Rattle.block.specs.Progress.{Progress};
 
-    ghost Value = { Place };
+    ghost Value = { Progress };
 
     ghost view = { λ r. record { offset = r.offset; to_come = R.to_come r.source; failed = R.failed r.source; stage = r.stage } };
 

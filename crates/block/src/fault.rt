@@ -1,5 +1,5 @@
 ghost use Rattle.std.specs.Prelude.{◌≡◌};
-ghost use Rattle.block.specs.Faults.{told};
+ghost use Rattle.block.specs.Fault.{told};
 
 use std::error::Error;
 use std::fmt;

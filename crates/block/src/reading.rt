@@ -1,7 +1,7 @@
 ghost use Rattle.std.specs.Prelude.{◌≡◌, ◌⊎◌, ◌/◌, min, [], length, vec_capacity, IfOk, IfErr, IsOkUnless, Err};
 ghost use Rattle.wire.specs.computed.Reading.{Gives, many_at, counted_at};
 ghost use Rattle.txn.specs.computed.Reading.{tx_at};
-ghost use Rattle.txn.specs.Faults.{spoken};
+ghost use Rattle.txn.specs.Fault.{spoken};
 ghost use Rattle.block.specs.Grammar.{block};
 ghost use Rattle.block.specs.Whole.{Faulty};
 ghost use Rattle.block.specs.Decoding.{decoded, Decodes};

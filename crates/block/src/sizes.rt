@@ -4,7 +4,7 @@ ghost use Rattle.std.specs.Prelude.{◌≡◌, ◌-◌, ◌^◌, ◌≤◌, leng
 ghost use Rattle.wire.specs.Spelling.{compact};
 ghost use Rattle.wire.specs.Grammar.{sized};
 ghost use Rattle.txn.specs.Grammar as grammar;
-ghost use Rattle.block.specs.Size.{size_of};
+ghost use Rattle.block.specs.Sizes.{size_of};
 
 use crate::block::Block;
 use hash::Id;

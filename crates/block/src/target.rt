@@ -1,10 +1,10 @@
 ghost use Rattle.std.specs.Prelude.{◌≡◌, ◌==◌, IsTrue, ◌↔◌};
 ghost use Rattle.std.specs.List.{list_all};
-ghost use Rattle.wire.specs.Grammar.{IsBytes};
 ghost use Rattle.block.specs.Target.{MeetsTarget, meets_target};
 
 use byteorder::{ByteOrder, LittleEndian};
 use hash::Id;
+use wire::in_range;
 
 /// The highest three bytes of regtest's target; the others are zero.
 const TARGET_TOP: u64 = 0x7f_ffff;
@@ -27,12 +27,4 @@ pub(crate) fn is_zero(bytes: &[u8]) -> bool
     ensures { result ≡ list_all (λ byte. byte == 0) bytes.now }
 {
     bytes.iter().all(|byte| *byte == 0)
-}
-
-/// The same bytes, of which a proof then knows that each is below 256: of a field's bytes it doesn't.
-fn in_range(bytes: &[u8]) -> &[u8]
-    ensures same { result.now ≡ bytes.now }
-    ensures bytes { IsBytes bytes.now }
-{
-    bytes
 }

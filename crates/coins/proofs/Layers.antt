@@ -5,18 +5,18 @@ use Rattle.std.specs.Option.{option_copied}
 use Rattle.std.specs.Result.{is_err}
 use Rattle.std.specs.FinMap.{get}
 use Rattle.txn.specs.declared.outpoint.OutPoint.{OutPoint}
-use Rattle.coins.specs.declared.entry.Entry.{Entry}
-use Rattle.coins.specs.declared.entry.Entry.TheVariants.{Clean, Dirty, Fresh}
+use Rattle.coins.specs.declared.entry.CacheEntry.{CacheEntry}
+use Rattle.coins.specs.declared.entry.CacheEntry.TheVariants.{Clean, Dirty, Fresh}
 use Rattle.coins.specs.Coins.{Coin, Coins, Layer, same, put}
 use Rattle.coins.specs.Entries.{Entries, stands, over, entry_at, MarkHolds, IsSound, Written, added_entry, is_fresh, own_coin, emptied}
 use Rattle.coins.specs.laws.Lookups.{same_coins, same-true, same-sym, get-put}
 
 -- what stands under an entry, if there is one
-abbrev pub stands_at : Option Entry → Option Coin → Option Coin
+abbrev pub stands_at : Option CacheEntry → Option Coin → Option Coin
 stands_at None below = below
 stands_at (Some e) below = stands e below
 
-over_here : (b : Bool) (k q : OutPoint) (m : Coins) (e : Entry) (o : Option Entry) → same q k ≡ b → cond b (stands e (map.get m k)) (stands_at o (map.get m q)) ≡ stands_at (cond b (Some e) o) (map.get m q)
+over_here : (b : Bool) (k q : OutPoint) (m : Coins) (e : CacheEntry) (o : Option CacheEntry) → same q k ≡ b → cond b (stands e (map.get m k)) (stands_at o (map.get m q)) ≡ stands_at (cond b (Some e) o) (map.get m q)
 over_here true k q m e o h = ap (λ x. stands e (map.get m x)) (sym (same-true q k h))
 over_here false k q m e o h = refl
 
@@ -28,11 +28,11 @@ get-over m (e ∷ es) q =
     ∙ ap (cond (same q e.0) (stands e.1 (map.get m e.0))) (get-over m es q)
     ∙ over_here (same q e.0) e.0 q m e.1 (entry_at es q) refl
 
-write_here : (b : Bool) (k q : OutPoint) (m : Coins) (e o : Option Entry) → same k q ≡ b → stands_at (cond b e o) (get m q) ≡ cond b (stands_at e (get m k)) (stands_at o (get m q))
+write_here : (b : Bool) (k q : OutPoint) (m : Coins) (e o : Option CacheEntry) → same k q ≡ b → stands_at (cond b e o) (get m q) ≡ cond b (stands_at e (get m k)) (stands_at o (get m q))
 write_here true k q m e o h = ap (λ x. stands_at e (get m x)) (sym (same-true k q h))
 write_here false k q m e o h = refl
 
-pub over-write : (m : Coins) (es fs : Entries) (k : OutPoint) (e : Option Entry) → Written es fs k e → over m fs ≡ put (over m es) k (stands_at e (get m k))
+pub over-write : (m : Coins) (es fs : Entries) (k : OutPoint) (e : Option CacheEntry) → Written es fs k e → over m fs ≡ put (over m es) k (stands_at e (get m k))
 over-write m es fs k e h = same_coins _ _ (λ q.
     get-over m fs q
     ∙ ap (λ o. stands_at o (get m q)) (h.at q)
@@ -40,11 +40,11 @@ over-write m es fs k e h = same_coins _ _ (λ q.
     ∙ ap (λ b. cond b (stands_at e (get m k)) (stands_at (entry_at es q) (get m q))) (same-sym k q)
     ∙ sym (get-put (over m es) k (stands_at e (get m k)) q ∙ ap (cond (same q k) (stands_at e (get m k))) (get-over m es q)))
 
-mark_here : (b : Bool) (k q : OutPoint) (m : Coins) (e o : Option Entry) → same k q ≡ b → MarkHolds e (get m k) → MarkHolds o (get m q) → MarkHolds (cond b e o) (get m q)
+mark_here : (b : Bool) (k q : OutPoint) (m : Coins) (e o : Option CacheEntry) → same k q ≡ b → MarkHolds e (get m k) → MarkHolds o (get m q) → MarkHolds (cond b e o) (get m q)
 mark_here true k q m e o h new old = subst (λ x. MarkHolds e (get m x)) (same-true k q h) new
 mark_here false k q m e o h new old = old
 
-pub sound-write : (m : Coins) (es fs : Entries) (k : OutPoint) (e : Option Entry) → Written es fs k e → MarkHolds e (get m k) → IsSound m es → IsSound m fs
+pub sound-write : (m : Coins) (es fs : Entries) (k : OutPoint) (e : Option CacheEntry) → Written es fs k e → MarkHolds e (get m k) → IsSound m es → IsSound m fs
 sound-write m es fs k e h new old = record { marks = λ q. subst (λ o. MarkHolds o (get m q)) (sym (h.at q)) (mark_here (same k q) k q m e (entry_at es q) refl new (old.marks q)) }
 
 -- the same entries
@@ -52,34 +52,34 @@ pub sound-same : (m : Coins) (es fs : Entries) → fs ≡ es → IsSound m es �
 sound-same m es fs h old = subst (λ x. IsSound m x) (sym h) old
 
 -- a coin that is added where none stands
-pub added_mark : (o : Option Entry) (c : Coin) (below : Option Coin) → MarkHolds o below → stands_at o below ≡ None → MarkHolds (Some (added_entry o c)) below
+pub added_mark : (o : Option CacheEntry) (c : Coin) (below : Option Coin) → MarkHolds o below → stands_at o below ≡ None → MarkHolds (Some (added_entry o c)) below
 added_mark None c below h none = none
 added_mark (Some Clean) c below h none = none
 added_mark (Some (Dirty w)) c below h none = tt
 added_mark (Some (Fresh d)) c below h none = h
 
-pub added_stands : (o : Option Entry) (c : Coin) (below : Option Coin) → stands (added_entry o c) below ≡ Some c
+pub added_stands : (o : Option CacheEntry) (c : Coin) (below : Option Coin) → stands (added_entry o c) below ≡ Some c
 added_stands None c below = refl
 added_stands (Some Clean) c below = refl
 added_stands (Some (Dirty w)) c below = refl
 added_stands (Some (Fresh d)) c below = refl
 
 -- where a fresh entry goes, nothing is left
-pub fresh_none : (o : Option Entry) (below : Option Coin) → is_fresh o ≡ true → MarkHolds o below → below ≡ None
+pub fresh_none : (o : Option CacheEntry) (below : Option Coin) → is_fresh o ≡ true → MarkHolds o below → below ≡ None
 fresh_none None below f h = cc
 fresh_none (Some Clean) below f h = cc
 fresh_none (Some (Dirty w)) below f h = cc
 fresh_none (Some (Fresh d)) below f h = h
 
 -- the coin that an entry holds is what stands there
-pub own_stands : (o : Option Entry) (below : Option Coin) (c : Coin) → own_coin o ≡ Some c → stands_at o below ≡ Some c
+pub own_stands : (o : Option CacheEntry) (below : Option Coin) (c : Coin) → own_coin o ≡ Some c → stands_at o below ≡ Some c
 own_stands None below c h = cc
 own_stands (Some Clean) below c h = cc
 own_stands (Some (Dirty w)) below c h = h
 own_stands (Some (Fresh d)) below c h = h
 
 -- a coin that no entry holds stands below
-pub below_stands : (o : Option Entry) (below : Option Coin) → own_coin o ≡ None → IsSome (stands_at o below) → stands_at o below ≡ below
+pub below_stands : (o : Option CacheEntry) (below : Option Coin) → own_coin o ≡ None → IsSome (stands_at o below) → stands_at o below ≡ below
 below_stands None below h s = refl
 below_stands (Some Clean) below h s = refl
 below_stands (Some (Dirty None)) below h s = cc
@@ -87,13 +87,13 @@ below_stands (Some (Dirty (Some d))) below h s = cc
 below_stands (Some (Fresh d)) below h s = cc
 
 -- once it is taken, nothing stands there
-pub emptied_stands : (o : Option Entry) (below : Option Coin) (c : Coin) → own_coin o ≡ Some c → MarkHolds o below → stands_at (emptied o) below ≡ None
+pub emptied_stands : (o : Option CacheEntry) (below : Option Coin) (c : Coin) → own_coin o ≡ Some c → MarkHolds o below → stands_at (emptied o) below ≡ None
 emptied_stands None below c h mark = cc
 emptied_stands (Some Clean) below c h mark = cc
 emptied_stands (Some (Dirty w)) below c h mark = refl
 emptied_stands (Some (Fresh d)) below c h mark = mark
 
-pub emptied_mark : (o : Option Entry) (below : Option Coin) → MarkHolds o below → MarkHolds (emptied o) below
+pub emptied_mark : (o : Option CacheEntry) (below : Option Coin) → MarkHolds o below → MarkHolds (emptied o) below
 emptied_mark None below mark = tt
 emptied_mark (Some Clean) below mark = tt
 emptied_mark (Some (Dirty w)) below mark = tt
@@ -113,7 +113,7 @@ layer_below l m es q v none some =
     at ∙ below_stands (entry_at es q) (get m q) none (subst IsSome at some)
 
 -- a cache's value after a write
-pub layer_write : (l : Layer) (m : Coins) (es fs : Entries) (k : OutPoint) (e : Option Entry) (w : Option Coin) → layer m es ≡ l → Written es fs k e → stands_at e (get m k) ≡ w → ◌≡◌ {A = Layer} (layer m fs) (record { base = l.base; coins = put l.coins k w })
+pub layer_write : (l : Layer) (m : Coins) (es fs : Entries) (k : OutPoint) (e : Option CacheEntry) (w : Option Coin) → layer m es ≡ l → Written es fs k e → stands_at e (get m k) ≡ w → ◌≡◌ {A = Layer} (layer m fs) (record { base = l.base; coins = put l.coins k w })
 layer_write l m es fs k e w v h s =
     ap (λ (x : Coins). let y : Layer = record { base = m; coins = x } in y) (over-write m es fs k e h ∙ ap (put (over m es) k) s)
     ∙ ap (λ (x : Layer). let y : Layer = record { base = x.base; coins = put x.coins k w } in y) v
@@ -130,7 +130,7 @@ on_err (Ok x) h f = tt
 on_err (Err x) h f = f h
 
 -- after a write that may be refused
-pub sound_after : {T E : Type 0} (r : Result T E) (m : Coins) (es fs : Entries) (k : OutPoint) (e : Option Entry) → OnOk r (Written es fs k e) → OnErr r (fs ≡ es) → MarkHolds e (get m k) → IsSound m es → IsSound m fs
+pub sound_after : {T E : Type 0} (r : Result T E) (m : Coins) (es fs : Entries) (k : OutPoint) (e : Option CacheEntry) → OnOk r (Written es fs k e) → OnErr r (fs ≡ es) → MarkHolds e (get m k) → IsSound m es → IsSound m fs
 sound_after (Ok x) m es fs k e ok err new old = sound-write m es fs k e ok new old
 sound_after (Err x) m es fs k e ok err new old = sound-same m es fs err old
 

@@ -7,7 +7,7 @@ use Rattle.std.specs.List.Sorted.{IsStrictlySortedBy}
 use Rattle.std.proofs.lemmas.List.{append_assoc, append-nil}
 use Rattle.std.proofs.lemmas.Map.Keys.{IsDistinct-from_sorted}
 use Rattle.txn.specs.declared.outpoint.OutPoint.{OutPoint}
-use Rattle.coins.specs.declared.entry.Entry.{Entry}
+use Rattle.coins.specs.declared.entry.CacheEntry.{CacheEntry}
 use Rattle.coins.specs.Coins.{Coin, Coins, outpoint_cmp, same}
 use Rattle.coins.specs.Entries.{Entries, stands, over, entry_at, MarkHolds, IsSound}
 use Rattle.coins.specs.Changes.{Changes, named, AreChanges, Lists}
@@ -22,11 +22,11 @@ absent : (k : OutPoint) (es : Entries) → AllByRecursion (λ y. same k y ≡ fa
 absent k [] a = refl
 absent k (e ∷ es) a = ap (λ b. cond b (Some e.1) (entry_at es k)) a.0 ∙ absent k es a.1
 
-mark_self : (b : Bool) (e : Entry) (o : Option Entry) (below : Option Coin) → b ≡ true → MarkHolds (cond b (Some e) o) below → MarkHolds (Some e) below
+mark_self : (b : Bool) (e : CacheEntry) (o : Option CacheEntry) (below : Option Coin) → b ≡ true → MarkHolds (cond b (Some e) o) below → MarkHolds (Some e) below
 mark_self true e o below h mark = mark
 mark_self false e o below h mark = cc
 
-mark_rest : (b : Bool) (k q : OutPoint) (e : Entry) (es : Entries) (below : Option Coin) → same q k ≡ b → entry_at es k ≡ None → MarkHolds (cond b (Some e) (entry_at es q)) below → MarkHolds (entry_at es q) below
+mark_rest : (b : Bool) (k q : OutPoint) (e : CacheEntry) (es : Entries) (below : Option Coin) → same q k ≡ b → entry_at es k ≡ None → MarkHolds (cond b (Some e) (entry_at es q)) below → MarkHolds (entry_at es q) below
 mark_rest true k q e es below h none mark = subst (λ o. MarkHolds o below) (sym (ap (entry_at es) (same-true q k h) ∙ none)) tt
 mark_rest false k q e es below h none mark = mark
 
@@ -46,14 +46,14 @@ pub lists_none : (m : Coins) (es : Entries) (cs : Changes) → ((ds : Changes) �
 unfolding Lists
 lists_none m es cs h = subst (Lists m es) (append-nil cs) (h [] refl)
 
-pub lists_skip : (m : Coins) (es rest : Entries) (k : OutPoint) (e : Entry) (cs : Changes)
+pub lists_skip : (m : Coins) (es rest : Entries) (k : OutPoint) (e : CacheEntry) (cs : Changes)
     → stands e (map.get m k) ≡ map.get m k
     → ((ds : Changes) → Lists m ((k, e) ∷ rest) ds → Lists m es (cs ++ ds))
     → (ds : Changes) → Lists m rest ds → Lists m es (cs ++ ds)
 unfolding Lists
 lists_skip m es rest k e cs alike h ds l = h ds (inl (alike, l))
 
-pub lists_push : (m : Coins) (es rest : Entries) (k : OutPoint) (e : Entry) (w : Option Coin) (cs : Changes)
+pub lists_push : (m : Coins) (es rest : Entries) (k : OutPoint) (e : CacheEntry) (w : Option Coin) (cs : Changes)
     → w ≡ stands e (map.get m k) → ¬ (w ≡ map.get m k)
     → ((ds : Changes) → Lists m ((k, e) ∷ rest) ds → Lists m es (cs ++ ds))
     → (ds : Changes) → Lists m rest ds → Lists m es ((cs ++ (k, w) ∷ []) ++ ds)
@@ -70,17 +70,17 @@ names_alike : (o : Option (Option Coin)) (below now : Option Coin) → NamesRigh
 names_alike None below now h e = e
 names_alike (Some w) below now h e = absurd (h.1 refl)
 
-skip_here : (b : Bool) (m : Coins) (k q : OutPoint) (e : Entry) (es : Entries) (o : Option (Option Coin)) → same q k ≡ b → entry_at es k ≡ None
+skip_here : (b : Bool) (m : Coins) (k q : OutPoint) (e : CacheEntry) (es : Entries) (o : Option (Option Coin)) → same q k ≡ b → entry_at es k ≡ None
     → stands e (map.get m k) ≡ map.get m k → NamesRight (map.get m q) (stands_at (entry_at es q) (map.get m q)) o
     → NamesRight (map.get m q) (stands_at (cond b (Some e) (entry_at es q)) (map.get m q)) o
 skip_here true m k q e es o h none alike right =
     let one = same-true q k h in
     names_alike o (map.get m q) (stands e (map.get m q))
-    (subst (λ (x : Option Entry). NamesRight (map.get m q) (stands_at x (map.get m q)) o) (ap (entry_at es) one ∙ none) right)
+    (subst (λ (x : Option CacheEntry). NamesRight (map.get m q) (stands_at x (map.get m q)) o) (ap (entry_at es) one ∙ none) right)
     (ap (λ x. stands e (map.get m x)) one ∙ alike ∙ sym (ap (map.get m) one))
 skip_here false m k q e es o h none alike right = right
 
-push_here : (b : Bool) (m : Coins) (k q : OutPoint) (e : Entry) (o : Option Entry) (p : Option (Option Coin)) → same q k ≡ b
+push_here : (b : Bool) (m : Coins) (k q : OutPoint) (e : CacheEntry) (o : Option CacheEntry) (p : Option (Option Coin)) → same q k ≡ b
     → ¬ (stands e (map.get m k) ≡ map.get m k) → NamesRight (map.get m q) (stands_at o (map.get m q)) p
     → NamesRight (map.get m q) (stands_at (cond b (Some e) o) (map.get m q)) (cond b (Some (stands e (map.get m k))) p)
 push_here true m k q e o p h differs right =

@@ -9,7 +9,7 @@ ghost use Rattle.coins.specs.Entries.{over, IsSound};
 use crate::base::Base;
 use crate::changes::list;
 use crate::coin::Coin;
-use crate::entry::{Entry, added, lay_all, make_room, take, write};
+use crate::entry::{CacheEntry, added, lay_all, make_room, take, write};
 use crate::writes::Writes;
 use std::alloc::Global;
 use std::collections::BTreeMap;
@@ -22,7 +22,7 @@ use wire::Memory;
 #[derive(Drop)]
 pub struct Cache<'a, B: Base> {
     base: &'a B,
-    entries: BTreeMap<OutPoint, Entry>,
+    entries: BTreeMap<OutPoint, CacheEntry>,
 }
 
 impl<'a, B: Base> Model for Cache<'a, B> {
@@ -56,9 +56,9 @@ impl<'a, B: Base> Cache<'a, B> {
         ensures { option_copied result ≡ map.get self.now.coins at.now }
     {
         match self.entries.get(at) {
-            Some(Entry::Dirty(coin)) => coin.as_ref(),
-            Some(Entry::Fresh(coin)) => Some(coin),
-            Some(Entry::Clean) => self.base.get(at),
+            Some(CacheEntry::Dirty(coin)) => coin.as_ref(),
+            Some(CacheEntry::Fresh(coin)) => Some(coin),
+            Some(CacheEntry::Clean) => self.base.get(at),
             None => self.base.get(at),
         }
     }
@@ -84,7 +84,7 @@ impl<'a, B: Base> Cache<'a, B> {
             return Ok(coin);
         }
         let coin = self.base.get(at).unwrap().copy()?;
-        write(&mut self.entries, *at, Entry::Dirty(None))?;
+        write(&mut self.entries, *at, CacheEntry::Dirty(None))?;
         Ok(coin)
     }
 

@@ -11,7 +11,7 @@ ghost use Rattle.coins.specs.Changes.{Lists};
 
 use crate::base::Base;
 use crate::coin::Coin;
-use crate::entry::Entry;
+use crate::entry::CacheEntry;
 use std::alloc::Global;
 use std::collections::BTreeMap;
 use txn::OutPoint;
@@ -20,7 +20,7 @@ use wire::Memory;
 /// The changes that these entries make to what is below, by rising outpoints.
 pub(crate) fn list<B: Base>(
     alloc: Global,
-    entries: &BTreeMap<OutPoint, Entry>,
+    entries: &BTreeMap<OutPoint, CacheEntry>,
     base: &B,
 ) -> Result<Vec<(OutPoint, Option<Coin>)>, Memory>
     requires { IsSound (B.coins base.now) entries.now.entries }
@@ -37,14 +37,14 @@ pub(crate) fn list<B: Base>(
 }
 
 /// What stands where an entry is, if that isn't what stands below. Below a fresh entry nobody looks.
-fn change<B: Base>(entry: &Entry, at: &OutPoint, base: &B) -> Result<Option<Option<Coin>>, Memory>
+fn change<B: Base>(entry: &CacheEntry, at: &OutPoint, base: &B) -> Result<Option<Option<Coin>>, Memory>
     requires { MarkHolds (Some entry.now) (map.get (B.coins base.now) at.now) }
     ensures { let below = map.get (B.coins base.now) at.now in IfOk result (λ change. MatchOption change (stands entry.now below ≡ below) (λ coin. (coin ≡ stands entry.now below) × (¬ (coin ≡ below)))) }
 {
     match entry {
-        Entry::Clean => Ok(None),
-        Entry::Fresh(coin) => Ok(Some(Some(coin.copy()?))),
-        Entry::Dirty(coin) => {
+        CacheEntry::Clean => Ok(None),
+        CacheEntry::Fresh(coin) => Ok(Some(Some(coin.copy()?))),
+        CacheEntry::Dirty(coin) => {
             if same(coin.as_ref(), base.get(at)) {
                 return Ok(None);
             }

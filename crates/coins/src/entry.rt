@@ -12,7 +12,7 @@ use wire::Memory;
 
 /// What a layer knows of an outpoint (Bitcoin Core's `CCoinsCacheEntry`).
 #[derive(Debug, Drop)]
-pub enum Entry {
+pub enum CacheEntry {
     /// As below: a place that is ready to be written.
     Clean,
     /// DIRTY: it may differ from below. A coin, or none where that was spent.
@@ -22,42 +22,42 @@ pub enum Entry {
 }
 
 /// The entry of a coin that is added: fresh, unless one was spent here.
-pub(crate) fn added(before: Option<&Entry>, coin: Coin) -> Entry
+pub(crate) fn added(before: Option<&CacheEntry>, coin: Coin) -> CacheEntry
     ensures { result ≡ added_entry (option_copied before.entry) coin }
 {
     match before {
-        Some(Entry::Dirty(_)) => Entry::Dirty(Some(coin)),
-        _ => Entry::Fresh(coin),
+        Some(CacheEntry::Dirty(_)) => CacheEntry::Dirty(Some(coin)),
+        _ => CacheEntry::Fresh(coin),
     }
 }
 
-fn is_fresh(entry: Option<&Entry>) -> bool
+fn is_fresh(entry: Option<&CacheEntry>) -> bool
     ensures { result ≡ is_fresh (option_copied entry.entry) }
 {
-    matches!(entry, Some(Entry::Fresh(_)))
+    matches!(entry, Some(CacheEntry::Fresh(_)))
 }
 
-fn holds_coin(entry: Option<&Entry>) -> bool
+fn holds_coin(entry: Option<&CacheEntry>) -> bool
     ensures { result ≡ is_some (own_coin (option_copied entry.entry)) }
 {
-    matches!(entry, Some(Entry::Dirty(Some(_))) | Some(Entry::Fresh(_)))
+    matches!(entry, Some(CacheEntry::Dirty(Some(_))) | Some(CacheEntry::Fresh(_)))
 }
 
-fn coin_of(entry: Option<Entry>) -> Option<Coin>
+fn coin_of(entry: Option<CacheEntry>) -> Option<Coin>
     ensures { result ≡ own_coin entry }
 {
     match entry {
-        Some(Entry::Fresh(coin)) => Some(coin),
-        Some(Entry::Dirty(coin)) => coin,
+        Some(CacheEntry::Fresh(coin)) => Some(coin),
+        Some(CacheEntry::Dirty(coin)) => coin,
         _ => None,
     }
 }
 
 /// Puts an entry at an outpoint. Where one stands already, it takes no memory.
 pub(crate) fn write(
-    entries: &mut BTreeMap<OutPoint, Entry>,
+    entries: &mut BTreeMap<OutPoint, CacheEntry>,
     at: OutPoint,
-    entry: Entry,
+    entry: CacheEntry,
 ) -> Result<(), Memory>
     ensures ok { OnOk result (Written entries.old.entries entries.new.entries at (Some entry)) }
     ensures err { OnErr result (entries.new.entries ≡ entries.old.entries) }
@@ -68,7 +68,7 @@ pub(crate) fn write(
 }
 
 /// Puts an entry in another's place, which takes no memory.
-fn replace(entries: &mut BTreeMap<OutPoint, Entry>, at: OutPoint, entry: Entry) -> Option<Entry>
+fn replace(entries: &mut BTreeMap<OutPoint, CacheEntry>, at: OutPoint, entry: CacheEntry) -> Option<CacheEntry>
     requires { IsSome (entry_at entries.old.entries at) }
     ensures before { result ≡ entry_at entries.old.entries at }
     ensures written { Written entries.old.entries entries.new.entries at (Some entry) }
@@ -79,14 +79,14 @@ fn replace(entries: &mut BTreeMap<OutPoint, Entry>, at: OutPoint, entry: Entry) 
     }
 }
 
-fn forget(entries: &mut BTreeMap<OutPoint, Entry>, at: &OutPoint)
+fn forget(entries: &mut BTreeMap<OutPoint, CacheEntry>, at: &OutPoint)
     ensures { Written entries.old.entries entries.new.entries at.now None }
 {
     entries.remove(at);
 }
 
 /// Takes out the coin that this layer holds, if it holds one, which takes no memory.
-pub(crate) fn take(entries: &mut BTreeMap<OutPoint, Entry>, at: &OutPoint) -> Option<Coin>
+pub(crate) fn take(entries: &mut BTreeMap<OutPoint, CacheEntry>, at: &OutPoint) -> Option<Coin>
     ensures coin { result ≡ own_coin (entry_at entries.old.entries at.now) }
     ensures taken { IsSome result → Written entries.old.entries entries.new.entries at.now (emptied (entry_at entries.old.entries at.now)) }
     ensures none { IfNone result (entries.new.entries ≡ entries.old.entries) }
@@ -97,47 +97,47 @@ pub(crate) fn take(entries: &mut BTreeMap<OutPoint, Entry>, at: &OutPoint) -> Op
     if is_fresh(entries.get(at)) {
         return coin_of(entries.remove(at));
     }
-    coin_of(replace(entries, *at, Entry::Dirty(None)))
+    coin_of(replace(entries, *at, CacheEntry::Dirty(None)))
 }
 
 /// Has an entry at each outpoint that is going to be written, a clean one where there was none.
 pub(crate) fn make_room(
-    entries: &mut BTreeMap<OutPoint, Entry>,
-    writes: &BTreeMap<OutPoint, Entry>,
+    entries: &mut BTreeMap<OutPoint, CacheEntry>,
+    writes: &BTreeMap<OutPoint, CacheEntry>,
 ) -> Result<(), Memory>
     ensures readied { AreReadied entries.old.entries entries.new.entries }
     ensures room { OnOk result (HasRoom entries.new.entries writes.now.entries) }
 {
     for (at, _) in writes {
         if !entries.contains_key(at) {
-            write(entries, *at, Entry::Clean)?;
+            write(entries, *at, CacheEntry::Clean)?;
         }
     }
     Ok(())
 }
 
 /// Lays an entry of the layer above over the one that is there, which takes no memory.
-fn lay_one(entries: &mut BTreeMap<OutPoint, Entry>, at: OutPoint, entry: Entry)
+fn lay_one(entries: &mut BTreeMap<OutPoint, CacheEntry>, at: OutPoint, entry: CacheEntry)
     requires { IsSome (entry_at entries.old.entries at) }
     ensures { Written entries.old.entries entries.new.entries at (merged (entry_at entries.old.entries at) entry) }
 {
     match entry {
-        Entry::Clean => {}
-        Entry::Dirty(None) => {
+        CacheEntry::Clean => {}
+        CacheEntry::Dirty(None) => {
             if is_fresh(entries.get(&at)) {
                 forget(entries, &at);
             } else {
-                let _ = write(entries, at, Entry::Dirty(None));
+                let _ = write(entries, at, CacheEntry::Dirty(None));
             }
         }
-        Entry::Dirty(Some(coin)) => {
+        CacheEntry::Dirty(Some(coin)) => {
             if is_fresh(entries.get(&at)) {
-                let _ = write(entries, at, Entry::Fresh(coin));
+                let _ = write(entries, at, CacheEntry::Fresh(coin));
             } else {
-                let _ = write(entries, at, Entry::Dirty(Some(coin)));
+                let _ = write(entries, at, CacheEntry::Dirty(Some(coin)));
             }
         }
-        Entry::Fresh(coin) => {
+        CacheEntry::Fresh(coin) => {
             let entry = added(entries.get(&at), coin);
             let _ = write(entries, at, entry);
         }
@@ -145,7 +145,7 @@ fn lay_one(entries: &mut BTreeMap<OutPoint, Entry>, at: OutPoint, entry: Entry)
 }
 
 /// Lays all entries of the layer above over those that are there, which takes no memory.
-pub(crate) fn lay_all(entries: &mut BTreeMap<OutPoint, Entry>, writes: BTreeMap<OutPoint, Entry>)
+pub(crate) fn lay_all(entries: &mut BTreeMap<OutPoint, CacheEntry>, writes: BTreeMap<OutPoint, CacheEntry>)
     requires { HasRoom entries.old.entries writes.entries }
     ensures { (q : OutPoint) → entry_at entries.new.entries q ≡ merged_at (entry_at entries.old.entries q) (entry_at writes.entries q) }
 {

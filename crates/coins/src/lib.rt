@@ -15,7 +15,7 @@ pub use base::Base;
 pub use cache::Cache;
 pub use coin::Coin;
 pub use coin_map::CoinMap;
-pub use entry::Entry;
+pub use entry::CacheEntry;
 pub use writes::Writes;
 
 #[cfg(test)]

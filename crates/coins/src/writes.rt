@@ -1,6 +1,6 @@
 //! What a layer wrote, apart from what it stands on.
 
-use crate::entry::Entry;
+use crate::entry::CacheEntry;
 use std::collections::BTreeMap;
 use std::marker::Model;
 use txn::OutPoint;
@@ -8,7 +8,7 @@ use txn::OutPoint;
 /// What a layer wrote, taken out of it. A clause sees the list of its entries.
 #[derive(Drop)]
 pub struct Writes {
-    pub(crate) entries: BTreeMap<OutPoint, Entry>,
+    pub(crate) entries: BTreeMap<OutPoint, CacheEntry>,
 }
 
 impl Model for Writes {

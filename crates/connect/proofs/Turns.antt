@@ -14,7 +14,7 @@ use Rattle.undo.specs.Effect.{spends, coins_at, spent}
 use Rattle.rules.specs.Alone.{max_block_sigops, tx_sigops}
 use Rattle.connect.specs.Setting.{Setting}
 use Rattle.connect.specs.Turns.{Turn, turn, inner_sigops, spent_in, plain_count}
-use Rattle.connect.specs.Faults.{has_coin, is_immature, place_of, is_early, pays_too_much, is_locked}
+use Rattle.connect.specs.Faults.{has_coin, is_immature, lock_start, is_early, pays_too_much, is_locked}
 use Rattle.connect.specs.Inside.{coins_of}
 use Rattle.connect.specs.laws.Broken.{UpToCoins}
 
@@ -53,8 +53,8 @@ module _ (s : Setting) (tx : Tx) (m : Coins) (n : ℕ) (few : n ≤ max_block_si
   amount_is x y b e f h = sym (h ∙ ap₂ (λ u v. not (is_coinbase tx) && int_lt u v) e f)
 
   pub locked_is : (coins : List (Bor Coin)) (b : Bool) → coins_of coins ≡ spent_in here
-      → b ≡ (s.rules.csv && not (are_met tx (map (place_of s.medians) (coins_of coins)) s.height s.cutoff)) → is_locked s here ≡ b
-  locked_is coins b e h = sym (h ∙ ap (λ cs. s.rules.csv && not (are_met tx (map (place_of s.medians) cs) s.height s.cutoff)) e)
+      → b ≡ (s.rules.csv && not (are_met tx (map (lock_start s.medians) (coins_of coins)) s.height s.cutoff)) → is_locked s here ≡ b
+  locked_is coins b e h = sym (h ∙ ap (λ cs. s.rules.csv && not (are_met tx (map (lock_start s.medians) cs) s.height s.cutoff)) e)
 
   -- the count with inner scripts, after the one without them
   pub inner_is : (coins : List (Bor Coin)) (r p i : ℕ) → coins_of coins ≡ spent_in here → r ≡ min (tx_sigops tx) (2 ^ 128 - 1) → p ≡ min (n + r) (2 ^ 128 - 1) → p ≤ max_block_sigops

@@ -101,25 +101,25 @@ listed_is s m x rest first =
 
 -- ---- a block that begins with a coinbase
 
-pub record HasCoinbase (txs : List Tx) : Type 0 where
+pub record CoinbaseFirst (txs : List Tx) : Type 0 where
   pub first : Tx
   pub is : is_coinbase first ≡ true
   pub parts : txs ≡ first ∷ drop 1 txs
 
-coinbase_first : (txs : List Tx) → 1 ≤ length txs → begins_with_coinbase txs ≡ true → HasCoinbase txs
+coinbase_first : (txs : List Tx) → 1 ≤ length txs → begins_with_coinbase txs ≡ true → CoinbaseFirst txs
 coinbase_first [] some h = absurd (omega arith)
 coinbase_first (tx ∷ txs) some h = record { first = tx; is = h; parts = refl }
 
-pub has_coinbase : (b : Block) → IsLawfulBlock b → HasCoinbase b.txs
-has_coinbase b h = coinbase_first b.txs h.some h.first
+pub lawful_coinbase_first : (b : Block) → IsLawfulBlock b → CoinbaseFirst b.txs
+lawful_coinbase_first b h = coinbase_first b.txs h.some h.first
 
-pub block_fits : (s : Setting) (m : Coins) (txs : List Tx) → HasCoinbase txs → AllZip Fits (drop 1 txs) (undo_of s.height m txs)
+pub block_fits : (s : Setting) (m : Coins) (txs : List Tx) → CoinbaseFirst txs → AllZip Fits (drop 1 txs) (undo_of s.height m txs)
 block_fits s m txs h =
     let t = turn h.first m 0 in
     subst (λ (l : List (List Coin)). AllZip Fits (drop 1 txs) l) (sym (ap (undo_of s.height m) h.parts ∙ undo_is s m h.first (drop 1 txs)))
     (all_fit s.height (left_by s.height t) (full_count t) (drop 1 txs))
 
-pub block_few : (s : Setting) (m : Coins) (txs : List Tx) → HasCoinbase txs → sum_by (λ (coins : List Coin). length coins) (undo_of s.height m txs) ≤ inputs_of txs
+pub block_few : (s : Setting) (m : Coins) (txs : List Tx) → CoinbaseFirst txs → sum_by (λ (coins : List Coin). length coins) (undo_of s.height m txs) ≤ inputs_of txs
 block_few s m txs h =
     let t = turn h.first m 0 in
     omega (
@@ -130,7 +130,7 @@ block_few s m txs h =
       sum_by-cons (λ (x : Tx). length x.inputs) h.first (drop 1 txs),
     )
 
-pub block_checks : (s : Setting) (m : Coins) (txs : List Tx) → HasCoinbase txs → listed (flags_of s.rules) 1 (drop 1 txs) (undo_of s.height m txs) ≡ script_checks s m txs
+pub block_checks : (s : Setting) (m : Coins) (txs : List Tx) → CoinbaseFirst txs → listed (flags_of s.rules) 1 (drop 1 txs) (undo_of s.height m txs) ≡ script_checks s m txs
 block_checks s m txs h =
     ap (λ (l : List Tx). listed (flags_of s.rules) 1 (drop 1 txs) (undo_of s.height m l)) h.parts
     ∙ listed_is s m h.first (drop 1 txs) h.is

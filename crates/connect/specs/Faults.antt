@@ -10,7 +10,7 @@ use Rattle.txn.specs.Check.{is_coinbase, total}
 use Rattle.txn.specs.First.{Rules}
 use Rattle.txn.specs.Identity.{id_of}
 use Rattle.block.specs.Reward.{subsidy_of}
-use Rattle.locks.specs.declared.relative.Place.{Place}
+use Rattle.locks.specs.declared.relative.LockStart.{LockStart}
 use Rattle.locks.specs.Relative.{are_met}
 use Rattle.coins.specs.declared.coin.Coin.{Coin}
 use Rattle.coins.specs.Coins.{Coins}
@@ -39,8 +39,8 @@ abbrev pub is_immature : ℕ → Coin → Bool
 is_immature height coin = coin.coinbase && nat_lt height (coin.height + coinbase_maturity)
 
 -- from where the relative lock of the input counts that spends a coin (BIP 68)
-abbrev pub place_of : List ℕ → Coin → Place
-place_of medians coin = record { height = coin.height; median = median_below medians coin.height }
+abbrev pub lock_start : List ℕ → Coin → LockStart
+lock_start medians coin = record { height = coin.height; median = median_below medians coin.height }
 
 -- what a transaction gives to the coinbase: what it spends without what it pays
 abbrev pub fee : Turn → ℤ
@@ -67,7 +67,7 @@ pays_too_much turn = not (is_coinbase turn.tx) && int_lt (sum_of_values (spent_i
 
 -- a relative lock isn't met, where such locks are in force
 abbrev pub is_locked : Setting → Turn → Bool
-is_locked s turn = s.rules.csv && not (are_met turn.tx (map (place_of s.medians) (spent_in turn)) s.height s.cutoff)
+is_locked s turn = s.rules.csv && not (are_met turn.tx (map (lock_start s.medians) (spent_in turn)) s.height s.cutoff)
 
 -- of a transaction in its turn
 unfoldable pub turn_rules : Setting → Turn → Rules

@@ -6,7 +6,7 @@ use coins::{Base, Cache, Coin, CoinMap};
 use curve::Table;
 use hash::{Id, hash160};
 use queue::{Alone, Crew, Open, Threaded};
-use rules::{Params, block_alone_with};
+use rules::{Params, REGTEST_BITS, block_alone_with};
 use std::alloc::Global;
 use std::test::*;
 use txn::{Inputs, OutPoint, Outputs, Reason, Script, Tx, TxIn, TxOut, ids};
@@ -111,7 +111,7 @@ fn block_of(alloc: Global, value: i64, others: Vec<Tx>) -> Result<Block, Memory>
         prev: GENESIS_ID,
         root,
         time: 0,
-        bits: 0x207f_ffff,
+        bits: REGTEST_BITS,
         nonce: 0,
     };
     for nonce in 0..100 {

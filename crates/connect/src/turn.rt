@@ -10,7 +10,7 @@ ghost use Rattle.undo.specs.Effect.{spends};
 ghost use Rattle.rules.specs.Alone.{max_block_sigops};
 ghost use Rattle.connect.specs.Setting.{setting, median_below};
 ghost use Rattle.connect.specs.Turns.{turn, left_by, spent_in, full_count};
-ghost use Rattle.connect.specs.Faults.{is_immature, place_of, fee, turn_rules};
+ghost use Rattle.connect.specs.Faults.{is_immature, lock_start, fee, turn_rules};
 ghost use Rattle.connect.specs.Inside.{coins_of, IsReason, IsLawful};
 
 use crate::amounts::{paid, worth};
@@ -20,7 +20,7 @@ use crate::lookups::{overwrites, spent_coins};
 use crate::stop::Stop;
 use coins::{Base, Cache, Coin};
 use hash::Id;
-use locks::{Place, relative_ok};
+use locks::{LockStart, relative_ok};
 use rules::{MAX_BLOCK_SIGOPS, tx_sigops};
 use std::alloc::Global;
 use txn::{Reason, Tx};
@@ -141,27 +141,27 @@ fn pays_too_much(tx: &Tx, worth: i128, paid: i128) -> bool
 /// Whether a relative lock of a transaction isn't met, where such locks are in force. A coinbase has none.
 fn is_locked(alloc: Global, tx: &Tx, coins: &[&Coin], context: &Context) -> Result<bool, Memory>
     requires { length coins.now ≡ length (spends tx.now) }
-    ensures { IfOk result (λ yes. yes ≡ ((setting context.now).rules.csv && not (are_met tx.now (map (place_of context.now.medians.now) (coins_of coins.now)) context.now.height context.now.cutoff))) }
+    ensures { IfOk result (λ yes. yes ≡ ((setting context.now).rules.csv && not (are_met tx.now (map (lock_start context.now.medians.now) (coins_of coins.now)) context.now.height context.now.cutoff))) }
 {
     if tx.is_coinbase() || !context.params.at(context.height).csv {
         return Ok(false);
     }
-    let places = places(alloc, coins, context.medians)?;
-    Ok(!relative_ok(tx, &places, context.height, context.cutoff))
+    let starts = lock_starts(alloc, coins, context.medians)?;
+    Ok(!relative_ok(tx, &starts, context.height, context.cutoff))
 }
 
 /// From where the relative locks count of the inputs that spend these coins.
-fn places(alloc: Global, coins: &[&Coin], medians: &[u32]) -> Result<Vec<Place>, Memory>
-    ensures { IfOk result (λ places. places.items ≡ map (place_of medians.now) (coins_of coins.now)) }
+fn lock_starts(alloc: Global, coins: &[&Coin], medians: &[u32]) -> Result<Vec<LockStart>, Memory>
+    ensures { IfOk result (λ starts. starts.items ≡ map (lock_start medians.now) (coins_of coins.now)) }
 {
-    let mut places = Vec::with_capacity(alloc, coins.len())?;
+    let mut starts = Vec::with_capacity(alloc, coins.len())?;
     for coin in coins {
-        places.push(Place {
+        starts.push(LockStart {
             height: coin.height,
             median: median_below(medians, coin.height),
         })?;
     }
-    Ok(places)
+    Ok(starts)
 }
 
 /// The median time past of the block below one of this height, or of genesis where it has none below.

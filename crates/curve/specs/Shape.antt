@@ -1,4 +1,4 @@
--- The strict encoding of signatures (BIP 66): a subset of DER, and the type byte.
+-- The strict encoding of signatures (BIP 66): a subset of DER, and the hash type.
 use Rattle.std.specs.Prelude.{◌≡◌, ◌≤◌, ◌<◌, ◌⊎◌, ℕ, List, [], ◌∷◌, ◌++◌, length}
 
 -- what stands in an integer: a byte at least, none of a negative number, and no needless zero byte
@@ -29,6 +29,6 @@ pub record IsSignature (bytes : List ℕ) : Type 0 where
   pub spelled : bytes ≡ signature r s kind
   pub short : length bytes ≤ 73
 
--- a signature with its type byte is strictly encoded, or it is empty
+-- a signature with its hash type is strictly encoded, or it is empty
 abbrev pub IsStrict : List ℕ → Type 0
 IsStrict bytes = (bytes ≡ []) ⊎ IsSignature bytes

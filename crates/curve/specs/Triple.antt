@@ -6,7 +6,7 @@ use Rattle.std.specs.Cmp.Lexicographic.{slice_cmp}
 use Rattle.std.specs.FinSet as set
 use Rattle.std.specs.Coded.{Coded, code_by, coded×, coded_ℕ, coded_list}
 
--- a key, a signature without its type byte, and a digest
+-- a key, a signature without its hash type, and a digest
 pub record Triple : Type 0 where
   pub key : List ℕ
   pub signature : List ℕ

@@ -4,14 +4,14 @@ ghost use Rattle.curve.specs.Triple.{Triple};
 ghost use Rattle.curve.specs.Lines.{words, is_digit, is_skipped, IsDigest, StandsFor, Spells, IsRefusal};
 
 use crate::fault::TableFault;
-use crate::triple::Entry;
+use crate::triple::KeptTriple;
 use hex::{FromHex, FromHexError};
 use std::alloc::{AllocError, Global};
 
 /// The triple of a table's line, or nothing where the line has no word or begins with `#`.
-pub fn read(alloc: Global, line: &[u8], number: usize) -> Result<Option<Entry>, TableFault>
-    ensures found { IfOk result (λ entry. let ws = words line.now in
-        MatchOption entry (IsTrue (is_skipped ws)) (Spells ws)) }
+pub fn read(alloc: Global, line: &[u8], number: usize) -> Result<Option<KeptTriple>, TableFault>
+    ensures found { IfOk result (λ triple. let ws = words line.now in
+        MatchOption triple (IsTrue (is_skipped ws)) (Spells ws)) }
     ensures refused { IfErr result (IsRefusal line.now number) }
 {
     let unreadable = Err(TableFault::BadLine(number));
@@ -31,7 +31,7 @@ pub fn read(alloc: Global, line: &[u8], number: usize) -> Result<Option<Entry>, 
         return unreadable;
     }
     match read_triple(alloc, key, signature, digest)? {
-        Some(entry) => Ok(Some(entry)),
+        Some(triple) => Ok(Some(triple)),
         None => unreadable,
     }
 }
@@ -42,9 +42,9 @@ fn read_triple(
     key: &[u8],
     signature: &[u8],
     digest: &[u8],
-) -> Result<Option<Entry>, AllocError>
-    ensures { IfOk result (λ entry. let ws = key.now ∷ signature.now ∷ digest.now ∷ [] in
-        MatchOption entry ((t : Triple) → ¬ Spells ws t) (Spells ws)) }
+) -> Result<Option<KeptTriple>, AllocError>
+    ensures { IfOk result (λ triple. let ws = key.now ∷ signature.now ∷ digest.now ∷ [] in
+        MatchOption triple ((t : Triple) → ¬ Spells ws t) (Spells ws)) }
 {
     let Some(digest) = read_digest(digest) else {
         return Ok(None);
@@ -55,7 +55,7 @@ fn read_triple(
     let Some(signature) = read_bytes(alloc, signature)? else {
         return Ok(None);
     };
-    Ok(Some(Entry::new(key, signature, digest)))
+    Ok(Some(KeptTriple::new(key, signature, digest)))
 }
 
 /// The first word of a line, and what follows it.

@@ -8,10 +8,10 @@ const SEQUENCE: u8 = 0x30;
 /// The tag of an integer.
 const INTEGER: u8 = 0x02;
 
-/// The length in bytes of the longest signature with its type byte.
+/// The length in bytes of the longest signature with its hash type.
 const LONGEST: usize = 73;
 
-/// Whether a signature with its type byte has the strict encoding of BIP 66, or no byte at all
+/// Whether a signature with its hash type has the strict encoding of BIP 66, or no byte at all
 /// (Bitcoin Core's `IsValidSignatureEncoding`).
 pub fn der_shape(bytes: &[u8]) -> bool
     ensures shape { IsTrue result ↔ IsStrict bytes.now }
@@ -21,7 +21,7 @@ pub fn der_shape(bytes: &[u8]) -> bool
     bytes.is_empty() || is_signature(bytes)
 }
 
-/// The places are those of `30`, a length, `02`, a length, R, `02`, a length, S and the type byte.
+/// The places are those of `30`, a length, `02`, a length, R, `02`, a length, S and the hash type.
 fn is_signature(bytes: &[u8]) -> bool
     ensures { IsTrue result ↔ IsSignature bytes.now }
 {

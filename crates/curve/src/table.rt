@@ -5,17 +5,17 @@ ghost use Rattle.curve.specs.Triple.{triple_of, triple_cmp};
 
 use crate::fault::TableFault;
 use crate::lines;
-use crate::triple::Entry;
+use crate::triple::KeptTriple;
 use std::alloc::Global;
 use std::marker::Model;
 use wire::Memory;
 
-/// The signatures that are valid: triples of a key, a signature without its type byte, and the digest
+/// The signatures that are valid: triples of a key, a signature without its hash type, and the digest
 /// that it signs. A triple that isn't there is not valid.
 #[derive(Clone, Drop)]
 pub struct Table {
     /// In order, each once.
-    entries: Vec<Entry>,
+    triples: Vec<KeptTriple>,
 }
 
 impl Model for Table {
@@ -27,9 +27,9 @@ impl Model for Table {
 
     ghost coded = { set.code coded_triple };
 
-    ghost view = { λ t. set.from_list t.entries.items };
+    ghost view = { λ t. set.from_list t.triples.items };
 
-    ghost invariant = { λ t. IsStrictlySortedBy triple_cmp t.entries.items };
+    ghost invariant = { λ t. IsStrictlySortedBy triple_cmp t.triples.items };
 }
 
 impl Table {
@@ -40,47 +40,47 @@ impl Table {
         ensures { result ≡ set.empty }
     {
         Table {
-            entries: Vec::new(alloc),
+            triples: Vec::new(alloc),
         }
     }
 
-    /// The table of a text: each of its lines has a key, a signature without its type byte and a digest in
+    /// The table of a text: each of its lines has a key, a signature without its hash type and a digest in
     /// 64 digits, in lower-case hexadecimal and parted by spaces, `-` for no bytes. Lines without words, or
     /// whose first begins with `#`, are skipped.
     pub fn from_lines(alloc: Global, text: &[u8]) -> Result<Table, TableFault>
         ensures found { IfOk result (IsTableOf (lines text.now)) }
         ensures refused { IfErr result (IsFaultOf (lines text.now)) }
     {
-        let mut entries = Vec::new(alloc);
+        let mut triples = Vec::new(alloc);
         let mut number = 0;
         for line in text.split(|byte| *byte == b'\n') {
             number += 1;
-            if let Some(entry) = lines::read(alloc, line, number)? {
-                entries.push(entry)?;
+            if let Some(triple) = lines::read(alloc, line, number)? {
+                triples.push(triple)?;
             }
         }
-        entries.sort_unstable_by(|one, other| one.compare_entries(other));
-        entries.dedup_by(|entry, before| entry.compare_entries(before).is_eq());
-        Ok(Table { entries })
+        triples.sort_unstable_by(|one, other| one.compare_kept(other));
+        triples.dedup_by(|triple, before| triple.compare_kept(before).is_eq());
+        Ok(Table { triples })
     }
 
-    /// Whether a triple is there. The signature is without its type byte.
+    /// Whether a triple is there. The signature is without its hash type.
     pub fn has(&self, key: &[u8], signature: &[u8], digest: &[u8; 32]) -> bool
         ensures { result ≡ set.contains self.now (triple_of key.now signature.now digest.now) }
     {
-        place(self.entries.as_slice(), key, signature, digest).is_ok()
+        place(self.triples.as_slice(), key, signature, digest).is_ok()
     }
 
-    /// Puts a triple in. The signature is without its type byte.
+    /// Puts a triple in. The signature is without its hash type.
     pub fn add(&mut self, key: &[u8], signature: &[u8], digest: &[u8; 32]) -> Result<(), Memory>
         ensures ok { let t = triple_of key.now signature.now digest.now in
             OnOk result (self.new ≡ set.insert self.old t) }
         ensures err { OnErr result (self.new ≡ self.old) }
     {
-        if let Err(at) = place(self.entries.as_slice(), key, signature, digest) {
-            let alloc = *self.entries.allocator();
-            let entry = Entry::from_parts(alloc, key, signature, digest)?;
-            self.entries.insert(at, entry)?;
+        if let Err(at) = place(self.triples.as_slice(), key, signature, digest) {
+            let alloc = *self.triples.allocator();
+            let triple = KeptTriple::from_parts(alloc, key, signature, digest)?;
+            self.triples.insert(at, triple)?;
         }
         Ok(())
     }
@@ -93,11 +93,16 @@ impl Table {
     }
 }
 
-/// The place of a triple among entries in order, or where it would go.
-fn place(entries: &[Entry], key: &[u8], signature: &[u8], digest: &[u8; 32]) -> Result<usize, usize>
-    ensures bound { IsSearchInRange result (length entries.now) }
+/// The place of a triple among those in order, or where it would go.
+fn place(
+    triples: &[KeptTriple],
+    key: &[u8],
+    signature: &[u8],
+    digest: &[u8; 32],
+) -> Result<usize, usize>
+    ensures bound { IsSearchInRange result (length triples.now) }
     ensures position { let t = triple_of key.now signature.now digest.now in
-        IsBinarySearchResult (λ e. triple_cmp e t) entries.now result }
+        IsBinarySearchResult (λ e. triple_cmp e t) triples.now result }
 {
-    entries.binary_search_by(|entry| entry.compare(key, signature, digest))
+    triples.binary_search_by(|triple| triple.compare(key, signature, digest))
 }

@@ -5,15 +5,15 @@ use std::alloc::{AllocError, Global};
 use std::cmp::Ordering;
 use std::marker::Model;
 
-/// A triple as a table keeps it: a key, a signature without its type byte, and a digest.
+/// A triple as a table keeps it: a key, a signature without its hash type, and a digest.
 #[derive(Clone, Drop)]
-pub struct Entry {
+pub struct KeptTriple {
     key: Vec<u8>,
     signature: Vec<u8>,
     digest: [u8; 32],
 }
 
-impl Model for Entry {
+impl Model for KeptTriple {
     ghost use Rattle.curve.specs.Triple.{Triple, triple_of};
 
     ghost Value = { Triple };
@@ -21,12 +21,12 @@ impl Model for Entry {
     ghost view = { λ e. triple_of e.key.items e.signature.items e.digest };
 }
 
-impl Entry {
+impl KeptTriple {
     /// The triple of these parts.
-    pub fn new(key: Vec<u8>, signature: Vec<u8>, digest: [u8; 32]) -> Entry
+    pub fn new(key: Vec<u8>, signature: Vec<u8>, digest: [u8; 32]) -> KeptTriple
         ensures { result ≡ triple_of key.items signature.items digest }
     {
-        Entry {
+        KeptTriple {
             key,
             signature,
             digest,
@@ -39,17 +39,17 @@ impl Entry {
         key: &[u8],
         signature: &[u8],
         digest: &[u8; 32],
-    ) -> Result<Entry, AllocError>
+    ) -> Result<KeptTriple, AllocError>
         ensures { IfOk result (λ e. e ≡ triple_of key.now signature.now digest.now) }
     {
-        Ok(Entry {
+        Ok(KeptTriple {
             key: key.to_vec(alloc)?,
             signature: signature.to_vec(alloc)?,
             digest: *digest,
         })
     }
 
-    /// How the entry stands to the triple of these parts.
+    /// How the triple stands to the triple of these parts.
     pub fn compare(&self, key: &[u8], signature: &[u8], digest: &[u8; 32]) -> Ordering
         ensures { result ≡ triple_cmp self.now (triple_of key.now signature.now digest.now) }
     {
@@ -60,8 +60,8 @@ impl Entry {
             .then_with(|| self.digest.cmp(digest))
     }
 
-    /// How the entry stands to another.
-    pub fn compare_entries(&self, other: &Entry) -> Ordering
+    /// How the triple stands to another.
+    pub fn compare_kept(&self, other: &KeptTriple) -> Ordering
         ensures { result ≡ triple_cmp self.now other.now }
     {
         self.compare(

@@ -1,5 +1,6 @@
--- Ids of blocks and transactions, as they are printed.
-use Rattle.std.specs.Prelude.{◌≡◌, ℕ, List, length, reverse}
+-- Ids of blocks and transactions.
+use Rattle.std.specs.Prelude.{◌≡◌, ◌==◌, ℕ, Bool, List, length, reverse}
+use lib.Pointwise.{pointwise}
 use Rattle.hex.specs.Hex.{IsBytes, encode_lower}
 use Rattle.hash.specs.declared.id.Id.{Id}
 
@@ -7,6 +8,9 @@ use Rattle.hash.specs.declared.id.Id.{Id}
 abbrev pub IsWhole : Id → Type 0
 IsWhole id = (length id.0 ≡ 32) × IsBytes id.0
 
--- the reversed bytes in lower-case hexadecimal
+abbrev pub same_id : Id → Id → Bool
+same_id a b = pointwise ◌==◌ a.0 b.0
+
+-- as it is printed: the reversed bytes in lower-case hexadecimal
 abbrev pub shown : Id → List ℕ
 shown id = encode_lower (reverse id.0)

@@ -1,10 +1,10 @@
 -- The numbers of no row.
-use Rattle.std.proofs.Common.{◌≡◌, ℕ, ◌≤◌, [], ◌∷◌, Bool, true, false, ◌&&◌, ◌||◌, nat_lt, nat_le, eqb, refl, sym, arith}
+use Rattle.std.proofs.Common.{◌≡◌, ℕ, ◌≤◌, List, [], ◌∷◌, Bool, true, false, ◌&&◌, ◌||◌, nat_lt, nat_le, eqb, refl, sym, arith}
 use Rattle.std.proofs.lemmas.Grind.{common_steps}
-use Rattle.interp.specs.Row.{Rows, Fails, rows, row_among, row_at}
+use Rattle.interp.specs.Row.{Row, Fails, rows, row_among, row_at}
 
 -- no row's number is from lo to hi
-abbrev pub none_from : Rows → ℕ → ℕ → Bool
+abbrev pub none_from : List (ℕ × Row) → ℕ → ℕ → Bool
 none_from [] lo hi = true
 none_from (row ∷ others) lo hi = (nat_lt row.0 lo || nat_lt hi row.0) && none_from others lo hi
 
@@ -15,7 +15,7 @@ and_true false b e = absurd (cc)
 or_apart : (n lo hi b : ℕ) → (nat_lt n lo || nat_lt hi n) ≡ true → lo ≤ b → b ≤ hi → eqb b n ≡ false
 or_apart n lo hi b e p q = grind (arith, common_steps)
 
-row_among-gap : (rs : Rows) (lo hi b : ℕ) → none_from rs lo hi ≡ true → lo ≤ b → b ≤ hi → row_among rs b ≡ Fails
+row_among-gap : (rs : List (ℕ × Row)) (lo hi b : ℕ) → none_from rs lo hi ≡ true → lo ≤ b → b ≤ hi → row_among rs b ≡ Fails
 row_among-gap [] lo hi b e p q = refl
 row_among-gap (row ∷ others) lo hi b e p q =
     let both = and_true (nat_lt row.0 lo || nat_lt hi row.0) (none_from others lo hi) e in

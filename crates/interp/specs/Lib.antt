@@ -4,7 +4,7 @@ pub mod Elements
 pub mod Spending
 pub mod State
 pub mod Signatures
-pub mod Locks
+pub mod Timelocks
 pub mod Row
 pub mod Rules
 pub mod computed

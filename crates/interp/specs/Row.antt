@@ -14,7 +14,7 @@ use Rattle.interp.specs.Stack.{Bytes}
 use Rattle.interp.specs.Elements.{truth, truth_bytes, flag}
 use Rattle.interp.specs.Spending.{Spending}
 use Rattle.interp.specs.declared.flags.Flags.{Flags}
-use Rattle.interp.specs.Locks.{locks_until, locks_for}
+use Rattle.interp.specs.Timelocks.{locks_until, locks_for}
 
 -- what is done to the main stack alone
 pub data Effect : Type 0 where
@@ -61,25 +61,6 @@ pub data Row : Type 0 where
   -- where its rule is in force, fails unless the number on top, which stays, passes the test; else does nothing
   Asks : (Flags → Bool) → (Spending → ℕ → Bool) → Row
 
--- places in a row, from the lowest
-abbrev pub a : ℕ
-a = 0
-
-abbrev pub b : ℕ
-b = 1
-
-abbrev pub c : ℕ
-c = 2
-
-abbrev pub d : ℕ
-d = 3
-
-abbrev pub e : ℕ
-e = 4
-
-abbrev pub f : ℕ
-f = 5
-
 abbrev pub moves : ℕ → List ℕ → Row
 moves n left = Changes (Moves n left)
 
@@ -107,11 +88,11 @@ abbrev pub is_within : ℤ → ℤ → ℤ → Bool
 is_within x min max = not (int_lt x min) && int_lt x max
 
 -- T where both have the same bytes, else F
-abbrev pub same_bytes : Effect
-same_bytes = Two (λ x y. Some (truth_bytes (bytes_eq x y) ∷ []))
+abbrev pub equal_bytes : Effect
+equal_bytes = Two (λ x y. Some (truth_bytes (bytes_eq x y) ∷ []))
 
-abbrev pub same_number : Effect
-same_number = TwoNumbers (λ x y. flag (num_eq x y))
+abbrev pub equal_numbers : Effect
+equal_numbers = TwoNumbers (λ x y. flag (num_eq x y))
 
 -- takes the top, and fails if it is false
 abbrev pub verify : Effect
@@ -125,12 +106,10 @@ if_dup = One (λ x. Some (if truth x then x ∷ x ∷ [] else x ∷ []))
 abbrev pub size : Effect
 size = One (λ x. Some (x ∷ spelled (pos (length x)) ∷ []))
 
-abbrev pub Rows : Type 0
-Rows = List (ℕ × Row)
-
--- by the opcode's number
-abbrev pub rows : Rows
+-- by the opcode's number; the elements that a row moves are named from the lowest
+abbrev pub rows : List (ℕ × Row)
 rows =
+    let a : ℕ = 0 in let b : ℕ = 1 in let c : ℕ = 2 in let d : ℕ = 3 in let e : ℕ = 4 in let f : ℕ = 5 in
     (0x4f, Changes (Puts (0x81 ∷ [])))  -- OP_1NEGATE
     ∷ (0x61, Nothing)  -- OP_NOP
     ∷ (0x63, Opens true)  -- OP_IF
@@ -168,8 +147,8 @@ rows =
     ∷ (0x84, Disabled)  -- OP_AND
     ∷ (0x85, Disabled)  -- OP_OR
     ∷ (0x86, Disabled)  -- OP_XOR
-    ∷ (0x87, Tests (Of same_bytes))  -- OP_EQUAL
-    ∷ (0x88, AndVerifies (Of same_bytes))  -- OP_EQUALVERIFY
+    ∷ (0x87, Tests (Of equal_bytes))  -- OP_EQUAL
+    ∷ (0x88, AndVerifies (Of equal_bytes))  -- OP_EQUALVERIFY
     ∷ (0x8b, one_number (λ x. x +ℤ pos 1))  -- OP_1ADD
     ∷ (0x8c, one_number (λ x. x -ℤ pos 1))  -- OP_1SUB
     ∷ (0x8d, Disabled)  -- OP_2MUL
@@ -187,8 +166,8 @@ rows =
     ∷ (0x99, Disabled)  -- OP_RSHIFT
     ∷ (0x9a, test (λ x y. not (is_zero x) && not (is_zero y)))  -- OP_BOOLAND
     ∷ (0x9b, test (λ x y. not (is_zero x) || not (is_zero y)))  -- OP_BOOLOR
-    ∷ (0x9c, Tests (Of same_number))  -- OP_NUMEQUAL
-    ∷ (0x9d, AndVerifies (Of same_number))  -- OP_NUMEQUALVERIFY
+    ∷ (0x9c, Tests (Of equal_numbers))  -- OP_NUMEQUAL
+    ∷ (0x9d, AndVerifies (Of equal_numbers))  -- OP_NUMEQUALVERIFY
     ∷ (0x9e, test (λ x y. not (num_eq x y)))  -- OP_NUMNOTEQUAL
     ∷ (0x9f, test (λ x y. int_lt x y))  -- OP_LESSTHAN
     ∷ (0xa0, test (λ x y. int_lt y x))  -- OP_GREATERTHAN
@@ -213,7 +192,7 @@ rows =
     ∷ []
 
 -- an opcode that stands in no row fails
-abbrev pub row_among : Rows → ℕ → Row
+abbrev pub row_among : List (ℕ × Row) → ℕ → Row
 row_among [] number = Fails
 row_among (row ∷ others) number = if number == row.0 then row.1 else row_among others number
 

@@ -162,9 +162,9 @@ Step1 p after (number ∷ bytes) s t =
     × (length t.main + length t.alt ≤ max_elements)
 
 -- ---- a script
-abbrev pub Chain : Spending → List (List ℕ) → State → State → Type 0
-Chain p [] s t = t ≡ s
-Chain p (op ∷ others) s t = (mid : State) × Step1 p (concat others) op s mid × Chain p others mid t
+abbrev pub Steps : Spending → List (List ℕ) → State → State → Type 0
+Steps p [] s t = t ≡ s
+Steps p (op ∷ others) s t = (mid : State) × Step1 p (concat others) op s mid × Steps p others mid t
 
 -- the script runs on the stack over all its opcodes, and leaves this stack
 pub record Run (p : Spending) (script : List ℕ) (stack end : Stack) : Type 0 where
@@ -172,7 +172,7 @@ pub record Run (p : Spending) (script : List ℕ) (stack end : Stack) : Type 0 w
   -- no push is cut short
   pub whole : rest script ≡ []
   pub last : State
-  pub chain : Chain p (ops script) (start script stack) last
+  pub steps : Steps p (ops script) (start script stack) last
   -- no condition is left open
   pub closed : last.conditions ≡ []
   pub left : end ≡ last.main

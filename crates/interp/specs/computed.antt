@@ -1,7 +1,7 @@
 -- The same rules as functions, with which the code computes.
 pub mod Conditions
-pub mod Rows
+pub mod Groups
 pub mod Meaning
 pub mod Step
-pub mod Verdict
+pub mod Verifying
 pub mod Examples

@@ -4,4 +4,4 @@ pub mod Affecting
 pub mod Checking
 pub mod Following
 pub mod Accepting
-pub mod Verdict
+pub mod Verifying

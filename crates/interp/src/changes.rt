@@ -1,6 +1,6 @@
 ghost use Rattle.std.specs.Prelude.{◌≡◌, ◌∷◌, Some, IfOk};
 ghost use Rattle.interp.specs.Stack.{Gives};
-ghost use Rattle.interp.specs.Row.{verify, if_dup, size, same_bytes};
+ghost use Rattle.interp.specs.Row.{verify, if_dup, size, equal_bytes};
 ghost use Rattle.interp.specs.computed.Step.{effect};
 ghost use Rattle.interp.specs.computed.Meaning.{change_of};
 
@@ -82,7 +82,7 @@ fn push_size(alloc: Global, stack: &mut Pile<Element>) -> Result<bool, Memory>
 
 /// Takes the two on top, and pushes whether they have the same bytes.
 pub fn compare(alloc: Global, stack: &mut Pile<Element>) -> Result<bool, Memory>
-    ensures { IfOk result (λ there. Gives there (effect same_bytes stack.old) stack.new) }
+    ensures { IfOk result (λ there. Gives there (effect equal_bytes stack.old) stack.new) }
 {
     if stack.len() < 2 {
         return Ok(false);

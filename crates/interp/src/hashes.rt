@@ -3,7 +3,7 @@ ghost use Rattle.sha1.specs.Sha1.{sha1};
 ghost use Rattle.sha2.specs.Sha256.{sha256};
 ghost use Rattle.interp.specs.Stack.{Gives};
 ghost use Rattle.interp.specs.computed.Step.{on_one};
-ghost use Rattle.interp.specs.computed.Rows.{hash_of};
+ghost use Rattle.interp.specs.computed.Groups.{hash_of};
 
 use crate::element::Element;
 use crate::pile::Pile;

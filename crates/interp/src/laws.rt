@@ -5,7 +5,7 @@ ghost use Rattle.txn.specs.declared.tx.Tx.{Tx};
 ghost use Rattle.curve.specs.Triple.{Triples};
 ghost use Rattle.interp.specs.declared.flags.Flags.{Flags};
 ghost use Rattle.interp.specs.Rules.{Accepts};
-ghost use Rattle.interp.specs.computed.Verdict.{accepts};
+ghost use Rattle.interp.specs.computed.Verifying.{accepts};
 
 /// The verdict that is computed is that of the relation.
 pub fn the_verdict_is_computed()

@@ -4,11 +4,11 @@
 mod changes;
 mod conditions;
 mod element;
+mod execution;
 mod flags;
 mod hashes;
 mod job;
 pub mod laws;
-mod machine;
 mod moves;
 mod multisig;
 mod numbers;

@@ -2,7 +2,7 @@
 
 ghost use Rattle.std.specs.Prelude.{IfOk};
 ghost use Rattle.interp.specs.Stack.{Gives, moved};
-ghost use Rattle.interp.specs.computed.Rows.{move_row};
+ghost use Rattle.interp.specs.computed.Groups.{move_of};
 
 use crate::element::Element;
 use crate::pile::Pile;
@@ -69,7 +69,7 @@ macro_rules! row {
 /// Whether the elements are there; if so, they are rearranged.
 #[inline(never)]
 pub fn rearrange(alloc: Global, stack: &mut Pile<Element>, by: Move) -> Result<bool, Memory>
-    ensures { IfOk result (λ there. Gives there (moved (move_row by).0 (move_row by).1 stack.old) stack.new) }
+    ensures { IfOk result (λ there. Gives there (moved (move_of by).0 (move_of by).1 stack.old) stack.new) }
 {
     match by {
         Move::Drop2 => row!(alloc, stack, 2; a b -> ),

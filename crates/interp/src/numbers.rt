@@ -2,7 +2,7 @@ ghost use Rattle.std.specs.Prelude.{◌≡◌, ◌^◌, ◌∷◌, pos, negsuc, 
 ghost use Rattle.script.specs.Num.{operand, spelled};
 ghost use Rattle.interp.specs.Stack.{Gives};
 ghost use Rattle.interp.specs.computed.Step.{top_number, on_number, on_two_numbers, on_three_numbers};
-ghost use Rattle.interp.specs.computed.Rows.{unary_of, binary_of, within_of};
+ghost use Rattle.interp.specs.computed.Groups.{unary_of, binary_of, within_of};
 
 use crate::element::Element;
 use crate::pile::Pile;

@@ -1,6 +1,6 @@
 ghost use Rattle.std.specs.Prelude.{◌≡◌, ◌<◌, ◌^◌, ◌==◌, length, Bool};
 ghost use Rattle.interp.specs.Spending.{sequence_of};
-ghost use Rattle.interp.specs.Locks.{is_height, locks_until, is_as_long, locks_for, is_met};
+ghost use Rattle.interp.specs.Timelocks.{is_height, locks_until, is_as_long, locks_for, is_met};
 
 use crate::element::natural;
 use crate::job::Job;
@@ -31,7 +31,7 @@ fn is_height(lock_time: u64) -> bool
 }
 
 /// Whether the transaction can't stand in a block before this height or time.
-#[tactic(auto, unfolding(crate::specs::Locks::locks_until))]
+#[tactic(auto, unfolding(crate::specs::Timelocks::locks_until))]
 fn locks_until(job: &Job, n: u64) -> bool
     requires { job.now.input < length job.now.tx.now.inputs }
     ensures { result ≡ locks_until job.now.tx.now job.now.input n }
@@ -41,7 +41,7 @@ fn locks_until(job: &Job, n: u64) -> bool
 }
 
 /// Whether the input's relative lock is as long at least.
-#[tactic(auto, unfolding(crate::specs::Locks::is_as_long))]
+#[tactic(auto, unfolding(crate::specs::Timelocks::is_as_long))]
 fn is_as_long(n: u64, sequence: u64) -> bool
     ensures { result ≡ is_as_long n sequence }
 {
@@ -49,7 +49,7 @@ fn is_as_long(n: u64, sequence: u64) -> bool
 }
 
 /// Whether the input waits for as many blocks or seconds as this lock asks for.
-#[tactic(auto, unfolding(crate::specs::Locks::locks_for))]
+#[tactic(auto, unfolding(crate::specs::Timelocks::locks_for))]
 fn locks_for(job: &Job, n: u64) -> bool
     requires { job.now.input < length job.now.tx.now.inputs }
     ensures { result ≡ locks_for job.now.tx.now job.now.input n }
@@ -62,7 +62,7 @@ fn locks_for(job: &Job, n: u64) -> bool
 }
 
 /// What CHECKLOCKTIMEVERIFY asks of the element on top (BIP 65).
-#[tactic(auto, unfolding(crate::specs::Locks::is_met))]
+#[tactic(auto, unfolding(crate::specs::Timelocks::is_met))]
 pub fn meets_lock_time(job: &Job, top: &[u8]) -> bool
     requires { job.now.input < length job.now.tx.now.inputs }
     ensures { result ≡ is_met (λ n. locks_until job.now.tx.now job.now.input n) top.now }
@@ -74,7 +74,7 @@ pub fn meets_lock_time(job: &Job, top: &[u8]) -> bool
 }
 
 /// What CHECKSEQUENCEVERIFY asks of the element on top (BIP 112).
-#[tactic(auto, unfolding(crate::specs::Locks::is_met))]
+#[tactic(auto, unfolding(crate::specs::Timelocks::is_met))]
 pub fn meets_sequence(job: &Job, top: &[u8]) -> bool
     requires { job.now.input < length job.now.tx.now.inputs }
     ensures { result ≡ is_met (λ n. locks_for job.now.tx.now job.now.input n) top.now }

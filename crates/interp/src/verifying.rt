@@ -5,8 +5,8 @@ ghost use Rattle.interp.specs.Rules.{Accepts};
 ghost use Rattle.interp.specs.computed.Step.{outcome, ends_true, accepted_inner, accepted_on, accepted};
 
 use crate::element::Element;
+use crate::execution::Execution;
 use crate::job::Job;
-use crate::machine::Machine;
 use crate::pile::Pile;
 use curve::Table;
 use script::{MAX_SCRIPT_SIZE, Ops, is_p2sh, push_only};
@@ -50,10 +50,10 @@ fn run(
     if script.len() > MAX_SCRIPT_SIZE {
         return Ok(None);
     }
-    let mut machine = Machine::new(alloc, script, stack);
+    let mut execution = Execution::new(alloc, script, stack);
     let mut ahead = script;
     while let Some((op, after)) = first_op(ahead) {
-        if !machine.step(alloc, job, table, after, op)? {
+        if !execution.step(alloc, job, table, after, op)? {
             return Ok(None);
         }
         ahead = after;
@@ -61,7 +61,7 @@ fn run(
     if !ahead.is_empty() {
         return Ok(None);
     }
-    Ok(machine.finish())
+    Ok(execution.finish())
 }
 
 /// Whether a script runs on a stack, and leaves a true element on top.

@@ -8,7 +8,7 @@ mod relative;
 
 pub use finality::{SEQUENCE_FINAL, is_final};
 pub use median_time::{MEDIAN_TIME_SPAN, median};
-pub use relative::{Place, relative_ok};
+pub use relative::{LockStart, relative_ok};
 
 #[cfg(test)]
 mod tests;

@@ -22,7 +22,7 @@ const LEAST_VERSION: u32 = 2;
 
 /// From where the lock of an input counts.
 #[derive(Clone, Copy, Debug, PartialEq, Eq)]
-pub struct Place {
+pub struct LockStart {
     /// The height of the block that holds the spent coin.
     pub height: u32,
     /// The median time past of the block before that one, or of genesis where the height is 0.
@@ -30,37 +30,37 @@ pub struct Place {
 }
 
 /// Whether a transaction's relative locks are met in a block of this height (BIP 68; Bitcoin Core's
-/// `SequenceLocks`). A place stands for each input, in order; the cutoff is the median time past of the
+/// `SequenceLocks`). A start stands for each input, in order; the cutoff is the median time past of the
 /// block's parent.
 #[tactic(auto, unfolding(crate::specs::Relative::are_met))]
-pub fn relative_ok(tx: &Tx, places: &[Place], height: u32, cutoff: u32) -> bool
-    requires { length places.now ≡ length tx.now.inputs }
-    ensures { result ≡ are_met tx.now places.now height cutoff }
+pub fn relative_ok(tx: &Tx, starts: &[LockStart], height: u32, cutoff: u32) -> bool
+    requires { length starts.now ≡ length tx.now.inputs }
+    ensures { result ≡ are_met tx.now starts.now height cutoff }
 {
     tx.version.cast_unsigned() < LEAST_VERSION
-        || is_each_met(tx.inputs.as_slice(), places, height, cutoff)
+        || is_each_met(tx.inputs.as_slice(), starts, height, cutoff)
 }
 
 /// Whether the lock of each input is met.
-fn is_each_met(inputs: &[TxIn], places: &[Place], height: u32, cutoff: u32) -> bool
-    ensures { result ≡ list_all (λ p. is_met height cutoff p.0.sequence p.1) (zip inputs.now places.now) }
+fn is_each_met(inputs: &[TxIn], starts: &[LockStart], height: u32, cutoff: u32) -> bool
+    ensures { result ≡ list_all (λ p. is_met height cutoff p.0.sequence p.1) (zip inputs.now starts.now) }
 {
-    inputs.iter().zip(places).all(|(input, place)| is_met(input.sequence, place, height, cutoff))
+    inputs.iter().zip(starts).all(|(input, start)| is_met(input.sequence, start, height, cutoff))
 }
 
 /// Whether the lock of an input with this sequence number is met.
 #[tactic(auto, unfolding(crate::specs::Relative::is_met))]
-fn is_met(sequence: u32, place: &Place, height: u32, cutoff: u32) -> bool
-    ensures { result ≡ is_met height cutoff sequence place.now }
+fn is_met(sequence: u32, start: &LockStart, height: u32, cutoff: u32) -> bool
+    ensures { result ≡ is_met height cutoff sequence start.now }
 {
     if is_disabled(sequence) {
         return true;
     }
     let duration = u64::from(duration(sequence));
     if is_time(sequence) {
-        u64::from(place.median) + TIME_UNIT * duration <= u64::from(cutoff)
+        u64::from(start.median) + TIME_UNIT * duration <= u64::from(cutoff)
     } else {
-        u64::from(place.height) + duration <= u64::from(height)
+        u64::from(start.height) + duration <= u64::from(height)
     }
 }
 

@@ -27,12 +27,12 @@ fn transaction(
     })
 }
 
-/// Whether the relative locks are met, where there is a place for each input.
-fn are_met(tx: &Tx, places: &[Place], height: u32, cutoff: u32) -> Option<bool> {
-    if places.len() != tx.inputs.len() {
+/// Whether the relative locks are met, where there is a start for each input.
+fn are_met(tx: &Tx, starts: &[LockStart], height: u32, cutoff: u32) -> Option<bool> {
+    if starts.len() != tx.inputs.len() {
         return None;
     }
-    Some(relative_ok(tx, places, height, cutoff))
+    Some(relative_ok(tx, starts, height, cutoff))
 }
 
 #[test]
@@ -67,33 +67,33 @@ fn finality(rt: HostRuntime) -> Result<(), Fail> {
 
 #[test]
 fn relative_locks(rt: HostRuntime) -> Result<(), Fail> {
-    let place = Place {
+    let start = LockStart {
         height: 10,
         median: 1000,
     };
     // Three blocks; then three times 512 seconds; then with bits that say nothing.
     let blocks = transaction(rt.alloc(), 2, 0, &[3])?;
-    assert_eq!(rt; are_met(&blocks, &[place], 12, u32::MAX), Some(false));
-    assert_eq!(rt; are_met(&blocks, &[place], 13, 0), Some(true));
+    assert_eq!(rt; are_met(&blocks, &[start], 12, u32::MAX), Some(false));
+    assert_eq!(rt; are_met(&blocks, &[start], 13, 0), Some(true));
     let seconds = transaction(rt.alloc(), 2, 0, &[0x0040_0003])?;
-    assert_eq!(rt; are_met(&seconds, &[place], u32::MAX, 2535), Some(false));
-    assert_eq!(rt; are_met(&seconds, &[place], 0, 2536), Some(true));
+    assert_eq!(rt; are_met(&seconds, &[start], u32::MAX, 2535), Some(false));
+    assert_eq!(rt; are_met(&seconds, &[start], 0, 2536), Some(true));
     let spare = transaction(rt.alloc(), 2, 0, &[0x7fbf_0003])?;
-    assert_eq!(rt; are_met(&spare, &[place], 13, 0), Some(true));
+    assert_eq!(rt; are_met(&spare, &[start], 13, 0), Some(true));
     let disabled = transaction(rt.alloc(), 2, 0, &[0x8000_0003])?;
-    assert_eq!(rt; are_met(&disabled, &[place], 0, 0), Some(true));
+    assert_eq!(rt; are_met(&disabled, &[start], 0, 0), Some(true));
     let old = transaction(rt.alloc(), 1, 0, &[3])?;
-    assert_eq!(rt; are_met(&old, &[place], 0, 0), Some(true));
+    assert_eq!(rt; are_met(&old, &[start], 0, 0), Some(true));
     let negative = transaction(rt.alloc(), -1, 0, &[3])?;
-    assert_eq!(rt; are_met(&negative, &[place], 12, 0), Some(false));
-    // Each input has its own place.
+    assert_eq!(rt; are_met(&negative, &[start], 12, 0), Some(false));
+    // Each input has its own start.
     let two = transaction(rt.alloc(), 2, 0, &[3, 0x0040_0001])?;
-    let later = Place {
+    let later = LockStart {
         height: 13,
         median: 2000,
     };
-    assert_eq!(rt; are_met(&two, &[place, later], 13, 2512), Some(true));
-    assert_eq!(rt; are_met(&two, &[place, later], 13, 2511), Some(false));
-    assert_eq!(rt; are_met(&two, &[later, place], 13, 2512), Some(false));
+    assert_eq!(rt; are_met(&two, &[start, later], 13, 2512), Some(true));
+    assert_eq!(rt; are_met(&two, &[start, later], 13, 2511), Some(false));
+    assert_eq!(rt; are_met(&two, &[later, start], 13, 2512), Some(false));
     Ok(())
 }

@@ -83,6 +83,15 @@ impl From<node::Fault> for Fault<'_> {
     }
 }
 
+impl From<block::ReadFault> for Fault<'_> {
+    fn from(fault: block::ReadFault) -> Self {
+        match fault {
+            block::ReadFault::Memory => Fault::Memory,
+            _ => Fault::Closed,
+        }
+    }
+}
+
 impl From<ScenarioFault> for Fault<'_> {
     fn from(fault: ScenarioFault) -> Self {
         match fault {

@@ -1,12 +1,11 @@
 //! The journal, as it is printed.
 
-use hash::{Id, double_sha};
+use block::ReadFault;
+use hash::Id;
 use node::{Command, Entry};
-use scenario::{Definitions, Label};
+use scenario::Label;
+use std::alloc::Global;
 use std::fmt;
-
-/// The length of a block's header, whose hash is its id.
-const HEADER: usize = 80;
 
 /// A step of the journal.
 #[derive(Clone, Copy)]
@@ -19,20 +18,14 @@ pub struct Step<'d, 't> {
     pub block: Label<'d>,
 }
 
-/// How the block that an entry is about is printed.
-pub fn block_of<'d>(definitions: &'d Definitions, entry: &Entry) -> Label<'d> {
-    definitions.label(match &entry.command {
-        Command::Submit(bytes, _) => submitted(bytes.as_slice()),
-        Command::Invalidate(id) => *id,
-        Command::Reconsider(id) => *id,
-        Command::Precious(id) => *id,
-    })
-}
-
-/// The id of the block of these bytes.
-fn submitted(bytes: &[u8]) -> Id {
-    let header = bytes.get(..HEADER).unwrap_or(bytes);
-    Id(double_sha(header))
+/// The id of the block that an entry is about.
+pub fn block_of(alloc: Global, entry: &Entry) -> Result<Id, ReadFault> {
+    match &entry.command {
+        Command::Submit(bytes, _) => Ok(block::read(alloc, bytes.as_slice())?.header.id()),
+        Command::Invalidate(id) => Ok(*id),
+        Command::Reconsider(id) => Ok(*id),
+        Command::Precious(id) => Ok(*id),
+    }
 }
 
 impl fmt::Display for Step<'_, '_> {

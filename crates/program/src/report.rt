@@ -3,6 +3,7 @@
 use crate::answer::Section;
 use crate::fault::Fault;
 use crate::journal::{Step, block_of};
+use hash::Id;
 use node::{Entry, Node, Params};
 use scenario::{Client, Definitions};
 use std::alloc::Global;
@@ -17,6 +18,8 @@ pub struct Report<'d, 't> {
     definitions: &'d Definitions,
     sections: Vec<Section<'d, 't>>,
     journal: Vec<Entry>,
+    /// The block that each step of the journal is about.
+    blocks: Vec<Id>,
 }
 
 impl<'d, 't> Report<'d, 't> {
@@ -32,10 +35,15 @@ impl<'d, 't> Report<'d, 't> {
             sections.push(Section::run(alloc, definitions, client, &node, seat)?)?;
         }
         let journal = node.finish(seats.as_mut_slice())?;
+        let mut blocks = Vec::new(alloc);
+        for entry in journal.as_slice() {
+            blocks.push(block_of(alloc, entry)?)?;
+        }
         Ok(Report {
             definitions,
             sections,
             journal,
+            blocks,
         })
     }
 
@@ -51,12 +59,12 @@ impl fmt::Display for Report<'_, '_> {
             section.fmt(f)?;
         }
         f.write_str("journal\n")?;
-        for (place, entry) in self.journal.iter().enumerate() {
+        for (place, (entry, id)) in self.journal.iter().zip(self.blocks.iter()).enumerate() {
             let step = Step {
                 number: place + 1,
                 client: self.client(entry.seat),
                 entry,
-                block: block_of(self.definitions, entry),
+                block: self.definitions.label(*id),
             };
             step.fmt(f)?;
         }

@@ -1,6 +1,7 @@
 -- The rules that a block obeys by itself (Bitcoin Core's `CheckBlock`).
 use Rattle.std.specs.Prelude.{ℕ, ◌+◌, ◌==◌, ◌||◌, Bool, false, not, nat_lt, List, [], ◌∷◌, ◌++◌, length, drop, sum_by}
 use Rattle.std.specs.List.{list_any, flat_map}
+use Rattle.hash.specs.Id.{same_id}
 use Rattle.script.specs.Signatures.{sigops}
 use Rattle.script.specs.declared.signatures.Counting.TheVariants.{Plain}
 use Rattle.txn.specs.declared.tx.Tx.{Tx}
@@ -10,8 +11,8 @@ use Rattle.txn.specs.First.{Rules}
 use Rattle.txn.specs.Identity as txn
 use Rattle.block.specs.declared.block.Block.{Block}
 use Rattle.block.specs.Identity.{id_of}
-use Rattle.block.specs.Merkle.{root, same_id, twin}
-use Rattle.block.specs.Size.{size_of}
+use Rattle.block.specs.Merkle.{root, twin}
+use Rattle.block.specs.Sizes.{size_of}
 use Rattle.block.specs.Target.{meets_target}
 
 -- the most bytes of a block (`MAX_BLOCK_BASE_SIZE`, as before segregated witness)

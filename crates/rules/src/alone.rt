@@ -6,7 +6,7 @@ ghost use Rattle.txn.specs.Check.{is_coinbase, tx_rules};
 ghost use Rattle.txn.specs.First.{first_broken};
 ghost use Rattle.txn.specs.Identity.{ids_of};
 ghost use Rattle.txn.specs.declared.reason.Reason.TheVariants as reason;
-ghost use Rattle.block.specs.Size.{size_of};
+ghost use Rattle.block.specs.Sizes.{size_of};
 ghost use Rattle.rules.specs.Alone.{max_block_size, max_block_sigops, begins_with_coinbase, tx_sigops, alone_rules};
 
 use crate::sigops::txs_sigops;
@@ -85,10 +85,10 @@ fn begins_with_coinbase(txs: &[Tx]) -> bool
 fn has_later_coinbase(txs: &[Tx]) -> bool
     ensures { result ≡ list_any is_coinbase (drop 1 txs.now) }
 {
-    txs.len() > 1 && has_coinbase(&txs[1..])
+    txs.len() > 1 && any_coinbase(&txs[1..])
 }
 
-fn has_coinbase(txs: &[Tx]) -> bool
+fn any_coinbase(txs: &[Tx]) -> bool
     ensures { result ≡ list_any is_coinbase txs.now }
 {
     txs.iter().any(|tx| tx.is_coinbase())

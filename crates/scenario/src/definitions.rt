@@ -9,7 +9,7 @@ use crate::label::Label;
 use crate::line::{Line, bytes, is_name, number};
 use crate::making::{Named, genesis, made};
 use crate::recipe::Recipe;
-use crate::verdict::{Verdict, add_verdict};
+use crate::valid_signature::{ValidSignature, add_valid_signature};
 use curve::Table;
 use hash::Id;
 use std::alloc::Global;
@@ -190,7 +190,7 @@ impl Definitions {
         if input >= tx.inputs.len() {
             return Err(LineFault::Unreadable);
         }
-        let verdict = Verdict {
+        let valid = ValidSignature {
             key: key.as_slice(),
             signature: signature.as_slice(),
             tx: &tx,
@@ -198,7 +198,7 @@ impl Definitions {
             code: code.as_slice(),
             kind,
         };
-        add_verdict(&mut self.table, self.alloc, &verdict)?;
+        add_valid_signature(&mut self.table, self.alloc, &valid)?;
         Ok(())
     }
 

@@ -11,7 +11,7 @@ mod label;
 mod line;
 mod making;
 mod recipe;
-mod verdict;
+mod valid_signature;
 
 pub use client::{Call, Client, Payload, Request, Words, read_clients};
 pub use definitions::Definitions;

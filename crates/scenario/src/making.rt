@@ -11,12 +11,10 @@ use crate::known::Known;
 use crate::recipe::{CoinbaseRecipe, HeaderRecipe, Recipe};
 use block::{Block, GENESIS, GENESIS_ID, GENESIS_TIME, Header, Txs, meets_target, merkle};
 use hash::Id;
+use rules::REGTEST_BITS;
 use std::alloc::Global;
 use txn::{Tx, ids};
 use wire::{Cursor, Memory};
-
-/// The bits of each block by default.
-const BITS: u32 = 0x207f_ffff;
 
 /// The version of each block by default.
 const VERSION: i32 = 4;
@@ -68,8 +66,8 @@ pub fn made(alloc: Global, name: &str, parent: &Named, recipe: Recipe) -> Result
     } = recipe;
     let coinbase = known(alloc, has_coinbase, coinbase, name, height)?;
     put_first(&mut transactions, &coinbase)?;
-    let draft = drafted(alloc, header, parent, transactions.as_slice())?;
-    let Some(header) = sealed(draft, header.nonce) else {
+    let unsealed = unsealed(alloc, header, parent, transactions.as_slice())?;
+    let Some(header) = sealed(unsealed, header.nonce) else {
         return Err(LineFault::Unreadable);
     };
     let txs = Txs::from_vec(transactions);
@@ -115,7 +113,7 @@ fn put_first(transactions: &mut Vec<Tx>, coinbase: &Option<Known>) -> Result<(),
 }
 
 /// The header of these transactions on a parent, before its nonce.
-fn drafted(
+fn unsealed(
     alloc: Global,
     recipe: HeaderRecipe,
     parent: &Named,
@@ -136,7 +134,7 @@ fn drafted(
         prev: parent.id,
         root,
         time,
-        bits: recipe.bits.unwrap_or(BITS),
+        bits: recipe.bits.unwrap_or(REGTEST_BITS),
         nonce: 0,
     })
 }

@@ -2,13 +2,14 @@
 use Rattle.std.specs.Prelude.{ℕ, ◌==◌, ◌&&◌, Bool, List}
 use Rattle.std.specs.Ordering.{int_eq}
 use lib.Pointwise.{pointwise}
+use Rattle.hash.specs.Id.{same_id}
 use Rattle.txn.specs.declared.outpoint.OutPoint.{OutPoint}
 use Rattle.txn.specs.declared.input.TxIn.{TxIn}
 use Rattle.txn.specs.declared.output.TxOut.{TxOut}
 use Rattle.txn.specs.declared.tx.Tx.{Tx}
 
 abbrev pub same_outpoint : OutPoint → OutPoint → Bool
-same_outpoint a b = pointwise ◌==◌ a.id.0 b.id.0 && (a.index == b.index)
+same_outpoint a b = same_id a.id b.id && (a.index == b.index)
 
 abbrev pub same_script : List ℕ → List ℕ → Bool
 same_script = pointwise ◌==◌

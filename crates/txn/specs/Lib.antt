@@ -1,7 +1,7 @@
 pub mod Check
 pub mod Coinbase
 pub mod Equality
-pub mod Faults
+pub mod Fault
 pub mod First
 pub mod Grammar
 pub mod Identity

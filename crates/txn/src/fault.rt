@@ -1,7 +1,7 @@
 //! Why a transaction could not be read.
 
 ghost use Rattle.std.specs.Prelude.{◌≡◌, Some, None};
-ghost use Rattle.txn.specs.Faults.{spoken};
+ghost use Rattle.txn.specs.Fault.{spoken};
 
 use std::alloc::{AllocError, AllocFailed};
 use std::error::Error;

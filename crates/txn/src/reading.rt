@@ -3,7 +3,7 @@ ghost use Rattle.wire.specs.declared.fault.WireFault.{WireFault};
 ghost use Rattle.wire.specs.Grammar.{IsBytes};
 ghost use Rattle.wire.specs.computed.Reading.{Gives, sized_at, many_at, counted_at};
 ghost use Rattle.txn.specs.declared.tx.Tx.{Tx};
-ghost use Rattle.txn.specs.Faults.{spoken};
+ghost use Rattle.txn.specs.Fault.{spoken};
 ghost use Rattle.txn.specs.Grammar.{transaction};
 ghost use Rattle.txn.specs.Room.{least_input, least_output};
 ghost use Rattle.txn.specs.computed.Reading.{outpoint_at, tx_in_at, tx_out_at, tx_at};

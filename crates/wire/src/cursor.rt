@@ -154,7 +154,7 @@ impl<'a> Cursor<'a> {
 }
 
 /// The same bytes, of which a proof then knows that each is below 256: of a field's bytes it doesn't.
-fn in_range(bytes: &[u8]) -> &[u8]
+pub fn in_range(bytes: &[u8]) -> &[u8]
     ensures same { result.now ≡ bytes.now }
     ensures bytes { IsBytes bytes.now }
 {

@@ -10,7 +10,7 @@ mod parts;
 mod writing;
 
 pub use compact_size::CompactSize;
-pub use cursor::{Cursor, LIMIT};
+pub use cursor::{Cursor, LIMIT, in_range};
 pub use fault::WireFault;
 pub use memory::Memory;
 pub use parts::Parts;

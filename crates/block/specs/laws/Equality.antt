@@ -4,11 +4,11 @@ use Rattle.std.specs.Prelude.{Decides}
 use Rattle.std.proofs.lemmas.Bool.Decides.{Decides-eqb, Decides-int_eq, Decides-and, Decides-like}
 use lib.Pointwise.{pointwise_decides, bytes_decides}
 use Rattle.hash.specs.declared.id.Id.{Id}
+use Rattle.hash.specs.Id.{same_id}
 use Rattle.txn.specs.declared.tx.Tx.{Tx}
 use Rattle.txn.specs.laws.Equality.{same_tx-decides}
 use Rattle.block.specs.declared.header.Header.{Header}
 use Rattle.block.specs.declared.block.Block.{Block}
-use Rattle.block.specs.Merkle.{same_id}
 use Rattle.block.specs.Equality.{same_header, same_txs, same_block}
 
 pub same_id-decides : (a b : Id) → Decides (same_id a b) (a ≡ b)

@@ -5,7 +5,7 @@ use Rattle.txn.specs.declared.tx.Tx.{Tx}
 use Rattle.txn.specs.declared.reason.Reason.{Reason}
 use Rattle.txn.specs.First.{first_broken}
 use Rattle.curve.specs.Triple.{Triples}
-use Rattle.interp.specs.computed.Verdict.{accepts}
+use Rattle.interp.specs.computed.Verifying.{accepts}
 use Rattle.coins.specs.Coins.{Coins}
 use Rattle.connect.specs.Setting.{Setting}
 use Rattle.connect.specs.Faults.{connect_rules}

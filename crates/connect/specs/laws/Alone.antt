@@ -20,8 +20,9 @@ use Rattle.txn.specs.Identity as txn
 use Rattle.block.specs.declared.block.Block.{Block}
 use Rattle.block.specs.Grammar.{header}
 use Rattle.block.specs.Identity.{id_of}
-use Rattle.block.specs.Merkle.{root, same_id, twin}
-use Rattle.block.specs.Size.{size_of}
+use Rattle.hash.specs.Id.{same_id}
+use Rattle.block.specs.Merkle.{root, twin}
+use Rattle.block.specs.Sizes.{size_of}
 use Rattle.block.specs.Target.{meets_target}
 use Rattle.wire.specs.Grammar.{number}
 use Rattle.wire.specs.Spelling.{compact, i32le, i64le}

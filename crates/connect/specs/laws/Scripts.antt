@@ -6,8 +6,8 @@ use Rattle.txn.specs.declared.reason.Reason.{Reason}
 use Rattle.txn.specs.First.{first_broken}
 use Rattle.curve.specs.Triple.{Triples}
 use Rattle.interp.specs.Rules.{Accepts}
-use Rattle.interp.specs.computed.Verdict.{accepts}
-use Rattle.interp.specs.laws.Verdict.{accepts-right}
+use Rattle.interp.specs.computed.Verifying.{accepts}
+use Rattle.interp.specs.laws.Verifying.{accepts-right}
 use Rattle.coins.specs.Coins.{Coins}
 use Rattle.connect.specs.Setting.{Setting}
 use Rattle.connect.specs.Faults.{connect_rules}

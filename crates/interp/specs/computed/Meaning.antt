@@ -1,9 +1,9 @@
 -- The row that the code's name of an opcode stands for.
 use Rattle.std.specs.Prelude.{[], ◌∷◌, true, false, Some}
-use Rattle.interp.specs.Locks.{locks_until, locks_for}
-use Rattle.interp.specs.Row.{Effect, Row, Check, Puts, Moves, One, OneNumber, TwoNumbers, ThreeNumbers, Depth, Picks, Rolls, same_bytes, verify, if_dup, size}
+use Rattle.interp.specs.Timelocks.{locks_until, locks_for}
+use Rattle.interp.specs.Row.{Effect, Row, Check, Puts, Moves, One, OneNumber, TwoNumbers, ThreeNumbers, Depth, Picks, Rolls, equal_bytes, verify, if_dup, size}
 use Rattle.interp.specs.Row as row
-use Rattle.interp.specs.computed.Rows.{move_row, unary_of, binary_of, within_of, hash_of}
+use Rattle.interp.specs.computed.Groups.{move_of, unary_of, binary_of, within_of, hash_of}
 use Rattle.interp.specs.declared.changes.Change.{Change}
 use Rattle.interp.specs.declared.changes.Change.TheVariants.{MinusOne, Small, Move, Verify, IfDup, Size, Hash, Unary, Binary, Within, Depth as DepthOp, Pick, Roll}
 use Rattle.interp.specs.declared.numbers.Binary.TheVariants.{NumEqual as SameNumber}
@@ -15,7 +15,7 @@ use Rattle.interp.specs.declared.op.Op.TheVariants as op
 abbrev pub change_of : Change → Effect
 change_of MinusOne = Puts (0x81 ∷ [])
 change_of (Small n) = Puts (n ∷ [])
-change_of (Move m) = Moves (move_row m).0 (move_row m).1
+change_of (Move m) = Moves (move_of m).0 (move_of m).1
 change_of Verify = verify
 change_of IfDup = if_dup
 change_of Size = size
@@ -28,7 +28,7 @@ change_of Pick = Picks
 change_of Roll = Rolls
 
 abbrev pub check_of : Test → Check
-check_of Equal = row.Of same_bytes
+check_of Equal = row.Of equal_bytes
 check_of NumEqual = row.Of (TwoNumbers (binary_of SameNumber))
 check_of CheckSig = row.Sig
 check_of CheckMultisig = row.Multisig

@@ -11,7 +11,7 @@ use Rattle.interp.specs.Elements.{truth, truth_bytes, top_is_true, natural_of}
 use Rattle.interp.specs.Spending.{Spending}
 use Rattle.interp.specs.State.{State, executing, start}
 use Rattle.interp.specs.Signatures.{signed_code, judged, tried}
-use Rattle.interp.specs.Locks.{same, is_met}
+use Rattle.interp.specs.Timelocks.{same, is_met}
 use Rattle.interp.specs.Row.{Effect, Puts, Moves, One, Two, OneNumber, TwoNumbers, ThreeNumbers, Depth, Picks, Rolls, Check, Of, Sig, Multisig, Row, Disabled, Fails, Nothing, Changes, Tests, AndVerifies, Opens, Turns, Closes, ToAlt, FromAlt, Separates, Asks, verify, row_of}
 
 infixl 10 ◌>>=◌

@@ -16,20 +16,20 @@ use Rattle.interp.specs.Spending.{Spending, spending_of}
 use Rattle.interp.specs.declared.flags.Flags.{Flags}
 use Rattle.interp.specs.State.{State, start}
 use Rattle.interp.specs.computed.Step.{run, step, finished, outcome, ends_true, inner_outcome, accepted_inner, accepted_on, accepted}
-use Rattle.interp.specs.Rules.{Chain, Run, RunsToTrue, AcceptsInner, Accepts}
+use Rattle.interp.specs.Rules.{Steps, Run, RunsToTrue, AcceptsInner, Accepts}
 use Rattle.interp.specs.laws.Affecting.{then-some}
 use Rattle.interp.specs.laws.Runs.{outcome-long, outcome-cut, outcome-ran}
 use Rattle.interp.specs.laws.Following.{step-sound, step-again}
 
 -- ---- a run
-run-sound : (p : Spending) (list : List (List ℕ)) (s t : State) → run p [] list s ≡ Some t → Chain p list s t
+run-sound : (p : Spending) (list : List (List ℕ)) (s t : State) → run p [] list s ≡ Some t → Steps p list s t
 unfolding run
 run-sound p [] s t e = cc
 run-sound p (op ∷ others) s t e =
     let h = then-some (step p (concat others ++ []) op s) (run p [] others) t e in
     (h.0, step-sound p (concat others) op s h.0 (ap (λ after. step p after op s) (sym (append-nil (concat others))) ∙ h.1), run-sound p others h.0 t h.2)
 
-run-again : (p : Spending) (list : List (List ℕ)) (s t : State) → Chain p list s t → run p [] list s ≡ Some t
+run-again : (p : Spending) (list : List (List ℕ)) (s t : State) → Steps p list s t → run p [] list s ≡ Some t
 unfolding run
 run-again p [] s t r = ap Some (sym r)
 run-again p (op ∷ others) s t r =
@@ -49,7 +49,7 @@ ran-sound p script stack end small whole e =
       short = small;
       whole = none;
       last = h.0;
-      chain = run-sound p (ops script) (start script stack) h.0 (ap (λ left. run p left (ops script) (start script stack)) (sym none) ∙ h.1);
+      steps = run-sound p (ops script) (start script stack) h.0 (ap (λ left. run p left (ops script) (start script stack)) (sym none) ∙ h.1);
       closed = over.0;
       left = over.1;
     }
@@ -65,7 +65,7 @@ outcome-sound p script stack end e =
 
 outcome-again : (p : Spending) (script : List ℕ) (stack end : Stack) → Run p script stack end → outcome p script stack ≡ Some end
 outcome-again p script stack end r =
-    let ran = ap (λ left. run p left (ops script) (start script stack)) r.whole ∙ run-again p (ops script) (start script stack) r.last r.chain in
+    let ran = ap (λ left. run p left (ops script) (start script stack)) r.whole ∙ run-again p (ops script) (start script stack) r.last r.steps in
     outcome-ran p script stack (Some r.last) r.short (ap (λ l. eqb (length l) 0) r.whole) ran ∙ rw r.closed (ap Some (sym r.left))
 
 -- ---- a true top

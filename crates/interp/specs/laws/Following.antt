@@ -7,7 +7,7 @@ use Rattle.interp.specs.Stack.{Stack, Bytes, pushed}
 use Rattle.interp.specs.Elements.{truth, natural_of}
 use Rattle.interp.specs.Spending.{Spending}
 use Rattle.interp.specs.State.{State, executing}
-use Rattle.interp.specs.Locks.{same, is_met}
+use Rattle.interp.specs.Timelocks.{same, is_met}
 use Rattle.interp.specs.Row.{Check, Of, Sig, Multisig, Row, Disabled, Fails, Nothing, Changes, Tests, AndVerifies, Opens, Turns, Closes, ToAlt, FromAlt, Separates, Asks, verify, row_of}
 use Rattle.interp.specs.computed.Step.{effect, with_main, verified, opened, turned, closed, to_alt, from_alt, sig_checked, tested, asked, executed, skipped, acted, counted, bounded, step_at, step}
 use Rattle.interp.specs.Rules.{Affects, OnMain, TakesTrue, Opening, Turning, Closing, ChecksOne, Checks, Asking, Executed, Skipped, Acts, Counts, Step1}

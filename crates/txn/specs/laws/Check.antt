@@ -22,12 +22,12 @@ both_false false b h = (refl, h)
 
 -- ---- equal outpoints
 
-same_bytes-refl : (xs : List ℕ) → pointwise ◌==◌ xs xs ≡ true
-same_bytes-refl [] = refl
-same_bytes-refl (x ∷ xs) = rw (eq-eqb x x refl) (same_bytes-refl xs)
+pointwise-refl : (xs : List ℕ) → pointwise ◌==◌ xs xs ≡ true
+pointwise-refl [] = refl
+pointwise-refl (x ∷ xs) = rw (eq-eqb x x refl) (pointwise-refl xs)
 
 pub same_outpoint-refl : (p : OutPoint) → same_outpoint p p ≡ true
-same_outpoint-refl p = rw (same_bytes-refl p.id.0) (eq-eqb p.index p.index refl)
+same_outpoint-refl p = rw (pointwise-refl p.id.0) (eq-eqb p.index p.index refl)
 
 pub same_outpoint-true : (a b : OutPoint) → same_outpoint a b ≡ true → a ≡ b
 same_outpoint-true a b h =

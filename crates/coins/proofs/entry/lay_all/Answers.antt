@@ -4,7 +4,7 @@ use Rattle.std.specs.List.{IsDistinct}
 use Rattle.std.proofs.lemmas.Map.Iter.{rest_more}
 use Rattle.std.proofs.lemmas.Map.Keys.{IsDistinct-from_sorted}
 use Rattle.txn.specs.declared.outpoint.OutPoint.{OutPoint}
-use Rattle.coins.specs.declared.entry.Entry.{Entry}
+use Rattle.coins.specs.declared.entry.CacheEntry.{CacheEntry}
 use Rattle.coins.specs.Coins.{same, outpoint_cmp}
 use Rattle.coins.specs.Entries.{Entries, HasRoom, entry_at, merged_at}
 use Rattle.coins.proofs.Merging.{lay_room, lay_rest, lay_step}
@@ -27,7 +27,7 @@ loop-at-preserved c =
     let ws = c.next.new.self in
     let k = c.in-Some.at in
     let e = c.in-Some.entry in
-    let more : ◌≡◌ {A = Entries} c.loop-at.at-iterator ((k, e) ∷ ws) = rest_more (λ (x : OutPoint × Entry). x) _ _ c.next.result (k, e) c.in-Some.is c.next.ensures.steps in
+    let more : ◌≡◌ {A = Entries} c.loop-at.at-iterator ((k, e) ∷ ws) = rest_more (λ (x : OutPoint × CacheEntry). x) _ _ c.next.result (k, e) c.in-Some.is c.next.ensures.steps in
     let distinct : IsDistinct same (keys_of ((k, e) ∷ ws)) = subst (λ (xs : Entries). IsDistinct same (keys_of xs)) more c.loop-at.invariant.distinct in
     record {
       room = lay_room es fs ws k e _ c.lay_one.ensures distinct (subst (λ (xs : Entries). HasRoom es xs) more c.loop-at.invariant.room);
@@ -37,6 +37,6 @@ loop-at-preserved c =
 
 pub lay_one-requires : goal.lay_one-requires
 lay_one-requires c =
-    let more : ◌≡◌ {A = Entries} c.loop-at.at-iterator ((c.in-Some.at, c.in-Some.entry) ∷ c.next.new.self) = rest_more (λ (x : OutPoint × Entry). x) _ _ c.next.result (c.in-Some.at, c.in-Some.entry) c.in-Some.is c.next.ensures.steps in
+    let more : ◌≡◌ {A = Entries} c.loop-at.at-iterator ((c.in-Some.at, c.in-Some.entry) ∷ c.next.new.self) = rest_more (λ (x : OutPoint × CacheEntry). x) _ _ c.next.result (c.in-Some.at, c.in-Some.entry) c.in-Some.is c.next.ensures.steps in
     let room : HasRoom c.loop-at.entries.entries ((c.in-Some.at, c.in-Some.entry) ∷ c.next.new.self) = subst (λ (xs : Entries). HasRoom c.loop-at.entries.entries xs) more c.loop-at.invariant.room in
     room.all.0

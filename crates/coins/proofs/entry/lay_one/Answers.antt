@@ -1,5 +1,5 @@
 use Rattle.std.proofs.Common.{subst, sym}
-use Rattle.coins.specs.declared.entry.Entry.{Entry}
+use Rattle.coins.specs.declared.entry.CacheEntry.{CacheEntry}
 use Rattle.coins.specs.Entries.{Written, entry_at, merged}
 use Rattle.coins.proofs.Merging.{written_same}
 use Rattle.coins.proofs.entry.lay_one.Goals as goal
@@ -7,4 +7,4 @@ use Rattle.coins.proofs.entry.lay_one.Goals as goal
 pub returns-in-Clean : goal.returns-in-Clean
 returns-in-Clean c =
     let es = c.args.entries.now.entries in
-    subst (λ (e : Entry). Written es es c.args.at (merged (entry_at es c.args.at) e)) (sym c.in-Clean.is) (written_same es c.args.at)
+    subst (λ (e : CacheEntry). Written es es c.args.at (merged (entry_at es c.args.at) e)) (sym c.in-Clean.is) (written_same es c.args.at)

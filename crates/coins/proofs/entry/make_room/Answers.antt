@@ -1,6 +1,6 @@
 use Rattle.std.proofs.Common.{◌≡◌, [], None, ◌∷◌, ◌++◌, sym, ap, ◌∙◌}
 use Rattle.std.proofs.lemmas.List.{append_assoc}
-use Rattle.coins.specs.declared.entry.Entry.TheVariants.{Clean}
+use Rattle.coins.specs.declared.entry.CacheEntry.TheVariants.{Clean}
 use Rattle.coins.specs.laws.Lookups.{same-self}
 use Rattle.coins.specs.Entries.{Entries, entry_at}
 use Rattle.coins.proofs.Merging.{pad_same, pad_write, room_write, room_push, none_from, some_from}

@@ -10,7 +10,7 @@ use Rattle.connect.specs.Scripts.{Check, flags_of, script_checks, IsFirstRefused
 use Rattle.connect.specs.Inside.{listed}
 use Rattle.connect.specs.laws.Alone.{lawful_block}
 use Rattle.connect.proofs.Steps.{tail_of}
-use Rattle.connect.proofs.Whole.{Fits, has_coinbase, block_fits, block_few, block_checks, fault_is}
+use Rattle.connect.proofs.Whole.{Fits, lawful_coinbase_first, block_fits, block_few, block_checks, fault_is}
 use Rattle.connect.proofs.connecting.connect.Goals as goal
 
 pub slice_bounds-others-count : goal.slice_bounds-others-count
@@ -27,7 +27,7 @@ first_refused-requires-clause-alike g c =
     let m = c.args.cache.now.coins in
     let txs = c.args.block.now.txs in
     let lawful = lawful_block c.args.block.now c.requires.alone in
-    let coinbase = has_coinbase c.args.block.now lawful in
+    let coinbase = lawful_coinbase_first c.args.block.now lawful in
     let slice = c.as_slice.result.now in
     let others : take (length slice - 1) (drop 1 slice) ≡ drop 1 txs = tail_of slice ∙ ap (drop 1) c.as_slice.ensures in
     let undo : c.in-Ok.undo ≡ undo_of s.height m txs = c.in-Ok.ensures.undo in
@@ -39,7 +39,7 @@ first_refused-requires-clause-few g c =
     let m = c.args.cache.now.coins in
     let txs = c.args.block.now.txs in
     let lawful = lawful_block c.args.block.now c.requires.alone in
-    let coinbase = has_coinbase c.args.block.now lawful in
+    let coinbase = lawful_coinbase_first c.args.block.now lawful in
     let slice = c.as_slice.result.now in
     let others : take (length slice - 1) (drop 1 slice) ≡ drop 1 txs = tail_of slice ∙ ap (drop 1) c.as_slice.ensures in
     let undo : c.in-Ok.undo ≡ undo_of s.height m txs = c.in-Ok.ensures.undo in
@@ -51,7 +51,7 @@ returns-in-Some-clause-fault g c =
     let m = c.args.cache.now.coins in
     let txs = c.args.block.now.txs in
     let lawful = lawful_block c.args.block.now c.requires.alone in
-    let coinbase = has_coinbase c.args.block.now lawful in
+    let coinbase = lawful_coinbase_first c.args.block.now lawful in
     let slice = c.as_slice.result.now in
     let others : take (length slice - 1) (drop 1 slice) ≡ drop 1 txs = tail_of slice ∙ ap (drop 1) c.as_slice.ensures in
     let undo : c.in-Ok.undo ≡ undo_of s.height m txs = c.in-Ok.ensures.undo in
@@ -70,7 +70,7 @@ returns-in_ok-absorb-in-Ok-clause-fault g c =
     let m = c.args.cache.now.coins in
     let txs = c.args.block.now.txs in
     let lawful = lawful_block c.args.block.now c.requires.alone in
-    let coinbase = has_coinbase c.args.block.now lawful in
+    let coinbase = lawful_coinbase_first c.args.block.now lawful in
     let slice = c.as_slice.result.now in
     let others : take (length slice - 1) (drop 1 slice) ≡ drop 1 txs = tail_of slice ∙ ap (drop 1) c.as_slice.ensures in
     let undo : c.in-Ok.undo ≡ undo_of s.height m txs = c.in-Ok.ensures.undo in

@@ -4,12 +4,12 @@ use Rattle.std.specs.List.{zip, list_all}
 use Rattle.txn.specs.declared.outpoint.OutPoint.{OutPoint}
 use Rattle.txn.specs.declared.tx.Tx.{Tx}
 use Rattle.txn.specs.Check.{is_coinbase, prevs}
-use Rattle.locks.specs.declared.relative.Place.{Place}
+use Rattle.locks.specs.declared.relative.LockStart.{LockStart}
 use Rattle.locks.specs.Relative.{is_met, are_met}
 use Rattle.coins.specs.declared.coin.Coin.{Coin}
 use Rattle.rules.specs.declared.in_force.InForce.{InForce}
 use Rattle.undo.specs.Effect.{spends}
-use Rattle.connect.specs.Faults.{place_of}
+use Rattle.connect.specs.Faults.{lock_start}
 use Rattle.connect.specs.Inside.{coins_of}
 use Rattle.connect.proofs.turn.is_locked.Goals.{then-is_coinbase-via-then-is_coinbase, then-is_coinbase-via-else-is_coinbase+then-not-at}
 use Rattle.connect.proofs.turn.is_locked.Goals as goal
@@ -39,7 +39,7 @@ spends_none tx h = let none : List OutPoint = [] in ap (λ b. length (cond b non
 
 met_without : (tx : Tx) (height cutoff : ℕ) → are_met tx [] height cutoff ≡ true
 unfolding are_met
-met_without tx height cutoff = or_true _ (list_all (λ p. is_met height cutoff p.0.sequence p.1) (zip {X = Place} tx.inputs [])) (ap (list_all (λ p. is_met height cutoff p.0.sequence p.1)) (no_pairs tx.inputs))
+met_without tx height cutoff = or_true _ (list_all (λ p. is_met height cutoff p.0.sequence p.1) (zip {X = LockStart} tx.inputs [])) (ap (list_all (λ p. is_met height cutoff p.0.sequence p.1)) (no_pairs tx.inputs))
 
 pub returns-then-is_coinbase : goal.returns-then-is_coinbase
 returns-then-is_coinbase c = elim c.then-is_coinbase.branch [
@@ -48,9 +48,9 @@ returns-then-is_coinbase c = elim c.then-is_coinbase.branch [
       let context = c.args.context.now in
       let first : is_coinbase tx ≡ true = sym c.is_coinbase.ensures.test ∙ w.if-is_coinbase.true in
       let none : c.args.coins.now ≡ [] = no_length c.args.coins.now (c.requires ∙ spends_none tx first) in
-      sym (and_false _ _ (ap not (ap (λ (coins : List (Bor Coin)). are_met tx (map (place_of context.medians.now) (coins_of coins)) context.height context.cutoff) none ∙ met_without tx context.height context.cutoff))))
+      sym (and_false _ _ (ap not (ap (λ (coins : List (Bor Coin)). are_met tx (map (lock_start context.medians.now) (coins_of coins)) context.height context.cutoff) none ∙ met_without tx context.height context.cutoff))))
   | then-is_coinbase-via-else-is_coinbase+then-not-at w ↦
       (let context = c.args.context.now in
       let off : nat_le context.params.now.csv context.height ≡ false = ap (λ (rules : InForce). rules.csv) (sym w.at.ensures) ∙ off_where_not w.at.result.csv w.if-not-at.true in
-      sym (ap (λ b. b && not (are_met c.args.tx.now (map (place_of context.medians.now) (coins_of c.args.coins.now)) context.height context.cutoff)) off))
+      sym (ap (λ b. b && not (are_met c.args.tx.now (map (lock_start context.medians.now) (coins_of c.args.coins.now)) context.height context.cutoff)) off))
 ]

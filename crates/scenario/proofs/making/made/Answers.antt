@@ -13,12 +13,12 @@ returns c =
     let put : txs ≡ with_first (option_map (λ known. known.tx) c.in_ok-coinbase.coinbase) recipe.transactions.items = c.in_ok-put_first.ensures in
     let coinbase : option_map (λ known. known.tx) c.in_ok-coinbase.coinbase ≡ coinbase_said recipe.has_coinbase recipe.coinbase name (c.args.parent.now.height + 1) = said ∙ ap (coinbase_said recipe.has_coinbase recipe.coinbase name) height in
     let all : txs ≡ txs_of recipe name (c.args.parent.now.height + 1) = put ∙ ap (λ first. with_first first recipe.transactions.items) coinbase in
-    let drafted : c.in_ok-draft.draft ≡ unsealed recipe.header c.args.parent.now txs = search rules in
-    let sealed : IsSealed recipe.header.nonce c.in_ok-draft.draft c.in-Some.header = c.in-Some.ensures in
+    let unsealed_is : c.in_ok-unsealed.unsealed ≡ unsealed recipe.header c.args.parent.now txs = search rules in
+    let sealed : IsSealed recipe.header.nonce c.in_ok-unsealed.unsealed c.in-Some.header = c.in-Some.ensures in
     record {
       whole = record { header = c.in-Some.header; txs = txs };
       txs = all;
-      header = subst (λ h. IsSealed recipe.header.nonce h c.in-Some.header) drafted sealed;
+      header = subst (λ h. IsSealed recipe.header.nonce h c.in-Some.header) unsealed_is sealed;
       named = search rules;
       id = search rules;
       height = height;

@@ -1,5 +1,5 @@
 use Rattle.std.proofs.lemmas.Result.{err_from_is_err_and}
-use Rattle.txn.specs.Faults.{spoken}
+use Rattle.txn.specs.Fault.{spoken}
 use Rattle.wire.specs.computed.Reading.{many_at}
 use Rattle.txn.specs.computed.Reading.{tx_out_at}
 use Rattle.wire.specs.laws.Loop.{goes_on, ends, is_done}

@@ -1,6 +1,6 @@
 use Rattle.std.proofs.Common.{◌≡◌, Some, ap, sym, subst, ◌∙◌}
 use Rattle.std.specs.FinMap as map
-use Rattle.coins.specs.declared.entry.Entry.{Entry}
+use Rattle.coins.specs.declared.entry.CacheEntry.{CacheEntry}
 use Rattle.coins.specs.Entries.{MarkHolds, entry_at, added_entry, stands}
 use Rattle.coins.proofs.Layers.{layer_get, layer_write, layer_same, sound_after, added_mark, added_stands, on_ok, on_err}
 use Rattle.coins.proofs.cache.Cache.add.Goals as goal
@@ -12,7 +12,7 @@ invariant_of-self g c =
     let k = c.args.at in
     let e : c.added-entry.result ≡ added_entry (entry_at es k) c.args.coin = c.added-entry.ensures ∙ ap (λ o. added_entry o c.args.coin) c.get.ensures.value in
     sound_after c.write.result m es c.write.new.entries.entries k (Some c.added-entry.result) c.write.ensures.ok c.write.ensures.err
-    (subst (λ (x : Entry). MarkHolds (Some x) (map.get m k)) (sym e) (added_mark (entry_at es k) c.args.coin (map.get m k) (c.self.invariant.marks k) (sym (layer_get c.args.self.now m es k c.self.view_is) ∙ c.requires)))
+    (subst (λ (x : CacheEntry). MarkHolds (Some x) (map.get m k)) (sym e) (added_mark (entry_at es k) c.args.coin (map.get m k) (c.self.invariant.marks k) (sym (layer_get c.args.self.now m es k c.self.view_is) ∙ c.requires)))
     c.self.invariant
 
 pub returns-clause-ok : goal.returns-clause-ok
@@ -22,7 +22,7 @@ returns-clause-ok g c =
     let k = c.args.at in
     let e : c.added-entry.result ≡ added_entry (entry_at es k) c.args.coin = c.added-entry.ensures ∙ ap (λ o. added_entry o c.args.coin) c.get.ensures.value in
     on_ok c.write.result c.write.ensures.ok (λ w. layer_write c.args.self.now m es c.write.new.entries.entries k (Some c.added-entry.result) (Some c.args.coin) c.self.view_is w
-    (ap (λ (x : Entry). stands x (map.get m k)) e ∙ added_stands (entry_at es k) c.args.coin (map.get m k)))
+    (ap (λ (x : CacheEntry). stands x (map.get m k)) e ∙ added_stands (entry_at es k) c.args.coin (map.get m k)))
 
 pub returns-clause-err : goal.returns-clause-err
 returns-clause-err g c =

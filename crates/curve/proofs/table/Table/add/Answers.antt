@@ -11,23 +11,23 @@ use Rattle.curve.proofs.table.Table.add.Goals as goal
 
 pub invariant_of-self : goal.invariant_of-self
 invariant_of-self c =
-    let items = c.self.inside.entries.items in
-    let kept : IsStrictlySortedBy triple_cmp (insert items c.in-Err.at c.in_ok-entry.entry) =
-    rw c.in_ok-entry.ensures (strict-missed triple_cmp-total items _ c.in-Err.at c.self.invariant (rw c.as_slice.ensures.value at c.in-Err.ensures.bound) (rw c.as_slice.ensures.value at c.in-Err.ensures.position)) in
+    let items = c.self.inside.triples.items in
+    let kept : IsStrictlySortedBy triple_cmp (insert items c.in-Err.at c.in_ok-triple.triple) =
+    rw c.in_ok-triple.ensures (strict-missed triple_cmp-total items _ c.in-Err.at c.self.invariant (rw c.as_slice.ensures.value at c.in-Err.ensures.bound) (rw c.as_slice.ensures.value at c.in-Err.ensures.position)) in
     rw c.in_ok-insert.ensures.items kept
 
 pub returns-in_ok-insert-clause-ok : goal.returns-in_ok-insert-clause-ok
 returns-in_ok-insert-clause-ok c =
-    let items = c.self.inside.entries.items in
+    let items = c.self.inside.triples.items in
     ap set.from_list c.in_ok-insert.ensures.items
-    ∙ from_list-insert triple_cmp-total triple_cmp-exact items c.in-Err.at c.in_ok-entry.entry
-    ∙ ap (λ s. set.insert s c.in_ok-entry.entry) c.self.view_is
-    ∙ ap (set.insert c.args.self.now) c.in_ok-entry.ensures
+    ∙ from_list-insert triple_cmp-total triple_cmp-exact items c.in-Err.at c.in_ok-triple.triple
+    ∙ ap (λ s. set.insert s c.in_ok-triple.triple) c.self.view_is
+    ∙ ap (set.insert c.args.self.now) c.in_ok-triple.ensures
 
 pub returns-in_default-clause-ok : goal.returns-in_default-clause-ok
 returns-in_default-clause-ok c =
     let t = triple_of c.args.key.now c.args.signature.now c.args.digest.now in
-    let items = c.self.inside.entries.items in
+    let items = c.self.inside.triples.items in
     let found = is_ok-search triple_cmp-total items t c.place.result (sorted_from_strict triple_cmp-total items c.self.invariant) (rw c.as_slice.ensures.value at c.place.ensures.bound) (rw c.as_slice.ensures.value at c.place.ensures.position) in
     let there : set.contains c.args.self.now t ≡ true = ap (λ s. set.contains s t) (sym c.self.view_is) ∙ sym found ∙ ap is_ok c.in_default.is in
     sym (insert_again triple_cmp-total triple_cmp-exact c.args.self.now t there)

@@ -4,9 +4,9 @@ use Rattle.curve.specs.Triple.{triple_cmp}
 use Rattle.curve.specs.Lines.{lines, IsTableOf}
 use Rattle.curve.proofs.table.Table.from_lines.Given as goal
 
--- the entries are a table of the lines so far
+-- the triples are a table of the lines so far
 abbrev pub invariant-loop-line : goal.invariant-loop-line
 invariant-loop-line l = record {
   count : l.number ≡ length l.yielded;
-  table : IsTableOf (take (length l.yielded) (lines l.fn.text)) (set.from_list {R = triple_cmp} l.entries.items);
+  table : IsTableOf (take (length l.yielded) (lines l.fn.text)) (set.from_list {R = triple_cmp} l.triples.items);
 }

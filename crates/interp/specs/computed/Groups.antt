@@ -1,4 +1,4 @@
--- The rows of the code's groups of opcodes.
+-- What each opcode of a group of the code does.
 use Rattle.std.specs.Prelude.{ℕ, List, [], ◌∷◌, ℤ, pos, ◌+ℤ◌, ◌-ℤ◌, neg_ℤ, not, ◌&&◌, ◌||◌, int_lt, unsigned_abs}
 use Rattle.std.specs.Int.{int_min, int_max}
 use Rattle.sha1.specs.Sha1.{sha1}
@@ -18,20 +18,20 @@ use Rattle.interp.specs.declared.numbers.Binary.TheVariants.{Add, Sub, BoolAnd, 
 use Rattle.interp.specs.declared.hashes.Hash.{Hash}
 use Rattle.interp.specs.declared.hashes.Hash.TheVariants.{Ripemd160, Sha1, Sha256, Hash160, DoubleSha256}
 
-abbrev pub move_row : Move → ℕ × List ℕ
-move_row Drop2 = (2, [])
-move_row Dup2 = (2, 0 ∷ 1 ∷ 0 ∷ 1 ∷ [])
-move_row Dup3 = (3, 0 ∷ 1 ∷ 2 ∷ 0 ∷ 1 ∷ 2 ∷ [])
-move_row Over2 = (4, 0 ∷ 1 ∷ 2 ∷ 3 ∷ 0 ∷ 1 ∷ [])
-move_row Rot2 = (6, 2 ∷ 3 ∷ 4 ∷ 5 ∷ 0 ∷ 1 ∷ [])
-move_row Swap2 = (4, 2 ∷ 3 ∷ 0 ∷ 1 ∷ [])
-move_row Drop1 = (1, [])
-move_row Dup = (1, 0 ∷ 0 ∷ [])
-move_row Nip = (2, 1 ∷ [])
-move_row Over = (2, 0 ∷ 1 ∷ 0 ∷ [])
-move_row Rot = (3, 1 ∷ 2 ∷ 0 ∷ [])
-move_row Swap = (2, 1 ∷ 0 ∷ [])
-move_row Tuck = (2, 1 ∷ 0 ∷ 1 ∷ [])
+abbrev pub move_of : Move → ℕ × List ℕ
+move_of Drop2 = (2, [])
+move_of Dup2 = (2, 0 ∷ 1 ∷ 0 ∷ 1 ∷ [])
+move_of Dup3 = (3, 0 ∷ 1 ∷ 2 ∷ 0 ∷ 1 ∷ 2 ∷ [])
+move_of Over2 = (4, 0 ∷ 1 ∷ 2 ∷ 3 ∷ 0 ∷ 1 ∷ [])
+move_of Rot2 = (6, 2 ∷ 3 ∷ 4 ∷ 5 ∷ 0 ∷ 1 ∷ [])
+move_of Swap2 = (4, 2 ∷ 3 ∷ 0 ∷ 1 ∷ [])
+move_of Drop1 = (1, [])
+move_of Dup = (1, 0 ∷ 0 ∷ [])
+move_of Nip = (2, 1 ∷ [])
+move_of Over = (2, 0 ∷ 1 ∷ 0 ∷ [])
+move_of Rot = (3, 1 ∷ 2 ∷ 0 ∷ [])
+move_of Swap = (2, 1 ∷ 0 ∷ [])
+move_of Tuck = (2, 1 ∷ 0 ∷ 1 ∷ [])
 
 abbrev pub unary_of : Unary → ℤ → ℤ
 unary_of Add1 x = x +ℤ pos 1

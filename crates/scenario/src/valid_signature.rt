@@ -14,9 +14,9 @@ use std::alloc::Global;
 use txn::Tx;
 use wire::Memory;
 
-/// A signature, without its type byte, and what it signs: an input of a transaction, by its number, with a code.
+/// A signature, without its hash type, and what it signs: an input of a transaction, by its number, with a code.
 #[derive(Clone, Copy)]
-pub struct Verdict<'s> {
+pub struct ValidSignature<'s> {
     pub key: &'s [u8],
     pub signature: &'s [u8],
     pub tx: &'s Tx,
@@ -27,19 +27,23 @@ pub struct Verdict<'s> {
 }
 
 /// Makes a signature valid.
-pub fn add_verdict(table: &mut Table, alloc: Global, verdict: &Verdict<'_>) -> Result<(), Memory>
-    requires { verdict.now.input < length verdict.now.tx.now.inputs }
-    ensures ok { let v = verdict.now in
+pub fn add_valid_signature(
+    table: &mut Table,
+    alloc: Global,
+    valid: &ValidSignature<'_>,
+) -> Result<(), Memory>
+    requires { valid.now.input < length valid.now.tx.now.inputs }
+    ensures ok { let v = valid.now in
         let signed = digest_of v.tx.now v.input (without ((0xab ∷ []) ∷ []) v.code.now) v.kind in
         OnOk result (table.new ≡ set.insert table.old (triple_of v.key.now v.signature.now signed)) }
     ensures err { OnErr result (table.new ≡ table.old) }
 {
-    let pieces = without(alloc, verdict.code, &[&[OP_CODESEPARATOR]])?;
+    let pieces = without(alloc, valid.code, &[&[OP_CODESEPARATOR]])?;
     let signed = digest(
-        verdict.tx,
-        verdict.input,
+        valid.tx,
+        valid.input,
         pieces.as_slice(),
-        u32::from(verdict.kind),
+        u32::from(valid.kind),
     );
-    table.add(verdict.key, verdict.signature, &signed)
+    table.add(valid.key, valid.signature, &signed)
 }

@@ -8,7 +8,7 @@ use Rattle.interp.specs.declared.flags.Flags.{Flags}
 use Rattle.interp.specs.Spending.{spending_of}
 use Rattle.interp.specs.Rules.{Accepts}
 use Rattle.interp.specs.computed.Step.{accepted}
-use Rattle.interp.specs.computed.Verdict.{accepts}
+use Rattle.interp.specs.computed.Verifying.{accepts}
 use Rattle.interp.specs.laws.Accepting.{accepted-sound, accepted-again}
 
 by : (tx : Tx) (input : ℕ) (spent : List ℕ) (flags : Flags) (triples : Triples) (own : Option TxIn) → slice_get tx.inputs input ≡ own

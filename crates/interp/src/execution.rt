@@ -2,7 +2,7 @@ ghost use Rattle.std.specs.Prelude.{◌≡◌, ◌<◌, ◌≤◌, ◌+◌, ℕ,
 ghost use Rattle.interp.specs.Stack.{Gives};
 ghost use Rattle.interp.specs.Spending.{Spending, spending_of};
 ghost use Rattle.interp.specs.State.{start, executing};
-ghost use Rattle.interp.specs.Locks.{locks_until, locks_for};
+ghost use Rattle.interp.specs.Timelocks.{locks_until, locks_for};
 ghost use Rattle.interp.specs.computed.Meaning.{meaning, check_of};
 ghost use Rattle.interp.specs.computed.Step.{executed, skipped, verified, with_main, opened, turned, closed, to_alt, from_alt, counts_of, sig_checked, multisig_checked, asked, tested, acted, counted, bounded, step_at, step, finished};
 ghost use Rattle.interp.specs.Row.{push_row, row_of, AndVerifies};
@@ -38,7 +38,7 @@ const MAX_KEYS: usize = 20;
 
 /// What a script runs on.
 #[derive(Drop)]
-pub struct Machine<'a> {
+pub struct Execution<'a> {
     main: Pile<Element>,
     alt: Pile<Element>,
     /// For each open condition, the innermost on top, whether its branch is taken.
@@ -49,7 +49,7 @@ pub struct Machine<'a> {
     code: &'a [u8],
 }
 
-impl<'a> Model for Machine<'a> {
+impl<'a> Model for Execution<'a> {
     ghost use Rattle.interp.specs.State.{State};
 
     ghost Value = { State };
@@ -60,22 +60,22 @@ impl<'a> Model for Machine<'a> {
 // A signature opcode: how many elements are taken, and the answer that is pushed in their place, without which the
 // script fails.
 macro_rules! row {
-    ($alloc:ident, $machine:ident; $taken:expr => $answer:expr) => {{
+    ($alloc:ident, $execution:ident; $taken:expr => $answer:expr) => {{
         let Some(valid) = $answer else {
             return Ok(false);
         };
-        $machine.main.drop_top($taken);
-        $machine.main.push(Element::from_truth($alloc, valid)?)?;
+        $execution.main.drop_top($taken);
+        $execution.main.push(Element::from_truth($alloc, valid)?)?;
         Ok(true)
     }};
 }
 
-impl<'a> Machine<'a> {
+impl<'a> Execution<'a> {
     /// Before the first opcode.
-    pub fn new(alloc: Global, script: &'a [u8], main: Pile<Element>) -> Machine<'a>
+    pub fn new(alloc: Global, script: &'a [u8], main: Pile<Element>) -> Execution<'a>
         ensures { result ≡ start script.now main }
     {
-        Machine {
+        Execution {
             main,
             alt: Pile::new(alloc),
             conditions: Conditions::new(alloc),
@@ -387,7 +387,7 @@ impl<'a> Machine<'a> {
     pub fn finish(self) -> Option<Pile<Element>>
         ensures { result ≡ finished self.entry }
     {
-        let Machine {
+        let Execution {
             main,
             alt: _,
             conditions,

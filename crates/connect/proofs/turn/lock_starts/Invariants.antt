@@ -1,0 +1,7 @@
+use Rattle.std.proofs.Common.{◌≡◌, map, take}
+use Rattle.connect.specs.Faults.{lock_start}
+use Rattle.connect.specs.Inside.{coins_of}
+use Rattle.connect.proofs.turn.lock_starts.Given as goal
+
+abbrev pub invariant-loop-coin : goal.invariant-loop-coin
+invariant-loop-coin l = l.starts.items ≡ map (lock_start l.medians) (coins_of (take l.coin-index l.coins))
