@@ -1,3 +1,5 @@
+//! Blk files, record by record.
+
 ghost use Rattle.std.specs.Prelude.{◌≡◌, ◌≢◌, ◌⊎◌, ◌+◌, ◌<◌, ◌≤◌, ◌^◌, ℕ, List, [], ◌++◌, length, IfOk, IfErr, IfSome, IfNone, OnOk, OnErr, Ok, Err, None, MatchOption, MatchResult};
 ghost use Rattle.wire.specs.Spelling.{limit};
 ghost use Rattle.block.specs.declared.blk_fault.BlkFault.{BlkFault};

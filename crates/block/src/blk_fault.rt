@@ -1,3 +1,5 @@
+//! Why a blk file isn't read on.
+
 ghost use Rattle.std.specs.Prelude.{◌≡◌};
 ghost use Rattle.block.specs.declared.blk_fault.BlkFault.TheVariants as faults;
 

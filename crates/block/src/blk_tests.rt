@@ -1,3 +1,5 @@
+//! Blk files, each read on its happy path and cut short.
+
 use crate::pieces::take;
 use crate::{BlkFault, BlkReader, GENESIS, ReadFailed, SliceSource, Source};
 use std::alloc::{AllocError, Global};

@@ -1,3 +1,5 @@
+//! Blocks.
+
 ghost use Rattle.std.specs.Prelude.{◌≡◌, IfOk, IsTrue, ◌↔◌};
 ghost use Rattle.block.specs.Identity.{id_of};
 

@@ -1,3 +1,5 @@
+//! Why bytes are no block.
+
 ghost use Rattle.std.specs.Prelude.{◌≡◌};
 ghost use Rattle.block.specs.Fault.{told};
 

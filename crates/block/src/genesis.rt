@@ -1,3 +1,5 @@
+//! Regtest's genesis block.
+
 use hash::Id;
 
 /// The bytes of regtest's genesis block: a header of 80 bytes, the count 1, and one transaction of 204 bytes.

@@ -1,3 +1,5 @@
+//! Block headers and their ids.
+
 ghost use Rattle.std.specs.Prelude.{◌≡◌};
 ghost use Rattle.block.specs.Identity.{id_of};
 

@@ -1,3 +1,5 @@
+//! Blocks read from bytes.
+
 ghost use Rattle.std.specs.Prelude.{◌≡◌, ◌⊎◌, ◌/◌, min, [], length, vec_capacity, IfOk, IfErr, IsOkUnless, Err};
 ghost use Rattle.wire.specs.computed.Reading.{Gives, many_at, counted_at};
 ghost use Rattle.txn.specs.computed.Reading.{tx_at};

@@ -1,3 +1,5 @@
+//! The subsidy of a height.
+
 ghost use Rattle.std.specs.Prelude.{◌≡◌, pos};
 ghost use Rattle.block.specs.Reward.{subsidy_of};
 

@@ -1,3 +1,5 @@
+//! Merkle roots.
+
 ghost use Rattle.std.specs.Prelude.{◌≡◌, ◌<◌, IfOk, length};
 ghost use Rattle.block.specs.Merkle as tree;
 

@@ -1,3 +1,5 @@
+//! Where the bytes of a blk file come from.
+
 ghost use Rattle.std.specs.Prelude.{◌≡◌, ℕ, ◌+◌, ◌<◌, ◌≤◌, ◌^◌, List, [], ◌++◌, length, take, IfOk, OnErr, is_ok, if◌then◌else◌};
 
 use std::error::Error;

@@ -1,3 +1,5 @@
+//! Proof of work.
+
 ghost use Rattle.std.specs.Prelude.{◌≡◌, ◌==◌, IsTrue, ◌↔◌};
 ghost use Rattle.std.specs.List.{list_all};
 ghost use Rattle.block.specs.Target.{MeetsTarget, meets_target};

@@ -1,3 +1,5 @@
+//! What no clause says of blocks: outside values, and each call once.
+
 use super::*;
 use hash::Id;
 use std::test::*;

@@ -1,3 +1,5 @@
+//! The transactions of a block.
+
 use txn::Tx;
 use wire::Parts;
 

@@ -1,3 +1,5 @@
+//! Blocks written as bytes.
+
 ghost use Rattle.std.specs.Prelude.{◌≡◌, ◌++◌, OnOk, OnErr};
 ghost use Rattle.wire.specs.Grammar.{counted};
 ghost use Rattle.wire.specs.Writing.{Extends};

@@ -1,3 +1,5 @@
+//! What no clause says of coins: each call once.
+
 ghost use Rattle.std.specs.Prelude.{◌≡◌, ◌<◌, IfOk, IfSome};
 ghost use Rattle.coins.specs.Changes.{IsInOrder};
 ghost use Rattle.coins.specs.Entries.{IsSound};

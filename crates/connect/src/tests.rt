@@ -1,3 +1,5 @@
+//! Blocks that connect, and one for each rule that they can break over the coins.
+
 ghost use Rattle.std.specs.Prelude.{◌≤◌};
 
 use super::*;

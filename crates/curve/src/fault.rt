@@ -1,3 +1,5 @@
+//! Why a table's text isn't read.
+
 ghost use Rattle.std.specs.Prelude.{◌≡◌};
 
 use std::alloc::{AllocError, AllocFailed};

@@ -1,3 +1,5 @@
+//! The lines of a table's text.
+
 ghost use Rattle.std.specs.Prelude.{◌≡◌, ◌==◌, not, ◌<◌, ◌∷◌, [], ◌↔◌, ℕ, List, length, IsTrue, IfOk, IfErr, MatchOption};
 ghost use Rattle.std.specs.List.{AllPass, position};
 ghost use Rattle.curve.specs.Triple.{Triple};

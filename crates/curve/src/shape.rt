@@ -1,3 +1,5 @@
+//! The strict encoding of signatures (BIP 66).
+
 ghost use Rattle.std.specs.Prelude.{◌≡◌, ◌↔◌, IsTrue};
 ghost use Rattle.curve.specs.Shape.{IsInteger, IsSignature, IsStrict};
 ghost use Rattle.curve.specs.computed.Shape.{is_strict};

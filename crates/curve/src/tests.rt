@@ -1,3 +1,5 @@
+//! What no clause says of tables: outside values, and each call once.
+
 use super::*;
 use hex::FromHex;
 use std::test::*;

@@ -1,3 +1,5 @@
+//! What a table keeps of a valid signature.
+
 ghost use Rattle.std.specs.Prelude.{◌≡◌, IfOk};
 ghost use Rattle.curve.specs.Triple.{triple_of, triple_cmp};
 

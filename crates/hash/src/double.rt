@@ -1,3 +1,5 @@
+//! SHA-256, twice.
+
 ghost use Rattle.std.specs.Prelude.{◌≡◌, ℕ, List};
 ghost use Rattle.sha2.specs.Hashers.{Holds256};
 ghost use Rattle.hash.specs.Double.{double_sha};

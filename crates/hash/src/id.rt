@@ -1,3 +1,5 @@
+//! The ids of transactions and blocks.
+
 ghost use Rattle.std.specs.Prelude.{◌≡◌, ◌↔◌, length, reverse, Ok, Some, IsSome, IfSome};
 ghost use Rattle.std.specs.List.{AllPass};
 ghost use Rattle.hex.specs.Hex.{decode_of, is_hex_digit};

@@ -1,3 +1,5 @@
+//! HASH160.
+
 ghost use Rattle.std.specs.Prelude.{◌≡◌};
 ghost use Rattle.hash.specs.KeyHash.{hash160};
 

@@ -1,3 +1,5 @@
+//! Outside values of hashes and ids.
+
 use super::*;
 use hex::FromHex;
 use sha2::{Digest, Sha256};

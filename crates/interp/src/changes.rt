@@ -1,3 +1,5 @@
+//! Opcodes that change the main stack alone.
+
 ghost use Rattle.std.specs.Prelude.{◌≡◌, ◌∷◌, Some, IfOk};
 ghost use Rattle.interp.specs.Stack.{Gives};
 ghost use Rattle.interp.specs.Row.{verify, if_dup, size, equal_bytes};

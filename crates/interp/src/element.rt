@@ -1,3 +1,5 @@
+//! The elements of the stacks.
+
 ghost use Rattle.std.specs.Prelude.{◌≡◌, ℕ, List, min, IfOk};
 ghost use Rattle.script.specs.Num.{spelled};
 ghost use Rattle.interp.specs.Elements.{truth, truth_bytes, natural_of};

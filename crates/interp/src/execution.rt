@@ -1,3 +1,5 @@
+//! One script, opcode by opcode.
+
 ghost use Rattle.std.specs.Prelude.{◌≡◌, ◌<◌, ◌≤◌, ◌+◌, ℕ, List, [], length, IfOk, IfSome};
 ghost use Rattle.interp.specs.Stack.{Gives};
 ghost use Rattle.interp.specs.Spending.{Spending, spending_of};

@@ -1,3 +1,5 @@
+//! CHECKMULTISIG.
+
 ghost use Rattle.std.specs.Prelude.{◌≡◌, ◌+◌, ◌-◌, ◌<◌, ◌≤◌, length, take, drop, IfOk, IfSome, Some};
 ghost use Rattle.std.specs.List.{concat, position};
 ghost use Rattle.std.specs.FinSet as set;

@@ -1,3 +1,5 @@
+//! Opcodes that compute with numbers.
+
 ghost use Rattle.std.specs.Prelude.{◌≡◌, ◌^◌, ◌∷◌, pos, negsuc, ◌<ℤ◌, IfOk, OnOk, MatchOption, IfSome, Some, None};
 ghost use Rattle.script.specs.Num.{operand, spelled};
 ghost use Rattle.interp.specs.Stack.{Gives};

@@ -1,3 +1,5 @@
+//! What each opcode does.
+
 ghost use Rattle.std.specs.Prelude.{◌≡◌};
 ghost use Rattle.interp.specs.Row.{row_at};
 ghost use Rattle.interp.specs.computed.Meaning.{meaning};

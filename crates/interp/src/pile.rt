@@ -1,3 +1,5 @@
+//! Stacks.
+
 ghost use Rattle.std.specs.Prelude.{◌≡◌, ◌+◌, ◌<◌, ◌≤◌, ℕ, List, [], ◌∷◌, length, reverse, remove, drop, slice_get, pos, OnOk, OnErr, IfOk, Some};
 
 use crate::element::Element;

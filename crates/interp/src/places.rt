@@ -1,3 +1,5 @@
+//! Opcodes that reach into the stack by a number.
+
 ghost use Rattle.std.specs.Prelude.{◌≡◌, ◌<◌, ◌∷◌, length, remove, IfOk, IfSome, MatchOption, pos, None, Some};
 ghost use Rattle.script.specs.Num.{spelled};
 ghost use Rattle.interp.specs.Stack.{Gives};

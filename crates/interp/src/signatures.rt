@@ -1,3 +1,5 @@
+//! What is signed, and CHECKSIG.
+
 ghost use Rattle.std.specs.Prelude.{◌≡◌, ◌<◌, [], ◌∷◌, length, map, IfOk};
 ghost use Rattle.std.specs.List.{concat, position};
 ghost use Rattle.std.specs.FinSet as set;

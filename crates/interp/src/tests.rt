@@ -1,3 +1,5 @@
+//! What no clause says of scripts: each kind once.
+
 use super::*;
 use curve::Table;
 use hash::Id;

@@ -1,3 +1,5 @@
+//! CHECKLOCKTIMEVERIFY and CHECKSEQUENCEVERIFY (BIPs 65 and 112).
+
 ghost use Rattle.std.specs.Prelude.{◌≡◌, ◌<◌, ◌^◌, ◌==◌, length, Bool};
 ghost use Rattle.interp.specs.Spending.{sequence_of};
 ghost use Rattle.interp.specs.Timelocks.{is_height, locks_until, is_as_long, locks_for, is_met};

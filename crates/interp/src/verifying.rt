@@ -1,3 +1,5 @@
+//! The scripts of an input and of the output that it spends.
+
 ghost use Rattle.std.specs.Prelude.{◌≡◌, ◌<◌, ◌↔◌, [], ◌∷◌, ◌++◌, length, IsTrue, IfOk, MatchOption};
 ghost use Rattle.script.specs.Ops.{ops, rest};
 ghost use Rattle.interp.specs.Spending.{spending_of};

@@ -1,3 +1,5 @@
+//! Outside values of hashes in lanes.
+
 use super::*;
 use hash::{Id, double_sha};
 use hex::FromHex;

@@ -1,3 +1,5 @@
+//! Whether a transaction is final.
+
 ghost use Rattle.std.specs.Prelude.{◌≡◌, ◌==◌};
 ghost use Rattle.std.specs.List.{list_all};
 ghost use Rattle.locks.specs.Finality.{has_passed, is_final};

@@ -1,3 +1,5 @@
+//! Medians of times.
+
 ghost use Rattle.std.specs.Prelude.{◌≡◌, ◌≤◌, length};
 ghost use Rattle.locks.specs.MedianTime.{IsMedian, median_of};
 

@@ -1,3 +1,5 @@
+//! What no clause says of locks: each call once.
+
 use super::*;
 use std::alloc::{AllocError, Global};
 use std::test::*;

@@ -1,3 +1,5 @@
+//! One seat, its answers and its history.
+
 use super::*;
 use block::{GENESIS, GENESIS_ID, meets_target};
 use hash::Id;

@@ -1,3 +1,5 @@
+//! Jobs on several workers, and verdicts got before.
+
 ghost use Rattle.std.specs.Prelude.{◌<◌, ◌^◌, length, All, IsTrue};
 ghost use Rattle.queue.specs.Jobs.{HasInput};
 

@@ -1,3 +1,5 @@
+//! One block of 64 bytes.
+
 // One block of 64 bytes.
 
 ghost use Rattle.std.specs.Prelude.{◌≡◌, ◌+◌, ◌≤◌, ◌<◌};

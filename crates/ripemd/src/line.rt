@@ -1,3 +1,5 @@
+//! The tables of both lines of rounds.
+
 // The two lines of a block: five rounds of sixteen steps each, as tables.
 
 ghost use Rattle.std.specs.Prelude.{◌≡◌};

@@ -1,3 +1,5 @@
+//! The five words of the state.
+
 // The five words, and one step of a line.
 
 ghost use Rattle.std.specs.Prelude.{◌≡◌};

@@ -1,3 +1,5 @@
+//! The digests of the algorithm's authors.
+
 use crate::{Ripemd160, digest};
 
 // The messages and digests that the algorithm's authors published.

@@ -6,7 +6,11 @@ mod answers;
 #[cfg(test)]
 mod block_options;
 #[cfg(test)]
+mod by_definition;
+#[cfg(test)]
 mod command_line;
+#[cfg(test)]
+mod commands;
 #[cfg(test)]
 mod context_free;
 #[cfg(test)]

@@ -1,3 +1,5 @@
+//! The rules of a block by its place.
+
 ghost use Rattle.std.specs.Prelude.{◌≡◌, ◌+◌, nat_lt};
 ghost use Rattle.std.specs.List.{list_all};
 ghost use Rattle.locks.specs.Finality.{is_final};

@@ -1,3 +1,5 @@
+//! The height in a coinbase (BIP 34).
+
 ghost use Rattle.std.specs.Prelude.{◌≡◌, ◌==◌};
 ghost use Rattle.std.specs.List.{starts_with};
 ghost use Rattle.rules.specs.Height.{height_push};

@@ -1,3 +1,5 @@
+//! Blocks that break one rule each.
+
 use super::*;
 use block::{Block, GENESIS, GENESIS_ID, GENESIS_ROOT, Header, Txs};
 use std::alloc::{AllocError, Global};

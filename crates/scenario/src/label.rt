@@ -1,3 +1,5 @@
+//! How a block's id is printed.
+
 use hash::Id;
 use std::fmt;
 

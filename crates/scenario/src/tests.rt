@@ -1,3 +1,5 @@
+//! What no clause says of a scenario's signatures.
+
 use crate::definitions::Definitions;
 use crate::line::lines;
 use curve::Table;

@@ -1,3 +1,5 @@
+//! Kinds of scripts.
+
 ghost use Rattle.std.specs.Prelude.{◌≡◌};
 ghost use Rattle.script.specs.Kinds.{is_push_only, is_p2sh, is_unspendable};
 

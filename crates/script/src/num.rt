@@ -1,3 +1,5 @@
+//! Numbers of scripts.
+
 ghost use Rattle.std.specs.Prelude.{◌≡◌, ◌<◌, ◌≤◌, ◌^◌, ◌+◌, ◌*◌, ◌++◌, ◌%◌, ◌/◌, List, ℕ, ℤ, length, min, nat_le, option_map, IfOk, OnOk};
 ghost use Rattle.wire.specs.Grammar.{IsBytes};
 ghost use Rattle.script.specs.Num.{magnitude, signed, num_value, operand, spelled, spelled_with};

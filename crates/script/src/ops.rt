@@ -1,3 +1,5 @@
+//! The opcodes of a script.
+
 ghost use Rattle.std.specs.Prelude.{ℕ, List, ◌^◌, ◌≡◌, ◌<◌, ◌≤◌, ◌+◌, ◌++◌, [], length, take, IfSome, IfNone};
 ghost use Rattle.std.specs.Iterator.{YieldsFirstRef, MakesProgress, item_count};
 ghost use Rattle.script.specs.Op.{number_of, pushed_of};

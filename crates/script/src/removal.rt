@@ -1,3 +1,5 @@
+//! Scripts without some of their opcodes.
+
 ghost use Rattle.std.specs.Prelude.{◌≡◌, IfOk};
 ghost use Rattle.std.specs.List.{concat};
 ghost use Rattle.script.specs.Removal.{bytes_of, is_among, without};

@@ -1,3 +1,5 @@
+//! Counting signature operations.
+
 ghost use Rattle.std.specs.Prelude.{◌≡◌, ◌≤◌};
 ghost use Rattle.script.specs.Signatures.{keys, op_sigops, sigops, last_pushed, p2sh_sigops};
 

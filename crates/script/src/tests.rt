@@ -1,3 +1,5 @@
+//! What no clause says of scripts: outside values, and each call once.
+
 use super::*;
 use std::test::Fail;
 

@@ -1,3 +1,5 @@
+//! Outside values of digests.
+
 use super::*;
 use hex::FromHex;
 use std::process::Abort;

@@ -1,3 +1,5 @@
+//! A small tree, its marks and its tips.
+
 use super::*;
 use block::{Block, GENESIS_ID, GENESIS_TIME, Header, Txs};
 use hash::Id;

@@ -1,3 +1,5 @@
+//! Inputs.
+
 ghost use Rattle.std.specs.Prelude.{◌≡◌, IfOk, IsTrue, ◌↔◌};
 
 use crate::outpoint::OutPoint;

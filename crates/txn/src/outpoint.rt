@@ -1,3 +1,5 @@
+//! Outpoints.
+
 ghost use Rattle.std.specs.Prelude.{◌≡◌, IsTrue, ◌↔◌};
 
 use hash::Id;

@@ -1,3 +1,5 @@
+//! Outputs.
+
 ghost use Rattle.std.specs.Prelude.{◌≡◌, IfOk, IsTrue, ◌↔◌};
 
 use crate::script::Script;

@@ -1,3 +1,5 @@
+//! Transactions read from bytes.
+
 ghost use Rattle.std.specs.Prelude.{◌≡◌, ◌++◌, ℕ, ◌/◌, min, List, [], length, vec_capacity, Ok, Err, IfOk, IfErr, OnErr, IfSome};
 ghost use Rattle.wire.specs.declared.fault.WireFault.{WireFault};
 ghost use Rattle.wire.specs.Grammar.{IsBytes};

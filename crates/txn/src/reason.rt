@@ -1,3 +1,5 @@
+//! Why a block is rejected.
+
 ghost use Rattle.std.specs.Prelude.{◌≡◌};
 ghost use Rattle.txn.specs.Reason.{number_of};
 

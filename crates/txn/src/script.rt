@@ -1,3 +1,5 @@
+//! Scripts.
+
 use wire::Parts;
 
 /// A script, as its bytes.

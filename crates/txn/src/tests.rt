@@ -1,3 +1,5 @@
+//! What no clause says of transactions: outside values, and each call once.
+
 use super::*;
 use hash::Id;
 use std::alloc::{AllocError, Global};

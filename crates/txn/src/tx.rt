@@ -1,3 +1,5 @@
+//! Transactions and their ids.
+
 ghost use Rattle.std.specs.Prelude.{◌≡◌, IfOk, IsTrue, ◌↔◌};
 ghost use Rattle.txn.specs.Coinbase.{IsCoinbase, is_coinbase};
 ghost use Rattle.txn.specs.Identity.{id_of};

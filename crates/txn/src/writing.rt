@@ -1,3 +1,5 @@
+//! Transactions written as bytes.
+
 ghost use Rattle.std.specs.Prelude.{◌≡◌, ◌≤◌, ◌++◌, length, OnOk, OnErr};
 ghost use Rattle.wire.specs.Grammar.{sized, counted};
 ghost use Rattle.wire.specs.Spelling.{limit};

@@ -1,3 +1,5 @@
+//! What no clause says of undo: each call once.
+
 ghost use Rattle.std.specs.Prelude.{◌≡◌, ◌∷◌, [], length, IfOk};
 
 use super::*;

@@ -1,3 +1,5 @@
+//! The spelling of counts.
+
 ghost use Rattle.std.specs.Prelude.{◌≡◌};
 ghost use Rattle.wire.specs.Spelling.{compact};
 

@@ -1,3 +1,5 @@
+//! Reading from the front of bytes.
+
 ghost use Rattle.std.specs.Prelude.{◌≡◌, ℕ, ◌≤◌, ◌<◌, ◌/◌, min, ◌++◌, List, length, Err, IfOk, IfErr, OnErr, IsOkAnd};
 ghost use Rattle.wire.specs.declared.fault.WireFault.{WireFault};
 ghost use Rattle.wire.specs.Grammar.{IsBytes, piece, number, signed32, signed64, count};

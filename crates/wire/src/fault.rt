@@ -1,3 +1,5 @@
+//! Why bytes aren't read.
+
 use std::error::Error;
 use std::fmt;
 

@@ -1,3 +1,5 @@
+//! What no clause says of bytes: each call once.
+
 use super::*;
 use std::test::*;
 

@@ -1,3 +1,5 @@
+//! Counts and lists written as bytes.
+
 ghost use Rattle.std.specs.Prelude.{◌≡◌, ◌++◌, OnOk, OnErr};
 ghost use Rattle.wire.specs.Spelling.{compact};
 

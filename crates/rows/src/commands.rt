@@ -1,0 +1,90 @@
+//! Commands as texts, each with the reply that it must have.
+
+use activate::{Bytes, Command, slow};
+use block::GENESIS_TIME;
+use curve::Table;
+use rules::Params;
+use scenario::{Definitions, Line, lines};
+use std::alloc::Global;
+use std::test::Fail;
+
+/// Commands, each line with its reply, over what a scenario's lines define.
+pub struct Asked {
+    pub params: Params,
+    pub definitions: &'static str,
+    pub commands: &'static str,
+}
+
+/// The commands of some lines, and their replies.
+struct Told<'t> {
+    commands: Vec<Command>,
+    replies: Vec<&'t str>,
+    /// The moment of the submissions to come.
+    now: u64,
+}
+
+/// Asks by the definition, and compares each reply.
+pub fn expect_replies<R: AllocGlobal + Abort>(rt: &R, asked: &Asked) -> Result<(), Fail> {
+    let alloc = rt.alloc();
+    let text = lines(alloc, asked.definitions.as_bytes())?;
+    let definitions = Definitions::read(alloc, &text, Table::new(alloc))?;
+    let mut told = Told {
+        commands: Vec::new(alloc),
+        replies: Vec::new(alloc),
+        now: u64::from(GENESIS_TIME),
+    };
+    let text = lines(alloc, asked.commands.as_bytes())?;
+    for line in &text {
+        told.read(alloc, &definitions, line)?;
+    }
+    let table = Table::new(alloc);
+    let replies = slow(alloc, &asked.params, &told.commands, &table)?;
+    assert_eq!(rt; replies.len(), told.replies.len());
+    for (reply, wanted) in replies.iter().zip(&told.replies) {
+        assert_eq!(rt; format!(in alloc; "{reply}")?.as_str(), *wanted);
+    }
+    Ok(())
+}
+
+impl<'t> Told<'t> {
+    /// Reads a line.
+    fn read(&mut self, alloc: Global, definitions: &Definitions, line: &Line<'t>) -> Result<(), Fail> {
+        match line.words.as_slice() {
+            ["now", moment] => {
+                self.now = moment.parse().map_err(|_| Fail::new("a moment"))?;
+                Ok(())
+            }
+            ["submit", name, "=", reply] => self.submit(alloc, definitions, name, *reply),
+            ["each", name, first, last, "=", reply] => {
+                let first: u32 = first.parse().map_err(|_| Fail::new("a number"))?;
+                let last: u32 = last.parse().map_err(|_| Fail::new("a number"))?;
+                for number in first..=last {
+                    let numbered = format!(in alloc; "{name}{number}")?;
+                    self.submit(alloc, definitions, &numbered, *reply)?;
+                }
+                Ok(())
+            }
+            [word, name, "=", reply] => {
+                let id = definitions.find(name).map_err(|_| Fail::new("a block"))?.id;
+                let command = match *word {
+                    "invalidate" => Command::Invalidate(id),
+                    "reconsider" => Command::Reconsider(id),
+                    "precious" => Command::Precious(id),
+                    _ => return Err(Fail::new("a command")),
+                };
+                self.commands.push(command)?;
+                self.replies.push(*reply)?;
+                Ok(())
+            }
+            _ => Err(Fail::new("a line")),
+        }
+    }
+
+    fn submit(&mut self, alloc: Global, definitions: &Definitions, name: &str, reply: &'t str) -> Result<(), Fail> {
+        let block = definitions.find(name).map_err(|_| Fail::new("a block"))?;
+        let bytes = Bytes::from_slice(alloc, &block.bytes)?;
+        self.commands.push(Command::Submit(bytes, self.now))?;
+        self.replies.push(reply)?;
+        Ok(())
+    }
+}
