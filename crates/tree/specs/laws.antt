@@ -1,7 +1,6 @@
 -- Theorems on the tree, for any blocks.
 pub mod Added
 pub mod Branches
-pub mod Leaves
 pub mod Marks
 pub mod Orders
 pub mod Parents
@@ -9,4 +8,5 @@ pub mod Ranks
 pub mod Sets
 pub mod Slots
 pub mod Tips
+pub mod Tops
 pub mod Walks
