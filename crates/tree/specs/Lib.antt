@@ -8,4 +8,5 @@ pub mod Slots
 pub mod Sound
 pub mod State
 pub mod Tips
+pub mod Tops
 pub mod laws

@@ -1,14 +1,11 @@
 -- How the program's tree is seen, and what is always right in it.
 use Rattle.std.specs.Prelude.{◌≡◌, ℕ, ◌-◌, ◌<◌, ◌≤◌, Bool, true, false, not, ◌&&◌, List, [], ◌∷◌, length, map, reverse, filter, slice_index_or}
-use Rattle.std.specs.declared.cmp.Ordering.{Ordering}
-use Rattle.std.specs.Ordering.{nat_cmp, ordering_then}
 use Rattle.std.specs.Map.{lookup}
 use Rattle.std.specs.BTreeMap.{is_at}
 use Rattle.hash.specs.declared.id.Id.{Id}
 use Rattle.block.specs.declared.block.Block.{Block}
 use Rattle.tree.specs.declared.node.Node.{Node}
 use Rattle.tree.specs.declared.node.Mark.{Mark}
-use Rattle.tree.specs.declared.leaf.Leaf.{Leaf}
 use Rattle.tree.specs.Branches.{Kept, Blocks, has, down_from, branch, height, parent_at, block_at, id_at, blocks_at, place_of}
 use Rattle.tree.specs.Slots.{AreInOrder, slot_of, leaves_of}
 use Rattle.tree.specs.State.{State, usable, rank}
@@ -68,12 +65,6 @@ AreNodes t nodes = (p : ℕ) (d : Node) → p < length nodes → IsNode t p (sli
 -- the ids, each with the place of its block
 abbrev pub AreIds : Blocks Block → List (Id × ℕ) → Type 0
 AreIds t ids = (i : Id) → lookup (is_at (id_cmp i)) ids ≡ place_of names t i
-
-abbrev pub leaf_cmp : Leaf → Leaf → Ordering
-leaf_cmp a b = ordering_then (nat_cmp a.depth b.depth) (nat_cmp a.place b.place)
-
-abbrev pub leaf_at : Blocks Block → ℕ → Leaf
-leaf_at t p = record { depth = max_blocks - height t p; place = p }
 
 pub record IsRight (nodes : List Node) (marks : List Mark) (calls : List ℕ) (ids : List (Id × ℕ)) (leaves : List ℕ) : Type 0 where
   pub some : 0 < length nodes

@@ -3,7 +3,6 @@ pub mod Above
 pub mod Added
 pub mod Branches
 pub mod Calls
-pub mod Leaves
 pub mod Marks
 pub mod Orders
 pub mod Parents
@@ -11,4 +10,5 @@ pub mod Ranks
 pub mod Sets
 pub mod Slots
 pub mod Tips
+pub mod Tops
 pub mod Walks

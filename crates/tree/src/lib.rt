@@ -5,7 +5,6 @@ mod clearing;
 mod fault;
 mod growing;
 pub mod laws;
-mod leaf;
 mod node;
 mod opening;
 mod past;
@@ -13,6 +12,7 @@ mod spoiling;
 mod standing;
 mod tip;
 mod tips;
+mod top;
 mod tree;
 mod walk;
 

@@ -3,21 +3,21 @@
 ghost use Rattle.std.specs.Prelude.{◌≡◌, ◌≤◌, ◌==◌, ◌&&◌, nat_lt, length, slice_index, map, reverse, filter, cond, ◌++◌, ◌∷◌, [], IfOk};
 ghost use Rattle.tree.specs.Branches.{places, branch};
 ghost use Rattle.tree.specs.Names.{names};
-ghost use Rattle.tree.specs.Nodes.{leaf_at};
+ghost use Rattle.tree.specs.Tops.{top_at};
 ghost use Rattle.tree.specs.Slots.{is_leaf, leaves_of};
 ghost use Rattle.tree.specs.Tips.{goes_first, is_tip, ordered, shown, status, tip};
 
-use crate::leaf::Leaf;
 use crate::tip::{Status, Tip};
+use crate::top::Top;
 use crate::tree::{MAX_BLOCKS, Tree};
 use std::alloc::Global;
 use wire::Memory;
 
 /// The tips beside the active block `best`: by height downwards, then by arrival.
-pub(crate) fn tops(alloc: Global, tree: &Tree, best: usize) -> Result<Vec<Leaf>, Memory>
+pub(crate) fn tops(alloc: Global, tree: &Tree, best: usize) -> Result<Vec<Top>, Memory>
     requires { best ≤ length tree.now.blocks }
     ensures { let t = tree.now.blocks in
-        IfOk result (λ tops. tops.items ≡ map (leaf_at t) (ordered (goes_first t) (filter (is_tip t best) (places t)))) }
+        IfOk result (λ tops. tops.items ≡ map (top_at t) (ordered (goes_first t) (filter (is_tip t best) (places t)))) }
 {
     let mut tops = all_tops(alloc, tree, tree.leaves(), best)?;
     tops.sort_unstable();
@@ -25,27 +25,27 @@ pub(crate) fn tops(alloc: Global, tree: &Tree, best: usize) -> Result<Vec<Leaf>,
 }
 
 /// The leaves, and the active block if it is none.
-fn all_tops(alloc: Global, tree: &Tree, leaves: &[usize], best: usize) -> Result<Vec<Leaf>, Memory>
+fn all_tops(alloc: Global, tree: &Tree, leaves: &[usize], best: usize) -> Result<Vec<Top>, Memory>
     requires kept { best ≤ length tree.now.blocks }
     requires leaves { leaves.now ≡ leaves_of tree.now.blocks }
     ensures { let t = tree.now.blocks in
-        IfOk result (λ tops. tops.items ≡ map (leaf_at t) (leaves_of t ++ cond (is_leaf t best) [] (best ∷ []))) }
+        IfOk result (λ tops. tops.items ≡ map (top_at t) (leaves_of t ++ cond (is_leaf t best) [] (best ∷ []))) }
 {
     let mut tops = Vec::new(alloc);
     for place in leaves {
-        tops.push(leaf(tree, *place))?;
+        tops.push(top(tree, *place))?;
     }
     if !tree.is_leaf(best) {
-        tops.push(leaf(tree, best))?;
+        tops.push(top(tree, best))?;
     }
     Ok(tops)
 }
 
-fn leaf(tree: &Tree, place: usize) -> Leaf
+fn top(tree: &Tree, place: usize) -> Top
     requires { place ≤ length tree.now.blocks }
-    ensures { result ≡ leaf_at tree.now.blocks place }
+    ensures { result ≡ top_at tree.now.blocks place }
 {
-    Leaf {
+    Top {
         depth: MAX_BLOCKS.saturating_sub(tree.height(place)),
         place,
     }

@@ -2,8 +2,8 @@ use Rattle.std.proofs.Common.{ℕ, ◌≤◌, List, length, get_or, sym, ap, sub
 use Rattle.tree.specs.laws.Slots.{length-leaves, slot_back}
 use Rattle.tree.proofs.tips.all_tops.Goals as goal
 
-pub leaf-requires : goal.leaf-requires
-leaf-requires c =
+pub top-requires : goal.top-requires
+top-requires c =
     let t = c.args.tree.now.blocks in
     let l = length-leaves t in
     let v = ap (λ (x : List ℕ). length x) c.requires.leaves in

@@ -1,4 +1,4 @@
--- The order of leaves is that of tips.
+-- Tips sorted as tops are the tips in their order.
 use Rattle.std.proofs.Common.{◌≡◌, ℕ, suc, ◌+◌, ◌-◌, ◌<◌, ◌≤◌, Bool, true, false, cond, ◌&&◌, ◌||◌, eqb, ltb, List, [], ◌∷◌, length, get_or, map, sym, refl, ap, ◌∙◌, subst, inl, inr, arith}
 use Rattle.std.specs.List.{All, filter}
 use Rattle.std.specs.List.Sorted.{IsPermutation, IsSorted, IsSortedBy}
@@ -11,10 +11,10 @@ use Rattle.std.proofs.lemmas.List.{get_or-map, length-map}
 use Rattle.std.proofs.lemmas.List.Elements.{All-map, All-head, All-tail}
 use Rattle.std.proofs.lemmas.List.Sorted.{IsPermutation-map, All-permutation, sum_by-IsPermutation, sorted_far, ranks_by}
 use Rattle.block.specs.declared.block.Block.{Block}
-use Rattle.tree.specs.declared.leaf.Leaf.{Leaf}
+use Rattle.tree.specs.declared.top.Top.{Top}
 use Rattle.tree.specs.Branches.{Blocks, has, places, height}
 use Rattle.tree.specs.Limits.{max_blocks}
-use Rattle.tree.specs.Nodes.{leaf_at, leaf_cmp}
+use Rattle.tree.specs.Tops.{top_at, top_cmp}
 use Rattle.tree.specs.Slots.{AreInOrder}
 use Rattle.tree.specs.Tips.{is_tip, goes_first, ordered}
 use Rattle.tree.specs.laws.Sets.{has_here, has_there}
@@ -23,14 +23,14 @@ use Rattle.tree.specs.laws.Orders.{one, times, has-times, times_filter-above, ti
 use Rattle.tree.specs.laws.Walks.{has_at}
 use Rattle.tree.specs.laws.Tips.{all_tips, once-tip, tips_in_order}
 
-total_order : IsTotalOrder leaf_cmp
+total_order : IsTotalOrder top_cmp
 total_order = then_total (on_total (λ l. l.depth) nat_cmp_total) (on_total (λ l. l.place) nat_cmp_total)
 
-abbrev below : Leaf → Leaf → Bool
-below l m = is_lt (leaf_cmp l m)
+abbrev below : Top → Top → Bool
+below l m = is_lt (top_cmp l m)
 
 weak_order : IsStrictWeakOrder below
-weak_order = ranks_by total_order (λ (l : Leaf). l)
+weak_order = ranks_by total_order (λ (l : Top). l)
 
 lt_nat : (p q : ℕ) → is_lt (nat_cmp p q) ≡ ltb p q
 lt_nat p q =
@@ -69,13 +69,13 @@ index_of (y ∷ l) q h =
       | inr e ↦ let r = index_of l q e in let b = r.1 in (suc r.0, omega arith, r.2)
     ]
 
-abbrev place_in : Leaf → ℕ
+abbrev place_in : Top → ℕ
 place_in l = l.place
 
 module _ (t : Blocks Block) (room : suc (length t) ≤ max_blocks) where
-  leaf_order : (q p : ℕ) → q ≤ length t → p ≤ length t → below (leaf_at t q) (leaf_at t p) ≡ goes_first t q p
+  top_order : (q p : ℕ) → q ≤ length t → p ≤ length t → below (top_at t q) (top_at t p) ≡ goes_first t q p
   unfolding goes_first
-  leaf_order q p h g =
+  top_order q p h g =
       let r = room in
       let a = height-place t q q (omega arith) h in
       let b = height-place t p p (omega arith) g in
@@ -85,41 +85,41 @@ module _ (t : Blocks Block) (room : suc (length t) ≤ max_blocks) where
       ∙ ap (λ v. v || (eqb (max_blocks - height t q) (max_blocks - height t p) && ltb q p)) (lt_left max_blocks (height t q) (height t p) x y)
       ∙ ap (λ v. ltb (height t p) (height t q) || (v && ltb q p)) (eq_left max_blocks (height t q) (height t p) x y)
 
-  -- leaves in order are places in order
-  places_in_order : (l : List ℕ) → ((q : ℕ) → has l q ≡ true → q ≤ length t) → IsSortedBy below (map (leaf_at t) l) → IsOrdered (goes_first t) l
+  -- tops in order are places in order
+  places_in_order : (l : List ℕ) → ((q : ℕ) → has l q ≡ true → q ≤ length t) → IsSortedBy below (map (top_at t) l) → IsOrdered (goes_first t) l
   places_in_order [] b up = tt
   places_in_order (p ∷ l) b up = (
     λ q h.
         let i = index_of l q h in
-        let n : suc i.0 < length (map (leaf_at t) (p ∷ l)) = let k = i.1 in let m = length-map l (leaf_at t) in omega arith in
-        sym (leaf_order q p (b q (has_there p q l h)) (b p (has_here p l)))
-        ∙ ap (λ (x : Leaf). below x (leaf_at t p)) (ap (leaf_at t) (sym (i.2 0)) ∙ sym (get_or-map (leaf_at t) l i.0 0 (leaf_at t p) i.1))
-        ∙ sorted_far below weak_order (map (leaf_at t) (p ∷ l)) up 0 (suc i.0) (leaf_at t p) (omega arith) n,
+        let n : suc i.0 < length (map (top_at t) (p ∷ l)) = let k = i.1 in let m = length-map l (top_at t) in omega arith in
+        sym (top_order q p (b q (has_there p q l h)) (b p (has_here p l)))
+        ∙ ap (λ (x : Top). below x (top_at t p)) (ap (top_at t) (sym (i.2 0)) ∙ sym (get_or-map (top_at t) l i.0 0 (top_at t p) i.1))
+        ∙ sorted_far below weak_order (map (top_at t) (p ∷ l)) up 0 (suc i.0) (top_at t p) (omega arith) n,
     places_in_order l (λ q h. b q (has_there p q l h)) (λ k d z h.
         let n : suc (k + 1) ≡ suc k + 1 = omega arith in
-        ap (λ (i : ℕ). below (get_or (map (leaf_at t) (p ∷ l)) i d) (get_or (map (leaf_at t) l) k d)) n ∙ up (suc k) d (omega arith) (omega arith)),
+        ap (λ (i : ℕ). below (get_or (map (top_at t) (p ∷ l)) i d) (get_or (map (top_at t) l) k d)) n ∙ up (suc k) d (omega arith) (omega arith)),
   )
 
-  as_leaves : (l : List Leaf) → All (λ (x : Leaf). x ≡ leaf_at t x.place) l → l ≡ map (leaf_at t) (map place_in l)
-  as_leaves [] a = refl
-  as_leaves (x ∷ l) a =
-      ap (λ (y : Leaf). y ∷ l) (All-head (λ (x : Leaf). x ≡ leaf_at t x.place) x l a)
-      ∙ ap (λ (r : List Leaf). leaf_at t x.place ∷ r) (as_leaves l (All-tail (λ (x : Leaf). x ≡ leaf_at t x.place) x l a))
+  as_tops : (l : List Top) → All (λ (x : Top). x ≡ top_at t x.place) l → l ≡ map (top_at t) (map place_in l)
+  as_tops [] a = refl
+  as_tops (x ∷ l) a =
+      ap (λ (y : Top). y ∷ l) (All-head (λ (x : Top). x ≡ top_at t x.place) x l a)
+      ∙ ap (λ (r : List Top). top_at t x.place ∷ r) (as_tops l (All-tail (λ (x : Top). x ≡ top_at t x.place) x l a))
 
-  places_back : (l : List ℕ) → map place_in (map (leaf_at t) l) ≡ l
+  places_back : (l : List ℕ) → map place_in (map (top_at t) l) ≡ l
   places_back [] = refl
   places_back (p ∷ l) = ap (λ (r : List ℕ). p ∷ r) (places_back l)
 
-  -- the tips, sorted as leaves, are the tips in their order
-  pub sorted_tips : (a : ℕ) (l : List Leaf) → AreInOrder t → a ≤ length t → IsPermutation (map (leaf_at t) (all_tips t a)) l → IsSorted leaf_cmp l
-      → l ≡ map (leaf_at t) (ordered (goes_first t) (filter (is_tip t a) (places t)))
-  sorted_tips a l o k moved up = whole ∙ ap (map (leaf_at t)) (tips_in_order t a (map place_in l) o k kept (places_in_order (map place_in l) kept (subst (IsSortedBy below) whole up)) same)
+  -- the tips, sorted as tops, are the tips in their order
+  pub sorted_tips : (a : ℕ) (l : List Top) → AreInOrder t → a ≤ length t → IsPermutation (map (top_at t) (all_tips t a)) l → IsSorted top_cmp l
+      → l ≡ map (top_at t) (ordered (goes_first t) (filter (is_tip t a) (places t)))
+  sorted_tips a l o k moved up = whole ∙ ap (map (top_at t)) (tips_in_order t a (map place_in l) o k kept (places_in_order (map place_in l) kept (subst (IsSortedBy below) whole up)) same)
     where
-      whole : l ≡ map (leaf_at t) (map place_in l)
-      whole = as_leaves l (All-permutation (λ (x : Leaf). x ≡ leaf_at t x.place) (map (leaf_at t) (all_tips t a)) l moved (All-map (λ (x : Leaf). x ≡ leaf_at t x.place) (leaf_at t) (all_tips t a) (λ i d h. refl)))
+      whole : l ≡ map (top_at t) (map place_in l)
+      whole = as_tops l (All-permutation (λ (x : Top). x ≡ top_at t x.place) (map (top_at t) (all_tips t a)) l moved (All-map (λ (x : Top). x ≡ top_at t x.place) (top_at t) (all_tips t a) (λ i d h. refl)))
 
       same : (x : ℕ) → times x (map place_in l) ≡ times x (all_tips t a)
-      same x = sum_by-IsPermutation (one x) (map place_in (map (leaf_at t) (all_tips t a))) (map place_in l) (IsPermutation-map place_in (map (leaf_at t) (all_tips t a)) l moved) ∙ ap (times x) (places_back (all_tips t a))
+      same x = sum_by-IsPermutation (one x) (map place_in (map (top_at t) (all_tips t a))) (map place_in l) (IsPermutation-map place_in (map (top_at t) (all_tips t a)) l moved) ∙ ap (times x) (places_back (all_tips t a))
 
       kept : (q : ℕ) → has (map place_in l) q ≡ true → q ≤ length t
       kept q h =
@@ -134,13 +134,13 @@ module _ (t : Blocks Block) (room : suc (length t) ≤ max_blocks) where
           ]
 
 -- each tip is kept
-pub tip_kept : (t : Blocks Block) (a : ℕ) (l : List Leaf) (i : ℕ) (d : Leaf) → l ≡ map (leaf_at t) (ordered (goes_first t) (filter (is_tip t a) (places t))) → i < length l → (get_or l i d).place ≤ length t
+pub tip_kept : (t : Blocks Block) (a : ℕ) (l : List Top) (i : ℕ) (d : Top) → l ≡ map (top_at t) (ordered (goes_first t) (filter (is_tip t a) (places t))) → i < length l → (get_or l i d).place ≤ length t
 tip_kept t a l i d e h =
     let n : i < length (ordered (goes_first t) (filter (is_tip t a) (places t))) =
-    let v = ap (λ (x : List Leaf). length x) e in let m = length-map (ordered (goes_first t) (filter (is_tip t a) (places t))) (leaf_at t) in omega arith
+    let v = ap (λ (x : List Top). length x) e in let m = length-map (ordered (goes_first t) (filter (is_tip t a) (places t))) (top_at t) in omega arith
     in
     let at : (get_or l i d).place ≡ get_or (ordered (goes_first t) (filter (is_tip t a) (places t))) i 0 =
-    ap (λ (x : List Leaf). (get_or x i d).place) e ∙ ap place_in (get_or-map (leaf_at t) (ordered (goes_first t) (filter (is_tip t a) (places t))) i 0 d n)
+    ap (λ (x : List Top). (get_or x i d).place) e ∙ ap place_in (get_or-map (top_at t) (ordered (goes_first t) (filter (is_tip t a) (places t))) i 0 d n)
     in
     elim (cases_lt (length t) (get_or l i d).place) [
       | inl g ↦
