@@ -3,8 +3,8 @@
 
 mod command;
 mod entry;
-mod linking;
 pub mod laws;
+mod linking;
 mod reply;
 mod tracking;
 

@@ -37,7 +37,11 @@ pub(crate) fn list<B: Base>(
 }
 
 /// What stands where an entry is, if that isn't what stands below. Below a fresh entry nobody looks.
-fn change<B: Base>(entry: &CacheEntry, at: &OutPoint, base: &B) -> Result<Option<Option<Coin>>, Memory>
+fn change<B: Base>(
+    entry: &CacheEntry,
+    at: &OutPoint,
+    base: &B,
+) -> Result<Option<Option<Coin>>, Memory>
     requires { MarkHolds (Some entry.now) (map.get (B.coins base.now) at.now) }
     ensures { let below = map.get (B.coins base.now) at.now in IfOk result (λ change. MatchOption change (stands entry.now below ≡ below) (λ coin. (coin ≡ stands entry.now below) × (¬ (coin ≡ below)))) }
 {

@@ -40,7 +40,10 @@ fn is_fresh(entry: Option<&CacheEntry>) -> bool
 fn holds_coin(entry: Option<&CacheEntry>) -> bool
     ensures { result ≡ is_some (own_coin (option_copied entry.entry)) }
 {
-    matches!(entry, Some(CacheEntry::Dirty(Some(_))) | Some(CacheEntry::Fresh(_)))
+    matches!(
+        entry,
+        Some(CacheEntry::Dirty(Some(_))) | Some(CacheEntry::Fresh(_))
+    )
 }
 
 fn coin_of(entry: Option<CacheEntry>) -> Option<Coin>
@@ -68,7 +71,11 @@ pub(crate) fn write(
 }
 
 /// Puts an entry in another's place, which takes no memory.
-fn replace(entries: &mut BTreeMap<OutPoint, CacheEntry>, at: OutPoint, entry: CacheEntry) -> Option<CacheEntry>
+fn replace(
+    entries: &mut BTreeMap<OutPoint, CacheEntry>,
+    at: OutPoint,
+    entry: CacheEntry,
+) -> Option<CacheEntry>
     requires { IsSome (entry_at entries.old.entries at) }
     ensures before { result ≡ entry_at entries.old.entries at }
     ensures written { Written entries.old.entries entries.new.entries at (Some entry) }
@@ -145,7 +152,10 @@ fn lay_one(entries: &mut BTreeMap<OutPoint, CacheEntry>, at: OutPoint, entry: Ca
 }
 
 /// Lays all entries of the layer above over those that are there, which takes no memory.
-pub(crate) fn lay_all(entries: &mut BTreeMap<OutPoint, CacheEntry>, writes: BTreeMap<OutPoint, CacheEntry>)
+pub(crate) fn lay_all(
+    entries: &mut BTreeMap<OutPoint, CacheEntry>,
+    writes: BTreeMap<OutPoint, CacheEntry>,
+)
     requires { HasRoom entries.old.entries writes.entries }
     ensures { (q : OutPoint) → entry_at entries.new.entries q ≡ merged_at (entry_at entries.old.entries q) (entry_at writes.entries q) }
 {

@@ -1,7 +1,6 @@
 //! Why a call has no answer, and why a node can't be opened.
 
 ghost use Rattle.std.specs.Prelude.{◌≡◌};
-
 ghost use Rattle.std.specs.Prelude.{◌≡◌};
 
 use std::error::Error;

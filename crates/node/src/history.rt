@@ -7,10 +7,8 @@ ghost use Rattle.activate.specs.History.{state_after, Legal, entry};
 ghost use Rattle.node.specs.Early.{early, opening, step, says};
 ghost use Rattle.node.specs.Verdict.{Judges, extended};
 
-use activate::{Bytes, Command};
 use crate::early::{Early, Kept, Verdict};
-use activate::Entry;
-use activate::{Reply, SubmitReply};
+use activate::{Bytes, Command, Entry, Reply, SubmitReply};
 use hash::Id;
 use std::alloc::Global;
 use std::marker::Model;

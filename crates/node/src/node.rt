@@ -8,10 +8,10 @@ ghost use Rattle.node.specs.Pass.{Pass, IsStanding, fresh, fresh_seats};
 ghost use Rattle.node.specs.Opening.{Refused};
 ghost use Rattle.node.specs.declared.fault.Fault.TheVariants as faults;
 
-use activate::Entry;
 use crate::fault::{Fault, OpenFault};
 use crate::history::History;
 use crate::seat::Seat;
+use activate::Entry;
 use rules::Params;
 use std::alloc::Global;
 use std::marker::Model;

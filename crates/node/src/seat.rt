@@ -9,11 +9,10 @@ ghost use Rattle.node.specs.Early.{early, opening, step, says};
 ghost use Rattle.node.specs.Verdict.{extended};
 
 use crate::early::{Kept, Verdict};
-use activate::Entry;
 use crate::fault::Fault;
 use crate::history::History;
 use crate::node::Node;
-use activate::SubmitReply;
+use activate::{Entry, SubmitReply};
 use hash::Id;
 use std::marker::Model;
 

@@ -48,7 +48,12 @@ pub fn expect_replies<R: AllocGlobal + Abort>(rt: &R, asked: &Asked) -> Result<(
 
 impl<'t> Told<'t> {
     /// Reads a line.
-    fn read(&mut self, alloc: Global, definitions: &Definitions, line: &Line<'t>) -> Result<(), Fail> {
+    fn read(
+        &mut self,
+        alloc: Global,
+        definitions: &Definitions,
+        line: &Line<'t>,
+    ) -> Result<(), Fail> {
         match line.words.as_slice() {
             ["now", moment] => {
                 self.now = moment.parse().map_err(|_| Fail::new("a moment"))?;
@@ -80,7 +85,13 @@ impl<'t> Told<'t> {
         }
     }
 
-    fn submit(&mut self, alloc: Global, definitions: &Definitions, name: &str, reply: &'t str) -> Result<(), Fail> {
+    fn submit(
+        &mut self,
+        alloc: Global,
+        definitions: &Definitions,
+        name: &str,
+        reply: &'t str,
+    ) -> Result<(), Fail> {
         let block = definitions.find(name).map_err(|_| Fail::new("a block"))?;
         let bytes = Bytes::from_slice(alloc, &block.bytes)?;
         self.commands.push(Command::Submit(bytes, self.now))?;

@@ -56,8 +56,8 @@ later-first (x ∷ l) a b ha hb n =
             let rb = rank_other l x b nb in
             let rest = later-first l a b (old a na ha) (old b nb hb) n in
             let same : first_called (x ∷ l) a b ≡ first_called l a b =
-                here false (ap (λ v. v || eqb x b) (ne_eqb x a na) ∙ ne_eqb x b nb)
-                ∙ find-filter (λ y. eqb y a || eqb y b) (λ y. not (eqb y x)) (called_once l) (λ y p. others y p na nb) in
+            here false (ap (λ v. v || eqb x b) (ne_eqb x a na) ∙ ne_eqb x b nb)
+            ∙ find-filter (λ y. eqb y a || eqb y b) (λ y. not (eqb y x)) (called_once l) (λ y p. others y p na nb) in
             (λ less. same ∙ rest.0 (omega arith), λ f. let less = rest.1 (sym same ∙ f) in omega arith)
       ]
     ]
