@@ -364,6 +364,32 @@ submit w = bad-prevblk",
     )
 }
 
+/// Two of three keys sign, in the order of the keys and in the other.
+#[test]
+fn signatures(rt: HostRuntime) -> Result<(), Fail> {
+    expect_replies(
+        &rt,
+        &regtest(
+            "block f1 genesis pay=5201aa01bb01cc53ae
+chain c 99 f1
+tx G 1 0
+in f1.cb:0 000930060201010201010109300602010102010201
+out 5000000000 51
+tx W 1 0
+in f1.cb:0 000930060201010201020109300602010102010101
+out 5000000000 51
+verdict aa 3006020101020101 G 0 5201aa01bb01cc53ae 1
+verdict cc 3006020101020102 G 0 5201aa01bb01cc53ae 1
+block w c99 W
+block g c99 G",
+            "submit f1 = accepted
+each c 1 99 = accepted
+submit w = blk-bad-inputs 1:0
+submit g = accepted",
+        ),
+    )
+}
+
 #[test]
 fn versions_by_height(rt: HostRuntime) -> Result<(), Fail> {
     expect_replies(

@@ -37,8 +37,7 @@ pub fn expect_replies<R: AllocGlobal + Abort>(rt: &R, asked: &Asked) -> Result<(
     for line in &text {
         told.read(alloc, &definitions, line)?;
     }
-    let table = Table::new(alloc);
-    let replies = slow(alloc, &asked.params, &told.commands, &table)?;
+    let replies = slow(alloc, &asked.params, &told.commands, definitions.table())?;
     assert_eq!(rt; replies.len(), told.replies.len());
     for (reply, wanted) in replies.iter().zip(&told.replies) {
         assert_eq!(rt; format!(in alloc; "{reply}")?.as_str(), *wanted);
@@ -47,40 +46,30 @@ pub fn expect_replies<R: AllocGlobal + Abort>(rt: &R, asked: &Asked) -> Result<(
 }
 
 impl<'t> Told<'t> {
-    /// Reads a line.
+    /// Reads a line: a command, and its reply behind ` = `.
     fn read(
         &mut self,
         alloc: Global,
         definitions: &Definitions,
         line: &Line<'t>,
     ) -> Result<(), Fail> {
+        if let ["now", moment] = line.words.as_slice() {
+            self.now = moment.parse().map_err(|_| Fail::new("a moment"))?;
+            return Ok(());
+        }
+        let (_, reply) = line.text.split_once(" = ").ok_or("a reply")?;
         match line.words.as_slice() {
-            ["now", moment] => {
-                self.now = moment.parse().map_err(|_| Fail::new("a moment"))?;
-                Ok(())
-            }
-            ["submit", name, "=", reply] => self.submit(alloc, definitions, name, *reply),
-            ["each", name, first, last, "=", reply] => {
+            ["submit", name, "=", ..] => self.submit(alloc, definitions, name, reply),
+            ["each", name, first, last, "=", ..] => {
                 let first: u32 = first.parse().map_err(|_| Fail::new("a number"))?;
                 let last: u32 = last.parse().map_err(|_| Fail::new("a number"))?;
                 for number in first..=last {
                     let numbered = format!(in alloc; "{name}{number}")?;
-                    self.submit(alloc, definitions, &numbered, *reply)?;
+                    self.submit(alloc, definitions, &numbered, reply)?;
                 }
                 Ok(())
             }
-            [word, name, "=", reply] => {
-                let id = definitions.find(name).map_err(|_| Fail::new("a block"))?.id;
-                let command = match *word {
-                    "invalidate" => Command::Invalidate(id),
-                    "reconsider" => Command::Reconsider(id),
-                    "precious" => Command::Precious(id),
-                    _ => return Err(Fail::new("a command")),
-                };
-                self.commands.push(command)?;
-                self.replies.push(*reply)?;
-                Ok(())
-            }
+            [word, name, "=", ..] => self.mark(definitions, word, name, reply),
             _ => Err(Fail::new("a line")),
         }
     }
@@ -94,7 +83,28 @@ impl<'t> Told<'t> {
     ) -> Result<(), Fail> {
         let block = definitions.find(name).map_err(|_| Fail::new("a block"))?;
         let bytes = Bytes::from_slice(alloc, &block.bytes)?;
-        self.commands.push(Command::Submit(bytes, self.now))?;
+        self.add(Command::Submit(bytes, self.now), reply)
+    }
+
+    fn mark(
+        &mut self,
+        definitions: &Definitions,
+        word: &str,
+        name: &str,
+        reply: &'t str,
+    ) -> Result<(), Fail> {
+        let block = definitions.find(name).map_err(|_| Fail::new("a block"))?;
+        let command = match word {
+            "invalidate" => Command::Invalidate(block.id),
+            "reconsider" => Command::Reconsider(block.id),
+            "precious" => Command::Precious(block.id),
+            _ => return Err(Fail::new("a command")),
+        };
+        self.add(command, reply)
+    }
+
+    fn add(&mut self, command: Command, reply: &'t str) -> Result<(), Fail> {
+        self.commands.push(command)?;
         self.replies.push(reply)?;
         Ok(())
     }
