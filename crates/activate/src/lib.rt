@@ -5,7 +5,9 @@ mod command;
 mod entry;
 pub mod laws;
 mod reply;
+mod slowly;
 
 pub use command::{Bytes, Command};
 pub use entry::Entry;
 pub use reply::{MarkReply, Reply, SubmitReply};
+pub use slowly::slow;
