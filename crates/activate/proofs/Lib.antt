@@ -1,0 +1,5 @@
+pub mod SlowChanges
+pub mod SlowFlags
+pub mod SlowHeld
+pub mod SlowReplay
+pub mod SlowState

@@ -7,6 +7,7 @@ pub mod Regtest
 pub mod Replay
 pub mod Rules
 pub mod Settle
+pub mod Slow
 pub mod Sound
 pub mod Step
 pub mod Submission

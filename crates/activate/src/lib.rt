@@ -6,9 +6,11 @@ mod entry;
 pub mod laws;
 mod linking;
 mod reply;
+mod slowly;
 mod tracking;
 
 pub use command::{Bytes, Command};
 pub use entry::Entry;
 pub use reply::{MarkReply, Reply, SubmitReply};
 pub use tracking::Core;
+pub use slowly::slow;

@@ -1,0 +1,234 @@
+-- What changes the state, and that it stays right.
+use Rattle.std.proofs.Common.{◌≡◌, ℕ, zero, suc, ◌+◌, ◌-◌, ◌<◌, ◌≤◌, Bool, true, false, cond, not, ◌&&◌, ◌||◌, eqb, List, [], ◌∷◌, ◌++◌, length, reverse, get_or, None, sym, refl, ap, ◌∙◌, subst, inl, inr, arith}
+use Rattle.std.proofs.Math.ListN.{set, get_or-append}
+use Rattle.std.proofs.Math.Seq.{get_or-append_seam}
+use Rattle.std.proofs.lemmas.Bool.{cases_eq, eq-eqb, ne_eqb}
+use Rattle.std.proofs.lemmas.List.{length-append, length-set, reverse-append}
+use Rattle.std.specs.List.{filter}
+use Rattle.hash.specs.declared.id.Id.{Id}
+use Rattle.block.specs.declared.block.Block.{Block}
+use Rattle.block.specs.Identity.{id_of}
+use Rattle.curve.specs.Triple.{Triples}
+use Rattle.rules.specs.declared.params.Params.{Params}
+use Rattle.rules.specs.Alone.{alone_rules}
+use Rattle.txn.specs.First.{first_broken}
+use Rattle.tree.specs.Branches.{Kept, Blocks, has, down_from, places, on, before, branch, place_of, parent_at, block_at, id_at}
+use Rattle.tree.specs.State.{State, opening, joined, flagged, marked, cleared, called, with_block}
+use Rattle.tree.specs.Names.{names}
+use Rattle.tree.specs.Limits.{max_blocks}
+use Rattle.tree.specs.laws.Added.{id_there, id_here, block_there, block_here}
+use Rattle.tree.specs.laws.Branches.{parent_there, parent_here}
+use Rattle.activate.specs.declared.slowly.held.Held.{Held}
+use Rattle.activate.specs.declared.slowly.judged.Judged.{Judged}
+use Rattle.activate.specs.declared.slowly.old.Old.{Old}
+use Rattle.activate.specs.Settle.{active, on_candidate, becomes_seen, becomes_bad, settle}
+use Rattle.activate.specs.Valid.{valid, first_to_fail}
+use Rattle.activate.specs.Regtest.{regtest}
+use Rattle.activate.specs.Sound.{AllKept}
+use Rattle.activate.specs.Slow.{IsRight, IsHeld, AreHeld, AreJudged, kept_of, blocks_of, first_held, state_of, flag, places_of, judged_in, unjudged, is_near, is_valid, is_first, any_below}
+use Rattle.activate.proofs.SlowHeld.{length-blocks, blocks-push}
+use Rattle.activate.proofs.SlowFlags.{places-joined, places-taken, places-push, flag_set, flag_push-zero}
+use Rattle.activate.proofs.SlowState.{made, first-is, valid-is, on_near, first-never}
+
+-- a state with the same blocks is right where its flags are
+pub still_right : (params : Params) (triples : Triples) (old new : Old) → IsRight (regtest params triples) old → new.held ≡ old.held → length new.bad.items ≡ length old.held.items → length new.seen.items ≡ length old.held.items
+    → flag new.bad.items 0 ≡ false → IsRight (regtest params triples) new
+still_right params triples old new right h b s g = record {
+  some = subst (λ v. 0 < length v.items) (sym h) right.some;
+  room = subst (λ v. length v.items ≤ max_blocks) (sym h) right.room;
+  held = subst (λ v. AreHeld (blocks_of v.items) v.items) (sym h) right.held;
+  kept = subst (λ v. AllKept (regtest params triples) (blocks_of v.items)) (sym h) right.kept;
+  bad = b ∙ ap (λ v. length v.items) (sym h);
+  seen = s ∙ ap (λ v. length v.items) (sym h);
+  genesis = g;
+}
+
+-- ---- settling
+
+module _ (params : Params) (triples : Triples) (old new : Old) (right : IsRight (regtest params triples) old)
+    (judged : List Judged) (are : AreJudged (regtest params triples) (state_of old) judged) (a : ℕ) (is : a ≡ active (regtest params triples) (state_of old)) (kept : a < length old.held.items)
+    (near : List Bool) (near_is : (x : ℕ) → x < length old.held.items → flag near x ≡ any_below (λ c. is_near judged a c && on (blocks_of old.held.items) c x) (length old.held.items)) where
+  long : suc (length (blocks_of old.held.items)) ≡ length old.held.items
+  long = length-blocks old.held.items right.some
+
+  near_on : (x : ℕ) → x < length old.held.items → flag near x ≡ on_candidate (regtest params triples) (state_of old) x
+  unfolding state_of
+  near_on x h =
+      let l = long in
+      near_is x h ∙ ap (any_below (λ c. is_near judged a c && on (blocks_of old.held.items) c x)) (sym l)
+      ∙ on_near params triples (state_of old) judged are a is (omega arith) x
+
+  module _ (held : new.held ≡ old.held) (calls : new.calls ≡ old.calls) (same_bad : length new.bad.items ≡ length old.held.items) (same_seen : length new.seen.items ≡ length old.held.items)
+      (bad : (x : ℕ) → x < length old.held.items → flag new.bad.items x ≡ (flag old.bad.items x || (is_first (judged_in judged x).trial && flag near x)))
+      (seen : (x : ℕ) → x < length old.held.items → flag new.seen.items x ≡ (flag old.seen.items x || (is_valid (judged_in judged x).trial && flag near x))) where
+    pub settle_state : state_of new ≡ settle (regtest params triples) (state_of old)
+    unfolding state_of settle becomes_bad becomes_seen
+    settle_state =
+        let l = long in
+        let b = right.bad in
+        let s = right.seen in
+        made new (ap (λ v. blocks_of v.items) held)
+        (places-joined (length (blocks_of old.held.items)) old.bad.items new.bad.items (becomes_bad (regtest params triples) (state_of old)) (omega arith) (omega arith)
+        (λ p h. bad p (omega arith) ∙ ap (λ v. flag old.bad.items p || (v && flag near p)) (first-is params triples (state_of old) judged are p unjudged (omega arith))
+        ∙ ap (λ v. flag old.bad.items p || (first_to_fail (regtest params triples) (state_of old).blocks p && v)) (near_on p (omega arith))))
+        (places-joined (length (blocks_of old.held.items)) old.seen.items new.seen.items (becomes_seen (regtest params triples) (state_of old)) (omega arith) (omega arith)
+        (λ p h. seen p (omega arith) ∙ ap (λ v. flag old.seen.items p || (v && flag near p)) (valid-is params triples (state_of old) judged are p unjudged (omega arith))
+        ∙ ap (λ v. flag old.seen.items p || (valid (regtest params triples) (state_of old).blocks p && v)) (near_on p (omega arith))))
+        (ap (λ v. reverse v.items) calls)
+
+    pub settle_right : IsRight (regtest params triples) new
+    settle_right =
+        let z = right.some in
+        still_right params triples old new right held same_bad same_seen
+        (bad 0 (omega arith) ∙ ap (λ v. v || (is_first (judged_in judged 0).trial && flag near 0)) right.genesis ∙ ap (λ v. v && flag near 0) (first-never params triples (state_of old) judged are unjudged))
+
+-- ---- marks and calls
+
+eqb-sym : (p q : ℕ) → eqb p q ≡ eqb q p
+eqb-sym p q =
+    elim (cases_eq p q) [
+      | inl e ↦ eq-eqb p q e ∙ sym (eq-eqb q p (sym e))
+      | inr e ↦ ne_eqb p q e ∙ sym (ne_eqb q p (λ f. e (sym f)))
+    ]
+
+module _ (params : Params) (triples : Triples) (old new : Old) (right : IsRight (regtest params triples) old) (p : ℕ) where
+  pub mark_state : p < length old.held.items → new.held ≡ old.held → new.seen ≡ old.seen → new.calls ≡ old.calls → ◌≡◌ {A = List Bool} new.bad.items (set old.bad.items p true) → state_of new ≡ marked (state_of old) p
+  unfolding state_of
+  mark_state h held seen calls e =
+      let l = length-blocks old.held.items right.some in
+      let b = right.bad in
+      let w = length-set old.bad.items p true in
+      let n = ap (λ (k : List Bool). length k) e in
+      made new (ap (λ v. blocks_of v.items) held)
+      (places-joined (length (blocks_of old.held.items)) old.bad.items new.bad.items (λ x. eqb x p) (omega arith) (omega arith)
+      (λ x g. ap (λ (k : List Bool). flag k x) e ∙ flag_set old.bad.items p x (omega arith) ∙ ap (λ v. flag old.bad.items x || v) (eqb-sym p x)))
+      (ap (λ v. places_of v.items) seen) (ap (λ v. reverse v.items) calls)
+
+  pub mark_right : 0 < p → p < length old.held.items → new.held ≡ old.held → new.seen ≡ old.seen → ◌≡◌ {A = List Bool} new.bad.items (set old.bad.items p true) → IsRight (regtest params triples) new
+  mark_right z h held seen e =
+      let b = right.bad in
+      let w = length-set old.bad.items p true in
+      let n = ap (λ (k : List Bool). length k) e in
+      still_right params triples old new right held (omega arith) (ap (λ v. length v.items) seen ∙ right.seen)
+      (ap (λ (k : List Bool). flag k 0) e ∙ flag_set old.bad.items p 0 (omega arith) ∙ ap (λ v. flag old.bad.items 0 || v) (ne_eqb p 0 (omega arith)) ∙ ap (λ v. v || false) right.genesis)
+
+  pub clear_state : new.held ≡ old.held → new.seen ≡ old.seen → new.calls ≡ old.calls → length new.bad.items ≡ length old.bad.items
+      → ((x : ℕ) → x < length old.held.items → flag new.bad.items x ≡ (flag old.bad.items x && not (on (blocks_of old.held.items) p x || on (blocks_of old.held.items) x p))) → state_of new ≡ cleared (state_of old) p
+  unfolding state_of cleared
+  clear_state held seen calls same taken =
+      let l = length-blocks old.held.items right.some in
+      let b = right.bad in
+      made new (ap (λ v. blocks_of v.items) held)
+      (places-taken (length (blocks_of old.held.items)) old.bad.items new.bad.items (λ x. not (on (blocks_of old.held.items) p x || on (blocks_of old.held.items) x p)) (omega arith) (omega arith) (λ x g. taken x (omega arith)))
+      (ap (λ v. places_of v.items) seen) (ap (λ v. reverse v.items) calls)
+
+  pub clear_right : new.held ≡ old.held → new.seen ≡ old.seen → length new.bad.items ≡ length old.bad.items
+      → ((x : ℕ) → x < length old.held.items → flag new.bad.items x ≡ (flag old.bad.items x && not (on (blocks_of old.held.items) p x || on (blocks_of old.held.items) x p))) → IsRight (regtest params triples) new
+  clear_right held seen same taken =
+      let z = right.some in
+      still_right params triples old new right held (same ∙ right.bad) (ap (λ v. length v.items) seen ∙ right.seen)
+      (taken 0 (omega arith) ∙ ap (λ v. v && not (on (blocks_of old.held.items) p 0 || on (blocks_of old.held.items) 0 p)) right.genesis)
+
+  pub call_state : new.held ≡ old.held → new.seen ≡ old.seen → new.bad ≡ old.bad → ◌≡◌ {A = List ℕ} new.calls.items (old.calls.items ++ p ∷ []) → state_of new ≡ called (state_of old) p
+  unfolding state_of
+  call_state held seen bad e =
+      made new (ap (λ v. blocks_of v.items) held) (ap (λ v. places_of v.items) bad) (ap (λ v. places_of v.items) seen)
+      (ap (λ (k : List ℕ). reverse k) e ∙ reverse-append old.calls.items (p ∷ []))
+
+-- ---- a block more
+
+module _ (params : Params) (triples : Triples) (old new : Old) (right : IsRight (regtest params triples) old) (n : Held)
+    (held : ◌≡◌ {A = List Held} new.held.items (old.held.items ++ n ∷ [])) (bad : ◌≡◌ {A = List Bool} new.bad.items (old.bad.items ++ false ∷ []))
+    (seen : ◌≡◌ {A = List Bool} new.seen.items (old.seen.items ++ false ∷ [])) (calls : new.calls ≡ old.calls) where
+  abbrev t : Blocks Block
+  t = blocks_of old.held.items
+
+  pub add_state : state_of new ≡ with_block (state_of old) n.block n.parent
+  unfolding state_of
+  add_state =
+      let z = right.some in
+      let b = right.bad in
+      let s = right.seen in
+      made new (ap (λ (k : List Held). blocks_of k) held ∙ blocks-push old.held.items n right.some)
+      (ap (λ (k : List Bool). places_of k) bad ∙ places-push old.bad.items (omega arith))
+      (ap (λ (k : List Bool). places_of k) seen ∙ places-push old.seen.items (omega arith))
+      (ap (λ v. reverse v.items) calls)
+
+  held_there : (k : Kept Block) (p : ℕ) (h : Held) → p ≤ length t → IsHeld t p h → IsHeld (k ∷ t) p h
+  held_there k p h l is = record {
+    block = is.block ∙ sym (block_there names k t p l);
+    id = is.id ∙ sym (id_there names k t p l);
+    parent = is.parent ∙ sym (parent_there k t p l);
+  }
+
+  module _ (id : n.id ≡ id_of n.block.header) (parent : n.parent < length old.held.items) where
+    held_here : IsHeld (kept_of n ∷ t) (suc (length t)) n
+    held_here =
+        let l = length-blocks old.held.items right.some in
+        record {
+          block = sym (block_here names (kept_of n) t);
+          id = id ∙ sym (id_here names (kept_of n) t);
+          parent = sym (parent_here (kept_of n) t (omega arith));
+        }
+
+    held_more : AreHeld (kept_of n ∷ t) (old.held.items ++ n ∷ [])
+    held_more p d h =
+        let e = length-append old.held.items (n ∷ []) in
+        let g = length-blocks old.held.items right.some in
+        elim (cases_eq p (length old.held.items)) [
+          | inl w ↦
+              subst (λ (q : ℕ). IsHeld (kept_of n ∷ t) q (get_or (old.held.items ++ n ∷ []) q d)) (sym w)
+              (subst (IsHeld (kept_of n ∷ t) (length old.held.items)) (sym (get_or-append_seam old.held.items n [] d)) (subst (λ (q : ℕ). IsHeld (kept_of n ∷ t) q n) g held_here))
+          | inr w ↦ subst (IsHeld (kept_of n ∷ t) p) (sym (get_or-append old.held.items (n ∷ []) d p (omega arith))) (held_there (kept_of n) p (get_or old.held.items p d) (omega arith) (right.held p d (omega arith)))
+        ]
+
+    pub add_right : length old.held.items < max_blocks → place_of names (state_of old).blocks n.id ≡ None → first_broken (alone_rules n.block) ≡ None → IsRight (regtest params triples) new
+    unfolding state_of
+    add_right room new_id alone =
+        let z = right.some in
+        let g = length-blocks old.held.items right.some in
+        let b = right.bad in
+        let s = right.seen in
+        let e = length-append old.held.items (n ∷ []) in
+        let f = length-append old.bad.items (false ∷ []) in
+        let i = length-append old.seen.items (false ∷ []) in
+        let hl = ap (λ (k : List Held). length k) held in
+        let bl = ap (λ (k : List Bool). length k) bad in
+        let sl = ap (λ (k : List Bool). length k) seen in
+        let push : ◌≡◌ {A = Blocks Block} (blocks_of new.held.items) (kept_of n ∷ t) = ap (λ (k : List Held). blocks_of k) held ∙ blocks-push old.held.items n right.some in
+        record {
+          some = omega arith;
+          room = omega arith;
+          held = subst (λ (k : Blocks Block). AreHeld k new.held.items) (sym push) (subst (λ (k : List Held). AreHeld (kept_of n ∷ t) k) (sym held) held_more);
+          kept = subst (λ (k : Blocks Block). AllKept (regtest params triples) k) (sym push) (alone, omega arith, ap (place_of names t) (sym id) ∙ new_id, right.kept);
+          bad = omega arith;
+          seen = omega arith;
+          genesis = ap (λ (k : List Bool). flag k 0) bad ∙ flag_push-zero old.bad.items (omega arith) ∙ right.genesis;
+        }
+
+-- ---- genesis
+
+module _ (params : Params) (triples : Triples) (old : Old) (held : ◌≡◌ {A = List Held} old.held.items (first_held ∷ [])) (bad : ◌≡◌ {A = List Bool} old.bad.items (false ∷ []))
+    (seen : ◌≡◌ {A = List Bool} old.seen.items (true ∷ [])) (calls : ◌≡◌ {A = List ℕ} old.calls.items []) where
+  pub first_state : state_of old ≡ opening
+  unfolding blocks_of places_of down_from
+  first_state = made old (ap (λ (k : List Held). blocks_of k) held) (ap (λ (k : List Bool). places_of k) bad) (ap (λ (k : List Bool). places_of k) seen) (ap (λ (k : List ℕ). reverse k) calls)
+
+  pub first_right : IsRight (regtest params triples) old
+  unfolding blocks_of branch before block_at id_at parent_at
+  first_right =
+      let hl = ap (λ (k : List Held). length k) held in
+      let bl = ap (λ (k : List Bool). length k) bad in
+      let sl = ap (λ (k : List Bool). length k) seen in
+      record {
+        some = omega arith;
+        room = omega arith;
+        held = subst (λ (k : List Held). AreHeld (blocks_of k) k) (sym held) (λ p d h. at_zero p d (omega arith));
+        kept = subst (λ (k : List Held). AllKept (regtest params triples) (blocks_of k)) (sym held) tt;
+        bad = omega arith;
+        seen = omega arith;
+        genesis = ap (λ (k : List Bool). flag k 0) bad;
+      }
+    where
+      at_zero : (p : ℕ) (d : Held) → p ≡ 0 → IsHeld [] p (get_or (first_held ∷ []) p d)
+      at_zero p d e = subst (λ (q : ℕ). IsHeld [] q (get_or (first_held ∷ []) q d)) (sym e) (record { block = refl; id = refl; parent = refl })

@@ -1,0 +1,218 @@
+-- The state that is shown, and what changes it.
+use Rattle.std.proofs.Common.{◌≡◌, ℕ, zero, suc, ◌+◌, ◌-◌, ◌<◌, ◌≤◌, Bool, true, false, cond, not, ◌&&◌, ◌||◌, eqb, ltb, List, [], ◌∷◌, ◌++◌, length, reverse, get_or, sym, refl, ap, ◌∙◌, subst, inl, inr, ◌⊎◌, arith}
+use Rattle.std.proofs.lemmas.Bool.{cases_Bool, cases_eq, and_parts, and_from, true≢false}
+use Rattle.std.specs.List.{filter, list_all, list_any}
+use Rattle.hash.specs.declared.id.Id.{Id}
+use Rattle.block.specs.declared.block.Block.{Block}
+use Rattle.curve.specs.Triple.{Triples}
+use Rattle.rules.specs.declared.params.Params.{Params}
+use Rattle.tree.specs.Branches.{Kept, Blocks, has, down_from, places, branch, on, height, blocks_at}
+use Rattle.tree.specs.State.{State, usable, better, rank, joined, flagged, cleared}
+use Rattle.tree.specs.Sound.{IsBest}
+use Rattle.txn.specs.First.{first_broken}
+use Rattle.rules.specs.Alone.{alone_rules}
+use Rattle.tree.specs.Names.{names}
+use Rattle.tree.specs.laws.Parents.{height-place}
+use Rattle.tree.specs.laws.Sets.{clash, all_agree}
+use Rattle.tree.specs.laws.Ranks.{better_trans, better_or}
+use Rattle.tree.specs.laws.Marks.{usable_from}
+use Rattle.tree.specs.laws.Branches.{on-bounds}
+use Rattle.activate.specs.declared.slowly.held.Held.{Held}
+use Rattle.activate.specs.declared.slowly.judged.Judged.{Judged}
+use Rattle.activate.specs.declared.slowly.old.Old.{Old}
+use Rattle.activate.specs.Rules.{Rules}
+use Rattle.activate.specs.Valid.{valid, first_to_fail}
+use Rattle.activate.specs.Settle.{can_be_active, active, is_candidate, on_candidate, becomes_seen, becomes_bad, settle}
+use Rattle.activate.specs.Regtest.{regtest}
+use Rattle.activate.specs.Slow.{IsRight, AreAlone, AreJudged, blocks_of, blocks_in, state_of, flag, places_of, judged_at, judged_in, unjudged, above, is_near, is_valid, is_first, any_below}
+use Rattle.activate.specs.laws.Actives.{active_only, can_from}
+use Rattle.activate.specs.laws.Kept.{alone-at}
+use Rattle.activate.proofs.SlowHeld.{length-blocks, branch_kept, branch_later, branch_length, block-held, blocks-held}
+use Rattle.activate.proofs.SlowFlags.{has-places, places-joined, places-taken, any-down, any-agree}
+use Rattle.activate.proofs.SlowReplay.{trial-valid, trial-first}
+
+-- a state from its parts
+pub made : (old : Old) {t : Blocks Block} {bad seen precious : List ℕ} → blocks_of old.held.items ≡ t → places_of old.bad.items ≡ bad → places_of old.seen.items ≡ seen → reverse old.calls.items ≡ precious
+    → state_of old ≡ record { blocks = t; bad = bad; seen = seen; precious = precious }
+unfolding state_of
+made old {t} {bad} {seen} {precious} a b c d =
+    ap (parts_1 (places_of old.bad.items) (places_of old.seen.items) (reverse old.calls.items)) a
+    ∙ ap (parts_2 t (places_of old.seen.items) (reverse old.calls.items)) b ∙ ap (parts_3 t bad (reverse old.calls.items)) c ∙ ap (parts_4 t bad seen) d
+  where
+    parts_1 : List ℕ → List ℕ → List ℕ → Blocks Block → State Block
+    parts_1 x y z w = record { blocks = w; bad = x; seen = y; precious = z }
+
+    parts_2 : Blocks Block → List ℕ → List ℕ → List ℕ → State Block
+    parts_2 w y z x = record { blocks = w; bad = x; seen = y; precious = z }
+
+    parts_3 : Blocks Block → List ℕ → List ℕ → List ℕ → State Block
+    parts_3 w x z y = record { blocks = w; bad = x; seen = y; precious = z }
+
+    parts_4 : Blocks Block → List ℕ → List ℕ → List ℕ → State Block
+    parts_4 w x y z = record { blocks = w; bad = x; seen = y; precious = z }
+
+pub state-blocks : (old : Old) → ◌≡◌ {A = Blocks Block} (state_of old).blocks (blocks_of old.held.items)
+unfolding state_of
+state-blocks old = refl
+
+pub state-bad : (old : Old) (p : ℕ) → p < length old.bad.items → has (state_of old).bad p ≡ flag old.bad.items p
+unfolding state_of
+state-bad old p h = has-places old.bad.items p h
+
+pub state-seen : (old : Old) (p : ℕ) → p < length old.seen.items → has (state_of old).seen p ≡ flag old.seen.items p
+unfolding state_of
+state-seen old p h = has-places old.seen.items p h
+
+module _ (r : Rules Block Id) (old : Old) (right : IsRight r old) where
+  pub count : suc (length (state_of old).blocks) ≡ length old.held.items
+  unfolding state_of
+  count = length-blocks old.held.items right.some
+
+  -- genesis isn't marked
+  pub genesis-usable : usable (state_of old) 0 ≡ true
+  genesis-usable =
+      let z = right.some in
+      let l = right.bad in
+      usable_from (state_of old) 0 (λ x o.
+      let b = (on-bounds (state_of old).blocks 0 x o).0 in
+      let zero_is : x ≡ 0 = omega arith in
+      ap (λ (q : ℕ). has (state_of old).bad q) zero_is ∙ state-bad old 0 (omega arith) ∙ right.genesis)
+
+-- ---- a branch
+
+module _ (params : Params) (triples : Triples) (old : Old) (right : IsRight (regtest params triples) old) (p : ℕ) (h : p < length old.held.items) where
+  pub branch_within : (i : ℕ) → i < length (branch (blocks_of old.held.items) p) → get_or (branch (blocks_of old.held.items) p) i 0 < length old.held.items
+  branch_within i l =
+      let n = length-blocks old.held.items right.some in
+      let b = branch_kept (blocks_of old.held.items) p (omega arith) i l in
+      omega arith
+
+  pub branch_alone : AreAlone old.held.items (branch (blocks_of old.held.items) p)
+  branch_alone = record {
+    kept = branch_within;
+    alone = λ i l.
+        let n = length-blocks old.held.items right.some in
+        let x = get_or (branch (blocks_of old.held.items) p) i 0 in
+        let k = branch_within i (omega arith) in
+        let z = branch_later (blocks_of old.held.items) p (omega arith) i l in
+        ap (λ (b : Block). first_broken (alone_rules b)) (block-held old.held.items right.held x k)
+            ∙ alone-at (regtest params triples) (blocks_of old.held.items) x right.kept z (omega arith);
+  }
+
+  -- it has a block, and no more than are kept
+  pub branch_long : length (branch (blocks_of old.held.items) p) ≡ suc (height (blocks_of old.held.items) p)
+  branch_long = let n = length-blocks old.held.items right.some in branch_length (blocks_of old.held.items) p (omega arith)
+
+  pub branch_few : length (branch (blocks_of old.held.items) p) ≤ 1000000
+  branch_few =
+      let n = length-blocks old.held.items right.some in
+      let b = height-place (blocks_of old.held.items) p p (omega arith) (omega arith) in
+      let l = branch_long in
+      let r = right.room in
+      omega arith
+
+  pub branch_blocks : ◌≡◌ {A = List Block} (blocks_in old.held.items (branch (blocks_of old.held.items) p)) (blocks_at names (blocks_of old.held.items) (branch (blocks_of old.held.items) p))
+  branch_blocks = blocks-held old.held.items right.held (branch (blocks_of old.held.items) p) branch_within
+
+  -- whether none of it is marked
+  pub branch_usable : list_all (λ x. not (flag old.bad.items x)) (branch (blocks_of old.held.items) p) ≡ usable (state_of old) p
+  unfolding usable state_of
+  branch_usable =
+      all_agree (λ x. not (flag old.bad.items x)) (λ x. not (has (places_of old.bad.items) x)) (branch (blocks_of old.held.items) p)
+      (λ x o.
+      let n = length-blocks old.held.items right.some in
+      let b = branch_bound x o in
+      let l = right.bad in
+      ap not (sym (has-places old.bad.items x (omega arith))))
+    where
+      branch_bound : (x : ℕ) → has (branch (blocks_of old.held.items) p) x ≡ true → x ≤ length (blocks_of old.held.items)
+      branch_bound x o = Rattle.tree.specs.laws.Added.branch_within names (record { block = Rattle.tree.specs.Names.genesis; parent = 0 }) (blocks_of old.held.items) p x o
+
+-- ---- the best block
+
+module _ {B : Type 0} (s : State B) (passes : ℕ → Bool) where
+  pub best_stays : (n a : ℕ) → IsBest s passes n a → (passes (suc n) && better s (suc n) a) ≡ false → IsBest s passes (suc n) a
+  best_stays n a h f = record {
+    kept = (let k = h.kept in omega arith);
+    can = h.can;
+    tops = λ b l e. elim (cases_eq b (suc n)) [
+      | inl q ↦ elim (better_or s b a (let k = h.kept in omega arith)) [
+        | inl w ↦ absurd (clash _ (and_from (passes (suc n)) (better s (suc n) a) (subst (λ (z : ℕ). passes z ≡ true) q e) (subst (λ (z : ℕ). better s z a ≡ true) q w)) f)
+        | inr w ↦ inr w
+      ]
+      | inr q ↦ h.tops b (omega arith) e
+    ];
+  }
+
+  pub best_moves : (n a : ℕ) → IsBest s passes n a → (passes (suc n) && better s (suc n) a) ≡ true → IsBest s passes (suc n) (suc n)
+  best_moves n a h f =
+      let q = and_parts (passes (suc n)) (better s (suc n) a) f in
+      record {
+        kept = omega arith;
+        can = q.0;
+        tops = λ b l e. elim (cases_eq b (suc n)) [
+          | inl w ↦ inl w
+          | inr w ↦ inr (elim (h.tops b (omega arith) e) [
+            | inl v ↦ subst (λ (z : ℕ). better s (suc n) z ≡ true) (sym v) q.1
+            | inr v ↦ better_trans s (suc n) a b q.1 v
+          ])
+        ];
+      }
+
+  best-to : (n m a b : ℕ) → n ≡ m → a ≡ b → IsBest s passes n a → IsBest s passes m b
+  best-to n m a b e f h = subst (λ (k : ℕ). IsBest s passes k b) e (subst (λ (k : ℕ). IsBest s passes n k) f h)
+
+  -- one block more
+  pub best_next : (place best next : ℕ) (t : Bool) → 0 < place → IsBest s passes (place - 1) best → (passes place && better s place best) ≡ t → next ≡ cond t place best → IsBest s passes (place + 1 - 1) next
+  best_next zero best next t z h e f = absurd (omega arith)
+  best_next (suc n) best next true z h e f = best-to (suc n) (suc n + 1 - 1) (suc n) next (omega arith) (sym f) (best_moves n best (best-to (suc n - 1) n best best (omega arith) refl h) e)
+  best_next (suc n) best next false z h e f = best-to (suc n) (suc n + 1 - 1) best next (omega arith) (sym f) (best_stays n best (best-to (suc n - 1) n best best (omega arith) refl h) e)
+
+-- ---- what is found of each block
+
+module _ (params : Params) (triples : Triples) (s : State Block) (judged : List Judged) (are : AreJudged (regtest params triples) s judged) where
+  judged-is : (p : ℕ) (d : Judged) → p ≤ length s.blocks → get_or judged p d ≡ judged_at (regtest params triples) s p
+  judged-is p d h = are.each p d h
+
+  pub usable-is : (p : ℕ) (d : Judged) → p ≤ length s.blocks → (get_or judged p d).usable ≡ usable s p
+  unfolding judged_at
+  usable-is p d h = ap (λ (j : Judged). j.usable) (judged-is p d h)
+
+  pub height-is : (p : ℕ) (d : Judged) → p ≤ length s.blocks → (get_or judged p d).height ≡ height s.blocks p
+  unfolding judged_at
+  height-is p d h = ap (λ (j : Judged). j.height) (judged-is p d h)
+
+  pub valid-is : (p : ℕ) (d : Judged) → p ≤ length s.blocks → is_valid (get_or judged p d).trial ≡ valid (regtest params triples) s.blocks p
+  unfolding judged_at
+  valid-is p d h = ap (λ (j : Judged). is_valid j.trial) (judged-is p d h) ∙ trial-valid params triples s.blocks p h
+
+  pub first-is : (p : ℕ) (d : Judged) → p ≤ length s.blocks → is_first (get_or judged p d).trial ≡ first_to_fail (regtest params triples) s.blocks p
+  unfolding judged_at
+  first-is p d h = ap (λ (j : Judged). is_first j.trial) (judged-is p d h) ∙ trial-first params triples s.blocks p h
+
+  pub above-is : (p q : ℕ) (d e : Judged) → p ≤ length s.blocks → q ≤ length s.blocks → above (get_or judged p d) p (get_or judged q e) q ≡ better s p q
+  unfolding judged_at better
+  above-is p q d e h g = ap (λ (j : Judged). above j p (get_or judged q e) q) (judged-is p d h) ∙ ap (λ (j : Judged). above (judged_at (regtest params triples) s p) p j q) (judged-is q e g)
+
+  pub can-is : (p : ℕ) (d : Judged) → p ≤ length s.blocks → ((get_or judged p d).usable && is_valid (get_or judged p d).trial) ≡ can_be_active (regtest params triples) s p
+  unfolding can_be_active
+  can-is p d h = ap (λ b. b && is_valid (get_or judged p d).trial) (usable-is p d h) ∙ ap (λ b. usable s p && b) (valid-is p d h)
+
+  -- the blocks that are near are those on a candidate's branch
+  module _ (a : ℕ) (is : a ≡ active (regtest params triples) s) (kept : a ≤ length s.blocks) where
+    near-is : (c : ℕ) → c ≤ length s.blocks → is_near judged a c ≡ is_candidate (regtest params triples) s c
+    unfolding is_candidate
+    near-is c h =
+        ap (λ b. b && (eqb c a || above (judged_in judged c) c (judged_in judged a) a)) (usable-is c unjudged h)
+        ∙ ap (λ b. usable s c && (eqb c a || b)) (above-is c a unjudged unjudged h kept)
+        ∙ ap (λ (q : ℕ). usable s c && (eqb c q || better s c q)) is
+
+    pub on_near : (x : ℕ) → any_below (λ c. is_near judged a c && on s.blocks c x) (suc (length s.blocks)) ≡ on_candidate (regtest params triples) s x
+    unfolding on_candidate
+    on_near x =
+        any-agree (λ c. is_near judged a c && on s.blocks c x) (λ c. is_candidate (regtest params triples) s c && on s.blocks c x) (suc (length s.blocks)) (λ c l. ap (λ b. b && on s.blocks c x) (near-is c (omega arith)))
+        ∙ any-down (λ c. is_candidate (regtest params triples) s c && on s.blocks c x) (length s.blocks)
+
+  -- genesis never fails
+  pub first-never : (d : Judged) → is_first (get_or judged 0 d).trial ≡ false
+  first-never d = first-is 0 d (omega arith) ∙ Rattle.activate.proofs.SlowReplay.first-zero params triples s.blocks

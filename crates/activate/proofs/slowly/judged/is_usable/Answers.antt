@@ -1,0 +1,26 @@
+use Rattle.std.proofs.Common.{◌≡◌, ℕ, ◌<◌, ◌≤◌, Bool, get_or, not, List, length, sym, ap, ◌∙◌, arith}
+use Rattle.std.specs.List.{list_all}
+use Rattle.tree.specs.Branches.{branch}
+use Rattle.activate.specs.declared.slowly.held.Held.{Held}
+use Rattle.activate.specs.Slow.{blocks_of, flag}
+use Rattle.activate.proofs.SlowState.{branch_within, branch_usable}
+use Rattle.activate.proofs.slowly.judged.is_usable.Goals as goal
+
+pub has_none-requires : goal.has_none-requires
+has_none-requires c = λ i h.
+    let e : ◌≡◌ {A = List ℕ} c.deref-3.result.now (branch (blocks_of c.args.old.now.held.items) c.args.place) =
+    c.deref-3.ensures.value ∙ c.in_ok-branch.ensures ∙ ap (λ (k : List Held). branch (blocks_of k) c.args.place) c.deref.ensures.value in
+    let n = ap (λ (k : List ℕ). length k) e in
+    let x = ap (λ (k : List ℕ). get_or k i 0) e in
+    let f = ap (λ (k : List Bool). length k) c.deref-2.ensures.value in
+    let b = c.requires.right.bad in
+    let w = branch_within c.args.chain.now.params.now c.args.chain.now.table.now c.args.old.now c.requires.right c.args.place c.requires.kept i (omega arith) in
+    omega arith
+
+pub returns : goal.returns
+returns c =
+    let e : ◌≡◌ {A = List ℕ} c.deref-3.result.now (branch (blocks_of c.args.old.now.held.items) c.args.place) =
+    c.deref-3.ensures.value ∙ c.in_ok-branch.ensures ∙ ap (λ (k : List Held). branch (blocks_of k) c.args.place) c.deref.ensures.value in
+    c.has_none.ensures ∙ ap (λ (k : List ℕ). list_all (λ x. not (flag c.deref-2.result.now x)) k) e
+    ∙ ap (λ (k : List Bool). list_all (λ x. not (flag k x)) (branch (blocks_of c.args.old.now.held.items) c.args.place)) c.deref-2.ensures.value
+    ∙ branch_usable c.args.chain.now.params.now c.args.chain.now.table.now c.args.old.now c.requires.right c.args.place c.requires.kept

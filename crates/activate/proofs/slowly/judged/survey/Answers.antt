@@ -1,0 +1,35 @@
+use Rattle.std.proofs.Common.{◌≡◌, ℕ, suc, ◌+◌, ◌<◌, ◌≤◌, get_or, List, [], ◌∷◌, ◌++◌, length, sym, ap, ◌∙◌, subst, inl, inr, arith}
+use Rattle.std.proofs.lemmas.Bool.{cases_eq}
+use Rattle.std.proofs.lemmas.List.{length_push, get_or_push, get_or_append_left}
+use Rattle.activate.specs.declared.slowly.judged.Judged.{Judged}
+use Rattle.activate.specs.Slow.{chain_rules, judged_at, state_of}
+use Rattle.activate.proofs.SlowState.{count}
+use Rattle.activate.proofs.SlowChanges.{add_right}
+use Rattle.activate.proofs.slowly.judged.survey.Goals as goal
+
+pub loop-place-preserved : goal.loop-place-preserved
+loop-place-preserved c =
+    let p = c.loop-place.place in
+    let l = c.loop-place.judged.items in
+    let i = c.loop-place.invariant in
+    let j = c.in_ok-judge.field-0 in
+    let e = c.in_ok-push.ensures.items in
+    record {
+      same = ap (λ (k : List Judged). length k) e ∙ length_push l j ∙ ap (λ (n : ℕ). n + 1) i.same;
+      each = λ q d h. ap (λ (k : List Judged). get_or k q d) e ∙ elim (cases_eq q p) [
+        | inl w ↦ get_or_push l j d q (i.same ∙ sym w) ∙ c.in_ok-judge.ensures ∙ ap (judged_at (chain_rules c.args.chain.now) (state_of c.args.old.now)) (sym w)
+        | inr w ↦ (let s = i.same in get_or_append_left l (j ∷ []) d q (omega arith)) ∙ i.each q d (omega arith)
+      ];
+    }
+
+pub returns : goal.returns
+returns c =
+    let r = chain_rules c.args.chain.now in
+    let n = count r c.args.old.now c.requires in
+    let i = c.loop-place.invariant in
+    let a = c.loop-place.auto.place-end in
+    let f = c.loop-place-test.false in
+    let e = c.len-place-end.ensures in
+    let s = i.same in
+    let w = c.args.old.now.held.ok in
+    record { same = omega arith; each = λ p d h. i.each p d (omega arith) }

@@ -1,0 +1,135 @@
+//! What is found of each block for a command that settles.
+
+ghost use Rattle.std.specs.Prelude.{◌≡◌, ◌<◌, ◌&&◌, ℕ, length, reverse, not, true, slice_index_or, IfOk};
+ghost use Rattle.std.specs.List.{list_all};
+ghost use Rattle.block.specs.declared.block.Block.{Block};
+ghost use Rattle.curve.specs.Triple.{Triples};
+ghost use Rattle.rules.specs.declared.params.Params.{Params};
+ghost use Rattle.tree.specs.State.{State, rank_in, usable};
+ghost use Rattle.activate.specs.Regtest.{regtest};
+ghost use Rattle.activate.specs.Settle.{active};
+ghost use Rattle.activate.specs.Slow.{IsRight, AreJudged, above, chain_rules, flag, is_valid, judged_at, judged_in, state_of};
+
+use crate::slowly::held::branch_of;
+use crate::slowly::old::Old;
+use crate::slowly::replaying::{Chain, Trial, replay};
+use std::alloc::Global;
+use wire::Memory;
+
+/// A block's branch, and what decides which of two blocks is the better one.
+#[derive(Clone, Copy, Debug)]
+pub(crate) struct Judged {
+    pub(crate) trial: Trial,
+    pub(crate) usable: bool,
+    pub(crate) height: usize,
+    pub(crate) rank: usize,
+}
+
+/// Each block, judged by the replay of its branch.
+pub(crate) fn survey(alloc: Global, chain: &Chain, old: &Old) -> Result<Vec<Judged>, Memory>
+    requires { IsRight (chain_rules chain.now) old.now }
+    ensures { IfOk result (λ judged. AreJudged (chain_rules chain.now) (state_of old.now) judged.items) }
+{
+    let mut judged = Vec::new(alloc);
+    for place in 0..old.held.len() {
+        judged.push(judge(alloc, chain, old, place)?)?;
+    }
+    Ok(judged)
+}
+
+fn judge(alloc: Global, chain: &Chain, old: &Old, place: usize) -> Result<Judged, Memory>
+    requires right { IsRight (chain_rules chain.now) old.now }
+    requires kept { place < length old.now.held.items }
+    ensures { IfOk result (λ judged. judged ≡ judged_at (chain_rules chain.now) (state_of old.now) place) }
+{
+    let branch = branch_of(alloc, &old.held, place)?;
+    let trial = replay(alloc, chain, &old.held, &branch)?;
+    Ok(Judged {
+        trial,
+        usable: is_usable(alloc, chain, old, place)?,
+        height: branch.len() - 1,
+        rank: rank_of(&old.calls, place),
+    })
+}
+
+/// Whether no block of a branch is marked.
+pub(crate) fn is_usable(
+    alloc: Global,
+    chain: &Chain,
+    old: &Old,
+    place: usize,
+) -> Result<bool, Memory>
+    requires right { IsRight (chain_rules chain.now) old.now }
+    requires kept { place < length old.now.held.items }
+    ensures { IfOk result (λ found. found ≡ usable (state_of old.now) place) }
+{
+    let branch = branch_of(alloc, &old.held, place)?;
+    Ok(has_none(&old.bad, &branch))
+}
+
+/// Whether none of these places has the flag.
+fn has_none(flags: &[bool], places: &[usize]) -> bool
+    requires { (i : ℕ) → i < length places.now → slice_index_or places.now i 0 < length flags.now }
+    ensures { result ≡ list_all (λ x. not (flag flags.now x)) places.now }
+{
+    for index in 0..places.len() {
+        if flags[places[index]] {
+            return false;
+        }
+    }
+    true
+}
+
+/// The number of the last call for this place, from 1; 0 where there is none.
+fn rank_of(calls: &[usize], place: usize) -> usize
+    ensures { result ≡ rank_in (reverse calls.now) place }
+{
+    let mut rank = 0;
+    for index in 0..calls.len() {
+        if calls[index] == place {
+            rank = index + 1;
+        }
+    }
+    rank
+}
+
+/// The active block: the best of those that are usable and whose branch is valid.
+pub(crate) fn best_of(judged: &[Judged]) -> usize
+    requires { 0 < length judged.now }
+    ensures kept { result < length judged.now }
+    ensures active { (params : Params) (triples : Triples) (s : State Block) → AreJudged (regtest params triples) s judged.now → usable s 0 ≡ true → result ≡ active (regtest params triples) s }
+{
+    let mut best = 0;
+    for place in 1..judged.len() {
+        if beats(judged, place, best) {
+            best = place;
+        }
+    }
+    best
+}
+
+/// Whether a block may be the active one, and is better than another.
+fn beats(judged: &[Judged], place: usize, other: usize) -> bool
+    requires place { place < length judged.now }
+    requires other { other < length judged.now }
+    ensures { let one = judged_in judged.now place in
+        result ≡ ((one.usable && is_valid one.trial) && above one place (judged_in judged.now other) other) }
+{
+    can_be_active(&judged[place]) && is_above(&judged[place], place, &judged[other], other)
+}
+
+fn can_be_active(judged: &Judged) -> bool
+    ensures { result ≡ (judged.now.usable && is_valid judged.now.trial) }
+{
+    judged.usable && judged.trial == Trial::Valid
+}
+
+/// Whether the first of two blocks is better, where they came in the order of these places: higher; or as high and
+/// called precious later; or as high, both never called, and came earlier.
+pub(crate) fn is_above(one: &Judged, place: usize, other: &Judged, other_place: usize) -> bool
+    ensures { result ≡ above one.now place other.now other_place }
+{
+    one.height > other.height
+        || (one.height == other.height
+            && (one.rank > other.rank || (one.rank == other.rank && place < other_place)))
+}
