@@ -2,7 +2,7 @@
 
 use crate::commands::{Asked, expect_replies};
 use rules::Params;
-use std::test::{Fail, HostRuntime};
+use std::test::Fail;
 
 /// The heights of regtest.
 fn regtest(definitions: &'static str, commands: &'static str) -> Asked {

@@ -6,9 +6,11 @@ use curve::Table;
 use rules::Params;
 use scenario::{Definitions, Line, lines};
 use std::alloc::Global;
+use std::process::Abort;
 use std::test::Fail;
 
 /// Commands, each line with its reply, over what a scenario's lines define.
+#[derive(Drop)]
 pub struct Asked {
     pub params: Params,
     pub definitions: &'static str,
@@ -16,6 +18,7 @@ pub struct Asked {
 }
 
 /// The commands of some lines, and their replies.
+#[derive(Drop)]
 struct Told<'t> {
     commands: Vec<Command>,
     replies: Vec<&'t str>,
