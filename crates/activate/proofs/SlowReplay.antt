@@ -72,7 +72,7 @@ head_median (b ∷ older) h = refl
 
 module _ (params : Params) (bs : List Block) (height k : ℕ) (sum : height + k ≡ length bs) (some : 1 ≤ height) where
   -- the last median of those below this height
-  cutoff-is : get_or (reverse (medians_of bs)) (height - 1) 0 ≡ median_time_past (drop k bs)
+  pub cutoff-is : get_or (reverse (medians_of bs)) (height - 1) 0 ≡ median_time_past (drop k bs)
   cutoff-is =
       let n = length-medians bs in
       let d = Rattle.std.proofs.lemmas.List.length-drop k bs in

@@ -78,6 +78,14 @@ module _ (r : Rules Block Id) (old : Old) (right : IsRight r old) where
       let zero_is : x ≡ 0 = omega arith in
       ap (λ (q : ℕ). has (state_of old).bad q) zero_is ∙ state-bad old 0 (omega arith) ∙ right.genesis)
 
+-- what isn't kept isn't marked
+pub bad_above : (r : Rules Block Id) (old : Old) → IsRight r old → (p : ℕ) → length old.held.items ≤ p → has (state_of old).bad p ≡ false
+unfolding state_of places_of
+bad_above r old right p h =
+    let z = right.some in
+    let b = right.bad in
+    Rattle.tree.specs.laws.Sets.has_filter-above (flag old.bad.items) (length old.bad.items - 1) p (omega arith)
+
 -- ---- a branch
 
 module _ (params : Params) (triples : Triples) (old : Old) (right : IsRight (regtest params triples) old) (p : ℕ) (h : p < length old.held.items) where
@@ -216,3 +224,8 @@ module _ (params : Params) (triples : Triples) (s : State Block) (judged : List 
   -- genesis never fails
   pub first-never : (d : Judged) → is_first (get_or judged 0 d).trial ≡ false
   first-never d = first-is 0 d (omega arith) ∙ Rattle.activate.proofs.SlowReplay.first-zero params triples s.blocks
+
+  -- the trial of a block
+  pub trial_found : (p : ℕ) (d : Judged) → p ≤ length s.blocks → (get_or judged p d).trial ≡ Rattle.activate.specs.Slow.trial_on (regtest params triples) (blocks_at names s.blocks (branch s.blocks p))
+  unfolding judged_at
+  trial_found p d h = ap (λ (j : Judged). j.trial) (judged-is p d h)

@@ -2,6 +2,7 @@
 
 ghost use Rattle.std.specs.Prelude.{◌≡◌, ◌<◌, ◌++◌, IfOk, OnOk, None, Some, length, if◌then◌else◌};
 ghost use Rattle.std.specs.Result.{result_err};
+ghost use Rattle.block.specs.declared.fault.ReadFault.TheVariants as faults;
 ghost use Rattle.block.specs.Identity.{id_of};
 ghost use Rattle.txn.specs.First.{first_broken};
 ghost use Rattle.rules.specs.Alone.{alone_rules};
@@ -46,12 +47,24 @@ pub(crate) fn step(
     match command {
         Command::Submit(bytes, now) => match block::read(alloc, bytes.as_slice()) {
             Ok(block) => Ok(Reply::Submit(submit(alloc, chain, old, block, *now)?)),
-            Err(ReadFault::Memory) => Err(Memory),
-            Err(_) => Ok(Reply::Submit(SubmitReply::DecodeFailed)),
+            Err(fault) => {
+                undecodable(fault)?;
+                Ok(Reply::Submit(SubmitReply::DecodeFailed))
+            }
         },
         Command::Invalidate(id) => Ok(Reply::Mark(invalidate(alloc, chain, old, id)?)),
         Command::Reconsider(id) => Ok(Reply::Mark(reconsider(alloc, chain, old, id)?)),
         Command::Precious(id) => Ok(Reply::Mark(prefer(alloc, chain, old, id)?)),
+    }
+}
+
+/// Refuses where the fault is want of memory, and not of the bytes.
+fn undecodable(fault: ReadFault) -> Result<(), Memory>
+    ensures { IfOk result (λ _. ¬ (fault ≡ faults.Memory)) }
+{
+    match fault {
+        ReadFault::Memory => Err(Memory),
+        _ => Ok(()),
     }
 }
 
