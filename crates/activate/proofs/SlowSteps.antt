@@ -1,32 +1,29 @@
 -- What a command comes to, by what was found.
-use Rattle.std.proofs.Common.{◌≡◌, ℕ, zero, suc, ◌+◌, ◌-◌, ◌<◌, ◌≤◌, Bool, true, false, cond, not, ◌&&◌, ◌||◌, eqb, leb, ltb, List, [], ◌∷◌, ◌++◌, length, Option, Some, None, sym, refl, ap, ◌∙◌, subst, inl, inr, arith}
+use Rattle.std.proofs.Common.{◌≡◌, ℕ, zero, suc, ◌<◌, ◌≤◌, Bool, true, false, cond, not, ◌||◌, List, length, Option, Some, None, sym, refl, ap, ◌∙◌, arith}
 use Rattle.std.specs.Option.{option_or}
-use Rattle.std.specs.Prelude.{if◌then◌else◌}
-use Rattle.std.proofs.lemmas.Bool.{cases_Bool, cases_eq, eq-eqb, ne_eqb, and_parts, lt-ltb, le-ltb}
+use Rattle.std.proofs.lemmas.Bool.{eq-eqb, ne_eqb, and_parts, lt-ltb, le-ltb}
 use Rattle.txn.specs.declared.reason.Reason.{Reason}
 use Rattle.txn.specs.declared.reason.Reason.TheVariants.{ParentNotFound, ParentInvalid}
 use Rattle.hash.specs.declared.id.Id.{Id}
 use Rattle.block.specs.declared.block.Block.{Block}
 use Rattle.curve.specs.Triple.{Triples}
 use Rattle.rules.specs.declared.params.Params.{Params}
-use Rattle.tree.specs.Branches.{Kept, Blocks, has, branch, height, blocks_at, place_of}
-use Rattle.tree.specs.State.{State, usable, marked, cleared, called, with_block}
+use Rattle.tree.specs.Branches.{Blocks, has, branch, height, blocks_at, place_of}
+use Rattle.tree.specs.State.{State, usable, marked, cleared, called}
 use Rattle.tree.specs.Names.{names}
 use Rattle.tree.specs.laws.Added.{place-bound}
 use Rattle.tree.specs.laws.Marks.{bad-flagged}
 use Rattle.activate.specs.declared.slowly.held.Held.{Held}
-use Rattle.activate.specs.declared.slowly.judged.Judged.{Judged}
 use Rattle.activate.specs.declared.slowly.old.Old.{Old}
 use Rattle.activate.specs.declared.slowly.replaying.Trial.{Trial}
 use Rattle.activate.specs.declared.slowly.replaying.Trial.TheVariants.{Valid, Fails, Below}
-use Rattle.activate.specs.declared.reply.SubmitReply.{SubmitReply}
-use Rattle.activate.specs.declared.reply.SubmitReply.TheVariants.{Accepted, Inconclusive, Rejected}
+use Rattle.activate.specs.declared.reply.SubmitReply.TheVariants.{Accepted, Inconclusive}
 use Rattle.activate.specs.declared.reply.MarkReply.TheVariants.{Done}
 use Rattle.activate.specs.Rules.{Rules}
 use Rattle.activate.specs.Valid.{fault, first_to_fail}
 use Rattle.activate.specs.Settle.{active, on_candidate, becomes_bad, becomes_seen, settle}
 use Rattle.activate.specs.Context.{fault_on, first_fault}
-use Rattle.activate.specs.Submission.{Outcome, submit_says, rejected, answer_added, added}
+use Rattle.activate.specs.Submission.{submit_says, rejected, answer_added, added}
 use Rattle.activate.specs.Step.{Invalidate, Reconsider, Precious, mark_says, invalidated, reconsidered, preferred, step}
 use Rattle.activate.specs.Regtest.{regtest}
 use Rattle.activate.specs.Slow.{IsRight, blocks_of, state_of, trial_on, is_first, rejected_by}

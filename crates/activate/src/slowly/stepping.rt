@@ -208,12 +208,7 @@ fn fault_at(chain: &Chain, block: &Block, height: u32, cutoff: u32, now: u64) ->
     block_context(block, height, finality, chain.params)
 }
 
-fn invalidate(
-    alloc: Global,
-    chain: &Chain,
-    old: &mut Old,
-    id: &Id,
-) -> Result<MarkReply, Memory>
+fn invalidate(alloc: Global, chain: &Chain, old: &mut Old, id: &Id) -> Result<MarkReply, Memory>
     requires { IsRight (chain_rules chain.now) old.old }
     ensures state { IfOk result (λ answer. mark_says (state_of old.new) answer ≡ step (chain_rules chain.now) (state_of old.old) (Invalidate id.now)) }
     ensures right { OnOk result (IsRight (chain_rules chain.now) old.new) }
@@ -229,12 +224,7 @@ fn invalidate(
     }
 }
 
-fn reconsider(
-    alloc: Global,
-    chain: &Chain,
-    old: &mut Old,
-    id: &Id,
-) -> Result<MarkReply, Memory>
+fn reconsider(alloc: Global, chain: &Chain, old: &mut Old, id: &Id) -> Result<MarkReply, Memory>
     requires { IsRight (chain_rules chain.now) old.old }
     ensures state { IfOk result (λ answer. mark_says (state_of old.new) answer ≡ step (chain_rules chain.now) (state_of old.old) (Reconsider id.now)) }
     ensures right { OnOk result (IsRight (chain_rules chain.now) old.new) }

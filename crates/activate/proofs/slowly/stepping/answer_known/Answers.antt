@@ -1,7 +1,6 @@
-use Rattle.std.proofs.Common.{◌≡◌, ℕ, zero, suc, ◌+◌, ◌-◌, ◌<◌, ◌≤◌, Bool, true, false, cond, not, ◌&&◌, ◌||◌, eqb, List, [], ◌∷◌, ◌++◌, length, reverse, get_or, Option, Some, None, sym, refl, ap, ◌∙◌, subst, inl, inr, arith}
+use Rattle.std.proofs.Common.{◌≡◌, Bool, true, false, cond, not, sym, ap, ◌∙◌, arith}
 use Rattle.std.proofs.lemmas.List.{get_or_read}
 use Rattle.tree.specs.Branches.{has}
-use Rattle.activate.specs.declared.reply.SubmitReply.{SubmitReply}
 use Rattle.activate.specs.declared.reply.SubmitReply.TheVariants.{Duplicate, DuplicateInvalid, DuplicateInconclusive}
 use Rattle.activate.specs.Submission.{answer_known}
 use Rattle.activate.specs.Slow.{state_of}

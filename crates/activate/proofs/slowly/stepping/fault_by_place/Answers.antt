@@ -1,4 +1,4 @@
-use Rattle.std.proofs.Common.{◌≡◌, ℕ, zero, suc, ◌+◌, ◌-◌, ◌<◌, ◌≤◌, Bool, true, false, cond, not, ◌&&◌, ◌||◌, eqb, List, [], ◌∷◌, ◌++◌, length, reverse, get_or, Option, Some, None, sym, refl, ap, ◌∙◌, subst, inl, inr, arith}
+use Rattle.std.proofs.Common.{◌≡◌, ℕ, ◌-◌, List, ◌++◌, length, reverse, get_or, sym, ap, ◌∙◌, arith}
 use Rattle.std.specs.Prelude.{if◌then◌else◌}
 use Rattle.std.proofs.lemmas.List.{length-reverse, length-map, get_or_read_under}
 use Rattle.txn.specs.First.{first_broken}
@@ -9,7 +9,7 @@ use Rattle.tree.specs.Branches.{branch, block_at, blocks_at}
 use Rattle.tree.specs.MedianTime.{median_time_past}
 use Rattle.tree.specs.Names.{names}
 use Rattle.activate.specs.declared.slowly.held.Held.{Held}
-use Rattle.activate.specs.Regtest.{medians_of, regtest}
+use Rattle.activate.specs.Regtest.{medians_of}
 use Rattle.activate.specs.Slow.{blocks_of, blocks_in, block_in, state_of}
 use Rattle.activate.proofs.SlowState.{branch_within, branch_long, branch_few, branch_blocks}
 use Rattle.activate.proofs.SlowReplay.{length-medians, cutoff-is}

@@ -1,6 +1,4 @@
-use Rattle.std.proofs.Common.{◌≡◌, ℕ, zero, suc, ◌+◌, ◌-◌, ◌<◌, ◌≤◌, Bool, true, false, cond, not, ◌&&◌, ◌||◌, eqb, List, [], ◌∷◌, ◌++◌, length, reverse, get_or, Option, Some, None, sym, refl, ap, ◌∙◌, subst, inl, inr, arith}
-use Rattle.tree.specs.Branches.{place_of}
-use Rattle.tree.specs.Names.{names}
+use Rattle.std.proofs.Common.{ℕ, Some, None, sym, ap, ◌∙◌, arith}
 use Rattle.activate.specs.Slow.{chain_rules, state_of}
 use Rattle.activate.specs.laws.Steps.{step-genesis, step_not-found}
 use Rattle.activate.proofs.SlowSteps.{find_place, place_kept, invalidate_done}

@@ -1,4 +1,4 @@
-use Rattle.std.proofs.Common.{◌≡◌, ℕ, zero, suc, ◌+◌, ◌-◌, ◌<◌, ◌≤◌, Bool, true, false, cond, not, ◌&&◌, ◌||◌, eqb, List, [], ◌∷◌, ◌++◌, length, reverse, get_or, Option, Some, None, Ok, Err, sym, refl, ap, ◌∙◌, subst, inl, inr, arith}
+use Rattle.std.proofs.Common.{Some, None, sym, ◌∙◌}
 use Rattle.activate.specs.Slow.{chain_rules, state_of}
 use Rattle.activate.proofs.SlowSteps.{find_place, place_kept, fault_alone, fault_orphan, fault_invalid, fault_context}
 use Rattle.activate.proofs.slowly.stepping.judge.Goals as goal

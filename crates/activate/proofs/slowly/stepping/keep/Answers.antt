@@ -1,11 +1,11 @@
-use Rattle.std.proofs.Common.{◌≡◌, ℕ, zero, suc, ◌+◌, ◌-◌, ◌<◌, ◌≤◌, Bool, true, false, cond, not, ◌&&◌, ◌||◌, eqb, List, [], ◌∷◌, ◌++◌, length, reverse, get_or, Option, Some, None, Ok, Err, sym, refl, ap, ◌∙◌, subst, inl, inr, arith}
+use Rattle.std.proofs.Common.{◌≡◌, suc, false, length, sym, ap, ◌∙◌, arith}
 use Rattle.std.proofs.lemmas.List.{get_or_read}
 use Rattle.tree.specs.Branches.{Blocks, has}
 use Rattle.tree.specs.State.{State, with_block}
 use Rattle.block.specs.declared.block.Block.{Block}
 use Rattle.activate.specs.Settle.{settle}
 use Rattle.activate.specs.Submission.{added, submit_says}
-use Rattle.activate.specs.Slow.{IsRight, chain_rules, judged_at, rejected_by, state_of}
+use Rattle.activate.specs.Slow.{chain_rules, state_of}
 use Rattle.activate.specs.laws.Settled.{settle-blocks}
 use Rattle.activate.specs.declared.slowly.judged.Judged.{Judged}
 use Rattle.activate.proofs.SlowState.{count, genesis-usable, state-bad, bad_above, trial_found}

@@ -1,14 +1,13 @@
-use Rattle.std.proofs.Common.{◌≡◌, ℕ, zero, suc, ◌+◌, ◌-◌, ◌<◌, ◌≤◌, Bool, true, false, cond, not, ◌&&◌, ◌||◌, eqb, List, [], ◌∷◌, ◌++◌, length, reverse, get_or, Option, Some, None, Result, Ok, Err, sym, refl, ap, ◌∙◌, subst, inl, inr, arith}
+use Rattle.std.proofs.Common.{◌≡◌, ℕ, List, Some, None, Err, sym, refl, ap, ◌∙◌, subst, inl, inr}
 use Rattle.std.specs.Option.{unwrap_or}
 use Rattle.hash.specs.declared.id.Id.{Id}
 use Rattle.block.specs.declared.block.Block.{Block}
 use Rattle.block.specs.Decoding.{decoded, Decodes}
 use Rattle.tree.specs.State.{State}
-use Rattle.activate.specs.declared.command.Command.{Command}
 use Rattle.activate.specs.declared.command.Command.TheVariants as command
 use Rattle.activate.specs.declared.reply.SubmitReply.TheVariants.{DecodeFailed}
 use Rattle.activate.specs.Rules.{Rules}
-use Rattle.activate.specs.Submission.{Outcome, submit_says}
+use Rattle.activate.specs.Submission.{submit_says}
 use Rattle.activate.specs.Step.{Submit, Invalidate, Reconsider, Precious, step}
 use Rattle.activate.specs.Commands.{submit_step, command_step, outcome}
 use Rattle.activate.specs.Slow.{chain_rules, state_of}

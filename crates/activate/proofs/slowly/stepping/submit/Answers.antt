@@ -1,15 +1,14 @@
-use Rattle.std.proofs.Common.{◌≡◌, ℕ, zero, suc, ◌+◌, ◌-◌, ◌<◌, ◌≤◌, Bool, true, false, cond, not, ◌&&◌, ◌||◌, eqb, List, [], ◌∷◌, ◌++◌, length, reverse, get_or, Option, Some, None, Result, Ok, Err, sym, refl, ap, ◌∙◌, subst, inl, inr, arith}
+use Rattle.std.proofs.Common.{◌≡◌, Some, None, Result, Ok, Err, sym, ap, ◌∙◌, subst, arith}
 use Rattle.std.specs.Prelude.{IfOk}
 use Rattle.std.specs.Result.{result_err}
 use Rattle.block.specs.declared.block.Block.{Block}
 use Rattle.block.specs.Identity.{id_of}
 use Rattle.tree.specs.Branches.{place_of}
-use Rattle.tree.specs.State.{State, with_block}
+use Rattle.tree.specs.State.{State}
 use Rattle.tree.specs.Names.{names}
-use Rattle.tree.specs.Limits.{max_blocks}
 use Rattle.activate.specs.declared.reply.SubmitReply.{SubmitReply}
 use Rattle.activate.specs.Context.{first_fault}
-use Rattle.activate.specs.Submission.{Outcome, submit_says, answer_known, kept_blocks}
+use Rattle.activate.specs.Submission.{Outcome, submit_says, answer_known}
 use Rattle.activate.specs.Step.{Submit, step}
 use Rattle.activate.specs.Sound.{IsNew}
 use Rattle.activate.specs.Slow.{chain_rules, state_of}
