@@ -3,3 +3,4 @@ pub mod SlowFlags
 pub mod SlowHeld
 pub mod SlowReplay
 pub mod SlowState
+pub mod SlowSteps

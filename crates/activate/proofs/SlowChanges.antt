@@ -1,19 +1,17 @@
 -- What changes the state, and that it stays right.
-use Rattle.std.proofs.Common.{◌≡◌, ℕ, zero, suc, ◌+◌, ◌-◌, ◌<◌, ◌≤◌, Bool, true, false, cond, not, ◌&&◌, ◌||◌, eqb, List, [], ◌∷◌, ◌++◌, length, reverse, get_or, None, sym, refl, ap, ◌∙◌, subst, inl, inr, arith}
+use Rattle.std.proofs.Common.{◌≡◌, ℕ, suc, ◌<◌, ◌≤◌, Bool, true, false, not, ◌&&◌, ◌||◌, eqb, List, [], ◌∷◌, ◌++◌, length, reverse, get_or, None, sym, refl, ap, ◌∙◌, subst, inl, inr, arith}
 use Rattle.std.proofs.Math.ListN.{set, get_or-append}
 use Rattle.std.proofs.Math.Seq.{get_or-append_seam}
 use Rattle.std.proofs.lemmas.Bool.{cases_eq, eq-eqb, ne_eqb}
 use Rattle.std.proofs.lemmas.List.{length-append, length-set, reverse-append}
-use Rattle.std.specs.List.{filter}
-use Rattle.hash.specs.declared.id.Id.{Id}
 use Rattle.block.specs.declared.block.Block.{Block}
 use Rattle.block.specs.Identity.{id_of}
 use Rattle.curve.specs.Triple.{Triples}
 use Rattle.rules.specs.declared.params.Params.{Params}
 use Rattle.rules.specs.Alone.{alone_rules}
 use Rattle.txn.specs.First.{first_broken}
-use Rattle.tree.specs.Branches.{Kept, Blocks, has, down_from, places, on, before, branch, place_of, parent_at, block_at, id_at}
-use Rattle.tree.specs.State.{State, opening, joined, flagged, marked, cleared, called, with_block}
+use Rattle.tree.specs.Branches.{Kept, Blocks, down_from, on, before, branch, place_of, parent_at, block_at, id_at}
+use Rattle.tree.specs.State.{opening, marked, cleared, called, with_block}
 use Rattle.tree.specs.Names.{names}
 use Rattle.tree.specs.Limits.{max_blocks}
 use Rattle.tree.specs.laws.Added.{id_there, id_here, block_there, block_here}

@@ -1,18 +1,14 @@
 -- The blocks that are held, as the blocks that the definitions speak of, and walks along a branch.
-use Rattle.std.proofs.Common.{◌≡◌, ℕ, zero, suc, ◌+◌, ◌-◌, ◌<◌, ◌≤◌, Bool, true, false, cond, eqb, List, [], ◌∷◌, ◌++◌, length, map, reverse, get_or, drop, Option, Some, None, sym, refl, ap, ◌∙◌, subst, inl, inr, arith, append_assoc}
-use Rattle.std.proofs.Math.ListN.{get_or-append}
-use Rattle.std.proofs.Math.Seq.{get_or-append_seam}
-use Rattle.std.proofs.lemmas.Bool.{cases_eq, eq-eqb, ne_eqb}
-use Rattle.std.proofs.lemmas.List.{length-reverse, length-map, length-append, reverse-append, map-append, get_or_default}
-use Rattle.std.specs.List.{find}
+use Rattle.std.proofs.Common.{◌≡◌, ℕ, zero, suc, ◌+◌, ◌<◌, ◌≤◌, Bool, cond, List, [], ◌∷◌, ◌++◌, length, map, reverse, get_or, Option, Some, None, sym, refl, ap, ◌∙◌, subst, inl, inr, arith, append_assoc}
+use Rattle.std.proofs.lemmas.Bool.{cases_eq}
+use Rattle.std.proofs.lemmas.List.{length-reverse, length-map, reverse-append, map-append}
 use Rattle.hash.specs.declared.id.Id.{Id}
 use Rattle.block.specs.declared.block.Block.{Block}
-use Rattle.tree.specs.Branches.{Kept, Blocks, has, down_from, branch, on, before, height, parent_at, block_at, id_at, blocks_at, place_of}
+use Rattle.tree.specs.Branches.{Blocks, branch, height, parent_at, block_at, id_at, blocks_at, place_of}
 use Rattle.tree.specs.Names.{names}
-use Rattle.tree.specs.laws.Branches.{branch_head, branch-genesis, on-bounds, height-genesis}
-use Rattle.tree.specs.laws.Parents.{parent-below, branch-parent, height-parent}
-use Rattle.tree.specs.laws.Added.{id_there, id_here, block_there, block_here}
-use Rattle.tree.specs.laws.Branches.{parent_there, parent_here}
+use Rattle.tree.specs.laws.Branches.{branch_head, branch-genesis}
+use Rattle.tree.specs.laws.Parents.{parent-below, branch-parent}
+use Rattle.tree.specs.laws.Added.{id_there, id_here}
 use Rattle.activate.specs.declared.slowly.held.Held.{Held}
 use Rattle.activate.specs.Slow.{kept_of, blocks_of, IsHeld, AreHeld, block_in, blocks_in, first_held}
 

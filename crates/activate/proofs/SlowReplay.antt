@@ -1,5 +1,5 @@
 -- The replay of a branch, block by block.
-use Rattle.std.proofs.Common.{◌≡◌, ℕ, zero, suc, ◌+◌, ◌-◌, ◌<◌, ◌≤◌, Bool, true, false, not, ◌&&◌, eqb, List, [], ◌∷◌, ◌++◌, length, map, reverse, get_or, take, drop, Option, Some, None, sym, refl, ap, ◌∙◌, subst, inl, inr, arith}
+use Rattle.std.proofs.Common.{◌≡◌, ℕ, zero, suc, ◌+◌, ◌-◌, ◌<◌, ◌≤◌, Bool, false, not, ◌&&◌, eqb, List, [], ◌∷◌, ◌++◌, length, map, reverse, get_or, take, drop, Option, Some, None, sym, refl, ap, ◌∙◌, subst, inl, inr, arith}
 use Rattle.std.specs.Prelude.{is_none}
 use Rattle.std.specs.List.{list_all}
 use Rattle.std.proofs.lemmas.Bool.{cases_eq}
@@ -8,7 +8,6 @@ use Rattle.txn.specs.declared.reason.Reason.{Reason}
 use Rattle.block.specs.declared.block.Block.{Block}
 use Rattle.curve.specs.Triple.{Triples}
 use Rattle.rules.specs.declared.params.Params.{Params}
-use Rattle.rules.specs.declared.in_force.InForce.{InForce}
 use Rattle.rules.specs.Params.{at}
 use Rattle.locks.specs.MedianTime.{median_of}
 use Rattle.connect.specs.Setting.{Setting}
@@ -72,7 +71,7 @@ head_median (b ∷ older) h = refl
 
 module _ (params : Params) (bs : List Block) (height k : ℕ) (sum : height + k ≡ length bs) (some : 1 ≤ height) where
   -- the last median of those below this height
-  cutoff-is : get_or (reverse (medians_of bs)) (height - 1) 0 ≡ median_time_past (drop k bs)
+  pub cutoff-is : get_or (reverse (medians_of bs)) (height - 1) 0 ≡ median_time_past (drop k bs)
   cutoff-is =
       let n = length-medians bs in
       let d = Rattle.std.proofs.lemmas.List.length-drop k bs in
@@ -213,6 +212,7 @@ module _ (params : Params) (triples : Triples) (t : Blocks Block) where
             ∙ ap (λ v. not (is_none (fault (regtest params triples) t p)) && v) (trial-valid (parent_at t p) (omega arith))
             ∙ sym (first-parent p (omega arith) h)
       ]
+
   pub trial-reason : (p : ℕ) (reason : Reason) → p ≤ length t → trial_at p ≡ Fails reason → fault (regtest params triples) t p ≡ Some reason
   trial-reason p reason h e =
       elim (cases_eq 0 p) [

@@ -1,13 +1,13 @@
 -- The state that is shown, and what changes it.
-use Rattle.std.proofs.Common.{◌≡◌, ℕ, zero, suc, ◌+◌, ◌-◌, ◌<◌, ◌≤◌, Bool, true, false, cond, not, ◌&&◌, ◌||◌, eqb, ltb, List, [], ◌∷◌, ◌++◌, length, reverse, get_or, sym, refl, ap, ◌∙◌, subst, inl, inr, ◌⊎◌, arith}
-use Rattle.std.proofs.lemmas.Bool.{cases_Bool, cases_eq, and_parts, and_from, true≢false}
-use Rattle.std.specs.List.{filter, list_all, list_any}
+use Rattle.std.proofs.Common.{◌≡◌, ℕ, zero, suc, ◌+◌, ◌-◌, ◌<◌, ◌≤◌, Bool, true, false, cond, not, ◌&&◌, ◌||◌, eqb, List, length, reverse, get_or, sym, refl, ap, ◌∙◌, subst, inl, inr, arith}
+use Rattle.std.proofs.lemmas.Bool.{cases_eq, and_parts, and_from}
+use Rattle.std.specs.List.{list_all}
 use Rattle.hash.specs.declared.id.Id.{Id}
 use Rattle.block.specs.declared.block.Block.{Block}
 use Rattle.curve.specs.Triple.{Triples}
 use Rattle.rules.specs.declared.params.Params.{Params}
-use Rattle.tree.specs.Branches.{Kept, Blocks, has, down_from, places, branch, on, height, blocks_at}
-use Rattle.tree.specs.State.{State, usable, better, rank, joined, flagged, cleared}
+use Rattle.tree.specs.Branches.{Blocks, has, branch, on, height, blocks_at}
+use Rattle.tree.specs.State.{State, usable, better}
 use Rattle.tree.specs.Sound.{IsBest}
 use Rattle.txn.specs.First.{first_broken}
 use Rattle.rules.specs.Alone.{alone_rules}
@@ -17,18 +17,16 @@ use Rattle.tree.specs.laws.Sets.{clash, all_agree}
 use Rattle.tree.specs.laws.Ranks.{better_trans, better_or}
 use Rattle.tree.specs.laws.Marks.{usable_from}
 use Rattle.tree.specs.laws.Branches.{on-bounds}
-use Rattle.activate.specs.declared.slowly.held.Held.{Held}
 use Rattle.activate.specs.declared.slowly.judged.Judged.{Judged}
 use Rattle.activate.specs.declared.slowly.old.Old.{Old}
 use Rattle.activate.specs.Rules.{Rules}
 use Rattle.activate.specs.Valid.{valid, first_to_fail}
-use Rattle.activate.specs.Settle.{can_be_active, active, is_candidate, on_candidate, becomes_seen, becomes_bad, settle}
+use Rattle.activate.specs.Settle.{can_be_active, active, is_candidate, on_candidate}
 use Rattle.activate.specs.Regtest.{regtest}
 use Rattle.activate.specs.Slow.{IsRight, AreAlone, AreJudged, blocks_of, blocks_in, state_of, flag, places_of, judged_at, judged_in, unjudged, above, is_near, is_valid, is_first, any_below}
-use Rattle.activate.specs.laws.Actives.{active_only, can_from}
 use Rattle.activate.specs.laws.Kept.{alone-at}
 use Rattle.activate.proofs.SlowHeld.{length-blocks, branch_kept, branch_later, branch_length, block-held, blocks-held}
-use Rattle.activate.proofs.SlowFlags.{has-places, places-joined, places-taken, any-down, any-agree}
+use Rattle.activate.proofs.SlowFlags.{has-places, any-down, any-agree}
 use Rattle.activate.proofs.SlowReplay.{trial-valid, trial-first}
 
 -- a state from its parts
@@ -78,6 +76,14 @@ module _ (r : Rules Block Id) (old : Old) (right : IsRight r old) where
       let zero_is : x ≡ 0 = omega arith in
       ap (λ (q : ℕ). has (state_of old).bad q) zero_is ∙ state-bad old 0 (omega arith) ∙ right.genesis)
 
+-- what isn't kept isn't marked
+pub bad_above : (r : Rules Block Id) (old : Old) → IsRight r old → (p : ℕ) → length old.held.items ≤ p → has (state_of old).bad p ≡ false
+unfolding state_of places_of
+bad_above r old right p h =
+    let z = right.some in
+    let b = right.bad in
+    Rattle.tree.specs.laws.Sets.has_filter-above (flag old.bad.items) (length old.bad.items - 1) p (omega arith)
+
 -- ---- a branch
 
 module _ (params : Params) (triples : Triples) (old : Old) (right : IsRight (regtest params triples) old) (p : ℕ) (h : p < length old.held.items) where
@@ -96,7 +102,7 @@ module _ (params : Params) (triples : Triples) (old : Old) (right : IsRight (reg
         let k = branch_within i (omega arith) in
         let z = branch_later (blocks_of old.held.items) p (omega arith) i l in
         ap (λ (b : Block). first_broken (alone_rules b)) (block-held old.held.items right.held x k)
-            ∙ alone-at (regtest params triples) (blocks_of old.held.items) x right.kept z (omega arith);
+        ∙ alone-at (regtest params triples) (blocks_of old.held.items) x right.kept z (omega arith);
   }
 
   -- it has a block, and no more than are kept
@@ -216,3 +222,8 @@ module _ (params : Params) (triples : Triples) (s : State Block) (judged : List 
   -- genesis never fails
   pub first-never : (d : Judged) → is_first (get_or judged 0 d).trial ≡ false
   first-never d = first-is 0 d (omega arith) ∙ Rattle.activate.proofs.SlowReplay.first-zero params triples s.blocks
+
+  -- the trial of a block
+  pub trial_found : (p : ℕ) (d : Judged) → p ≤ length s.blocks → (get_or judged p d).trial ≡ Rattle.activate.specs.Slow.trial_on (regtest params triples) (blocks_at names s.blocks (branch s.blocks p))
+  unfolding judged_at
+  trial_found p d h = ap (λ (j : Judged). j.trial) (judged-is p d h)

@@ -1,6 +1,6 @@
 -- Words for what the functions of `slow` do inside. No public clause needs them.
-use Rattle.std.specs.Prelude.{◌≡◌, ℕ, ◌+◌, ◌-◌, ◌==◌, ◌<◌, ◌≤◌, zero, suc, Bool, true, false, nat_lt, not, ◌&&◌, ◌||◌, cond, List, [], ◌∷◌, length, map, take, drop, reverse, slice_index_or, Option, None, Some}
-use Rattle.std.specs.List.{filter, list_any}
+use Rattle.std.specs.Prelude.{◌≡◌, ℕ, ◌+◌, ◌-◌, ◌==◌, ◌<◌, ◌≤◌, zero, suc, Bool, true, false, nat_lt, ◌&&◌, ◌||◌, cond, List, [], ◌∷◌, length, map, take, drop, reverse, slice_index_or, Option, None, Some}
+use Rattle.std.specs.List.{filter}
 use Rattle.txn.specs.declared.reason.Reason.{Reason}
 use Rattle.txn.specs.First.{first_broken}
 use Rattle.hash.specs.declared.id.Id.{Id}
@@ -8,7 +8,7 @@ use Rattle.block.specs.declared.block.Block.{Block}
 use Rattle.block.specs.declared.genesis.TheConstants.{GENESIS_ID}
 use Rattle.locks.specs.MedianTime.{median_of}
 use Rattle.rules.specs.Alone.{alone_rules}
-use Rattle.tree.specs.Branches.{Kept, Blocks, has, down_from, branch, on, height, parent_at, block_at, id_at, blocks_at}
+use Rattle.tree.specs.Branches.{Kept, Blocks, down_from, branch, height, parent_at, block_at, id_at, blocks_at}
 use Rattle.tree.specs.State.{State, usable, rank}
 use Rattle.tree.specs.Names.{names, genesis}
 use Rattle.tree.specs.Limits.{max_blocks}

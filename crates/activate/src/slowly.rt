@@ -40,3 +40,6 @@ pub fn slow(
     }
     Ok(replies)
 }
+
+#[cfg(test)]
+mod tests;

@@ -2,6 +2,7 @@
 
 ghost use Rattle.std.specs.Prelude.{◌≡◌, ◌<◌, ◌++◌, IfOk, OnOk, None, Some, length, if◌then◌else◌};
 ghost use Rattle.std.specs.Result.{result_err};
+ghost use Rattle.block.specs.declared.fault.ReadFault.TheVariants as faults;
 ghost use Rattle.block.specs.Identity.{id_of};
 ghost use Rattle.txn.specs.First.{first_broken};
 ghost use Rattle.rules.specs.Alone.{alone_rules};
@@ -46,12 +47,24 @@ pub(crate) fn step(
     match command {
         Command::Submit(bytes, now) => match block::read(alloc, bytes.as_slice()) {
             Ok(block) => Ok(Reply::Submit(submit(alloc, chain, old, block, *now)?)),
-            Err(ReadFault::Memory) => Err(Memory),
-            Err(_) => Ok(Reply::Submit(SubmitReply::DecodeFailed)),
+            Err(fault) => {
+                undecodable(fault)?;
+                Ok(Reply::Submit(SubmitReply::DecodeFailed))
+            }
         },
         Command::Invalidate(id) => Ok(Reply::Mark(invalidate(alloc, chain, old, id)?)),
         Command::Reconsider(id) => Ok(Reply::Mark(reconsider(alloc, chain, old, id)?)),
         Command::Precious(id) => Ok(Reply::Mark(prefer(alloc, chain, old, id)?)),
+    }
+}
+
+/// Refuses where the fault is want of memory, and not of the bytes.
+fn undecodable(fault: ReadFault) -> Result<(), Memory>
+    ensures { IfOk result (λ _. ¬ (fault ≡ faults.Memory)) }
+{
+    match fault {
+        ReadFault::Memory => Err(Memory),
+        _ => Ok(()),
     }
 }
 
@@ -195,12 +208,7 @@ fn fault_at(chain: &Chain, block: &Block, height: u32, cutoff: u32, now: u64) ->
     block_context(block, height, finality, chain.params)
 }
 
-fn invalidate(
-    alloc: Global,
-    chain: &Chain,
-    old: &mut Old,
-    id: &Id,
-) -> Result<MarkReply, Memory>
+fn invalidate(alloc: Global, chain: &Chain, old: &mut Old, id: &Id) -> Result<MarkReply, Memory>
     requires { IsRight (chain_rules chain.now) old.old }
     ensures state { IfOk result (λ answer. mark_says (state_of old.new) answer ≡ step (chain_rules chain.now) (state_of old.old) (Invalidate id.now)) }
     ensures right { OnOk result (IsRight (chain_rules chain.now) old.new) }
@@ -216,12 +224,7 @@ fn invalidate(
     }
 }
 
-fn reconsider(
-    alloc: Global,
-    chain: &Chain,
-    old: &mut Old,
-    id: &Id,
-) -> Result<MarkReply, Memory>
+fn reconsider(alloc: Global, chain: &Chain, old: &mut Old, id: &Id) -> Result<MarkReply, Memory>
     requires { IsRight (chain_rules chain.now) old.old }
     ensures state { IfOk result (λ answer. mark_says (state_of old.new) answer ≡ step (chain_rules chain.now) (state_of old.old) (Reconsider id.now)) }
     ensures right { OnOk result (IsRight (chain_rules chain.now) old.new) }

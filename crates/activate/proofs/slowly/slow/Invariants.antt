@@ -2,7 +2,7 @@ use Rattle.std.proofs.Common.{◌≡◌, ◌++◌, drop}
 use Rattle.tree.specs.State.{opening}
 use Rattle.activate.specs.Commands.{replies_of}
 use Rattle.activate.specs.Regtest.{regtest}
-use Rattle.activate.specs.Slow.{IsRight, chain_rules, state_of}
+use Rattle.activate.specs.Slow.{IsRight, state_of}
 use Rattle.activate.proofs.slowly.slow.Given as goal
 
 abbrev pub invariant-loop-index : goal.invariant-loop-index

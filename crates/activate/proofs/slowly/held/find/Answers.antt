@@ -1,8 +1,8 @@
-use Rattle.std.proofs.Common.{◌≡◌, ℕ, suc, length, Bool, true, false, cond, is_eq, Option, get_or, sym, refl, ap, ◌∙◌, subst, arith}
+use Rattle.std.proofs.Common.{◌≡◌, ℕ, suc, length, Bool, true, false, is_eq, sym, ap, ◌∙◌, arith}
 use Rattle.hash.specs.declared.id.Id.{Id}
-use Rattle.tree.specs.Branches.{id_at, place_of}
+use Rattle.tree.specs.Branches.{id_at}
 use Rattle.tree.specs.Names.{names}
-use Rattle.activate.specs.Slow.{IsHeld, blocks_of}
+use Rattle.activate.specs.Slow.{blocks_of}
 use Rattle.activate.proofs.SlowHeld.{length-blocks, last_below, place-last, last_more}
 use Rattle.activate.proofs.slowly.held.find.Goals.{then-is_eq, else-is_eq}
 use Rattle.activate.proofs.slowly.held.find.Goals as goal

@@ -1,12 +1,12 @@
-use Rattle.std.proofs.Common.{◌≡◌, ℕ, suc, ◌+◌, ◌-◌, ◌<◌, ◌≤◌, Bool, true, false, cond, ◌&&◌, get_or, List, length, sym, refl, ap, ◌∙◌, subst, inl, arith}
+use Rattle.std.proofs.Common.{◌≡◌, ℕ, ◌-◌, true, false, ◌&&◌, length, sym, ap, ◌∙◌, subst, inl, arith}
 use Rattle.curve.specs.Triple.{Triples}
 use Rattle.rules.specs.declared.params.Params.{Params}
 use Rattle.block.specs.declared.block.Block.{Block}
-use Rattle.tree.specs.State.{State, usable, better}
+use Rattle.tree.specs.State.{State, better}
 use Rattle.tree.specs.Sound.{IsBest}
 use Rattle.activate.specs.Settle.{can_be_active}
 use Rattle.activate.specs.Regtest.{regtest}
-use Rattle.activate.specs.Slow.{AreJudged, judged_in, unjudged, is_valid, above}
+use Rattle.activate.specs.Slow.{AreJudged, judged_in, unjudged, above}
 use Rattle.activate.specs.laws.Actives.{active_only, can_from, valid-genesis}
 use Rattle.activate.proofs.SlowState.{best_next, can-is, above-is}
 use Rattle.activate.proofs.slowly.judged.best_of.Goals.{then-beats, else-beats}

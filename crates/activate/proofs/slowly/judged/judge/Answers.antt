@@ -1,7 +1,7 @@
-use Rattle.std.proofs.Common.{◌≡◌, ℕ, suc, ◌-◌, ◌<◌, ◌≤◌, Bool, get_or, List, length, reverse, sym, ap, ◌∙◌, subst, arith}
-use Rattle.tree.specs.Branches.{branch, blocks_at, height}
+use Rattle.std.proofs.Common.{◌≡◌, ℕ, Bool, List, length, reverse, sym, ap, ◌∙◌, subst, arith}
+use Rattle.tree.specs.Branches.{branch, blocks_at}
 use Rattle.tree.specs.Names.{names}
-use Rattle.tree.specs.State.{usable, rank, rank_in}
+use Rattle.tree.specs.State.{rank, rank_in}
 use Rattle.block.specs.declared.block.Block.{Block}
 use Rattle.activate.specs.declared.slowly.held.Held.{Held}
 use Rattle.activate.specs.declared.slowly.judged.Judged.{Judged}

@@ -1,10 +1,9 @@
-use Rattle.std.proofs.Common.{◌≡◌, ℕ, suc, ◌+◌, ◌<◌, ◌≤◌, get_or, List, [], ◌∷◌, ◌++◌, length, sym, ap, ◌∙◌, subst, inl, inr, arith}
+use Rattle.std.proofs.Common.{ℕ, ◌+◌, get_or, List, [], ◌∷◌, length, sym, ap, ◌∙◌, inl, inr, arith}
 use Rattle.std.proofs.lemmas.Bool.{cases_eq}
 use Rattle.std.proofs.lemmas.List.{length_push, get_or_push, get_or_append_left}
 use Rattle.activate.specs.declared.slowly.judged.Judged.{Judged}
 use Rattle.activate.specs.Slow.{chain_rules, judged_at, state_of}
 use Rattle.activate.proofs.SlowState.{count}
-use Rattle.activate.proofs.SlowChanges.{add_right}
 use Rattle.activate.proofs.slowly.judged.survey.Goals as goal
 
 pub loop-place-preserved : goal.loop-place-preserved

@@ -1,4 +1,4 @@
-use Rattle.std.proofs.Common.{◌≡◌, ℕ, Bool, true, false, ◌||◌, List, sym, refl, ap, ◌∙◌}
+use Rattle.std.proofs.Common.{◌≡◌, ℕ, ◌||◌, List, sym, ap, ◌∙◌}
 use Rattle.tree.specs.Branches.{branch, has, on}
 use Rattle.activate.specs.Slow.{blocks_of}
 use Rattle.activate.proofs.slowly.old.is_related.Goals.{then-has, else-has}

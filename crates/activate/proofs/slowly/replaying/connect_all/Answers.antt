@@ -1,4 +1,4 @@
-use Rattle.std.proofs.Common.{◌≡◌, ℕ, suc, ◌+◌, ◌-◌, ◌<◌, ◌≤◌, Bool, eqb, List, Option, length, map, reverse, take, drop, get_or, Some, None, sym, refl, ap, ◌∙◌, subst, arith}
+use Rattle.std.proofs.Common.{◌≡◌, ℕ, ◌+◌, ◌-◌, ◌<◌, ◌≤◌, Bool, eqb, List, Option, length, reverse, take, drop, get_or, Some, None, sym, refl, ap, ◌∙◌, arith}
 use Rattle.std.proofs.lemmas.List.{length-map, length-reverse, length-take-le, get_or-map, get_or_default}
 use Rattle.curve.specs.Triple.{Triples}
 use Rattle.txn.specs.declared.reason.Reason.{Reason}
@@ -6,11 +6,10 @@ use Rattle.rules.specs.declared.params.Params.{Params}
 use Rattle.block.specs.declared.block.Block.{Block}
 use Rattle.coins.specs.Coins.{Coins}
 use Rattle.connect.specs.Turns.{effect}
-use Rattle.connect.specs.Setting.{Setting}
 use Rattle.connect.specs.computed.Scripts.{connect_fault}
 use Rattle.rules.specs.Params.{at}
 use Rattle.activate.specs.declared.slowly.held.Held.{Held}
-use Rattle.activate.specs.declared.slowly.replaying.Trial.TheVariants.{Valid, Fails}
+use Rattle.activate.specs.declared.slowly.replaying.Trial.TheVariants.{Valid}
 use Rattle.activate.specs.Replay.{replay}
 use Rattle.activate.specs.Regtest.{medians_of, ledger, regtest}
 use Rattle.activate.specs.Slow.{block_in, blocks_in, first_held, fails, tried, trial_on}

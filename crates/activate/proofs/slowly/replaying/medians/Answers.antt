@@ -1,5 +1,5 @@
 use Rattle.std.proofs.Common.{◌≡◌, ℕ, ◌+◌, ◌-◌, List, [], ◌∷◌, ◌++◌, length, reverse, take, drop, sym, ap, ◌∙◌, arith}
-use Rattle.std.proofs.lemmas.List.{take_rest, take_all, length-drop}
+use Rattle.std.proofs.lemmas.List.{take_rest}
 use Rattle.locks.specs.MedianTime.{median_of}
 use Rattle.activate.specs.Slow.{medians_in}
 use Rattle.activate.proofs.SlowReplay.{medians_more}

@@ -1,7 +1,5 @@
-use Rattle.std.proofs.Common.{◌≡◌, ℕ, List, reverse, map, sym, ap, ◌∙◌, subst}
+use Rattle.std.proofs.Common.{◌≡◌, ℕ, List, reverse, sym, ap, ◌∙◌, subst}
 use Rattle.std.specs.Prelude.{IfOk}
-use Rattle.tree.specs.MedianTime.{time_of}
-use Rattle.activate.specs.Regtest.{medians_of}
 use Rattle.activate.specs.Slow.{blocks_in, medians_in}
 use Rattle.activate.proofs.SlowReplay.{medians-times}
 use Rattle.activate.proofs.slowly.replaying.medians_by_height.Goals as goal

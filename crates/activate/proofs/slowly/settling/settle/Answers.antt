@@ -1,8 +1,8 @@
-use Rattle.std.proofs.Common.{◌≡◌, ℕ, suc, ◌<◌, ◌≤◌, Bool, ◌&&◌, ◌||◌, List, length, sym, refl, ap, ◌∙◌, subst, arith}
+use Rattle.std.proofs.Common.{◌≡◌, ℕ, ◌<◌, Bool, ◌&&◌, ◌||◌, List, length, sym, refl, ap, ◌∙◌, subst, arith}
 use Rattle.tree.specs.Branches.{on}
 use Rattle.activate.specs.declared.slowly.held.Held.{Held}
 use Rattle.activate.specs.declared.slowly.judged.Judged.{Judged}
-use Rattle.activate.specs.Slow.{AreJudged, IsRight, any_below, blocks_of, chain_rules, flag, is_first, is_near, is_valid, judged_in, state_of}
+use Rattle.activate.specs.Slow.{AreJudged, any_below, blocks_of, chain_rules, flag, is_first, is_near, is_valid, judged_in, state_of}
 use Rattle.activate.proofs.SlowState.{count, genesis-usable}
 use Rattle.activate.proofs.SlowChanges.{settle_state, settle_right}
 use Rattle.activate.proofs.slowly.settling.settle.Goals as goal

@@ -1,11 +1,20 @@
-use Rattle.activate.proofs.SlowChanges.{add_right}
+use Rattle.std.proofs.Common.{Some, None, sym}
+use Rattle.activate.specs.Slow.{chain_rules, state_of}
+use Rattle.activate.specs.laws.Steps.{step_not-found}
+use Rattle.activate.proofs.SlowSteps.{find_place, place_kept, reconsider_done}
 use Rattle.activate.proofs.slowly.stepping.reconsider.Goals as goal
 
-pub returns-in_default-clause-state : goal.returns-in_default-clause-state
-returns-in_default-clause-state c = ?
-
 pub clear-requires-clause-kept : goal.clear-requires-clause-kept
-clear-requires-clause-kept c = ?
+clear-requires-clause-kept c =
+    place_kept (chain_rules c.args.chain.now) c.args.old.now c.requires c.args.id.now c.in-Some.place
+    (find_place c.args.old.now c.deref.result.now c.args.id.now c.find.result (Some c.in-Some.place) c.deref.ensures.value c.find.ensures c.in-Some.is)
+
+pub returns-in_default-clause-state : goal.returns-in_default-clause-state
+returns-in_default-clause-state c =
+    sym (step_not-found (chain_rules c.args.chain.now) (state_of c.args.old.now) c.args.id.now (find_place c.args.old.now c.deref.result.now c.args.id.now c.find.result None c.deref.ensures.value c.find.ensures c.in_default.is)).1
 
 pub returns-clause-state : goal.returns-clause-state
-returns-clause-state c = ?
+returns-clause-state c =
+    reconsider_done c.args.chain.now.params.now c.args.chain.now.table.now (state_of c.args.old.now) c.args.id.now c.in-Some.place
+    (find_place c.args.old.now c.deref.result.now c.args.id.now c.find.result (Some c.in-Some.place) c.deref.ensures.value c.find.ensures c.in-Some.is)
+    (state_of c.clear.new.self) (state_of c.settle.new.old) c.in_ok-clear.ensures.state c.in_ok-settle.ensures.state

@@ -1,5 +1,4 @@
-use Rattle.std.proofs.Common.{◌≡◌, sym, refl, ap, ◌∙◌}
-use Rattle.activate.specs.declared.slowly.old.Old.{Old}
+use Rattle.std.proofs.Common.{refl}
 use Rattle.activate.proofs.SlowChanges.{add_state, add_right}
 use Rattle.activate.proofs.slowly.old.Old.add.Goals as goal
 

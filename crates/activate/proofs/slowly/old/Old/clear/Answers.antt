@@ -1,9 +1,4 @@
-use Rattle.std.proofs.Common.{◌≡◌, ℕ, ◌+◌, ◌<◌, ◌≤◌, Bool, true, false, not, ◌&&◌, ◌||◌, List, length, sym, refl, ap, ◌∙◌, inl, inr, arith}
-use Rattle.std.proofs.lemmas.Bool.{cases_eq}
-use Rattle.tree.specs.Branches.{on}
-use Rattle.activate.specs.declared.slowly.held.Held.{Held}
-use Rattle.activate.specs.Slow.{blocks_of, flag}
-use Rattle.activate.proofs.SlowFlags.{flag_written, flag_here}
+use Rattle.std.proofs.Common.{arith}
 use Rattle.activate.proofs.SlowChanges.{clear_state, clear_right}
 use Rattle.activate.proofs.slowly.old.Old.clear.Goals as goal
 

@@ -1,6 +1,5 @@
-use Rattle.std.proofs.Common.{◌≡◌, List, [], ◌∷◌, ◌++◌, Bool, false, true, ap, ◌∙◌}
+use Rattle.std.proofs.Common.{List, [], ◌∷◌, ◌++◌, Bool, false, true, ap, ◌∙◌}
 use Rattle.activate.specs.declared.slowly.held.Held.{Held}
-use Rattle.activate.specs.Slow.{first_held}
 use Rattle.activate.proofs.SlowChanges.{first_state, first_right}
 use Rattle.activate.proofs.slowly.old.Old.new.Goals as goal
 
