@@ -12,5 +12,5 @@ mod tracking;
 pub use command::{Bytes, Command};
 pub use entry::Entry;
 pub use reply::{MarkReply, Reply, SubmitReply};
-pub use tracking::Core;
 pub use slowly::slow;
+pub use tracking::Core;

@@ -237,7 +237,6 @@ block r103 e102 R
 block e103 e102
 block r104 e103 R";
 
-/// The lock is out of force below its height.
 #[test]
 fn relative_locks_out_of_force(rt: HostRuntime) -> Result<(), Fail> {
     expect_replies(
@@ -250,7 +249,11 @@ submit d = accepted
 submit e102 = accepted
 submit r103 = accepted",
         ),
-    )?;
+    )
+}
+
+#[test]
+fn relative_locks_from_their_height_on(rt: HostRuntime) -> Result<(), Fail> {
     expect_replies(
         &rt,
         &with_heights(
@@ -264,7 +267,7 @@ submit r103 = bad-txns-nonfinal",
     )
 }
 
-/// Genesis' time and 95 and 512 seconds are its time and 607 seconds: the median is just met, or a second short.
+/// Genesis' time and 95 and 512 seconds are its time and 607 seconds: the median is just met.
 #[test]
 fn relative_locks_by_time(rt: HostRuntime) -> Result<(), Fail> {
     expect_replies(
@@ -290,7 +293,12 @@ submit s107 = bad-txns-nonfinal
 submit f5 = accepted
 submit s108 = accepted",
         ),
-    )?;
+    )
+}
+
+/// The same a second earlier.
+#[test]
+fn relative_locks_a_second_short(rt: HostRuntime) -> Result<(), Fail> {
     expect_replies(
         &rt,
         &regtest(
