@@ -7,20 +7,20 @@ use Rattle.activate.specs.declared.reply.Reply.TheVariants as reply
 use Rattle.activate.specs.declared.reply.SubmitReply.{SubmitReply}
 use Rattle.activate.specs.declared.entry.Entry.{Entry}
 use Rattle.activate.specs.History.{left, state_after, Legal, Answers, own_of, entry}
-use Rattle.node.specs.Early.{Chain, early, opening, step, says}
+use Rattle.node.specs.Early.{SmallChain, early, opening, step, says}
 use Rattle.node.specs.Pass.{Pass, IsLater, Wrote}
 use Rattle.activate.specs.laws.History.{state_after-append, legal_push, own_of-append, own_of-one}
 
 -- what holds after a submission's step
-pub record Taken (seats : ℕ) (journal : List Entry) (next : Chain) : Type 0 where
+pub record Taken (seats : ℕ) (journal : List Entry) (next : SmallChain) : Type 0 where
   pub legal : Legal early seats journal
   pub state : next ≡ state_after early opening journal
 
-pub taken : (seats number : ℕ) (journal more : List Entry) (command : Command) (next : Chain) (value : SubmitReply) → number < seats → Legal early seats journal
+pub taken : (seats number : ℕ) (journal more : List Entry) (command : Command) (next : SmallChain) (value : SubmitReply) → number < seats → Legal early seats journal
     → step (state_after early opening journal) command ≡ says next value → more ≡ journal ++ entry number command (Some (reply.Submit value)) ∷ [] → Taken seats more next
 taken seats number journal more command next value lt legal stepped e =
     let last : Entry = entry number command (Some (reply.Submit value)) in
-    let s : Chain = state_after early opening journal in
+    let s : SmallChain = state_after early opening journal in
     let right : Answers (Some (reply.Submit value)) (step s command) = rw stepped refl in
     let grown : Taken seats (journal ++ last ∷ []) next = record {
       legal = legal_push early seats opening journal last legal (record { seat_is = lt; reply_is = right });

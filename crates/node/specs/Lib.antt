@@ -1,6 +1,6 @@
 pub mod Calls
 pub mod Early
+pub mod Judgement
 pub mod Opening
 pub mod Pass
-pub mod Verdict
 pub mod laws

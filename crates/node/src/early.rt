@@ -1,8 +1,8 @@
 //! The small chainstate: a chain of blocks of a coinbase alone.
 
 ghost use Rattle.std.specs.Prelude.{◌≡◌, ◌<◌, length, IfOk, OnOk, OnErr};
-ghost use Rattle.node.specs.Early.{is_kept, has_coinbase, header_fits, place_fits, output_fits, txs_fit, is_plain, opening};
-ghost use Rattle.node.specs.Verdict.{Judges, extended};
+ghost use Rattle.node.specs.Early.{is_kept, knows_coinbase, header_fits, place_fits, output_fits, txs_fit, is_plain, opening};
+ghost use Rattle.node.specs.Judgement.{Judges, extended};
 
 use block::{Block, GENESIS_ID, GENESIS_ROOT, GENESIS_TIME, Header, ReadFault, subsidy};
 use hash::Id;
@@ -32,15 +32,15 @@ pub struct Early {
 }
 
 impl Model for Early {
-    ghost use Rattle.node.specs.Early.{Chain};
+    ghost use Rattle.node.specs.Early.{SmallChain};
 
-    ghost Value = { Chain };
+    ghost Value = { SmallChain };
 
     ghost view = { λ s. record { kept = s.kept.items; tip = s.tip } };
 }
 
 /// What a submission comes to.
-pub enum Verdict {
+pub enum Judgement {
     DecodeFailed,
     Duplicate,
     TreeFull,
@@ -74,28 +74,28 @@ impl Early {
     }
 
     /// What a submission of these bytes at this moment comes to.
-    pub fn judge(&self, alloc: Global, bytes: &[u8], now: u64) -> Result<Verdict, Memory>
+    pub fn judge(&self, alloc: Global, bytes: &[u8], now: u64) -> Result<Judgement, Memory>
         ensures { IfOk result (λ verdict. Judges verdict self.now bytes.now now) }
     {
         let block = match block::read(alloc, bytes) {
             Ok(block) => block,
             Err(ReadFault::Memory) => return Err(Memory),
-            Err(_) => return Ok(Verdict::DecodeFailed),
+            Err(_) => return Ok(Judgement::DecodeFailed),
         };
         let id = block.id();
         if self.is_kept(&id) {
-            return Ok(Verdict::Duplicate);
+            return Ok(Judgement::Duplicate);
         }
         if self.kept.len() >= MAX_BLOCKS {
-            return Ok(Verdict::TreeFull);
+            return Ok(Judgement::TreeFull);
         }
         if let Some(reason) = block_alone(alloc, &block)? {
-            return Ok(Verdict::Rejected(reason));
+            return Ok(Judgement::Rejected(reason));
         }
         if !self.is_plain(&block, now) {
-            return Ok(Verdict::Unsupported);
+            return Ok(Judgement::Unsupported);
         }
-        Ok(Verdict::Plain(Kept {
+        Ok(Judgement::Plain(Kept {
             id,
             coinbase: block.header.root,
             time: block.header.time,
@@ -120,8 +120,8 @@ impl Early {
         self.kept.iter().any(|block| block.id == *id)
     }
 
-    fn has_coinbase(&self, id: &Id) -> bool
-        ensures { result ≡ has_coinbase self.now id.now }
+    fn knows_coinbase(&self, id: &Id) -> bool
+        ensures { result ≡ knows_coinbase self.now id.now }
     {
         self.kept.iter().any(|block| block.coinbase == *id)
     }
@@ -134,7 +134,7 @@ impl Early {
         self.header_fits(&block.header, now)
             && self.place_fits(block)
             && txs_fit(self.height(), block.txs.as_slice())
-            && !self.has_coinbase(&block.header.root)
+            && !self.knows_coinbase(&block.header.root)
     }
 
     /// The height of the next block.

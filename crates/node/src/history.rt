@@ -5,9 +5,9 @@ ghost use Rattle.activate.specs.declared.command.Command.TheVariants as command;
 ghost use Rattle.activate.specs.declared.reply.Reply.TheVariants as reply;
 ghost use Rattle.activate.specs.History.{state_after, Legal, entry};
 ghost use Rattle.node.specs.Early.{early, opening, step, says};
-ghost use Rattle.node.specs.Verdict.{Judges, extended};
+ghost use Rattle.node.specs.Judgement.{Judges, extended};
 
-use crate::early::{Early, Kept, Verdict};
+use crate::early::{Early, Judgement, Kept};
 use activate::{Bytes, Command, Entry, Reply, SubmitReply};
 use hash::Id;
 use std::alloc::Global;
@@ -73,7 +73,7 @@ impl History {
     }
 
     /// What a submission comes to.
-    pub fn judge(&self, bytes: &[u8], now: u64) -> Result<Verdict, Memory>
+    pub fn judge(&self, bytes: &[u8], now: u64) -> Result<Judgement, Memory>
         ensures verdict { IfOk result (λ verdict. Judges verdict (state_after early opening self.now.journal) bytes.now now) }
         ensures legal { Legal early self.now.seats self.now.journal }
     {

@@ -6,9 +6,9 @@ ghost use Rattle.node.specs.declared.fault.Fault.TheVariants as faults;
 ghost use Rattle.activate.specs.declared.reply.Reply.TheVariants as reply;
 ghost use Rattle.activate.specs.History.{state_after, Legal};
 ghost use Rattle.node.specs.Early.{early, opening, step, says};
-ghost use Rattle.node.specs.Verdict.{extended};
+ghost use Rattle.node.specs.Judgement.{extended};
 
-use crate::early::{Kept, Verdict};
+use crate::early::{Judgement, Kept};
 use crate::fault::Fault;
 use crate::history::History;
 use crate::node::Node;
@@ -69,14 +69,14 @@ impl Seat {
         };
         let at = history.len();
         match history.judge(bytes, now)? {
-            Verdict::DecodeFailed => Ok(answered(at, SubmitReply::DecodeFailed)),
-            Verdict::Duplicate => self.write(bytes, now, SubmitReply::Duplicate, None),
-            Verdict::TreeFull => self.write(bytes, now, SubmitReply::TreeFull, None),
-            Verdict::Rejected(reason) => {
+            Judgement::DecodeFailed => Ok(answered(at, SubmitReply::DecodeFailed)),
+            Judgement::Duplicate => self.write(bytes, now, SubmitReply::Duplicate, None),
+            Judgement::TreeFull => self.write(bytes, now, SubmitReply::TreeFull, None),
+            Judgement::Rejected(reason) => {
                 self.write(bytes, now, SubmitReply::Rejected(reason), None)
             }
-            Verdict::Plain(block) => self.write(bytes, now, SubmitReply::Accepted, Some(block)),
-            Verdict::Unsupported => Err(Fault::Unsupported),
+            Judgement::Plain(block) => self.write(bytes, now, SubmitReply::Accepted, Some(block)),
+            Judgement::Unsupported => Err(Fault::Unsupported),
         }
     }
 

@@ -3,12 +3,12 @@ use Rattle.std.specs.Prelude.{◌≡◌, ℕ, List, Option, Some, None, IsSome}
 use Rattle.activate.specs.declared.command.Command.TheVariants as command
 use Rattle.activate.specs.declared.reply.SubmitReply.TheVariants as reply
 use Rattle.node.specs.declared.early.Kept.{Kept}
-use Rattle.node.specs.declared.early.Verdict.{Verdict}
-use Rattle.node.specs.declared.early.Verdict.TheVariants.{DecodeFailed, Duplicate, TreeFull, Rejected, Plain, Unsupported}
+use Rattle.node.specs.declared.early.Judgement.{Judgement}
+use Rattle.node.specs.declared.early.Judgement.TheVariants.{DecodeFailed, Duplicate, TreeFull, Rejected, Plain, Unsupported}
 use Rattle.block.specs.Decoding.{decoded}
-use Rattle.node.specs.Early.{Chain, step, says, with_block}
+use Rattle.node.specs.Early.{SmallChain, step, says, with_block}
 
-abbrev pub Judges : Verdict → Chain → List ℕ → ℕ → Type 0
+abbrev pub Judges : Judgement → SmallChain → List ℕ → ℕ → Type 0
 Judges DecodeFailed chain bytes now = decoded bytes ≡ None
 Judges Duplicate chain bytes now = step chain (command.Submit bytes now) ≡ says chain reply.Duplicate
 Judges TreeFull chain bytes now = step chain (command.Submit bytes now) ≡ says chain reply.TreeFull
@@ -17,6 +17,6 @@ Judges (Plain block) chain bytes now = step chain (command.Submit bytes now) ≡
 Judges Unsupported chain bytes now = IsSome (decoded bytes) × (step chain (command.Submit bytes now) ≡ None)
 
 -- the chain with a block last, if there is one
-abbrev pub extended : Chain → Option Kept → Chain
+abbrev pub extended : SmallChain → Option Kept → SmallChain
 extended chain None = chain
 extended chain (Some block) = with_block chain block
