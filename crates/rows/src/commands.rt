@@ -19,9 +19,9 @@ pub struct Asked {
 
 /// The commands of some lines, and their replies.
 #[derive(Drop)]
-struct Told<'t> {
+struct Told {
     commands: Vec<Command>,
-    replies: Vec<&'t str>,
+    replies: Vec<String>,
     /// The moment of the submissions to come.
     now: u64,
 }
@@ -43,18 +43,18 @@ pub fn expect_replies<R: AllocGlobal + Abort>(rt: &R, asked: &Asked) -> Result<(
     let replies = slow(alloc, &asked.params, &told.commands, definitions.table())?;
     assert_eq!(rt; replies.len(), told.replies.len());
     for (reply, wanted) in replies.iter().zip(&told.replies) {
-        assert_eq!(rt; format!(in alloc; "{reply}")?.as_str(), *wanted);
+        assert_eq!(rt; format!(in alloc; "{reply}")?.as_str(), wanted.as_str());
     }
     Ok(())
 }
 
-impl<'t> Told<'t> {
+impl Told {
     /// Reads a line: a command, and its reply behind ` = `.
     fn read(
         &mut self,
         alloc: Global,
         definitions: &Definitions,
-        line: &Line<'t>,
+        line: &Line<'_>,
     ) -> Result<(), Fail> {
         if let ["now", moment] = line.words.as_slice() {
             self.now = moment.parse().map_err(|_| Fail::new("a moment"))?;
@@ -72,7 +72,7 @@ impl<'t> Told<'t> {
                 }
                 Ok(())
             }
-            [word, name, "=", ..] => self.mark(definitions, word, name, reply),
+            [word, name, "=", ..] => self.mark(alloc, definitions, word, name, reply),
             _ => Err(Fail::new("a line")),
         }
     }
@@ -82,19 +82,20 @@ impl<'t> Told<'t> {
         alloc: Global,
         definitions: &Definitions,
         name: &str,
-        reply: &'t str,
+        reply: &str,
     ) -> Result<(), Fail> {
         let block = definitions.find(name).map_err(|_| Fail::new("a block"))?;
         let bytes = Bytes::from_slice(alloc, &block.bytes)?;
-        self.add(Command::Submit(bytes, self.now), reply)
+        self.add(alloc, Command::Submit(bytes, self.now), reply)
     }
 
     fn mark(
         &mut self,
+        alloc: Global,
         definitions: &Definitions,
         word: &str,
         name: &str,
-        reply: &'t str,
+        reply: &str,
     ) -> Result<(), Fail> {
         let block = definitions.find(name).map_err(|_| Fail::new("a block"))?;
         let command = match word {
@@ -103,12 +104,12 @@ impl<'t> Told<'t> {
             "precious" => Command::Precious(block.id),
             _ => return Err(Fail::new("a command")),
         };
-        self.add(command, reply)
+        self.add(alloc, command, reply)
     }
 
-    fn add(&mut self, command: Command, reply: &'t str) -> Result<(), Fail> {
+    fn add(&mut self, alloc: Global, command: Command, reply: &str) -> Result<(), Fail> {
         self.commands.push(command)?;
-        self.replies.push(reply)?;
+        self.replies.push(format!(in alloc; "{reply}")?)?;
         Ok(())
     }
 }
