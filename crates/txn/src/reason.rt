@@ -5,7 +5,8 @@ ghost use Rattle.txn.specs.Reason.{number_of};
 
 use std::fmt;
 
-/// Why a block is refused. The texts are Bitcoin Core's, but for the last one.
+/// Why a block is refused. The texts are Bitcoin Core's, but for two of our own: that of `BadVersion`, to which Core
+/// adds the number, and that of `ScriptRefused`.
 #[derive(Clone, Copy, Debug, PartialEq, Eq)]
 pub enum Reason {
     /// The id is above the target.

@@ -1,3 +1,5 @@
+//! Commands on genesis and on real blocks.
+
 use super::*;
 use crate::command::Bytes;
 use crate::reply::{MarkReply, SubmitReply};
