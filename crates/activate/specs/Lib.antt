@@ -15,5 +15,6 @@ pub mod Total
 pub mod Tracked
 pub mod Try
 pub mod Valid
+pub mod Ways
 pub mod computed
 pub mod laws

@@ -1,5 +1,5 @@
 -- A chainstate without its coins: the tree, which of its blocks is active, and the heights of soft forks.
-use Rattle.std.specs.Prelude.{◌≡◌, ℕ, List, map, reverse, take, min}
+use Rattle.std.specs.Prelude.{◌≡◌, ℕ, List, length, map, reverse, take, ◌≤◌}
 use Rattle.block.specs.declared.block.Block.{Block}
 use Rattle.curve.specs.Triple.{Triples}
 use Rattle.coins.specs.declared.coin.Coin.{Coin}
@@ -28,9 +28,13 @@ genesis_alone params = record { params = params; state = opening; active = 0 }
 abbrev pub branch_blocks : Blocks Block → ℕ → List Block
 branch_blocks t p = blocks_at names t (branch t p)
 
--- the coins that the active branch leaves
+-- the coins that the branch of a place leaves
+abbrev pub coins_after : Blocks Block → ℕ → Coins
+coins_after t p = replay ledger (branch_blocks t p)
+
+-- those of the active branch
 abbrev pub coins_of : Tracked → Coins
-coins_of c = replay ledger (branch_blocks c.state.blocks c.active)
+coins_of c = coins_after c.state.blocks c.active
 
 -- under these valid signatures commands led to it, and the active block is the best of the valid ones
 pub record Follows (c : Tracked) (triples : Triples) : Type 0 where
@@ -42,18 +46,20 @@ pub record Follows (c : Tracked) (triples : Triples) : Type 0 where
 
 -- what the transactions of the block at a place spend
 unfoldable pub undo_at : Blocks Block → ℕ → List (List Coin)
-undo_at t p = undo_of (height t p) (replay ledger (branch_blocks t (parent_at t p))) (block_at names t p).txs
+undo_at t p = undo_of (height t p) (coins_after t (parent_at t p)) (block_at names t p).txs
 
 -- undo is kept of so many blocks at most (Bitcoin Core's `MIN_BLOCKS_TO_KEEP`)
 abbrev pub most_undo : ℕ
 most_undo = 288
 
--- of the highest blocks of the branch of a place, but not of genesis, the lowest first
-unfoldable pub highest_undo : Blocks Block → ℕ → List (List (List Coin))
-highest_undo t p = reverse (map (undo_at t) (take (min most_undo (height t p)) (branch t p)))
+-- of so many of the highest blocks of the branch of a place, the lowest first
+unfoldable pub highest_undo : Blocks Block → ℕ → ℕ → List (List (List Coin))
+highest_undo t p n = reverse (map (undo_at t) (take n (branch t p)))
 
--- the active branch by height: its places, their medians time past, and the undo of the highest
+-- the active branch by height: its places, their medians time past, and the undo of the highest, but not of genesis
 pub record IsBranch (t : Blocks Block) (p : ℕ) (places medians : List ℕ) (undo : List (List (List Coin))) : Type 0 where
   pub places_are : places ≡ reverse (branch t p)
   pub medians_are : medians ≡ reverse (medians_of (branch_blocks t p))
-  pub undo_is : undo ≡ highest_undo t p
+  pub undo_is : undo ≡ highest_undo t p (length undo)
+  pub undo_few : length undo ≤ most_undo
+  pub undo_above : length undo ≤ height t p

@@ -8,6 +8,7 @@ mod linking;
 mod reply;
 mod slowly;
 mod tracking;
+mod way;
 
 pub use command::{Bytes, Command};
 pub use entry::Entry;

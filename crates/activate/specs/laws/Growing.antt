@@ -74,24 +74,12 @@ module _ (k : Kept Block) (older : Blocks Block) where
   branch-beside p places medians undo h is = record {
     places_are = is.places_are ∙ ap (λ (l : List ℕ). reverse l) (sym (branch_there k older p (omega arith)));
     medians_are = is.medians_are ∙ ap (λ (l : List Block). reverse (medians_of l)) (sym (blocks-old names k older p h));
-    undo_is = is.undo_is ∙ sym (highest-old p h);
+    undo_is = is.undo_is ∙ sym (highest-old p (length undo) h);
+    undo_few = is.undo_few;
+    undo_above = (let tall = height_there k older p h in let a = is.undo_above in omega arith);
   }
-
-length-take : {A : Type 0} (n : ℕ) (l : List A) → length (take n l) ≤ n
-length-take zero l = omega arith
-length-take (suc n) [] = omega arith
-length-take (suc n) (x ∷ l) = let h = length-take n l in omega arith
-
--- undo is kept of few
-pub undo-few : (t : Blocks Block) (p : ℕ) (places medians : List ℕ) (undo : List (List (List Coin))) → IsBranch t p places medians undo → length undo ≤ most_undo
-unfolding highest_undo
-undo-few t p places medians undo is =
-    let taken = length-take (min most_undo (height t p)) (branch t p) in
-    let small = min-le_left most_undo (height t p) in
-    let all = ap (λ (l : List (List (List Coin))). length l) is.undo_is ∙ length-reverse (map (undo_at t) (take (min most_undo (height t p)) (branch t p))) ∙ length-map (take (min most_undo (height t p)) (branch t p)) (undo_at t) in
-    omega arith
 
 -- of genesis alone
 pub branch_opening : IsBranch [] 0 (0 ∷ []) (GENESIS_TIME ∷ []) []
 unfolding branch before height median_time_past median_of is_middle highest_undo block_at
-branch_opening = record { places_are = refl; medians_are = refl; undo_is = refl }
+branch_opening = record { places_are = refl; medians_are = refl; undo_is = refl; undo_few = omega arith; undo_above = omega arith }
