@@ -13,7 +13,7 @@ use Rattle.tree.specs.State.{State, usable, rank, rank_in}
 use Rattle.tree.specs.Nodes.{blocks_of, blank, mark_at, places_where, state_of, IsNode, IsRight, AreNodes, AreUsable}
 use Rattle.tree.specs.laws.Sets.{all_agree}
 use Rattle.tree.specs.laws.Branches.{on-bounds}
-use Rattle.tree.specs.laws.Marks.{usable-parent}
+use Rattle.tree.specs.laws.Marks.{usable-parent, usable-genesis}
 use Rattle.tree.proofs.Views.{length-blocks, has-where}
 
 -- ---- one mark set
@@ -116,6 +116,11 @@ module _ (ns : List Node) (ms ls : List Mark) (some : 0 < length ns) (same : len
       let k = kept in
       usable-parent (state_of ns ms []) p z (omega arith)
       ∙ ap (λ b. not b && usable (state_of ns ms []) (parent_at (blocks_of ns) p)) (has-where (λ m. m.bad) ms p (omega arith))
+
+-- genesis is usable where it isn't marked
+pub usable_zero : (ns : List Node) (ms : List Mark) → 0 < length ms → (mark_at ms 0).bad ≡ false → usable (state_of ns ms []) 0 ≡ true
+unfolding state_of
+usable_zero ns ms h e = usable-genesis (state_of ns ms []) ∙ ap (λ b. not b && true) (has-where (λ m. m.bad) ms 0 h ∙ e)
 
 -- ---- a right tree with other marks
 

@@ -3,5 +3,6 @@ mod Changes
 mod Cleared
 mod Grown
 mod Opened
+mod Put
 mod Times
 mod Views

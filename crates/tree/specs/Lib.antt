@@ -1,4 +1,5 @@
 pub mod Branches
+pub mod Flags
 pub mod Limits
 pub mod MedianTime
 pub mod Names

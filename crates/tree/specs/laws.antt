@@ -1,6 +1,7 @@
 -- Theorems on the tree, for any blocks.
 pub mod Above
 pub mod Added
+pub mod Best
 pub mod Branches
 pub mod Calls
 pub mod Marks

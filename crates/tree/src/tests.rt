@@ -121,6 +121,79 @@ fn a_branch(rt: HostRuntime) -> Result<(), Fail> {
     Ok(())
 }
 
+/// Marks a block and sees another, and then puts all flags back; whether the block was marked meanwhile.
+fn mark_and_put_back(
+    tree: &mut Tree,
+    alloc: Global,
+    bad: usize,
+    seen: usize,
+) -> Result<bool, Memory> {
+    if bad == 0 || bad >= tree.len() || seen >= tree.len() || !tree.usable(0) {
+        return Ok(false);
+    }
+    let flags = tree.flags(alloc)?;
+    tree.mark(bad);
+    tree.see(seen);
+    let marked = !tree.usable(bad);
+    tree.set_flags(flags);
+    Ok(marked)
+}
+
+/// Two blocks on the first one, of which one was marked before.
+#[test]
+fn flags_put_back(rt: HostRuntime) -> Result<(), Fail> {
+    let mut tree = Tree::new(rt.alloc())?;
+    let b1 = grow(&mut tree, rt.alloc(), 0, 1)?;
+    let p2 = grow(&mut tree, rt.alloc(), b1, 2)?;
+    let q2 = grow(&mut tree, rt.alloc(), b1, 3)?;
+    mark(&mut tree, q2);
+    see(&mut tree, b1);
+    assert!(rt; mark_and_put_back(&mut tree, rt.alloc(), b1, p2)?);
+    assert!(rt; is_usable(&tree, p2));
+    assert!(rt; !is_usable(&tree, q2));
+    assert!(rt; is_seen(&tree, b1));
+    assert!(rt; !is_seen(&tree, p2));
+    Ok(())
+}
+
+/// Calls a block precious and takes that back.
+fn call_and_take_back(tree: &mut Tree, place: usize) -> Result<(), Memory> {
+    if place < tree.len() {
+        tree.precious(place)?;
+        tree.take_back_call();
+    }
+    Ok(())
+}
+
+/// The second of two blocks, called once; then a call of the first, and another of the second, taken back.
+#[test]
+fn a_call_taken_back(rt: HostRuntime) -> Result<(), Fail> {
+    let mut tree = Tree::new(rt.alloc())?;
+    let one = grow(&mut tree, rt.alloc(), 0, 1)?;
+    let two = grow(&mut tree, rt.alloc(), 0, 2)?;
+    if two < tree.len() {
+        tree.precious(two)?;
+    }
+    call_and_take_back(&mut tree, one)?;
+    assert!(rt; is_better(&tree, two, one));
+    call_and_take_back(&mut tree, two)?;
+    assert!(rt; is_better(&tree, two, one));
+    Ok(())
+}
+
+#[test]
+fn the_best_usable_block(rt: HostRuntime) -> Result<(), Fail> {
+    let mut tree = Tree::new(rt.alloc())?;
+    assert_eq!(rt; tree.best_usable(), 0);
+    let b1 = grow(&mut tree, rt.alloc(), 0, 1)?;
+    let p2 = grow(&mut tree, rt.alloc(), b1, 2)?;
+    let q2 = grow(&mut tree, rt.alloc(), b1, 3)?;
+    assert_eq!(rt; tree.best_usable(), p2);
+    mark(&mut tree, p2);
+    assert_eq!(rt; tree.best_usable(), q2);
+    Ok(())
+}
+
 /// Its tips beside this active block; none where that isn't kept.
 fn tips(tree: &Tree, alloc: Global, best: usize) -> Result<Vec<Tip>, Memory> {
     if best >= tree.len() {

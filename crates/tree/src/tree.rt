@@ -1,19 +1,22 @@
 //! The tree.
 
-ghost use Rattle.std.specs.Prelude.{◌≡◌, ◌↔◌, ◌≤◌, ◌<◌, suc, length, map, reverse, IfOk, OnOk, OnErr, Err, None};
+ghost use Rattle.std.specs.Prelude.{◌≡◌, ◌↔◌, ◌≤◌, ◌<◌, suc, false, length, map, reverse, IfOk, OnOk, OnErr, Err, None};
 ghost use Rattle.block.specs.Identity.{id_of};
 ghost use Rattle.tree.specs.declared.fault.AddFault.TheVariants.{Full};
 ghost use Rattle.tree.specs.Limits.{max_blocks};
-ghost use Rattle.tree.specs.Branches.{has, height, parent_at, place_of, block_at, id_at, blocks_at, branch};
+ghost use Rattle.tree.specs.Flags.{flags_of};
+ghost use Rattle.tree.specs.Branches.{has, rest_of, height, parent_at, place_of, block_at, id_at, blocks_at, branch};
 ghost use Rattle.tree.specs.State.{opening, usable, rank, better, with_block, without_last, marked, cleared, saw, called};
 ghost use Rattle.tree.specs.Slots.{AreInOrder, is_leaf, leaves_of};
-ghost use Rattle.tree.specs.Sound.{IsFresh};
+ghost use Rattle.tree.specs.Sound.{IsBest, IsFresh};
 ghost use Rattle.tree.specs.Tips.{shown, tips};
 ghost use Rattle.tree.specs.MedianTime.{median_time_past};
 ghost use Rattle.tree.specs.Names.{names};
 
+use crate::calling::last_call;
 use crate::clearing::{related, take_marks};
 use crate::fault::AddFault;
+use crate::flags::{Flags, flags_of, put_back};
 use crate::growing::{enter, holds, leave, node_on};
 use crate::node::{Mark, Node};
 use crate::opening::genesis_node;
@@ -86,7 +89,8 @@ impl Tree {
 
     /// How many blocks are kept, genesis among them.
     pub fn len(&self) -> usize
-        ensures { result ≡ suc (length self.now.blocks) }
+        ensures count { result ≡ suc (length self.now.blocks) }
+        ensures room { suc (length self.now.blocks) ≤ max_blocks }
     {
         self.nodes.len()
     }
@@ -154,6 +158,19 @@ impl Tree {
         ensures { result ≡ better self.now one other }
     {
         self.standing(one).is_above(&self.standing(other))
+    }
+
+    /// The best of the blocks whose branch has no mark. It looks at all blocks.
+    pub fn best_usable(&self) -> usize
+        ensures { IsBest self.now (usable self.now) (length self.now.blocks) result }
+    {
+        let mut best = 0;
+        for place in 1..self.nodes.len() {
+            if self.usable(place) && self.better(place, best) {
+                best = place;
+            }
+        }
+        best
     }
 
     fn standing(&self, place: usize) -> Standing
@@ -248,6 +265,22 @@ impl Tree {
         self.marks[place].seen = true;
     }
 
+    /// Which blocks are marked, and which were seen. It looks at all blocks.
+    pub fn flags(&self, alloc: Global) -> Result<Flags, Memory>
+        ensures { IfOk result (λ flags. flags ≡ flags_of self.now) }
+    {
+        flags_of(alloc, self.marks.as_slice())
+    }
+
+    /// Puts flags back. It takes no memory.
+    pub fn set_flags(&mut self, flags: Flags)
+        requires same { flags.len ≡ suc (length self.old.blocks) }
+        requires genesis { has flags.bad 0 ≡ false }
+        ensures { self.new ≡ record self.old { bad = flags.bad; seen = flags.seen } }
+    {
+        put_back(self.nodes.as_slice(), self.marks.as_mut_slice(), &flags);
+    }
+
     /// Calls a block precious: it is better than all that are as high.
     pub fn precious(&mut self, place: usize) -> Result<(), Memory>
         requires { place ≤ length self.old.blocks }
@@ -257,6 +290,17 @@ impl Tree {
         self.calls.push(place)?;
         self.marks[place].rank = self.calls.len();
         Ok(())
+    }
+
+    /// Takes back the call that came last, as if it had never been made. It takes no memory.
+    pub fn take_back_call(&mut self)
+        requires { 0 < length self.old.precious }
+        ensures { self.new ≡ record self.old { precious = rest_of self.old.precious } }
+    {
+        let Some(place) = self.calls.pop() else {
+            return;
+        };
+        self.marks[place].rank = last_call(self.calls.as_slice(), place);
     }
 
     /// Keeps a block that was made of this id, on this parent, and gives its place.

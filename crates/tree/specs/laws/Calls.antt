@@ -1,10 +1,9 @@
 -- The calls of `precious` as a list in which each block stands once, where its last call put it.
-use Rattle.std.proofs.Common.{◌≡◌, ℕ, suc, ◌<◌, ◌↔◌, Bool, true, false, cond, not, ◌||◌, eqb, List, [], ◌∷◌, length, Option, Some, None, sym, refl, ap, ◌∙◌, subst, inl, inr, arith}
+use Rattle.std.proofs.Common.{◌≡◌, ℕ, suc, ◌<◌, ◌↔◌, Bool, true, false, cond, not, ◌||◌, eqb, List, [], ◌∷◌, length, Option, Some, sym, refl, ap, ◌∙◌, subst, inl, inr, arith}
 use Rattle.std.specs.List.{filter, find}
 use Rattle.std.proofs.lemmas.Bool.{eqb-true, eq-eqb, ne_eqb, cases_eq, cases_Bool, or_cases, true≢false}
 use Rattle.tree.specs.Branches.{has}
 use Rattle.tree.specs.State.{rank_in}
-use Rattle.tree.specs.laws.Sets.{clash}
 use Rattle.tree.specs.laws.Ranks.{rank_last, rank_other, rank-bound}
 
 -- the block that is called is taken out of the list, if it is there, and stands first

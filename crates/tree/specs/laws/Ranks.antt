@@ -1,6 +1,7 @@
 -- `better` is a strict order of all places, and what calls of `preciousblock` do to it.
-use Rattle.std.proofs.Common.{◌≡◌, ℕ, suc, ◌<◌, ◌≤◌, Bool, true, false, cond, ◌&&◌, ◌||◌, eqb, ltb, List, [], ◌∷◌, length, sym, ap, ◌∙◌, subst, inl, inr, ◌⊎◌, arith}
+use Rattle.std.proofs.Common.{◌≡◌, ℕ, suc, ◌<◌, ◌≤◌, Bool, true, false, cond, ◌&&◌, ◌||◌, eqb, ltb, List, [], ◌∷◌, ◌++◌, length, reverse, sym, ap, ◌∙◌, subst, inl, inr, ◌⊎◌, arith}
 use Rattle.std.proofs.lemmas.Bool.{eqb-true, eq-eqb, ne_eqb, cases_Bool, cases_eq, cases_lt, or_cases, or_parts, and_parts, and_from, or_left, or_right, cases_order, ltb-true, lt-ltb, true≢false}
+use Rattle.std.proofs.lemmas.List.{length-reverse, reverse-append}
 use Rattle.tree.specs.Branches.{has, height}
 use Rattle.tree.specs.State.{State, rank_in, rank, better, called}
 use Rattle.tree.specs.Sound.{Precedes}
@@ -114,6 +115,13 @@ rank_last l p = ap (λ b. cond b (suc (length l)) (rank_in l p)) (eq-eqb p p ref
 pub rank_other : (l : List ℕ) (p x : ℕ) → (p ≡ x → ⊥) → rank_in (p ∷ l) x ≡ rank_in l x
 unfolding rank_in
 rank_other l p x n = ap (λ b. cond b (suc (length l)) (rank_in l x)) (ne_eqb p x n)
+
+-- one call more, after the others
+pub rank_more : (l : List ℕ) (x p : ℕ) → rank_in (reverse (l ++ x ∷ [])) p ≡ cond (eqb x p) (suc (length l)) (rank_in (reverse l) p)
+unfolding rank_in
+rank_more l x p =
+    ap (λ (k : List ℕ). rank_in k p) (reverse-append l (x ∷ []))
+    ∙ ap (λ (n : ℕ). cond (eqb x p) (suc n) (rank_in (reverse l) p)) (length-reverse l)
 
 pub rank-bound : (l : List ℕ) (x : ℕ) → rank_in l x ≤ length l
 unfolding rank_in

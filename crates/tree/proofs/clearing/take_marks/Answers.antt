@@ -1,16 +1,9 @@
-use Rattle.std.proofs.Common.{◌≡◌, ℕ, ◌<◌, true, false, not, ◌&&◌, [], length, get_or, sym, ap, ◌∙◌, arith}
+use Rattle.std.proofs.Common.{◌≡◌, ℕ, false, not, ◌&&◌, [], get_or, sym, ap, ◌∙◌, arith}
 use Rattle.tree.specs.declared.node.Mark.{Mark}
 use Rattle.tree.specs.State.{usable}
 use Rattle.tree.specs.Nodes.{mark_at, state_of}
-use Rattle.tree.specs.laws.Marks.{usable-genesis}
-use Rattle.tree.proofs.Views.{has-where}
-use Rattle.tree.proofs.Changes.{usable_marked}
+use Rattle.tree.proofs.Changes.{usable_zero, usable_marked}
 use Rattle.tree.proofs.clearing.take_marks.Goals as goal
-
--- genesis is usable where it isn't marked
-usable_zero : (ns : _) (ms : _) → 0 < length ms → (mark_at ms 0).bad ≡ false → usable (state_of ns ms []) 0 ≡ true
-unfolding state_of
-usable_zero ns ms h e = usable-genesis (state_of ns ms []) ∙ ap (λ b. not b && true) (has-where (λ m. m.bad) ms 0 h ∙ e)
 
 pub spoil-requires-clause-before : goal.spoil-requires-clause-before
 spoil-requires-clause-before c = λ p h.

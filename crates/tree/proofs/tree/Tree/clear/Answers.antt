@@ -1,14 +1,13 @@
-use Rattle.std.proofs.Common.{◌≡◌, ℕ, ◌<◌, Bool, true, false, not, ◌&&◌, ◌||◌, List, [], length, get_or, sym, ap, ◌∙◌, subst, arith}
+use Rattle.std.proofs.Common.{◌≡◌, ℕ, ◌<◌, Bool, false, not, ◌&&◌, ◌||◌, List, [], length, get_or, sym, ap, ◌∙◌, subst, arith}
 use Rattle.std.specs.List.{filter}
 use Rattle.block.specs.declared.block.Block.{Block}
 use Rattle.tree.specs.declared.node.Node.{Node}
 use Rattle.tree.specs.declared.node.Mark.{Mark}
 use Rattle.tree.specs.Branches.{Blocks, on}
-use Rattle.tree.specs.State.{usable, cleared}
+use Rattle.tree.specs.State.{cleared}
 use Rattle.tree.specs.Nodes.{AreUsable, IsRight, blocks_of, mark_at, state_of}
-use Rattle.tree.specs.laws.Marks.{usable-genesis}
-use Rattle.tree.proofs.Views.{kept, has-where, where_agree}
-use Rattle.tree.proofs.Changes.{made, blocks-view, bad-view, seen-view, precious-view, right_from, right-usable, right-rank, whole}
+use Rattle.tree.proofs.Views.{kept, where_agree}
+use Rattle.tree.proofs.Changes.{made, blocks-view, bad-view, seen-view, precious-view, usable_zero, right_from, right-usable, right-rank, whole}
 use Rattle.tree.proofs.Cleared.{where_cleared}
 use Rattle.tree.proofs.tree.Tree.clear.Goals as goal
 
@@ -18,11 +17,6 @@ related-requires-clause-kept c =
     let r = c.requires in
     let e = ap (λ (l : List Node). length l) c.as_slice.ensures.value in
     omega arith
-
--- genesis is usable where it isn't marked
-usable_zero : (ns : List Node) (ms : List Mark) → 0 < length ms → (mark_at ms 0).bad ≡ false → usable (state_of ns ms []) 0 ≡ true
-unfolding state_of
-usable_zero ns ms h e = usable-genesis (state_of ns ms []) ∙ ap (λ b. not b && true) (has-where (λ m. m.bad) ms 0 h ∙ e)
 
 pub take_marks-requires-clause-usable : goal.take_marks-requires-clause-usable
 take_marks-requires-clause-usable c =
