@@ -4,3 +4,4 @@ pub mod Blocks
 pub mod Checks
 pub mod Whole
 pub mod Back
+pub mod Again

@@ -1,7 +1,8 @@
-//! Connecting a block to the coins of its parent's branch, and disconnecting it.
+//! Connecting a block to the coins of its parent's branch, disconnecting it, and applying it again.
 #![tactic(auto)]
 
 mod amounts;
+mod applying;
 mod connecting;
 mod context;
 mod counts;
@@ -12,6 +13,7 @@ mod scripts;
 mod stop;
 mod turn;
 
+pub use applying::apply;
 pub use connecting::connect;
 pub use context::{Context, Env};
 pub use disconnecting::disconnect;

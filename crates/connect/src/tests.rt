@@ -516,3 +516,53 @@ fn is_moved<B: Base>(
     disconnect(alloc, cache, block, &ids, &undo)?;
     Ok(moved)
 }
+
+#[test]
+fn there_again(rt: HostRuntime) -> Result<(), Fail> {
+    let alloc = rt.alloc();
+    let map = funded(alloc, 1)?;
+    let tx = payment(alloc, at(0), 40)?;
+    let made = OutPoint {
+        id: tx.id(),
+        index: 0,
+    };
+    let block = block_of(alloc, SUBSIDY + 10, one(alloc, tx)?)?;
+    let params = Params::regtest();
+    let context = Context {
+        height: HEIGHT,
+        cutoff: 0,
+        medians: &[],
+        params: &params,
+    };
+    let mut cache = Cache::over(alloc, &map);
+    assert!(rt; is_repeated(alloc, &mut cache, &context, &block)?);
+    assert!(rt; cache.get(&made).is_some() && cache.get(&at(0)).is_none());
+    assert!(rt; cache.changes(alloc)?.len() == 3);
+    Ok(())
+}
+
+/// Whether a block that was connected and taken back can be applied again, and then spends as much.
+fn is_repeated<B: Base>(
+    alloc: Global,
+    cache: &mut Cache<'_, B>,
+    context: &Context,
+    block: &Block,
+) -> Result<bool, Memory> {
+    let table = Table::new(alloc);
+    let env = Env {
+        table: &table,
+        workers: 1,
+        early: &[],
+        crew: &Alone,
+    };
+    let ids = ids(alloc, block.txs.as_slice())?;
+    if block_alone_with(alloc, block, &ids)?.is_some() {
+        return Ok(false);
+    }
+    let Ok(undo) = connect(alloc, cache, context, block, &ids, &env, &Open)? else {
+        return Ok(false);
+    };
+    disconnect(alloc, cache, block, &ids, &undo)?;
+    let again = apply(alloc, cache, context.height, block, &ids)?;
+    Ok(again.len() == 1 && undo.len() == 1)
+}
