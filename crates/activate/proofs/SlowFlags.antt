@@ -1,12 +1,12 @@
 -- Flags of all places, and the sets that they show.
-use Rattle.std.proofs.Common.{◌≡◌, ℕ, zero, suc, ◌+◌, ◌-◌, ◌<◌, Bool, true, false, cond, not, ◌&&◌, ◌||◌, eqb, List, [], ◌∷◌, ◌++◌, length, reverse, get_or, sym, refl, ap, ◌∙◌, inl, inr, arith}
+use Rattle.std.proofs.Common.{◌≡◌, ℕ, zero, suc, ◌+◌, ◌-◌, ◌<◌, Bool, true, false, cond, not, ◌&&◌, ◌||◌, eqb, List, [], ◌∷◌, ◌++◌, length, get_or, sym, refl, ap, ◌∙◌, inl, inr, arith}
 use Rattle.std.proofs.Math.ListN.{set, get_or-append}
 use Rattle.std.proofs.Math.Seq.{get_or-append_seam}
 use Rattle.std.proofs.lemmas.Bool.{cases_eq, eq-eqb, ne_eqb}
-use Rattle.std.proofs.lemmas.List.{get_or-set_same, get_or-set_other, length-set, length-append, length_push}
+use Rattle.std.proofs.lemmas.List.{get_or-set_same, get_or-set_other, length-append}
 use Rattle.std.specs.List.{filter, list_any}
 use Rattle.tree.specs.Branches.{has, down_from}
-use Rattle.tree.specs.State.{joined, rank_in}
+use Rattle.tree.specs.State.{joined}
 use Rattle.tree.specs.laws.Sets.{filter_agree, has-filter}
 use Rattle.activate.specs.Slow.{flag, places_of, any_below}
 
@@ -126,14 +126,6 @@ has-append (y ∷ l) m x = ap (λ b. eqb y x || b) (has-append l m x) ∙ sym (o
     or_assoc : (a b c : Bool) → ((a || b) || c) ≡ (a || (b || c))
     or_assoc true b c = refl
     or_assoc false b c = refl
-
--- ---- calls
-
-pub rank_more : (l : List ℕ) (x p : ℕ) → rank_in (reverse (l ++ x ∷ [])) p ≡ cond (eqb x p) (suc (length l)) (rank_in (reverse l) p)
-unfolding rank_in
-rank_more l x p =
-    ap (λ (k : List ℕ). rank_in k p) (Rattle.std.proofs.lemmas.List.reverse-append l (x ∷ []))
-    ∙ ap (λ (n : ℕ). cond (eqb x p) (suc n) (rank_in (reverse l) p)) (Rattle.std.proofs.lemmas.List.length-reverse l)
 
 -- no flag at all
 pub flag_none : (n x : ℕ) → flag (Rattle.std.specs.Prelude.replicate n false) x ≡ false

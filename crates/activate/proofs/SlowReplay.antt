@@ -24,6 +24,7 @@ use Rattle.activate.specs.Rules.{Rules}
 use Rattle.activate.specs.Valid.{fault_over, fault, connects, valid, first_to_fail}
 use Rattle.activate.specs.Replay.{replay}
 use Rattle.activate.specs.Regtest.{medians_of, setting_on, ledger, regtest}
+use Rattle.activate.specs.laws.Climbing.{length-medians}
 use Rattle.activate.specs.Slow.{fails, medians_in, tried, trial_on, is_valid, is_first}
 
 -- ---- medians
@@ -32,10 +33,6 @@ pub medians-times : (bs : List Block) → medians_of bs ≡ medians_in (map time
 unfolding median_time_past
 medians-times [] = refl
 medians-times (b ∷ older) = ap (λ (l : List ℕ). median_of (take 11 (map time_of (b ∷ older))) ∷ l) (medians-times older)
-
-pub length-medians : (bs : List Block) → length (medians_of bs) ≡ length bs
-length-medians [] = refl
-length-medians (b ∷ older) = ap suc (length-medians older)
 
 pub medians-drop : (k : ℕ) (bs : List Block) → medians_of (drop k bs) ≡ drop k (medians_of bs)
 medians-drop zero bs = refl

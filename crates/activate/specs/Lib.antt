@@ -1,8 +1,10 @@
 pub mod Chainstate
+pub mod Climbs
 pub mod Commands
 pub mod Context
 pub mod History
 pub mod Machine
+pub mod Plans
 pub mod Regtest
 pub mod Replay
 pub mod Rules
@@ -13,7 +15,9 @@ pub mod Step
 pub mod Submission
 pub mod Total
 pub mod Tracked
+pub mod Trails
 pub mod Try
+pub mod Unlinking
 pub mod Valid
 pub mod Ways
 pub mod computed

@@ -1,5 +1,5 @@
 -- A chainstate without its coins: the tree, which of its blocks is active, and the heights of soft forks.
-use Rattle.std.specs.Prelude.{◌≡◌, ℕ, List, length, map, reverse, take, ◌≤◌}
+use Rattle.std.specs.Prelude.{◌≡◌, ℕ, suc, List, length, map, reverse, take, ◌≤◌}
 use Rattle.block.specs.declared.block.Block.{Block}
 use Rattle.curve.specs.Triple.{Triples}
 use Rattle.coins.specs.declared.coin.Coin.{Coin}
@@ -42,6 +42,16 @@ pub record Follows (c : Tracked) (triples : Triples) : Type 0 where
   pub kept : AllKept (regtest c.params triples) c.state.blocks
   pub active_is : c.active ≡ active (regtest c.params triples) c.state
 
+-- the same with coins of its own
+pub record WithCoins : Type 0 where
+  pub core : Tracked
+  pub coins : Coins
+
+-- under these valid signatures commands led to it
+pub record IsChainstate (c : WithCoins) (triples : Triples) : Type 0 where
+  pub follows : Follows c.core triples
+  pub coins_are : c.coins ≡ coins_of c.core
+
 -- ---- what is kept beside the tree
 
 -- what the transactions of the block at a place spend
@@ -63,3 +73,9 @@ pub record IsBranch (t : Blocks Block) (p : ℕ) (places medians : List ℕ) (un
   pub undo_is : undo ≡ highest_undo t p (length undo)
   pub undo_few : length undo ≤ most_undo
   pub undo_above : length undo ≤ height t p
+
+-- so many places, medians and blocks' undo can be kept without more memory: of the branch of each kept block
+pub record HasRoom (t : Blocks Block) (places medians undo : ℕ) : Type 0 where
+  pub for_places : suc (length t) ≤ places
+  pub for_medians : suc (length t) ≤ medians
+  pub for_undo : most_undo ≤ undo

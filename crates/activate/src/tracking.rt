@@ -7,6 +7,13 @@ ghost use Rattle.tree.specs.Names.{names};
 ghost use Rattle.tree.specs.Tips.{shown, tips};
 ghost use Rattle.activate.specs.Tracked.{genesis_alone, most_undo};
 
+mod committing;
+mod marking;
+pub(crate) mod planning;
+mod settling;
+mod stepping;
+
+use crate::trail::MOST_UNDO;
 use block::GENESIS_TIME;
 use hash::Id;
 use rules::Params;
@@ -33,14 +40,15 @@ pub struct Core {
 }
 
 impl Model for Core {
-    ghost use Rattle.std.specs.Prelude.{length, ◌≤◌};
-    ghost use Rattle.activate.specs.Tracked.{Tracked, IsBranch};
+    ghost use Rattle.std.specs.Prelude.{length, ◌≤◌, vec_capacity};
+    ghost use Rattle.std.specs.VecDeque.{deque_capacity};
+    ghost use Rattle.activate.specs.Tracked.{Tracked, IsBranch, HasRoom};
 
     ghost Value = { Tracked };
 
     ghost view = { λ c. record { params = c.params; state = c.tree; active = c.active } };
 
-    ghost invariant = { λ c. (c.active ≤ length c.tree.blocks) × IsBranch c.tree.blocks c.active c.branch.items c.medians.items c.undo.items };
+    ghost invariant = { λ c. (c.active ≤ length c.tree.blocks) × IsBranch c.tree.blocks c.active c.branch.items c.medians.items c.undo.items × HasRoom c.tree.blocks (vec_capacity c.branch) (vec_capacity c.medians) (deque_capacity c.undo) };
 }
 
 impl Core {
@@ -65,7 +73,7 @@ impl Core {
             active: 0,
             branch,
             medians,
-            undo: VecDeque::new(alloc),
+            undo: VecDeque::with_capacity(alloc, MOST_UNDO)?,
         })
     }
 

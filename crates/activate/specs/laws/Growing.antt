@@ -1,24 +1,21 @@
 -- The active branch with what is kept of it, when a block is added to the tree, and when the block goes on top of it.
-use Rattle.std.proofs.Common.{◌≡◌, ℕ, zero, suc, ◌+◌, ◌<◌, ◌≤◌, true, eqb, List, [], ◌∷◌, ◌++◌, length, map, reverse, take, sym, refl, ap, ◌∙◌, subst, inl, inr, arith}
-use Rattle.std.specs.Prelude.{min}
-use Rattle.std.proofs.Math.Nat.{min-le_left}
+use Rattle.std.proofs.Common.{◌≡◌, ℕ, zero, suc, ◌≤◌, true, eqb, List, [], ◌∷◌, length, map, reverse, take, sym, refl, ap, ◌∙◌, inl, inr, arith}
 use Rattle.std.proofs.lemmas.Bool.{or_cases, or_left}
-use Rattle.std.proofs.lemmas.List.{length-map, length-reverse}
 use Rattle.block.specs.declared.genesis.TheConstants.{GENESIS_TIME}
 use Rattle.locks.specs.MedianTime.{is_middle, median_of}
 use Rattle.tree.specs.MedianTime.{median_time_past}
 use Rattle.block.specs.declared.block.Block.{Block}
 use Rattle.coins.specs.declared.coin.Coin.{Coin}
 use Rattle.connect.specs.Turns.{undo_of}
-use Rattle.tree.specs.Branches.{Kept, Blocks, has, branch, before, height, parent_at, block_at, blocks_at}
+use Rattle.tree.specs.Branches.{Kept, Blocks, has, branch, before, height, parent_at, block_at}
 use Rattle.tree.specs.Names.{names}
 use Rattle.tree.specs.laws.Sets.{has_here, has_there}
-use Rattle.tree.specs.laws.Branches.{branch_here, branch_there, height_here, height_there, parent_here, parent_there, parent-genesis}
+use Rattle.tree.specs.laws.Branches.{branch_there, height_here, height_there, parent_here, parent_there, parent-genesis}
 use Rattle.tree.specs.laws.Parents.{parent-kept}
-use Rattle.tree.specs.laws.Added.{branch_within, block_there, block_here, blocks-old, blocks-new}
+use Rattle.tree.specs.laws.Added.{branch_within, block_there, block_here, blocks-old}
 use Rattle.activate.specs.Replay.{replay}
 use Rattle.activate.specs.Regtest.{medians_of, ledger}
-use Rattle.activate.specs.Tracked.{branch_blocks, undo_at, most_undo, highest_undo, IsBranch}
+use Rattle.activate.specs.Tracked.{branch_blocks, undo_at, highest_undo, IsBranch}
 
 -- maps that agree on a list of places
 map_agree : {A : Type 0} (f g : ℕ → A) (l : List ℕ) → ((x : ℕ) → has l x ≡ true → f x ≡ g x) → map f l ≡ map g l
@@ -62,12 +59,11 @@ module _ (k : Kept Block) (older : Blocks Block) where
   undo-taken : (n p : ℕ) → map (undo_at more) (take n (branch older p)) ≡ map (undo_at older) (take n (branch older p))
   undo-taken n p = map_agree (undo_at more) (undo_at older) (take n (branch older p)) (λ x o. undo-old x (branch_within names k older p x (taken-there n (branch older p) x o)))
 
-  highest-old : (p : ℕ) → p ≤ length older → highest_undo more p ≡ highest_undo older p
+  pub highest-old : (p n : ℕ) → p ≤ length older → highest_undo more p n ≡ highest_undo older p n
   unfolding highest_undo
-  highest-old p h =
-      ap (λ (n : ℕ). reverse (map (undo_at more) (take (min most_undo n) (branch more p)))) (height_there k older p h)
-      ∙ ap (λ (l : List ℕ). reverse (map (undo_at more) (take (min most_undo (height older p)) l))) (branch_there k older p (omega arith))
-      ∙ ap (λ (l : List (List (List Coin))). reverse l) (undo-taken (min most_undo (height older p)) p)
+  highest-old p n h =
+      ap (λ (l : List ℕ). reverse (map (undo_at more) (take n l))) (branch_there k older p (omega arith))
+      ∙ ap (λ (l : List (List (List Coin))). reverse l) (undo-taken n p)
 
   -- the block stands beside: all stays
   pub branch-beside : (p : ℕ) (places medians : List ℕ) (undo : List (List (List Coin))) → p ≤ length older → IsBranch older p places medians undo → IsBranch more p places medians undo

@@ -1,12 +1,12 @@
 -- Histories that are put together, and their beginnings: for any chainstate.
-use Rattle.std.proofs.Common.{◌≡◌, ℕ, ◌≤◌, ◌==◌, Bool, true, false, cond, List, [], ◌∷◌, ◌++◌, length, Option, refl, ap, subst, arith}
+use Rattle.std.proofs.Common.{◌≡◌, ℕ, ◌≤◌, ◌==◌, Bool, true, false, cond, List, [], ◌∷◌, ◌++◌, length, Option, refl, ap, arith}
 use Rattle.std.proofs.lemmas.Bool.{eq-eqb}
 use mathlib.Core.List.{IsPrefix}
 use Rattle.activate.specs.declared.command.Command.{Command}
 use Rattle.activate.specs.declared.reply.Reply.{Reply}
 use Rattle.activate.specs.declared.entry.Entry.{Entry}
 use Rattle.activate.specs.Machine.{Machine}
-use Rattle.activate.specs.History.{left, state_after, Answers, Stands, LegalFrom, own_of, entry}
+use Rattle.activate.specs.History.{left, state_after, Stands, LegalFrom, own_of, entry}
 
 pub state_after-append : (m : Machine) (s : m.State) (xs ys : List Entry) → state_after m s (xs ++ ys) ≡ state_after m (state_after m s xs) ys
 state_after-append m s [] ys = refl

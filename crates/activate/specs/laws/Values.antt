@@ -25,20 +25,15 @@ use Rattle.connect.specs.laws.Alone.{lawful_block}
 use Rattle.connect.specs.laws.Folding.{effect_none, effect_next}
 use Rattle.connect.specs.laws.Total.{IsPaid, all_paid}
 use Rattle.tree.specs.Branches.{Blocks, height, block_at}
-use Rattle.tree.specs.State.{opening}
 use Rattle.tree.specs.laws.Branches.{on-genesis}
 use Rattle.tree.specs.laws.Parents.{climb}
 use Rattle.tree.specs.Names.{names}
 use Rattle.activate.specs.Rules.{Rules}
-use Rattle.activate.specs.Settle.{active}
-use Rattle.activate.specs.Replay.{coins_at, coins}
+use Rattle.activate.specs.Replay.{coins_at}
 use Rattle.activate.specs.Regtest.{AreNotNegative, ledger, regtest}
 use Rattle.activate.specs.Sound.{AllKept}
-use Rattle.activate.specs.Step.{Request, state_after}
-use Rattle.activate.specs.laws.Actives.{active_kept}
 use Rattle.activate.specs.laws.Coins.{coins-genesis, step-up}
-use Rattle.activate.specs.laws.Kept.{alone-at, after_kept}
-use Rattle.activate.specs.laws.Steps.{opening_sound, after_sound}
+use Rattle.activate.specs.laws.Kept.{alone-at}
 
 abbrev IsNotNegative : Option Coin → Type 0
 IsNotNegative found = IfSome found (λ coin. pos 0 ≤ℤ coin.value)

@@ -1,6 +1,5 @@
 use Rattle.tree.specs.State.{opening}
 use Rattle.activate.specs.Chainstate.{chainstate}
-use Rattle.activate.specs.Regtest.{regtest}
 use Rattle.activate.specs.laws.History.{stands_within}
 use Rattle.activate.specs.laws.Commands.{undecodable}
 use Rattle.activate.proofs.laws.undecodable_bytes_stand_nowhere.Goals as goal

@@ -1,7 +1,6 @@
-use Rattle.std.proofs.Common.{◌≡◌, ◌∙◌, Result, Option, ap, sym, subst}
+use Rattle.std.proofs.Common.{◌∙◌, Option, ap, sym, subst}
 use Rattle.std.specs.Result.{result_err}
 use Rattle.txn.specs.declared.reason.Reason.{Reason}
-use Rattle.coins.specs.declared.coin.Coin.{Coin}
 use Rattle.coins.specs.Coins.{Coins}
 use Rattle.connect.specs.Setting.{setting}
 use Rattle.connect.specs.Scripts.{IsConnectFault}

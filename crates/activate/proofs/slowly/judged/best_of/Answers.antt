@@ -4,11 +4,12 @@ use Rattle.rules.specs.declared.params.Params.{Params}
 use Rattle.block.specs.declared.block.Block.{Block}
 use Rattle.tree.specs.State.{State, better}
 use Rattle.tree.specs.Sound.{IsBest}
+use Rattle.tree.specs.laws.Best.{best_next}
 use Rattle.activate.specs.Settle.{can_be_active}
 use Rattle.activate.specs.Regtest.{regtest}
 use Rattle.activate.specs.Slow.{AreJudged, judged_in, unjudged, above}
 use Rattle.activate.specs.laws.Actives.{active_only, can_from, valid-genesis}
-use Rattle.activate.proofs.SlowState.{best_next, can-is, above-is}
+use Rattle.activate.proofs.SlowState.{can-is, above-is}
 use Rattle.activate.proofs.slowly.judged.best_of.Goals.{then-beats, else-beats}
 use Rattle.activate.proofs.slowly.judged.best_of.Goals as goal
 

@@ -2,7 +2,7 @@ use Rattle.std.proofs.Common.{◌≡◌, ℕ, suc, ◌+◌, cond, eqb, get_or, L
 use Rattle.std.proofs.lemmas.Bool.{eq-eqb, ne_eqb}
 use Rattle.std.proofs.lemmas.List.{take_more, take_all, length-take-le}
 use Rattle.tree.specs.State.{rank_in}
-use Rattle.activate.proofs.SlowFlags.{rank_more}
+use Rattle.tree.specs.laws.Ranks.{rank_more}
 use Rattle.activate.proofs.slowly.judged.rank_of.Goals.{then-calls-index, else-calls-index}
 use Rattle.activate.proofs.slowly.judged.rank_of.Goals as goal
 

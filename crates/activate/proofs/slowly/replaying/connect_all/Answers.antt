@@ -13,7 +13,8 @@ use Rattle.activate.specs.declared.slowly.replaying.Trial.TheVariants.{Valid}
 use Rattle.activate.specs.Replay.{replay}
 use Rattle.activate.specs.Regtest.{medians_of, ledger, regtest}
 use Rattle.activate.specs.Slow.{block_in, blocks_in, first_held, fails, tried, trial_on}
-use Rattle.activate.proofs.SlowReplay.{length-medians, first_replay, first_trial, next_replay, next_trial, ends}
+use Rattle.activate.specs.laws.Climbing.{length-medians}
+use Rattle.activate.proofs.SlowReplay.{first_replay, first_trial, next_replay, next_trial, ends}
 use Rattle.activate.proofs.slowly.replaying.connect_all.Goals as goal
 
 long : (held : List Held) (branch : List ℕ) → length (blocks_in held branch) ≡ length branch

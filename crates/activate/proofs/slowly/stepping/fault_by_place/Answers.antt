@@ -12,7 +12,8 @@ use Rattle.activate.specs.declared.slowly.held.Held.{Held}
 use Rattle.activate.specs.Regtest.{medians_of}
 use Rattle.activate.specs.Slow.{blocks_of, blocks_in, block_in, state_of}
 use Rattle.activate.proofs.SlowState.{branch_within, branch_long, branch_few, branch_blocks}
-use Rattle.activate.proofs.SlowReplay.{length-medians, cutoff-is}
+use Rattle.activate.specs.laws.Climbing.{length-medians}
+use Rattle.activate.proofs.SlowReplay.{cutoff-is}
 use Rattle.activate.proofs.slowly.stepping.fault_by_place.Goals as goal
 
 pub medians_by_height-requires : goal.medians_by_height-requires

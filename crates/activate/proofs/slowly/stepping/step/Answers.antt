@@ -1,38 +1,9 @@
-use Rattle.std.proofs.Common.{◌≡◌, ℕ, List, Some, None, Err, sym, refl, ap, ◌∙◌, subst, inl, inr}
-use Rattle.std.specs.Option.{unwrap_or}
-use Rattle.hash.specs.declared.id.Id.{Id}
-use Rattle.block.specs.declared.block.Block.{Block}
+use Rattle.std.proofs.Common.{◌≡◌, Some, None, Err, sym, ap, ◌∙◌, subst, inl, inr}
 use Rattle.block.specs.Decoding.{decoded, Decodes}
-use Rattle.tree.specs.State.{State}
-use Rattle.activate.specs.declared.command.Command.TheVariants as command
-use Rattle.activate.specs.declared.reply.SubmitReply.TheVariants.{DecodeFailed}
-use Rattle.activate.specs.Rules.{Rules}
-use Rattle.activate.specs.Submission.{submit_says}
-use Rattle.activate.specs.Step.{Submit, Invalidate, Reconsider, Precious, step}
-use Rattle.activate.specs.Commands.{submit_step, command_step, outcome}
+use Rattle.activate.specs.Commands.{outcome}
 use Rattle.activate.specs.Slow.{chain_rules, state_of}
+use Rattle.activate.proofs.Outcomes.{submitted, refused, invalidates, reconsiders, prefers}
 use Rattle.activate.proofs.slowly.stepping.step.Goals as goal
-
-module _ (r : Rules Block Id) (s : State Block) where
-  submitted : (bytes : List ℕ) (now : ℕ) (b : Block) → decoded bytes ≡ Some b → step r s (Submit now b) ≡ outcome r s (command.Submit bytes now)
-  unfolding command_step submit_step
-  submitted bytes now b e = sym (ap (λ o. unwrap_or (submit_step r s now o) (submit_says s DecodeFailed)) e)
-
-  refused : (bytes : List ℕ) (now : ℕ) → decoded bytes ≡ None → submit_says s DecodeFailed ≡ outcome r s (command.Submit bytes now)
-  unfolding command_step submit_step
-  refused bytes now e = sym (ap (λ o. unwrap_or (submit_step r s now o) (submit_says s DecodeFailed)) e)
-
-  invalidates : (i : Id) → step r s (Invalidate i) ≡ outcome r s (command.Invalidate i)
-  unfolding command_step
-  invalidates i = refl
-
-  reconsiders : (i : Id) → step r s (Reconsider i) ≡ outcome r s (command.Reconsider i)
-  unfolding command_step
-  reconsiders i = refl
-
-  prefers : (i : Id) → step r s (Precious i) ≡ outcome r s (command.Precious i)
-  unfolding command_step
-  prefers i = refl
 
 pub returns-in_ok-submit-in-Ok-clause-state : goal.returns-in_ok-submit-in-Ok-clause-state
 returns-in_ok-submit-in-Ok-clause-state c =

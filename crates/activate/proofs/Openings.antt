@@ -1,0 +1,21 @@
+-- Genesis alone.
+use Rattle.std.proofs.Common.{[], sym, arith}
+use Rattle.std.specs.FinMap as coin_map
+use Rattle.curve.specs.Triple.{Triples}
+use Rattle.rules.specs.declared.params.Params.{Params}
+use Rattle.tree.specs.State.{opening}
+use Rattle.activate.specs.Regtest.{ledger, regtest}
+use Rattle.activate.specs.Tracked.{IsChainstate, genesis_alone}
+use Rattle.activate.specs.laws.Actives.{active_kept}
+use Rattle.activate.specs.laws.Coins.{coins-genesis}
+use Rattle.activate.specs.laws.Steps.{opening_sound}
+
+pub opens : (params : Params) (triples : Triples) → IsChainstate (record { core = genesis_alone params; coins = coin_map.empty }) triples
+opens params triples =
+    let r = regtest params triples in
+    let sound = opening_sound r in
+    let low = active_kept r opening sound.genesis in
+    record {
+      follows = record { sound = sound; kept = tt; active_is = omega arith };
+      coins_are = sym (coins-genesis r ledger []);
+    }

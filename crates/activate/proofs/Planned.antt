@@ -1,0 +1,347 @@
+-- What the plans of commands come to.
+use Rattle.std.proofs.Common.{◌≡◌, ℕ, suc, ◌<◌, ◌≤◌, Bool, true, false, cond, not, ◌||◌, ◌&&◌, eqb, List, [], ◌∷◌, length, Option, Some, None, Result, Ok, Err, IfOk, sym, refl, ap, ◌∙◌, subst, inl, inr, arith}
+use Rattle.std.specs.Prelude.{if◌then◌else◌}
+use Rattle.std.specs.List.{filter}
+use Rattle.std.specs.List.Sorted.{IsStrictlySortedBy}
+use Rattle.std.proofs.lemmas.Bool.{cases_eq, ne_eqb}
+use Rattle.hash.specs.declared.id.Id.{Id}
+use Rattle.block.specs.declared.block.Block.{Block}
+use Rattle.coins.specs.Coins.{Coins}
+use Rattle.coins.specs.Changes.{Changes, AreChanges}
+use Rattle.tree.specs.Branches.{Kept as KeptBlock, Blocks, has, height, on, place_of, down_from}
+use Rattle.tree.specs.State.{State, usable, better, with_block, marked, cleared, called, joined}
+use Rattle.tree.specs.Flags.{FlagsOf, flags_of}
+use Rattle.tree.specs.Names.{names}
+use Rattle.tree.specs.Sound.{IsBest, IsFresh}
+use Rattle.tree.specs.laws.Branches.{on-bounds, on_there, on-genesis}
+use Rattle.tree.specs.laws.Marks.{usable_gives, usable_from, usable-cleared}
+use Rattle.tree.specs.laws.Ranks.{better_trans, better-height, better-called, better-others}
+use Rattle.tree.specs.laws.Sets.{clash, InOrder, none_above, has-filter, in_order-joined, joined_more, filter_agree, has-joined}
+use Rattle.tree.specs.laws.Added.{blocks-old, usable_new, usable_there, better_there}
+use Rattle.activate.specs.declared.plan.Plan.{Plan}
+use Rattle.activate.specs.declared.plan.First.{First}
+use Rattle.activate.specs.declared.plan.First.TheVariants.{Kept, Added}
+use Rattle.activate.specs.declared.plan.Rest.{Rest}
+use Rattle.activate.specs.declared.plan.Rest.TheVariants.{Nothing, Go}
+use Rattle.activate.specs.declared.reply.Reply.{Reply}
+use Rattle.activate.specs.declared.reply.Reply.TheVariants as reply
+use Rattle.activate.specs.declared.reply.SubmitReply.{SubmitReply}
+use Rattle.activate.specs.declared.reply.MarkReply.TheVariants.{Done}
+use Rattle.activate.specs.declared.way.Move.{Move}
+use Rattle.activate.specs.Rules.{Rules}
+use Rattle.activate.specs.Settle.{active, settle}
+use Rattle.activate.specs.Submission.{Outcome, submit_says, answer_added, added}
+use Rattle.activate.specs.Step.{mark_says}
+use Rattle.activate.specs.Try.{tried}
+use Rattle.activate.specs.Sound.{Sound}
+use Rattle.activate.specs.Replay.{replay}
+use Rattle.activate.specs.Regtest.{ledger}
+use Rattle.activate.specs.Tracked.{Tracked, coins_after, coins_of}
+use Rattle.activate.specs.Plans.{CanTry, CanBeTaken, CanGoBack, FlagsFit, HasOtherFlags, IsPlanFor, IsReady, IsStill, Leads, Settles, finished, taken_back, with_flags}
+use Rattle.activate.specs.laws.Actives.{active_kept, active_usable}
+use Rattle.activate.specs.laws.Connected.{valid_there}
+use Rattle.activate.specs.laws.Ordinary.{active-beside}
+use Rattle.activate.specs.laws.Preferring.{usable-called}
+use Rattle.activate.specs.laws.Settled.{active-settle, settle-blocks, best_usable}
+use Rattle.activate.proofs.Plans.{can_go, changes-leads, params-other}
+
+-- nothing changes
+pub no_changes : (m : Coins) (cs : Changes) → cs ≡ [] → AreChanges m m cs
+unfolding IsStrictlySortedBy
+no_changes m cs e = subst (λ (x : Changes). AreChanges m m x) (sym e) (record { in_order = tt; differ = λ q w n. absurd (cc); others = λ q n. refl })
+
+-- ---- sets of places
+
+filter_twice : (f g : ℕ → Bool) (l : List ℕ) → filter f (filter g l) ≡ filter (λ x. g x && f x) l
+filter_twice f g [] = refl
+filter_twice f g (x ∷ l) = either (g x) (filter_twice f g l)
+  where
+    either : (b : Bool) → filter f (filter g l) ≡ filter (λ y. g y && f y) l → filter f (cond b (x ∷ filter g l) (filter g l)) ≡ cond (b && f x) (x ∷ filter (λ y. g y && f y) l) (filter (λ y. g y && f y) l)
+    either true e = ap (λ (q : List ℕ). cond (f x) (x ∷ q) q) e
+    either false e = e
+
+or_none : (b : Bool) → (b || false) ≡ b
+or_none true = refl
+or_none false = refl
+
+-- what passes of a set in order is in order
+in_order-filter : (n : ℕ) (set : List ℕ) (f : ℕ → Bool) → InOrder n set → InOrder n (filter f set)
+unfolding joined
+in_order-filter n set f order =
+    let g : ℕ → Bool = λ x. (has set x || false) && f x in
+    let e : ◌≡◌ {A = List ℕ} (filter f set) (filter g (down_from n)) = ap (filter f) (sym order) ∙ filter_twice f (λ x. has set x || false) (down_from n) in
+    filter_agree (λ p. has (filter f set) p || false) g n (λ k l. or_none (has (filter f set) k) ∙ ap (λ (q : List ℕ). has q k) e ∙ has-filter g n k l) ∙ sym e
+
+module _ (r : Rules Block Id) where
+  -- a plan that changes nothing
+  pub plan-still : (a : Tracked) (reply : Reply) (plan : Plan) (after : Outcome Block) → a.active ≡ active r a.state → IsStill reply plan → (a.state, reply) ≡ after → IsPlanFor r a after a plan
+  plan-still a reply plan after act still e =
+      let rest : finished r a plan.rest ≡ a = ap (finished r a) still.rest_is in
+      record {
+        params_are = refl;
+        outcome_is = ap (λ (x : Tracked). (x.state, plan.reply)) rest ∙ ap (λ (x : Reply). (a.state, x)) still.reply_is ∙ e;
+        active_is = ap (λ (x : Tracked). x.active) rest ∙ act ∙ sym (ap (λ (x : Tracked). active r x.state) rest);
+        changes_are = subst (λ (x : Tracked). AreChanges (coins_of a) (coins_of x) plan.changes.items) (sym rest) (no_changes (coins_of a) plan.changes.items still.changes_are);
+        ready = subst (λ (x : Rest). IsReady r a x) (sym still.rest_is) tt;
+        can_go_back = record {
+          flags = subst (λ (f : Option FlagsOf). FlagsFit a.state f) (sym still.flags_are) tt;
+          first = subst (λ (f : First). CanBeTaken f a.active (with_flags plan.back.flags a.state)) (sym still.first_is) tt;
+        };
+        back_is =
+            ap (λ (f : First). record a { state = taken_back f (with_flags plan.back.flags a.state) }) still.first_is
+            ∙ ap (λ (f : Option FlagsOf). record a { state = with_flags f a.state }) still.flags_are;
+      }
+
+  -- the state is settled after something was first done to the tree: a is before it, b after it, and c has other flags
+  module _ (a b c : Tracked) (flags : Option FlagsOf) (rest : Rest) (changes : Changes) (settled : Settles r b c flags rest changes) (genesis : usable b.state 0 ≡ true)
+      (plan : Plan) (rest_is : plan.rest ≡ rest) (changes_is : plan.changes.items ≡ changes) (flags_is : plan.back.flags ≡ flags) where
+    pub plan-settled : (after : Outcome Block) (first : First) → plan.back.first ≡ first → b.params ≡ a.params → coins_of b ≡ coins_of a → record b { state = taken_back first b.state } ≡ a
+        → CanBeTaken first b.active b.state → (settle r b.state, plan.reply) ≡ after → IsPlanFor r a after c plan
+    plan-settled after first first_is params coins back can e =
+        let done : finished r c plan.rest ≡ finished r c rest = ap (finished r c) rest_is in
+        let state : (finished r c plan.rest).state ≡ settle r b.state = ap (λ (x : Tracked). x.state) done ∙ settled.state_is in
+        let was : record c { state = with_flags plan.back.flags c.state } ≡ b = ap (λ (f : Option FlagsOf). record c { state = with_flags f c.state }) flags_is ∙ settled.back_is in
+        record {
+          params_are = params-other b c settled.other_flags ∙ params;
+          outcome_is = ap (λ (s : State Block). (s, plan.reply)) state ∙ e;
+          active_is =
+              ap (λ (x : Tracked). x.active) done ∙ settled.active_is ∙ sym (active-settle r b.state genesis) ∙ sym (ap (active r) state);
+          changes_are =
+              subst (λ (l : Changes). AreChanges (coins_of a) (coins_of (finished r c plan.rest)) l) (sym changes_is)
+              (subst (λ (x : Tracked). AreChanges (coins_of a) (coins_of x) changes) (sym done)
+              (subst (λ (m : Coins). AreChanges m (coins_of (finished r c rest)) changes) coins settled.changes_are));
+          ready = subst (λ (x : Rest). IsReady r c x) (sym rest_is) settled.ready;
+          can_go_back = record {
+            flags = subst (λ (f : Option FlagsOf). FlagsFit c.state f) (sym flags_is) settled.fit;
+            first = subst (λ (x : Tracked). CanBeTaken plan.back.first x.active x.state) (sym was) (subst (λ (f : First). CanBeTaken f b.active b.state) (sym first_is) can);
+          };
+          back_is =
+              ap (λ (x : Tracked). record x { state = taken_back plan.back.first x.state }) was
+              ∙ ap (λ (f : First). record b { state = taken_back f b.state }) first_is ∙ back;
+        }
+
+  -- marks were changed first: m has others than a
+  module _ (a m b : Tracked) (f : FlagsOf) (place : ℕ) (found : Move) (can : CanTry r m) (fit : FlagsFit m.state (Some f)) (was : a ≡ record m { state = with_flags (Some f) m.state })
+      (flags : HasOtherFlags m b) (leads : Leads r m b place found) where
+    back-marks : record b { state = with_flags (Some f) b.state } ≡ a
+    back-marks =
+        ap (λ (t : Blocks Block). record b { state = record b.state { blocks = t; bad = f.bad; seen = f.seen } }) flags.blocks_are
+        ∙ ap (λ (l : List ℕ). record b { state = record m.state { precious = l; bad = f.bad; seen = f.seen } }) flags.precious_is
+        ∙ ap (λ (x : Tracked). record x { state = with_flags (Some f) m.state }) (sym flags.same) ∙ sym was
+
+    pub plan-marks : (plan : Plan) → plan.rest ≡ Go place found.way found.undo → plan.changes.items ≡ found.changes.items → plan.back.first ≡ Kept → plan.back.flags ≡ Some f → plan.reply ≡ reply.Mark Done
+        → IsPlanFor r a (mark_says (settle r m.state) Done) b plan
+    plan-marks plan rest_is changes_is first_is flags_is reply_is =
+        let done : finished r b plan.rest ≡ record b { state = tried r b.state place; active = place } = ap (finished r b) rest_is in
+        let state : (finished r b plan.rest).state ≡ settle r m.state = ap (λ (x : Tracked). x.state) done ∙ leads.settles in
+        record {
+          params_are = params-other m b flags ∙ sym (ap (λ (x : Tracked). x.params) was);
+          outcome_is = ap (λ (s : State Block). (s, plan.reply)) state ∙ ap (λ (x : Reply). (settle r m.state, x)) reply_is;
+          active_is = ap (λ (x : Tracked). x.active) done ∙ sym leads.active_is ∙ sym (active-settle r m.state can.genesis) ∙ sym (ap (active r) state);
+          changes_are =
+              subst (λ (l : Changes). AreChanges (coins_of a) (coins_of (finished r b plan.rest)) l) (sym changes_is)
+              (subst (λ (x : Tracked). AreChanges (coins_of a) (coins_of x) found.changes.items) (sym done)
+              (subst (λ (x : Tracked). AreChanges (coins_of x) (coins_after (tried r b.state place).blocks place) found.changes.items) (sym was) (changes-leads r m b place found flags leads)));
+          ready = subst (λ (x : Rest). IsReady r b x) (sym rest_is) (can_go r m b place found leads);
+          can_go_back = record {
+            flags = subst (λ (o : Option FlagsOf). FlagsFit b.state o) (sym flags_is) (fit.0 ∙ ap (λ (t : Blocks Block). suc (length t)) (sym flags.blocks_are), fit.1);
+            first = subst (λ (x : First). CanBeTaken x b.active (with_flags plan.back.flags b.state)) (sym first_is) tt;
+          };
+          back_is =
+              ap (λ (x : First). record b { state = taken_back x (with_flags plan.back.flags b.state) }) first_is
+              ∙ ap (λ (o : Option FlagsOf). record b { state = with_flags o b.state }) flags_is ∙ back-marks;
+        }
+
+  -- ---- what is right after something was first done to the tree
+
+  pub can-marked : (a : Tracked) (p : ℕ) → 0 < p → CanTry r a → CanTry r (record a { state = marked a.state p })
+  can-marked a p z can = record {
+    genesis = usable_from (marked a.state p) 0 (λ x o.
+        let l = (on-bounds a.state.blocks 0 x o).0 in
+        has-joined (length a.state.blocks) a.state.bad (λ y. eqb y p) x (omega arith) ∙ neither (has a.state.bad x) (eqb x p) (usable_gives a.state 0 x can.genesis o) (not_same x p (omega arith)));
+    kept = can.kept;
+    all = can.all;
+    good = can.good;
+    seen = can.seen;
+    bad_in_order = in_order-joined (length a.state.blocks) a.state.bad (λ y. eqb y p);
+    seen_in_order = can.seen_in_order;
+  }
+    where
+      neither : (a b : Bool) → a ≡ false → b ≡ false → (a || b) ≡ false
+      neither false false e f = refl
+      neither false true e f = f
+      neither true b e f = e
+
+      not_same : (x y : ℕ) → x < y → eqb x y ≡ false
+      not_same x y l = ne_eqb x y (λ e. omega arith)
+
+  pub can-cleared : (a : Tracked) (p : ℕ) → CanTry r a → CanTry r (record a { state = cleared a.state p })
+  unfolding cleared
+  can-cleared a p can = record {
+    genesis = (unfold cleared in usable-cleared a.state p 0 can.genesis);
+    kept = can.kept;
+    all = can.all;
+    good = can.good;
+    seen = can.seen;
+    bad_in_order = in_order-filter (length a.state.blocks) a.state.bad (λ x. not (on a.state.blocks p x || on a.state.blocks x p)) can.bad_in_order;
+    seen_in_order = can.seen_in_order;
+  }
+
+  pub can-called : (a : Tracked) (p : ℕ) → CanTry r a → CanTry r (record a { state = called a.state p })
+  can-called a p can = record {
+    genesis = usable-called r a.state p 0 ∙ can.genesis;
+    kept = can.kept;
+    all = can.all;
+    good = can.good;
+    seen = can.seen;
+    bad_in_order = can.bad_in_order;
+    seen_in_order = can.seen_in_order;
+  }
+
+  -- a block was added
+  module _ (a : Tracked) (sound : Sound r a.state) (b : Block) (p : ℕ) (can : CanTry r a) (alone : r.alone_fault b ≡ None) (parent : p ≤ length a.state.blocks)
+      (new : place_of r.names a.state.blocks (r.names.id_of b) ≡ None) where
+    pub can-added : CanTry r (record a { state = with_block a.state b p })
+    can-added = record {
+      genesis = usable_there a.state (record { block = b; parent = p }) 0 (omega arith) ∙ can.genesis;
+      kept = (let k = can.kept in omega arith);
+      all = (alone, parent, new, can.all);
+      good = valid_there r (record { block = b; parent = p }) a.state.blocks a.active can.kept ∙ can.good;
+      seen = λ x o. can.seen x (sym (on_there (record { block = b; parent = p }) a.state.blocks a.active x (let k = can.kept in omega arith)) ∙ o);
+      bad_in_order = joined_more (length a.state.blocks) a.state.bad can.bad_in_order;
+      seen_in_order = joined_more (length a.state.blocks) a.state.seen can.seen_in_order;
+    }
+
+    -- it is the best usable one where it is better than the active one
+    pub best-added : a.active ≡ active r a.state → usable a.state p ≡ true → better (with_block a.state b p) (suc (length a.state.blocks)) a.active ≡ true
+        → IsBest (with_block a.state b p) (usable (with_block a.state b p)) (length (with_block a.state b p).blocks) (suc (length a.state.blocks))
+    best-added act u above =
+        let k : KeptBlock Block = record { block = b; parent = p } in
+        let n : ℕ = length a.state.blocks in
+        let t : State Block = with_block a.state b p in
+        record {
+          kept = omega arith;
+          can = usable_new a.state k (none_above n a.state.bad can.bad_in_order (suc n) (omega arith)) ∙ u;
+          tops = λ d l v. elim (cases_eq d (suc n)) [
+            | inl e ↦ inl e
+            | inr e ↦
+                let m : d ≤ n = omega arith in
+                inr (elim ((best_usable r a.state sound).tops d m (sym (usable_there a.state k d m) ∙ v)) [
+                  | inl w ↦ subst (λ (z : ℕ). better t (suc n) z ≡ true) (act ∙ sym w) above
+                  | inr w ↦ better_trans t (suc n) a.active d above (better_there a.state k a.active d can.kept m ∙ subst (λ (z : ℕ). better a.state z d ≡ true) (sym act) w)
+                ])
+          ];
+        }
+
+    pub coins-added : coins_of (record a { state = with_block a.state b p }) ≡ coins_of a
+    coins-added = ap (λ (l : List Block). replay ledger l) (blocks-old names (record { block = b; parent = p }) a.state.blocks a.active can.kept)
+
+    -- the answer to it, as settling leaves it
+    pub says-added : (said : SubmitReply) → said ≡ answer_added r (settle r (with_block a.state b p)) (suc (length a.state.blocks))
+        → (settle r (with_block a.state b p), reply.Submit said) ≡ added r (settle r (with_block a.state b p))
+    says-added said e =
+        ap (submit_says (settle r (with_block a.state b p))) (e ∙ ap (λ (t : Blocks Block). answer_added r (settle r (with_block a.state b p)) (length t)) (sym (settle-blocks r (with_block a.state b p))))
+
+    pub fresh-back : (a.active < length (with_block a.state b p).blocks) × IsFresh names (with_block a.state b p) → CanGoBack (record a { state = with_block a.state b p }) (record { first = Added; flags = None })
+    fresh-back w = record { flags = tt; first = w }
+
+    -- it is there, and nothing else is left to do but what is told
+    pub plan-added : (act : a.active ≡ active r a.state) → IsFresh names (with_block a.state b p) → (plan : Plan) → plan.back.first ≡ Added → plan.back.flags ≡ None
+        → (after : Outcome Block) → ((finished r (record a { state = with_block a.state b p }) plan.rest).state, plan.reply) ≡ after
+        → (finished r (record a { state = with_block a.state b p }) plan.rest).active ≡ active r (finished r (record a { state = with_block a.state b p }) plan.rest).state
+        → AreChanges (coins_of a) (coins_of (finished r (record a { state = with_block a.state b p }) plan.rest)) plan.changes.items
+        → IsReady r (record a { state = with_block a.state b p }) plan.rest
+        → IsPlanFor r a after (record a { state = with_block a.state b p }) plan
+    plan-added act fresh plan first_is flags_is after out still changes ready =
+        let A : Tracked = record a { state = with_block a.state b p } in
+        record {
+          params_are = refl;
+          outcome_is = out;
+          active_is = still;
+          changes_are = changes;
+          ready = ready;
+          can_go_back = record {
+            flags = subst (λ (o : Option FlagsOf). FlagsFit A.state o) (sym flags_is) tt;
+            first = subst (λ (f : First). CanBeTaken f a.active (with_flags plan.back.flags A.state)) (sym first_is)
+                (subst (λ (o : Option FlagsOf). (a.active < length (with_flags o A.state).blocks) × IsFresh names (with_flags o A.state)) (sym flags_is) (let k = can.kept in omega arith, fresh));
+          };
+          back_is =
+              ap (λ (f : First). record A { state = taken_back f (with_flags plan.back.flags A.state) }) first_is
+              ∙ ap (λ (o : Option FlagsOf). record A { state = taken_back Added (with_flags o A.state) }) flags_is;
+        }
+
+    pub plan-beside : (act : a.active ≡ active r a.state) → IsFresh names (with_block a.state b p) → better (with_block a.state b p) (suc (length a.state.blocks)) (active r a.state) ≡ false
+        → (plan : Plan) → plan.back.first ≡ Added → plan.back.flags ≡ None → plan.rest ≡ Nothing → plan.changes.items ≡ []
+        → (after : Outcome Block) → (with_block a.state b p, plan.reply) ≡ after → IsPlanFor r a after (record a { state = with_block a.state b p }) plan
+    plan-beside act fresh lower plan first_is flags_is rest_is changes_is after out =
+        let A : Tracked = record a { state = with_block a.state b p } in
+        let done : finished r A plan.rest ≡ A = ap (finished r A) rest_is in
+        plan-added act fresh plan first_is flags_is after
+        (ap (λ (x : Tracked). (x.state, plan.reply)) done ∙ out)
+        (ap (λ (x : Tracked). x.active) done ∙ act ∙ sym (active-beside r a.state sound b p lower) ∙ sym (ap (λ (x : Tracked). active r x.state) done))
+        (subst (λ (x : Tracked). AreChanges (coins_of a) (coins_of x) plan.changes.items) (sym done)
+        (subst (λ (m : Coins). AreChanges (coins_of a) m plan.changes.items) (sym coins-added) (no_changes (coins_of a) plan.changes.items changes_is)))
+        (subst (λ (x : Rest). IsReady r A x) (sym rest_is) tt)
+
+-- ---- flags that are kept before marks are changed
+
+pub flags-before : (a m : Tracked) (f : FlagsOf) → f ≡ flags_of a.state → record m { state = with_flags (Some (flags_of a.state)) m.state } ≡ a → a ≡ record m { state = with_flags (Some f) m.state }
+flags-before a m f e same = sym same ∙ sym (ap (λ (g : FlagsOf). record m { state = with_flags (Some g) m.state }) e)
+
+pub fit-before : (r : Rules Block Id) (a m : Tracked) (f : FlagsOf) → CanTry r a → f ≡ flags_of a.state → ◌≡◌ {A = Blocks Block} m.state.blocks a.state.blocks → FlagsFit m.state (Some f)
+fit-before r a m f can e same = (
+  ap (λ (g : FlagsOf). g.len) e ∙ ap (λ (t : Blocks Block). suc (length t)) (sym same),
+  ap (λ (g : FlagsOf). has g.bad 0) e ∙ usable_gives a.state 0 0 can.genesis (on-genesis a.state.blocks 0),
+)
+
+pub if_ok : {V E : Type 0} {P Q : V → Type 0} (o : Result V E) → ((x : V) → P x → Q x) → IfOk o P → IfOk o Q
+if_ok (Ok x) f p = f x p
+if_ok (Err e) f p = tt
+
+-- ---- a block is called precious
+
+module _ (r : Rules Block Id) (a : Tracked) (sound : Sound r a.state) (act : a.active ≡ active r a.state) (p : ℕ) (kept : p ≤ length a.state.blocks) (high : height a.state.blocks a.active ≤ height a.state.blocks p) where
+  abbrev t : State Block
+  t = called a.state p
+
+  not_above : (d : ℕ) → d ≤ length a.state.blocks → usable a.state d ≡ true → height a.state.blocks d ≤ height a.state.blocks p
+  not_above d l u =
+      let e = ap (height a.state.blocks) act in
+      elim ((best_usable r a.state sound).tops d l u) [
+        | inl w ↦ let f = ap (height a.state.blocks) w in omega arith
+        | inr w ↦ let f = better-height a.state (active r a.state) d w in omega arith
+      ]
+
+  called-usable : usable a.state p ≡ true → IsBest t (usable t) (length t.blocks) p
+  called-usable u = record {
+    kept = kept;
+    can = usable-called r a.state p p ∙ u;
+    tops = λ d l v. elim (cases_eq d p) [
+      | inl e ↦ inl e
+      | inr e ↦ inr (better-called a.state p d (λ w. e (sym w)) (not_above d l (sym (usable-called r a.state p d) ∙ v)))
+    ];
+  }
+
+  called-other : usable a.state p ≡ false → IsBest t (usable t) (length t.blocks) a.active
+  called-other u = record {
+    kept = subst (λ (z : ℕ). z ≤ length a.state.blocks) (sym act) (active_kept r a.state sound.genesis);
+    can = usable-called r a.state p a.active ∙ usable_here;
+    tops = λ d l v.
+        let w : usable a.state d ≡ true = sym (usable-called r a.state p d) ∙ v in
+        elim ((best_usable r a.state sound).tops d l w) [
+          | inl e ↦ inl (e ∙ sym act)
+          | inr e ↦ inr (better-others a.state p a.active d (λ z. clash (usable a.state p) (subst (λ (y : ℕ). usable a.state y ≡ true) (sym z) usable_here) u) (λ z. clash (usable a.state p) (subst (λ (y : ℕ). usable a.state y ≡ true) (sym z) w) u)
+              ∙ subst (λ (y : ℕ). better a.state y d ≡ true) (sym act) e)
+        ];
+  }
+    where
+      usable_here : usable a.state a.active ≡ true
+      usable_here = subst (λ (z : ℕ). usable a.state z ≡ true) (sym act) (active_usable r a.state sound.genesis)
+
+  -- the block, or the active one where it can't be
+  pub best-called : (first : ℕ) → first ≡ (if usable a.state p then p else a.active) → IsBest t (usable t) (length t.blocks) first
+  best-called first e = subst (λ (x : ℕ). IsBest t (usable t) (length t.blocks) x) (sym e) (either (usable a.state p) refl)
+    where
+      either : (b : Bool) → usable a.state p ≡ b → IsBest t (usable t) (length t.blocks) (if b then p else a.active)
+      either true u = called-usable u
+      either false u = called-other u

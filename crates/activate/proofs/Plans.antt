@@ -1,0 +1,294 @@
+-- What tries do to the state between a command and its settled state.
+use Rattle.std.proofs.Common.{◌≡◌, ℕ, suc, ◌+◌, ◌<◌, ◌≤◌, Bool, true, false, cond, ◌||◌, ◌&&◌, List, [], ◌∷◌, ◌++◌, length, reverse, Some, None, sym, refl, ap, ◌∙◌, subst, inl, inr, ◌⊎◌, arith}
+use Rattle.std.proofs.lemmas.Bool.{or_left, cases_eq, eq-eqb, ne_eqb, false_from_ne_true}
+use Rattle.std.proofs.lemmas.List.{append_assoc, reverse-append, reverse-reverse, length-reverse, length-append}
+use Rattle.hash.specs.declared.id.Id.{Id}
+use Rattle.block.specs.declared.block.Block.{Block}
+use Rattle.coins.specs.Coins.{Coins}
+use Rattle.coins.specs.Changes.{AreChanges}
+use Rattle.tree.specs.Branches.{Blocks, first_of, rest_of, has, on, parent_at}
+use Rattle.tree.specs.State.{State, usable}
+use Rattle.tree.specs.Flags.{FlagsOf, flags_of}
+use Rattle.tree.specs.Sound.{IsBest}
+use Rattle.tree.specs.laws.Branches.{on-bounds, on-itself, on-genesis}
+use Rattle.tree.specs.laws.Marks.{bad-flagged, seen-flagged, usable_gives}
+use Rattle.tree.specs.laws.Parents.{parent-below, on-rest}
+use Rattle.tree.specs.laws.Sets.{has_here, has_there, in_order-joined}
+use Rattle.tree.specs.laws.Above.{above, above-end, above-step}
+use Rattle.activate.specs.declared.plan.Rest.{Rest}
+use Rattle.activate.specs.declared.plan.Rest.TheVariants.{Go}
+use Rattle.activate.specs.declared.reply.SubmitReply.TheVariants.{Accepted, Inconclusive, Rejected}
+use Rattle.activate.specs.declared.way.Flaw.{Flaw}
+use Rattle.activate.specs.declared.way.Move.{Move}
+use Rattle.activate.specs.Rules.{Rules}
+use Rattle.activate.specs.Valid.{fault, valid, first_to_fail}
+use Rattle.activate.specs.Settle.{active, settle, on_candidate, becomes_bad, becomes_seen}
+use Rattle.activate.specs.Submission.{answer_added, rejected}
+use Rattle.activate.specs.Try.{fails_on, passes_on, tried}
+use Rattle.activate.specs.Sound.{Sound, AllKept}
+use Rattle.activate.specs.Tracked.{Tracked, coins_after, coins_of}
+use Rattle.activate.specs.Ways.{MovesTo, FailsAt}
+use Rattle.activate.specs.Plans.{Between, CanTry, CanGo, HasOtherFlags, Leads, Settles, with_flags, refused_by}
+use Rattle.activate.specs.laws.Actives.{active_kept, active_valid}
+use Rattle.activate.specs.laws.Candidates.{never_fails, same_first, on_candidate_from}
+use Rattle.activate.specs.laws.Noting.{above-on}
+use Rattle.activate.specs.laws.Settled.{active-settle, settle-blocks, active_seen, bad_in-order, seen_in-order}
+use Rattle.activate.specs.laws.Tries.{tried-blocks, tried-precious, genesis-tried, active-tried, settle-tried, best-candidate, active-best, settle-best, unmarked, unmarked-tried}
+
+module _ (r : Rules Block Id) where
+  -- a followed chainstate can be tried
+  pub can-follows : (c : Tracked) → Sound r c.state → AllKept r c.state.blocks → c.active ≡ active r c.state → CanTry r c
+  can-follows c sound all e = record {
+    genesis = sound.genesis;
+    kept = subst (λ (p : ℕ). p ≤ length c.state.blocks) (sym e) (active_kept r c.state sound.genesis);
+    all = all;
+    good = subst (λ (p : ℕ). valid r c.state.blocks p ≡ true) (sym e) (active_valid r c.state sound.genesis);
+    seen = λ x o. active_seen r c.state sound x (subst (λ (p : ℕ). on c.state.blocks p x ≡ true) e o);
+    bad_in_order = bad_in-order r c.state sound;
+    seen_in_order = seen_in-order r c.state sound;
+  }
+
+  -- what a try leaves can be tried again
+  pub can-tried : (c : Tracked) (p : ℕ) → CanTry r c → CanTry r (record c { state = tried r c.state p })
+  unfolding tried
+  can-tried c p can = record {
+    genesis = (unfold tried in genesis-tried r c.state p can.genesis);
+    kept = can.kept;
+    all = can.all;
+    good = can.good;
+    seen = λ x o.
+        seen-flagged c.state (fails_on r c.state.blocks p) (passes_on r c.state.blocks p) x (on-bounds c.state.blocks c.active x o).1
+        ∙ or_left (has c.state.seen x) (passes_on r c.state.blocks p x) (can.seen x o);
+    bad_in_order = in_order-joined (length c.state.blocks) c.state.bad (fails_on r c.state.blocks p);
+    seen_in_order = in_order-joined (length c.state.blocks) c.state.seen (passes_on r c.state.blocks p);
+  }
+
+-- ---- other flags
+
+pub other_none : (a : Tracked) → HasOtherFlags a a
+other_none a = record { same = refl; blocks_are = refl; precious_is = refl }
+
+pub other-tried : (r : Rules Block Id) (a b : Tracked) (p : ℕ) → HasOtherFlags a b → HasOtherFlags a (record b { state = tried r b.state p })
+other-tried r a b p is = record {
+  same = ap (λ (x : Tracked). record x { state = tried r b.state p }) is.same;
+  blocks_are = tried-blocks r b.state p ∙ is.blocks_are;
+  precious_is = tried-precious r b.state p ∙ is.precious_is;
+}
+
+pub other_trans : (a b c : Tracked) → HasOtherFlags a b → HasOtherFlags b c → HasOtherFlags a c
+other_trans a b c x y = record {
+  same = ap (λ (z : Tracked). record z { state = c.state }) x.same ∙ y.same;
+  blocks_are = y.blocks_are ∙ x.blocks_are;
+  precious_is = y.precious_is ∙ x.precious_is;
+}
+
+pub active-other : (a b : Tracked) → HasOtherFlags a b → b.active ≡ a.active
+active-other a b is = ap (λ (x : Tracked). x.active) (sym is.same)
+
+pub coins-other : (a b : Tracked) → HasOtherFlags a b → coins_of b ≡ coins_of a
+coins-other a b is = ap (λ (t : Blocks Block). coins_after t b.active) is.blocks_are ∙ ap (coins_after a.state.blocks) (active-other a b is)
+
+-- the flags put back
+pub back-other : (a b : Tracked) (f : FlagsOf) → HasOtherFlags a b → f ≡ flags_of a.state → record b { state = with_flags (Some f) b.state } ≡ a
+back-other a b f is e =
+    ap (λ (g : FlagsOf). record b { state = with_flags (Some g) b.state }) e
+    ∙ ap (λ (t : Blocks Block). record b { state = record b.state { blocks = t; bad = a.state.bad; seen = a.state.seen } }) is.blocks_are
+    ∙ ap (λ (l : List ℕ). record b { state = record a.state { precious = l } }) is.precious_is
+    ∙ ap (λ (x : Tracked). record x { state = a.state }) (sym is.same)
+
+pub fit-other : (r : Rules Block Id) (a b : Tracked) (f : FlagsOf) → HasOtherFlags a b → CanTry r a → f ≡ flags_of a.state → (f.len ≡ suc (length b.state.blocks)) × (has f.bad 0 ≡ false)
+fit-other r a b f is can e = (
+  ap (λ (g : FlagsOf). g.len) e ∙ ap (λ (t : Blocks Block). suc (length t)) (sym is.blocks_are),
+  ap (λ (g : FlagsOf). has g.bad 0) e ∙ usable_gives a.state 0 0 can.genesis (on-genesis a.state.blocks 0),
+)
+
+pub params-other : (a b : Tracked) → HasOtherFlags a b → b.params ≡ a.params
+params-other a b is = ap (λ (x : Tracked). x.params) (sym is.same)
+
+-- ---- settling
+
+module _ (r : Rules Block Id) where
+  pub between_none : (a : Tracked) → CanTry r a → Between r a a
+  between_none a can = record { flags = other_none a; can = can; settles = refl; active_is = refl }
+
+  -- a try that failed keeps what settling gives
+  pub between-tried : (a b : Tracked) (p : ℕ) → Between r a b → IsBest b.state (usable b.state) (length b.state.blocks) p → Between r a (record b { state = tried r b.state p })
+  between-tried a b p is best = record {
+    flags = other-tried r a b p is.flags;
+    can = can-tried r b p is.can;
+    settles = settle-tried r b.state p is.can.genesis best.kept (best-candidate r b.state p is.can.genesis best) ∙ is.settles;
+    active_is = active-tried r b.state p is.can.genesis ∙ is.active_is;
+  }
+
+  -- and leaves fewer blocks unmarked
+  pub fewer-unmarked : (b : Tracked) (p : ℕ) (flaw : Flaw) → IsBest b.state (usable b.state) (length b.state.blocks) p → FailsAt r b.state.blocks b.active p flaw → unmarked (tried r b.state p) < unmarked b.state
+  fewer-unmarked b p flaw best fails =
+      unmarked-tried r b.state p best.kept best.can
+      (false_from_ne_true (valid r b.state.blocks p) (λ v. never_fails r b.state.blocks p fails.place v fails.first.on fails.first.first))
+
+module _ (r : Rules Block Id) (a b : Tracked) (p : ℕ) (move : Move) where
+  -- the last try, of the best block that is left
+  pub leads-last : Between r a b → IsBest b.state (usable b.state) (length b.state.blocks) p → MovesTo r b.state.blocks b.active p move → Leads r a b p move
+  leads-last is best moves = record {
+    can = is.can;
+    kept = best.kept;
+    moves = moves;
+    settles = sym (settle-best r b.state p is.can.genesis best moves.good) ∙ is.settles;
+    active_is = sym is.active_is ∙ active-best r b.state p is.can.genesis best moves.good;
+  }
+
+  pub can_go : Leads r a b p move → CanGo r b p move.way move.undo.items
+  can_go l = record { can = l.can; kept = l.kept; is_way = l.moves.way; good = l.moves.good; undo_is = l.moves.undo }
+
+  -- the coins change as the last try tells
+  pub changes-leads : HasOtherFlags a b → Leads r a b p move → AreChanges (coins_of a) (coins_after (tried r b.state p).blocks p) move.changes.items
+  changes-leads is l =
+      subst (λ (t : Blocks Block). AreChanges (coins_of a) (coins_after t p) move.changes.items) (sym (tried-blocks r b.state p))
+      (subst (λ (m : Coins). AreChanges m (coins_after b.state.blocks p) move.changes.items) (coins-other a b is) l.moves.changes)
+
+  pub settles-leads : (f : FlagsOf) → CanTry r a → HasOtherFlags a b → f ≡ flags_of a.state → Leads r a b p move → (rest : Rest) → rest ≡ Go p move.way move.undo → Settles r a b (Some f) rest move.changes.items
+  settles-leads f can is e l rest go = subst (λ (x : Rest). Settles r a b (Some f) x move.changes.items) (sym go) (record {
+    other_flags = is;
+    state_is = l.settles;
+    active_is = sym l.active_is;
+    changes_are = changes-leads is l;
+    ready = can_go l;
+    fit = fit-other r a b f is can e;
+    back_is = back-other a b f is e;
+  })
+
+-- the first try, where it is the last one too
+pub settles-once : (r : Rules Block Id) (a : Tracked) (p : ℕ) (move : Move) → CanTry r a → IsBest a.state (usable a.state) (length a.state.blocks) p → MovesTo r a.state.blocks a.active p move → (rest : Rest) → rest ≡ Go p move.way move.undo → Settles r a a None rest move.changes.items
+settles-once r a p move can best moves rest go =
+    let l = leads-last r a a p move (between_none r a can) best moves in
+    subst (λ (x : Rest). Settles r a a None x move.changes.items) (sym go) (record {
+      other_flags = other_none a;
+      state_is = l.settles;
+      active_is = sym l.active_is;
+      changes_are = changes-leads r a a p move (other_none a) l;
+      ready = can_go r a a p move l;
+      fit = tt;
+      back_is = refl;
+    })
+
+-- after a first try that failed
+pub leads-after : (r : Rules Block Id) (a b : Tracked) (p q : ℕ) (move : Move) → CanTry r a → IsBest a.state (usable a.state) (length a.state.blocks) p
+    → Leads r (record a { state = tried r a.state p }) b q move → Leads r a b q move
+leads-after r a b p q move can best l = record {
+  can = l.can;
+  kept = l.kept;
+  moves = l.moves;
+  settles = l.settles ∙ settle-tried r a.state p can.genesis best.kept (best-candidate r a.state p can.genesis best);
+  active_is = sym (active-tried r a.state p can.genesis) ∙ l.active_is;
+}
+
+-- ---- what is said of the block that was tried first
+
+module _ (r : Rules Block Id) (a : Tracked) (can : CanTry r a) (p : ℕ) (best : IsBest a.state (usable a.state) (length a.state.blocks) p) where
+  abbrev after : State Block
+  after = settle r a.state
+
+  active_after : active r after ≡ active r a.state
+  active_after = active-settle r a.state can.genesis
+
+  pub said-once : valid r a.state.blocks p ≡ true → Accepted ≡ answer_added r after p
+  unfolding answer_added
+  said-once v =
+      sym (ap (λ (b : Bool). cond b Accepted (cond (has after.bad p) (rejected (fault r after.blocks p)) Inconclusive))
+      (eq-eqb p (active r after) (sym (active_after ∙ active-best r a.state p can.genesis best v))))
+
+  module _ (flaw : Flaw) (fails : FailsAt r a.state.blocks a.active p flaw) where
+    not_valid : valid r a.state.blocks p ≡ true → ⊥
+    not_valid v = never_fails r a.state.blocks p fails.place v fails.first.on fails.first.first
+
+    other : p ≡ active r after → ⊥
+    other e = not_valid (subst (λ (x : ℕ). valid r a.state.blocks x ≡ true) (sym (e ∙ active_after)) (active_valid r a.state can.genesis))
+
+    bad_now : has after.bad p ≡ first_to_fail r a.state.blocks p
+    unfolding settle becomes_bad
+    bad_now =
+        bad-flagged a.state (becomes_bad r a.state) (becomes_seen r a.state) p best.kept
+        ∙ ap (λ (b : Bool). b || (first_to_fail r a.state.blocks p && on_candidate r a.state p)) (usable_gives a.state p p best.can (on-itself a.state.blocks p best.kept))
+        ∙ ap (λ (b : Bool). first_to_fail r a.state.blocks p && b)
+        (on_candidate_from r a.state p p best.kept (best-candidate r a.state p can.genesis best) (on-itself a.state.blocks p best.kept))
+        ∙ and_true (first_to_fail r a.state.blocks p)
+      where
+        and_true : (b : Bool) → (b && true) ≡ b
+        and_true true = refl
+        and_true false = refl
+
+    answer : answer_added r after p ≡ cond (first_to_fail r a.state.blocks p) (rejected (fault r a.state.blocks p)) Inconclusive
+    unfolding answer_added
+    answer =
+        ap (λ (b : Bool). cond b Accepted (cond (has after.bad p) (rejected (fault r after.blocks p)) Inconclusive)) (ne_eqb p (active r after) other)
+        ∙ ap (λ (b : Bool). cond b (rejected (fault r after.blocks p)) Inconclusive) bad_now
+        ∙ ap (λ (t : Blocks Block). cond (first_to_fail r a.state.blocks p) (rejected (fault r t p)) Inconclusive) (settle-blocks r a.state)
+
+    -- the way up ends at the block, so the first that doesn't connect is the block itself where none is left above it
+    up : ◌≡◌ {A = List ℕ} (above a.state.blocks p flaw.way.fork) (reverse fails.rest ++ (fails.place ∷ reverse fails.front))
+    up =
+        sym fails.way.up ∙ sym (reverse-reverse flaw.way.up.items) ∙ ap (λ (l : List ℕ). reverse l) fails.parts
+        ∙ reverse-append fails.front (fails.place ∷ fails.rest)
+        ∙ turned fails.rest fails.place (reverse fails.front)
+      where
+        turned : (l : List ℕ) (x : ℕ) (k : List ℕ) → reverse (x ∷ l) ++ k ≡ reverse l ++ (x ∷ k)
+        turned l x k = ap (λ (m : List ℕ). m ++ k) (reverse-append (x ∷ []) l) ∙ append_assoc (reverse l) (x ∷ []) k
+
+    higher : flaw.way.fork < p
+    higher =
+        elim (cases_eq p flaw.way.fork) [
+          | inl e ↦
+              let none : ◌≡◌ {A = List ℕ} [] (above a.state.blocks p flaw.way.fork) = sym (above-end a.state.blocks p best.kept) ∙ ap (above a.state.blocks p) e in
+              absurd (nothing-in (reverse fails.rest) fails.place (reverse fails.front) (none ∙ up))
+          | inr n ↦ let l = on-bounds a.state.blocks p flaw.way.fork fails.way.shared.there in omega arith
+        ]
+      where
+        nothing-in : (k : List ℕ) (x : ℕ) (l : List ℕ) → ◌≡◌ {A = List ℕ} [] (k ++ (x ∷ l)) → ⊥
+        nothing-in [] x l e = cc
+        nothing-in (y ∷ k) x l e = cc
+
+    which : (q k : List ℕ) → above a.state.blocks p flaw.way.fork ≡ q ++ (fails.place ∷ k) → ((length q ≡ 0) × (p ≡ fails.place)) ⊎ ((0 < length q) × (fails.place < p))
+    which [] k e = inl (refl, ap first_of (sym (above-step a.state.blocks p flaw.way.fork higher best.kept) ∙ e))
+    which (z ∷ q) k e =
+        let t : Blocks Block = a.state.blocks in
+        let below = parent-below t p (omega (arith, higher)) best.kept in
+        let others : above t (parent_at t p) flaw.way.fork ≡ q ++ (fails.place ∷ k) = ap rest_of (sym (above-step t p flaw.way.fork higher best.kept) ∙ e) in
+        let there : on t (parent_at t p) flaw.way.fork ≡ true = on-rest t p (omega (arith, higher)) best.kept flaw.way.fork fails.way.shared.there (λ w. let h = higher in omega arith) in
+        let o = above-on t flaw.way.fork (parent_at t p) fails.place (omega (arith, best.kept)) there (ap (λ (l : List ℕ). has l fails.place) others ∙ among q k) in
+        let l = (on-bounds t (parent_at t p) fails.place o).0 in
+        inr (omega arith, omega arith)
+      where
+        among : (q k : List ℕ) → has (q ++ (fails.place ∷ k)) fails.place ≡ true
+        among [] k = has_here fails.place k
+        among (y ∷ q) k = has_there y fails.place (q ++ (fails.place ∷ k)) (among q k)
+
+    sizes : length flaw.way.up.items ≡ flaw.passed + 1 + length fails.rest
+    sizes =
+        let n = sym (length-reverse flaw.way.up.items) ∙ ap (λ (l : List ℕ). length l) fails.parts ∙ length-append fails.front (fails.place ∷ fails.rest) in
+        let m = fails.passed in
+        omega arith
+
+    pub passed-less : flaw.passed < length flaw.way.up.items
+    passed-less = let n = sizes in omega arith
+
+    pub said-after : refused_by flaw ≡ answer_added r after p
+    unfolding refused_by
+    said-after =
+        elim (which (reverse fails.rest) (reverse fails.front) up) [
+          | inl w ↦
+              let none : length fails.rest ≡ 0 = sym (length-reverse fails.rest) ∙ w.0 in
+              let n = sizes in
+              ap (λ (b : Bool). cond b (Rejected flaw.reason) Inconclusive) (eq-eqb (flaw.passed + 1) (length flaw.way.up.items) (omega arith))
+              ∙ ap rejected (sym (ap (fault r a.state.blocks) w.1 ∙ fails.reason))
+              ∙ ap (λ (b : Bool). cond b (rejected (fault r a.state.blocks p)) Inconclusive) (sym (ap (first_to_fail r a.state.blocks) w.1 ∙ fails.first.first))
+              ∙ sym answer
+          | inr w ↦
+              let some = length-reverse fails.rest in
+              let n = sizes in
+              ap (λ (b : Bool). cond b (Rejected flaw.reason) Inconclusive) (ne_eqb (flaw.passed + 1) (length flaw.way.up.items) (λ e. let z = w.0 in omega arith))
+              ∙ ap (λ (b : Bool). cond b (rejected (fault r a.state.blocks p)) Inconclusive)
+              (sym (false_from_ne_true (first_to_fail r a.state.blocks p) (λ h.
+              let e : p ≡ fails.place = same_first r a.state.blocks p p fails.place (on-itself a.state.blocks p best.kept) fails.first.on h fails.first.first in
+              let l = w.1 in omega arith)))
+              ∙ sym answer
+        ]

@@ -1,0 +1,14 @@
+use Rattle.std.proofs.Common.{ap, sym, subst, ◌∙◌}
+use Rattle.coins.specs.Coins.{Coins}
+use Rattle.activate.specs.Tracked.{IsChainstate, Tracked, WithCoins, genesis_alone}
+use Rattle.activate.proofs.Openings.{opens}
+use Rattle.activate.proofs.chainstate.Chainstate.with.Goals as goal
+
+pub returns-clause-is_chainstate : goal.returns-clause-is_chainstate
+returns-clause-is_chainstate c triples =
+    subst (λ (x : WithCoins). IsChainstate x triples)
+    (sym (ap (λ t. with_coins t c.new.result) c.in_ok-with.ensures ∙ ap (with_coins (genesis_alone c.args.params)) c.new.ensures))
+    (opens c.args.params triples)
+  where
+    with_coins : Tracked → Coins → WithCoins
+    with_coins core coins = record { core = core; coins = coins }

@@ -1,0 +1,158 @@
+//! A chainstate with coins of its own.
+
+ghost use Rattle.std.specs.Prelude.{◌≡◌, ◌≤◌, ℕ, All, IfOk, OnErr, OnOk, length, map, take};
+ghost use Rattle.std.specs.FinMap as coin_map;
+ghost use Rattle.curve.specs.Triple.{Triples};
+ghost use Rattle.rules.specs.Params.{regtest as regtest_params};
+ghost use Rattle.tree.specs.Branches.{height};
+ghost use Rattle.tree.specs.Tips.{shown};
+ghost use Rattle.activate.specs.Commands.{outcome, replies_of, state_of};
+ghost use Rattle.activate.specs.Regtest.{ledger, regtest};
+ghost use Rattle.activate.specs.Replay.{coins};
+ghost use Rattle.activate.specs.Settle.{active, best, tips};
+ghost use Rattle.activate.specs.Tracked.{IsChainstate, genesis_alone};
+
+use crate::command::Command;
+use crate::plan::Plan;
+use crate::reply::Reply;
+use crate::tracking::Core;
+use coins::CoinMap;
+use connect::Env;
+use hash::Id;
+use queue::{Crew, Gate};
+use rules::Params;
+use std::alloc::Global;
+use std::marker::Model;
+use tree::Tip;
+use wire::Memory;
+
+/// The chainstate of one thread. A clause sees the heights of soft forks, the state, the active place, and the coins.
+#[derive(Drop)]
+pub struct Chainstate {
+    core: Core,
+    coins: CoinMap,
+}
+
+impl Model for Chainstate {
+    ghost use Rattle.std.specs.Coded.{codes};
+    ghost use Rattle.coins.specs.Coins.{coded_coins};
+    ghost use Rattle.activate.specs.Tracked.{WithCoins};
+
+    ghost Value = { WithCoins };
+
+    ghost coded = { Prim.hlevel (codes, coded_coins) };
+
+    ghost view = { λ c. record { core = c.core; coins = c.coins } };
+}
+
+impl Chainstate {
+    /// Genesis alone, by the rules of regtest.
+    pub fn new(alloc: Global) -> Result<Chainstate, Memory>
+        ensures value { IfOk result (λ chain. chain ≡ record { core = genesis_alone regtest_params; coins = coin_map.empty }) }
+        ensures is_chainstate { (triples : Triples) → IfOk result (λ chain. IsChainstate chain triples) }
+    {
+        Chainstate::with(alloc, Params::regtest())
+    }
+
+    /// Genesis alone, with these heights of soft forks.
+    pub fn with(alloc: Global, params: Params) -> Result<Chainstate, Memory>
+        ensures value { IfOk result (λ chain. chain ≡ record { core = genesis_alone params; coins = coin_map.empty }) }
+        ensures is_chainstate { (triples : Triples) → IfOk result (λ chain. IsChainstate chain triples) }
+    {
+        Ok(Chainstate {
+            core: Core::with(alloc, params)?,
+            coins: CoinMap::new(alloc),
+        })
+    }
+
+    /// Takes a command. Each call brings the table that the first one brought.
+    pub fn step<C: Crew>(
+        &mut self,
+        alloc: Global,
+        command: &Command,
+        env: &Env<'_, C>,
+        gate: &(dyn Gate + Sync),
+    ) -> Result<Reply, Memory>
+        requires is_chainstate { IsChainstate self.old env.now.table.now }
+        requires ready { C.is_ready env.now.crew.now }
+        requires workers { (1 ≤ env.now.workers) × (env.now.workers ≤ 16) }
+        requires same_table { All (λ v. v.triples ≡ env.now.table.now) env.now.early.now }
+        ensures outcome { IfOk result (λ reply. (self.new.core.state, reply) ≡ outcome (regtest self.old.core.params env.now.table.now) self.old.core.state command.now) }
+        ensures params { self.new.core.params ≡ self.old.core.params }
+        ensures is_chainstate { IsChainstate self.new env.now.table.now }
+        ensures err { OnErr result (self.new ≡ self.old) }
+    {
+        let Plan {
+            reply,
+            back,
+            rest,
+            changes,
+        } = self.core.plan(alloc, &self.coins, command, env, gate)?;
+        match self.coins.lay(alloc, changes) {
+            Ok(()) => {
+                self.core.commit(env.table, rest);
+                Ok(reply)
+            }
+            Err(Memory) => {
+                self.core.abandon(back);
+                Err(Memory)
+            }
+        }
+    }
+
+    /// Takes commands one after the other. Want of memory leaves it after those before the one that lacked it.
+    pub fn run<C: Crew>(
+        &mut self,
+        alloc: Global,
+        commands: &[Command],
+        env: &Env<'_, C>,
+        gate: &(dyn Gate + Sync),
+    ) -> Result<Vec<Reply>, Memory>
+        requires is_chainstate { IsChainstate self.old env.now.table.now }
+        requires ready { C.is_ready env.now.crew.now }
+        requires workers { (1 ≤ env.now.workers) × (env.now.workers ≤ 16) }
+        requires same_table { All (λ v. v.triples ≡ env.now.table.now) env.now.early.now }
+        ensures replies { IfOk result (λ replies. replies.items ≡ replies_of (regtest self.old.core.params env.now.table.now) self.old.core.state commands.now) }
+        ensures state { OnOk result (self.new.core.state ≡ state_of (regtest self.old.core.params env.now.table.now) self.old.core.state commands.now) }
+        ensures params { self.new.core.params ≡ self.old.core.params }
+        ensures is_chainstate { IsChainstate self.new env.now.table.now }
+        ensures err { OnErr result ((n : ℕ) × (n ≤ length commands.now) × (self.new.core.state ≡ state_of (regtest self.old.core.params env.now.table.now) self.old.core.state (take n commands.now))) }
+    {
+        let mut replies = Vec::new(alloc);
+        for index in 0..commands.len() {
+            replies.reserve(1)?;
+            let reply = self.step(alloc, &commands[index], env, gate)?;
+            replies.push_reserved(reply);
+        }
+        Ok(replies)
+    }
+
+    /// The active block's id.
+    pub fn best(&self) -> Id
+        ensures { (triples : Triples) → IsChainstate self.now triples → result ≡ best (regtest self.now.core.params triples) self.now.core.state }
+    {
+        self.core.best()
+    }
+
+    /// The active block's height.
+    pub fn height(&self) -> usize
+        ensures { (triples : Triples) → IsChainstate self.now triples → result ≡ height self.now.core.state.blocks (active (regtest self.now.core.params triples) self.now.core.state) }
+    {
+        self.core.height()
+    }
+
+    /// The coins that the active branch leaves, lent.
+    pub fn coins(&self) -> &CoinMap
+        ensures value { result.now ≡ self.now.coins }
+        ensures replayed { (triples : Triples) → IsChainstate self.now triples → result.now ≡ coins (regtest self.now.core.params triples) ledger self.now.core.state }
+    {
+        &self.coins
+    }
+
+    /// The tips of the tree, by height downwards, then by arrival (Bitcoin Core's `getchaintips`).
+    pub fn tips(&self, alloc: Global) -> Result<Vec<Tip>, Memory>
+        ensures { (triples : Triples) → IsChainstate self.now triples → IfOk result (λ list. list.items ≡ map shown (tips (regtest self.now.core.params triples) self.now.core.state)) }
+    {
+        self.core.tips(alloc)
+    }
+}

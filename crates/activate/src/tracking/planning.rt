@@ -1,0 +1,279 @@
+//! What a command comes to.
+
+ghost use Rattle.std.specs.Prelude.{◌≡◌, ◌≤◌, ◌<◌, All, IfOk, None, OnOk, OnErr, suc, length};
+ghost use Rattle.block.specs.declared.fault.ReadFault.TheVariants as faults;
+ghost use Rattle.block.specs.Identity.{id_of};
+ghost use Rattle.hash.specs.declared.id.Id.{Id};
+ghost use Rattle.block.specs.declared.block.Block.{Block};
+ghost use Rattle.txn.specs.Identity.{ids_of};
+ghost use Rattle.tree.specs.Branches.{place_of};
+ghost use Rattle.tree.specs.Limits.{max_blocks};
+ghost use Rattle.tree.specs.Names.{names};
+ghost use Rattle.tree.specs.Sound.{IsFresh};
+ghost use Rattle.tree.specs.State.{with_block};
+ghost use Rattle.activate.specs.Regtest.{regtest};
+ghost use Rattle.activate.specs.Rules.{Rules};
+ghost use Rattle.activate.specs.Sound.{IsNew};
+ghost use Rattle.activate.specs.Step.{Submit, step};
+ghost use Rattle.activate.specs.Submission.{answer_known};
+ghost use Rattle.activate.specs.Tracked.{Follows, coins_of};
+ghost use Rattle.activate.specs.Plans.{IsPlan, IsPlanFor, IsStill};
+
+use crate::command::Command;
+use crate::judging::judge;
+use crate::linking::link;
+use crate::plan::{Back, First, Plan, Rest};
+use crate::reply::{MarkReply, Reply, SubmitReply};
+use crate::tracking::Core;
+use crate::way::Way;
+use block::{Block, ReadFault};
+use coins::Base;
+use connect::{Context, Env};
+use hash::Id;
+use queue::{Crew, Gate};
+use std::alloc::Global;
+use tree::{AddFault, MAX_BLOCKS};
+use txn::ids;
+use wire::Memory;
+
+/// A plan that changes nothing.
+pub(crate) fn still(alloc: Global, reply: Reply) -> Plan
+    ensures { IsStill reply result }
+{
+    Plan {
+        reply,
+        back: Back {
+            first: First::Kept,
+            flags: None,
+        },
+        rest: Rest::Nothing,
+        changes: Vec::new(alloc),
+    }
+}
+
+/// Refuses where the fault is want of memory, and not of the bytes.
+fn undecodable(fault: ReadFault) -> Result<(), Memory>
+    ensures { IfOk result (λ _. ¬ (fault ≡ faults.Memory)) }
+{
+    match fault {
+        ReadFault::Memory => Err(Memory),
+        _ => Ok(()),
+    }
+}
+
+impl Core {
+    /// Looks at everything that a command comes to, and gets all memory for it. Where it refuses nothing has changed;
+    /// else the tree has what the plan tells how to take back.
+    pub(crate) fn plan<B: Base, C: Crew>(
+        &mut self,
+        alloc: Global,
+        base: &B,
+        command: &Command,
+        env: &Env<'_, C>,
+        gate: &(dyn Gate + Sync),
+    ) -> Result<Plan, Memory>
+        requires follows { Follows self.old env.now.table.now }
+        requires coins { B.coins base.now ≡ coins_of self.old }
+        requires ready { C.is_ready env.now.crew.now }
+        requires workers { (1 ≤ env.now.workers) × (env.now.workers ≤ 16) }
+        requires same_table { All (λ v. v.triples ≡ env.now.table.now) env.now.early.now }
+        ensures plan { IfOk result (λ plan. IsPlan (regtest self.old.params env.now.table.now) self.old command.now self.new plan) }
+        ensures err { OnErr result (self.new ≡ self.old) }
+    {
+        match command {
+            Command::Submit(bytes, now) => match block::read(alloc, bytes.as_slice()) {
+                Ok(block) => self.plan_block(alloc, base, block, *now, env, gate),
+                Err(fault) => {
+                    undecodable(fault)?;
+                    Ok(still(alloc, Reply::Submit(SubmitReply::DecodeFailed)))
+                }
+            },
+            Command::Invalidate(id) => self.plan_invalidate(alloc, base, id, env, gate),
+            Command::Reconsider(id) => self.plan_reconsider(alloc, base, id, env, gate),
+            Command::Precious(id) => self.plan_precious(alloc, base, id, env, gate),
+        }
+    }
+
+    fn plan_block<B: Base, C: Crew>(
+        &mut self,
+        alloc: Global,
+        base: &B,
+        block: Block,
+        now: u64,
+        env: &Env<'_, C>,
+        gate: &(dyn Gate + Sync),
+    ) -> Result<Plan, Memory>
+        requires follows { Follows self.old env.now.table.now }
+        requires coins { B.coins base.now ≡ coins_of self.old }
+        requires ready { C.is_ready env.now.crew.now }
+        requires workers { (1 ≤ env.now.workers) × (env.now.workers ≤ 16) }
+        requires same_table { All (λ v. v.triples ≡ env.now.table.now) env.now.early.now }
+        ensures plan { IfOk result (λ plan. IsPlanFor (regtest self.old.params env.now.table.now) self.old (step (regtest self.old.params env.now.table.now) self.old.state (Submit now block)) self.new plan) }
+        ensures err { OnErr result (self.new ≡ self.old) }
+    {
+        let id = block.id();
+        if let Some(place) = self.tree.find(&id) {
+            return Ok(still(alloc, Reply::Submit(self.known(place))));
+        }
+        if self.tree.len() >= MAX_BLOCKS {
+            return Ok(still(alloc, Reply::Submit(SubmitReply::TreeFull)));
+        }
+        let ids = ids(alloc, block.txs.as_slice())?;
+        match judge(alloc, &self.tree, &self.params, &block, &ids, now)? {
+            Err(reason) => Ok(still(alloc, Reply::Submit(SubmitReply::Rejected(reason)))),
+            Ok(parent) if parent == self.active => {
+                self.plan_tip(alloc, base, block, id, &ids, now, env, gate)
+            }
+            Ok(parent) => self.plan_aside(alloc, base, block, id, parent, now, env, gate),
+        }
+    }
+
+    /// The answer to a block that was kept before.
+    fn known(&self, place: usize) -> SubmitReply
+        requires { place ≤ length self.now.state.blocks }
+        ensures { (r : Rules Block Id) → result ≡ answer_known r self.now.state place }
+    {
+        if !self.tree.usable(place) {
+            SubmitReply::DuplicateInvalid
+        } else if self.tree.seen(place) {
+            SubmitReply::Duplicate
+        } else {
+            SubmitReply::DuplicateInconclusive
+        }
+    }
+
+    /// A new block on the active one. It is connected before it is added, and nothing else is looked at.
+    fn plan_tip<B: Base, C: Crew>(
+        &mut self,
+        alloc: Global,
+        base: &B,
+        block: Block,
+        id: Id,
+        ids: &[Id],
+        now: u64,
+        env: &Env<'_, C>,
+        gate: &(dyn Gate + Sync),
+    ) -> Result<Plan, Memory>
+        requires follows { Follows self.old env.now.table.now }
+        requires new { IsNew (regtest self.old.params env.now.table.now) self.old.state now block self.old.active }
+        requires id { id ≡ id_of block.header }
+        requires ids { ids.now ≡ ids_of block.txs }
+        requires coins { B.coins base.now ≡ coins_of self.old }
+        requires ready { C.is_ready env.now.crew.now }
+        requires workers { (1 ≤ env.now.workers) × (env.now.workers ≤ 16) }
+        requires same_table { All (λ v. v.triples ≡ env.now.table.now) env.now.early.now }
+        ensures plan { IfOk result (λ plan. IsPlanFor (regtest self.old.params env.now.table.now) self.old (step (regtest self.old.params env.now.table.now) self.old.state (Submit now block)) self.new plan) }
+        ensures err { OnErr result (self.new ≡ self.old) }
+    {
+        let height = self.tree.height(self.active);
+        let context = Context {
+            height: (height + 1) as u32,
+            cutoff: self.tree.median(self.active),
+            medians: self.medians.as_slice(),
+            params: &self.params,
+        };
+        let linked = link(alloc, base, &context, &block, ids, env, gate)?;
+        let mut up = Vec::with_capacity(alloc, 1)?;
+        let mut undo = Vec::with_capacity(alloc, 1)?;
+        let fork = self.active;
+        let place = self.add(block, id, fork)?;
+        let back = Back {
+            first: First::Added,
+            flags: None,
+        };
+        match linked {
+            Err(reason) => Ok(Plan {
+                reply: Reply::Submit(SubmitReply::Rejected(reason)),
+                back,
+                rest: Rest::Mark(place),
+                changes: Vec::new(alloc),
+            }),
+            Ok(linked) => {
+                up.push_reserved(place);
+                undo.push_reserved(linked.undo);
+                let way = Way { fork, height, up };
+                Ok(Plan {
+                    reply: Reply::Submit(SubmitReply::Accepted),
+                    back,
+                    rest: Rest::Go(place, way, undo),
+                    changes: linked.changes,
+                })
+            }
+        }
+    }
+
+    /// A new block on another one.
+    fn plan_aside<B: Base, C: Crew>(
+        &mut self,
+        alloc: Global,
+        base: &B,
+        block: Block,
+        id: Id,
+        parent: usize,
+        now: u64,
+        env: &Env<'_, C>,
+        gate: &(dyn Gate + Sync),
+    ) -> Result<Plan, Memory>
+        requires follows { Follows self.old env.now.table.now }
+        requires new { IsNew (regtest self.old.params env.now.table.now) self.old.state now block parent }
+        requires id { id ≡ id_of block.header }
+        requires coins { B.coins base.now ≡ coins_of self.old }
+        requires ready { C.is_ready env.now.crew.now }
+        requires workers { (1 ≤ env.now.workers) × (env.now.workers ≤ 16) }
+        requires same_table { All (λ v. v.triples ≡ env.now.table.now) env.now.early.now }
+        ensures plan { IfOk result (λ plan. IsPlanFor (regtest self.old.params env.now.table.now) self.old (step (regtest self.old.params env.now.table.now) self.old.state (Submit now block)) self.new plan) }
+        ensures err { OnErr result (self.new ≡ self.old) }
+    {
+        let place = self.add(block, id, parent)?;
+        if !self.tree.better(place, self.active) {
+            return Ok(Plan {
+                reply: Reply::Submit(SubmitReply::Inconclusive),
+                back: Back {
+                    first: First::Added,
+                    flags: None,
+                },
+                rest: Rest::Nothing,
+                changes: Vec::new(alloc),
+            });
+        }
+        match self.settle(alloc, base, place, env, gate) {
+            Ok(settled) => Ok(Plan {
+                reply: Reply::Submit(settled.said),
+                back: Back {
+                    first: First::Added,
+                    flags: settled.flags,
+                },
+                rest: settled.rest,
+                changes: settled.changes,
+            }),
+            Err(Memory) => {
+                self.abandon(Back {
+                    first: First::Added,
+                    flags: None,
+                });
+                Err(Memory)
+            }
+        }
+    }
+
+    /// Keeps a new block, with room for it on the active branch.
+    fn add(&mut self, block: Block, id: Id, parent: usize) -> Result<usize, Memory>
+        requires parent { parent ≤ length self.old.state.blocks }
+        requires room { suc (length self.old.state.blocks) < max_blocks }
+        requires id { id ≡ id_of block.header }
+        requires new { place_of names self.old.state.blocks id ≡ None }
+        ensures place { IfOk result (λ place. place ≡ suc (length self.old.state.blocks)) }
+        ensures ok { OnOk result (self.new ≡ record self.old { state = with_block self.old.state block parent }) }
+        ensures fresh { OnOk result (IsFresh names self.new.state) }
+        ensures err { OnErr result (self.new ≡ self.old) }
+    {
+        let more = self.tree.len() + 1 - self.branch.len();
+        self.branch.reserve(more)?;
+        self.medians.reserve(more)?;
+        match self.tree.add(block, id, parent) {
+            Ok(place) => Ok(place),
+            Err(AddFault::Full) => Err(Memory),
+            Err(AddFault::Memory) => Err(Memory),
+        }
+    }
+}
