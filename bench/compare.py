@@ -44,6 +44,16 @@ WORKLOADS = [
     ("connect-4", "the same with 4 workers", "work", [125_000, 250_000, 500_000, 1_000_000]),
 ]
 
+# Those that the baseline hasn't: it keeps no tree of blocks.
+OURS_ALONE = [
+    ("chain", "blocks without payments, submitted one on the other", [10_000, 100_000]),
+    ("blocks-above", "a hundred blocks submitted above so many", [100, 10_000]),
+    ("reorganise", "the block by which another branch becomes active, by its depth, beside 10,000 blocks", [10, 100, 1000]),
+]
+
+# How much more a block may cost on the second chain of `blocks-above` than on the first.
+MOST_GROWTH = 1.1
+
 
 def once(program, name, size, environment):
     """Seconds and check of one run."""
@@ -91,6 +101,36 @@ def measure(names, has_sha):
         print(f"{name:14} {size:9} " + " ".join(f"{t:12.6f}" for t in times), flush=True)
         rows.append((name, what, kind, costs))
     return rows
+
+
+def measure_alone(names):
+    rows = []
+    for name, what, sizes in OURS_ALONE:
+        if names and name not in names:
+            continue
+        costs = [(size, least(name, size, [(OURS, {})], 20)[0]) for size in sizes]
+        for size, seconds in costs:
+            print(f"{name:14} {size:9} {seconds:12.6f}", flush=True)
+        rows.append((name, what, costs))
+    return rows
+
+
+def table_alone(rows):
+    text = ["", "Ours alone:", "", "| workload | size | what | seconds |", "|---|---:|---|---:|"]
+    for name, what, costs in rows:
+        text += [f"| {name} | {size:,} | {what} | {seconds:.6f} |" for size, seconds in costs]
+    return "\n".join([*text, "", growth_of_a_block(rows)]) + "\n"
+
+
+def growth_of_a_block(rows):
+    """What a block costs on a high chain over what it costs on a low one, where both were timed."""
+    for name, _, costs in rows:
+        if name == "blocks-above":
+            (low, before), (high, after) = costs
+            ratio = after / before
+            verdict = "at most" if ratio <= MOST_GROWTH else "MORE THAN"
+            return f"A block above {high:,} costs {ratio:.2f} times one above {low:,}: {verdict} {MOST_GROWTH}."
+    return ""
 
 
 def table(rows, has_sha):
@@ -177,15 +217,17 @@ def plot(rows):
 
 def main():
     names = sys.argv[1:]
-    unknown = set(names) - {row[0] for row in WORKLOADS}
+    unknown = set(names) - {row[0] for row in WORKLOADS + OURS_ALONE}
     if unknown:
         sys.exit(f"bench: no such workload: {' '.join(sorted(unknown))}")
     has_sha = processor()[2]
     rows = measure(names, has_sha)
+    alone = measure_alone(names)
+    print(growth_of_a_block(alone), flush=True)
     if names:
         return
     with open(os.path.join(HERE, "results.md"), "w", encoding="utf-8") as file:
-        file.write(table(rows, has_sha))
+        file.write(table(rows, has_sha) + table_alone(alone))
     with open(os.path.join(HERE, "results.svg"), "w", encoding="utf-8") as file:
         file.write(plot(rows))
 

@@ -1,6 +1,7 @@
 //! Times one workload, or does each of them at a small size.
 #![tactic(auto)]
 
+mod chain_work;
 mod check;
 mod coin_work;
 mod connecting;
