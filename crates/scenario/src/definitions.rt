@@ -212,7 +212,7 @@ impl Definitions {
     }
 
     /// The outpoint that a word names: `null`, or a transaction and an output's number.
-    fn outpoint(&self, word: &str) -> Result<OutPoint, LineFault> {
+    pub fn outpoint(&self, word: &str) -> Result<OutPoint, LineFault> {
         if word == "null" {
             return Ok(OutPoint::NULL);
         }
