@@ -1,17 +1,21 @@
 -- A search in a list in order, and the set of the list's elements.
-use Rattle.std.proofs.Common.{◌≡◌, ℕ, ◌≤◌, Bool, true, false, ◌||◌, List, ◌∷◌, length, get_or, Result, Ok, Err, refl, sym, ap, ◌∙◌, inl, inr, arith}
+use Rattle.std.proofs.Common.{◌≡◌, ℕ, ◌≤◌, Bool, true, false, ◌||◌, List, [], ◌∷◌, length, get_or, Result, Ok, Err, refl, sym, ap, ◌∙◌, inl, inr, arith}
+use mathlib.Core.Bool.{true≢false}
 use Rattle.std.specs.declared.cmp.Ordering.{Ordering}
 use Rattle.std.specs.declared.cmp.Ordering.TheVariants.{Less, Greater}
 use Rattle.std.specs.Ordering.{is_eq, eq_by_cmp, ordering_reverse}
 use Rattle.std.specs.Cmp.{IsTotalOrder, Equal-is}
+use Rattle.std.specs.Bool.{Decides}
 use Rattle.std.specs.Result.{is_ok}
-use Rattle.std.specs.List.{insert}
+use Rattle.std.specs.List.{insert, list_all}
 use Rattle.std.specs.List.Sorted.{IsSorted, IsStrictlySortedBy, IsPermutation, IsSearchInRange, IsBinarySearchResult}
 use Rattle.std.specs.FinSet as set
+use Rattle.curve.specs.Triple.{Triple, Triples, triple_cmp}
+use Rattle.curve.specs.Order.{triple_cmp-total}
 use Rattle.curve.proofs.Once.{sorted_from_strict, strict_insert}
 use Rattle.std.specs.FinSet.{FinSet, IsAntisymmetric}
-use Rattle.std.proofs.lemmas.Bool.{cases_lt}
-use Rattle.std.proofs.lemmas.Cmp.{tied_back}
+use Rattle.std.proofs.lemmas.Bool.{cases_lt, and_parts, and_from}
+use Rattle.std.proofs.lemmas.Cmp.{tied_back, tied_itself}
 use Rattle.std.proofs.lemmas.List.Folds.{list_any_at, list_any_none}
 use Rattle.std.proofs.lemmas.List.Sorted.{searchable_from_sorted, list_any-IsPermutation, IsPermutation-insert}
 
@@ -54,3 +58,25 @@ module _ {K : Type 0} {R : K → K → Ordering} (o : IsTotalOrder R) where
         one : (q : K) (b : Bool) → eq_by_cmp R q k ≡ b → (b || set.contains s q) ≡ set.contains s q
         one q true e = sym h ∙ set.contains_tied o s q k ((Equal-is (R q k)).0 e)
         one q false e = refl
+
+-- each element of a list is in a set exactly where each member of the list's set is
+pub all_within : (xs : List Triple) (s : Triples) → Decides (list_all (set.contains s) xs) ((t : Triple) → set.contains (set.from_list {R = triple_cmp} xs) t ≡ true → set.contains s t ≡ true)
+all_within [] s = (λ _ t is. absurd (true≢false (sym is ∙ set.contains-empty triple_cmp t)), λ _. refl)
+all_within (x ∷ xs) s =
+    let o = triple_cmp-total in
+    let insert = λ (t : Triple). set.contains-insert o (set.from_list {R = triple_cmp} xs) x t in
+    let from : (t : Triple) (b : Bool) → eq_by_cmp triple_cmp t x ≡ b → set.contains s x ≡ true → ((u : Triple) → set.contains (set.from_list {R = triple_cmp} xs) u ≡ true → set.contains s u ≡ true) → (b || set.contains (set.from_list {R = triple_cmp} xs) t) ≡ true → set.contains s t ≡ true =
+    λ t b. elim b as (λ b. eq_by_cmp triple_cmp t x ≡ b → set.contains s x ≡ true → ((u : Triple) → set.contains (set.from_list {R = triple_cmp} xs) u ≡ true → set.contains s u ≡ true) → (b || set.contains (set.from_list {R = triple_cmp} xs) t) ≡ true → set.contains s t ≡ true) [
+      | true ↦ λ tied one rest is. sym (set.contains_tied o s t x ((Equal-is (triple_cmp t x)).0 tied)) ∙ one
+      | false ↦ λ tied one rest is. rest t is
+    ] in (
+      λ all t is. let both = and_parts (set.contains s x) (list_all (set.contains s) xs) all in
+          from t (eq_by_cmp triple_cmp t x) refl both.0 ((all_within xs s).0 both.1) (sym (insert t) ∙ is),
+      λ each. and_from _ _
+          (each x (insert x ∙ ap (λ b. b || set.contains (set.from_list {R = triple_cmp} xs) x) (ap is_eq (tied_itself o x))))
+          ((all_within xs s).1 (λ t is. each t (insert t ∙ ap (λ b. eq_by_cmp triple_cmp t x || b) is ∙ or-true (eq_by_cmp triple_cmp t x)))),
+    )
+  where
+    or-true : (b : Bool) → (b || true) ≡ true
+    or-true true = refl
+    or-true false = refl

@@ -1,14 +1,17 @@
 //! The table of valid signatures.
 
-ghost use Rattle.std.specs.Prelude.{◌≡◌, length, IfOk, IfErr, OnOk, OnErr};
+ghost use Rattle.std.specs.Prelude.{◌≡◌, length, true, IfOk, IfErr, OnOk, OnErr};
+ghost use Rattle.std.specs.Bool.{Decides};
+ghost use Rattle.std.specs.List.{list_all};
 ghost use Rattle.std.specs.FinSet as set;
 ghost use Rattle.std.specs.List.Sorted.{IsBinarySearchResult, IsSearchInRange};
-ghost use Rattle.curve.specs.Triple.{triple_of, triple_cmp};
+ghost use Rattle.curve.specs.Triple.{Triple, triple_of, triple_cmp};
 
 use crate::fault::TableFault;
 use crate::lines;
 use crate::triple::KeptTriple;
 use std::alloc::Global;
+use std::fmt;
 use std::marker::Model;
 use wire::Memory;
 
@@ -87,11 +90,49 @@ impl Table {
         Ok(())
     }
 
+    /// Whether another table has the same triples.
+    pub fn same(&self, other: &Table) -> bool
+        ensures { Decides result (self.now ≡ other.now) }
+    {
+        self.is_within(other) && other.is_within(self)
+    }
+
+    /// Whether another table has each triple of this one.
+    fn is_within(&self, other: &Table) -> bool
+        ensures { Decides result ((t : Triple) → set.contains self.now t ≡ true → set.contains other.now t ≡ true) }
+    {
+        other.has_each(self.triples.as_slice())
+    }
+
+    fn has_each(&self, triples: &[KeptTriple]) -> bool
+        ensures { result ≡ list_all (set.contains self.now) triples.now }
+    {
+        triples.iter().all(|triple| self.has_kept(triple))
+    }
+
+    fn has_kept(&self, triple: &KeptTriple) -> bool
+        ensures { result ≡ set.contains self.now triple.now }
+    {
+        self.triples
+            .binary_search_by(|kept| kept.compare_kept(triple))
+            .is_ok()
+    }
+
     /// An equal table.
     pub fn copy(&self) -> Result<Table, Memory>
         ensures { IfOk result (λ t. t ≡ self.now) }
     {
         Ok(self.clone()?)
+    }
+}
+
+/// Its lines, one a triple, as [`Table::from_lines`] reads them.
+impl fmt::Display for Table {
+    fn fmt<W: fmt::Write>(&self, f: &mut fmt::Formatter<W>) -> fmt::Result {
+        for triple in self.triples.as_slice() {
+            writeln!(f, "{triple}")?;
+        }
+        Ok(())
     }
 }
 

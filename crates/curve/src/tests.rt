@@ -46,6 +46,35 @@ fn tables(rt: HostRuntime) -> Result<(), Fail> {
     Ok(())
 }
 
+#[test]
+fn tables_that_are_the_same(rt: HostRuntime) -> Result<(), Fail> {
+    let mut one = Table::new(rt.alloc());
+    one.add(b"key", b"signature", &[7; 32])?;
+    one.add(b"another", b"", &[8; 32])?;
+    let mut other = Table::new(rt.alloc());
+    other.add(b"another", b"", &[8; 32])?;
+    assert!(rt; !one.same(&other));
+    assert!(rt; !other.same(&one));
+    other.add(b"key", b"signature", &[7; 32])?;
+    assert!(rt; one.same(&other));
+    Ok(())
+}
+
+#[test]
+fn tables_as_text(rt: HostRuntime) -> Result<(), Fail> {
+    let table = Table::from_lines(rt.alloc(), LINES.as_bytes())?;
+    let text = table.to_string(rt.alloc())?;
+    assert_eq!(rt;
+        text.as_str(),
+        "00ff - 00000000000000000000000000000000000000000000000000000000000000ff
+aa 3006020101020101 0100000000000000000000000000000000000000000000000000000000000000
+"
+    );
+    let again = Table::from_lines(rt.alloc(), text.as_bytes())?;
+    assert!(rt; again.same(&table));
+    Ok(())
+}
+
 const LINES: &str = "# key, signature, digest
 
 aa 3006020101020101 0100000000000000000000000000000000000000000000000000000000000000

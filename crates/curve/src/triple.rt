@@ -5,6 +5,7 @@ ghost use Rattle.curve.specs.Triple.{triple_of, triple_cmp};
 
 use std::alloc::{AllocError, Global};
 use std::cmp::Ordering;
+use std::fmt;
 use std::marker::Model;
 
 /// A triple as a table keeps it: a key, a signature without its hash type, and a digest.
@@ -72,4 +73,26 @@ impl KeptTriple {
             &other.digest,
         )
     }
+}
+
+/// The three words of a table's line.
+impl fmt::Display for KeptTriple {
+    fn fmt<W: fmt::Write>(&self, f: &mut fmt::Formatter<W>) -> fmt::Result {
+        write_word(f, self.key.as_slice())?;
+        f.write_str(" ")?;
+        write_word(f, self.signature.as_slice())?;
+        f.write_str(" ")?;
+        write_word(f, &self.digest)
+    }
+}
+
+/// Bytes in lower-case hexadecimal, or `-` for none.
+fn write_word<W: fmt::Write>(f: &mut fmt::Formatter<W>, bytes: &[u8]) -> fmt::Result {
+    if bytes.is_empty() {
+        return f.write_str("-");
+    }
+    for byte in bytes {
+        write!(f, "{byte:02x}")?;
+    }
+    Ok(())
 }
