@@ -1,1 +1,4 @@
-pub mod Grown
+pub mod Comes
+pub mod Few
+pub mod Kept
+pub mod Passes

@@ -1,6 +1,6 @@
 pub mod Calls
-pub mod Early
-pub mod Judgement
+pub mod Finishing
+pub mod Held
 pub mod Opening
+pub mod Origin
 pub mod Pass
-pub mod laws

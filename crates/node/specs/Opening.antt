@@ -7,9 +7,13 @@ use Rattle.node.specs.declared.fault.OpenFault.TheVariants.{Workers, Seats, Memo
 abbrev pub IsCount : ℕ → Type 0
 IsCount n = (1 ≤ n) × (n ≤ 16)
 
+-- this version has one
+abbrev pub AreSeats : ℕ → Type 0
+AreSeats n = n ≡ 1
+
 -- the first of these that holds
 abbrev pub Refused : ℕ → ℕ → OpenFault → Type 0
 Refused workers seats Workers = ¬ IsCount workers
-Refused workers seats Seats = IsCount workers × ¬ (seats ≡ 1)
-Refused workers seats Memory = IsCount workers × (seats ≡ 1)
+Refused workers seats Seats = IsCount workers × ¬ AreSeats seats
+Refused workers seats Memory = IsCount workers × AreSeats seats
 Refused workers seats Readers = ⊥

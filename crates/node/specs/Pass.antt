@@ -1,55 +1,73 @@
 -- The pass of a seat: what it has seen of the history, and what of it is its own.
-use Rattle.std.specs.Prelude.{◌≡◌, ℕ, zero, suc, List, [], ◌∷◌, ◌++◌, length, Option, Some, None}
+use Rattle.std.specs.Prelude.{◌≡◌, ◌&&◌, ℕ, zero, suc, Bool, true, false, is_none, cond, List, [], ◌∷◌, ◌++◌, length, Option, Some}
 use mathlib.Core.List.{IsPrefix}
 use Rattle.activate.specs.declared.command.Command.{Command}
 use Rattle.activate.specs.declared.reply.Reply.{Reply}
 use Rattle.activate.specs.declared.entry.Entry.{Entry}
-use Rattle.activate.specs.Machine.{Machine}
 use Rattle.activate.specs.History.{state_at, Legal, own_of, entry}
+use Rattle.node.specs.Origin.{Origin, machine}
+use Rattle.node.specs.Held.{Held, held}
 
--- the seat's number, how many seats there are, the beginning of the history that the seat has seen, and
--- its own entries in order
+-- the seat's number, what it is of, whether its node is finished, the beginning of the history that the seat
+-- has seen, and its own entries in order
 pub record Pass : Type 0 where
   pub number : ℕ
-  pub seats : ℕ
+  pub origin : Origin
+  pub finished : Bool
   pub seen : List Entry
   pub mine : List Entry
 
--- the history as it is kept
-pub record Held : Type 0 where
-  pub seats : ℕ
-  pub journal : List Entry
-
-abbrev pub journal_of : Option Held → List Entry
-journal_of None = []
-journal_of (Some h) = h.journal
+-- that of a seat which has seen all that is kept
+abbrev pub pass_of : ℕ → Option Held → Held → Pass
+pass_of number history last = let h = held history last in record {
+  number = number;
+  origin = h.origin;
+  finished = is_none history;
+  seen = h.journal;
+  mine = own_of number h.journal;
+}
 
 -- a seat that has seen and done nothing
-abbrev pub fresh : ℕ → ℕ → Pass
-fresh seats number = record { number = number; seats = seats; seen = []; mine = [] }
+abbrev pub fresh : Origin → ℕ → Pass
+fresh o number = record { number = number; origin = o; finished = false; seen = []; mine = [] }
 
 -- so many seats, numbered from 0
-abbrev pub fresh_seats : ℕ → ℕ → List Pass
-fresh_seats seats zero = []
-fresh_seats seats (suc n) = fresh_seats seats n ++ fresh seats n ∷ []
+abbrev pub fresh_seats : Origin → ℕ → List Pass
+fresh_seats o zero = []
+fresh_seats o (suc n) = fresh_seats o n ++ fresh o n ∷ []
 
--- the seat's entries in what it has seen are its own
-abbrev pub IsOwn : Pass → Type 0
-IsOwn p = own_of p.number p.seen ≡ p.mine
+-- the seat of a finished node
+abbrev pub finished : Pass → Pass
+finished p = record p { finished = true }
 
--- what the seat has seen only grew, and is legal
-pub record IsLater (m : Machine) (p q : Pass) : Type 0 where
+-- of the same seat: what it has seen only grew, and is legal
+pub record IsLater (p q : Pass) : Type 0 where
   pub number : q.number ≡ p.number
-  pub seats : q.seats ≡ p.seats
+  pub origin : q.origin ≡ p.origin
+  pub finished : q.finished ≡ p.finished
   pub grows : IsPrefix p.seen q.seen
-  pub legal : Legal m q.seats q.seen
+  pub legal : Legal (machine q.origin) q.origin.seats q.seen
+
+-- whether all these replies are owed
+abbrev pub all_owed : List Entry → Bool
+all_owed [] = true
+all_owed (e ∷ es) = is_none e.reply && all_owed es
+
+-- the entries up to the last whose reply isn't owed
+abbrev pub answered : List Entry → List Entry
+answered [] = []
+answered (e ∷ es) = cond (all_owed (e ∷ es)) [] (e ∷ answered es)
+
+-- the seat's entries in what it has seen begin with its own up to the last whose reply isn't owed
+abbrev pub IsOwn : Pass → Type 0
+IsOwn p = IsPrefix (answered p.mine) (own_of p.number p.seen)
 
 -- the step stands last in what the seat has then seen, with this reply, and the seat's entries are its own
 pub record Wrote (p q : Pass) (command : Command) (at : ℕ) (reply : Reply) : Type 0 where
   pub last : (before : List Entry) × (q.seen ≡ before ++ entry p.number command (Some reply) ∷ []) × IsPrefix p.seen before
   pub at_is : at ≡ length q.seen
   pub mine_is : q.mine ≡ p.mine ++ entry p.number command (Some reply) ∷ []
-  pub own_is : IsOwn q
+  pub own_is : own_of q.number q.seen ≡ q.mine
 
 -- no step was taken
 pub record Stayed (p q : Pass) (at : ℕ) : Type 0 where
@@ -57,9 +75,9 @@ pub record Stayed (p q : Pass) (at : ℕ) : Type 0 where
   pub at_is : at ≡ length p.seen
 
 -- the value is what the history's state gives after all that the seat has then seen
-pub record IsRead (m : Machine) {V : Type 0} (value : m.State → V) (p q : Pass) (at : ℕ) (answer : V) : Type 0 where
+pub record IsRead (p q : Pass) {V : Type 0} (value : (machine p.origin).State → V) (at : ℕ) (answer : V) : Type 0 where
   pub at_is : at ≡ length q.seen
-  pub value_is : answer ≡ value (state_at m q.seen at)
+  pub value_is : answer ≡ value (state_at (machine p.origin) q.seen at)
   pub mine_is : q.mine ≡ p.mine
 
 -- of a whole history: what the seat has seen begins it, and the seat's entries in it are its own

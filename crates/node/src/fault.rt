@@ -1,7 +1,6 @@
 //! Why a call has no answer, and why a node can't be opened.
 
 ghost use Rattle.std.specs.Prelude.{◌≡◌};
-ghost use Rattle.std.specs.Prelude.{◌≡◌};
 
 use std::error::Error;
 use std::fmt;
@@ -14,10 +13,8 @@ pub enum Fault {
     Memory = 1,
     /// The step was taken, and can't be shown yet.
     Owed,
-    /// The seat and the node don't fit each other. No step was taken.
+    /// The node is finished, or seat and node don't fit each other. No step was taken.
     Closed,
-    /// The block is outside what this version judges. No step was taken.
-    Unsupported,
 }
 
 impl fmt::Display for Fault {
@@ -26,7 +23,6 @@ impl fmt::Display for Fault {
             Fault::Memory => "memory",
             Fault::Owed => "owed",
             Fault::Closed => "closed",
-            Fault::Unsupported => "unsupported",
         })
     }
 }

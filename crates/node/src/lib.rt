@@ -1,18 +1,21 @@
 //! Seats at one history: each call acts as one step of one chainstate.
 #![tactic(auto)]
 
-mod early;
+mod answer;
 mod fault;
 mod history;
-pub mod laws;
 mod node;
 mod seat;
 
 pub use activate::{Bytes, Command, Entry, MarkReply, Reply, SubmitReply};
+pub use answer::{Stamped, UnspentOutput};
+pub use curve::Table;
 pub use fault::{Fault, OpenFault};
-pub use node::Node;
+pub use node::{Node, NodeOf};
+pub use queue::{Gate, Open};
 pub use rules::Params;
-pub use seat::{Seat, Stamped};
+pub use seat::Seat;
+pub use tree::{Status, Tip};
 
 #[cfg(test)]
 mod tests;

@@ -1,76 +1,177 @@
 //! One seat, its answers and its history.
 
+mod blocks;
+mod play;
+
 use super::*;
 use block::{GENESIS, GENESIS_ID, meets_target};
+use blocks::{FIRST, NOW, block_on, grown, payment, plain};
 use hash::Id;
+use play::{Call, listed, play};
+use std::alloc::Global;
 use std::test::*;
-use txn::Reason;
+use txn::OutPoint;
 
-/// A block on genesis, of a coinbase alone: built and mined by a program of its own, with its id.
-const FIRST: &[u8] =
-    b"\x04\x00\x00\x00\x06\x22\x6e\x46\x11\x1a\x0b\x59\xca\xaf\x12\x60\x43\xeb\x5b\xbf\x28\xc3\x4f\x3a\x5e\x33\x2a\x1f\xc7\xb2\xb7\x3c\xf1\x88\x91\x0f\x4b\xc9\x06\x0e\x5f\x2e\x3e\xb8\x29\x47\xc1\x43\x25\x92\x11\x10\x03\xcf\x8e\xb7\x50\x67\x83\xed\x65\xa8\xcc\xb9\x25\x02\xf9\x96\xdb\xe5\x49\x4d\xff\xff\x7f\x20\x01\x00\x00\x00\x01\x01\x00\x00\x00\x01\x00\x00\x00\x00\x00\x00\x00\x00\x00\x00\x00\x00\x00\x00\x00\x00\x00\x00\x00\x00\x00\x00\x00\x00\x00\x00\x00\x00\x00\x00\x00\x00\xff\xff\xff\xff\x04\x51\x02\x62\x31\xff\xff\xff\xff\x01\x00\xf2\x05\x2a\x01\x00\x00\x00\x01\x51\x00\x00\x00\x00";
-
-const FIRST_ID: &str = "2405fee2b5db4a6c607abb4c3cde55d59d28f53158f341cc789bacc929f29a52";
-
-/// A moment at which its time isn't too far ahead.
-const NOW: u64 = 1_296_688_602;
+/// A node of one seat under the rules of regtest.
+fn opened<'g>(
+    alloc: Global,
+    gate: &'g (dyn Gate + Sync),
+) -> Result<(Node<'g>, Vec<Seat>), OpenFault> {
+    Node::open(alloc, Params::regtest(), Table::new(alloc), 2, 1, gate)
+}
 
 #[test]
 fn one_seat(rt: HostRuntime) -> Result<(), Fail> {
-    let (node, mut seats) = Node::open(rt.alloc(), Params::regtest(), 2, 1)?;
-    for seat in &mut seats {
-        let first = Id::read(FIRST_ID.as_bytes()).ok_or("the id is 64 digits")?;
-        assert_eq!(rt;
-            seat.getbestblockhash(&node),
-            Ok(Stamped {
-                at: 0,
-                value: GENESIS_ID
-            })
-        );
-        assert_eq!(rt;
-            seat.submit(&node, &GENESIS[..284], NOW),
-            Ok(Stamped {
-                at: 0,
-                value: SubmitReply::DecodeFailed
-            })
-        );
-        assert_eq!(rt;
-            seat.submit(&node, &GENESIS, NOW),
-            Ok(Stamped {
-                at: 1,
-                value: SubmitReply::Duplicate
-            })
-        );
-        assert_eq!(rt;
-            seat.submit(&node, FIRST, NOW - 7200),
-            Err(Fault::Unsupported)
-        );
-        assert_eq!(rt;
-            seat.submit(&node, FIRST, NOW),
-            Ok(Stamped {
-                at: 2,
-                value: SubmitReply::Accepted
-            })
-        );
-        assert_eq!(rt;
-            seat.getbestblockhash(&node),
-            Ok(Stamped {
-                at: 2,
-                value: first
-            })
-        );
-    }
+    let (node, mut seats) = opened(rt.alloc(), &Open)?;
+    let calls = [
+        Call::Best,
+        Call::Submit(&GENESIS[..284], NOW),
+        Call::Submit(&GENESIS, NOW),
+        Call::Submit(FIRST, NOW - 7200),
+        Call::Submit(FIRST, NOW),
+        Call::Best,
+    ];
+    let answers = play(&rt, &node, &mut seats, &calls)?;
+    assert_eq!(rt;
+        answers.as_str(),
+        "0f9188f13cb7b2c71f2a335e3a4fc328bf5beb436012afca590b1a11466e2206 @0
+decode-failed @0
+duplicate @1
+time-too-new @2
+accepted @3
+2405fee2b5db4a6c607abb4c3cde55d59d28f53158f341cc789bacc929f29a52 @3
+"
+    );
     let history = node.finish(seats.as_mut_slice())?;
-    assert_eq!(rt; history.len(), 2);
-    let replies = [SubmitReply::Duplicate, SubmitReply::Accepted];
-    for (entry, reply) in history.iter().zip(&replies) {
-        let copy = entry.copy()?;
-        assert_eq!(rt; (copy.seat, copy.reply), (0, Some(Reply::Submit(*reply))));
-        let Command::Submit(bytes, now) = copy.command else {
-            return Err(Fail::new("a submission"));
-        };
-        assert_eq!(rt; (bytes.is_empty(), now), (false, NOW));
-    }
+    let entries = listed(rt.alloc(), &history)?;
+    assert_eq!(rt;
+        entries.as_str(),
+        "0 285 bytes 1296688602 duplicate
+0 146 bytes 1296681402 time-too-new
+0 146 bytes 1296688602 accepted
+"
+    );
+    Ok(())
+}
+
+#[test]
+fn marks(rt: HostRuntime) -> Result<(), Fail> {
+    let (node, mut seats) = opened(rt.alloc(), &Open)?;
+    let first = block::read(rt.alloc(), FIRST)?.id();
+    let calls = [
+        Call::Submit(FIRST, NOW),
+        Call::Invalidate(GENESIS_ID),
+        Call::Invalidate(Id([7; 32])),
+        Call::Invalidate(first),
+        Call::Best,
+        Call::Tips,
+        Call::Reconsider(first),
+        Call::Best,
+    ];
+    let answers = play(&rt, &node, &mut seats, &calls)?;
+    assert_eq!(rt;
+        answers.as_str(),
+        "accepted @1
+genesis @2
+not-found @3
+done @4
+0f9188f13cb7b2c71f2a335e3a4fc328bf5beb436012afca590b1a11466e2206 @4
+1 1 Invalid;0 0 Active; @4
+done @5
+2405fee2b5db4a6c607abb4c3cde55d59d28f53158f341cc789bacc929f29a52 @5
+"
+    );
+    Ok(())
+}
+
+/// Of two blocks of one height the first received is active, until the other is preferred.
+#[test]
+fn preferences(rt: HostRuntime) -> Result<(), Fail> {
+    let other = plain(rt.alloc(), GENESIS_ID, 1, b'b')?;
+    let first = block::read(rt.alloc(), FIRST)?.id();
+    let (node, mut seats) = opened(rt.alloc(), &Open)?;
+    let calls = [
+        Call::Submit(&other.bytes, NOW),
+        Call::Submit(FIRST, NOW),
+        Call::Submit(FIRST, NOW),
+        Call::Precious(first),
+        Call::Best,
+        Call::Tips,
+    ];
+    let answers = play(&rt, &node, &mut seats, &calls)?;
+    assert_eq!(rt;
+        answers.as_str(),
+        "accepted @1
+inconclusive @2
+duplicate-inconclusive @3
+done @4
+2405fee2b5db4a6c607abb4c3cde55d59d28f53158f341cc789bacc929f29a52 @4
+1 1 ValidFork;1 0 Active; @4
+"
+    );
+    Ok(())
+}
+
+/// A coinbase of height 1 is spent at height 101, where it has 100 blocks above it.
+#[test]
+fn a_spend(rt: HostRuntime) -> Result<(), Fail> {
+    let (node, mut seats) = opened(rt.alloc(), &Open)?;
+    let (last, coin) = grown(&rt, &node, &mut seats, 100)?;
+    let pay = payment(rt.alloc(), coin, 4_999_999_000)?;
+    let paid = OutPoint {
+        id: pay.id(),
+        index: 0,
+    };
+    let spend = block_on(rt.alloc(), last, 101, b'a', vec![in rt.alloc(); pay]?)?;
+    let calls = [
+        Call::Coin(coin),
+        Call::Coin(paid),
+        Call::Submit(&spend.bytes, NOW),
+        Call::Coin(coin),
+        Call::Coin(paid),
+    ];
+    let answers = play(&rt, &node, &mut seats, &calls)?;
+    assert_eq!(rt;
+        answers.as_str(),
+        "5000000000 1 bytes height 1 coinbase conf 100 @100
+none @100
+accepted @101
+none @101
+4999999000 1 bytes height 101 conf 1 @101
+"
+    );
+    Ok(())
+}
+
+/// After `finish` each call is answered `Closed`, and so is `finish` with seats that don't fit.
+#[test]
+fn ends(rt: HostRuntime) -> Result<(), Fail> {
+    let (node, mut seats) = opened(rt.alloc(), &Open)?;
+    let mut table = Table::new(rt.alloc());
+    table.add(b"key", b"signature", &[0; 32])?;
+    let (other, _) = Node::open(rt.alloc(), Params::regtest(), table, 1, 1, &Open)?;
+    assert_eq!(rt;
+        other.finish(seats.as_mut_slice()).err(),
+        Some(Fault::Closed)
+    );
+    let calls = [
+        Call::Submit(FIRST, NOW),
+        Call::Reconsider(GENESIS_ID),
+        Call::Best,
+        Call::Tips,
+        Call::Coin(OutPoint::NULL),
+    ];
+    assert_eq!(rt; node.finish(seats.as_mut_slice())?.len(), 0);
+    let (again, _) = opened(rt.alloc(), &Open)?;
+    let answers = play(&rt, &again, &mut seats, &calls)?;
+    assert_eq!(rt;
+        answers.as_str(),
+        "closed\nclosed\nclosed\nclosed\nclosed\n"
+    );
+    assert_eq!(rt;
+        again.finish(seats.as_mut_slice()).err(),
+        Some(Fault::Closed)
+    );
     Ok(())
 }
 
@@ -86,33 +187,22 @@ fn work_that_is_missing(rt: HostRuntime) -> Result<(), Fail> {
     }
     let mut bytes = Vec::new(rt.alloc());
     block::write(&block, &mut bytes)?;
-    let (node, mut seats) = Node::open(rt.alloc(), Params::regtest(), 1, 1)?;
-    for seat in &mut seats {
-        assert_eq!(rt;
-            seat.submit(&node, &bytes, NOW),
-            Ok(Stamped {
-                at: 1,
-                value: SubmitReply::Rejected(Reason::HighHash)
-            })
-        );
-        assert_eq!(rt;
-            seat.getbestblockhash(&node),
-            Ok(Stamped {
-                at: 1,
-                value: GENESIS_ID
-            })
-        );
-    }
+    let (node, mut seats) = opened(rt.alloc(), &Open)?;
+    let answers = play(&rt, &node, &mut seats, &[Call::Submit(&bytes, NOW)])?;
+    assert_eq!(rt; answers.as_str(), "high-hash @1\n");
     Ok(())
 }
 
 #[test]
 fn openings(rt: HostRuntime) -> Result<(), Fail> {
-    let open = |workers, seats| Node::open(rt.alloc(), Params::regtest(), workers, seats).err();
+    let open = |workers, seats| {
+        let table = Table::new(rt.alloc());
+        Node::open(rt.alloc(), Params::regtest(), table, workers, seats, &Open).err()
+    };
     assert_eq!(rt; open(0, 2), Some(OpenFault::Workers));
     assert_eq!(rt; open(17, 1), Some(OpenFault::Workers));
     assert_eq!(rt; open(16, 2), Some(OpenFault::Seats));
-    let (node, _) = Node::open(rt.alloc(), Params::regtest(), 1, 1)?;
+    let (node, _) = opened(rt.alloc(), &Open)?;
     assert!(rt; node.finish(&mut [])?.is_empty());
     Ok(())
 }
@@ -120,17 +210,14 @@ fn openings(rt: HostRuntime) -> Result<(), Fail> {
 #[test]
 fn texts(rt: HostRuntime) -> Result<(), Fail> {
     let text = format!(in rt.alloc();
-        "{} {} {} {}",
-        Reply::Submit(SubmitReply::DuplicateInconclusive),
-        Reply::Mark(MarkReply::NotFound),
-        Fault::Unsupported,
-        OpenFault::Readers
+        "{} {} {} {} {} {}",
+        OpenFault::Workers,
+        OpenFault::Seats,
+        OpenFault::Memory,
+        OpenFault::Readers,
+        Fault::Memory,
+        Fault::Owed
     )?;
-    assert_eq!(rt;
-        text.as_str(),
-        "duplicate-inconclusive not-found unsupported readers"
-    );
-    let mark = Command::Invalidate(GENESIS_ID).copy()?;
-    assert!(rt; matches!(mark, Command::Invalidate(_)));
+    assert_eq!(rt; text.as_str(), "workers seats memory readers memory owed");
     Ok(())
 }

@@ -1,0 +1,82 @@
+-- A tree never has more blocks than its limit, so heights are small.
+use Rattle.std.proofs.Common.{◌≡◌, ℕ, zero, suc, ◌<◌, ◌≤◌, Bool, true, false, cond, leb, ltb, Option, Some, None, refl, arith}
+use Rattle.std.proofs.lemmas.Bool.{leb-false}
+use Rattle.std.specs.Option.{unwrap_or}
+use Rattle.hash.specs.declared.id.Id.{Id}
+use Rattle.txn.specs.declared.reason.Reason.{Reason}
+use Rattle.block.specs.declared.block.Block.{Block}
+use Rattle.block.specs.Decoding.{decoded}
+use Rattle.tree.specs.Branches.{height, place_of}
+use Rattle.tree.specs.State.{State, cleared, called}
+use Rattle.tree.specs.Limits.{max_blocks}
+use Rattle.tree.specs.laws.Parents.{height-place}
+use Rattle.activate.specs.declared.command.Command.{Command}
+use Rattle.activate.specs.declared.command.Command.TheVariants as command
+use Rattle.activate.specs.declared.reply.MarkReply.TheVariants.{Done}
+use Rattle.activate.specs.declared.reply.SubmitReply.TheVariants.{DecodeFailed, TreeFull}
+use Rattle.activate.specs.Rules.{Rules}
+use Rattle.activate.specs.Settle.{active, settle}
+use Rattle.activate.specs.Context.{first_fault}
+use Rattle.activate.specs.Submission.{submit_says, kept_blocks, judged, submitted}
+use Rattle.activate.specs.Step.{mark_says, invalidated, reconsidered, preferred, step}
+use Rattle.activate.specs.Commands.{submit_step, command_step, outcome}
+use Rattle.activate.specs.Sound.{Sound}
+use Rattle.activate.specs.laws.Actives.{active_kept}
+
+-- so many blocks are kept at most
+abbrev pub AreFew : State Block → Type 0
+AreFew s = kept_blocks s ≤ max_blocks
+
+module _ (r : Rules Block Id) (s : State Block) (few : AreFew s) where
+  few-judged : (b : Block) (o : Option Reason) → suc (kept_blocks s) ≤ max_blocks → AreFew (judged r s b o).0
+  unfolding judged settle
+  few-judged b (Some reason) room = few
+  few-judged b None room = room
+
+  few-submitted : (now : ℕ) (b : Block) (o : Option ℕ) → AreFew (submitted r s now b o).0
+  unfolding submitted
+  few-submitted now b (Some p) = few
+  few-submitted now b None = either (leb max_blocks (kept_blocks s)) refl
+    where
+      either : (v : Bool) → leb max_blocks (kept_blocks s) ≡ v → AreFew (cond v (submit_says s TreeFull) (judged r s b (first_fault r s now b))).0
+      either true e = few
+      either false e = let l = leb-false max_blocks (kept_blocks s) e in few-judged b (first_fault r s now b) (omega arith)
+
+  few-invalidated : (o : Option ℕ) → AreFew (invalidated r s o).0
+  unfolding invalidated settle
+  few-invalidated None = few
+  few-invalidated (Some zero) = few
+  few-invalidated (Some (suc p)) = few
+
+  few-reconsidered : (o : Option ℕ) → AreFew (reconsidered r s o).0
+  unfolding reconsidered cleared settle
+  few-reconsidered None = few
+  few-reconsidered (Some p) = few
+
+  few-preferred : (o : Option ℕ) → AreFew (preferred r s o).0
+  unfolding preferred settle
+  few-preferred None = few
+  few-preferred (Some p) =
+      elim (ltb (height s.blocks p) (height s.blocks (active r s))) as (λ (v : Bool). AreFew (cond v (mark_says s Done) (mark_says (settle r (called s p)) Done)).0) [
+        | true ↦ few
+        | false ↦ few
+      ]
+
+  few-decoded : (now : ℕ) (o : Option Block) → AreFew (unwrap_or (submit_step r s now o) (submit_says s DecodeFailed)).0
+  unfolding submit_step step
+  few-decoded now None = few
+  few-decoded now (Some b) = few-submitted now b (place_of r.names s.blocks (r.names.id_of b))
+
+  pub few-outcome : (c : Command) → AreFew (outcome r s c).0
+  unfolding command_step step
+  few-outcome (command.Submit bytes now) = few-decoded now (decoded bytes)
+  few-outcome (command.Invalidate id) = few-invalidated (place_of r.names s.blocks id)
+  few-outcome (command.Reconsider id) = few-reconsidered (place_of r.names s.blocks id)
+  few-outcome (command.Precious id) = few-preferred (place_of r.names s.blocks id)
+
+  -- the active block's height is below the limit
+  pub height-few : Sound r s → height s.blocks (active r s) < max_blocks
+  height-few sound =
+      let kept = active_kept r s sound.genesis in
+      let low = height-place s.blocks (active r s) (active r s) (omega arith) kept in
+      omega (arith, kept, low, few)

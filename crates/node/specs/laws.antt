@@ -1,2 +1,0 @@
--- What holds of the definitions.
-pub mod Undecodable

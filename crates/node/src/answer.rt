@@ -1,0 +1,48 @@
+//! What the calls of a seat answer.
+
+ghost use Rattle.std.specs.Prelude.{◌≡◌, IfOk};
+
+use coins::Coin;
+use std::alloc::Global;
+use txn::Script;
+use wire::Memory;
+
+/// An answer, and where it stands. For a read that is the number of steps before it, and for a step its
+/// own place, from 1.
+#[derive(Clone, Debug, Drop, PartialEq, Eq)]
+pub struct Stamped<T> {
+    pub at: u64,
+    pub value: T,
+}
+
+/// An output that isn't spent (Bitcoin Core's `gettxout`): its value in satoshis, its script, the height of
+/// its block, whether a coinbase made it, and how many blocks of the active branch there are from its own on.
+#[derive(Debug, Drop)]
+pub struct UnspentOutput {
+    pub value: i64,
+    pub script: Script,
+    pub height: u32,
+    pub coinbase: bool,
+    pub confirmations: u32,
+}
+
+impl UnspentOutput {
+    ghost use Rattle.node.specs.Origin.{unspent};
+
+    /// What is told of a coin that so many blocks confirm.
+    pub(crate) fn of(
+        alloc: Global,
+        coin: &Coin,
+        confirmations: u32,
+    ) -> Result<UnspentOutput, Memory>
+        ensures { IfOk result (λ output. output ≡ unspent (coin.now, confirmations)) }
+    {
+        Ok(UnspentOutput {
+            value: coin.value,
+            script: Script::from_vec(Vec::from_slice(alloc, coin.script.as_slice())?),
+            height: coin.height,
+            coinbase: coin.coinbase,
+            confirmations,
+        })
+    }
+}
