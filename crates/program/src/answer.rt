@@ -1,22 +1,20 @@
 //! The answers of a client's seat.
 
-use node::{Fault, Node, Seat, Stamped, SubmitReply};
-use scenario::{Client, Definitions, Label, Request, Words};
-use std::alloc::{AllocError, Global};
+use crate::progress::Progress;
+use crate::told::{Tips, Told};
+use node::{Fault, Node, Seat, Stamped};
+use scenario::{Client, Definitions, Request, Words};
+use std::alloc::AllocError;
 use std::fmt;
-
-/// What a seat answered.
-#[derive(Clone, Copy)]
-pub enum Outcome<'d> {
-    Submit(Result<Stamped<SubmitReply>, Fault>),
-    Best(Result<Stamped<Label<'d>>, Fault>),
-}
+use std::io::Write;
+use std::thread::Threads;
+use std::time::Clock;
 
 /// A command and its answer.
-#[derive(Clone, Copy)]
+#[derive(Drop)]
 pub struct Answer<'d, 't> {
     words: Words<'d, 't>,
-    outcome: Outcome<'d>,
+    outcome: Result<Stamped<Told<'d>>, Fault>,
 }
 
 /// A client's answers, in the order of its commands.
@@ -28,19 +26,27 @@ pub struct Section<'d, 't> {
 
 impl<'d, 't> Section<'d, 't> {
     /// Runs a client on its seat.
-    pub fn run(
-        alloc: Global,
+    pub fn run<R, E>(
+        rt: &R,
         definitions: &'d Definitions,
         client: &Client<'d, 't>,
-        node: &Node,
+        node: &Node<'_>,
         seat: &mut Seat,
-    ) -> Result<Section<'d, 't>, AllocError> {
-        let mut answers = Vec::new(alloc);
+        progress: &mut Progress<'_, E>,
+    ) -> Result<Section<'d, 't>, AllocError>
+    where
+        R: AllocGlobal + Clock + Threads + Sync,
+        E: Write,
+    {
+        let mut answers = Vec::new(rt.alloc());
         for call in client.calls.as_slice() {
             answers.push(Answer {
                 words: call.words,
-                outcome: asked(definitions, &call.request, node, seat),
+                outcome: asked(rt, definitions, &call.request, node, seat),
             })?;
+            if let Request::Submit(..) = call.request {
+                progress.count(rt);
+            }
         }
         Ok(Section {
             client: client.name,
@@ -49,22 +55,47 @@ impl<'d, 't> Section<'d, 't> {
     }
 }
 
-fn asked<'d>(
+/// What a seat answers to a request.
+fn asked<'d, R>(
+    rt: &R,
     definitions: &'d Definitions,
     request: &Request<'d>,
-    node: &Node,
+    node: &Node<'_>,
     seat: &mut Seat,
-) -> Outcome<'d> {
-    match request {
-        Request::Submit(bytes, now) => Outcome::Submit(seat.submit(node, bytes.as_slice(), *now)),
-        Request::Best => Outcome::Best(match seat.getbestblockhash(node) {
-            Ok(best) => Ok(Stamped {
-                at: best.at,
-                value: definitions.label(best.value),
-            }),
-            Err(fault) => Err(fault),
-        }),
-    }
+) -> Result<Stamped<Told<'d>>, Fault>
+where
+    R: AllocGlobal + Threads + Sync,
+{
+    let alloc = rt.alloc();
+    Ok(match request {
+        Request::Submit(bytes, now) => {
+            let reply = seat.submit(rt, node, bytes.as_slice(), *now)?;
+            stamped(reply.at, Told::Submit(reply.value))
+        }
+        Request::Invalidate(id) => marked(seat.invalidate(rt, node, *id)?),
+        Request::Reconsider(id) => marked(seat.reconsider(rt, node, *id)?),
+        Request::Precious(id) => marked(seat.precious(rt, node, *id)?),
+        Request::Best => {
+            let best = seat.getbestblockhash(node)?;
+            stamped(best.at, Told::Best(definitions.label(best.value)))
+        }
+        Request::Tips => {
+            let Stamped { at, value: list } = seat.getchaintips(alloc, node)?;
+            stamped(at, Told::Tips(Tips { definitions, list }))
+        }
+        Request::Output(outpoint) => {
+            let Stamped { at, value } = seat.gettxout(alloc, node, outpoint)?;
+            stamped(at, Told::Output(value))
+        }
+    })
+}
+
+fn marked<'d>(reply: Stamped<node::MarkReply>) -> Stamped<Told<'d>> {
+    stamped(reply.at, Told::Mark(reply.value))
+}
+
+fn stamped(at: u64, value: Told<'_>) -> Stamped<Told<'_>> {
+    Stamped { at, value }
 }
 
 impl fmt::Display for Section<'_, '_> {
@@ -80,11 +111,9 @@ impl fmt::Display for Section<'_, '_> {
 impl fmt::Display for Answer<'_, '_> {
     fn fmt<W: fmt::Write>(&self, f: &mut fmt::Formatter<W>) -> fmt::Result {
         let words = self.words;
-        match self.outcome {
-            Outcome::Submit(Ok(reply)) => writeln!(f, "{words} = {} @{}", reply.value, reply.at),
-            Outcome::Best(Ok(best)) => writeln!(f, "{words} = {} @{}", best.value, best.at),
-            Outcome::Submit(Err(fault)) => writeln!(f, "{words} = {fault}"),
-            Outcome::Best(Err(fault)) => writeln!(f, "{words} = {fault}"),
+        match &self.outcome {
+            Ok(told) => writeln!(f, "{words} = {} @{}", told.value, told.at),
+            Err(fault) => writeln!(f, "{words} = {fault}"),
         }
     }
 }

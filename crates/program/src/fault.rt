@@ -12,12 +12,22 @@ pub enum Fault<'w> {
     CommandLine(clap::Error),
     /// This line of the scenario, counted from 1, can't be read.
     ScenarioLine(usize),
+    /// The heights of soft forks aren't four numbers.
+    Heights,
     /// This line of the table, counted from 1, can't be read.
     TableLine(usize),
+    /// This line of the journal, counted from 1, can't be read, or its id isn't its record's.
+    JournalLine(usize),
+    /// The blk file isn't read on from this offset.
+    BlkStopped(u64),
+    /// The blk file has too few records, or too many.
+    BlkRecords,
     /// This file can't be read; `-` is the standard input.
     CannotRead(&'w str),
     /// This file can't be written; `-` is the standard output.
     CannotWrite(&'w str),
+    /// In this folder the file of this name can't be written.
+    CannotSave(&'w str, &'static str),
     /// There was no memory.
     Memory,
     /// The node has no seat or no history to give.
@@ -29,9 +39,17 @@ impl fmt::Display for Fault<'_> {
         match self {
             Fault::CommandLine(error) => error.fmt(f),
             Fault::ScenarioLine(number) => writeln!(f, "regchain: scenario line {number}"),
+            Fault::Heights => writeln!(f, "regchain: heights"),
             Fault::TableLine(number) => writeln!(f, "regchain: table line {number}"),
+            Fault::JournalLine(number) => writeln!(f, "regchain: journal line {number}"),
+            Fault::BlkStopped(offset) => writeln!(f, "regchain: blk stopped at {offset}"),
+            Fault::BlkRecords => writeln!(f, "regchain: blk records"),
             Fault::CannotRead(file) => writeln!(f, "regchain: cannot read {file}"),
             Fault::CannotWrite(file) => writeln!(f, "regchain: cannot write {file}"),
+            Fault::CannotSave(folder, file) => writeln!(
+                f,
+                "regchain: cannot write {folder}/{file}"
+            ),
             Fault::Memory => writeln!(f, "regchain: memory"),
             Fault::Closed => writeln!(f, "regchain: closed"),
         }
@@ -88,6 +106,19 @@ impl From<block::ReadFault> for Fault<'_> {
         match fault {
             block::ReadFault::Memory => Fault::Memory,
             _ => Fault::Closed,
+        }
+    }
+}
+
+impl From<block::BlkFault> for Fault<'_> {
+    fn from(fault: block::BlkFault) -> Self {
+        match fault {
+            block::BlkFault::Foreign(offset) => Fault::BlkStopped(offset),
+            block::BlkFault::Cut(offset) => Fault::BlkStopped(offset),
+            block::BlkFault::TooLong(offset) => Fault::BlkStopped(offset),
+            block::BlkFault::Memory => Fault::Memory,
+            // The reader is asked no more after a fault, and a slice of bytes has none of its own.
+            block::BlkFault::Read | block::BlkFault::Stopped => Fault::Closed,
         }
     }
 }

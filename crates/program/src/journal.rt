@@ -1,21 +1,41 @@
-//! The journal, as it is printed.
+//! The lines of the journal.
 
 use block::ReadFault;
 use hash::Id;
-use node::{Command, Entry};
-use scenario::Label;
+use node::{Command, Entry, Reply};
 use std::alloc::Global;
 use std::fmt;
 
-/// A step of the journal.
+/// What a step was asked. A submission has its moment, in seconds since 1970.
+#[derive(Clone, Copy, Debug)]
+pub enum Asked {
+    Submit(u64),
+    Invalidate,
+    Reconsider,
+    Precious,
+}
+
+/// A line of the journal: a step, and how the block that it is about is told.
 #[derive(Clone, Copy)]
-pub struct Step<'d, 't> {
+pub struct Step<'t, B> {
     /// Its place, from 1.
     pub number: usize,
     pub client: &'t str,
-    pub entry: &'t Entry,
-    /// The block that it is about.
-    pub block: Label<'d>,
+    pub asked: Asked,
+    pub block: B,
+    /// None where it is owed.
+    pub reply: Option<Reply>,
+}
+
+impl Asked {
+    pub fn from_command(command: &Command) -> Asked {
+        match command {
+            Command::Submit(_, now) => Asked::Submit(*now),
+            Command::Invalidate(_) => Asked::Invalidate,
+            Command::Reconsider(_) => Asked::Reconsider,
+            Command::Precious(_) => Asked::Precious,
+        }
+    }
 }
 
 /// The id of the block that an entry is about.
@@ -28,18 +48,19 @@ pub fn block_of(alloc: Global, entry: &Entry) -> Result<Id, ReadFault> {
     }
 }
 
-impl fmt::Display for Step<'_, '_> {
+impl<B: fmt::Display> fmt::Display for Step<'_, B> {
     fn fmt<W: fmt::Write>(&self, f: &mut fmt::Formatter<W>) -> fmt::Result {
+        let block = &self.block;
         write!(f, "{} {} ", self.number, self.client)?;
-        match &self.entry.command {
-            Command::Submit(_, now) => write!(f, "submit {} {now} = ", self.block)?,
-            Command::Invalidate(_) => write!(f, "invalidate {} = ", self.block)?,
-            Command::Reconsider(_) => write!(f, "reconsider {} = ", self.block)?,
-            Command::Precious(_) => write!(f, "precious {} = ", self.block)?,
+        match self.asked {
+            Asked::Submit(now) => write!(f, "submit {block} {now}")?,
+            Asked::Invalidate => write!(f, "invalidate {block}")?,
+            Asked::Reconsider => write!(f, "reconsider {block}")?,
+            Asked::Precious => write!(f, "precious {block}")?,
         }
-        match self.entry.reply {
-            Some(reply) => writeln!(f, "{reply}"),
-            None => writeln!(f, "owed"),
+        match self.reply {
+            Some(reply) => write!(f, " = {reply}"),
+            None => f.write_str(" = owed"),
         }
     }
 }

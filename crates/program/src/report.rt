@@ -2,49 +2,92 @@
 
 use crate::answer::Section;
 use crate::fault::Fault;
-use crate::journal::{Step, block_of};
+use crate::journal::{Asked, Step, block_of};
+use crate::progress::Progress;
 use hash::Id;
-use node::{Entry, Node, Params};
+use node::{Entry, Node, Open, Params};
 use scenario::{Client, Definitions};
-use std::alloc::Global;
+use std::alloc::{AllocError, Global};
 use std::fmt;
+use std::fmt::Write as _;
+use std::io::Write;
+use std::thread::Threads;
+use std::time::Clock;
 
-/// How many workers check scripts.
-const WORKERS: usize = 2;
+/// How the node is opened.
+#[derive(Clone, Copy)]
+pub struct Setting {
+    pub params: Params,
+    pub workers: usize,
+}
 
 /// The answers of each client, and the journal.
 #[derive(Drop)]
 pub struct Report<'d, 't> {
     definitions: &'d Definitions,
     sections: Vec<Section<'d, 't>>,
-    journal: Vec<Entry>,
+    entries: Vec<Entry>,
     /// The block that each step of the journal is about.
     blocks: Vec<Id>,
 }
 
 impl<'d, 't> Report<'d, 't> {
     /// Runs the clients on a new node, each on a seat of its own.
-    pub fn run(
-        alloc: Global,
+    pub fn run<R, E>(
+        rt: &R,
+        setting: Setting,
         definitions: &'d Definitions,
         clients: &[Client<'d, 't>],
-    ) -> Result<Report<'d, 't>, Fault<'static>> {
-        let (node, mut seats) = Node::open(alloc, Params::regtest(), WORKERS, clients.len())?;
+        progress: &mut Progress<'_, E>,
+    ) -> Result<Report<'d, 't>, Fault<'static>>
+    where
+        R: AllocGlobal + Clock + Threads + Sync,
+        E: Write,
+    {
+        let alloc = rt.alloc();
+        let Setting { params, workers } = setting;
+        let table = definitions.table().copy()?;
+        let (node, mut seats) = Node::open(alloc, params, table, workers, clients.len(), &Open)?;
         let mut sections = Vec::new(alloc);
         for (seat, client) in seats.iter_mut().zip(clients.iter()) {
-            sections.push(Section::run(alloc, definitions, client, &node, seat)?)?;
+            sections.push(Section::run(rt, definitions, client, &node, seat, progress)?)?;
         }
-        let journal = node.finish(seats.as_mut_slice())?;
+        let entries = node.finish(seats.as_mut_slice())?;
         let mut blocks = Vec::new(alloc);
-        for entry in journal.as_slice() {
+        for entry in entries.as_slice() {
             blocks.push(block_of(alloc, entry)?)?;
         }
         Ok(Report {
             definitions,
             sections,
-            journal,
+            entries,
             blocks,
         })
+    }
+
+    /// The steps, in order.
+    pub fn entries(&self) -> &[Entry] {
+        self.entries.as_slice()
+    }
+
+    /// The journal's lines, with the ids of blocks in digits.
+    pub fn journal_in_digits(&self, alloc: Global) -> Result<String, AllocError> {
+        let mut text = String::new(alloc);
+        for (place, (entry, id)) in self.entries.iter().zip(self.blocks.iter()).enumerate() {
+            writeln!(text, "{}", self.step(place + 1, entry, *id)).map_err(|_| AllocError)?;
+        }
+        Ok(text)
+    }
+
+    /// The step of this number, about this block.
+    fn step<B>(&self, number: usize, entry: &Entry, block: B) -> Step<'t, B> {
+        Step {
+            number,
+            client: self.client(entry.seat),
+            asked: Asked::from_command(&entry.command),
+            block,
+            reply: entry.reply,
+        }
     }
 
     /// The name of the client that has this seat.
@@ -59,14 +102,9 @@ impl fmt::Display for Report<'_, '_> {
             section.fmt(f)?;
         }
         f.write_str("journal\n")?;
-        for (place, (entry, id)) in self.journal.iter().zip(self.blocks.iter()).enumerate() {
-            let step = Step {
-                number: place + 1,
-                client: self.client(entry.seat),
-                entry,
-                block: self.definitions.label(*id),
-            };
-            step.fmt(f)?;
+        for (place, (entry, id)) in self.entries.iter().zip(self.blocks.iter()).enumerate() {
+            let step = self.step(place + 1, entry, self.definitions.label(*id));
+            writeln!(f, "{step}")?;
         }
         Ok(())
     }

@@ -1,22 +1,29 @@
 //! The program, over a reader and two writers.
 
-ghost use Rattle.std.specs.Prelude.{◌≡◌, ◌≤◌, OnOk, OnErr};
+ghost use Rattle.std.specs.Prelude.{◌≡◌, ℕ, ◌≤◌, length, IfOk, OnErr};
+ghost use Rattle.program.specs.declared.audit.Finding.TheVariants as findings;
 
+use crate::audit::{Finding, audit};
 use crate::fault::Fault;
-use crate::options::{NAME, Options, STANDARD, no_text};
-use crate::report::Report;
-use curve::Table;
-use scenario::{Definitions, lines, number_after, read_clients};
+use crate::files::{print, read_scenario, read_table};
+use crate::heights;
+use crate::options::{NAME, Options, RunOptions, no_text};
+use crate::progress::Progress;
+use crate::report::{Report, Setting};
+use crate::saving::save;
+use scenario::{Definitions, Line, lines, number_after, read_clients};
 use std::alloc::{AllocError, Global};
 use std::convert::AsStr;
+use std::env;
 use std::io::{ErrorKind, Read, Write};
 use std::rt::{Env, Files};
-use std::{env, fs, io};
+use std::thread::Threads;
+use std::time::Clock;
 
-/// The status of a run with its whole output.
+/// The status of a run with its whole output, and of a journal that agrees.
 const DONE: u8 = 0;
 
-/// The status of a run with a line on the standard error.
+/// The status of a fault, and of a journal that differs.
 const FAILED: u8 = 1;
 
 /// The words of the process's command line, without the program's name. Where they can't be read there is
@@ -35,11 +42,11 @@ where
     }
 }
 
-/// Runs the command line of these words, without the program's name: 0, or 1 with a line on the standard
-/// error.
+/// Runs the command line of these words, without the program's name: 0; or 1 with a fault on the standard error, or
+/// with a line on the standard output that the journal differs.
 pub fn program<R, S, I, O, E>(rt: &R, words: &[S], input: &mut I, out: &mut O, err: &mut E) -> u8
 where
-    R: Files + AllocGlobal,
+    R: Files + AllocGlobal + Clock + Threads + Sync,
     S: AsStr,
     I: Read,
     O: Write,
@@ -47,18 +54,18 @@ where
     ensures { result ≤ 1 }
 {
     match named(rt.alloc(), words) {
-        Ok(words) => status(attempt(rt, words.as_slice(), input, out), err),
+        Ok(words) => status(attempt(rt, words.as_slice(), input, out, err), err),
         Err(AllocError) => status(Err(Fault::Memory), err),
     }
 }
 
-/// The status of a run, which is told of its fault.
-fn status<E: Write>(outcome: Result<(), Fault<'_>>, err: &mut E) -> u8
-    ensures ok { OnOk outcome.entry (result ≡ 0) }
+/// The status of a run. A fault is told.
+fn status<E: Write>(outcome: Result<u8, Fault<'_>>, err: &mut E) -> u8
+    ensures ok { IfOk outcome.entry (λ status. result ≡ status) }
     ensures fault { OnErr outcome.entry (result ≡ 1) }
 {
     match outcome {
-        Ok(()) => DONE,
+        Ok(status) => status,
         Err(fault) => {
             tell(&fault, err);
             FAILED
@@ -93,72 +100,88 @@ where
     }
 }
 
-fn attempt<'w, R, I, O>(
+fn attempt<'w, R, I, O, E>(
     rt: &R,
     words: &'w [&'w str],
     input: &mut I,
     out: &mut O,
-) -> Result<(), Fault<'w>>
+    err: &mut E,
+) -> Result<u8, Fault<'w>>
 where
-    R: Files + AllocGlobal,
+    R: Files + AllocGlobal + Clock + Threads + Sync,
     I: Read,
     O: Write,
+    E: Write,
+    ensures { IfOk result (λ status. status ≤ 1) }
+{
+    match Options::read(rt.alloc(), words)? {
+        Options::Run(options) => {
+            run(rt, &options, input, out, err)?;
+            Ok(DONE)
+        }
+        Options::Audit(options) => {
+            let finding = audit(rt, &options, err)?;
+            print(out, finding.to_string(rt.alloc())?.as_str())?;
+            Ok(status_of(finding))
+        }
+    }
+}
+
+/// The status of a journal that was replayed.
+fn status_of(finding: Finding) -> u8
+    ensures bound { result ≤ 1 }
+    ensures agrees { finding ≡ findings.Agrees → result ≡ 0 }
+    ensures differs { (line : ℕ) → finding ≡ findings.Differs line → result ≡ 1 }
+{
+    match finding {
+        Finding::Agrees => DONE,
+        Finding::Differs(_) => FAILED,
+    }
+}
+
+/// Runs a scenario, prints what its clients were answered, and saves it where that is asked for.
+fn run<'w, R, I, O, E>(
+    rt: &R,
+    options: &RunOptions<'w>,
+    input: &mut I,
+    out: &mut O,
+    err: &mut E,
+) -> Result<(), Fault<'w>>
+where
+    R: Files + AllocGlobal + Clock + Threads + Sync,
+    I: Read,
+    O: Write,
+    E: Write,
 {
     let alloc = rt.alloc();
-    let Options::Run { scenario, table } = Options::read(alloc, words)?;
-    let text = read(rt, scenario, input)?;
-    let table = read_table(rt, table)?;
+    let params = heights::read(options.heights).ok_or(Fault::Heights)?;
+    let text = read_scenario(rt, options.scenario, input)?;
+    let table = read_table(rt, options.table)?;
     let lines = lines(alloc, text.as_slice())?;
-    let is_client = lines
-        .iter()
-        .position(|line| line.words.first() == Some(&"client"));
-    let (above, below) = lines.split_at(is_client.unwrap_or(lines.len()));
+    let (above, below) = lines.split_at(first_client(lines.as_slice()));
     let definitions = Definitions::read(alloc, above, table)?;
     let clients = read_clients(alloc, &definitions, below)?;
     if clients.is_empty() {
         return Err(Fault::ScenarioLine(number_after(text.as_slice())));
     }
-    let report = Report::run(alloc, &definitions, clients.as_slice())?;
-    let text = report.to_string(alloc)?;
-    print(out, text.as_str()).map_err(|_| Fault::CannotWrite(STANDARD))
-}
-
-/// The bytes of a scenario's file, all of them.
-fn read<'w, R, I>(rt: &R, file: &'w str, input: &mut I) -> Result<Vec<u8>, Fault<'w>>
-where
-    R: Files + AllocGlobal,
-    I: Read,
-{
-    if file != STANDARD {
-        return fs::read(rt, file).map_err(|error| unread(error.kind(), file));
-    }
-    let mut bytes = Vec::new(rt.alloc());
-    match input.read_to_end(&mut bytes) {
-        Ok(_) => Ok(bytes),
-        Err(error) => Err(unread(error.kind(), file)),
-    }
-}
-
-/// The valid signatures of a table's file: none, where there is no file.
-fn read_table<'w, R>(rt: &R, file: Option<&'w str>) -> Result<Table, Fault<'w>>
-where
-    R: Files + AllocGlobal,
-{
-    let Some(file) = file else {
-        return Ok(Table::new(rt.alloc()));
+    let mut progress = Progress::new(rt, err, options.tells_progress);
+    let setting = Setting {
+        params,
+        workers: options.workers,
     };
-    let text = fs::read(rt, file).map_err(|error| unread(error.kind(), file))?;
-    Ok(Table::from_lines(rt.alloc(), text.as_slice())?)
-}
-
-fn unread<'w>(kind: ErrorKind, file: &'w str) -> Fault<'w> {
-    match kind {
-        ErrorKind::OutOfMemory => Fault::Memory,
-        _ => Fault::CannotRead(file),
+    let report = Report::run(rt, setting, &definitions, clients.as_slice(), &mut progress)?;
+    progress.end(rt);
+    print(out, report.to_string(alloc)?.as_str())?;
+    match options.save {
+        Some(folder) => save(rt, folder, &report, definitions.table()),
+        None => Ok(()),
     }
 }
 
-fn print<O: Write>(out: &mut O, text: &str) -> io::Result<()> {
-    out.write_all(text.as_bytes())?;
-    out.flush()
+/// The place of the first client's line, or the number of lines where there is none.
+fn first_client(lines: &[Line<'_>]) -> usize
+    ensures { result ≤ length lines.now }
+{
+    let is_client = |line: &Line<'_>| line.words.first() == Some(&"client");
+    lines.iter().position(is_client).unwrap_or(lines.len())
 }

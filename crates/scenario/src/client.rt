@@ -4,8 +4,10 @@ use crate::definitions::Definitions;
 use crate::fault::{LineFault, ScenarioFault};
 use crate::line::{Line, bytes, is_name, number};
 use block::GENESIS_TIME;
+use hash::Id;
 use std::alloc::Global;
 use std::fmt;
+use txn::OutPoint;
 
 /// The words of a command, as an answer repeats them.
 #[derive(Clone, Copy)]
@@ -29,7 +31,16 @@ pub enum Payload<'d> {
 pub enum Request<'d> {
     /// To submit these bytes, at this moment in seconds since 1970.
     Submit(Payload<'d>, u64),
+    /// To mark the block of this id as invalid.
+    Invalidate(Id),
+    /// To take the marks from the block of this id, its ancestors and its descendants.
+    Reconsider(Id),
+    /// To prefer the block of this id to all that are as high.
+    Precious(Id),
     Best,
+    Tips,
+    /// What coin this output is.
+    Output(OutPoint),
 }
 
 /// A command that is answered.
@@ -117,8 +128,7 @@ impl<'d, 't> Client<'d, 't> {
                 let raw = Payload::Own(bytes(alloc, digits)?);
                 self.call(Words::Line(line.text), Request::Submit(raw, self.now))
             }
-            ["best"] => self.call(Words::Line(line.text), Request::Best),
-            _ => Err(LineFault::Unreadable),
+            words => self.call(Words::Line(line.text), question(definitions, words)?),
         }
     }
 
@@ -153,6 +163,19 @@ impl<'d, 't> Client<'d, 't> {
     fn call(&mut self, words: Words<'d, 't>, request: Request<'d>) -> Result<(), LineFault> {
         self.calls.push(Call { words, request })?;
         Ok(())
+    }
+}
+
+/// What the words of a line ask that submits nothing.
+fn question<'d>(definitions: &Definitions, words: &[&str]) -> Result<Request<'d>, LineFault> {
+    match words {
+        ["invalidate", name] => Ok(Request::Invalidate(definitions.find(name)?.id)),
+        ["reconsider", name] => Ok(Request::Reconsider(definitions.find(name)?.id)),
+        ["precious", name] => Ok(Request::Precious(definitions.find(name)?.id)),
+        ["best"] => Ok(Request::Best),
+        ["tips"] => Ok(Request::Tips),
+        ["txout", output] => Ok(Request::Output(definitions.output(output)?)),
+        _ => Err(LineFault::Unreadable),
     }
 }
 

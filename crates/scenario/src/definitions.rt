@@ -211,11 +211,16 @@ impl Definitions {
         known.ok_or(LineFault::Unreadable)
     }
 
-    /// The outpoint that a word names: `null`, or a transaction and an output's number.
+    /// The outpoint that a word names: `null`, or an output.
     pub fn outpoint(&self, word: &str) -> Result<OutPoint, LineFault> {
-        if word == "null" {
-            return Ok(OutPoint::NULL);
+        match word {
+            "null" => Ok(OutPoint::NULL),
+            _ => self.output(word),
         }
+    }
+
+    /// The output that a word names: a transaction and a number. That there is such an output isn't asked.
+    pub fn output(&self, word: &str) -> Result<OutPoint, LineFault> {
         let (tx, index) = word.split_once(':').ok_or(LineFault::Unreadable)?;
         Ok(OutPoint {
             id: self.transaction(tx)?.id,

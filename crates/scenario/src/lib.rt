@@ -17,7 +17,7 @@ pub use client::{Call, Client, Payload, Request, Words, read_clients};
 pub use definitions::Definitions;
 pub use fault::{LineFault, ScenarioFault};
 pub use label::Label;
-pub use line::{Line, lines, number_after};
+pub use line::{Line, is_name, lines, number_after};
 pub use making::Named;
 
 #[cfg(test)]

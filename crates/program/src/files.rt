@@ -1,0 +1,61 @@
+//! The files of a run, and its streams.
+
+use crate::fault::Fault;
+use crate::options::STANDARD;
+use curve::Table;
+use std::io::{ErrorKind, Read, Write};
+use std::rt::Files;
+use std::{fs, io};
+
+/// The bytes of a file.
+pub fn read_file<'w, R>(rt: &R, file: &'w str) -> Result<Vec<u8>, Fault<'w>>
+where
+    R: Files + AllocGlobal,
+{
+    fs::read(rt, file).map_err(|error| unread(error.kind(), file))
+}
+
+/// The bytes of a scenario's file, which may be the standard input.
+pub fn read_scenario<'w, R, I>(rt: &R, file: &'w str, input: &mut I) -> Result<Vec<u8>, Fault<'w>>
+where
+    R: Files + AllocGlobal,
+    I: Read,
+{
+    if file != STANDARD {
+        return read_file(rt, file);
+    }
+    let mut bytes = Vec::new(rt.alloc());
+    match input.read_to_end(&mut bytes) {
+        Ok(_) => Ok(bytes),
+        Err(error) => Err(unread(error.kind(), file)),
+    }
+}
+
+/// The valid signatures of a table's file: none, where there is no file.
+pub fn read_table<'w, R>(rt: &R, file: Option<&'w str>) -> Result<Table, Fault<'w>>
+where
+    R: Files + AllocGlobal,
+{
+    let Some(file) = file else {
+        return Ok(Table::new(rt.alloc()));
+    };
+    let text = read_file(rt, file)?;
+    Ok(Table::from_lines(rt.alloc(), text.as_slice())?)
+}
+
+fn unread<'w>(kind: ErrorKind, file: &'w str) -> Fault<'w> {
+    match kind {
+        ErrorKind::OutOfMemory => Fault::Memory,
+        _ => Fault::CannotRead(file),
+    }
+}
+
+/// Writes a text to the standard output.
+pub fn print<O: Write>(out: &mut O, text: &str) -> Result<(), Fault<'static>> {
+    print_all(out, text).map_err(|_| Fault::CannotWrite(STANDARD))
+}
+
+fn print_all<O: Write>(out: &mut O, text: &str) -> io::Result<()> {
+    out.write_all(text.as_bytes())?;
+    out.flush()
+}

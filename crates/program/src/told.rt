@@ -1,0 +1,81 @@
+//! What a seat answers, as it is printed.
+
+use node::{MarkReply, Status, SubmitReply, Tip, UnspentOutput};
+use scenario::{Definitions, Label};
+use std::fmt;
+use txn::Script;
+
+/// What a seat answered.
+#[derive(Drop)]
+pub enum Told<'d> {
+    Submit(SubmitReply),
+    Mark(MarkReply),
+    Best(Label<'d>),
+    Tips(Tips<'d>),
+    Output(Option<UnspentOutput>),
+}
+
+/// The tips of the tree, with the names of their blocks.
+#[derive(Drop)]
+pub struct Tips<'d> {
+    pub definitions: &'d Definitions,
+    pub list: Vec<Tip>,
+}
+
+impl fmt::Display for Told<'_> {
+    fn fmt<W: fmt::Write>(&self, f: &mut fmt::Formatter<W>) -> fmt::Result {
+        match self {
+            Told::Submit(reply) => reply.fmt(f),
+            Told::Mark(reply) => reply.fmt(f),
+            Told::Best(block) => block.fmt(f),
+            Told::Tips(tips) => tips.fmt(f),
+            Told::Output(None) => f.write_str("none"),
+            Told::Output(Some(output)) => write_output(output, f),
+        }
+    }
+}
+
+impl fmt::Display for Tips<'_> {
+    fn fmt<W: fmt::Write>(&self, f: &mut fmt::Formatter<W>) -> fmt::Result {
+        for (place, tip) in self.list.iter().enumerate() {
+            if place > 0 {
+                f.write_str("; ")?;
+            }
+            let block = self.definitions.label(tip.id);
+            let status = text_of(tip.status);
+            write!(f, "{block} {} {} {status}", tip.height, tip.length)?;
+        }
+        Ok(())
+    }
+}
+
+/// Bitcoin Core's words (`getchaintips`).
+fn text_of(status: Status) -> &'static str {
+    match status {
+        Status::Active => "active",
+        Status::Invalid => "invalid",
+        Status::ValidFork => "valid-fork",
+        Status::ValidHeaders => "valid-headers",
+    }
+}
+
+fn write_output<W: fmt::Write>(output: &UnspentOutput, f: &mut fmt::Formatter<W>) -> fmt::Result {
+    write!(f, "{} ", output.value)?;
+    write_script(&output.script, f)?;
+    write!(f, " height {} ", output.height)?;
+    if output.coinbase {
+        f.write_str("coinbase ")?;
+    }
+    write!(f, "conf {}", output.confirmations)
+}
+
+/// A script in hexadecimal digits, or `-` for the empty one.
+fn write_script<W: fmt::Write>(script: &Script, f: &mut fmt::Formatter<W>) -> fmt::Result {
+    if script.is_empty() {
+        return f.write_str("-");
+    }
+    for byte in script.as_slice() {
+        write!(f, "{byte:02x}")?;
+    }
+    Ok(())
+}
