@@ -63,7 +63,7 @@ fn lines_that_say_nothing(rt: HostRuntime) {
     );
 }
 
-/// A block that this version doesn't judge takes no step, and the client goes on.
+/// Two blocks on genesis, of which the first came first; a cut that cuts nothing, and no bytes.
 #[test]
 fn a_second_block_on_genesis(rt: HostRuntime) {
     expect_output(
@@ -71,14 +71,15 @@ fn a_second_block_on_genesis(rt: HostRuntime) {
         b"block b1 genesis\nblock b2 genesis\nblock b3 b1\nclient a\nsubmit b1\nsubmit b2\nnow 1296688700\neach b 3 3\ncut b1 1000\nraw -\nbest\n",
         "client a\n\
          submit b1 = accepted @1\n\
-         submit b2 = unsupported\n\
-         submit b3 = accepted @2\n\
-         cut b1 1000 = duplicate @3\n\
-         raw - = decode-failed @3\n\
-         best = b3 @3\n\
+         submit b2 = inconclusive @2\n\
+         submit b3 = accepted @3\n\
+         cut b1 1000 = duplicate @4\n\
+         raw - = decode-failed @4\n\
+         best = b3 @4\n\
          journal\n\
          1 a submit b1 1296688602 = accepted\n\
-         2 a submit b3 1296688700 = accepted\n\
-         3 a submit b1 1296688700 = duplicate\n",
+         2 a submit b2 1296688602 = inconclusive\n\
+         3 a submit b3 1296688700 = accepted\n\
+         4 a submit b1 1296688700 = duplicate\n",
     );
 }

@@ -53,26 +53,27 @@ fn a_root_that_is_said(rt: HostRuntime) {
     );
 }
 
-/// A block pays at most the subsidy; less is plain, and so are any script of its output, a later version,
-/// a later time and any script of its coinbase that begins with the height.
+/// A block pays at most the subsidy. It may pay less, to any script, and have a later version, a later time and any
+/// script of its coinbase that begins with the height.
 #[test]
-fn plain_blocks(rt: HostRuntime) {
+fn blocks_of_a_coinbase_alone(rt: HostRuntime) {
     expect_output(
         &rt,
         b"block b1 genesis reward=4999999999 pay=6a\n\
           block b2 b1 version=5 time=1296695802 cb=5252 pay=-\n\
           block b3 b2 cb=none b1.cb b2.cb\n\
-          block b4 b2 reward=5000000001\n\
+          block b4 b2 time=1296695802 reward=5000000001\n\
           client a\neach b 1 2\nsubmit b3\nsubmit b4\nbest\n",
         "client a\n\
          submit b1 = accepted @1\n\
          submit b2 = accepted @2\n\
          submit b3 = bad-cb-multiple @3\n\
-         submit b4 = unsupported\n\
-         best = b2 @3\n\
+         submit b4 = bad-cb-amount @4\n\
+         best = b2 @4\n\
          journal\n\
          1 a submit b1 1296688602 = accepted\n\
          2 a submit b2 1296688602 = accepted\n\
-         3 a submit b3 1296688602 = bad-cb-multiple\n",
+         3 a submit b3 1296688602 = bad-cb-multiple\n\
+         4 a submit b4 1296688602 = bad-cb-amount\n",
     );
 }

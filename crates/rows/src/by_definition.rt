@@ -1,4 +1,4 @@
-//! Commands through `slow`, the definition as a program, and the replies that they must have.
+//! Commands through `slow`, the definition as a program, and through the chainstate, and the replies that both must give.
 
 use crate::commands::{Asked, expect_replies};
 use rules::Params;

@@ -1,6 +1,7 @@
 //! Commands as texts, each with the reply that it must have.
 
-use activate::{Bytes, Command, slow};
+use crate::stepping::played;
+use activate::{Bytes, Command, Reply, slow};
 use block::GENESIS_TIME;
 use curve::Table;
 use rules::Params;
@@ -17,53 +18,77 @@ pub struct Asked {
     pub commands: &'static str,
 }
 
-/// The commands of some lines, and their replies.
+/// The commands of some lines, and the replies that stand behind them.
 #[derive(Drop)]
-struct Told {
-    commands: Vec<Command>,
-    replies: Vec<String>,
+pub struct Told {
+    pub commands: Vec<Command>,
+    pub replies: Vec<String>,
     /// The moment of the submissions to come.
     now: u64,
 }
 
-/// Asks by the definition, and compares each reply.
+/// Asks by the definition and by the chainstate, and compares each reply.
 pub fn expect_replies<R: AllocGlobal + Abort>(rt: &R, asked: &Asked) -> Result<(), Fail> {
     let alloc = rt.alloc();
-    let text = lines(alloc, asked.definitions.as_bytes())?;
-    let definitions = Definitions::read(alloc, &text, Table::new(alloc))?;
-    let mut told = Told {
-        commands: Vec::new(alloc),
-        replies: Vec::new(alloc),
-        now: u64::from(GENESIS_TIME),
-    };
-    let text = lines(alloc, asked.commands.as_bytes())?;
-    for line in &text {
-        told.read(alloc, &definitions, line)?;
-    }
+    let definitions = define(alloc, asked.definitions)?;
+    let told = Told::from_text(alloc, &definitions, asked.commands)?;
     let replies = slow(alloc, &asked.params, &told.commands, definitions.table())?;
-    assert_eq!(rt; replies.len(), told.replies.len());
-    for (reply, wanted) in replies.iter().zip(&told.replies) {
-        assert_eq!(rt; format!(in alloc; "{reply}")?.as_str(), wanted.as_str());
+    expect_texts(rt, &replies, &told.replies)?;
+    let (_, replies) = played(alloc, asked.params, definitions.table(), &told.commands)?;
+    expect_texts(rt, &replies, &told.replies)
+}
+
+/// What a scenario's lines define.
+pub fn define(alloc: Global, text: &str) -> Result<Definitions, Fail> {
+    let text = lines(alloc, text.as_bytes())?;
+    Ok(Definitions::read(alloc, &text, Table::new(alloc))?)
+}
+
+/// Replies, and the texts that they must have.
+pub fn expect_texts<R: AllocGlobal + Abort>(
+    rt: &R,
+    replies: &[Reply],
+    texts: &[String],
+) -> Result<(), Fail> {
+    assert_eq!(rt; replies.len(), texts.len());
+    for (reply, wanted) in replies.iter().zip(texts) {
+        assert_eq!(rt;
+            format!(in rt.alloc(); "{reply}")?.as_str(),
+            wanted.as_str()
+        );
     }
     Ok(())
 }
 
 impl Told {
-    /// Reads a line: a command, and its reply behind ` = `.
+    /// Reads lines: on each a command, and its reply behind ` = `; no reply where there is none.
+    pub fn from_text(alloc: Global, definitions: &Definitions, text: &str) -> Result<Told, Fail> {
+        let mut told = Told {
+            commands: Vec::new(alloc),
+            replies: Vec::new(alloc),
+            now: u64::from(GENESIS_TIME),
+        };
+        let text = lines(alloc, text.as_bytes())?;
+        for line in &text {
+            told.read(alloc, definitions, line)?;
+        }
+        Ok(told)
+    }
+
     fn read(
         &mut self,
         alloc: Global,
         definitions: &Definitions,
         line: &Line<'_>,
     ) -> Result<(), Fail> {
-        if let ["now", moment] = line.words.as_slice() {
-            self.now = moment.parse().map_err(|_| Fail::new("a moment"))?;
-            return Ok(());
-        }
-        let (_, reply) = line.text.split_once(" = ").ok_or("a reply")?;
+        let reply = line.text.split_once(" = ").map_or("", |(_, reply)| reply);
         match line.words.as_slice() {
-            ["submit", name, "=", ..] => self.submit(alloc, definitions, name, reply),
-            ["each", name, first, last, "=", ..] => {
+            ["now", moment] => {
+                self.now = moment.parse().map_err(|_| Fail::new("a moment"))?;
+                Ok(())
+            }
+            ["submit", name, ..] => self.submit(alloc, definitions, name, reply),
+            ["each", name, first, last, ..] => {
                 let first: u32 = first.parse().map_err(|_| Fail::new("a number"))?;
                 let last: u32 = last.parse().map_err(|_| Fail::new("a number"))?;
                 for number in first..=last {
@@ -72,7 +97,7 @@ impl Told {
                 }
                 Ok(())
             }
-            [word, name, "=", ..] => self.mark(alloc, definitions, word, name, reply),
+            [word, name, ..] => self.mark(alloc, definitions, word, name, reply),
             _ => Err(Fail::new("a line")),
         }
     }

@@ -4,24 +4,50 @@
 #[cfg(test)]
 mod answers;
 #[cfg(test)]
+mod audit_faults;
+#[cfg(test)]
 mod block_options;
+#[cfg(test)]
+mod by_chainstate;
 #[cfg(test)]
 mod by_definition;
 #[cfg(test)]
+mod chance;
+#[cfg(test)]
 mod command_line;
+#[cfg(test)]
+mod command_line_runs;
 #[cfg(test)]
 mod commands;
 #[cfg(test)]
 mod context_free;
 #[cfg(test)]
+mod dealing;
+#[cfg(test)]
+mod dialogue;
+#[cfg(test)]
+mod large_blocks;
+#[cfg(test)]
 mod outside_blocks;
 #[cfg(test)]
 mod play;
 #[cfg(test)]
+mod saved_files;
+#[cfg(test)]
 mod scenario_faults;
 #[cfg(test)]
+mod scenario_rows;
+#[cfg(test)]
+mod scenario_rows_spends;
+#[cfg(test)]
 mod scripts;
+#[cfg(test)]
+mod stepping;
 #[cfg(test)]
 mod streams;
 #[cfg(test)]
 mod table_files;
+#[cfg(test)]
+mod worked_examples;
+#[cfg(test)]
+mod workers;

@@ -3,6 +3,8 @@
 use program::program;
 use std::process::Abort;
 use std::rt::Files;
+use std::thread::Threads;
+use std::time::Clock;
 
 /// What the program wrote, and its status.
 #[derive(Drop)]
@@ -13,7 +15,11 @@ pub struct Played {
 }
 
 /// Runs the program.
-pub fn play<R: Files + AllocGlobal>(rt: &R, words: &[&str], text: &[u8]) -> Played {
+pub fn play<R: Files + AllocGlobal + Clock + Threads + Sync>(
+    rt: &R,
+    words: &[&str],
+    text: &[u8],
+) -> Played {
     let mut input = text;
     let mut out = Vec::new(rt.alloc());
     let mut err = Vec::new(rt.alloc());
@@ -22,7 +28,11 @@ pub fn play<R: Files + AllocGlobal>(rt: &R, words: &[&str], text: &[u8]) -> Play
 }
 
 /// A scenario, and the whole output that it must have.
-pub fn expect_output<R: Files + AllocGlobal + Abort>(rt: &R, text: &[u8], output: &str) {
+pub fn expect_output<R: Files + AllocGlobal + Clock + Threads + Sync + Abort>(
+    rt: &R,
+    text: &[u8],
+    output: &str,
+) {
     let played = play(rt, &[], text);
     assert_eq!(rt; played.out.as_slice(), output.as_bytes());
     assert_eq!(rt; played.err.as_slice(), b"".as_slice());
@@ -30,7 +40,7 @@ pub fn expect_output<R: Files + AllocGlobal + Abort>(rt: &R, text: &[u8], output
 }
 
 /// A command line and a scenario, and the line on the standard error that they must give.
-pub fn expect_fault<R: Files + AllocGlobal + Abort>(
+pub fn expect_fault<R: Files + AllocGlobal + Clock + Threads + Sync + Abort>(
     rt: &R,
     words: &[&str],
     text: &[u8],

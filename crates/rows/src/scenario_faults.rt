@@ -4,6 +4,8 @@ use crate::play::expect_fault;
 use std::process::Abort;
 use std::rt::Files;
 use std::test::Fail;
+use std::thread::Threads;
+use std::time::Clock;
 
 /// A scenario, and the number of the line that is named.
 struct Case(&'static [u8], usize);
@@ -120,7 +122,7 @@ const VERDICTS: [Case; 7] = [
 ];
 
 /// What a client and its commands can't be.
-const COMMANDS: [Case; 24] = [
+const COMMANDS: [Case; 34] = [
     // a command without a client, and a definition after one
     Case(b"best\nclient a\n", 1),
     Case(b"block b1 genesis\nsubmit b1\nclient a\n", 2),
@@ -132,15 +134,26 @@ const COMMANDS: [Case; 24] = [
     Case(b"client a\nclient b\n", 2),
     // words that aren't known, or haven't come yet
     Case(b"client a\nbest\nbestt\n", 3),
-    Case(b"client a\ntips\n", 2),
-    Case(b"client a\ntxout genesis.cb:0\n", 2),
-    Case(b"client a\ninvalidate genesis\n", 2),
+    Case(b"client a\ntips genesis\n", 2),
     Case(b"client a\nbest genesis\n", 2),
     // blocks that aren't defined
     Case(b"client a\nsubmit b1\n", 2),
     Case(b"client a\ncut b1 5\n", 2),
     Case(b"chain c 2 genesis\nclient a\neach c 1 3\n", 3),
     Case(b"chain c 2 genesis\nclient a\neach c- 2 1\n", 3),
+    Case(b"client a\ninvalidate b1\n", 2),
+    Case(b"client a\nreconsider b1\n", 2),
+    Case(b"client a\nprecious b1\n", 2),
+    Case(b"client a\ninvalidate\n", 2),
+    Case(b"client a\nprecious genesis genesis\n", 2),
+    Case(b"tx A 1 0\nclient a\nreconsider A\n", 3),
+    // outputs of transactions that aren't defined, and what is no output
+    Case(b"client a\ntxout\n", 2),
+    Case(b"client a\ntxout null\n", 2),
+    Case(b"client a\ntxout A:0\n", 2),
+    Case(b"client a\ntxout genesis.cb\n", 2),
+    Case(b"client a\ntxout genesis:0\n", 2),
+    Case(b"client a\ntxout genesis.cb:4294967296\n", 2),
     // numbers
     Case(b"client a\nnow +1\n", 2),
     Case(b"client a\nnow -1\n", 2),
@@ -162,7 +175,10 @@ const WITHOUT_CLIENT: [Case; 5] = [
     Case(b"block b1 genesis\n# client a\n\n", 4),
 ];
 
-fn expect_lines<R: Files + AllocGlobal + Abort>(rt: &R, cases: &[Case]) -> Result<(), Fail> {
+fn expect_lines<R: Files + AllocGlobal + Clock + Threads + Sync + Abort>(
+    rt: &R,
+    cases: &[Case],
+) -> Result<(), Fail> {
     for Case(text, number) in cases {
         let line = format!(in rt.alloc(); "regchain: scenario line {number}\n")?;
         expect_fault(rt, &[], text, line.as_str());
