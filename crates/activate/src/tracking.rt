@@ -1,11 +1,13 @@
 //! A chainstate over coins that are lent to it.
 
 ghost use Rattle.std.specs.Prelude.{◌≡◌, ◌≤◌, IfOk, map};
+ghost use Rattle.std.specs.FinMap as coin_map;
+ghost use Rattle.curve.specs.Triple.{Triples};
 ghost use Rattle.rules.specs.Params.{regtest};
 ghost use Rattle.tree.specs.Branches.{height, id_at};
 ghost use Rattle.tree.specs.Names.{names};
 ghost use Rattle.tree.specs.Tips.{shown, tips};
-ghost use Rattle.activate.specs.Tracked.{genesis_alone, most_undo};
+ghost use Rattle.activate.specs.Tracked.{Follows, coins_of, genesis_alone, most_undo};
 
 mod committing;
 mod marking;
@@ -54,14 +56,16 @@ impl Model for Core {
 impl Core {
     /// Genesis alone, by the rules of regtest.
     pub fn new(alloc: Global) -> Result<Core, Memory>
-        ensures { IfOk result (λ core. core ≡ genesis_alone regtest) }
+        ensures value { IfOk result (λ core. core ≡ genesis_alone regtest) }
+        ensures follows { (triples : Triples) → IfOk result (λ core. Follows core triples × (coins_of core ≡ coin_map.empty)) }
     {
         Core::with(alloc, Params::regtest())
     }
 
     /// Genesis alone, with these heights of soft forks.
     pub fn with(alloc: Global, params: Params) -> Result<Core, Memory>
-        ensures { IfOk result (λ core. core ≡ genesis_alone params) }
+        ensures value { IfOk result (λ core. core ≡ genesis_alone params) }
+        ensures follows { (triples : Triples) → IfOk result (λ core. Follows core triples × (coins_of core ≡ coin_map.empty)) }
     {
         let mut branch = Vec::new(alloc);
         branch.push(0)?;

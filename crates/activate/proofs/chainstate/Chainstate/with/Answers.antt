@@ -7,7 +7,7 @@ use Rattle.activate.proofs.chainstate.Chainstate.with.Goals as goal
 pub returns-clause-is_chainstate : goal.returns-clause-is_chainstate
 returns-clause-is_chainstate c triples =
     subst (λ (x : WithCoins). IsChainstate x triples)
-    (sym (ap (λ t. with_coins t c.new.result) c.in_ok-with.ensures ∙ ap (with_coins (genesis_alone c.args.params)) c.new.ensures))
+    (sym (ap (λ t. with_coins t c.new.result) c.in_ok-with.ensures.value ∙ ap (with_coins (genesis_alone c.args.params)) c.new.ensures))
     (opens c.args.params triples)
   where
     with_coins : Tracked → Coins → WithCoins

@@ -1,10 +1,12 @@
-use Rattle.std.proofs.Common.{◌≡◌, ℕ, List, [], ◌∷◌, ◌++◌, length, arith, ap, ◌∙◌}
+use Rattle.std.proofs.Common.{◌≡◌, ℕ, List, [], ◌∷◌, ◌++◌, length, arith, ap, sym, subst, ◌∙◌}
 use Rattle.coins.specs.declared.coin.Coin.{Coin}
 use Rattle.block.specs.declared.block.Block.{Block}
 use Rattle.block.specs.declared.genesis.TheConstants.{GENESIS_TIME}
 use Rattle.tree.specs.Branches.{Blocks}
 use Rattle.tree.specs.State.{State}
+use Rattle.activate.specs.Tracked.{Follows, Tracked, coins_of, genesis_alone}
 use Rattle.activate.specs.laws.Growing.{branch_opening}
+use Rattle.activate.proofs.Openings.{opens}
 use Rattle.activate.proofs.tracking.Core.with.Goals as goal
 
 pub invariant_of-result : goal.invariant_of-result
@@ -24,4 +26,13 @@ invariant_of-result c =
       omega arith,
       rw (none, places, medians, undo) branch_opening,
       record { for_places = omega arith; for_medians = omega arith; for_undo = f },
+    )
+
+pub returns-clause-follows : goal.returns-clause-follows
+returns-clause-follows c triples =
+    let start = opens c.args.params triples in
+    let tracked : State Block → Tracked = λ s. record { params = c.args.params; state = s; active = 0 } in
+    let is : tracked c.in_ok-new.field-0 ≡ genesis_alone c.args.params = ap tracked c.in_ok-new.ensures in (
+      subst (λ (x : Tracked). Follows x triples) (sym is) start.follows,
+      ap coins_of is ∙ sym start.coins_are,
     )
