@@ -5,14 +5,16 @@ use crate::fault::Fault;
 use crate::files::{read_file, read_table};
 use crate::journal::{Asked, Step};
 use crate::options::AuditOptions;
+use crate::progress::Progress;
 use crate::records::read_records;
 use crate::{heights, recorded};
 use block::ReadFault;
 use hash::Id;
 use node::{Bytes, Command, Reply};
 use std::alloc::Global;
-use std::io::Write;
+use std::io::{IsTerminal, Write};
 use std::rt::Files;
+use std::time::Clock;
 use std::{fmt, vec};
 
 /// What a replay says of a journal.
@@ -39,15 +41,16 @@ struct Replay {
     recorded: Vec<Option<Reply>>,
 }
 
-/// Replays a journal over the blocks of a blk file.
+/// Replays a journal over the blocks of a blk file. Where `err` is a terminal it is told when the replay begins and how
+/// long it took.
 pub fn audit<'w, R, E>(
     rt: &R,
     options: &AuditOptions<'w>,
     err: &mut E,
 ) -> Result<Finding, Fault<'w>>
 where
-    R: Files + AllocGlobal,
-    E: Write,
+    R: Files + AllocGlobal + Clock,
+    E: Write + IsTerminal,
 {
     let alloc = rt.alloc();
     let params = heights::read(options.heights).ok_or(Fault::Heights)?;
@@ -56,16 +59,14 @@ where
     let table = read_table(rt, options.table)?;
     let steps = recorded::read(alloc, journal.as_slice())?;
     let records = read_records(alloc, blk.as_slice())?;
-    if options.tells_progress {
-        let (lines, blocks) = (steps.len(), records.len());
-        let _ = writeln!(
-            err,
-            "regchain: {lines} lines, {blocks} blocks, replayed in one piece"
-        );
-    }
+    let blocks = records.len();
     let replay = replay_of(alloc, steps.as_slice(), records)?;
+    let is_terminal = err.is_terminal();
+    let mut progress = Progress::new(rt, err, is_terminal);
+    progress.begin_replay(steps.len(), blocks);
     let commands = replay.commands.as_slice();
     let refuted = first_refuted(alloc, &params, commands, &table, replay.recorded.as_slice())?;
+    progress.end(rt);
     Ok(match refuted {
         Some(place) => Finding::Differs(place.saturating_add(1)),
         None => Finding::Agrees,

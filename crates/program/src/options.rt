@@ -35,7 +35,6 @@ pub struct RunOptions<'w> {
     pub heights: &'w str,
     /// The folder for the journal, the blocks and the table.
     pub save: Option<&'w str>,
-    pub tells_progress: bool,
 }
 
 /// To replay the journal of a file over the blocks of another.
@@ -47,7 +46,6 @@ pub struct AuditOptions<'w> {
     pub table: Option<&'w str>,
     /// The heights of soft forks, not yet read.
     pub heights: &'w str,
-    pub tells_progress: bool,
 }
 
 impl<'w> Options<'w> {
@@ -61,7 +59,6 @@ impl<'w> Options<'w> {
                 workers: WORKERS,
                 heights: HEIGHTS,
                 save: None,
-                tells_progress: false,
             }));
         }
         let mut command = command(alloc)?;
@@ -85,7 +82,6 @@ fn read_run<'w>(run: &ArgMatches<'w>) -> Option<Options<'w>> {
         workers: run.get_one("workers").unwrap_or(WORKERS),
         heights: run.get_str("heights").unwrap_or(HEIGHTS),
         save: run.get_str("save"),
-        tells_progress: run.get_flag("progress"),
     }))
 }
 
@@ -95,7 +91,6 @@ fn read_audit<'w>(audit: &ArgMatches<'w>) -> Option<Options<'w>> {
         blk: audit.get_str("blk")?,
         table: audit.get_str("table"),
         heights: audit.get_str("heights").unwrap_or(HEIGHTS),
-        tells_progress: audit.get_flag("progress"),
     }))
 }
 
@@ -137,8 +132,7 @@ fn run_command<'w>(alloc: Global) -> Result<Command<'w>, AllocError> {
             "save",
             "D",
             "The folder for journal.txt, blocks.blk and table.txt",
-        ))?
-        .arg(progress(alloc))
+        ))
 }
 
 fn audit_command<'w>(alloc: Global) -> Result<Command<'w>, AllocError> {
@@ -149,8 +143,7 @@ fn audit_command<'w>(alloc: Global) -> Result<Command<'w>, AllocError> {
         .arg(journal.required(true))?
         .arg(blk.required(true))?
         .arg(table(alloc))?
-        .arg(heights(alloc))?
-        .arg(progress(alloc))
+        .arg(heights(alloc))
 }
 
 fn table<'w>(alloc: Global) -> Arg<'w> {
@@ -161,13 +154,6 @@ fn heights<'w>(alloc: Global) -> Arg<'w> {
     let help =
         "From which heights the rules of BIPs 34, 65, 66 and 68 are in force [default: 1,1,1,1]";
     value(alloc, "heights", "A,B,C,D", help)
-}
-
-fn progress<'w>(alloc: Global) -> Arg<'w> {
-    Arg::new(alloc, "progress")
-        .long("progress")
-        .help("Tells on the standard error how far it is")
-        .action(ArgAction::SetTrue)
 }
 
 /// An option that takes one value.

@@ -1,4 +1,4 @@
-//! How far a run is, for who waits for it.
+//! How far the work is, for who waits for it.
 
 use std::io::Write;
 use std::time::{Clock, Duration, Instant};
@@ -6,7 +6,7 @@ use std::time::{Clock, Duration, Instant};
 /// How many seconds lie between two lines, at least.
 const PAUSE: u64 = 1;
 
-/// Tells on a stream how many blocks were submitted, and how many a second.
+/// Tells on a stream how many blocks were submitted or replayed, and how many a second.
 #[derive(Drop)]
 pub struct Progress<'e, E> {
     stream: &'e mut E,
@@ -15,7 +15,7 @@ pub struct Progress<'e, E> {
     times: Option<Times>,
 }
 
-/// When the run began, and when the last line was told.
+/// When the work began, and when the last line was told.
 #[derive(Clone, Copy)]
 struct Times {
     begun: Instant,
@@ -23,7 +23,7 @@ struct Times {
 }
 
 impl<'e, E: Write> Progress<'e, E> {
-    /// Of a run that begins now. Only where it is wanted something is told.
+    /// Of work that begins now. Only where it is wanted something is told.
     pub fn new<C: Clock>(clock: &C, stream: &'e mut E, is_wanted: bool) -> Progress<'e, E> {
         let now = if is_wanted {
             Instant::now(clock).ok()
@@ -55,14 +55,25 @@ impl<'e, E: Write> Progress<'e, E> {
         }
     }
 
-    /// The run has ended.
+    /// A replay of so many lines and blocks begins. It is one call, so nothing is told before its end.
+    pub fn begin_replay(&mut self, lines: usize, blocks: usize) {
+        if self.times.is_some() {
+            let _ = writeln!(
+                self.stream,
+                "regchain: replaying {lines} lines, {blocks} blocks"
+            );
+        }
+        self.blocks = blocks as u64;
+    }
+
+    /// The work has ended.
     pub fn end<C: Clock>(&mut self, clock: &C) {
         if let (Some(times), Ok(now)) = (self.times, Instant::now(clock)) {
             self.tell(now.duration_since(times.begun));
         }
     }
 
-    /// Writes a line. Where that fails the run goes on.
+    /// Writes a line. Where that fails the work goes on.
     fn tell(&mut self, passed: Duration) {
         let blocks = self.blocks;
         let rate = u128::from(blocks) * 1000 / passed.as_millis().max(1);

@@ -15,7 +15,7 @@ use scenario::{Definitions, Line, lines, number_after, read_clients};
 use std::alloc::{AllocError, Global};
 use std::convert::AsStr;
 use std::env;
-use std::io::{ErrorKind, Read, Write};
+use std::io::{ErrorKind, IsTerminal, Read, Write};
 use std::rt::{Env, Files};
 use std::thread::Threads;
 use std::time::Clock;
@@ -43,14 +43,15 @@ where
 }
 
 /// Runs the command line of these words, without the program's name: 0; or 1 with a fault on the standard error, or
-/// with a line on the standard output that the journal differs.
+/// with a line on the standard output that the journal differs. Where `err` is a terminal it is told how far the
+/// work is.
 pub fn program<R, S, I, O, E>(rt: &R, words: &[S], input: &mut I, out: &mut O, err: &mut E) -> u8
 where
     R: Files + AllocGlobal + Clock + Threads + Sync,
     S: AsStr,
     I: Read,
     O: Write,
-    E: Write,
+    E: Write + IsTerminal,
     ensures { result ≤ 1 }
 {
     match named(rt.alloc(), words) {
@@ -111,7 +112,7 @@ where
     R: Files + AllocGlobal + Clock + Threads + Sync,
     I: Read,
     O: Write,
-    E: Write,
+    E: Write + IsTerminal,
     ensures { IfOk result (λ status. status ≤ 1) }
 {
     match Options::read(rt.alloc(), words)? {
@@ -151,7 +152,7 @@ where
     R: Files + AllocGlobal + Clock + Threads + Sync,
     I: Read,
     O: Write,
-    E: Write,
+    E: Write + IsTerminal,
 {
     let alloc = rt.alloc();
     let params = heights::read(options.heights).ok_or(Fault::Heights)?;
@@ -164,7 +165,8 @@ where
     if clients.is_empty() {
         return Err(Fault::ScenarioLine(number_after(text.as_slice())));
     }
-    let mut progress = Progress::new(rt, err, options.tells_progress);
+    let is_terminal = err.is_terminal();
+    let mut progress = Progress::new(rt, err, is_terminal);
     let setting = Setting {
         params,
         workers: options.workers,

@@ -47,8 +47,7 @@ const TEXTS: [(&[&str], &str); 6] = [
          --table <F>          The signatures that are valid\n      \
          --workers <N>        How many threads check scripts, 1 to 16 [default: 2]\n      \
          --heights <A,B,C,D>  From which heights the rules of BIPs 34, 65, 66 and 68 are in force [default: 1,1,1,1]\n      \
-         --save <D>           The folder for journal.txt, blocks.blk and table.txt\n      \
-         --progress           Tells on the standard error how far it is\n  \
+         --save <D>           The folder for journal.txt, blocks.blk and table.txt\n  \
          -h, --help               Print help\n",
     ),
 ];

@@ -1,6 +1,6 @@
-//! Options of `run`: heights of soft forks, workers, folders, progress.
+//! Options of `run`: heights of soft forks, workers, folders; and how far the work is.
 
-use crate::play::{expect_fault, play};
+use crate::play::{expect_fault, play, play_over};
 use std::process::Abort;
 use std::rt::Files;
 use std::test::Fail;
@@ -107,11 +107,12 @@ fn a_second_file_that_is_not_written(rt: HostRuntime) -> Result<(), Fail> {
     Ok(())
 }
 
-/// How far a run is stands on the standard error alone.
+/// How far a run is stands on a terminal alone: not on the standard output, nor on any other standard error.
 #[test]
 fn progress(rt: HostRuntime) {
-    let words = ["run", "--scenario", "-", "--progress"];
-    let played = play(&rt, &words, b"client a\nsubmit genesis\nbest\n");
+    let words = ["run", "--scenario", "-"];
+    let text = b"client a\nsubmit genesis\nbest\n".as_slice();
+    let played = play_over(&rt, &words, text, true);
     assert_eq!(rt;
         str::from_utf8(played.out.as_slice()).unwrap_or(""),
         "client a\nsubmit genesis = duplicate @1\nbest = genesis @1\njournal\n\
@@ -119,4 +120,31 @@ fn progress(rt: HostRuntime) {
     );
     assert!(rt; played.err.starts_with(b"regchain: 1 blocks, "));
     assert_eq!(rt; played.status, 0);
+    assert_eq!(rt; play(&rt, &words, text).err.len(), 0);
+}
+
+/// A replay tells when it begins and when it has ended.
+#[test]
+fn progress_of_an_audit(rt: HostRuntime) -> Result<(), Fail> {
+    fs::write(&rt, "empty_journal.txt", "")?;
+    fs::write(&rt, "empty.blk", "")?;
+    let words = [
+        "audit",
+        "--journal",
+        "empty_journal.txt",
+        "--blk",
+        "empty.blk",
+    ];
+    let played = play_over(&rt, &words, b"", true);
+    assert_eq!(rt;
+        (played.out.as_slice(), played.status),
+        (b"agrees\n".as_slice(), 0)
+    );
+    assert!(rt;
+        played.err.starts_with(b"regchain: replaying 0 lines, 0 blocks\nregchain: 0 blocks, ")
+    );
+    assert_eq!(rt; play(&rt, &words, b"").err.len(), 0);
+    fs::remove_file(&rt, "empty_journal.txt")?;
+    fs::remove_file(&rt, "empty.blk")?;
+    Ok(())
 }

@@ -1,6 +1,8 @@
 //! The program on given words and a given standard input.
 
 use program::program;
+use std::io;
+use std::io::{IsTerminal, Write};
 use std::process::Abort;
 use std::rt::Files;
 use std::thread::Threads;
@@ -14,16 +16,53 @@ pub struct Played {
     pub err: Vec<u8>,
 }
 
-/// Runs the program.
+/// A standard error that keeps what is written to it, a terminal or none.
+#[derive(Drop)]
+pub struct Errors {
+    pub bytes: Vec<u8>,
+    pub is_terminal: bool,
+}
+
+impl Write for Errors {
+    fn write(&mut self, buf: &[u8]) -> io::Result<usize> {
+        self.bytes.write(buf)
+    }
+
+    fn flush(&mut self) -> io::Result<()> {
+        Ok(())
+    }
+}
+
+impl IsTerminal for Errors {
+    fn is_terminal(&self) -> bool {
+        self.is_terminal
+    }
+}
+
+/// Runs the program, with a standard error that is no terminal.
 pub fn play<R: Files + AllocGlobal + Clock + Threads + Sync>(
     rt: &R,
     words: &[&str],
     text: &[u8],
 ) -> Played {
+    play_over(rt, words, text, false)
+}
+
+/// Runs the program, with a standard error that is a terminal or none.
+pub fn play_over<R: Files + AllocGlobal + Clock + Threads + Sync>(
+    rt: &R,
+    words: &[&str],
+    text: &[u8],
+    is_terminal: bool,
+) -> Played {
     let mut input = text;
     let mut out = Vec::new(rt.alloc());
-    let mut err = Vec::new(rt.alloc());
-    let status = program(rt, words, &mut input, &mut out, &mut err);
+    let mut errors = Errors {
+        bytes: Vec::new(rt.alloc()),
+        is_terminal,
+    };
+    let status = program(rt, words, &mut input, &mut out, &mut errors);
+    let Errors { bytes: err, .. } = errors;
     Played { status, out, err }
 }
 

@@ -1,8 +1,10 @@
 //! Standard streams that fail.
 
+use crate::play::Errors;
 use program::program;
+use std::alloc::Global;
 use std::io;
-use std::io::{ErrorKind, Read, Write};
+use std::io::{ErrorKind, IsTerminal, Read, Write};
 
 /// A stream on which every call fails.
 #[derive(Drop)]
@@ -24,23 +26,42 @@ impl Write for Broken {
     }
 }
 
+impl IsTerminal for Broken {
+    fn is_terminal(&self) -> bool {
+        true
+    }
+}
+
+fn no_errors(alloc: Global) -> Errors {
+    Errors {
+        bytes: Vec::new(alloc),
+        is_terminal: false,
+    }
+}
+
 const NO_WORDS: [&str; 0] = [];
 
 #[test]
 fn an_input_that_fails(rt: HostRuntime) {
     let mut out = Vec::new(rt.alloc());
-    let mut err = Vec::new(rt.alloc());
+    let mut err = no_errors(rt.alloc());
     let status = program(&rt, &NO_WORDS, &mut Broken, &mut out, &mut err);
-    assert_eq!(rt; err.as_slice(), b"regchain: cannot read -\n".as_slice());
+    assert_eq!(rt;
+        err.bytes.as_slice(),
+        b"regchain: cannot read -\n".as_slice()
+    );
     assert_eq!(rt; (status, out.len()), (1, 0));
 }
 
 #[test]
 fn an_output_that_fails(rt: HostRuntime) {
     let mut input = b"client a\n".as_slice();
-    let mut err = Vec::new(rt.alloc());
+    let mut err = no_errors(rt.alloc());
     let status = program(&rt, &NO_WORDS, &mut input, &mut Broken, &mut err);
-    assert_eq!(rt; err.as_slice(), b"regchain: cannot write -\n".as_slice());
+    assert_eq!(rt;
+        err.bytes.as_slice(),
+        b"regchain: cannot write -\n".as_slice()
+    );
     assert_eq!(rt; status, 1);
 }
 
