@@ -8,9 +8,9 @@ use Rattle.tree.specs.Names.{names}
 use Rattle.tree.specs.laws.Branches.{branch_head, branch_there, height_there}
 use Rattle.tree.specs.laws.Parents.{height-place}
 use Rattle.tree.specs.laws.Added.{blocks-old}
-use Rattle.activate.specs.Regtest.{medians_of}
-use Rattle.activate.specs.Tracked.{HasRoom, IsBranch}
-use Rattle.activate.specs.Trails.{median_at}
+use Rattle.chain.specs.Regtest.{medians_of}
+use Rattle.activate.specs.inside.Keeping.{HasRoom, IsBranch}
+use Rattle.activate.specs.inside.ActiveBranch.{median_at}
 use Rattle.activate.specs.laws.Growing.{highest-old}
 use Rattle.activate.specs.laws.Turning.{medians-branch}
 

@@ -3,11 +3,6 @@ pub mod Openings
 pub mod Outcomes
 pub mod Planned
 pub mod Plans
-pub mod SlowChanges
-pub mod SlowFlags
-pub mod SlowHeld
-pub mod SlowReplay
-pub mod SlowState
-pub mod SlowSteps
 pub mod Tips
 pub mod Trails
+pub mod Undo

@@ -4,11 +4,11 @@ use Rattle.std.specs.FinMap as coin_map
 use Rattle.curve.specs.Triple.{Triples}
 use Rattle.rules.specs.declared.params.Params.{Params}
 use Rattle.tree.specs.State.{opening}
-use Rattle.activate.specs.Regtest.{ledger, regtest}
-use Rattle.activate.specs.Tracked.{IsChainstate, genesis_alone}
-use Rattle.activate.specs.laws.Actives.{active_kept}
-use Rattle.activate.specs.laws.Coins.{coins-genesis}
-use Rattle.activate.specs.laws.Steps.{opening_sound}
+use Rattle.chain.specs.Regtest.{ledger, regtest}
+use Rattle.activate.specs.CoreState.{IsChainstate, genesis_alone}
+use Rattle.chain.specs.laws.Actives.{active_kept}
+use Rattle.chain.specs.laws.Coins.{coins-genesis}
+use Rattle.chain.specs.laws.Steps.{opening_sound}
 
 pub opens : (params : Params) (triples : Triples) → IsChainstate (record { core = genesis_alone params; coins = coin_map.empty }) triples
 opens params triples =

@@ -1,4 +1,4 @@
--- What the plans of commands come to.
+-- What is prepared for commands, put in place.
 use Rattle.std.proofs.Common.{◌≡◌, ℕ, suc, ◌<◌, ◌≤◌, Bool, true, false, cond, not, ◌||◌, ◌&&◌, eqb, List, [], ◌∷◌, length, Option, Some, None, Result, Ok, Err, IfOk, sym, refl, ap, ◌∙◌, subst, inl, inr, arith}
 use Rattle.std.specs.Prelude.{if◌then◌else◌}
 use Rattle.std.specs.List.{filter}
@@ -18,31 +18,31 @@ use Rattle.tree.specs.laws.Marks.{usable_gives, usable_from, usable-cleared}
 use Rattle.tree.specs.laws.Ranks.{better_trans, better-height, better-called, better-others}
 use Rattle.tree.specs.laws.Sets.{clash, InOrder, none_above, has-filter, in_order-joined, joined_more, filter_agree, has-joined}
 use Rattle.tree.specs.laws.Added.{blocks-old, usable_new, usable_there, better_there}
-use Rattle.activate.specs.declared.plan.Plan.{Plan}
-use Rattle.activate.specs.declared.plan.First.{First}
-use Rattle.activate.specs.declared.plan.First.TheVariants.{Kept, Added}
-use Rattle.activate.specs.declared.plan.Rest.{Rest}
-use Rattle.activate.specs.declared.plan.Rest.TheVariants.{Nothing, Go}
-use Rattle.activate.specs.declared.reply.Reply.{Reply}
-use Rattle.activate.specs.declared.reply.Reply.TheVariants as reply
-use Rattle.activate.specs.declared.reply.SubmitReply.{SubmitReply}
-use Rattle.activate.specs.declared.reply.MarkReply.TheVariants.{Done}
-use Rattle.activate.specs.declared.way.Move.{Move}
-use Rattle.activate.specs.Rules.{Rules}
-use Rattle.activate.specs.Settle.{active, settle}
-use Rattle.activate.specs.Submission.{Outcome, submit_says, answer_added, added}
-use Rattle.activate.specs.Step.{mark_says}
-use Rattle.activate.specs.Try.{tried}
-use Rattle.activate.specs.Sound.{Sound}
-use Rattle.activate.specs.Replay.{replay}
-use Rattle.activate.specs.Regtest.{ledger}
-use Rattle.activate.specs.Tracked.{Tracked, coins_after, coins_of}
-use Rattle.activate.specs.Plans.{CanTry, CanBeTaken, CanGoBack, FlagsFit, HasOtherFlags, IsPlanFor, IsReady, IsStill, Leads, Settles, finished, taken_back, with_flags}
-use Rattle.activate.specs.laws.Actives.{active_kept, active_usable}
-use Rattle.activate.specs.laws.Connected.{valid_there}
-use Rattle.activate.specs.laws.Ordinary.{active-beside}
-use Rattle.activate.specs.laws.Preferring.{usable-called}
-use Rattle.activate.specs.laws.Settled.{active-settle, settle-blocks, best_usable}
+use Rattle.activate.specs.declared.prepared.Prepared.{Prepared}
+use Rattle.activate.specs.declared.prepared.TreeChange.{TreeChange}
+use Rattle.activate.specs.declared.prepared.TreeChange.TheVariants.{Unchanged, BlockAdded}
+use Rattle.activate.specs.declared.prepared.Completion.{Completion}
+use Rattle.activate.specs.declared.prepared.Completion.TheVariants.{Nothing, Activate}
+use Rattle.chain.specs.declared.reply.Reply.{Reply}
+use Rattle.chain.specs.declared.reply.Reply.TheVariants as reply
+use Rattle.chain.specs.declared.reply.SubmitReply.{SubmitReply}
+use Rattle.chain.specs.declared.reply.MarkReply.TheVariants.{Done}
+use Rattle.activate.specs.declared.path.Reorganisation.{Reorganisation}
+use Rattle.chain.specs.Rules.{Rules}
+use Rattle.chain.specs.Settle.{active, settle}
+use Rattle.chain.specs.Submission.{Outcome, submit_says, answer_added, outcome_of_added}
+use Rattle.chain.specs.Step.{mark_says}
+use Rattle.chain.specs.inside.Try.{state_after_try}
+use Rattle.chain.specs.Settled.{IsSettled}
+use Rattle.chain.specs.Replay.{replay}
+use Rattle.chain.specs.Regtest.{ledger}
+use Rattle.activate.specs.CoreState.{CoreState, coins_after, coins_of}
+use Rattle.activate.specs.inside.Preparation.{undo_after, CanTry, CanBeTakenBack, CanRollBack, FlagsFit, HasOtherFlags, IsPreparationFor, IsReady, ChangesNothing, TryLeads, Settles, core_after_commit, state_before_change, with_flags}
+use Rattle.chain.specs.laws.Actives.{active_kept, active_usable}
+use Rattle.chain.specs.laws.Connected.{valid_there}
+use Rattle.chain.specs.laws.Ordinary.{active-beside}
+use Rattle.chain.specs.laws.Preferring.{usable-called}
+use Rattle.chain.specs.laws.Settled.{active-settle, settle-blocks, best_usable}
 use Rattle.activate.proofs.Plans.{can_go, changes-leads, params-other}
 
 -- nothing changes
@@ -73,88 +73,88 @@ in_order-filter n set f order =
     filter_agree (λ p. has (filter f set) p || false) g n (λ k l. or_none (has (filter f set) k) ∙ ap (λ (q : List ℕ). has q k) e ∙ has-filter g n k l) ∙ sym e
 
 module _ (r : Rules Block Id) where
-  -- a plan that changes nothing
-  pub plan-still : (a : Tracked) (reply : Reply) (plan : Plan) (after : Outcome Block) → a.active ≡ active r a.state → IsStill reply plan → (a.state, reply) ≡ after → IsPlanFor r a after a plan
-  plan-still a reply plan after act still e =
-      let rest : finished r a plan.rest ≡ a = ap (finished r a) still.rest_is in
+  -- what is prepared for a command that changes nothing
+  pub plan-still : (a : CoreState) (reply : Reply) (prepared : Prepared) (after : Outcome Block) → a.active ≡ active r a.state → ChangesNothing reply prepared → (a.state, reply) ≡ after → IsPreparationFor r a after a prepared
+  plan-still a reply prepared after act still e =
+      let rest : core_after_commit r a prepared.rest ≡ a = ap (core_after_commit r a) still.rest_is in
       record {
         params_are = refl;
-        outcome_is = ap (λ (x : Tracked). (x.state, plan.reply)) rest ∙ ap (λ (x : Reply). (a.state, x)) still.reply_is ∙ e;
-        active_is = ap (λ (x : Tracked). x.active) rest ∙ act ∙ sym (ap (λ (x : Tracked). active r x.state) rest);
-        changes_are = subst (λ (x : Tracked). AreChanges (coins_of a) (coins_of x) plan.changes.items) (sym rest) (no_changes (coins_of a) plan.changes.items still.changes_are);
-        ready = subst (λ (x : Rest). IsReady r a x) (sym still.rest_is) tt;
+        outcome_is = ap (λ (x : CoreState). (x.state, prepared.reply)) rest ∙ ap (λ (x : Reply). (a.state, x)) still.reply_is ∙ e;
+        active_is = ap (λ (x : CoreState). x.active) rest ∙ act ∙ sym (ap (λ (x : CoreState). active r x.state) rest);
+        changes_are = subst (λ (x : CoreState). AreChanges (coins_of a) (coins_of x) prepared.changes.items) (sym rest) (no_changes (coins_of a) prepared.changes.items still.changes_are);
+        ready = subst (λ (x : Completion). IsReady r a x) (sym still.rest_is) tt;
         can_go_back = record {
           flags = subst (λ (f : Option FlagsOf). FlagsFit a.state f) (sym still.flags_are) tt;
-          first = subst (λ (f : First). CanBeTaken f a.active (with_flags plan.back.flags a.state)) (sym still.first_is) tt;
+          first = subst (λ (f : TreeChange). CanBeTakenBack f a.active (with_flags prepared.rollback.flags a.state)) (sym still.first_is) tt;
         };
         back_is =
-            ap (λ (f : First). record a { state = taken_back f (with_flags plan.back.flags a.state) }) still.first_is
+            ap (λ (f : TreeChange). record a { state = state_before_change f (with_flags prepared.rollback.flags a.state) }) still.first_is
             ∙ ap (λ (f : Option FlagsOf). record a { state = with_flags f a.state }) still.flags_are;
       }
 
   -- the state is settled after something was first done to the tree: a is before it, b after it, and c has other flags
-  module _ (a b c : Tracked) (flags : Option FlagsOf) (rest : Rest) (changes : Changes) (settled : Settles r b c flags rest changes) (genesis : usable b.state 0 ≡ true)
-      (plan : Plan) (rest_is : plan.rest ≡ rest) (changes_is : plan.changes.items ≡ changes) (flags_is : plan.back.flags ≡ flags) where
-    pub plan-settled : (after : Outcome Block) (first : First) → plan.back.first ≡ first → b.params ≡ a.params → coins_of b ≡ coins_of a → record b { state = taken_back first b.state } ≡ a
-        → CanBeTaken first b.active b.state → (settle r b.state, plan.reply) ≡ after → IsPlanFor r a after c plan
-    plan-settled after first first_is params coins back can e =
-        let done : finished r c plan.rest ≡ finished r c rest = ap (finished r c) rest_is in
-        let state : (finished r c plan.rest).state ≡ settle r b.state = ap (λ (x : Tracked). x.state) done ∙ settled.state_is in
-        let was : record c { state = with_flags plan.back.flags c.state } ≡ b = ap (λ (f : Option FlagsOf). record c { state = with_flags f c.state }) flags_is ∙ settled.back_is in
+  module _ (a b c : CoreState) (flags : Option FlagsOf) (rest : Completion) (changes : Changes) (settled : Settles r b c flags rest changes) (genesis : usable b.state 0 ≡ true)
+      (prepared : Prepared) (rest_is : prepared.rest ≡ rest) (changes_is : prepared.changes.items ≡ changes) (flags_is : prepared.rollback.flags ≡ flags) where
+    pub plan-settled : (after : Outcome Block) (first : TreeChange) → prepared.rollback.first ≡ first → b.params ≡ a.params → coins_of b ≡ coins_of a → record b { state = state_before_change first b.state } ≡ a
+        → CanBeTakenBack first b.active b.state → (settle r b.state, prepared.reply) ≡ after → IsPreparationFor r a after c prepared
+    plan-settled after first first_is params coins rollback can e =
+        let done : core_after_commit r c prepared.rest ≡ core_after_commit r c rest = ap (core_after_commit r c) rest_is in
+        let state : (core_after_commit r c prepared.rest).state ≡ settle r b.state = ap (λ (x : CoreState). x.state) done ∙ settled.state_is in
+        let was : record c { state = with_flags prepared.rollback.flags c.state } ≡ b = ap (λ (f : Option FlagsOf). record c { state = with_flags f c.state }) flags_is ∙ settled.back_is in
         record {
           params_are = params-other b c settled.other_flags ∙ params;
-          outcome_is = ap (λ (s : State Block). (s, plan.reply)) state ∙ e;
+          outcome_is = ap (λ (s : State Block). (s, prepared.reply)) state ∙ e;
           active_is =
-              ap (λ (x : Tracked). x.active) done ∙ settled.active_is ∙ sym (active-settle r b.state genesis) ∙ sym (ap (active r) state);
+              ap (λ (x : CoreState). x.active) done ∙ settled.active_is ∙ sym (active-settle r b.state genesis) ∙ sym (ap (active r) state);
           changes_are =
-              subst (λ (l : Changes). AreChanges (coins_of a) (coins_of (finished r c plan.rest)) l) (sym changes_is)
-              (subst (λ (x : Tracked). AreChanges (coins_of a) (coins_of x) changes) (sym done)
-              (subst (λ (m : Coins). AreChanges m (coins_of (finished r c rest)) changes) coins settled.changes_are));
-          ready = subst (λ (x : Rest). IsReady r c x) (sym rest_is) settled.ready;
+              subst (λ (l : Changes). AreChanges (coins_of a) (coins_of (core_after_commit r c prepared.rest)) l) (sym changes_is)
+              (subst (λ (x : CoreState). AreChanges (coins_of a) (coins_of x) changes) (sym done)
+              (subst (λ (m : Coins). AreChanges m (coins_of (core_after_commit r c rest)) changes) coins settled.changes_are));
+          ready = subst (λ (x : Completion). IsReady r c x) (sym rest_is) settled.ready;
           can_go_back = record {
             flags = subst (λ (f : Option FlagsOf). FlagsFit c.state f) (sym flags_is) settled.fit;
-            first = subst (λ (x : Tracked). CanBeTaken plan.back.first x.active x.state) (sym was) (subst (λ (f : First). CanBeTaken f b.active b.state) (sym first_is) can);
+            first = subst (λ (x : CoreState). CanBeTakenBack prepared.rollback.first x.active x.state) (sym was) (subst (λ (f : TreeChange). CanBeTakenBack f b.active b.state) (sym first_is) can);
           };
           back_is =
-              ap (λ (x : Tracked). record x { state = taken_back plan.back.first x.state }) was
-              ∙ ap (λ (f : First). record b { state = taken_back f b.state }) first_is ∙ back;
+              ap (λ (x : CoreState). record x { state = state_before_change prepared.rollback.first x.state }) was
+              ∙ ap (λ (f : TreeChange). record b { state = state_before_change f b.state }) first_is ∙ rollback;
         }
 
   -- marks were changed first: m has others than a
-  module _ (a m b : Tracked) (f : FlagsOf) (place : ℕ) (found : Move) (can : CanTry r m) (fit : FlagsFit m.state (Some f)) (was : a ≡ record m { state = with_flags (Some f) m.state })
-      (flags : HasOtherFlags m b) (leads : Leads r m b place found) where
+  module _ (a m b : CoreState) (f : FlagsOf) (place : ℕ) (found : Reorganisation) (can : CanTry r m) (fit : FlagsFit m.state (Some f)) (was : a ≡ record m { state = with_flags (Some f) m.state })
+      (flags : HasOtherFlags m b) (leads : TryLeads r m b place found) where
     back-marks : record b { state = with_flags (Some f) b.state } ≡ a
     back-marks =
         ap (λ (t : Blocks Block). record b { state = record b.state { blocks = t; bad = f.bad; seen = f.seen } }) flags.blocks_are
         ∙ ap (λ (l : List ℕ). record b { state = record m.state { precious = l; bad = f.bad; seen = f.seen } }) flags.precious_is
-        ∙ ap (λ (x : Tracked). record x { state = with_flags (Some f) m.state }) (sym flags.same) ∙ sym was
+        ∙ ap (λ (x : CoreState). record x { state = with_flags (Some f) m.state }) (sym flags.same) ∙ sym was
 
-    pub plan-marks : (plan : Plan) → plan.rest ≡ Go place found.way found.undo → plan.changes.items ≡ found.changes.items → plan.back.first ≡ Kept → plan.back.flags ≡ Some f → plan.reply ≡ reply.Mark Done
-        → IsPlanFor r a (mark_says (settle r m.state) Done) b plan
-    plan-marks plan rest_is changes_is first_is flags_is reply_is =
-        let done : finished r b plan.rest ≡ record b { state = tried r b.state place; active = place } = ap (finished r b) rest_is in
-        let state : (finished r b plan.rest).state ≡ settle r m.state = ap (λ (x : Tracked). x.state) done ∙ leads.settles in
+    pub plan-marks : (prepared : Prepared) → prepared.rest ≡ Activate place found.path found.undo → prepared.changes.items ≡ found.changes.items → prepared.rollback.first ≡ Unchanged → prepared.rollback.flags ≡ Some f → prepared.reply ≡ reply.Mark Done
+        → IsPreparationFor r a (mark_says (settle r m.state) Done) b prepared
+    plan-marks prepared rest_is changes_is first_is flags_is reply_is =
+        let done : core_after_commit r b prepared.rest ≡ record b { state = state_after_try r b.state place; active = place; undo_kept = undo_after b.state.blocks b.active b.undo_kept found.path } = ap (core_after_commit r b) rest_is in
+        let state : (core_after_commit r b prepared.rest).state ≡ settle r m.state = ap (λ (x : CoreState). x.state) done ∙ leads.settles in
         record {
-          params_are = params-other m b flags ∙ sym (ap (λ (x : Tracked). x.params) was);
-          outcome_is = ap (λ (s : State Block). (s, plan.reply)) state ∙ ap (λ (x : Reply). (settle r m.state, x)) reply_is;
-          active_is = ap (λ (x : Tracked). x.active) done ∙ sym leads.active_is ∙ sym (active-settle r m.state can.genesis) ∙ sym (ap (active r) state);
+          params_are = params-other m b flags ∙ sym (ap (λ (x : CoreState). x.params) was);
+          outcome_is = ap (λ (s : State Block). (s, prepared.reply)) state ∙ ap (λ (x : Reply). (settle r m.state, x)) reply_is;
+          active_is = ap (λ (x : CoreState). x.active) done ∙ sym leads.active_is ∙ sym (active-settle r m.state can.genesis) ∙ sym (ap (active r) state);
           changes_are =
-              subst (λ (l : Changes). AreChanges (coins_of a) (coins_of (finished r b plan.rest)) l) (sym changes_is)
-              (subst (λ (x : Tracked). AreChanges (coins_of a) (coins_of x) found.changes.items) (sym done)
-              (subst (λ (x : Tracked). AreChanges (coins_of x) (coins_after (tried r b.state place).blocks place) found.changes.items) (sym was) (changes-leads r m b place found flags leads)));
-          ready = subst (λ (x : Rest). IsReady r b x) (sym rest_is) (can_go r m b place found leads);
+              subst (λ (l : Changes). AreChanges (coins_of a) (coins_of (core_after_commit r b prepared.rest)) l) (sym changes_is)
+              (subst (λ (x : CoreState). AreChanges (coins_of a) (coins_of x) found.changes.items) (sym done)
+              (subst (λ (x : CoreState). AreChanges (coins_of x) (coins_after (state_after_try r b.state place).blocks place) found.changes.items) (sym was) (changes-leads r m b place found flags leads)));
+          ready = subst (λ (x : Completion). IsReady r b x) (sym rest_is) (can_go r m b place found leads);
           can_go_back = record {
             flags = subst (λ (o : Option FlagsOf). FlagsFit b.state o) (sym flags_is) (fit.0 ∙ ap (λ (t : Blocks Block). suc (length t)) (sym flags.blocks_are), fit.1);
-            first = subst (λ (x : First). CanBeTaken x b.active (with_flags plan.back.flags b.state)) (sym first_is) tt;
+            first = subst (λ (x : TreeChange). CanBeTakenBack x b.active (with_flags prepared.rollback.flags b.state)) (sym first_is) tt;
           };
           back_is =
-              ap (λ (x : First). record b { state = taken_back x (with_flags plan.back.flags b.state) }) first_is
+              ap (λ (x : TreeChange). record b { state = state_before_change x (with_flags prepared.rollback.flags b.state) }) first_is
               ∙ ap (λ (o : Option FlagsOf). record b { state = with_flags o b.state }) flags_is ∙ back-marks;
         }
 
   -- ---- what is right after something was first done to the tree
 
-  pub can-marked : (a : Tracked) (p : ℕ) → 0 < p → CanTry r a → CanTry r (record a { state = marked a.state p })
+  pub can-marked : (a : CoreState) (p : ℕ) → 0 < p → CanTry r a → CanTry r (record a { state = marked a.state p })
   can-marked a p z can = record {
     genesis = usable_from (marked a.state p) 0 (λ x o.
         let l = (on-bounds a.state.blocks 0 x o).0 in
@@ -175,7 +175,7 @@ module _ (r : Rules Block Id) where
       not_same : (x y : ℕ) → x < y → eqb x y ≡ false
       not_same x y l = ne_eqb x y (λ e. omega arith)
 
-  pub can-cleared : (a : Tracked) (p : ℕ) → CanTry r a → CanTry r (record a { state = cleared a.state p })
+  pub can-cleared : (a : CoreState) (p : ℕ) → CanTry r a → CanTry r (record a { state = cleared a.state p })
   unfolding cleared
   can-cleared a p can = record {
     genesis = (unfold cleared in usable-cleared a.state p 0 can.genesis);
@@ -187,7 +187,7 @@ module _ (r : Rules Block Id) where
     seen_in_order = can.seen_in_order;
   }
 
-  pub can-called : (a : Tracked) (p : ℕ) → CanTry r a → CanTry r (record a { state = called a.state p })
+  pub can-called : (a : CoreState) (p : ℕ) → CanTry r a → CanTry r (record a { state = called a.state p })
   can-called a p can = record {
     genesis = usable-called r a.state p 0 ∙ can.genesis;
     kept = can.kept;
@@ -199,13 +199,13 @@ module _ (r : Rules Block Id) where
   }
 
   -- a block was added
-  module _ (a : Tracked) (sound : Sound r a.state) (b : Block) (p : ℕ) (can : CanTry r a) (alone : r.alone_fault b ≡ None) (parent : p ≤ length a.state.blocks)
-      (new : place_of r.names a.state.blocks (r.names.id_of b) ≡ None) where
+  module _ (a : CoreState) (sound : IsSettled r a.state) (b : Block) (p : ℕ) (can : CanTry r a) (alone : r.alone_fault b ≡ None) (parent : p ≤ length a.state.blocks)
+      (new : place_of r.names a.state.blocks (r.names.id_of b) ≡ None) (named : place_of r.names a.state.blocks (r.names.parent_of b) ≡ Some p) where
     pub can-added : CanTry r (record a { state = with_block a.state b p })
     can-added = record {
       genesis = usable_there a.state (record { block = b; parent = p }) 0 (omega arith) ∙ can.genesis;
       kept = (let k = can.kept in omega arith);
-      all = (alone, parent, new, can.all);
+      all = (record { alone = alone; unknown = new; parent = named }, can.all);
       good = valid_there r (record { block = b; parent = p }) a.state.blocks a.active can.kept ∙ can.good;
       seen = λ x o. can.seen x (sym (on_there (record { block = b; parent = p }) a.state.blocks a.active x (let k = can.kept in omega arith)) ∙ o);
       bad_in_order = joined_more (length a.state.blocks) a.state.bad can.bad_in_order;
@@ -238,22 +238,22 @@ module _ (r : Rules Block Id) where
 
     -- the answer to it, as settling leaves it
     pub says-added : (said : SubmitReply) → said ≡ answer_added r (settle r (with_block a.state b p)) (suc (length a.state.blocks))
-        → (settle r (with_block a.state b p), reply.Submit said) ≡ added r (settle r (with_block a.state b p))
+        → (settle r (with_block a.state b p), reply.Submit said) ≡ outcome_of_added r (settle r (with_block a.state b p))
     says-added said e =
         ap (submit_says (settle r (with_block a.state b p))) (e ∙ ap (λ (t : Blocks Block). answer_added r (settle r (with_block a.state b p)) (length t)) (sym (settle-blocks r (with_block a.state b p))))
 
-    pub fresh-back : (a.active < length (with_block a.state b p).blocks) × IsFresh names (with_block a.state b p) → CanGoBack (record a { state = with_block a.state b p }) (record { first = Added; flags = None })
+    pub fresh-back : (a.active < length (with_block a.state b p).blocks) × IsFresh names (with_block a.state b p) → CanRollBack (record a { state = with_block a.state b p }) (record { first = BlockAdded; flags = None })
     fresh-back w = record { flags = tt; first = w }
 
     -- it is there, and nothing else is left to do but what is told
-    pub plan-added : (act : a.active ≡ active r a.state) → IsFresh names (with_block a.state b p) → (plan : Plan) → plan.back.first ≡ Added → plan.back.flags ≡ None
-        → (after : Outcome Block) → ((finished r (record a { state = with_block a.state b p }) plan.rest).state, plan.reply) ≡ after
-        → (finished r (record a { state = with_block a.state b p }) plan.rest).active ≡ active r (finished r (record a { state = with_block a.state b p }) plan.rest).state
-        → AreChanges (coins_of a) (coins_of (finished r (record a { state = with_block a.state b p }) plan.rest)) plan.changes.items
-        → IsReady r (record a { state = with_block a.state b p }) plan.rest
-        → IsPlanFor r a after (record a { state = with_block a.state b p }) plan
-    plan-added act fresh plan first_is flags_is after out still changes ready =
-        let A : Tracked = record a { state = with_block a.state b p } in
+    pub plan-added : (act : a.active ≡ active r a.state) → IsFresh names (with_block a.state b p) → (prepared : Prepared) → prepared.rollback.first ≡ BlockAdded → prepared.rollback.flags ≡ None
+        → (after : Outcome Block) → ((core_after_commit r (record a { state = with_block a.state b p }) prepared.rest).state, prepared.reply) ≡ after
+        → (core_after_commit r (record a { state = with_block a.state b p }) prepared.rest).active ≡ active r (core_after_commit r (record a { state = with_block a.state b p }) prepared.rest).state
+        → AreChanges (coins_of a) (coins_of (core_after_commit r (record a { state = with_block a.state b p }) prepared.rest)) prepared.changes.items
+        → IsReady r (record a { state = with_block a.state b p }) prepared.rest
+        → IsPreparationFor r a after (record a { state = with_block a.state b p }) prepared
+    plan-added act fresh prepared first_is flags_is after out still changes ready =
+        let A : CoreState = record a { state = with_block a.state b p } in
         record {
           params_are = refl;
           outcome_is = out;
@@ -262,33 +262,33 @@ module _ (r : Rules Block Id) where
           ready = ready;
           can_go_back = record {
             flags = subst (λ (o : Option FlagsOf). FlagsFit A.state o) (sym flags_is) tt;
-            first = subst (λ (f : First). CanBeTaken f a.active (with_flags plan.back.flags A.state)) (sym first_is)
+            first = subst (λ (f : TreeChange). CanBeTakenBack f a.active (with_flags prepared.rollback.flags A.state)) (sym first_is)
                 (subst (λ (o : Option FlagsOf). (a.active < length (with_flags o A.state).blocks) × IsFresh names (with_flags o A.state)) (sym flags_is) (let k = can.kept in omega arith, fresh));
           };
           back_is =
-              ap (λ (f : First). record A { state = taken_back f (with_flags plan.back.flags A.state) }) first_is
-              ∙ ap (λ (o : Option FlagsOf). record A { state = taken_back Added (with_flags o A.state) }) flags_is;
+              ap (λ (f : TreeChange). record A { state = state_before_change f (with_flags prepared.rollback.flags A.state) }) first_is
+              ∙ ap (λ (o : Option FlagsOf). record A { state = state_before_change BlockAdded (with_flags o A.state) }) flags_is;
         }
 
     pub plan-beside : (act : a.active ≡ active r a.state) → IsFresh names (with_block a.state b p) → better (with_block a.state b p) (suc (length a.state.blocks)) (active r a.state) ≡ false
-        → (plan : Plan) → plan.back.first ≡ Added → plan.back.flags ≡ None → plan.rest ≡ Nothing → plan.changes.items ≡ []
-        → (after : Outcome Block) → (with_block a.state b p, plan.reply) ≡ after → IsPlanFor r a after (record a { state = with_block a.state b p }) plan
-    plan-beside act fresh lower plan first_is flags_is rest_is changes_is after out =
-        let A : Tracked = record a { state = with_block a.state b p } in
-        let done : finished r A plan.rest ≡ A = ap (finished r A) rest_is in
-        plan-added act fresh plan first_is flags_is after
-        (ap (λ (x : Tracked). (x.state, plan.reply)) done ∙ out)
-        (ap (λ (x : Tracked). x.active) done ∙ act ∙ sym (active-beside r a.state sound b p lower) ∙ sym (ap (λ (x : Tracked). active r x.state) done))
-        (subst (λ (x : Tracked). AreChanges (coins_of a) (coins_of x) plan.changes.items) (sym done)
-        (subst (λ (m : Coins). AreChanges (coins_of a) m plan.changes.items) (sym coins-added) (no_changes (coins_of a) plan.changes.items changes_is)))
-        (subst (λ (x : Rest). IsReady r A x) (sym rest_is) tt)
+        → (prepared : Prepared) → prepared.rollback.first ≡ BlockAdded → prepared.rollback.flags ≡ None → prepared.rest ≡ Nothing → prepared.changes.items ≡ []
+        → (after : Outcome Block) → (with_block a.state b p, prepared.reply) ≡ after → IsPreparationFor r a after (record a { state = with_block a.state b p }) prepared
+    plan-beside act fresh lower prepared first_is flags_is rest_is changes_is after out =
+        let A : CoreState = record a { state = with_block a.state b p } in
+        let done : core_after_commit r A prepared.rest ≡ A = ap (core_after_commit r A) rest_is in
+        plan-added act fresh prepared first_is flags_is after
+        (ap (λ (x : CoreState). (x.state, prepared.reply)) done ∙ out)
+        (ap (λ (x : CoreState). x.active) done ∙ act ∙ sym (active-beside r a.state sound b p lower) ∙ sym (ap (λ (x : CoreState). active r x.state) done))
+        (subst (λ (x : CoreState). AreChanges (coins_of a) (coins_of x) prepared.changes.items) (sym done)
+        (subst (λ (m : Coins). AreChanges (coins_of a) m prepared.changes.items) (sym coins-added) (no_changes (coins_of a) prepared.changes.items changes_is)))
+        (subst (λ (x : Completion). IsReady r A x) (sym rest_is) tt)
 
 -- ---- flags that are kept before marks are changed
 
-pub flags-before : (a m : Tracked) (f : FlagsOf) → f ≡ flags_of a.state → record m { state = with_flags (Some (flags_of a.state)) m.state } ≡ a → a ≡ record m { state = with_flags (Some f) m.state }
+pub flags-before : (a m : CoreState) (f : FlagsOf) → f ≡ flags_of a.state → record m { state = with_flags (Some (flags_of a.state)) m.state } ≡ a → a ≡ record m { state = with_flags (Some f) m.state }
 flags-before a m f e same = sym same ∙ sym (ap (λ (g : FlagsOf). record m { state = with_flags (Some g) m.state }) e)
 
-pub fit-before : (r : Rules Block Id) (a m : Tracked) (f : FlagsOf) → CanTry r a → f ≡ flags_of a.state → ◌≡◌ {A = Blocks Block} m.state.blocks a.state.blocks → FlagsFit m.state (Some f)
+pub fit-before : (r : Rules Block Id) (a m : CoreState) (f : FlagsOf) → CanTry r a → f ≡ flags_of a.state → ◌≡◌ {A = Blocks Block} m.state.blocks a.state.blocks → FlagsFit m.state (Some f)
 fit-before r a m f can e same = (
   ap (λ (g : FlagsOf). g.len) e ∙ ap (λ (t : Blocks Block). suc (length t)) (sym same),
   ap (λ (g : FlagsOf). has g.bad 0) e ∙ usable_gives a.state 0 0 can.genesis (on-genesis a.state.blocks 0),
@@ -300,7 +300,7 @@ if_ok (Err e) f p = tt
 
 -- ---- a block is called precious
 
-module _ (r : Rules Block Id) (a : Tracked) (sound : Sound r a.state) (act : a.active ≡ active r a.state) (p : ℕ) (kept : p ≤ length a.state.blocks) (high : height a.state.blocks a.active ≤ height a.state.blocks p) where
+module _ (r : Rules Block Id) (a : CoreState) (sound : IsSettled r a.state) (act : a.active ≡ active r a.state) (p : ℕ) (kept : p ≤ length a.state.blocks) (high : height a.state.blocks a.active ≤ height a.state.blocks p) where
   abbrev t : State Block
   t = called a.state p
 

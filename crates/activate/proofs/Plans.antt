@@ -15,29 +15,29 @@ use Rattle.tree.specs.laws.Marks.{bad-flagged, seen-flagged, usable_gives}
 use Rattle.tree.specs.laws.Parents.{parent-below, on-rest}
 use Rattle.tree.specs.laws.Sets.{has_here, has_there, in_order-joined}
 use Rattle.tree.specs.laws.Above.{above, above-end, above-step}
-use Rattle.activate.specs.declared.plan.Rest.{Rest}
-use Rattle.activate.specs.declared.plan.Rest.TheVariants.{Go}
-use Rattle.activate.specs.declared.reply.SubmitReply.TheVariants.{Accepted, Inconclusive, Rejected}
-use Rattle.activate.specs.declared.way.Flaw.{Flaw}
-use Rattle.activate.specs.declared.way.Move.{Move}
-use Rattle.activate.specs.Rules.{Rules}
-use Rattle.activate.specs.Valid.{fault, valid, first_to_fail}
-use Rattle.activate.specs.Settle.{active, settle, on_candidate, becomes_bad, becomes_seen}
-use Rattle.activate.specs.Submission.{answer_added, rejected}
-use Rattle.activate.specs.Try.{fails_on, passes_on, tried}
-use Rattle.activate.specs.Sound.{Sound, AllKept}
-use Rattle.activate.specs.Tracked.{Tracked, coins_after, coins_of}
-use Rattle.activate.specs.Ways.{MovesTo, FailsAt}
-use Rattle.activate.specs.Plans.{Between, CanTry, CanGo, HasOtherFlags, Leads, Settles, with_flags, refused_by}
-use Rattle.activate.specs.laws.Actives.{active_kept, active_valid}
-use Rattle.activate.specs.laws.Candidates.{never_fails, same_first, on_candidate_from}
+use Rattle.activate.specs.declared.prepared.Completion.{Completion}
+use Rattle.activate.specs.declared.prepared.Completion.TheVariants.{Activate}
+use Rattle.chain.specs.declared.reply.SubmitReply.TheVariants.{Accepted, Inconclusive, Rejected}
+use Rattle.activate.specs.declared.path.FailedTry.{FailedTry}
+use Rattle.activate.specs.declared.path.Reorganisation.{Reorganisation}
+use Rattle.chain.specs.Rules.{Rules}
+use Rattle.chain.specs.Valid.{fault, valid, first_to_fail}
+use Rattle.chain.specs.Settle.{active, settle, on_candidate, becomes_bad, becomes_seen}
+use Rattle.chain.specs.Submission.{answer_added, reply_by_reason}
+use Rattle.chain.specs.inside.Try.{fails_on, passes_on, state_after_try}
+use Rattle.chain.specs.Settled.{IsSettled, AllKept}
+use Rattle.activate.specs.CoreState.{CoreState, coins_after, coins_of}
+use Rattle.activate.specs.inside.Paths.{LeadsTo, FailsAt}
+use Rattle.activate.specs.inside.Preparation.{TriesLead, CanTry, CanActivate, HasOtherFlags, TryLeads, Settles, with_flags, reply_to_failed_try}
+use Rattle.chain.specs.laws.Actives.{active_kept, active_valid}
+use Rattle.chain.specs.laws.Candidates.{never_fails, same_first, on_candidate_from}
 use Rattle.activate.specs.laws.Noting.{above-on}
-use Rattle.activate.specs.laws.Settled.{active-settle, settle-blocks, active_seen, bad_in-order, seen_in-order}
-use Rattle.activate.specs.laws.Tries.{tried-blocks, tried-precious, genesis-tried, active-tried, settle-tried, best-candidate, active-best, settle-best, unmarked, unmarked-tried}
+use Rattle.chain.specs.laws.Settled.{active-settle, settle-blocks, active_seen, bad_in-order, seen_in-order}
+use Rattle.chain.specs.laws.Tries.{tried-blocks, tried-precious, genesis-tried, active-tried, settle-tried, best-candidate, active-best, settle-best, unmarked, unmarked-tried}
 
 module _ (r : Rules Block Id) where
   -- a followed chainstate can be tried
-  pub can-follows : (c : Tracked) → Sound r c.state → AllKept r c.state.blocks → c.active ≡ active r c.state → CanTry r c
+  pub can-follows : (c : CoreState) → IsSettled r c.state → AllKept r c.state.blocks → c.active ≡ active r c.state → CanTry r c
   can-follows c sound all e = record {
     genesis = sound.genesis;
     kept = subst (λ (p : ℕ). p ≤ length c.state.blocks) (sym e) (active_kept r c.state sound.genesis);
@@ -49,10 +49,10 @@ module _ (r : Rules Block Id) where
   }
 
   -- what a try leaves can be tried again
-  pub can-tried : (c : Tracked) (p : ℕ) → CanTry r c → CanTry r (record c { state = tried r c.state p })
-  unfolding tried
+  pub can-tried : (c : CoreState) (p : ℕ) → CanTry r c → CanTry r (record c { state = state_after_try r c.state p })
+  unfolding state_after_try
   can-tried c p can = record {
-    genesis = (unfold tried in genesis-tried r c.state p can.genesis);
+    genesis = (unfold state_after_try in genesis-tried r c.state p can.genesis);
     kept = can.kept;
     all = can.all;
     good = can.good;
@@ -65,54 +65,54 @@ module _ (r : Rules Block Id) where
 
 -- ---- other flags
 
-pub other_none : (a : Tracked) → HasOtherFlags a a
+pub other_none : (a : CoreState) → HasOtherFlags a a
 other_none a = record { same = refl; blocks_are = refl; precious_is = refl }
 
-pub other-tried : (r : Rules Block Id) (a b : Tracked) (p : ℕ) → HasOtherFlags a b → HasOtherFlags a (record b { state = tried r b.state p })
+pub other-tried : (r : Rules Block Id) (a b : CoreState) (p : ℕ) → HasOtherFlags a b → HasOtherFlags a (record b { state = state_after_try r b.state p })
 other-tried r a b p is = record {
-  same = ap (λ (x : Tracked). record x { state = tried r b.state p }) is.same;
+  same = ap (λ (x : CoreState). record x { state = state_after_try r b.state p }) is.same;
   blocks_are = tried-blocks r b.state p ∙ is.blocks_are;
   precious_is = tried-precious r b.state p ∙ is.precious_is;
 }
 
-pub other_trans : (a b c : Tracked) → HasOtherFlags a b → HasOtherFlags b c → HasOtherFlags a c
+pub other_trans : (a b c : CoreState) → HasOtherFlags a b → HasOtherFlags b c → HasOtherFlags a c
 other_trans a b c x y = record {
-  same = ap (λ (z : Tracked). record z { state = c.state }) x.same ∙ y.same;
+  same = ap (λ (z : CoreState). record z { state = c.state }) x.same ∙ y.same;
   blocks_are = y.blocks_are ∙ x.blocks_are;
   precious_is = y.precious_is ∙ x.precious_is;
 }
 
-pub active-other : (a b : Tracked) → HasOtherFlags a b → b.active ≡ a.active
-active-other a b is = ap (λ (x : Tracked). x.active) (sym is.same)
+pub active-other : (a b : CoreState) → HasOtherFlags a b → b.active ≡ a.active
+active-other a b is = ap (λ (x : CoreState). x.active) (sym is.same)
 
-pub coins-other : (a b : Tracked) → HasOtherFlags a b → coins_of b ≡ coins_of a
+pub coins-other : (a b : CoreState) → HasOtherFlags a b → coins_of b ≡ coins_of a
 coins-other a b is = ap (λ (t : Blocks Block). coins_after t b.active) is.blocks_are ∙ ap (coins_after a.state.blocks) (active-other a b is)
 
 -- the flags put back
-pub back-other : (a b : Tracked) (f : FlagsOf) → HasOtherFlags a b → f ≡ flags_of a.state → record b { state = with_flags (Some f) b.state } ≡ a
+pub back-other : (a b : CoreState) (f : FlagsOf) → HasOtherFlags a b → f ≡ flags_of a.state → record b { state = with_flags (Some f) b.state } ≡ a
 back-other a b f is e =
     ap (λ (g : FlagsOf). record b { state = with_flags (Some g) b.state }) e
     ∙ ap (λ (t : Blocks Block). record b { state = record b.state { blocks = t; bad = a.state.bad; seen = a.state.seen } }) is.blocks_are
     ∙ ap (λ (l : List ℕ). record b { state = record a.state { precious = l } }) is.precious_is
-    ∙ ap (λ (x : Tracked). record x { state = a.state }) (sym is.same)
+    ∙ ap (λ (x : CoreState). record x { state = a.state }) (sym is.same)
 
-pub fit-other : (r : Rules Block Id) (a b : Tracked) (f : FlagsOf) → HasOtherFlags a b → CanTry r a → f ≡ flags_of a.state → (f.len ≡ suc (length b.state.blocks)) × (has f.bad 0 ≡ false)
+pub fit-other : (r : Rules Block Id) (a b : CoreState) (f : FlagsOf) → HasOtherFlags a b → CanTry r a → f ≡ flags_of a.state → (f.len ≡ suc (length b.state.blocks)) × (has f.bad 0 ≡ false)
 fit-other r a b f is can e = (
   ap (λ (g : FlagsOf). g.len) e ∙ ap (λ (t : Blocks Block). suc (length t)) (sym is.blocks_are),
   ap (λ (g : FlagsOf). has g.bad 0) e ∙ usable_gives a.state 0 0 can.genesis (on-genesis a.state.blocks 0),
 )
 
-pub params-other : (a b : Tracked) → HasOtherFlags a b → b.params ≡ a.params
-params-other a b is = ap (λ (x : Tracked). x.params) (sym is.same)
+pub params-other : (a b : CoreState) → HasOtherFlags a b → b.params ≡ a.params
+params-other a b is = ap (λ (x : CoreState). x.params) (sym is.same)
 
 -- ---- settling
 
 module _ (r : Rules Block Id) where
-  pub between_none : (a : Tracked) → CanTry r a → Between r a a
+  pub between_none : (a : CoreState) → CanTry r a → TriesLead r a a
   between_none a can = record { flags = other_none a; can = can; settles = refl; active_is = refl }
 
   -- a try that failed keeps what settling gives
-  pub between-tried : (a b : Tracked) (p : ℕ) → Between r a b → IsBest b.state (usable b.state) (length b.state.blocks) p → Between r a (record b { state = tried r b.state p })
+  pub between-tried : (a b : CoreState) (p : ℕ) → TriesLead r a b → IsBest b.state (usable b.state) (length b.state.blocks) p → TriesLead r a (record b { state = state_after_try r b.state p })
   between-tried a b p is best = record {
     flags = other-tried r a b p is.flags;
     can = can-tried r b p is.can;
@@ -121,14 +121,14 @@ module _ (r : Rules Block Id) where
   }
 
   -- and leaves fewer blocks unmarked
-  pub fewer-unmarked : (b : Tracked) (p : ℕ) (flaw : Flaw) → IsBest b.state (usable b.state) (length b.state.blocks) p → FailsAt r b.state.blocks b.active p flaw → unmarked (tried r b.state p) < unmarked b.state
-  fewer-unmarked b p flaw best fails =
+  pub fewer-unmarked : (b : CoreState) (p : ℕ) (failed : FailedTry) → IsBest b.state (usable b.state) (length b.state.blocks) p → FailsAt r b.state.blocks b.active p failed → unmarked (state_after_try r b.state p) < unmarked b.state
+  fewer-unmarked b p failed best fails =
       unmarked-tried r b.state p best.kept best.can
-      (false_from_ne_true (valid r b.state.blocks p) (λ v. never_fails r b.state.blocks p fails.place v fails.first.on fails.first.first))
+      (false_from_ne_true (valid r b.state.blocks p) (λ v. never_fails r b.state.blocks p fails.stop.place v fails.stop.first.on fails.stop.first.first))
 
-module _ (r : Rules Block Id) (a b : Tracked) (p : ℕ) (move : Move) where
+module _ (r : Rules Block Id) (a b : CoreState) (p : ℕ) (move : Reorganisation) where
   -- the last try, of the best block that is left
-  pub leads-last : Between r a b → IsBest b.state (usable b.state) (length b.state.blocks) p → MovesTo r b.state.blocks b.active p move → Leads r a b p move
+  pub leads-last : TriesLead r a b → IsBest b.state (usable b.state) (length b.state.blocks) p → LeadsTo r b.state.blocks b.active p move → TryLeads r a b p move
   leads-last is best moves = record {
     can = is.can;
     kept = best.kept;
@@ -137,17 +137,17 @@ module _ (r : Rules Block Id) (a b : Tracked) (p : ℕ) (move : Move) where
     active_is = sym is.active_is ∙ active-best r b.state p is.can.genesis best moves.good;
   }
 
-  pub can_go : Leads r a b p move → CanGo r b p move.way move.undo.items
-  can_go l = record { can = l.can; kept = l.kept; is_way = l.moves.way; good = l.moves.good; undo_is = l.moves.undo }
+  pub can_go : TryLeads r a b p move → CanActivate r b p move.path move.undo.items
+  can_go l = record { can = l.can; kept = l.kept; is_way = l.moves.path; good = l.moves.good; undo_is = l.moves.undo }
 
   -- the coins change as the last try tells
-  pub changes-leads : HasOtherFlags a b → Leads r a b p move → AreChanges (coins_of a) (coins_after (tried r b.state p).blocks p) move.changes.items
+  pub changes-leads : HasOtherFlags a b → TryLeads r a b p move → AreChanges (coins_of a) (coins_after (state_after_try r b.state p).blocks p) move.changes.items
   changes-leads is l =
       subst (λ (t : Blocks Block). AreChanges (coins_of a) (coins_after t p) move.changes.items) (sym (tried-blocks r b.state p))
       (subst (λ (m : Coins). AreChanges m (coins_after b.state.blocks p) move.changes.items) (coins-other a b is) l.moves.changes)
 
-  pub settles-leads : (f : FlagsOf) → CanTry r a → HasOtherFlags a b → f ≡ flags_of a.state → Leads r a b p move → (rest : Rest) → rest ≡ Go p move.way move.undo → Settles r a b (Some f) rest move.changes.items
-  settles-leads f can is e l rest go = subst (λ (x : Rest). Settles r a b (Some f) x move.changes.items) (sym go) (record {
+  pub settles-leads : (f : FlagsOf) → CanTry r a → HasOtherFlags a b → f ≡ flags_of a.state → TryLeads r a b p move → (rest : Completion) → rest ≡ Activate p move.path move.undo → Settles r a b (Some f) rest move.changes.items
+  settles-leads f can is e l rest go = subst (λ (x : Completion). Settles r a b (Some f) x move.changes.items) (sym go) (record {
     other_flags = is;
     state_is = l.settles;
     active_is = sym l.active_is;
@@ -158,10 +158,10 @@ module _ (r : Rules Block Id) (a b : Tracked) (p : ℕ) (move : Move) where
   })
 
 -- the first try, where it is the last one too
-pub settles-once : (r : Rules Block Id) (a : Tracked) (p : ℕ) (move : Move) → CanTry r a → IsBest a.state (usable a.state) (length a.state.blocks) p → MovesTo r a.state.blocks a.active p move → (rest : Rest) → rest ≡ Go p move.way move.undo → Settles r a a None rest move.changes.items
+pub settles-once : (r : Rules Block Id) (a : CoreState) (p : ℕ) (move : Reorganisation) → CanTry r a → IsBest a.state (usable a.state) (length a.state.blocks) p → LeadsTo r a.state.blocks a.active p move → (rest : Completion) → rest ≡ Activate p move.path move.undo → Settles r a a None rest move.changes.items
 settles-once r a p move can best moves rest go =
     let l = leads-last r a a p move (between_none r a can) best moves in
-    subst (λ (x : Rest). Settles r a a None x move.changes.items) (sym go) (record {
+    subst (λ (x : Completion). Settles r a a None x move.changes.items) (sym go) (record {
       other_flags = other_none a;
       state_is = l.settles;
       active_is = sym l.active_is;
@@ -172,8 +172,8 @@ settles-once r a p move can best moves rest go =
     })
 
 -- after a first try that failed
-pub leads-after : (r : Rules Block Id) (a b : Tracked) (p q : ℕ) (move : Move) → CanTry r a → IsBest a.state (usable a.state) (length a.state.blocks) p
-    → Leads r (record a { state = tried r a.state p }) b q move → Leads r a b q move
+pub leads-after : (r : Rules Block Id) (a b : CoreState) (p q : ℕ) (move : Reorganisation) → CanTry r a → IsBest a.state (usable a.state) (length a.state.blocks) p
+    → TryLeads r (record a { state = state_after_try r a.state p }) b q move → TryLeads r a b q move
 leads-after r a b p q move can best l = record {
   can = l.can;
   kept = l.kept;
@@ -184,7 +184,7 @@ leads-after r a b p q move can best l = record {
 
 -- ---- what is said of the block that was tried first
 
-module _ (r : Rules Block Id) (a : Tracked) (can : CanTry r a) (p : ℕ) (best : IsBest a.state (usable a.state) (length a.state.blocks) p) where
+module _ (r : Rules Block Id) (a : CoreState) (can : CanTry r a) (p : ℕ) (best : IsBest a.state (usable a.state) (length a.state.blocks) p) where
   abbrev after : State Block
   after = settle r a.state
 
@@ -194,12 +194,12 @@ module _ (r : Rules Block Id) (a : Tracked) (can : CanTry r a) (p : ℕ) (best :
   pub said-once : valid r a.state.blocks p ≡ true → Accepted ≡ answer_added r after p
   unfolding answer_added
   said-once v =
-      sym (ap (λ (b : Bool). cond b Accepted (cond (has after.bad p) (rejected (fault r after.blocks p)) Inconclusive))
+      sym (ap (λ (b : Bool). cond b Accepted (cond (has after.bad p) (reply_by_reason (fault r after.blocks p)) Inconclusive))
       (eq-eqb p (active r after) (sym (active_after ∙ active-best r a.state p can.genesis best v))))
 
-  module _ (flaw : Flaw) (fails : FailsAt r a.state.blocks a.active p flaw) where
+  module _ (failed : FailedTry) (fails : FailsAt r a.state.blocks a.active p failed) where
     not_valid : valid r a.state.blocks p ≡ true → ⊥
-    not_valid v = never_fails r a.state.blocks p fails.place v fails.first.on fails.first.first
+    not_valid v = never_fails r a.state.blocks p fails.stop.place v fails.stop.first.on fails.stop.first.first
 
     other : p ≡ active r after → ⊥
     other e = not_valid (subst (λ (x : ℕ). valid r a.state.blocks x ≡ true) (sym (e ∙ active_after)) (active_valid r a.state can.genesis))
@@ -217,78 +217,78 @@ module _ (r : Rules Block Id) (a : Tracked) (can : CanTry r a) (p : ℕ) (best :
         and_true true = refl
         and_true false = refl
 
-    answer : answer_added r after p ≡ cond (first_to_fail r a.state.blocks p) (rejected (fault r a.state.blocks p)) Inconclusive
+    answer : answer_added r after p ≡ cond (first_to_fail r a.state.blocks p) (reply_by_reason (fault r a.state.blocks p)) Inconclusive
     unfolding answer_added
     answer =
-        ap (λ (b : Bool). cond b Accepted (cond (has after.bad p) (rejected (fault r after.blocks p)) Inconclusive)) (ne_eqb p (active r after) other)
-        ∙ ap (λ (b : Bool). cond b (rejected (fault r after.blocks p)) Inconclusive) bad_now
-        ∙ ap (λ (t : Blocks Block). cond (first_to_fail r a.state.blocks p) (rejected (fault r t p)) Inconclusive) (settle-blocks r a.state)
+        ap (λ (b : Bool). cond b Accepted (cond (has after.bad p) (reply_by_reason (fault r after.blocks p)) Inconclusive)) (ne_eqb p (active r after) other)
+        ∙ ap (λ (b : Bool). cond b (reply_by_reason (fault r after.blocks p)) Inconclusive) bad_now
+        ∙ ap (λ (t : Blocks Block). cond (first_to_fail r a.state.blocks p) (reply_by_reason (fault r t p)) Inconclusive) (settle-blocks r a.state)
 
-    -- the way up ends at the block, so the first that doesn't connect is the block itself where none is left above it
-    up : ◌≡◌ {A = List ℕ} (above a.state.blocks p flaw.way.fork) (reverse fails.rest ++ (fails.place ∷ reverse fails.front))
+    -- the path up ends at the block, so the first that doesn't connect is the block itself where none is left above it
+    up : ◌≡◌ {A = List ℕ} (above a.state.blocks p failed.path.fork) (reverse fails.stop.rest ++ (fails.stop.place ∷ reverse fails.stop.front))
     up =
-        sym fails.way.up ∙ sym (reverse-reverse flaw.way.up.items) ∙ ap (λ (l : List ℕ). reverse l) fails.parts
-        ∙ reverse-append fails.front (fails.place ∷ fails.rest)
-        ∙ turned fails.rest fails.place (reverse fails.front)
+        sym fails.path.up ∙ sym (reverse-reverse failed.path.up.items) ∙ ap (λ (l : List ℕ). reverse l) fails.stop.parts
+        ∙ reverse-append fails.stop.front (fails.stop.place ∷ fails.stop.rest)
+        ∙ turned fails.stop.rest fails.stop.place (reverse fails.stop.front)
       where
         turned : (l : List ℕ) (x : ℕ) (k : List ℕ) → reverse (x ∷ l) ++ k ≡ reverse l ++ (x ∷ k)
         turned l x k = ap (λ (m : List ℕ). m ++ k) (reverse-append (x ∷ []) l) ∙ append_assoc (reverse l) (x ∷ []) k
 
-    higher : flaw.way.fork < p
+    higher : failed.path.fork < p
     higher =
-        elim (cases_eq p flaw.way.fork) [
+        elim (cases_eq p failed.path.fork) [
           | inl e ↦
-              let none : ◌≡◌ {A = List ℕ} [] (above a.state.blocks p flaw.way.fork) = sym (above-end a.state.blocks p best.kept) ∙ ap (above a.state.blocks p) e in
-              absurd (nothing-in (reverse fails.rest) fails.place (reverse fails.front) (none ∙ up))
-          | inr n ↦ let l = on-bounds a.state.blocks p flaw.way.fork fails.way.shared.there in omega arith
+              let none : ◌≡◌ {A = List ℕ} [] (above a.state.blocks p failed.path.fork) = sym (above-end a.state.blocks p best.kept) ∙ ap (above a.state.blocks p) e in
+              absurd (nothing-in (reverse fails.stop.rest) fails.stop.place (reverse fails.stop.front) (none ∙ up))
+          | inr n ↦ let l = on-bounds a.state.blocks p failed.path.fork fails.path.shared.there in omega arith
         ]
       where
         nothing-in : (k : List ℕ) (x : ℕ) (l : List ℕ) → ◌≡◌ {A = List ℕ} [] (k ++ (x ∷ l)) → ⊥
         nothing-in [] x l e = cc
         nothing-in (y ∷ k) x l e = cc
 
-    which : (q k : List ℕ) → above a.state.blocks p flaw.way.fork ≡ q ++ (fails.place ∷ k) → ((length q ≡ 0) × (p ≡ fails.place)) ⊎ ((0 < length q) × (fails.place < p))
-    which [] k e = inl (refl, ap first_of (sym (above-step a.state.blocks p flaw.way.fork higher best.kept) ∙ e))
+    which : (q k : List ℕ) → above a.state.blocks p failed.path.fork ≡ q ++ (fails.stop.place ∷ k) → ((length q ≡ 0) × (p ≡ fails.stop.place)) ⊎ ((0 < length q) × (fails.stop.place < p))
+    which [] k e = inl (refl, ap first_of (sym (above-step a.state.blocks p failed.path.fork higher best.kept) ∙ e))
     which (z ∷ q) k e =
         let t : Blocks Block = a.state.blocks in
         let below = parent-below t p (omega (arith, higher)) best.kept in
-        let others : above t (parent_at t p) flaw.way.fork ≡ q ++ (fails.place ∷ k) = ap rest_of (sym (above-step t p flaw.way.fork higher best.kept) ∙ e) in
-        let there : on t (parent_at t p) flaw.way.fork ≡ true = on-rest t p (omega (arith, higher)) best.kept flaw.way.fork fails.way.shared.there (λ w. let h = higher in omega arith) in
-        let o = above-on t flaw.way.fork (parent_at t p) fails.place (omega (arith, best.kept)) there (ap (λ (l : List ℕ). has l fails.place) others ∙ among q k) in
-        let l = (on-bounds t (parent_at t p) fails.place o).0 in
+        let others : above t (parent_at t p) failed.path.fork ≡ q ++ (fails.stop.place ∷ k) = ap rest_of (sym (above-step t p failed.path.fork higher best.kept) ∙ e) in
+        let there : on t (parent_at t p) failed.path.fork ≡ true = on-rest t p (omega (arith, higher)) best.kept failed.path.fork fails.path.shared.there (λ w. let h = higher in omega arith) in
+        let o = above-on t failed.path.fork (parent_at t p) fails.stop.place (omega (arith, best.kept)) there (ap (λ (l : List ℕ). has l fails.stop.place) others ∙ among q k) in
+        let l = (on-bounds t (parent_at t p) fails.stop.place o).0 in
         inr (omega arith, omega arith)
       where
-        among : (q k : List ℕ) → has (q ++ (fails.place ∷ k)) fails.place ≡ true
-        among [] k = has_here fails.place k
-        among (y ∷ q) k = has_there y fails.place (q ++ (fails.place ∷ k)) (among q k)
+        among : (q k : List ℕ) → has (q ++ (fails.stop.place ∷ k)) fails.stop.place ≡ true
+        among [] k = has_here fails.stop.place k
+        among (y ∷ q) k = has_there y fails.stop.place (q ++ (fails.stop.place ∷ k)) (among q k)
 
-    sizes : length flaw.way.up.items ≡ flaw.passed + 1 + length fails.rest
+    sizes : length failed.path.up.items ≡ failed.passed + 1 + length fails.stop.rest
     sizes =
-        let n = sym (length-reverse flaw.way.up.items) ∙ ap (λ (l : List ℕ). length l) fails.parts ∙ length-append fails.front (fails.place ∷ fails.rest) in
-        let m = fails.passed in
+        let n = sym (length-reverse failed.path.up.items) ∙ ap (λ (l : List ℕ). length l) fails.stop.parts ∙ length-append fails.stop.front (fails.stop.place ∷ fails.stop.rest) in
+        let m = fails.stop.counted in
         omega arith
 
-    pub passed-less : flaw.passed < length flaw.way.up.items
+    pub passed-less : failed.passed < length failed.path.up.items
     passed-less = let n = sizes in omega arith
 
-    pub said-after : refused_by flaw ≡ answer_added r after p
-    unfolding refused_by
+    pub said-after : reply_to_failed_try failed ≡ answer_added r after p
+    unfolding reply_to_failed_try
     said-after =
-        elim (which (reverse fails.rest) (reverse fails.front) up) [
+        elim (which (reverse fails.stop.rest) (reverse fails.stop.front) up) [
           | inl w ↦
-              let none : length fails.rest ≡ 0 = sym (length-reverse fails.rest) ∙ w.0 in
+              let none : length fails.stop.rest ≡ 0 = sym (length-reverse fails.stop.rest) ∙ w.0 in
               let n = sizes in
-              ap (λ (b : Bool). cond b (Rejected flaw.reason) Inconclusive) (eq-eqb (flaw.passed + 1) (length flaw.way.up.items) (omega arith))
-              ∙ ap rejected (sym (ap (fault r a.state.blocks) w.1 ∙ fails.reason))
-              ∙ ap (λ (b : Bool). cond b (rejected (fault r a.state.blocks p)) Inconclusive) (sym (ap (first_to_fail r a.state.blocks) w.1 ∙ fails.first.first))
+              ap (λ (b : Bool). cond b (Rejected failed.reason) Inconclusive) (eq-eqb (failed.passed + 1) (length failed.path.up.items) (omega arith))
+              ∙ ap reply_by_reason (sym (ap (fault r a.state.blocks) w.1 ∙ fails.stop.broken))
+              ∙ ap (λ (b : Bool). cond b (reply_by_reason (fault r a.state.blocks p)) Inconclusive) (sym (ap (first_to_fail r a.state.blocks) w.1 ∙ fails.stop.first.first))
               ∙ sym answer
           | inr w ↦
-              let some = length-reverse fails.rest in
+              let some = length-reverse fails.stop.rest in
               let n = sizes in
-              ap (λ (b : Bool). cond b (Rejected flaw.reason) Inconclusive) (ne_eqb (flaw.passed + 1) (length flaw.way.up.items) (λ e. let z = w.0 in omega arith))
-              ∙ ap (λ (b : Bool). cond b (rejected (fault r a.state.blocks p)) Inconclusive)
+              ap (λ (b : Bool). cond b (Rejected failed.reason) Inconclusive) (ne_eqb (failed.passed + 1) (length failed.path.up.items) (λ e. let z = w.0 in omega arith))
+              ∙ ap (λ (b : Bool). cond b (reply_by_reason (fault r a.state.blocks p)) Inconclusive)
               (sym (false_from_ne_true (first_to_fail r a.state.blocks p) (λ h.
-              let e : p ≡ fails.place = same_first r a.state.blocks p p fails.place (on-itself a.state.blocks p best.kept) fails.first.on h fails.first.first in
+              let e : p ≡ fails.stop.place = same_first r a.state.blocks p p fails.stop.place (on-itself a.state.blocks p best.kept) fails.stop.first.on h fails.stop.first.first in
               let l = w.1 in omega arith)))
               ∙ sym answer
         ]

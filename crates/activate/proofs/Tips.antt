@@ -1,4 +1,4 @@
--- The plan of a new block on the active one.
+-- What is prepared for a new block on the active one.
 use Rattle.std.proofs.Common.{◌≡◌, ℕ, suc, ◌+◌, ◌≤◌, true, eqb, List, [], ◌∷◌, length, map, reverse, Option, None, Some, Vec, Global, sym, refl, ap, ◌∙◌, subst, arith}
 use Rattle.std.proofs.lemmas.Bool.{eq-eqb, eqb-true}
 use Rattle.std.proofs.lemmas.List.{length-map}
@@ -26,34 +26,36 @@ use Rattle.tree.specs.laws.Added.{blocks-new}
 use Rattle.tree.specs.laws.Branches.{height_there, on-itself, parent_here}
 use Rattle.tree.specs.laws.Parents.{on-parent}
 use Rattle.tree.specs.laws.Sets.{joined_new}
-use Rattle.activate.specs.declared.plan.Plan.{Plan}
-use Rattle.activate.specs.declared.plan.First.TheVariants.{Added}
-use Rattle.activate.specs.declared.plan.Rest.{Rest}
-use Rattle.activate.specs.declared.plan.Rest.TheVariants.{Mark, Go}
-use Rattle.activate.specs.declared.reply.Reply.{Reply}
-use Rattle.activate.specs.declared.reply.Reply.TheVariants as reply
-use Rattle.activate.specs.declared.reply.SubmitReply.TheVariants.{Accepted, Rejected}
-use Rattle.activate.specs.declared.way.Way.{Way}
-use Rattle.activate.specs.Rules.{Rules}
-use Rattle.activate.specs.Replay.{replay}
-use Rattle.activate.specs.Valid.{valid}
-use Rattle.activate.specs.Regtest.{medians_of, setting_on, ledger, regtest}
-use Rattle.activate.specs.Settle.{active, settle}
-use Rattle.activate.specs.Sound.{Sound, IsNew}
-use Rattle.activate.specs.Step.{Submit, step}
-use Rattle.activate.specs.Submission.{submit_says}
-use Rattle.activate.specs.Tracked.{Tracked, branch_blocks, coins_after, coins_of, undo_at}
-use Rattle.activate.specs.Try.{tried}
-use Rattle.activate.specs.Plans.{CanTry, IsPlanFor, IsReady, finished}
-use Rattle.activate.specs.Ways.{IsWay}
-use Rattle.activate.specs.laws.Actives.{active_valid}
+use Rattle.activate.specs.declared.prepared.Prepared.{Prepared}
+use Rattle.activate.specs.declared.prepared.TreeChange.TheVariants.{BlockAdded}
+use Rattle.activate.specs.declared.prepared.Completion.{Completion}
+use Rattle.activate.specs.declared.prepared.Completion.TheVariants.{Mark, Activate}
+use Rattle.chain.specs.declared.reply.Reply.{Reply}
+use Rattle.chain.specs.declared.reply.Reply.TheVariants as reply
+use Rattle.chain.specs.declared.reply.SubmitReply.TheVariants.{Accepted, Rejected}
+use Rattle.activate.specs.declared.path.BranchPath.{BranchPath}
+use Rattle.chain.specs.Rules.{Rules}
+use Rattle.chain.specs.Replay.{replay}
+use Rattle.chain.specs.Valid.{valid}
+use Rattle.chain.specs.Regtest.{medians_of, setting_on, ledger, regtest}
+use Rattle.chain.specs.Settle.{active, settle}
+use Rattle.chain.specs.Settled.{IsSettled}
+use Rattle.chain.specs.inside.Faults.{IsNew}
+use Rattle.chain.specs.Step.{Submit, step}
+use Rattle.chain.specs.Submission.{submit_says}
+use Rattle.activate.specs.CoreState.{CoreState, branch_blocks, coins_after, coins_of}
+use Rattle.activate.specs.inside.Keeping.{undo_at}
+use Rattle.chain.specs.inside.Try.{state_after_try}
+use Rattle.activate.specs.inside.Preparation.{undo_after, CanTry, IsPreparationFor, IsReady, core_after_commit}
+use Rattle.activate.specs.inside.Paths.{IsPath}
+use Rattle.chain.specs.laws.Actives.{active_valid}
 use Rattle.activate.specs.laws.Climbing.{length-branch}
-use Rattle.activate.specs.laws.Coins.{replay-block}
+use Rattle.chain.specs.laws.Coins.{replay-block}
 use Rattle.activate.specs.laws.Growing.{undo-new}
-use Rattle.activate.specs.laws.Ordinary.{best-tip, active-tip, active_tip-fails, settle_tip-fails}
-use Rattle.activate.specs.laws.Settled.{active-settle}
-use Rattle.activate.specs.laws.Steps.{faultless-alone, step-added, step_tip-fails}
-use Rattle.activate.specs.laws.Tries.{settle-best, tried-blocks}
+use Rattle.chain.specs.laws.Ordinary.{best-tip, active-tip, active_tip-fails, settle_tip-fails}
+use Rattle.chain.specs.laws.Settled.{active-settle}
+use Rattle.chain.specs.laws.Steps.{faultless-alone, step-added, step_tip-fails}
+use Rattle.chain.specs.laws.Tries.{settle-best, tried-blocks}
 use Rattle.activate.proofs.Plans.{said-once}
 use Rattle.activate.proofs.Planned.{can-added, coins-added, no_changes, plan-added, says-added}
 
@@ -77,7 +79,7 @@ pub fault-tip : (params : Params) (triples : Triples) (t : Blocks Block) (p : �
 fault-tip params triples t p b m found s e coins same =
     sym (e ∙ ap (λ (q : Setting). connect_fault q m b.txs triples) same ∙ ap (λ (q : Coins). connect_fault (setting_on params (branch_blocks t p)) q b.txs triples) coins)
 
-module _ (params : Params) (triples : Triples) (a : Tracked) (sound : Sound (regtest params triples) a.state) (act : a.active ≡ active (regtest params triples) a.state) (can : CanTry (regtest params triples) a)
+module _ (params : Params) (triples : Triples) (a : CoreState) (sound : IsSettled (regtest params triples) a.state) (act : a.active ≡ active (regtest params triples) a.state) (can : CanTry (regtest params triples) a)
     (b : Block) (now : ℕ) (is : IsNew (regtest params triples) a.state now b a.active) (fresh : IsFresh names (with_block a.state b a.active)) where
   abbrev r : Rules Block Id
   r = regtest params triples
@@ -88,7 +90,7 @@ module _ (params : Params) (triples : Triples) (a : Tracked) (sound : Sound (reg
   abbrev t : State Block
   t = with_block a.state b a.active
 
-  abbrev A : Tracked
+  abbrev A : CoreState
   A = record a { state = t }
 
   abbrev k : KeptBlock Block
@@ -98,7 +100,7 @@ module _ (params : Params) (triples : Triples) (a : Tracked) (sound : Sound (reg
   alone = faultless-alone r a.state now b is.faultless
 
   next : CanTry r A
-  next = can-added r a sound b a.active can alone can.kept is.unknown
+  next = can-added r a sound b a.active can alone can.kept is.unknown is.parent
 
   -- the block's own fault is that of the active branch
   own : (f : ◌≡◌ {A = Option Reason} (r.connect_fault (branch_blocks a.state.blocks a.active) b) None) → r.connect_fault (branch_blocks a.state.blocks (active r a.state)) b ≡ None
@@ -120,18 +122,18 @@ module _ (params : Params) (triples : Triples) (a : Tracked) (sound : Sound (reg
         act ∙ sym (active_tip-fails r a.state sound b a.active act reason own_bad) ∙ sym (active-settle r t next.genesis)
         ∙ ap (active r) (settle_tip-fails r a.state sound b a.active act reason own_bad ∙ sym marked-is)
 
-    pub plan-fails : (plan : Plan) (place : ℕ) → place ≡ n → plan.back.first ≡ Added → plan.back.flags ≡ None → plan.rest ≡ Mark place → plan.changes.items ≡ [] → plan.reply ≡ reply.Submit (Rejected reason)
-        → IsPlanFor r a (step r a.state (Submit now b)) A plan
-    plan-fails plan place here first_is flags_is rest_is changes_is reply_is =
-        let rest : plan.rest ≡ Mark n = rest_is ∙ ap Mark here in
-        let done : finished r A plan.rest ≡ record A { state = marked t n } = ap (finished r A) rest in
-        plan-added r a sound b a.active can alone can.kept is.unknown act fresh plan first_is flags_is (step r a.state (Submit now b))
-        (ap (λ (x : Tracked). (x.state, plan.reply)) done ∙ ap (λ (x : Reply). (marked t n, x)) reply_is ∙ ap (λ (s : State Block). submit_says s (Rejected reason)) marked-is
+    pub plan-fails : (prepared : Prepared) (place : ℕ) → place ≡ n → prepared.rollback.first ≡ BlockAdded → prepared.rollback.flags ≡ None → prepared.rest ≡ Mark place → prepared.changes.items ≡ [] → prepared.reply ≡ reply.Submit (Rejected reason)
+        → IsPreparationFor r a (step r a.state (Submit now b)) A prepared
+    plan-fails prepared place here first_is flags_is rest_is changes_is reply_is =
+        let rest : prepared.rest ≡ Mark n = rest_is ∙ ap Mark here in
+        let done : core_after_commit r A prepared.rest ≡ record A { state = marked t n } = ap (core_after_commit r A) rest in
+        plan-added r a sound b a.active can alone can.kept is.unknown is.parent act fresh prepared first_is flags_is (step r a.state (Submit now b))
+        (ap (λ (x : CoreState). (x.state, prepared.reply)) done ∙ ap (λ (x : Reply). (marked t n, x)) reply_is ∙ ap (λ (s : State Block). submit_says s (Rejected reason)) marked-is
         ∙ sym (step_tip-fails r a.state sound now b a.active is act reason own_bad))
-        (ap (λ (x : Tracked). x.active) done ∙ still ∙ sym (ap (λ (x : Tracked). active r x.state) done))
-        (subst (λ (x : Tracked). AreChanges (coins_of a) (coins_of x) plan.changes.items) (sym done)
-        (subst (λ (m : Coins). AreChanges (coins_of a) m plan.changes.items) (sym (coins-added r a sound b a.active can alone can.kept is.unknown)) (no_changes (coins_of a) plan.changes.items changes_is)))
-        (subst (λ (x : Rest). IsReady r A x) (sym rest) (omega arith, omega arith))
+        (ap (λ (x : CoreState). x.active) done ∙ still ∙ sym (ap (λ (x : CoreState). active r x.state) done))
+        (subst (λ (x : CoreState). AreChanges (coins_of a) (coins_of x) prepared.changes.items) (sym done)
+        (subst (λ (m : Coins). AreChanges (coins_of a) m prepared.changes.items) (sym (coins-added r a sound b a.active can alone can.kept is.unknown is.parent)) (no_changes (coins_of a) prepared.changes.items changes_is)))
+        (subst (λ (x : Completion). IsReady r A x) (sym rest) (omega arith, omega arith))
 
   -- ---- it connects
 
@@ -139,7 +141,7 @@ module _ (params : Params) (triples : Triples) (a : Tracked) (sound : Sound (reg
     is_active : active r t ≡ n
     is_active = active-tip r a.state sound b a.active act (own good)
 
-    settled : settle r t ≡ tried r t n
+    settled : settle r t ≡ state_after_try r t n
     settled = settle-best r t n next.genesis (best-tip r a.state sound b a.active act) valid_here
       where
         valid_here : valid r t.blocks n ≡ true
@@ -157,8 +159,8 @@ module _ (params : Params) (triples : Triples) (a : Tracked) (sound : Sound (reg
     undo-is : undo_at t.blocks n ≡ undo_of (height a.state.blocks a.active + 1) (coins_of a) b.txs
     undo-is = undo-new k a.state.blocks can.kept ∙ ap (λ (h : ℕ). undo_of h (coins_of a) b.txs) {x = suc (height a.state.blocks a.active)} {y = height a.state.blocks a.active + 1} (omega arith)
 
-    is-way : (way : Way) → way.fork ≡ a.active → way.height ≡ height a.state.blocks a.active → way.up.items ≡ n ∷ [] → IsWay t.blocks a.active n way
-    is-way way fork high up =
+    is-way : (path : BranchPath) → path.fork ≡ a.active → path.height ≡ height a.state.blocks a.active → path.up.items ≡ n ∷ [] → IsPath t.blocks a.active n path
+    is-way path fork high up =
         let parent : parent_at t.blocks n ≡ a.active = parent_here k a.state.blocks can.kept in
         let there : on t.blocks n a.active ≡ true = subst (λ (q : ℕ). on t.blocks n q ≡ true) parent (on-parent t.blocks n (omega arith) (omega arith)) in
         let kept : a.active ≤ length t.blocks = (let q = can.kept in omega arith) in
@@ -170,23 +172,23 @@ module _ (params : Params) (triples : Triples) (a : Tracked) (sound : Sound (reg
           up = up ∙ sym steps ∙ ap (above t.blocks n) (sym fork);
         }
 
-    pub plan-moves : (plan : Plan) (place : ℕ) (way : Way) (undo : Vec BlockUndo Global) (taken : List (List Coin)) → place ≡ n → plan.back.first ≡ Added → plan.back.flags ≡ None → plan.rest ≡ Go place way undo
-        → way.fork ≡ a.active → way.height ≡ height a.state.blocks a.active → way.up.items ≡ place ∷ [] → undo.items ≡ taken ∷ [] → taken ≡ undo_of (height a.state.blocks a.active + 1) (coins_of a) b.txs
-        → AreChanges (coins_of a) (effect (height a.state.blocks a.active + 1) (coins_of a) b.txs) plan.changes.items → plan.reply ≡ reply.Submit Accepted
-        → IsPlanFor r a (step r a.state (Submit now b)) A plan
-    plan-moves plan place way undo taken here first_is flags_is rest_is fork high up undo_is taken_is changes reply_is =
-        let rest : plan.rest ≡ Go n way undo = rest_is ∙ ap (λ (q : ℕ). Go q way undo) here in
-        let done : finished r A plan.rest ≡ record A { state = tried r t n; active = n } = ap (finished r A) rest in
-        let path : IsWay t.blocks a.active n way = is-way way fork high (up ∙ ap (λ (q : ℕ). q ∷ []) here) in
-        plan-added r a sound b a.active can alone can.kept is.unknown act fresh plan first_is flags_is (step r a.state (Submit now b))
-        (ap (λ (x : Tracked). (x.state, plan.reply)) done ∙ ap (λ (s : State Block). (s, plan.reply)) (sym settled) ∙ ap (λ (x : Reply). (settle r t, x)) reply_is
-        ∙ says-added r a sound b a.active can alone can.kept is.unknown Accepted (said-once r A next n (best-tip r a.state sound b a.active act) valid_new)
+    pub plan-moves : (prepared : Prepared) (place : ℕ) (path : BranchPath) (undo : Vec BlockUndo Global) (taken : List (List Coin)) → place ≡ n → prepared.rollback.first ≡ BlockAdded → prepared.rollback.flags ≡ None → prepared.rest ≡ Activate place path undo
+        → path.fork ≡ a.active → path.height ≡ height a.state.blocks a.active → path.up.items ≡ place ∷ [] → undo.items ≡ taken ∷ [] → taken ≡ undo_of (height a.state.blocks a.active + 1) (coins_of a) b.txs
+        → AreChanges (coins_of a) (effect (height a.state.blocks a.active + 1) (coins_of a) b.txs) prepared.changes.items → prepared.reply ≡ reply.Submit Accepted
+        → IsPreparationFor r a (step r a.state (Submit now b)) A prepared
+    plan-moves prepared place path undo taken here first_is flags_is rest_is fork high up undo_is taken_is changes reply_is =
+        let rest : prepared.rest ≡ Activate n path undo = rest_is ∙ ap (λ (q : ℕ). Activate q path undo) here in
+        let done : core_after_commit r A prepared.rest ≡ record A { state = state_after_try r t n; active = n; undo_kept = undo_after A.state.blocks A.active A.undo_kept path } = ap (core_after_commit r A) rest in
+        let path : IsPath t.blocks a.active n path = is-way path fork high (up ∙ ap (λ (q : ℕ). q ∷ []) here) in
+        plan-added r a sound b a.active can alone can.kept is.unknown is.parent act fresh prepared first_is flags_is (step r a.state (Submit now b))
+        (ap (λ (x : CoreState). (x.state, prepared.reply)) done ∙ ap (λ (s : State Block). (s, prepared.reply)) (sym settled) ∙ ap (λ (x : Reply). (settle r t, x)) reply_is
+        ∙ says-added r a sound b a.active can alone can.kept is.unknown is.parent Accepted (said-once r A next n (best-tip r a.state sound b a.active act) valid_new)
         ∙ sym (step-added r a.state now b a.active is))
-        (ap (λ (x : Tracked). x.active) done ∙ sym is_active ∙ sym (active-settle r t next.genesis) ∙ ap (active r) settled ∙ sym (ap (λ (x : Tracked). active r x.state) done))
-        (subst (λ (x : Tracked). AreChanges (coins_of a) (coins_of x) plan.changes.items) (sym done)
-        (subst (λ (u : Blocks Block). AreChanges (coins_of a) (coins_after u n) plan.changes.items) (sym (tried-blocks r t n))
-        (subst (λ (m : Coins). AreChanges (coins_of a) m plan.changes.items) (sym coins-new) changes)))
-        (subst (λ (x : Rest). IsReady r A x) (sym rest) (record {
+        (ap (λ (x : CoreState). x.active) done ∙ sym is_active ∙ sym (active-settle r t next.genesis) ∙ ap (active r) settled ∙ sym (ap (λ (x : CoreState). active r x.state) done))
+        (subst (λ (x : CoreState). AreChanges (coins_of a) (coins_of x) prepared.changes.items) (sym done)
+        (subst (λ (u : Blocks Block). AreChanges (coins_of a) (coins_after u n) prepared.changes.items) (sym (tried-blocks r t n))
+        (subst (λ (m : Coins). AreChanges (coins_of a) m prepared.changes.items) (sym coins-new) changes)))
+        (subst (λ (x : Completion). IsReady r A x) (sym rest) (record {
           can = next;
           kept = omega arith;
           is_way = path;

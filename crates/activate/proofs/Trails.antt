@@ -1,7 +1,9 @@
 -- The last of a list, and lists that are added to one by one.
-use Rattle.std.proofs.Common.{◌≡◌, ℕ, zero, suc, ◌+◌, ◌-◌, ◌<◌, ◌≤◌, List, [], ◌∷◌, ◌++◌, length, map, reverse, drop, get_or, sym, refl, ap, ◌∙◌, arith}
+use Rattle.std.proofs.Common.{◌≡◌, ℕ, zero, suc, ◌+◌, ◌-◌, ◌<◌, ◌≤◌, List, [], ◌∷◌, ◌++◌, length, map, reverse, drop, get_or, Bool, cond, inl, inr, sym, refl, ap, ◌∙◌, arith}
 use Rattle.std.proofs.lemmas.List.{append_assoc, reverse-append, length-append, length-drop}
-use Rattle.activate.specs.Trails.{newest}
+use Rattle.std.proofs.lemmas.Bool.Decides.{leb_tells}
+use Rattle.activate.specs.CoreState.{least}
+use Rattle.activate.specs.inside.ActiveBranch.{newest}
 
 module _ {A : Type 0} where
   drop-none : (i : ℕ) → ◌≡◌ {A = List A} (drop i []) []
@@ -56,3 +58,13 @@ turned_more f l n x d h e = ap (λ k. reverse (map f k)) (drop_next l n x d h e)
     drop_next [] n x d h e = absurd (omega arith)
     drop_next (y ∷ l) zero x d h e = ap (λ z. z ∷ l) (sym e)
     drop_next (y ∷ l) (suc n) x d h e = drop_next l n x d (omega arith) e
+
+-- how many they are
+pub length-newest : {A : Type 0} (m : ℕ) (l : List A) → length (newest m l) ≡ least m (length l)
+unfolding newest
+length-newest m l =
+    let e = length-drop (length l - m) l in
+    elim (leb_tells m (length l)) [
+      | inl h ↦ (let a : length (drop (length l - m) l) ≡ m = omega (arith, h.1) in a) ∙ ap (λ (b : Bool). cond b m (length l)) (sym h.0)
+      | inr h ↦ (let a : length (drop (length l - m) l) ≡ length l = omega (arith, h.1) in a) ∙ ap (λ (b : Bool). cond b m (length l)) (sym h.0)
+    ]

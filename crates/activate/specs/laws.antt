@@ -1,23 +1,7 @@
--- Theorems on the chain for any blocks, and on regtest's coins.
-pub mod Actives
-pub mod Bound
+-- Theorems on paths between branches, and on what is kept beside the tree.
 pub mod ByHeight
-pub mod Candidates
 pub mod Climbing
-pub mod Coins
-pub mod Commands
-pub mod Connected
 pub mod Fork
 pub mod Growing
-pub mod History
-pub mod Kept
 pub mod Noting
-pub mod Ordinary
-pub mod Preferring
-pub mod Settled
-pub mod Steps
-pub mod Subsidies
-pub mod Tries
 pub mod Turning
-pub mod Values
-pub mod Wording

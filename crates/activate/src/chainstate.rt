@@ -1,21 +1,20 @@
 //! A chainstate with coins of its own.
 
-ghost use Rattle.std.specs.Prelude.{◌≡◌, ◌≤◌, ℕ, All, IfOk, OnErr, OnOk, length, map, take};
+ghost use Rattle.std.specs.Prelude.{◌≡◌, ◌≤◌, ℕ, IfOk, OnErr, OnOk, length, map, take};
 ghost use Rattle.std.specs.FinMap as coin_map;
 ghost use Rattle.curve.specs.Triple.{Triples};
 ghost use Rattle.rules.specs.Params.{regtest as regtest_params};
 ghost use Rattle.tree.specs.Branches.{height};
 ghost use Rattle.tree.specs.Tips.{shown};
-ghost use Rattle.activate.specs.Commands.{outcome, replies_of, state_of};
-ghost use Rattle.activate.specs.Regtest.{ledger, regtest};
-ghost use Rattle.activate.specs.Replay.{coins};
-ghost use Rattle.activate.specs.Settle.{active, best, tips};
-ghost use Rattle.activate.specs.Tracked.{IsChainstate, genesis_alone};
+ghost use Rattle.chain.specs.Commands.{outcome, replies_of, state_after_commands};
+ghost use Rattle.chain.specs.Regtest.{ledger, regtest};
+ghost use Rattle.chain.specs.Replay.{coins};
+ghost use Rattle.chain.specs.Settle.{active, best, tips};
+ghost use Rattle.activate.specs.CoreState.{HasOneMore, IsChainstate, genesis_alone, most_undo};
 
-use crate::command::Command;
-use crate::plan::Plan;
-use crate::reply::Reply;
-use crate::tracking::Core;
+use crate::core_state::Core;
+use crate::prepared::Prepared;
+use chain::{Command, Reply};
 use coins::CoinMap;
 use connect::Env;
 use hash::Id;
@@ -36,7 +35,7 @@ pub struct Chainstate {
 impl Model for Chainstate {
     ghost use Rattle.std.specs.Coded.{codes};
     ghost use Rattle.coins.specs.Coins.{coded_coins};
-    ghost use Rattle.activate.specs.Tracked.{WithCoins};
+    ghost use Rattle.activate.specs.CoreState.{WithCoins};
 
     ghost Value = { WithCoins };
 
@@ -48,16 +47,21 @@ impl Model for Chainstate {
 impl Chainstate {
     /// Genesis alone, by the rules of regtest.
     pub fn new(alloc: Global) -> Result<Chainstate, Memory>
-        ensures value { IfOk result (λ chain. chain ≡ record { core = genesis_alone regtest_params; coins = coin_map.empty }) }
-        ensures is_chainstate { (triples : Triples) → IfOk result (λ chain. IsChainstate chain triples) }
+        ensures value { IfOk result (λ chain.
+            chain
+            ≡ record { core = genesis_alone regtest_params; coins = coin_map.empty }) }
+        ensures is_chainstate { (triples : Triples)
+            → IfOk result (λ chain. IsChainstate chain triples) }
     {
         Chainstate::with(alloc, Params::regtest())
     }
 
     /// Genesis alone, with these heights of soft forks.
     pub fn with(alloc: Global, params: Params) -> Result<Chainstate, Memory>
-        ensures value { IfOk result (λ chain. chain ≡ record { core = genesis_alone params; coins = coin_map.empty }) }
-        ensures is_chainstate { (triples : Triples) → IfOk result (λ chain. IsChainstate chain triples) }
+        ensures value { IfOk result (λ chain.
+            chain ≡ record { core = genesis_alone params; coins = coin_map.empty }) }
+        ensures is_chainstate { (triples : Triples)
+            → IfOk result (λ chain. IsChainstate chain triples) }
     {
         Ok(Chainstate {
             core: Core::with(alloc, params)?,
@@ -74,27 +78,28 @@ impl Chainstate {
         gate: &(dyn Gate + Sync),
     ) -> Result<Reply, Memory>
         requires is_chainstate { IsChainstate self.old env.now.table.now }
-        requires ready { C.is_ready env.now.crew.now }
-        requires workers { (1 ≤ env.now.workers) × (env.now.workers ≤ 16) }
-        requires same_table { All (λ v. v.triples ≡ env.now.table.now) env.now.early.now }
-        ensures outcome { IfOk result (λ reply. (self.new.core.state, reply) ≡ outcome (regtest self.old.core.params env.now.table.now) self.old.core.state command.now) }
+        ensures outcome { IfOk result (λ reply.
+            (self.new.core.state, reply)
+            ≡ outcome (regtest self.old.core.params env.now.table.now)
+            self.old.core.state command.now) }
         ensures params { self.new.core.params ≡ self.old.core.params }
         ensures is_chainstate { IsChainstate self.new env.now.table.now }
+        ensures undo { OnOk result (HasOneMore self.old.core self.new.core) }
         ensures err { OnErr result (self.new ≡ self.old) }
     {
-        let Plan {
+        let Prepared {
             reply,
-            back,
+            rollback,
             rest,
             changes,
-        } = self.core.plan(alloc, &self.coins, command, env, gate)?;
+        } = self.core.prepare(alloc, &self.coins, command, env, gate)?;
         match self.coins.lay(alloc, changes) {
             Ok(()) => {
-                self.core.commit(env.table, rest);
+                self.core.commit(rest);
                 Ok(reply)
             }
             Err(Memory) => {
-                self.core.abandon(back);
+                self.core.roll_back(rollback);
                 Err(Memory)
             }
         }
@@ -109,14 +114,24 @@ impl Chainstate {
         gate: &(dyn Gate + Sync),
     ) -> Result<Vec<Reply>, Memory>
         requires is_chainstate { IsChainstate self.old env.now.table.now }
-        requires ready { C.is_ready env.now.crew.now }
-        requires workers { (1 ≤ env.now.workers) × (env.now.workers ≤ 16) }
-        requires same_table { All (λ v. v.triples ≡ env.now.table.now) env.now.early.now }
-        ensures replies { IfOk result (λ replies. replies.items ≡ replies_of (regtest self.old.core.params env.now.table.now) self.old.core.state commands.now) }
-        ensures state { OnOk result (self.new.core.state ≡ state_of (regtest self.old.core.params env.now.table.now) self.old.core.state commands.now) }
+        ensures replies { IfOk result (λ replies.
+            replies.items
+            ≡ replies_of (regtest self.old.core.params env.now.table.now)
+            self.old.core.state commands.now) }
+        ensures state { OnOk result
+            (self.new.core.state
+            ≡ state_after_commands
+            (regtest self.old.core.params env.now.table.now)
+            self.old.core.state commands.now) }
         ensures params { self.new.core.params ≡ self.old.core.params }
         ensures is_chainstate { IsChainstate self.new env.now.table.now }
-        ensures err { OnErr result ((n : ℕ) × (n ≤ length commands.now) × (self.new.core.state ≡ state_of (regtest self.old.core.params env.now.table.now) self.old.core.state (take n commands.now))) }
+        ensures err { OnErr result
+            ((n : ℕ) × (n ≤ length commands.now)
+            ×
+            (self.new.core.state
+            ≡ state_after_commands
+            (regtest self.old.core.params env.now.table.now)
+            self.old.core.state (take n commands.now))) }
     {
         let mut replies = Vec::new(alloc);
         for index in 0..commands.len() {
@@ -129,14 +144,17 @@ impl Chainstate {
 
     /// The active block's id.
     pub fn best(&self) -> Id
-        ensures { (triples : Triples) → IsChainstate self.now triples → result ≡ best (regtest self.now.core.params triples) self.now.core.state }
+        ensures { (triples : Triples) → IsChainstate self.now triples
+            → result ≡ best (regtest self.now.core.params triples) self.now.core.state }
     {
         self.core.best()
     }
 
     /// The active block's height.
     pub fn height(&self) -> usize
-        ensures { (triples : Triples) → IsChainstate self.now triples → result ≡ height self.now.core.state.blocks (active (regtest self.now.core.params triples) self.now.core.state) }
+        ensures { (triples : Triples) → IsChainstate self.now triples
+            → result ≡ height self.now.core.state.blocks
+            (active (regtest self.now.core.params triples) self.now.core.state) }
     {
         self.core.height()
     }
@@ -144,14 +162,27 @@ impl Chainstate {
     /// The coins that the active branch leaves, lent.
     pub fn coins(&self) -> &CoinMap
         ensures value { result.now ≡ self.now.coins }
-        ensures replayed { (triples : Triples) → IsChainstate self.now triples → result.now ≡ coins (regtest self.now.core.params triples) ledger self.now.core.state }
+        ensures replayed { (triples : Triples) → IsChainstate self.now triples
+            → result.now ≡ coins (regtest self.now.core.params triples) ledger
+            self.now.core.state }
     {
         &self.coins
     }
 
+    /// Of how many of the highest active blocks undo is kept.
+    pub fn undo_kept(&self) -> usize
+        ensures value { result ≡ self.now.core.undo_kept }
+        ensures few { result ≤ most_undo }
+    {
+        self.core.undo_kept()
+    }
+
     /// The tips of the tree, by height downwards, then by arrival (Bitcoin Core's `getchaintips`).
     pub fn tips(&self, alloc: Global) -> Result<Vec<Tip>, Memory>
-        ensures { (triples : Triples) → IsChainstate self.now triples → IfOk result (λ list. list.items ≡ map shown (tips (regtest self.now.core.params triples) self.now.core.state)) }
+        ensures { (triples : Triples) → IsChainstate self.now triples
+            → IfOk result (λ list.
+            list.items
+            ≡ map shown (tips (regtest self.now.core.params triples) self.now.core.state)) }
     {
         self.core.tips(alloc)
     }

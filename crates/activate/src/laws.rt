@@ -1,189 +1,30 @@
-//! What holds of every chainstate, whatever its blocks and coins are, and of regtest's.
+//! What holds of every chainstate that a caller has.
 
-ghost use Rattle.std.specs.Prelude.{◌≡◌, ℕ, ◌≤◌, ◌<◌, ◌↔◌, suc, ℤ, pos, ◌≤ℤ◌, true, false, length, ◌∷◌, ◌++◌, List, Option, None, Some, IsSomeAnd};
-ghost use Rattle.txn.specs.declared.reason.Reason.{Reason};
-ghost use Rattle.hash.specs.declared.id.Id.{Id};
-ghost use Rattle.block.specs.declared.block.Block.{Block};
+ghost use Rattle.std.specs.Prelude.{◌≡◌, pos, ◌≤ℤ◌};
 ghost use Rattle.block.specs.Reward.{subsidy_of};
 ghost use Rattle.curve.specs.Triple.{Triples};
 ghost use Rattle.coins.specs.Total.{total};
-ghost use Rattle.rules.specs.declared.params.Params.{Params};
-ghost use Rattle.connect.specs.Scripts.{IsConnectFault};
-ghost use Rattle.tree.specs.Branches.{Blocks, branch, blocks_at, height, place_of};
-ghost use Rattle.tree.specs.State.{State, usable, better, opening, with_block, called};
-ghost use Rattle.tree.specs.Sound.{IsBest};
-ghost use Rattle.activate.specs.declared.reply.SubmitReply.TheVariants.{Accepted, Inconclusive, Rejected};
-ghost use Rattle.activate.specs.declared.reply.MarkReply.TheVariants.{Done};
-ghost use Rattle.activate.specs.Rules.{Rules};
-ghost use Rattle.activate.specs.Valid.{valid};
-ghost use Rattle.activate.specs.Settle.{active, is_candidate, becomes_seen, becomes_bad, settle};
-ghost use Rattle.activate.specs.Context.{first_fault};
-ghost use Rattle.activate.specs.Submission.{submit_says, kept_blocks};
-ghost use Rattle.activate.specs.Step.{Request, Submit, Precious, mark_says, step, state_after};
-ghost use Rattle.activate.specs.Replay.{Ledger, replay, coins};
-ghost use Rattle.activate.specs.Total.{subsidies, Bounded};
-ghost use Rattle.activate.specs.Regtest.{setting_on, ledger, AreNotNegative, most_satoshis, regtest};
-ghost use Rattle.activate.specs.Try.{tried};
-ghost use Rattle.activate.specs.Sound.{Sound, IsNew, IsFirstFault, Passes, OfCandidate, AllKept, IdsAreKeptOnce};
-ghost use Rattle.tree.specs.Limits.{max_blocks};
-ghost use Rattle.activate.specs.laws.Tries.{unmarked};
-ghost use mathlib.Core.List.{IsPrefix};
-ghost use Rattle.block.specs.Decoding.{decoded};
-ghost use Rattle.activate.specs.declared.command.Command.TheVariants as command;
-ghost use Rattle.activate.specs.declared.entry.Entry.{Entry};
-ghost use Rattle.activate.specs.History.{Legal, state_after as state_after_entries};
-ghost use Rattle.activate.specs.Chainstate.{chainstate};
+ghost use Rattle.tree.specs.Branches.{height};
+ghost use Rattle.chain.specs.Settle.{active};
+ghost use Rattle.chain.specs.Replay.{coins};
+ghost use Rattle.chain.specs.Total.{subsidies};
+ghost use Rattle.chain.specs.Regtest.{ledger, AreNotNegative, regtest};
+ghost use Rattle.activate.specs.CoreState.{CoreState, WithCoins, Follows, IsChainstate, coins_of};
 
-// ---- the definition of settling in other words
-
-/// Settling sees, of each candidate's branch, the blocks before the first that doesn't connect.
-pub fn settling_sees_the_blocks_before_a_fault<B, I>()
-    ensures { (r : Rules B I) (s : State B) (x : ℕ) → (becomes_seen r s x ≡ true) ↔ OfCandidate r s (λ c. Passes r s.blocks c x) }
+/// The coins of a chainstate are worth at most the subsidies of heights 1 to the active one.
+pub fn the_coins_of_a_chainstate_are_worth_at_most_the_subsidies()
+    ensures { (c : WithCoins) (triples : Triples) → IsChainstate c triples
+        → let s = c.core.state in
+        total c.coins ≤ℤ pos (subsidies subsidy_of (height s.blocks (active (regtest c.core.params triples) s))) }
 {}
 
-/// And it marks that first one.
-pub fn settling_marks_the_first_fault<B, I>()
-    ensures { (r : Rules B I) (s : State B) (x : ℕ) → (becomes_bad r s x ≡ true) ↔ OfCandidate r s (λ c. IsFirstFault r s.blocks c x) }
+/// None of them is worth less than nothing.
+pub fn no_coin_of_a_chainstate_is_worth_less_than_nothing()
+    ensures { (c : WithCoins) (triples : Triples) → IsChainstate c triples → AreNotNegative c.coins }
 {}
 
-// ---- settling
-
-/// The active block is usable, and its branch is valid.
-pub fn the_active_block_is_usable_and_valid<B, I>()
-    ensures { (r : Rules B I) (s : State B) → Sound r s → (usable s (active r s) ≡ true) × (valid r s.blocks (active r s) ≡ true) }
-{}
-
-/// A try of a candidate leaves what settling gives, and which block is active.
-pub fn a_try_leaves_what_settling_gives<B, I>()
-    ensures { (r : Rules B I) (s : State B) (c : ℕ) → usable s 0 ≡ true → c ≤ length s.blocks → is_candidate r s c ≡ true → (settle r (tried r s c) ≡ settle r s) × (active r (tried r s c) ≡ active r s) }
-{}
-
-/// A try of a usable block that isn't valid marks one, so tries end.
-pub fn a_try_that_fails_marks_a_block<B, I>()
-    ensures { (r : Rules B I) (s : State B) (c : ℕ) → c ≤ length s.blocks → usable s c ≡ true → valid r s.blocks c ≡ false → unmarked (tried r s c) < unmarked s }
-{}
-
-/// Where the branch of the best usable block is valid, that block is active, and its try settles the state.
-pub fn a_valid_best_block_settles_by_its_try<B, I>()
-    ensures { (r : Rules B I) (s : State B) (c : ℕ) → usable s 0 ≡ true → IsBest s (usable s) (length s.blocks) c → valid r s.blocks c ≡ true → (active r s ≡ c) × (settle r s ≡ tried r s c) }
-{}
-
-/// What is settled stays.
-pub fn what_is_settled_stays<B, I>()
-    ensures { (r : Rules B I) (s : State B) → usable s 0 ≡ true → settle r (settle r s) ≡ settle r s }
-{}
-
-/// A settled state has one candidate, the active block, and it is the best of all usable blocks.
-pub fn a_settled_state_has_one_candidate<B, I>()
-    ensures only { (r : Rules B I) (s : State B) (d : ℕ) → Sound r s → d ≤ length s.blocks → is_candidate r s d ≡ true → d ≡ active r s }
-    ensures best { (r : Rules B I) (s : State B) → Sound r s → IsBest s (usable s) (length s.blocks) (active r s) }
-{}
-
-// ---- steps
-
-/// Each state that commands reach from genesis is sound.
-pub fn each_reached_state_is_sound<B, I>()
-    ensures { (r : Rules B I) (cs : List (Request B I)) → Sound r (state_after r opening cs) }
-{}
-
-/// Each of its blocks had no fault by itself and a parent that came before it.
-pub fn each_kept_block_has_no_fault_by_itself<B, I>()
-    ensures { (r : Rules B I) (cs : List (Request B I)) → AllKept r (state_after r opening cs).blocks }
-{}
-
-/// No two of its blocks have one id.
-pub fn ids_are_kept_once<B, I>()
-    ensures { (r : Rules B I) (cs : List (Request B I)) → ((i : I) → r.names.same_id i i ≡ true) → IdsAreKeptOnce r (state_after r opening cs).blocks }
-{}
-
-/// A block with a fault before connection leaves the state.
-pub fn a_refused_block_leaves_the_state<B, I>()
-    ensures { (r : Rules B I) (s : State B) (now : ℕ) (b : B) (reason : Reason) → place_of r.names s.blocks (r.names.id_of b) ≡ None → kept_blocks s < max_blocks → first_fault r s now b ≡ Some reason → step r s (Submit now b) ≡ submit_says s (Rejected reason) }
-{}
-
-/// The parent of a block without one is kept and usable.
-pub fn the_parent_of_a_faultless_block_is_usable<B, I>()
-    ensures { (r : Rules B I) (s : State B) (now : ℕ) (b : B) → first_fault r s now b ≡ None → IsSomeAnd (place_of r.names s.blocks (r.names.parent_of b)) (λ p. usable s p ≡ true) }
-{}
-
-/// A block on the active one that connects is active and seen, and nothing else changes.
-pub fn a_block_on_the_tip_is_seen<B, I>()
-    ensures { (r : Rules B I) (s : State B) (now : ℕ) (b : B) → Sound r s → IsNew r s now b (active r s) → r.connect_fault (blocks_at r.names s.blocks (branch s.blocks (active r s))) b ≡ None → step r s (Submit now b) ≡ submit_says (record (with_block s b (active r s)) { seen = suc (length s.blocks) ∷ s.seen }) Accepted }
-{}
-
-/// One that doesn't is marked, and nothing else changes.
-pub fn a_faulty_block_on_the_tip_is_marked<B, I>()
-    ensures { (r : Rules B I) (s : State B) (now : ℕ) (b : B) (reason : Reason) → Sound r s → IsNew r s now b (active r s) → r.connect_fault (blocks_at r.names s.blocks (branch s.blocks (active r s))) b ≡ Some reason → step r s (Submit now b) ≡ submit_says (record (with_block s b (active r s)) { bad = suc (length s.blocks) ∷ s.bad }) (Rejected reason) }
-{}
-
-/// A block that isn't better than the active one is there, and nothing else changes.
-pub fn a_block_beside_changes_nothing<B, I>()
-    ensures { (r : Rules B I) (s : State B) (now : ℕ) (b : B) (p : ℕ) → Sound r s → IsNew r s now b p → better (with_block s b p) (suc (length s.blocks)) (active r s) ≡ false → step r s (Submit now b) ≡ submit_says (with_block s b p) Inconclusive }
-{}
-
-/// A call for the active block changes its rank alone.
-pub fn the_active_block_may_be_called_precious<B, I>()
-    ensures { (r : Rules B I) (s : State B) (i : I) → Sound r s → place_of r.names s.blocks i ≡ Some (active r s) → step r s (Precious i) ≡ mark_says (called s (active r s)) Done }
-{}
-
-/// Another block that is usable, valid and not lower becomes active by a call.
-pub fn a_precious_block_becomes_active<B, I>()
-    ensures { (r : Rules B I) (s : State B) (i : I) (p : ℕ) → Sound r s → place_of r.names s.blocks i ≡ Some p → usable s p ≡ true → valid r s.blocks p ≡ true → height s.blocks (active r s) ≤ height s.blocks p → active r (step r s (Precious i)).0 ≡ p }
-{}
-
-// ---- coins
-
-/// The coins of a reached state are worth at most the subsidies of heights 1 to the active one, where no coins are
-/// worth nothing and a block without a fault raises their worth by at most the subsidy of its height.
-pub fn all_coins_are_worth_at_most_the_subsidies<B, I, C>()
-    ensures { (r : Rules B I) (ledger : Ledger B C) (total : C → ℤ) (subsidy : ℕ → ℕ) (cs : List (Request B I)) → Bounded r ledger total subsidy → let s = state_after r opening cs in total (coins r ledger s) ≤ℤ pos (subsidies subsidy (height s.blocks (active r s))) }
-{}
-
-// ---- regtest
-
-/// The fault of connecting a block is the first rule that it breaks over the coins that its branch leaves.
-pub fn a_block_connects_by_the_rules_over_its_coins()
-    ensures { (params : Params) (triples : Triples) (branch : List Block) (b : Block) → IsConnectFault (setting_on params branch) (replay ledger branch) b.txs triples ((regtest params triples).connect_fault branch b) }
-{}
-
-/// A block without a fault raises the worth of all coins by at most the subsidy of its height.
-pub fn a_block_raises_all_coins_by_at_most_its_subsidy()
-    ensures { (params : Params) (triples : Triples) → Bounded (regtest params triples) ledger total subsidy_of }
-{}
-
-/// Whatever commands came, all coins are worth at most the subsidies of heights 1 to the active one.
-pub fn all_coins_of_regtest_are_worth_at_most_the_subsidies()
-    ensures { (params : Params) (triples : Triples) (cs : List (Request Block Id)) → let r = regtest params triples in let s = state_after r opening cs in total (coins r ledger s) ≤ℤ pos (subsidies subsidy_of (height s.blocks (active r s))) }
-{}
-
-/// And these have an end, so all coins are never worth 15,000 bitcoin.
-pub fn all_coins_of_regtest_are_worth_at_most_all_subsidies()
-    ensures { (params : Params) (triples : Triples) (cs : List (Request Block Id)) → let r = regtest params triples in total (coins r ledger (state_after r opening cs)) ≤ℤ pos most_satoshis }
-{}
-
-/// And none of them is worth less than nothing.
-pub fn no_coin_of_regtest_is_worth_less_than_nothing()
-    ensures { (params : Params) (triples : Triples) (cs : List (Request Block Id)) → let r = regtest params triples in AreNotNegative (coins r ledger (state_after r opening cs)) }
-{}
-
-// ---- histories
-
-/// What begins a legal history is legal.
-pub fn beginnings_are_legal()
-    ensures { (params : Params) (triples : Triples) (seats : ℕ) (front rest : List Entry) → Legal (chainstate params triples) seats (front ++ rest) → Legal (chainstate params triples) seats front }
-{}
-
-/// Of two beginnings of one history the shorter begins the longer.
-pub fn beginnings_are_ordered()
-    ensures { (a b history : List Entry) → IsPrefix a history → IsPrefix b history → length a ≤ length b → IsPrefix a b }
-{}
-
-/// The state after a history is the state after its rest, from the state after its beginning on.
-pub fn states_follow()
-    ensures { (params : Params) (triples : Triples) (front rest : List Entry) → let m = chainstate params triples in state_after_entries m opening (front ++ rest) ≡ state_after_entries m (state_after_entries m opening front) rest }
-{}
-
-/// Bytes that are no block stand in no legal history.
-pub fn undecodable_bytes_stand_nowhere()
-    ensures { (params : Params) (triples : Triples) (seats : ℕ) (front rest : List Entry) (e : Entry) (bytes : List ℕ) (now : ℕ) → Legal (chainstate params triples) seats (front ++ e ∷ rest) → e.command ≡ command.Submit bytes now → decoded bytes ≡ None → ⊥ }
+/// The coins that a core asks of who lends them are those of the definition.
+pub fn the_coins_of_a_core_are_the_replay_of_the_active_branch()
+    ensures { (c : CoreState) (triples : Triples) → Follows c triples
+        → coins_of c ≡ coins (regtest c.params triples) ledger c.state }
 {}

@@ -1,28 +1,20 @@
-//! The chainstate: which block is active, what a command does, and what it answers.
+//! The chainstate of one thread: it keeps the coins of the best branch, and reorganises them by undo.
 #![tactic(auto)]
 
+mod active_branch;
+mod ascent;
+mod block_faults;
+mod branch_try;
 mod chainstate;
-mod command;
-mod entry;
-mod forking;
-mod judging;
+mod core_state;
+mod disconnection;
+mod fork_search;
 pub mod laws;
-mod linking;
-mod noting;
-mod plan;
-mod relinking;
-mod reply;
-mod slowly;
-mod tracking;
-mod trail;
-mod trying;
-mod unlinking;
-mod way;
+mod path;
+mod prepared;
+mod tip_connection;
+mod try_flags;
 
+pub use active_branch::MOST_UNDO;
 pub use chainstate::Chainstate;
-pub use command::{Bytes, Command};
-pub use entry::Entry;
-pub use reply::{MarkReply, Reply, SubmitReply};
-pub use slowly::slow;
-pub use tracking::Core;
-pub use trail::MOST_UNDO;
+pub use core_state::Core;

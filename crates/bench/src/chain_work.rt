@@ -1,13 +1,14 @@
 //! Blocks without payments submitted to a chainstate.
 
-ghost use Rattle.activate.specs.Tracked.{IsChainstate};
+ghost use Rattle.activate.specs.CoreState.{IsChainstate};
 
 use crate::check::Check;
 use crate::fault::Fault;
 use crate::payments::{script, spending};
 use crate::timing::Outcome;
-use activate::{Bytes, Chainstate, Command};
+use activate::Chainstate;
 use block::{Block, GENESIS_ID, GENESIS_TIME, Header, Txs, meets_target, merkle, subsidy};
+use chain::{Bytes, Command};
 use connect::Env;
 use curve::Table;
 use hash::Id;

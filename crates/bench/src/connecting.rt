@@ -1,5 +1,10 @@
 //! A block connected to the coins before it.
 
+ghost use Rattle.std.specs.Prelude.{◌≡◌, ◌≤◌, None};
+ghost use Rattle.txn.specs.First.{first_broken};
+ghost use Rattle.txn.specs.Identity.{ids_of};
+ghost use Rattle.rules.specs.Alone.{alone_rules};
+
 use crate::check::Check;
 use crate::coin_work::filled;
 use crate::fault::Fault;
@@ -7,16 +12,19 @@ use crate::payments::block_with;
 use crate::spends::{Spend, Spends, to_keys};
 use crate::timing::Outcome;
 use block::Block;
-use coins::{Cache, Coin, CoinMap};
+use coins::{Base, Cache, Coin, CoinMap};
 use connect::{Context, Env, connect};
 use curve::Table;
-use queue::{Open, Threaded};
+use hash::Id;
+use queue::{Crew, Open, Threaded};
 use rules::{Params, block_alone_with};
 use std::alloc::Global;
 use std::rt::Clock;
 use std::thread::Threads;
 use std::time::Instant;
-use txn::{Script, ids};
+use txn::{Reason, Script, ids};
+use undo::BlockUndo;
+use wire::Memory;
 
 /// So many payments stand in the block.
 const PAYMENTS: usize = 2000;
@@ -52,6 +60,32 @@ where
     timed(rt, &map, &block, &table, workers)
 }
 
+/// Connects a block with this crew. The environment is made where the crew's type is a parameter (`connect::Env` says
+/// why).
+fn connect_with<B: Base, C: Crew>(
+    alloc: Global,
+    cache: &mut Cache<'_, B>,
+    context: &Context,
+    block: &Block,
+    ids: &[Id],
+    table: &Table,
+    workers: usize,
+    crew: &C,
+) -> Result<Result<BlockUndo, Reason>, Memory>
+    requires alone { first_broken (alone_rules block.now) ≡ None }
+    requires ids { ids.now ≡ ids_of block.now.txs }
+    requires ready { C.is_ready crew.now }
+    requires workers { (1 ≤ workers) × (workers ≤ 16) }
+{
+    let env = Env {
+        table,
+        workers,
+        early: &[],
+        crew,
+    };
+    connect(alloc, cache, context, block, ids, &env, &Open)
+}
+
 fn timed<R>(
     rt: &R,
     map: &CoinMap,
@@ -72,15 +106,18 @@ where
         medians: &[],
         params: &Params::regtest(),
     };
-    let env = Env {
-        table,
-        workers: workers.clamp(1, 16),
-        early: &[],
-        crew: &Threaded { rt },
-    };
     let mut cache = Cache::over(rt.alloc(), map);
     let begin = Instant::now(rt)?;
-    let answer = connect(rt.alloc(), &mut cache, &context, block, &ids, &env, &Open)?;
+    let answer = connect_with(
+        rt.alloc(),
+        &mut cache,
+        &context,
+        block,
+        &ids,
+        table,
+        workers.clamp(1, 16),
+        &Threaded { rt },
+    )?;
     let check = match answer {
         Ok(undo) => Check::Count(undo.len() as u64),
         Err(_) => return Err(Fault::Unread),

@@ -7,7 +7,8 @@ use Rattle.byteorder.specs.Numbers.{little_number-reads_back}
 use Rattle.wire.specs.Spelling.{limit}
 use Rattle.block.specs.declared.blk_fault.BlkFault.{BlkFault}
 use Rattle.block.specs.declared.blk_fault.BlkFault.TheVariants.{Foreign, Cut, TooLong, Read, Memory, Stopped}
-use Rattle.block.specs.Blk.{magic, head, spelled, IsRecord, IsEnd, IsCut, IsTooLong, IsFault, IsOutside, Splits, Gave, IsLast}
+use Rattle.block.specs.Blk.{magic, head, spelled, IsRecord, IsEnd, IsCut, IsTooLong, IsFault, IsOutside}
+use Rattle.block.specs.laws.Files.{Splits, Gave, IsLast}
 
 -- no head is another
 same_head : (n m : ℕ) (a b : List ℕ) → n < 256 ^ 4 → m < 256 ^ 4 → head n ++ a ≡ head m ++ b → (n ≡ m) × (a ≡ b)

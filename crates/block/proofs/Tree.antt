@@ -2,10 +2,10 @@
 use Rattle.std.proofs.Common.{◌≡◌, ℕ, zero, suc, ◌+◌, ◌-◌, ◌*◌, ◌/◌, ◌%◌, ◌<◌, ◌≤◌, Bool, false, ◌||◌, List, [], ◌∷◌, ◌++◌, length, take, drop, set, get_or, replicate, refl, sym, ap, ◌∙◌, arith}
 use Rattle.std.proofs.Math.Seq.{drop-cons}
 use Rattle.std.proofs.lemmas.Grind.{take-set_at}
-use Rattle.std.proofs.lemmas.List.{drop_all, drop_at, get_or-drop, length-append, length-drop, take_at}
+use Rattle.std.proofs.lemmas.List.{drop_at, get_or-drop, length-append, length-drop, take_at}
 use Rattle.hash.specs.declared.id.Id.{Id}
 use Rattle.hash.specs.Id.{same_id}
-use Rattle.lanes.specs.Level.{paired}
+use Rattle.lanes.specs.Level.{pair_ids}
 use Rattle.block.specs.Merkle.{pair, next, root_within, root, has_twin, twin_within, twin}
 
 -- ---- pairs from left to right
@@ -19,9 +19,6 @@ drop_two ids k c d lt =
     drop_one ids (2 * k) c (omega (arith, lt))
     ∙ ap (λ (l : List Id). get_or ids (2 * k) c ∷ l) (drop_one ids (2 * k + 1) d lt)
     ∙ ap (λ (j : ℕ). get_or ids (2 * k) c ∷ get_or ids (2 * k + 1) d ∷ drop j ids) e
-
-drop_last : (ids : List Id) (k : ℕ) (d : Id) → 2 * k < length ids → length ids ≤ 2 * k + 1 → drop (2 * k) ids ≡ get_or ids (2 * k) d ∷ []
-drop_last ids k d lt le = drop_one ids (2 * k) d lt ∙ ap (λ (l : List Id). get_or ids (2 * k) d ∷ l) (drop_all (2 * k + 1) ids le)
 
 pub no_twin_after : (ids : List Id) (k : ℕ) → length ids ≤ 2 * k + 1 → has_twin (drop (2 * k) ids) ≡ false
 no_twin_after ids k le = at (drop (2 * k) ids) (omega (arith, length-drop (2 * k) ids, le))
@@ -96,17 +93,17 @@ get_below old now k j d e le =
 
 -- ---- the level above, by its pairs and an odd level's last id
 
-length-paired : (ids : List Id) → length (paired ids) ≡ length ids / 2
+length-paired : (ids : List Id) → length (pair_ids ids) ≡ length ids / 2
 length-paired [] = refl
 length-paired (a ∷ []) = refl
 length-paired (a ∷ b ∷ ids) = omega (arith, length-paired ids)
 
-next-even : (ids : List Id) (k : ℕ) → length ids ≡ 2 * k → next ids ≡ paired ids
+next-even : (ids : List Id) (k : ℕ) → length ids ≡ 2 * k → next ids ≡ pair_ids ids
 next-even [] k e = refl
 next-even (a ∷ []) k e = absurd (omega arith)
 next-even (a ∷ b ∷ ids) k e = ap (λ (l : List Id). pair a b ∷ l) (next-even ids (k - 1) (omega arith))
 
-next-odd : (ids : List Id) (k : ℕ) (d : Id) → length ids ≡ 2 * k + 1 → next ids ≡ paired ids ++ pair (get_or ids (2 * k) d) (get_or ids (2 * k) d) ∷ []
+next-odd : (ids : List Id) (k : ℕ) (d : Id) → length ids ≡ 2 * k + 1 → next ids ≡ pair_ids ids ++ pair (get_or ids (2 * k) d) (get_or ids (2 * k) d) ∷ []
 next-odd [] k d e = absurd (omega arith)
 next-odd (a ∷ []) k d e =
     let none : 2 * k ≡ 0 = omega arith in
@@ -114,25 +111,25 @@ next-odd (a ∷ []) k d e =
 next-odd (a ∷ b ∷ ids) k d e =
     let at : suc (suc (2 * (k - 1))) ≡ 2 * k = omega arith in
     ap (λ (l : List Id). pair a b ∷ l) (next-odd ids (k - 1) d (omega arith))
-    ∙ ap (λ (j : ℕ). pair a b ∷ (paired ids ++ pair (get_or (a ∷ b ∷ ids) j d) (get_or (a ∷ b ∷ ids) j d) ∷ [])) at
+    ∙ ap (λ (j : ℕ). pair a b ∷ (pair_ids ids ++ pair (get_or (a ∷ b ∷ ids) j d) (get_or (a ∷ b ∷ ids) j d) ∷ [])) at
 
 -- the pairs stand in the front, and the rest is as before
-pub above-length : (old now : List Id) → now ≡ paired old ++ drop (length old / 2) old → length now ≡ length old
-above-length old now e = omega (arith, ap length e, length-append (paired old) (drop (length old / 2) old), length-paired old, length-drop (length old / 2) old)
+pub above-length : (old now : List Id) → now ≡ pair_ids old ++ drop (length old / 2) old → length now ≡ length old
+above-length old now e = omega (arith, ap length e, length-append (pair_ids old) (drop (length old / 2) old), length-paired old, length-drop (length old / 2) old)
 
-pub above-even : (old now : List Id) → now ≡ paired old ++ drop (length old / 2) old → length old % 2 ≡ 0 → take (length old / 2) now ≡ next old
+pub above-even : (old now : List Id) → now ≡ pair_ids old ++ drop (length old / 2) old → length old % 2 ≡ 0 → take (length old / 2) now ≡ next old
 above-even old now e even =
-    ap (take (length old / 2)) e ∙ take_at (paired old) (drop (length old / 2) old) (length old / 2) (length-paired old)
+    ap (take (length old / 2)) e ∙ take_at (pair_ids old) (drop (length old / 2) old) (length old / 2) (length-paired old)
     ∙ sym (next-even old (length old / 2) (omega (arith, even)))
 
-pub above-odd : (old now : List Id) (v d : Id) → now ≡ paired old ++ drop (length old / 2) old → length old % 2 ≡ 1
+pub above-odd : (old now : List Id) (v d : Id) → now ≡ pair_ids old ++ drop (length old / 2) old → length old % 2 ≡ 1
     → v ≡ pair (get_or now (length old - 1) d) (get_or now (length old - 1) d) → take (length old / 2 + 1) (set now (length old / 2) v) ≡ next old
 above-odd old now v d e odd ev =
     let k : ℕ = length old / 2 in
     let len : length old ≡ 2 * k + 1 = omega (arith, odd) in
-    let back : drop k now ≡ drop k old = ap (drop k) e ∙ drop_at (paired old) (drop k old) k (length-paired old) in
-    let front : take k now ≡ paired old = ap (take k) e ∙ take_at (paired old) (drop k old) k (length-paired old) in
-    let room : k < length now = omega (arith, ap length e, length-append (paired old) (drop k old), length-paired old, length-drop k old, len) in
+    let back : drop k now ≡ drop k old = ap (drop k) e ∙ drop_at (pair_ids old) (drop k old) k (length-paired old) in
+    let front : take k now ≡ pair_ids old = ap (take k) e ∙ take_at (pair_ids old) (drop k old) k (length-paired old) in
+    let room : k < length now = omega (arith, ap length e, length-append (pair_ids old) (drop k old), length-paired old, length-drop k old, len) in
     let at : length old - 1 ≡ 2 * k = omega (arith, len) in
     let last : get_or now (length old - 1) d ≡ get_or old (2 * k) d = ap (λ (j : ℕ). get_or now j d) at ∙ get_below old now k (2 * k) d back (omega arith) in
     take-set_at now k (k + 1) v refl room

@@ -8,11 +8,11 @@ use Rattle.wire.specs.Grammar.{IsBytes}
 use Rattle.wire.specs.laws.Reading.{found_law, refused_law, same_read, same_fault, not_both}
 use Rattle.txn.specs.declared.fault.TxFault.{TxFault}
 use Rattle.txn.specs.declared.fault.TxFault.TheVariants as txn
-use Rattle.txn.specs.Fault.{spoken}
+use Rattle.txn.specs.Fault.{wire_fault_of}
 use Rattle.block.specs.declared.block.Block.{Block}
 use Rattle.block.specs.declared.fault.ReadFault.{ReadFault}
 use Rattle.block.specs.declared.fault.ReadFault.TheVariants as faults
-use Rattle.block.specs.Fault.{told}
+use Rattle.block.specs.inside.Fault.{read_fault_of}
 use Rattle.block.specs.Grammar.{block}
 use Rattle.block.specs.Whole.{Faulty, HasExtra}
 use Rattle.block.specs.computed.Reading.{block_at}
@@ -41,13 +41,13 @@ whole_extra bytes b rest fits e some =
 pub whole_reads : (bytes : List ℕ) (x : Block) (rest : List ℕ) (b : Block) → block_at bytes ≡ Ok (x, rest) → block.Lawful b → bytes ≡ block.spell b → (x ≡ b) × (rest ≡ [])
 whole_reads bytes x rest b e lawful is = same_read x b rest [] (sym e ∙ read_again bytes b lawful is)
 
-pub whole_refused : (bytes : List ℕ) (f : TxFault) → IsBytes bytes → IfSome (spoken f) (λ w. block_at bytes ≡ Err w) → (told f ≡ faults.Memory) ⊎ Faulty (told f) bytes
+pub whole_refused : (bytes : List ℕ) (f : TxFault) → IsBytes bytes → IfSome (wire_fault_of f) (λ w. block_at bytes ≡ Err w) → (read_fault_of f ≡ faults.Memory) ⊎ Faulty (read_fault_of f) bytes
 whole_refused bytes txn.Short fits e = inr (refused_law block block_at block_decides bytes wire.Short fits e)
 whole_refused bytes txn.LongForm fits e = inr (refused_law block block_at block_decides bytes wire.LongForm fits e)
 whole_refused bytes txn.TooLarge fits e = inr (refused_law block block_at block_decides bytes wire.TooLarge fits e)
 whole_refused bytes txn.Memory fits e = inl refl
 
-pub only_memory : (bytes : List ℕ) (f : TxFault) (b : Block) → IfSome (spoken f) (λ w. block_at bytes ≡ Err w) → block.Lawful b → bytes ≡ block.spell b → told f ≡ faults.Memory
+pub only_memory : (bytes : List ℕ) (f : TxFault) (b : Block) → IfSome (wire_fault_of f) (λ w. block_at bytes ≡ Err w) → block.Lawful b → bytes ≡ block.spell b → read_fault_of f ≡ faults.Memory
 only_memory bytes txn.Short b e lawful is = absurd (not_both b [] wire.Short (sym (read_again bytes b lawful is) ∙ e))
 only_memory bytes txn.LongForm b e lawful is = absurd (not_both b [] wire.LongForm (sym (read_again bytes b lawful is) ∙ e))
 only_memory bytes txn.TooLarge b e lawful is = absurd (not_both b [] wire.TooLarge (sym (read_again bytes b lawful is) ∙ e))
@@ -64,7 +64,7 @@ one_fault bytes f faults.TooLarge is faulty = ap told_wire (sym (same_wire bytes
 one_fault bytes f faults.Extra is faulty = absurd (not_both faulty.0 faulty.1 f (sym (read_extra bytes faulty) ∙ is))
 one_fault bytes f faults.Memory is faulty = absurd faulty
 
-pub front_refuses : (bytes : List ℕ) (f : TxFault) (e : ReadFault) → IfSome (spoken f) (λ w. block_at bytes ≡ Err w) → Faulty e bytes → (told f ≡ faults.Memory) ⊎ (told f ≡ e)
+pub front_refuses : (bytes : List ℕ) (f : TxFault) (e : ReadFault) → IfSome (wire_fault_of f) (λ w. block_at bytes ≡ Err w) → Faulty e bytes → (read_fault_of f ≡ faults.Memory) ⊎ (read_fault_of f ≡ e)
 front_refuses bytes txn.Short e is faulty = inr (sym (one_fault bytes wire.Short e is faulty))
 front_refuses bytes txn.LongForm e is faulty = inr (sym (one_fault bytes wire.LongForm e is faulty))
 front_refuses bytes txn.TooLarge e is faulty = inr (sym (one_fault bytes wire.TooLarge e is faulty))

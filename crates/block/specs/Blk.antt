@@ -1,6 +1,6 @@
 -- Bitcoin Core's blk files: the records of blocks, one after the other, and then zero bytes alone.
 use Rattle.std.specs.Prelude.{◌≡◌, ◌≢◌, ◌⊎◌, ℕ, ◌+◌, ◌<◌, ◌≤◌, ◌^◌, List, [], ◌∷◌, ◌++◌, length, ⊤, Result, Ok, Err}
-use Rattle.std.specs.List.{AllByRecursion, flat_map}
+use Rattle.std.specs.List.{AllByRecursion}
 use Rattle.byteorder.specs.Endian.{little_bytes}
 use Rattle.wire.specs.Spelling.{limit}
 use Rattle.block.specs.declared.blk_fault.BlkFault.{BlkFault}
@@ -72,21 +72,6 @@ abbrev pub CountsFailures : {X : Type 0} → Result X BlkFault → ℕ → ℕ �
 CountsFailures (Ok x) old new = new ≡ old
 CountsFailures (Err e) old new = new ≡ old + failures e
 
--- a file: the records of these blocks, in order, and then a rest at whose front no record stands
-pub record Splits (file : List ℕ) (blocks : List (List ℕ)) (rest : List ℕ) : Type 0 where
-  pub whole : file ≡ flat_map spelled blocks ++ rest
-  pub each : AllByRecursion (λ block. length block ≤ limit) blocks
-  pub last : (block after : List ℕ) → IsRecord block rest after → ⊥
-
 -- of the bytes to come some may have come, from their front
 abbrev pub Remain : List ℕ → List ℕ → Type 0
 Remain old new = (came : List ℕ) × (old ≡ came ++ new)
-
--- a run of calls that gave these blocks: each block's record was next, and left what came after it
-abbrev pub Gave : List ℕ → List (List ℕ) → List ℕ → Type 0
-Gave rest [] last = rest ≡ last
-Gave rest (block ∷ blocks) last = (after : List ℕ) × IsRecord block rest after × Gave after blocks last
-
--- what a call tells that finds no block: the end, or a fault of the bytes
-abbrev pub IsLast : List ℕ → Type 0
-IsLast rest = IsEnd rest ⊎ IsForeign rest ⊎ IsCut rest ⊎ IsTooLong rest

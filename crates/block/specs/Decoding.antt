@@ -7,17 +7,17 @@ use Rattle.block.specs.declared.fault.ReadFault.TheVariants as faults
 use Rattle.block.specs.computed.Reading.{block_at}
 
 -- a block with nothing behind it
-abbrev pub alone : Block → List ℕ → Option Block
-alone b [] = Some b
-alone b (x ∷ xs) = None
+abbrev pub block_alone : Block → List ℕ → Option Block
+block_alone b [] = Some b
+block_alone b (x ∷ xs) = None
 
-abbrev pub whole : Result (Block × List ℕ) WireFault → Option Block
-whole (Ok x) = alone x.0 x.1
-whole (Err fault) = None
+abbrev pub whole_block : Result (Block × List ℕ) WireFault → Option Block
+whole_block (Ok x) = block_alone x.0 x.1
+whole_block (Err fault) = None
 
 -- the block that the bytes spell, all of them
 abbrev pub decoded : List ℕ → Option Block
-decoded bytes = whole (block_at bytes)
+decoded bytes = whole_block (block_at bytes)
 
 -- a call's answer is that block, or says that there is none, or that memory ran out
 abbrev pub Decodes : Result Block ReadFault → Option Block → Type 0

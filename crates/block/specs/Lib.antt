@@ -1,7 +1,6 @@
 pub mod Blk
 pub mod Decoding
 pub mod Equality
-pub mod Fault
 pub mod Genesis
 pub mod Grammar
 pub mod Identity
@@ -9,9 +8,9 @@ pub mod Limits
 pub mod Merkle
 pub mod Progress
 pub mod Reward
-pub mod Room
 pub mod Sizes
 pub mod Target
 pub mod Whole
+pub mod inside
 pub mod computed
 pub mod laws

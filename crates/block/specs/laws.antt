@@ -2,3 +2,4 @@
 pub mod Reading
 pub mod Equality
 pub mod Decoding
+pub mod Files

@@ -35,10 +35,13 @@ pub enum Stage {
 /// The length that a record's head says, or none where these bytes don't begin with the magic.
 fn block_len(front: &[u8], place: u64) -> Result<Option<usize>, BlkFault>
     requires { length front.now ≤ 8 }
-    ensures found { IfOk result (λ found. IfSome found (λ len. (len ≤ limit) × (front.now ≡ head len))) }
+    ensures found { IfOk result (λ found.
+        IfSome found (λ len. (len ≤ limit) × (front.now ≡ head len))) }
     // Without the magic, or with a fault, whatever more there is: none where the head is short.
-    ensures none { IfOk result (λ found. IfNone found ((more after : List ℕ) → (length front.now < 8 → more ≡ []) → front.now ++ more ≢ magic ++ after)) }
-    ensures refused { IfErr result (λ e. (more : List ℕ) → (length front.now < 8 → more ≡ []) → IsFault place (front.now ++ more) e) }
+    ensures none { IfOk result (λ found. IfNone found ((more after : List ℕ)
+        → (length front.now < 8 → more ≡ []) → front.now ++ more ≢ magic ++ after)) }
+    ensures refused { IfErr result (λ e. (more : List ℕ) → (length front.now < 8 → more ≡ [])
+        → IsFault place (front.now ++ more) e) }
     ensures failed { IfErr result (λ e. failures e ≡ 0) }
 {
     let mut cursor = Cursor::new(front);
@@ -59,8 +62,11 @@ fn block_len(front: &[u8], place: u64) -> Result<Option<usize>, BlkFault>
 
 /// Succeeds where zero bytes alone are left, these and those to come.
 fn end<R: Source>(source: &mut R, front: &[u8], place: u64) -> Result<(), BlkFault>
-    ensures found { OnOk result (IsEnd (front.now ++ R.to_come source.old) × (R.to_come source.new ≡ [])) }
-    ensures refused { IfErr result (λ e. ((e ≡ faults.Foreign place) × (IsEnd (front.now ++ R.to_come source.old) → ⊥)) ⊎ (e ≡ faults.Read)) }
+    ensures found { OnOk result (IsEnd (front.now ++ R.to_come source.old)
+        × (R.to_come source.new ≡ [])) }
+    ensures refused { IfErr result (λ e.
+        ((e ≡ faults.Foreign place) × (IsEnd (front.now ++ R.to_come source.old) → ⊥))
+        ⊎ (e ≡ faults.Read)) }
     ensures remain { Remain (R.to_come source.old) (R.to_come source.new) }
     ensures failed { CountsFailures result (R.failed source.old) (R.failed source.new) }
 {
@@ -76,7 +82,8 @@ fn next_record<R: Source>(
     source: &mut R,
     place: u64,
 ) -> Result<Option<Vec<u8>>, BlkFault>
-    ensures found { IfOk result (λ found. MatchOption found (IsEnd (R.to_come source.old) × (R.to_come source.new ≡ []))
+    ensures found { IfOk result (λ found. MatchOption found
+        (IsEnd (R.to_come source.old) × (R.to_come source.new ≡ []))
         (λ block. IsRecord block.items (R.to_come source.old) (R.to_come source.new))) }
     ensures refused { IfErr result (λ e. IsFault place (R.to_come source.old) e) }
     ensures remain { Remain (R.to_come source.old) (R.to_come source.new) }
@@ -115,15 +122,26 @@ impl<R: Source> Model for BlkReader<R> {
 
     ghost Value = { Progress };
 
-    ghost view = { λ r. record { offset = r.offset; to_come = R.to_come r.source; failed = R.failed r.source; stage = r.stage } };
+    ghost view = { λ r. record {
+      offset = r.offset;
+      to_come = R.to_come r.source;
+      failed = R.failed r.source;
+      stage = r.stage;
+    } };
 
-    ghost invariant = { λ r. (r.offset + length (R.to_come r.source) < 2 ^ 64) × (r.stage ≡ stages.Ended → R.to_come r.source ≡ []) };
+    ghost invariant = { λ r. (r.offset + length (R.to_come r.source) < 2 ^ 64)
+        × (r.stage ≡ stages.Ended → R.to_come r.source ≡ []) };
 }
 
 impl<R: Source> BlkReader<R> {
     /// A reader of what is to come of the source.
     pub fn new(alloc: Global, source: R) -> BlkReader<R>
-        ensures { result ≡ record { offset = 0; to_come = R.to_come source; failed = R.failed source; stage = stages.Reading } }
+        ensures { result ≡ record {
+          offset = 0;
+          to_come = R.to_come source;
+          failed = R.failed source;
+          stage = stages.Reading;
+        } }
     {
         BlkReader {
             source,
@@ -136,22 +154,32 @@ impl<R: Source> BlkReader<R> {
     /// The next record's block, or none at the file's end.
     pub fn next(&mut self) -> Result<Option<Vec<u8>>, BlkFault>
         // A block: its record was next, and comes no more.
-        ensures block { IfOk result (λ found. IfSome found (λ block. IsRecord block.items self.old.to_come self.new.to_come
-            × (self.new.offset ≡ self.old.offset + length (spelled block.items)) × (self.new.stage ≡ stages.Reading))) }
+        ensures block { IfOk result (λ found. IfSome found
+            (λ block. IsRecord block.items self.old.to_come self.new.to_come
+            × (self.new.offset ≡ self.old.offset + length (spelled block.items))
+            × (self.new.stage ≡ stages.Reading))) }
         // None: nothing or zero bytes alone were left.
-        ensures none { IfOk result (λ found. IfNone found (IsEnd self.old.to_come × (self.new.to_come ≡ [])
+        ensures none { IfOk result (λ found. IfNone found
+            (IsEnd self.old.to_come × (self.new.to_come ≡ [])
             × (self.new.offset ≡ self.old.offset) × (self.new.stage ≡ stages.Ended))) }
         // A fault is that of the bytes at the record's place, and the reader has stopped.
-        ensures refused { IfErr result (λ e. self.old.stage ≡ stages.Reading → IsFault self.old.offset self.old.to_come e) }
+        ensures refused { IfErr result (λ e. self.old.stage ≡ stages.Reading
+            → IsFault self.old.offset self.old.to_come e) }
         // What stands at the record's place is what is told, unless a read fails or memory runs out.
-        ensures reads { (block after : List ℕ) → self.old.stage ≡ stages.Reading → IsRecord block self.old.to_come after
-            → MatchResult result (λ found. MatchOption found ⊥ (λ b. (b.items ≡ block) × (self.new.to_come ≡ after))) IsOutside }
-        ensures ends { self.old.stage ≡ stages.Reading → IsEnd self.old.to_come → MatchResult result (λ found. IfSome found (λ _. ⊥)) IsOutside }
-        ensures refuses { (e : BlkFault) → self.old.stage ≡ stages.Reading → IsFault self.old.offset self.old.to_come e → (IsOutside e → ⊥)
+        ensures reads { (block after : List ℕ) → self.old.stage ≡ stages.Reading
+            → IsRecord block self.old.to_come after
+            → MatchResult result (λ found. MatchOption found
+            ⊥ (λ b. (b.items ≡ block) × (self.new.to_come ≡ after))) IsOutside }
+        ensures ends { self.old.stage ≡ stages.Reading → IsEnd self.old.to_come
+            → MatchResult result (λ found. IfSome found (λ _. ⊥)) IsOutside }
+        ensures refuses { (e : BlkFault) → self.old.stage ≡ stages.Reading
+            → IsFault self.old.offset self.old.to_come e → (IsOutside e → ⊥)
             → MatchResult result (λ _. ⊥) (λ f. (f ≡ e) ⊎ IsOutside f) }
-        ensures stops { OnErr result ((self.new.offset ≡ self.old.offset) × (self.new.stage ≡ stages.Stopped)) }
+        ensures stops { OnErr result ((self.new.offset ≡ self.old.offset)
+            × (self.new.stage ≡ stages.Stopped)) }
         // Nothing comes of a reader that has stopped, or of one at the end.
-        ensures stopped { self.old.stage ≡ stages.Stopped → (result ≡ Err faults.Stopped) × (self.new ≡ self.old) }
+        ensures stopped { self.old.stage ≡ stages.Stopped
+            → (result ≡ Err faults.Stopped) × (self.new ≡ self.old) }
         ensures ended { self.old.stage ≡ stages.Ended → (result ≡ Ok None) × (self.new ≡ self.old) }
         // Read says that one read of this call failed. Else none did.
         ensures failed { CountsFailures result self.old.failed self.new.failed }

@@ -1,7 +1,7 @@
 //! Why bytes are no block.
 
 ghost use Rattle.std.specs.Prelude.{◌≡◌};
-ghost use Rattle.block.specs.Fault.{told};
+ghost use Rattle.block.specs.inside.Fault.{read_fault_of};
 
 use std::error::Error;
 use std::fmt;
@@ -37,7 +37,7 @@ impl fmt::Display for ReadFault {
 impl Error for ReadFault {}
 
 impl From<TxFault> for ReadFault {
-    ghost from_gives = { λ f e. e ≡ told f };
+    ghost from_gives = { λ f e. e ≡ read_fault_of f };
 
     fn from(fault: TxFault) -> ReadFault {
         match fault {

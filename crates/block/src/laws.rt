@@ -6,7 +6,7 @@ ghost use Rattle.txn.specs.Identity as txn;
 ghost use Rattle.block.specs.declared.block.Block.{Block};
 ghost use Rattle.block.specs.Grammar.{block};
 ghost use Rattle.block.specs.Decoding.{decoded};
-ghost use Rattle.block.specs.Blk.{Splits, Gave, IsLast};
+ghost use Rattle.block.specs.laws.Files.{Splits, Gave, IsLast};
 ghost use Rattle.block.specs.Identity.{id_of};
 ghost use Rattle.block.specs.Merkle.{root, twin, has_twin, next};
 ghost use Rattle.block.specs.Genesis as genesis;
@@ -15,17 +15,21 @@ use crate::genesis::{GENESIS, GENESIS_ID, GENESIS_ROOT, GENESIS_TIME};
 
 /// No spelling of a block begins another.
 pub fn no_front()
-    ensures { (a b : Block) (more : List ℕ) → block.Lawful a → block.Lawful b → block.spell b ≡ block.spell a ++ more → (a ≡ b) × (more ≡ []) }
+    ensures { (a b : Block) (more : List ℕ) → block.Lawful a → block.Lawful b
+        → block.spell b ≡ block.spell a ++ more → (a ≡ b) × (more ≡ []) }
 {}
 
 /// A blk file is the records of no other blocks, and ends with no other rest.
 pub fn one_split()
-    ensures { (file : List ℕ) (blocks others : List (List ℕ)) (rest last : List ℕ) → Splits file blocks rest → Splits file others last → (blocks ≡ others) × (rest ≡ last) }
+    ensures { (file : List ℕ) (blocks : List (List ℕ)) (rest : List ℕ)
+        (others : List (List ℕ)) (last : List ℕ)
+        → Splits file blocks rest → Splits file others last → (blocks ≡ others) × (rest ≡ last) }
 {}
 
 /// The blocks that a run of calls gives, until one gives none, are those of the file's records, in order.
 pub fn a_run_gives_the_records()
-    ensures { (file rest : List ℕ) (blocks : List (List ℕ)) → Gave file blocks rest → IsLast rest → Splits file blocks rest }
+    ensures { (file : List ℕ) (blocks : List (List ℕ)) (rest : List ℕ)
+        → Gave file blocks rest → IsLast rest → Splits file blocks rest }
 {}
 
 /// What is spelled of a lawful block is read again. What `write` has written is lawful where no list and no script
@@ -41,7 +45,8 @@ pub fn root_is_that_of_the_level_above()
 
 /// Two ids or more have a twin where this level has one, or the level above.
 pub fn twin_is_here_or_above()
-    ensures { (a b : Id) (ids : List Id) → twin (a ∷ b ∷ ids) ≡ (has_twin (a ∷ b ∷ ids) || twin (next (a ∷ b ∷ ids))) }
+    ensures { (a b : Id) (ids : List Id)
+        → twin (a ∷ b ∷ ids) ≡ (has_twin (a ∷ b ∷ ids) || twin (next (a ∷ b ∷ ids))) }
 {}
 
 /// The 285 bytes spell the genesis block, and the other constants are its id, its root and its time.

@@ -32,8 +32,3 @@ pub use source::{ReadFailed, SliceSource, Source};
 pub use target::meets_target;
 pub use txs::Txs;
 pub use writing::write;
-
-#[cfg(test)]
-mod blk_tests;
-#[cfg(test)]
-mod tests;

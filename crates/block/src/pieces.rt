@@ -21,10 +21,12 @@ pub(crate) fn fill<R: Source>(
 ) -> Result<usize, ReadFailed>
     requires { from ≤ length buffer.old }
     ensures room { IfOk result (λ end. (from ≤ end) × (end ≤ length buffer.new)) }
-    ensures came { IfOk result (λ end. take from buffer.old ++ R.to_come source.old ≡ take end buffer.new ++ R.to_come source.new) }
+    ensures came { IfOk result (λ end. take from buffer.old ++ R.to_come source.old
+        ≡ take end buffer.new ++ R.to_come source.new) }
     ensures end { IfOk result (λ end. end < length buffer.new → R.to_come source.new ≡ []) }
     ensures remain { Remain (R.to_come source.old) (R.to_come source.new) }
-    ensures failed { R.failed source.new ≡ (if is_ok result then R.failed source.old else R.failed source.old + 1) }
+    ensures failed { R.failed source.new
+        ≡ (if is_ok result then R.failed source.old else R.failed source.old + 1) }
     ensures len { length buffer.new ≡ length buffer.old }
 {
     let mut at = from;
@@ -40,9 +42,12 @@ pub(crate) fn fill<R: Source>(
 
 /// Whether zero bytes alone are to come. Then they all have come.
 pub(crate) fn ends<R: Source>(source: &mut R) -> Result<bool, ReadFailed>
-    ensures found { IfOk result (λ zero. MatchBool zero (IsEnd (R.to_come source.old) × (R.to_come source.new ≡ [])) (IsEnd (R.to_come source.old) → ⊥)) }
+    ensures found { IfOk result (λ zero. MatchBool zero
+        (IsEnd (R.to_come source.old) × (R.to_come source.new ≡ []))
+        (IsEnd (R.to_come source.old) → ⊥)) }
     ensures remain { Remain (R.to_come source.old) (R.to_come source.new) }
-    ensures failed { R.failed source.new ≡ (if is_ok result then R.failed source.old else R.failed source.old + 1) }
+    ensures failed { R.failed source.new
+        ≡ (if is_ok result then R.failed source.old else R.failed source.old + 1) }
 {
     let mut piece = [0; 4096];
     loop {
@@ -64,7 +69,8 @@ pub(crate) fn take<R: Source>(
     source: &mut R,
     len: usize,
 ) -> Result<Vec<u8>, BlkFault>
-    ensures came { IfOk result (λ bytes. R.to_come source.old ≡ bytes.items ++ R.to_come source.new) }
+    ensures came { IfOk result (λ bytes. R.to_come source.old
+        ≡ bytes.items ++ R.to_come source.new) }
     ensures len { IfOk result (λ bytes. length bytes.items ≤ len) }
     ensures end { IfOk result (λ bytes. length bytes.items < len → R.to_come source.new ≡ []) }
     ensures remain { Remain (R.to_come source.old) (R.to_come source.new) }
@@ -88,8 +94,10 @@ pub(crate) fn take<R: Source>(
 fn append<R: Source>(source: &mut R, bytes: &mut Vec<u8>, want: usize) -> Result<bool, BlkFault>
     requires { length bytes.old.items + want < 2 ^ 64 }
     ensures within { IfOk result (λ all. length bytes.new.items ≤ length bytes.old.items + want) }
-    ensures all { IfOk result (λ all. MatchBool all (length bytes.new.items ≡ length bytes.old.items + want) (R.to_come source.new ≡ [])) }
-    ensures came { IfOk result (λ all. bytes.old.items ++ R.to_come source.old ≡ bytes.new.items ++ R.to_come source.new) }
+    ensures all { IfOk result (λ all. MatchBool all
+        (length bytes.new.items ≡ length bytes.old.items + want) (R.to_come source.new ≡ [])) }
+    ensures came { IfOk result (λ all. bytes.old.items ++ R.to_come source.old
+        ≡ bytes.new.items ++ R.to_come source.new) }
     ensures remain { Remain (R.to_come source.old) (R.to_come source.new) }
     ensures fault { IfErr result (λ e. (e ≡ Read) ⊎ (e ≡ Memory)) }
     ensures failed { CountsFailures result (R.failed source.old) (R.failed source.new) }
@@ -108,7 +116,8 @@ fn make_room(bytes: &mut Vec<u8>, want: usize) -> Result<(), BlkFault>
     requires { want ≤ 65536 }
     ensures kept { bytes.new.items ≡ bytes.old.items }
     ensures enough { OnOk result (length bytes.old.items + want ≤ vec_capacity bytes.new) }
-    ensures room { vec_capacity bytes.new ≤ max (vec_capacity bytes.old) (length bytes.old.items + want) }
+    ensures room { vec_capacity bytes.new ≤ max (vec_capacity bytes.old)
+        (length bytes.old.items + want) }
     ensures fault { IfErr result (λ e. e ≡ Memory) }
 {
     bytes.reserve_exact(want)?;

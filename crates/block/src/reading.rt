@@ -3,7 +3,7 @@
 ghost use Rattle.std.specs.Prelude.{◌≡◌, ◌⊎◌, ◌/◌, min, [], length, vec_capacity, IfOk, IfErr, IsOkUnless, Err};
 ghost use Rattle.wire.specs.computed.Reading.{Gives, many_at, counted_at};
 ghost use Rattle.txn.specs.computed.Reading.{tx_at};
-ghost use Rattle.txn.specs.Fault.{spoken};
+ghost use Rattle.txn.specs.Fault.{wire_fault_of};
 ghost use Rattle.block.specs.Grammar.{block};
 ghost use Rattle.block.specs.Whole.{Faulty};
 ghost use Rattle.block.specs.Decoding.{decoded, Decodes};
@@ -11,7 +11,7 @@ ghost use Rattle.block.specs.declared.block.Block.{Block};
 ghost use Rattle.block.specs.declared.fault.ReadFault.{ReadFault};
 ghost use Rattle.block.specs.declared.fault.ReadFault.TheVariants.{Memory};
 ghost use Rattle.block.specs.computed.Reading.{id_at, header_at, block_at};
-ghost use Rattle.block.specs.Room.{least_transaction};
+ghost use Rattle.block.specs.inside.Room.{least_transaction};
 
 use crate::block::Block;
 use crate::fault::ReadFault;
@@ -27,7 +27,7 @@ const LEAST_TRANSACTION: usize = 10;
 
 #[tactic(auto, unfolding(crate::specs::computed::Reading::id_at))]
 fn id(bytes: &mut Cursor) -> Result<Id, TxFault>
-    ensures { Gives spoken result bytes.new (id_at bytes.old) }
+    ensures { Gives wire_fault_of result bytes.new (id_at bytes.old) }
 {
     let mut id = [0; 32];
     id.copy_from_slice(bytes.take(32)?);
@@ -36,7 +36,7 @@ fn id(bytes: &mut Cursor) -> Result<Id, TxFault>
 
 #[tactic(auto, unfolding(crate::specs::computed::Reading::header_at))]
 fn header(bytes: &mut Cursor) -> Result<Header, TxFault>
-    ensures { Gives spoken result bytes.new (header_at bytes.old) }
+    ensures { Gives wire_fault_of result bytes.new (header_at bytes.old) }
 {
     let version = bytes.i32le()?;
     let prev = id(bytes)?;
@@ -56,7 +56,7 @@ fn header(bytes: &mut Cursor) -> Result<Header, TxFault>
 
 #[tactic(auto, unfolding(wire::specs::computed::Reading::counted_at))]
 fn txs(alloc: Global, bytes: &mut Cursor) -> Result<Txs, TxFault>
-    ensures { Gives spoken result bytes.new (counted_at tx_at bytes.old) }
+    ensures { Gives wire_fault_of result bytes.new (counted_at tx_at bytes.old) }
 {
     let count = bytes.compact()?;
     // A count alone takes no memory: there is no room for more than the bytes can spell.
@@ -68,7 +68,7 @@ fn txs(alloc: Global, bytes: &mut Cursor) -> Result<Txs, TxFault>
 fn each_tx(alloc: Global, bytes: &mut Cursor, count: u64, empty: Vec<Tx>) -> Result<Txs, TxFault>
     requires empty { empty.items ≡ [] }
     requires room { vec_capacity empty ≡ min count (length bytes.old / least_transaction) }
-    ensures { Gives spoken result bytes.new (many_at tx_at count bytes.old) }
+    ensures { Gives wire_fault_of result bytes.new (many_at tx_at count bytes.old) }
 {
     let mut items = empty;
     for _ in 0..count {
@@ -79,7 +79,7 @@ fn each_tx(alloc: Global, bytes: &mut Cursor, count: u64, empty: Vec<Tx>) -> Res
 
 #[tactic(auto, unfolding(crate::specs::computed::Reading::block_at))]
 fn front(alloc: Global, bytes: &mut Cursor) -> Result<Block, TxFault>
-    ensures { Gives spoken result bytes.new (block_at bytes.old) }
+    ensures { Gives wire_fault_of result bytes.new (block_at bytes.old) }
 {
     let header = header(bytes)?;
     let txs = txs(alloc, bytes)?;
@@ -95,9 +95,11 @@ pub fn read(alloc: Global, bytes: &[u8]) -> Result<Block, ReadFault>
     // A refusal names a fault that the bytes have, unless memory ran out.
     ensures refused { IfErr result (λ e. (e ≡ Memory) ⊎ Faulty e bytes.now) }
     // What is spelled is read, unless memory runs out.
-    ensures reads { (b : Block) → block.Lawful b → bytes.now ≡ block.spell b → IsOkUnless result Memory × IfOk result (λ x. x ≡ b) }
+    ensures reads { (b : Block) → block.Lawful b → bytes.now ≡ block.spell b
+        → IsOkUnless result Memory × IfOk result (λ x. x ≡ b) }
     // What has a fault is refused with it, unless memory runs out.
-    ensures refuses { (e : ReadFault) → Faulty e bytes.now → (result ≡ Err Memory) ⊎ (result ≡ Err e) }
+    ensures refuses { (e : ReadFault) → Faulty e bytes.now
+        → (result ≡ Err Memory) ⊎ (result ≡ Err e) }
     // The same, as a function of the bytes.
     ensures exact { Decodes result (decoded bytes.now) }
 {

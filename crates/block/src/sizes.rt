@@ -25,7 +25,8 @@ pub fn size(block: &Block) -> u64
 
 /// The bytes of transactions.
 fn txs_size(txs: &[Tx]) -> u64
-    ensures { result ≡ min (sum_by (λ tx. length (grammar.transaction.spell tx)) txs.now) (2 ^ 64 - 1) }
+    ensures { result ≡ min (sum_by (λ tx. length (grammar.transaction.spell tx)) txs.now)
+        (2 ^ 64 - 1) }
 {
     let mut sum = 0u64;
     for tx in txs {
@@ -57,7 +58,8 @@ fn inputs_size(inputs: &[TxIn]) -> u64
 }
 
 fn outputs_size(outputs: &[TxOut]) -> u64
-    ensures { result ≡ min (sum_by (λ o. length (grammar.output.spell o)) outputs.now) (2 ^ 64 - 1) }
+    ensures { result ≡ min (sum_by (λ o. length (grammar.output.spell o)) outputs.now)
+        (2 ^ 64 - 1) }
 {
     let mut sum = 0u64;
     for output in outputs {

@@ -28,12 +28,15 @@ pub trait Source {
     /// Puts the first bytes to come into the front of the buffer, and returns how many.
     fn read(&mut self, buffer: &mut [u8]) -> Result<usize, ReadFailed>
         ensures room { IfOk result (λ count. count ≤ length buffer.new) }
-        ensures came { IfOk result (λ count. to_come self.old ≡ take count buffer.new ++ to_come self.new) }
+        ensures came { IfOk result (λ count. to_come self.old
+            ≡ take count buffer.new ++ to_come self.new) }
         // Nothing comes into a buffer that isn't empty only at the end.
-        ensures end { IfOk result (λ count. count ≡ 0 → 0 < length buffer.new → to_come self.old ≡ []) }
+        ensures end { IfOk result (λ count. count ≡ 0 → 0 < length buffer.new
+            → to_come self.old ≡ []) }
         // Where a read fails, nothing comes.
         ensures kept { OnErr result (to_come self.new ≡ to_come self.old) }
-        ensures failed { failed self.new ≡ (if is_ok result then failed self.old else failed self.old + 1) }
+        ensures failed { failed self.new
+            ≡ (if is_ok result then failed self.old else failed self.old + 1) }
         // The buffer stays as long.
         ensures len { length buffer.new ≡ length buffer.old };
 

@@ -2,7 +2,7 @@
 
 ghost use Rattle.std.specs.Prelude.{◌≡◌, ◌++◌, OnOk, OnErr};
 ghost use Rattle.wire.specs.Grammar.{counted};
-ghost use Rattle.wire.specs.Writing.{Extends};
+ghost use Rattle.wire.specs.inside.Writing.{Extends};
 ghost use Rattle.txn.specs.Grammar.{transaction};
 ghost use Rattle.block.specs.Grammar as grammar;
 ghost use Rattle.block.specs.Limits.{AreWithin, IsWithinLimits};
@@ -38,7 +38,8 @@ fn knows_header(h: Header)
 
 #[tactic(auto, using(wire::specs::laws::Writing::extending))]
 fn put_txs(out: &mut Vec<u8>, txs: &Txs) -> Result<(), Memory>
-    ensures written { OnOk result (out.new.items ≡ out.old.items ++ (counted transaction).spell txs.now) }
+    ensures written { OnOk result (out.new.items
+        ≡ out.old.items ++ (counted transaction).spell txs.now) }
     ensures extends { Extends out.old.items out.new.items }
     ensures lawful { OnOk result (AreWithin txs.now → (counted transaction).Lawful txs.now) }
 {

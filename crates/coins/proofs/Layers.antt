@@ -8,7 +8,8 @@ use Rattle.txn.specs.declared.outpoint.OutPoint.{OutPoint}
 use Rattle.coins.specs.declared.entry.CacheEntry.{CacheEntry}
 use Rattle.coins.specs.declared.entry.CacheEntry.TheVariants.{Clean, Dirty, Fresh}
 use Rattle.coins.specs.Coins.{Coin, Coins, Layer, same, put}
-use Rattle.coins.specs.Entries.{Entries, stands, over, entry_at, MarkHolds, IsSound, Written, added_entry, is_fresh, own_coin, emptied}
+use Rattle.coins.specs.Entries.{Entries, stands, over, entry_at, MarkHolds, IsSound}
+use Rattle.coins.specs.inside.Entries.{Written, added_entry, is_fresh, own_coin, emptied}
 use Rattle.coins.specs.laws.Lookups.{same_coins, same-true, same-sym, get-put}
 
 -- what stands under an entry, if there is one

@@ -10,7 +10,8 @@ use Rattle.txn.specs.declared.outpoint.OutPoint.{OutPoint}
 use Rattle.coins.specs.declared.entry.CacheEntry.{CacheEntry}
 use Rattle.coins.specs.Coins.{Coin, Coins, outpoint_cmp, same}
 use Rattle.coins.specs.Entries.{Entries, stands, over, entry_at, MarkHolds, IsSound}
-use Rattle.coins.specs.Changes.{Changes, named, AreChanges, Lists}
+use Rattle.coins.specs.Changes.{Changes, named, AreChanges}
+use Rattle.coins.specs.inside.Changes.{Lists}
 use Rattle.coins.specs.laws.Lookups.{same-true, same-self}
 use Rattle.coins.proofs.Layers.{stands_at, get-over}
 

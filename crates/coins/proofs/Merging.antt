@@ -8,7 +8,8 @@ use Rattle.txn.specs.declared.outpoint.OutPoint.{OutPoint}
 use Rattle.coins.specs.declared.entry.CacheEntry.{CacheEntry}
 use Rattle.coins.specs.declared.entry.CacheEntry.TheVariants.{Clean, Dirty, Fresh}
 use Rattle.coins.specs.Coins.{Coin, Coins, same}
-use Rattle.coins.specs.Entries.{Entries, stands, over, entry_at, MarkHolds, IsSound, Written, AreReadied, Readied, HasRoom, added_entry, is_fresh, merged, merged_at}
+use Rattle.coins.specs.Entries.{Entries, stands, over, entry_at, MarkHolds, IsSound}
+use Rattle.coins.specs.inside.Entries.{Written, AreReadied, Readied, HasRoom, added_entry, is_fresh, merged, merged_at}
 use Rattle.coins.specs.laws.Lookups.{same_coins, same-true, same-sym}
 use Rattle.coins.proofs.Layers.{fresh_none, get-over, stands_at}
 

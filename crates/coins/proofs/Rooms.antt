@@ -10,7 +10,8 @@ use Rattle.txn.specs.declared.outpoint.OutPoint.{OutPoint}
 use Rattle.coins.specs.declared.coin.Coin.{Coin}
 use Rattle.coins.specs.Coins.{Coins, outpoint_cmp, same, put}
 use Rattle.coins.specs.laws.Lookups.{total_order, same_coins, same-true, same-self, same-sym, get-put, found}
-use Rattle.coins.specs.Changes.{Changes, laid, Opened, Covered, HasRoomFor, Changed}
+use Rattle.coins.specs.Changes.{Changes, laid}
+use Rattle.coins.specs.inside.Changes.{Opened, Covered, HasRoomFor, Changed}
 use Rattle.coins.specs.laws.Changing.{get-laid, written_at}
 use Rattle.coins.specs.laws.Lookups.{get-entries}
 use Rattle.std.specs.FinMap.{from_entries}

@@ -34,7 +34,10 @@ impl<'a, B: Base> Model for Cache<'a, B> {
 
     ghost use Rattle.coins.specs.Entries.{over, IsSound};
 
-    ghost view = { λ c. record { base = B.coins c.base.now; coins = over (B.coins c.base.now) c.entries.entries } };
+    ghost view = { λ c. record {
+      base = B.coins c.base.now;
+      coins = over (B.coins c.base.now) c.entries.entries;
+    } };
 
     ghost invariant = { λ c. IsSound (B.coins c.base.now) c.entries.entries };
 }
@@ -66,7 +69,8 @@ impl<'a, B: Base> Cache<'a, B> {
     /// Puts a coin where there is none.
     pub fn add(&mut self, at: OutPoint, coin: Coin) -> Result<(), Memory>
         requires { map.get self.old.coins at ≡ None }
-        ensures ok { OnOk result (self.new ≡ record self.old { coins = map.insert self.old.coins at coin }) }
+        ensures ok { OnOk result (self.new ≡
+            record self.old { coins = map.insert self.old.coins at coin }) }
         ensures err { OnErr result (self.new ≡ self.old) }
     {
         let entry = added(self.entries.get(&at), coin);
@@ -77,7 +81,8 @@ impl<'a, B: Base> Cache<'a, B> {
     pub fn spend(&mut self, at: &OutPoint) -> Result<Coin, Memory>
         requires { IsSome (map.get self.old.coins at.now) }
         ensures coin { IfOk result (λ coin. map.get self.old.coins at.now ≡ Some coin) }
-        ensures ok { OnOk result (self.new ≡ record self.old { coins = map.remove self.old.coins at.now }) }
+        ensures ok { OnOk result (self.new ≡
+            record self.old { coins = map.remove self.old.coins at.now }) }
         ensures err { OnErr result (self.new ≡ self.old) }
     {
         if let Some(coin) = take(&mut self.entries, at) {
@@ -91,7 +96,8 @@ impl<'a, B: Base> Cache<'a, B> {
     /// The outpoints at which the base and this layer differ, in order, each with the coin that stands
     /// there now, or None where it is gone.
     pub fn changes(&self, alloc: Global) -> Result<Vec<(OutPoint, Option<Coin>)>, Memory>
-        ensures differences { IfOk result (λ changes. AreChanges self.now.base self.now.coins changes.items) }
+        ensures differences { IfOk result (λ changes.
+            AreChanges self.now.base self.now.coins changes.items) }
         // Laid over the base, they give the coins of this layer.
         ensures laid { IfOk result (λ changes. laid self.now.base changes.items ≡ self.now.coins) }
     {
@@ -110,7 +116,8 @@ impl<'a, B: Base> Cache<'a, B> {
     /// Writes what a layer over these coins wrote: all of it, or nothing.
     pub fn absorb(&mut self, writes: Writes) -> Result<(), Memory>
         requires { IsSound self.old.coins writes }
-        ensures ok { OnOk result (self.new ≡ record self.old { coins = over self.old.coins writes }) }
+        ensures ok { OnOk result (self.new ≡
+            record self.old { coins = over self.old.coins writes }) }
         ensures err { OnErr result (self.new ≡ self.old) }
     {
         make_room(&mut self.entries, &writes.entries)?;

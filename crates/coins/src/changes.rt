@@ -7,7 +7,7 @@ ghost use Rattle.std.specs.Map.{keys_of};
 ghost use Rattle.std.specs.FinMap as map;
 ghost use Rattle.coins.specs.Coins.{outpoint_cmp};
 ghost use Rattle.coins.specs.Entries.{MarkHolds, IsSound, stands};
-ghost use Rattle.coins.specs.Changes.{Lists};
+ghost use Rattle.coins.specs.inside.Changes.{Lists};
 
 use crate::base::Base;
 use crate::coin::Coin;
@@ -25,7 +25,8 @@ pub(crate) fn list<B: Base>(
 ) -> Result<Vec<(OutPoint, Option<Coin>)>, Memory>
     requires { IsSound (B.coins base.now) entries.now.entries }
     ensures ordered { IsStrictlySortedBy outpoint_cmp (keys_of entries.now.entries) }
-    ensures lists { IfOk result (λ changes. Lists (B.coins base.now) entries.now.entries changes.items) }
+    ensures lists { IfOk result (λ changes.
+        Lists (B.coins base.now) entries.now.entries changes.items) }
 {
     let mut changes = Vec::new(alloc);
     for (at, entry) in entries {
@@ -43,7 +44,9 @@ fn change<B: Base>(
     base: &B,
 ) -> Result<Option<Option<Coin>>, Memory>
     requires { MarkHolds (Some entry.now) (map.get (B.coins base.now) at.now) }
-    ensures { let below = map.get (B.coins base.now) at.now in IfOk result (λ change. MatchOption change (stands entry.now below ≡ below) (λ coin. (coin ≡ stands entry.now below) × (¬ (coin ≡ below)))) }
+    ensures { let below = map.get (B.coins base.now) at.now in
+        IfOk result (λ change. MatchOption change (stands entry.now below ≡ below) (λ coin.
+        (coin ≡ stands entry.now below) × (¬ (coin ≡ below)))) }
 {
     match entry {
         CacheEntry::Clean => Ok(None),

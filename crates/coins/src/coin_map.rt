@@ -3,7 +3,7 @@
 ghost use Rattle.std.specs.Prelude.{◌≡◌, OnOk, OnErr, None, Some, true, is_some, IsSome};
 ghost use Rattle.std.specs.FinMap as map;
 ghost use Rattle.coins.specs.Coins.{put};
-ghost use Rattle.coins.specs.Changes.{Changed};
+ghost use Rattle.coins.specs.inside.Changes.{Changed};
 ghost use Rattle.coins.specs.laws.Lookups.{found};
 
 use crate::base::Base;

@@ -3,7 +3,8 @@
 ghost use Rattle.std.specs.Prelude.{◌≡◌, OnOk, OnErr, IsOk, IfNone, None, Some, IsSome, is_some};
 ghost use Rattle.std.specs.Option.{option_copied};
 ghost use Rattle.txn.specs.declared.outpoint.OutPoint.{OutPoint};
-ghost use Rattle.coins.specs.Entries.{added_entry, is_fresh, own_coin, emptied, entry_at, Written, AreReadied, HasRoom, merged, merged_at};
+ghost use Rattle.coins.specs.Entries.{entry_at};
+ghost use Rattle.coins.specs.inside.Entries.{added_entry, is_fresh, own_coin, emptied, Written, AreReadied, HasRoom, merged, merged_at};
 
 use crate::coin::Coin;
 use std::collections::BTreeMap;
@@ -95,7 +96,9 @@ fn forget(entries: &mut BTreeMap<OutPoint, CacheEntry>, at: &OutPoint)
 /// Takes out the coin that this layer holds, if it holds one, which takes no memory.
 pub(crate) fn take(entries: &mut BTreeMap<OutPoint, CacheEntry>, at: &OutPoint) -> Option<Coin>
     ensures coin { result ≡ own_coin (entry_at entries.old.entries at.now) }
-    ensures taken { IsSome result → Written entries.old.entries entries.new.entries at.now (emptied (entry_at entries.old.entries at.now)) }
+    ensures taken { IsSome result →
+        Written entries.old.entries entries.new.entries at.now
+        (emptied (entry_at entries.old.entries at.now)) }
     ensures none { IfNone result (entries.new.entries ≡ entries.old.entries) }
 {
     if !holds_coin(entries.get(at)) {
@@ -126,7 +129,8 @@ pub(crate) fn make_room(
 /// Lays an entry of the layer above over the one that is there, which takes no memory.
 fn lay_one(entries: &mut BTreeMap<OutPoint, CacheEntry>, at: OutPoint, entry: CacheEntry)
     requires { IsSome (entry_at entries.old.entries at) }
-    ensures { Written entries.old.entries entries.new.entries at (merged (entry_at entries.old.entries at) entry) }
+    ensures { Written entries.old.entries entries.new.entries at
+        (merged (entry_at entries.old.entries at) entry) }
 {
     match entry {
         CacheEntry::Clean => {}
@@ -157,7 +161,8 @@ pub(crate) fn lay_all(
     writes: BTreeMap<OutPoint, CacheEntry>,
 )
     requires { HasRoom entries.old.entries writes.entries }
-    ensures { (q : OutPoint) → entry_at entries.new.entries q ≡ merged_at (entry_at entries.old.entries q) (entry_at writes.entries q) }
+    ensures { (q : OutPoint) → entry_at entries.new.entries q ≡
+        merged_at (entry_at entries.old.entries q) (entry_at writes.entries q) }
 {
     for (at, entry) in writes {
         lay_one(entries, at, entry);

@@ -10,12 +10,14 @@ ghost use Rattle.coins.specs.Total.{total};
 
 /// The changes from some coins to others, laid over the first, give the others.
 pub fn changes_lead_to_the_coins()
-    ensures { (before after : Coins) (changes : Changes) → AreChanges before after changes → laid before changes ≡ after }
+    ensures { (before after : Coins) (changes : Changes) → AreChanges before after changes →
+        laid before changes ≡ after }
 {}
 
 /// Between two maps of coins there is one list of changes alone.
 pub fn changes_are_one_list()
-    ensures { (before after : Coins) (changes others : Changes) → AreChanges before after changes → AreChanges before after others → changes ≡ others }
+    ensures { (before after : Coins) (changes others : Changes) → AreChanges before after changes →
+        AreChanges before after others → changes ≡ others }
 {}
 
 /// No coins are worth nothing.
@@ -25,10 +27,12 @@ pub fn no_coins_are_worth_nothing()
 
 /// A coin that is added raises the total by its value.
 pub fn adding_raises_the_total()
-    ensures { (coins : Coins) (at : OutPoint) (coin : Coin) → map.get coins at ≡ None → total (map.insert coins at coin) ≡ total coins +ℤ coin.value }
+    ensures { (coins : Coins) (at : OutPoint) (coin : Coin) → map.get coins at ≡ None →
+        total (map.insert coins at coin) ≡ total coins +ℤ coin.value }
 {}
 
 /// A coin that is spent lowers the total by its value.
 pub fn spending_lowers_the_total()
-    ensures { (coins : Coins) (at : OutPoint) (coin : Coin) → map.get coins at ≡ Some coin → total (map.remove coins at) ≡ total coins -ℤ coin.value }
+    ensures { (coins : Coins) (at : OutPoint) (coin : Coin) → map.get coins at ≡ Some coin →
+        total (map.remove coins at) ≡ total coins -ℤ coin.value }
 {}

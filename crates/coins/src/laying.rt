@@ -4,7 +4,8 @@ ghost use Rattle.std.specs.Prelude.{◌≡◌, ◌⊎◌, ◌∷◌, [], ◌++�
 ghost use Rattle.std.specs.FinMap as map;
 ghost use Rattle.txn.specs.declared.outpoint.OutPoint.{OutPoint};
 ghost use Rattle.coins.specs.Coins.{Coins};
-ghost use Rattle.coins.specs.Changes.{IsInOrder, laid, Opened, Covered, HasRoomFor};
+ghost use Rattle.coins.specs.Changes.{IsInOrder, laid};
+ghost use Rattle.coins.specs.inside.Changes.{Opened, Covered, HasRoomFor};
 
 use crate::coin::Coin;
 use crate::coin_map::CoinMap;
@@ -67,9 +68,12 @@ fn open(
     at: OutPoint,
     coin: &Option<Coin>,
 ) -> Result<(), Memory>
-    ensures opened { (m : Coins) → Opened coins.old m added.old.items → Opened coins.new m added.new.items }
-    ensures added { (added.new.items ≡ added.old.items) ⊎ (added.new.items ≡ added.old.items ++ at ∷ []) }
-    ensures keeps { (q : OutPoint) → is_some (map.get coins.old q) ≡ true → is_some (map.get coins.new q) ≡ true }
+    ensures opened { (m : Coins) → Opened coins.old m added.old.items →
+        Opened coins.new m added.new.items }
+    ensures added { (added.new.items ≡ added.old.items) ⊎
+        (added.new.items ≡ added.old.items ++ at ∷ []) }
+    ensures keeps { (q : OutPoint) → is_some (map.get coins.old q) ≡ true →
+        is_some (map.get coins.new q) ≡ true }
     ensures ready { OnOk result (is_some coin.now ≡ true → is_some (map.get coins.new at) ≡ true) }
 {
     if coin.is_none() {

@@ -17,6 +17,3 @@ pub use coin::Coin;
 pub use coin_map::CoinMap;
 pub use entry::CacheEntry;
 pub use writes::Writes;
-
-#[cfg(test)]
-mod tests;

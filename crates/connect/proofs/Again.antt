@@ -8,7 +8,7 @@ use Rattle.coins.specs.declared.coin.Coin.{Coin}
 use Rattle.coins.specs.Coins.{Coins}
 use Rattle.undo.specs.Effect.{after, spent, IsApplicable}
 use Rattle.connect.specs.Turns.{Turn, turn, turns, spent_in, left_by, full_count}
-use Rattle.connect.specs.Inside.{AreApplied, IsBlockApplied}
+use Rattle.connect.specs.inside.Applied.{AreApplied, IsBlockApplied}
 use Rattle.connect.specs.laws.Folding.{can_next, turns_none, turns_next, effect_none, effect_next}
 use Rattle.connect.proofs.Steps.{drop_item}
 use Rattle.connect.proofs.Back.{id_at, others_back}

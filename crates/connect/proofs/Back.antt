@@ -1,5 +1,5 @@
 -- Taking transactions back.
-use Rattle.std.proofs.Common.{◌≡◌, ℕ, zero, suc, ◌-◌, ◌<◌, List, [], ◌∷◌, length, get_or, map, take, drop, true, cond, Result, Ok, Err, OnOk, sym, ap, subst, ◌∙◌, arith}
+use Rattle.std.proofs.Common.{◌≡◌, ℕ, zero, suc, ◌-◌, ◌<◌, List, [], ◌∷◌, length, get_or, map, take, drop, true, cond, Result, Ok, Err, IfOk, OnOk, sym, ap, subst, ◌∙◌, arith}
 use Rattle.hash.specs.declared.id.Id.{Id}
 use Rattle.txn.specs.declared.tx.Tx.{Tx}
 use Rattle.txn.specs.Check.{is_coinbase, prevs}
@@ -8,7 +8,7 @@ use Rattle.coins.specs.declared.coin.Coin.{Coin}
 use Rattle.coins.specs.Coins.{Coins}
 use Rattle.undo.specs.Effect.{after, coins_at, spent, IsApplied}
 use Rattle.connect.specs.Turns.{Turn, turn, turns, effect, spent_in, left_by, full_count}
-use Rattle.connect.specs.Inside.{AreApplied, IsBlockApplied}
+use Rattle.connect.specs.inside.Applied.{AreApplied, IsBlockApplied}
 use Rattle.connect.proofs.Steps.{tail_of}
 use Rattle.connect.specs.laws.Folding.{turns_none, turns_next, applied_at}
 
@@ -56,6 +56,10 @@ first_back h m txs n undo b ids same x d k taken ex e none =
     let first : x ≡ b.coinbase = ex ∙ ap (λ (l : List Tx). get_or l 0 x) b.parts in
     let id : get_or ids 0 d ≡ id_of x = id_at txs ids 0 x d same (omega (arith, ap length b.parts)) ex in
     subst (λ (z : Id). IsApplied m x z h k taken) (sym id) (subst (λ (y : Tx). IsApplied m y (id_of y) h k taken) (sym first) here)
+
+pub if_ok : {T E : Type 0} {P Q : T → Type 0} (r : Result T E) → IfOk r P → ((x : T) → P x → Q x) → IfOk r Q
+if_ok (Ok x) h f = f x h
+if_ok (Err x) h f = tt
 
 pub on_ok : {T E : Type 0} {P Q : Type 0} (r : Result T E) → OnOk r P → (P → Q) → OnOk r Q
 on_ok (Ok x) h f = f h

@@ -14,7 +14,7 @@ use Rattle.connect.specs.declared.stop.Stop.TheVariants.{Broken, Memory}
 use Rattle.connect.specs.Setting.{Setting}
 use Rattle.connect.specs.Turns.{Turn, turn, turns, spent_in, undo_of, left_by, full_count}
 use Rattle.connect.specs.Faults.{overwrites, fees, reward_of, turn_rules, connect_rules}
-use Rattle.connect.specs.Inside.{IsReason}
+use Rattle.connect.specs.inside.Turns.{IsReason}
 use Rattle.connect.specs.laws.Broken.{skip, stop}
 pub use Rattle.connect.specs.laws.Folding.{turns_none, turns_next, effect_none, effect_next}
 

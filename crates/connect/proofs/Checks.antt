@@ -10,7 +10,7 @@ use Rattle.curve.specs.Triple.{Triples}
 use Rattle.interp.specs.declared.job.Job.{Job}
 use Rattle.queue.specs.Jobs.{question, asked, IsAccepted, AcceptsAt, FailsAt}
 use Rattle.connect.specs.Scripts.{Check, input_checks, IsFirstRefused}
-use Rattle.connect.specs.Inside.{listed}
+use Rattle.connect.specs.inside.Listing.{checks_from}
 
 pub zip_push : {A B : Type 0} (xs : List A) (ys : List B) (x : A) (y : B) → length xs ≡ length ys → zip (xs ++ x ∷ []) (ys ++ y ∷ []) ≡ zip xs ys ++ (x, y) ∷ []
 zip_push [] [] x y h = refl
@@ -60,12 +60,12 @@ pub checks_push : (places : List ℕ) (jobs : List Job) (place : ℕ) (job : Job
 checks_push places jobs place job even =
     ap (zip (places ++ place ∷ [])) (map-append asked jobs (job ∷ [])) ∙ zip_push places (map asked jobs) place (asked job) (even ∙ sym (length-map jobs asked))
 
-pub listed_next : (flags : Flags) (place : ℕ) (tx : Tx) (txs : List Tx) (coins : List Coin) (undo : List (List Coin)) → listed flags place (tx ∷ txs) (coins ∷ undo) ≡ input_checks flags place tx coins ++ listed flags (place + 1) txs undo
-unfolding listed
+pub listed_next : (flags : Flags) (place : ℕ) (tx : Tx) (txs : List Tx) (coins : List Coin) (undo : List (List Coin)) → checks_from flags place (tx ∷ txs) (coins ∷ undo) ≡ input_checks flags place tx coins ++ checks_from flags (place + 1) txs undo
+unfolding checks_from
 listed_next flags place tx txs coins undo = refl
 
-pub listed_none : (flags : Flags) (place : ℕ) (undo : List (List Coin)) → listed flags place [] undo ≡ []
-unfolding listed
+pub listed_none : (flags : Flags) (place : ℕ) (undo : List (List Coin)) → checks_from flags place [] undo ≡ []
+unfolding checks_from
 listed_none flags place undo = refl
 
 pub alike_length : {A B : Type 0} (R : A → B → Type 0) (xs : List A) (ys : List B) → AllZip R xs ys → length xs ≡ length ys

@@ -15,7 +15,7 @@ use Rattle.rules.specs.Alone.{max_block_sigops, tx_sigops}
 use Rattle.connect.specs.Setting.{Setting}
 use Rattle.connect.specs.Turns.{Turn, turn, inner_sigops, spent_in, plain_count}
 use Rattle.connect.specs.Faults.{has_coin, is_immature, lock_start, is_early, pays_too_much, is_locked}
-use Rattle.connect.specs.Inside.{coins_of}
+use Rattle.connect.specs.inside.Turns.{coins_of}
 use Rattle.connect.specs.laws.Broken.{UpToCoins}
 
 -- a count that stops at the highest number, and isn't above the most that a block may have

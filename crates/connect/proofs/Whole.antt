@@ -22,7 +22,7 @@ use Rattle.connect.specs.Setting.{Setting}
 use Rattle.connect.specs.Turns.{Turn, turn, turns, spent_in, undo_of, left_by, full_count}
 use Rattle.connect.specs.Faults.{connect_rules}
 use Rattle.connect.specs.Scripts.{Check, flags_of, input_checks, script_checks, IsFirstRefused, IsBefore, IsConnectFault}
-use Rattle.connect.specs.Inside.{listed}
+use Rattle.connect.specs.inside.Listing.{checks_from}
 use Rattle.connect.specs.laws.Alone.{inputs_of, IsLawfulBlock}
 use Rattle.connect.proofs.Blocks.{turns_none, turns_next, later_turns, undo_is}
 use Rattle.connect.proofs.Checks.{listed_next, listed_none}
@@ -73,14 +73,14 @@ few_spent h m n (tx ∷ txs) =
 abbrev checks_of : Flags → ℕ × Turn → List Check
 checks_of flags t = input_checks flags t.0 t.1.tx (spent_in t.1)
 
-listed_turns : (flags : Flags) (place h : ℕ) (m : Coins) (n : ℕ) (txs : List Tx) → listed flags place txs (map spent_in (turns h m n txs)) ≡ flat_map (checks_of flags) (enumerate_from place (turns h m n txs))
+listed_turns : (flags : Flags) (place h : ℕ) (m : Coins) (n : ℕ) (txs : List Tx) → checks_from flags place txs (map spent_in (turns h m n txs)) ≡ flat_map (checks_of flags) (enumerate_from place (turns h m n txs))
 listed_turns flags place h m n [] =
     listed_none flags place (map spent_in (turns h m n []))
     ∙ sym (ap (λ (l : List Turn). flat_map (checks_of flags) (enumerate_from place l)) (turns_none h m n))
 listed_turns flags place h m n (tx ∷ txs) =
     let t = turn tx m n in
     let later = turns h (left_by h t) (full_count t) txs in
-    ap (λ (l : List Turn). listed flags place (tx ∷ txs) (map spent_in l)) (turns_next h m n tx txs)
+    ap (λ (l : List Turn). checks_from flags place (tx ∷ txs) (map spent_in l)) (turns_next h m n tx txs)
     ∙ listed_next flags place tx txs (spent_in t) (map spent_in later)
     ∙ ap (λ (l : List Check). input_checks flags place tx (spent_in t) ++ l) (listed_turns flags (place + 1) h (left_by h t) (full_count t) txs)
     ∙ sym (ap (λ (l : List Turn). flat_map (checks_of flags) (enumerate_from place l)) (turns_next h m n tx txs))
@@ -89,12 +89,12 @@ coinbase_spends : (m : Coins) (tx : Tx) (n : ℕ) → is_coinbase tx ≡ true �
 unfolding spent
 coinbase_spends m tx n h = ap (λ b. coins_at m (cond b [] (prevs tx.inputs))) h
 
-pub listed_is : (s : Setting) (m : Coins) (x : Tx) (rest : List Tx) → is_coinbase x ≡ true → listed (flags_of s.rules) 1 rest (undo_of s.height m (x ∷ rest)) ≡ script_checks s m (x ∷ rest)
+pub listed_is : (s : Setting) (m : Coins) (x : Tx) (rest : List Tx) → is_coinbase x ≡ true → checks_from (flags_of s.rules) 1 rest (undo_of s.height m (x ∷ rest)) ≡ script_checks s m (x ∷ rest)
 listed_is s m x rest first =
     let flags = flags_of s.rules in
     let t = turn x m 0 in
     let later = later_turns s m x rest in
-    ap (listed flags 1 rest) (undo_is s m x rest)
+    ap (checks_from flags 1 rest) (undo_is s m x rest)
     ∙ listed_turns flags 1 s.height (left_by s.height t) (full_count t) rest
     ∙ ap (λ (coins : List Coin). input_checks flags 0 x coins ++ flat_map (checks_of flags) (enumerate_from 1 later)) (sym (coinbase_spends m x 0 first))
     ∙ sym (ap (λ (l : List Turn). flat_map (checks_of flags) (enumerate_from 0 l)) (turns_next s.height m 0 x rest))
@@ -130,9 +130,9 @@ block_few s m txs h =
       sum_by-cons (λ (x : Tx). length x.inputs) h.first (drop 1 txs),
     )
 
-pub block_checks : (s : Setting) (m : Coins) (txs : List Tx) → CoinbaseFirst txs → listed (flags_of s.rules) 1 (drop 1 txs) (undo_of s.height m txs) ≡ script_checks s m txs
+pub block_checks : (s : Setting) (m : Coins) (txs : List Tx) → CoinbaseFirst txs → checks_from (flags_of s.rules) 1 (drop 1 txs) (undo_of s.height m txs) ≡ script_checks s m txs
 block_checks s m txs h =
-    ap (λ (l : List Tx). listed (flags_of s.rules) 1 (drop 1 txs) (undo_of s.height m l)) h.parts
+    ap (λ (l : List Tx). checks_from (flags_of s.rules) 1 (drop 1 txs) (undo_of s.height m l)) h.parts
     ∙ listed_is s m h.first (drop 1 txs) h.is
     ∙ ap (script_checks s m) (sym h.parts)
 

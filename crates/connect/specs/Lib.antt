@@ -3,6 +3,6 @@ pub mod Turns
 pub mod Faults
 pub mod Scripts
 pub mod Connecting
-pub mod Inside
+pub mod inside
 pub mod computed
 pub mod laws

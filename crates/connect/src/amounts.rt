@@ -3,7 +3,7 @@
 ghost use Rattle.std.specs.Prelude.{◌≡◌, ◌≤◌, ◌^◌, ◌≤ℤ◌, neg_ℤ, pos, length};
 ghost use Rattle.txn.specs.Check.{total};
 ghost use Rattle.coins.specs.Total.{sum_of_values};
-ghost use Rattle.connect.specs.Inside.{coins_of};
+ghost use Rattle.connect.specs.inside.Turns.{coins_of};
 
 use coins::Coin;
 use txn::TxOut;

@@ -8,7 +8,7 @@ ghost use Rattle.coins.specs.Entries.{over, IsSound};
 ghost use Rattle.connect.specs.Setting.{Setting};
 ghost use Rattle.connect.specs.Turns.{effect, undo_of};
 ghost use Rattle.connect.specs.Connecting.{IsConnected};
-ghost use Rattle.connect.specs.Inside.{AreApplied, IsBlockApplied};
+ghost use Rattle.connect.specs.inside.Applied.{AreApplied, IsBlockApplied};
 
 use block::Block;
 use coins::{Base, Cache, Writes};
@@ -28,18 +28,20 @@ pub fn apply<B: Base>(
     ids: &[Id],
 ) -> Result<BlockUndo, Memory>
     requires ids { ids.now ≡ ids_of block.now.txs }
-    requires connected { (s : Setting) × (n : Coins) × (taken : List (List Coin)) × (s.height ≡ height) × IsConnected s cache.old.coins block.now n taken }
+    requires connected { (s : Setting) × (n : Coins) × (taken : List (List Coin)) ×
+        (s.height ≡ height) × IsConnected s cache.old.coins block.now n taken }
     ensures undo { IfOk result (λ undo. undo ≡ undo_of height cache.old.coins block.now.txs) }
-    ensures ok { OnOk result (cache.new ≡ record cache.old { coins = effect height cache.old.coins block.now.txs }) }
+    ensures ok { OnOk result (cache.new ≡
+        record cache.old { coins = effect height cache.old.coins block.now.txs }) }
     ensures err { OnErr result (cache.new ≡ cache.old) }
 {
-    let (undo, writes) = done(alloc, &*cache, height, block.txs.as_slice(), ids)?;
+    let (undo, writes) = undo_and_writes(alloc, &*cache, height, block.txs.as_slice(), ids)?;
     cache.absorb(writes)?;
     Ok(undo)
 }
 
 /// What the transactions of a block spend, and what they write on a layer over these coins.
-fn done<B: Base>(
+fn undo_and_writes<B: Base>(
     alloc: Global,
     base: &B,
     height: u32,
@@ -47,52 +49,65 @@ fn done<B: Base>(
     ids: &[Id],
 ) -> Result<(BlockUndo, Writes), Memory>
     requires ids { ids.now ≡ ids_of txs.now }
-    requires applied { (n : Coins) × (taken : List (List Coin)) × IsBlockApplied height (B.coins base.now) txs.now n taken }
+    requires applied { (n : Coins) × (taken : List (List Coin)) ×
+        IsBlockApplied height (B.coins base.now) txs.now n taken }
     ensures sound { IfOk result (λ done. IsSound (B.coins base.now) done.1) }
-    ensures undo { (n : Coins) (taken : List (List Coin)) → IsBlockApplied height (B.coins base.now) txs.now n taken → IfOk result (λ done. done.0 ≡ taken) }
-    ensures over { (n : Coins) (taken : List (List Coin)) → IsBlockApplied height (B.coins base.now) txs.now n taken → IfOk result (λ done. over (B.coins base.now) done.1 ≡ n) }
+    ensures undo { (n : Coins) (taken : List (List Coin)) →
+        IsBlockApplied height (B.coins base.now) txs.now n taken →
+        IfOk result (λ done. done.0 ≡ taken) }
+    ensures over { (n : Coins) (taken : List (List Coin)) →
+        IsBlockApplied height (B.coins base.now) txs.now n taken →
+        IfOk result (λ done. over (B.coins base.now) done.1 ≡ n) }
 {
-    let mut layer = Cache::over(alloc, base);
-    let undo = apply_txs(alloc, &mut layer, height, txs, ids)?;
+    let (layer, undo) = apply_txs(alloc, Cache::over(alloc, base), height, txs, ids)?;
     Ok((undo, layer.into_writes()))
 }
 
 /// Applies the transactions of a block. The coinbase spends nothing.
-fn apply_txs<B: Base>(
+fn apply_txs<'b, B: Base>(
     alloc: Global,
-    layer: &mut Cache<'_, B>,
+    layer: Cache<'b, B>,
     height: u32,
     txs: &[Tx],
     ids: &[Id],
-) -> Result<BlockUndo, Memory>
+) -> Result<(Cache<'b, B>, BlockUndo), Memory>
     requires ids { ids.now ≡ ids_of txs.now }
-    requires applied { (n : Coins) × (taken : List (List Coin)) × IsBlockApplied height layer.old.coins txs.now n taken }
-    ensures undo { (n : Coins) (taken : List (List Coin)) → IsBlockApplied height layer.old.coins txs.now n taken → IfOk result (λ undo. undo ≡ taken) }
-    ensures ok { (n : Coins) (taken : List (List Coin)) → IsBlockApplied height layer.old.coins txs.now n taken → OnOk result (layer.new ≡ record layer.old { coins = n }) }
-    ensures base { layer.new.base ≡ layer.old.base }
+    requires applied { (n : Coins) × (taken : List (List Coin)) ×
+        IsBlockApplied height layer.coins txs.now n taken }
+    ensures layer { (n : Coins) (taken : List (List Coin)) →
+        IsBlockApplied height layer.entry.coins txs.now n taken →
+        IfOk result (λ done. done.0 ≡ record layer.entry { coins = n }) }
+    ensures undo { (n : Coins) (taken : List (List Coin)) →
+        IsBlockApplied height layer.entry.coins txs.now n taken →
+        IfOk result (λ done. done.1 ≡ taken) }
 {
-    apply_in_layer(alloc, layer, &txs[0], ids[0], height)?;
+    let (layer, _) = apply_in_layer(alloc, layer, &txs[0], ids[0], height)?;
     apply_others(alloc, layer, height, &txs[1..], &ids[1..])
 }
 
 /// Applies transactions one after the other, and gives what each spends.
-fn apply_others<B: Base>(
+fn apply_others<'b, B: Base>(
     alloc: Global,
-    layer: &mut Cache<'_, B>,
+    mut layer: Cache<'b, B>,
     height: u32,
     txs: &[Tx],
     ids: &[Id],
-) -> Result<BlockUndo, Memory>
+) -> Result<(Cache<'b, B>, BlockUndo), Memory>
     requires ids { ids.now ≡ ids_of txs.now }
-    requires applied { (n : Coins) × (taken : List (List Coin)) × AreApplied height layer.old.coins txs.now n taken }
-    ensures undo { (n : Coins) (taken : List (List Coin)) → AreApplied height layer.old.coins txs.now n taken → IfOk result (λ undo. undo ≡ taken) }
-    ensures ok { (n : Coins) (taken : List (List Coin)) → AreApplied height layer.old.coins txs.now n taken → OnOk result (layer.new ≡ record layer.old { coins = n }) }
-    ensures base { layer.new.base ≡ layer.old.base }
+    requires applied { (n : Coins) × (taken : List (List Coin)) ×
+        AreApplied height layer.coins txs.now n taken }
+    ensures layer { (n : Coins) (taken : List (List Coin)) →
+        AreApplied height layer.entry.coins txs.now n taken →
+        IfOk result (λ done. done.0 ≡ record layer.entry { coins = n }) }
+    ensures undo { (n : Coins) (taken : List (List Coin)) →
+        AreApplied height layer.entry.coins txs.now n taken →
+        IfOk result (λ done. done.1 ≡ taken) }
 {
     let mut undo = BlockUndo::new(alloc);
     for index in 0..txs.len() {
-        let spent = apply_in_layer(alloc, layer, &txs[index], ids[index], height)?;
+        let (left, spent) = apply_in_layer(alloc, layer, &txs[index], ids[index], height)?;
+        layer = left;
         undo.push(spent)?;
     }
-    Ok(undo)
+    Ok((layer, undo))
 }

@@ -14,7 +14,7 @@ ghost use Rattle.connect.specs.Turns.{spent_in, turns, effect, undo_of};
 ghost use Rattle.connect.specs.Faults.{overwrites, fees, turn_rules, connect_rules};
 ghost use Rattle.connect.specs.Scripts.{IsConnectFault};
 ghost use Rattle.connect.specs.Connecting.{IsConnected};
-ghost use Rattle.connect.specs.Inside.{IsReason, IsLawful};
+ghost use Rattle.connect.specs.inside.Turns.{IsReason, IsLawful};
 
 use crate::amounts::paid;
 use crate::context::{Context, Env};
@@ -48,13 +48,14 @@ pub fn connect<B: Base, C: Crew>(
     // It breaks no rule by itself.
     requires alone { first_broken (alone_rules block.now) ≡ None }
     requires ids { ids.now ≡ ids_of block.now.txs }
-    requires ready { C.is_ready env.now.crew.now }
-    requires workers { (1 ≤ env.now.workers) × (env.now.workers ≤ 16) }
-    requires same_table { All (λ v. v.triples ≡ env.now.table.now) env.now.early.now }
-    ensures fault { IfOk result (λ answer. IsConnectFault (setting context.now) cache.old.coins block.now.txs env.now.table.now (result_err answer)) }
-    ensures coins { IfOk result (λ answer. OnOk answer (cache.new ≡ record cache.old { coins = effect context.now.height cache.old.coins block.now.txs })) }
+    ensures fault { IfOk result (λ answer.
+        IsConnectFault (setting context.now) cache.old.coins block.now.txs env.now.table.now
+        (result_err answer)) }
+    ensures coins { IfOk result (λ answer. OnOk answer (cache.new ≡
+        record cache.old { coins = effect context.now.height cache.old.coins block.now.txs })) }
     // With its undo it can be taken back by `disconnect`.
-    ensures connected { IfOk result (λ answer. IfOk answer (λ undo. IsConnected (setting context.now) cache.old.coins block.now cache.new.coins undo)) }
+    ensures connected { IfOk result (λ answer. IfOk answer (λ undo.
+        IsConnected (setting context.now) cache.old.coins block.now cache.new.coins undo)) }
     // A reason leaves the coins as they were, and so does want of memory.
     ensures kept { IfOk result (λ answer. OnErr answer (cache.new ≡ cache.old)) }
     ensures err { OnErr result (cache.new ≡ cache.old) }
@@ -84,50 +85,59 @@ fn attempt<B: Base>(
 ) -> Result<(BlockUndo, Writes), Stop>
     requires alone { first_broken (alone_rules block.now) ≡ None }
     requires ids { ids.now ≡ ids_of block.now.txs }
-    ensures fault { IfErr result (IsReason (first_broken (connect_rules (setting context.now) (B.coins base.now) block.now.txs))) }
-    ensures none { OnOk result (first_broken (connect_rules (setting context.now) (B.coins base.now) block.now.txs) ≡ None) }
-    ensures undo { IfOk result (λ done. done.0 ≡ undo_of context.now.height (B.coins base.now) block.now.txs) }
+    ensures fault { IfErr result (IsReason (first_broken
+        (connect_rules (setting context.now) (B.coins base.now) block.now.txs))) }
+    ensures none { OnOk result (first_broken
+        (connect_rules (setting context.now) (B.coins base.now) block.now.txs) ≡ None) }
+    ensures undo { IfOk result (λ done. done.0 ≡
+        undo_of context.now.height (B.coins base.now) block.now.txs) }
     ensures sound { IfOk result (λ done. IsSound (B.coins base.now) done.1) }
-    ensures over { IfOk result (λ done. over (B.coins base.now) done.1 ≡ effect context.now.height (B.coins base.now) block.now.txs) }
+    ensures over { IfOk result (λ done. over (B.coins base.now) done.1 ≡
+        effect context.now.height (B.coins base.now) block.now.txs) }
 {
-    let mut layer = Cache::over(alloc, base);
-    let undo = connect_txs(alloc, &mut layer, context, block.txs.as_slice(), ids)?;
+    let layer = Cache::over(alloc, base);
+    let (layer, undo) = connect_txs(alloc, layer, context, block.txs.as_slice(), ids)?;
     Ok((undo, layer.into_writes()))
 }
 
 /// Tests and applies the transactions of a block.
-fn connect_txs<B: Base>(
+fn connect_txs<'b, B: Base>(
     alloc: Global,
-    layer: &mut Cache<'_, B>,
+    layer: Cache<'b, B>,
     context: &Context,
     txs: &[Tx],
     ids: &[Id],
-) -> Result<BlockUndo, Stop>
+) -> Result<(Cache<'b, B>, BlockUndo), Stop>
     requires some { 1 ≤ length txs.now }
     requires few { length txs.now ≤ 1000000 }
     requires lawful { AllByRecursion IsLawful txs.now }
     requires ids { ids.now ≡ ids_of txs.now }
-    ensures fault { IfErr result (IsReason (first_broken (connect_rules (setting context.now) layer.old.coins txs.now))) }
-    ensures none { OnOk result (first_broken (connect_rules (setting context.now) layer.old.coins txs.now) ≡ None) }
-    ensures undo { IfOk result (λ undo. undo ≡ undo_of context.now.height layer.old.coins txs.now) }
-    ensures coins { OnOk result (layer.new ≡ record layer.old { coins = effect context.now.height layer.old.coins txs.now }) }
+    ensures fault { let m = layer.entry.coins in
+        IfErr result (IsReason (first_broken (connect_rules (setting context.now) m txs.now))) }
+    ensures none { let m = layer.entry.coins in
+        OnOk result (first_broken (connect_rules (setting context.now) m txs.now) ≡ None) }
+    ensures layer { let m = layer.entry.coins in
+        IfOk result (λ done.
+        done.0 ≡ record layer.entry { coins = effect context.now.height m txs.now }) }
+    ensures undo { let m = layer.entry.coins in
+        IfOk result (λ done. done.1 ≡ undo_of context.now.height m txs.now) }
 {
-    if is_overwriting(&*layer, txs, ids) {
+    if is_overwriting(&layer, txs, ids) {
         return Err(Stop::Broken(Reason::OverwritesCoin));
     }
-    let (_, coinbase) = connect_tx(alloc, layer, context, &txs[0], ids[0], 0)?;
-    let (undo, fees) = connect_others(
+    let coinbase = connect_tx(alloc, layer, context, &txs[0], ids[0], 0)?;
+    let others = connect_others(
         alloc,
-        layer,
+        coinbase.layer,
         context,
         &txs[1..],
         &ids[1..],
-        coinbase.counted,
+        coinbase.passed.counted,
     )?;
-    if is_overpaid(context.height, fees, txs[0].outputs.as_slice()) {
+    if is_overpaid(context.height, others.fees, txs[0].outputs.as_slice()) {
         return Err(Stop::Broken(Reason::CoinbaseAmount));
     }
-    Ok(undo)
+    Ok((others.layer, others.undo))
 }
 
 /// Whether an output of a transaction is a coin already.
@@ -144,38 +154,53 @@ fn is_overwriting<B: Base>(layer: &Cache<'_, B>, txs: &[Tx], ids: &[Id]) -> bool
     false
 }
 
-/// Tests and applies transactions, after others that counted so many signature operations. It gives the coins
-/// that each spent, and the sum of their fees.
-fn connect_others<B: Base>(
+/// Transactions after their turns: the layer that they were applied to, the coins that each spent, and the sum of
+/// their fees.
+#[derive(Drop)]
+struct Others<'b, B: Base> {
+    layer: Cache<'b, B>,
+    undo: BlockUndo,
+    fees: i128,
+}
+
+/// Tests and applies transactions, after others that counted so many signature operations.
+fn connect_others<'b, B: Base>(
     alloc: Global,
-    layer: &mut Cache<'_, B>,
+    mut layer: Cache<'b, B>,
     context: &Context,
     txs: &[Tx],
     ids: &[Id],
     counted: u128,
-) -> Result<(BlockUndo, i128), Stop>
+) -> Result<Others<'b, B>, Stop>
     requires few { length txs.now ≤ 1000000 }
     requires lawful { AllByRecursion IsLawful txs.now }
     requires ids { ids.now ≡ ids_of txs.now }
     requires counted { counted ≤ max_block_sigops }
-    ensures fault { IfErr result (IsReason (first_broken (flat_map (turn_rules (setting context.now)) (turns context.now.height layer.old.coins counted txs.now)))) }
-    ensures none { OnOk result (first_broken (flat_map (turn_rules (setting context.now)) (turns context.now.height layer.old.coins counted txs.now)) ≡ None) }
-    ensures undo { IfOk result (λ done. done.0 ≡ map spent_in (turns context.now.height layer.old.coins counted txs.now)) }
-    ensures fees { IfOk result (λ done. done.1 ≡ fees (turns context.now.height layer.old.coins counted txs.now)) }
-    ensures low { IfOk result (λ done. neg_ℤ (pos (2 ^ 104)) ≤ℤ done.1) }
-    ensures high { IfOk result (λ done. done.1 ≤ℤ pos (2 ^ 104)) }
-    ensures coins { OnOk result (layer.new ≡ record layer.old { coins = effect context.now.height layer.old.coins txs.now }) }
+    ensures fault { let ts = turns context.now.height layer.entry.coins counted txs.now in
+        IfErr result (IsReason (first_broken (flat_map (turn_rules (setting context.now)) ts))) }
+    ensures none { let ts = turns context.now.height layer.entry.coins counted txs.now in
+        OnOk result (first_broken (flat_map (turn_rules (setting context.now)) ts) ≡ None) }
+    ensures layer { let m = layer.entry.coins in
+        IfOk result (λ done.
+        done.layer ≡ record layer.entry { coins = effect context.now.height m txs.now }) }
+    ensures undo { let ts = turns context.now.height layer.entry.coins counted txs.now in
+        IfOk result (λ done. done.undo ≡ map spent_in ts) }
+    ensures fees { let ts = turns context.now.height layer.entry.coins counted txs.now in
+        IfOk result (λ done. done.fees ≡ fees ts) }
+    ensures low { IfOk result (λ done. neg_ℤ (pos (2 ^ 104)) ≤ℤ done.fees) }
+    ensures high { IfOk result (λ done. done.fees ≤ℤ pos (2 ^ 104)) }
 {
     let mut undo = BlockUndo::new(alloc);
     let mut fees = 0;
     let mut so_far = counted;
     for index in 0..txs.len() {
-        let (spent, passed) = connect_tx(alloc, layer, context, &txs[index], ids[index], so_far)?;
-        undo.push(spent)?;
-        fees += passed.fee;
-        so_far = passed.counted;
+        let turned = connect_tx(alloc, layer, context, &txs[index], ids[index], so_far)?;
+        layer = turned.layer;
+        undo.push(turned.spent)?;
+        fees += turned.passed.fee;
+        so_far = turned.passed.counted;
     }
-    Ok((undo, fees))
+    Ok(Others { layer, undo, fees })
 }
 
 /// Whether a coinbase pays more than subsidy and fees.

@@ -1,7 +1,10 @@
 //! What connecting a block needs beside the block and the coins.
 
+ghost use Rattle.std.specs.Prelude.{◌≡◌, ◌≤◌, All};
+ghost use Rattle.std.proofs.Props.{props};
+
 use curve::Table;
-use queue::Verdict;
+use queue::{Crew, Verdict};
 use rules::Params;
 
 /// Where a block stands: on which branch, and under which rules.
@@ -16,8 +19,11 @@ pub struct Context<'a> {
 }
 
 /// How scripts are run. The gate that is called round each is handed beside it, as a `&dyn`.
+///
+/// One with threads is made in a function that is generic in the crew: the prover makes no proof of one that makes it
+/// for a named type of crew with a type parameter.
 #[derive(Drop)]
-pub struct Env<'a, C> {
+pub struct Env<'a, C: Crew> {
     /// The signatures that are valid.
     pub table: &'a Table,
     /// From 1 to 16.
@@ -26,4 +32,7 @@ pub struct Env<'a, C> {
     pub early: &'a [Verdict<'a>],
     /// Who runs the scripts.
     pub crew: &'a C,
+    pub ghost ready: { C.is_ready crew.now } by { C.ready_once crew.now },
+    pub ghost few: { (1 ≤ workers) × (workers ≤ 16) } by { Prim.hlevel props },
+    pub ghost same_table: { All (λ v. v.triples ≡ table.now) early.now } by { Prim.hlevel props },
 }

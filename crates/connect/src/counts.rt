@@ -2,7 +2,7 @@
 
 ghost use Rattle.std.specs.Prelude.{◌≡◌, ◌≤◌, ◌-◌, ◌^◌, min, length};
 ghost use Rattle.connect.specs.Turns.{inner_sigops};
-ghost use Rattle.connect.specs.Inside.{coins_of};
+ghost use Rattle.connect.specs.inside.Turns.{coins_of};
 
 use coins::Coin;
 use script::p2sh_sigops;

@@ -6,7 +6,7 @@ ghost use Rattle.coins.specs.Coins.{Coins};
 ghost use Rattle.connect.specs.Setting.{Setting};
 ghost use Rattle.coins.specs.Entries.{over, IsSound};
 ghost use Rattle.connect.specs.Connecting.{IsConnected};
-ghost use Rattle.connect.specs.Inside.{AreApplied, IsBlockApplied};
+ghost use Rattle.connect.specs.inside.Applied.{AreApplied, IsBlockApplied};
 
 use block::Block;
 use coins::{Base, Cache, Writes};
@@ -26,16 +26,19 @@ pub fn disconnect<B: Base>(
 ) -> Result<(), Memory>
     requires ids { ids.now ≡ ids_of block.now.txs }
     // Coins and undo are those that connecting it left.
-    requires connected { (s : Setting) × (before : Coins) × IsConnected s before block.now cache.old.coins undo.now }
-    ensures ok { (s : Setting) (before : Coins) → IsConnected s before block.now cache.old.coins undo.now → OnOk result (cache.new ≡ record cache.old { coins = before }) }
+    requires connected { (s : Setting) × (before : Coins) ×
+        IsConnected s before block.now cache.old.coins undo.now }
+    ensures ok { (s : Setting) (before : Coins) →
+        IsConnected s before block.now cache.old.coins undo.now →
+        OnOk result (cache.new ≡ record cache.old { coins = before }) }
     ensures err { OnErr result (cache.new ≡ cache.old) }
 {
-    let writes = undone(alloc, &*cache, block.txs.as_slice(), ids, undo)?;
+    let writes = writes_back(alloc, &*cache, block.txs.as_slice(), ids, undo)?;
     cache.absorb(writes)
 }
 
 /// What taking transactions back writes, on a layer over these coins.
-fn undone<B: Base>(
+fn writes_back<B: Base>(
     alloc: Global,
     base: &B,
     txs: &[Tx],
@@ -43,47 +46,53 @@ fn undone<B: Base>(
     undo: &BlockUndo,
 ) -> Result<Writes, Memory>
     requires ids { ids.now ≡ ids_of txs.now }
-    requires applied { (height : ℕ) × (before : Coins) × IsBlockApplied height before txs.now (B.coins base.now) undo.now }
+    requires applied { (height : ℕ) × (before : Coins) ×
+        IsBlockApplied height before txs.now (B.coins base.now) undo.now }
     ensures sound { IfOk result (λ writes. IsSound (B.coins base.now) writes) }
-    ensures over { (height : ℕ) (before : Coins) → IsBlockApplied height before txs.now (B.coins base.now) undo.now → IfOk result (λ writes. over (B.coins base.now) writes ≡ before) }
+    ensures over { (height : ℕ) (before : Coins) →
+        IsBlockApplied height before txs.now (B.coins base.now) undo.now →
+        IfOk result (λ writes. over (B.coins base.now) writes ≡ before) }
 {
-    let mut layer = Cache::over(alloc, base);
-    revert_txs(alloc, &mut layer, txs, ids, undo)?;
+    let layer = revert_txs(alloc, Cache::over(alloc, base), txs, ids, undo)?;
     Ok(layer.into_writes())
 }
 
 /// Takes back the transactions of a block, the last one first. The coinbase spent nothing.
-fn revert_txs<B: Base>(
+fn revert_txs<'b, B: Base>(
     alloc: Global,
-    layer: &mut Cache<'_, B>,
+    layer: Cache<'b, B>,
     txs: &[Tx],
     ids: &[Id],
     undo: &BlockUndo,
-) -> Result<(), Memory>
+) -> Result<Cache<'b, B>, Memory>
     requires ids { ids.now ≡ ids_of txs.now }
-    requires applied { (height : ℕ) × (before : Coins) × IsBlockApplied height before txs.now layer.old.coins undo.now }
-    ensures ok { (height : ℕ) (before : Coins) → IsBlockApplied height before txs.now layer.old.coins undo.now → OnOk result (layer.new ≡ record layer.old { coins = before }) }
-    ensures base { layer.new.base ≡ layer.old.base }
+    requires applied { (height : ℕ) × (before : Coins) ×
+        IsBlockApplied height before txs.now layer.coins undo.now }
+    ensures { (height : ℕ) (before : Coins) →
+        IsBlockApplied height before txs.now layer.entry.coins undo.now →
+        IfOk result (λ left. left ≡ record layer.entry { coins = before }) }
 {
-    revert_all(layer, &txs[1..], &ids[1..], undo.as_slice())?;
+    let layer = revert_all(layer, &txs[1..], &ids[1..], undo.as_slice())?;
     revert_in_layer(layer, &txs[0], ids[0], &Spent::new(alloc))
 }
 
 /// Takes back transactions, the last one first.
-fn revert_all<B: Base>(
-    layer: &mut Cache<'_, B>,
+fn revert_all<'b, B: Base>(
+    mut layer: Cache<'b, B>,
     txs: &[Tx],
     ids: &[Id],
     undo: &[Spent],
-) -> Result<(), Memory>
+) -> Result<Cache<'b, B>, Memory>
     requires ids { ids.now ≡ ids_of txs.now }
-    requires applied { (height : ℕ) × (before : Coins) × AreApplied height before txs.now layer.old.coins undo.now }
-    ensures ok { (height : ℕ) (before : Coins) → AreApplied height before txs.now layer.old.coins undo.now → OnOk result (layer.new ≡ record layer.old { coins = before }) }
-    ensures base { layer.new.base ≡ layer.old.base }
+    requires applied { (height : ℕ) × (before : Coins) ×
+        AreApplied height before txs.now layer.coins undo.now }
+    ensures { (height : ℕ) (before : Coins) →
+        AreApplied height before txs.now layer.entry.coins undo.now →
+        IfOk result (λ left. left ≡ record layer.entry { coins = before }) }
 {
     for done in 0..txs.len() {
         let index = txs.len() - 1 - done;
-        revert_in_layer(layer, &txs[index], ids[index], &undo[index])?;
+        layer = revert_in_layer(layer, &txs[index], ids[index], &undo[index])?;
     }
-    Ok(())
+    Ok(layer)
 }

@@ -18,10 +18,15 @@ ghost use Rattle.connect.specs.computed.Scripts.{connect_fault};
 
 /// A block has one first fault over some coins, or none, and it can be computed.
 pub fn the_fault_is_computed()
-    ensures { (s : Setting) (coins : Coins) (txs : List Tx) (triples : Triples) (fault : Option Reason) → IsConnectFault s coins txs triples fault ↔ (fault ≡ connect_fault s coins txs triples) }
+    ensures { (s : Setting) (coins : Coins) (txs : List Tx) (triples : Triples)
+        (fault : Option Reason) → IsConnectFault s coins txs triples fault ↔
+        (fault ≡ connect_fault s coins txs triples) }
 {}
 
 /// A block that is connected raises the total of the coins by at most its subsidy.
 pub fn a_block_adds_at_most_its_subsidy()
-    ensures { (s : Setting) (coins : Coins) (block : Block) → first_broken (alone_rules block) ≡ None → first_broken (connect_rules s coins block.txs) ≡ None → total (effect s.height coins block.txs) ≤ℤ (total coins +ℤ pos (subsidy_of s.height)) }
+    ensures { (s : Setting) (coins : Coins) (block : Block) →
+        first_broken (alone_rules block) ≡ None →
+        first_broken (connect_rules s coins block.txs) ≡ None →
+        total (effect s.height coins block.txs) ≤ℤ (total coins +ℤ pos (subsidy_of s.height)) }
 {}

@@ -18,6 +18,3 @@ pub use connecting::connect;
 pub use context::{Context, Env};
 pub use disconnecting::disconnect;
 pub use turn::COINBASE_MATURITY;
-
-#[cfg(test)]
-mod tests;

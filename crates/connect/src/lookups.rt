@@ -6,7 +6,7 @@ ghost use Rattle.txn.specs.Check.{prevs};
 ghost use Rattle.txn.specs.Identity.{id_of};
 ghost use Rattle.undo.specs.Effect.{place, spends, coins_at};
 ghost use Rattle.connect.specs.Faults.{has_coin, overwrites};
-ghost use Rattle.connect.specs.Inside.{coins_of};
+ghost use Rattle.connect.specs.inside.Turns.{coins_of};
 
 use coins::{Base, Cache, Coin};
 use hash::Id;
@@ -21,9 +21,12 @@ pub(crate) fn spent_coins<'l, B: Base>(
     layer: &'l Cache<'_, B>,
     tx: &Tx,
 ) -> Result<Option<Vec<&'l Coin>>, Memory>
-    ensures coins { IfOk result (λ found. IfSome found (λ coins. coins_of coins.items ≡ coins_at layer.now.coins (spends tx.now))) }
-    ensures all { IfOk result (λ found. is_some found ≡ list_all (has_coin layer.now.coins) (spends tx.now)) }
-    ensures each { IfOk result (λ found. IfSome found (λ coins. length coins.items ≡ length (spends tx.now))) }
+    ensures coins { IfOk result (λ found. IfSome found (λ coins. coins_of coins.items ≡
+        coins_at layer.now.coins (spends tx.now))) }
+    ensures all { IfOk result (λ found. is_some found ≡
+        list_all (has_coin layer.now.coins) (spends tx.now)) }
+    ensures each { IfOk result (λ found. IfSome found (λ coins. length coins.items ≡
+        length (spends tx.now))) }
 {
     if tx.is_coinbase() {
         return Ok(Some(Vec::new(alloc)));
@@ -36,9 +39,12 @@ fn coins_of_inputs<'l, B: Base>(
     layer: &'l Cache<'_, B>,
     inputs: &[TxIn],
 ) -> Result<Option<Vec<&'l Coin>>, Memory>
-    ensures coins { IfOk result (λ found. IfSome found (λ coins. coins_of coins.items ≡ coins_at layer.now.coins (prevs inputs.now))) }
-    ensures all { IfOk result (λ found. is_some found ≡ list_all (has_coin layer.now.coins) (prevs inputs.now)) }
-    ensures each { IfOk result (λ found. IfSome found (λ coins. length coins.items ≡ length inputs.now)) }
+    ensures coins { IfOk result (λ found. IfSome found (λ coins. coins_of coins.items ≡
+        coins_at layer.now.coins (prevs inputs.now))) }
+    ensures all { IfOk result (λ found. is_some found ≡
+        list_all (has_coin layer.now.coins) (prevs inputs.now)) }
+    ensures each { IfOk result (λ found. IfSome found (λ coins. length coins.items ≡
+        length inputs.now)) }
 {
     let mut coins = Vec::with_capacity(alloc, inputs.len())?;
     for input in inputs {
@@ -62,7 +68,8 @@ pub(crate) fn overwrites<B: Base>(layer: &Cache<'_, B>, tx: &Tx, id: Id) -> bool
 
 /// Whether one of the first outpoints of an id is a coin.
 fn has_coin_below<B: Base>(layer: &Cache<'_, B>, id: Id, count: u32) -> bool
-    ensures { result ≡ list_any (has_coin layer.now.coins) (map (place id) (range_with_len 0 count)) }
+    ensures { result ≡
+        list_any (has_coin layer.now.coins) (map (place id) (range_with_len 0 count)) }
 {
     for index in 0..count {
         if layer.get(&OutPoint { id, index }).is_some() {

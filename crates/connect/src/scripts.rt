@@ -4,7 +4,7 @@ ghost use Rattle.std.specs.Prelude.{◌≡◌, ◌+◌, ◌<◌, ◌≤◌, ◌^
 ghost use Rattle.std.specs.List.{AllZip};
 ghost use Rattle.queue.specs.Jobs.{HasInput};
 ghost use Rattle.connect.specs.Scripts.{flags_of, input_checks, IsFirstRefused};
-ghost use Rattle.connect.specs.Inside.{listed, checks_in, IsEven};
+ghost use Rattle.connect.specs.inside.Listing.{checks_from, checks_in, IsEven};
 
 use crate::context::Env;
 use coins::Coin;
@@ -34,12 +34,10 @@ pub(crate) fn first_refused<'a, C: Crew>(
     env: &Env<'_, C>,
     gate: &(dyn Gate + Sync),
 ) -> Result<Option<Reason>, Memory>
-    requires ready { C.is_ready env.now.crew.now }
-    requires workers { (1 ≤ env.now.workers) × (env.now.workers ≤ 16) }
-    requires same_table { All (λ v. v.triples ≡ env.now.table.now) env.now.early.now }
     requires alike { AllZip (λ tx coins. length coins ≤ length tx.inputs) txs.now undo.now }
     requires few { sum_by (λ coins. length coins) undo.now ≤ 1000000 }
-    ensures { IfOk result (λ found. IsFirstRefused env.now.table.now (listed (flags_of rules) 1 txs.now undo.now) found) }
+    ensures { IfOk result (λ found.
+        IsFirstRefused env.now.table.now (checks_from (flags_of rules) 1 txs.now undo.now) found) }
 {
     let checks = list(alloc, txs, undo, flags_of(rules))?;
     let found = env.crew.first_failure_with(
@@ -78,10 +76,12 @@ fn list<'a>(
     flags: Flags,
 ) -> Result<Checks<'a>, Memory>
     requires alike { AllZip (λ tx coins. length coins ≤ length tx.inputs) txs.now undo.now }
-    ensures listed { IfOk result (λ checks. checks_in checks ≡ listed flags 1 txs.now undo.now) }
+    ensures checks_from { IfOk result (λ checks.
+        checks_in checks ≡ checks_from flags 1 txs.now undo.now) }
     ensures even { IfOk result (λ checks. IsEven checks) }
     ensures inputs { IfOk result (λ checks. All HasInput checks.jobs.items) }
-    ensures few { IfOk result (λ checks. length checks.jobs.items ≡ sum_by (λ coins. length coins) undo.now) }
+    ensures few { IfOk result (λ checks. length checks.jobs.items ≡
+        sum_by (λ coins. length coins) undo.now) }
 {
     let mut checks = Checks {
         jobs: Vec::new(alloc),
@@ -110,10 +110,12 @@ fn add<'a>(
     requires each { length coins.now ≤ length tx.now.inputs }
     requires even { IsEven checks.old }
     requires inputs { All HasInput checks.old.jobs.items }
-    ensures listed { OnOk result (checks_in checks.new ≡ checks_in checks.old ++ input_checks flags place tx.now coins.now) }
+    ensures checks_from { OnOk result (checks_in checks.new ≡ checks_in checks.old ++
+        input_checks flags place tx.now coins.now) }
     ensures even { OnOk result (IsEven checks.new) }
     ensures inputs { OnOk result (All HasInput checks.new.jobs.items) }
-    ensures few { OnOk result (length checks.new.jobs.items ≡ length checks.old.jobs.items + length coins.now) }
+    ensures few { OnOk result (length checks.new.jobs.items ≡
+        length checks.old.jobs.items + length coins.now) }
 {
     for (input, coin) in coins.iter().enumerate() {
         checks.jobs.push(Job {

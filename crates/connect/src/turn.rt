@@ -1,6 +1,6 @@
 //! A transaction in its turn: tested over the coins that it finds, and applied.
 
-ghost use Rattle.std.specs.Prelude.{◌≡◌, ◌≤◌, ◌^◌, ◌≤ℤ◌, ◌&&◌, neg_ℤ, pos, int_lt, not, map, length, None, IfOk, IfErr, OnOk};
+ghost use Rattle.std.specs.Prelude.{◌≡◌, ℕ, Some, ◌≤◌, ◌^◌, ◌≤ℤ◌, ◌&&◌, neg_ℤ, pos, int_lt, not, map, length, None, IfOk, IfErr, OnOk};
 ghost use Rattle.std.specs.List.{list_any};
 ghost use Rattle.txn.specs.Check.{is_coinbase};
 ghost use Rattle.txn.specs.First.{first_broken};
@@ -8,10 +8,12 @@ ghost use Rattle.txn.specs.Identity.{id_of};
 ghost use Rattle.locks.specs.Relative.{are_met};
 ghost use Rattle.undo.specs.Effect.{spends};
 ghost use Rattle.rules.specs.Alone.{max_block_sigops};
-ghost use Rattle.connect.specs.Setting.{setting, median_below};
-ghost use Rattle.connect.specs.Turns.{turn, left_by, spent_in, full_count};
+ghost use Rattle.coins.specs.Coins.{Coins};
+ghost use Rattle.connect.specs.Setting.{Setting, setting, median_below};
+ghost use Rattle.connect.specs.Turns.{turn, left_by, spent_in, plain_count, full_count};
 ghost use Rattle.connect.specs.Faults.{is_immature, lock_start, fee, turn_rules};
-ghost use Rattle.connect.specs.Inside.{coins_of, IsReason, IsLawful};
+ghost use Rattle.connect.specs.inside.Turns.{HasFound, coins_of, IsReason, IsLawful};
+ghost use Rattle.connect.specs.laws.Broken.{UpToAmount, UpToCount};
 
 use crate::amounts::{paid, worth};
 use crate::context::Context;
@@ -39,31 +41,56 @@ pub(crate) struct Passed {
     pub counted: u128,
 }
 
+/// What a transaction finds, and the signature operations of the block up to and with its own plain ones.
+struct Found<'l> {
+    coins: Vec<&'l Coin>,
+    plain: u128,
+}
+
+/// A transaction after its turn: the layer that it was applied to, with what it spent and gave.
+#[derive(Drop)]
+pub(crate) struct Turned<'b, B: Base> {
+    pub layer: Cache<'b, B>,
+    pub spent: Spent,
+    pub passed: Passed,
+}
+
 /// Tests and applies a transaction, after others that counted so many signature operations.
-pub(crate) fn connect_tx<B: Base>(
+pub(crate) fn connect_tx<'b, B: Base>(
     alloc: Global,
-    layer: &mut Cache<'_, B>,
+    layer: Cache<'b, B>,
     context: &Context,
     tx: &Tx,
     id: Id,
     counted: u128,
-) -> Result<(Spent, Passed), Stop>
+) -> Result<Turned<'b, B>, Stop>
     requires lawful { IsLawful tx.now }
     requires id { id ≡ id_of tx.now }
     requires counted { counted ≤ max_block_sigops }
-    ensures fault { IfErr result (IsReason (first_broken (turn_rules (setting context.now) (turn tx.now layer.old.coins counted)))) }
-    ensures none { OnOk result (first_broken (turn_rules (setting context.now) (turn tx.now layer.old.coins counted)) ≡ None) }
-    ensures spent { IfOk result (λ done. done.0 ≡ spent_in (turn tx.now layer.old.coins counted)) }
-    ensures fee { IfOk result (λ done. done.1.fee ≡ fee (turn tx.now layer.old.coins counted)) }
-    ensures low { IfOk result (λ done. neg_ℤ (pos (2 ^ 84)) ≤ℤ done.1.fee) }
-    ensures high { IfOk result (λ done. done.1.fee ≤ℤ pos (2 ^ 84)) }
-    ensures counted { IfOk result (λ done. done.1.counted ≡ full_count (turn tx.now layer.old.coins counted)) }
-    ensures few { IfOk result (λ done. done.1.counted ≤ max_block_sigops) }
-    ensures coins { OnOk result (layer.new ≡ record layer.old { coins = left_by context.now.height (turn tx.now layer.old.coins counted) }) }
+    ensures fault { let t = turn tx.now layer.entry.coins counted in
+        IfErr result (IsReason (first_broken (turn_rules (setting context.now) t))) }
+    ensures none { let t = turn tx.now layer.entry.coins counted in
+        OnOk result (first_broken (turn_rules (setting context.now) t) ≡ None) }
+    ensures layer { let t = turn tx.now layer.entry.coins counted in
+        IfOk result (λ done.
+        done.layer ≡ record layer.entry { coins = left_by context.now.height t }) }
+    ensures spent { let t = turn tx.now layer.entry.coins counted in
+        IfOk result (λ done. done.spent ≡ spent_in t) }
+    ensures fee { let t = turn tx.now layer.entry.coins counted in
+        IfOk result (λ done. done.passed.fee ≡ fee t) }
+    ensures low { IfOk result (λ done. neg_ℤ (pos (2 ^ 84)) ≤ℤ done.passed.fee) }
+    ensures high { IfOk result (λ done. done.passed.fee ≤ℤ pos (2 ^ 84)) }
+    ensures counted { let t = turn tx.now layer.entry.coins counted in
+        IfOk result (λ done. done.passed.counted ≡ full_count t) }
+    ensures few { IfOk result (λ done. done.passed.counted ≤ max_block_sigops) }
 {
-    let passed = test_tx(alloc, &*layer, context, tx, id, counted)?;
-    let spent = apply_in_layer(alloc, layer, tx, id, context.height)?;
-    Ok((spent, passed))
+    let passed = test_tx(alloc, &layer, context, tx, id, counted)?;
+    let (layer, spent) = apply_in_layer(alloc, layer, tx, id, context.height)?;
+    Ok(Turned {
+        layer,
+        spent,
+        passed,
+    })
 }
 
 /// The first rule that a transaction breaks over the coins that it finds, or what it gives.
@@ -78,30 +105,110 @@ fn test_tx<B: Base>(
     requires lawful { IsLawful tx.now }
     requires id { id ≡ id_of tx.now }
     requires counted { counted ≤ max_block_sigops }
-    ensures fault { IfErr result (IsReason (first_broken (turn_rules (setting context.now) (turn tx.now layer.now.coins counted)))) }
-    ensures none { OnOk result (first_broken (turn_rules (setting context.now) (turn tx.now layer.now.coins counted)) ≡ None) }
+    ensures fault { IfErr result (IsReason (first_broken
+        (turn_rules (setting context.now) (turn tx.now layer.now.coins counted)))) }
+    ensures none { OnOk result (first_broken
+        (turn_rules (setting context.now) (turn tx.now layer.now.coins counted)) ≡ None) }
     ensures fee { IfOk result (λ passed. passed.fee ≡ fee (turn tx.now layer.now.coins counted)) }
     ensures low { IfOk result (λ passed. neg_ℤ (pos (2 ^ 84)) ≤ℤ passed.fee) }
     ensures high { IfOk result (λ passed. passed.fee ≤ℤ pos (2 ^ 84)) }
-    ensures counted { IfOk result (λ passed. passed.counted ≡ full_count (turn tx.now layer.now.coins counted)) }
+    ensures counted { IfOk result (λ passed. passed.counted ≡
+        full_count (turn tx.now layer.now.coins counted)) }
     ensures few { IfOk result (λ passed. passed.counted ≤ max_block_sigops) }
+{
+    let Found { coins, plain } = find_coins(alloc, layer, tx, counted)?;
+    let coins = coins.as_slice();
+    let fee = match test_amount(coins, context, tx) {
+        Ok(fee) => fee,
+        Err(reason) => return Err(Stop::Broken(reason)),
+    };
+    let counted = test_locks(alloc, coins, context, tx, plain)?;
+    if overwrites(layer, tx, id) {
+        return Err(Stop::Broken(Reason::OverwritesCoin));
+    }
+    Ok(Passed { fee, counted })
+}
+
+/// The coins that a transaction spends, where they are there and its own signature operations aren't too many.
+fn find_coins<'l, B: Base>(
+    alloc: Global,
+    layer: &'l Cache<'_, B>,
+    tx: &Tx,
+    counted: u128,
+) -> Result<Found<'l>, Stop>
+    requires { counted ≤ max_block_sigops }
+    ensures fault { (s : Setting)
+        → IfErr result (IsReason (first_broken (turn_rules s (turn tx.now layer.now.coins counted)))) }
+    ensures found { (s : Setting) → IfOk result (λ found.
+        HasFound s tx.now layer.now.coins counted (coins_of found.coins.items)) }
+    ensures plain { IfOk result (λ found.
+        found.plain ≡ plain_count (turn tx.now layer.now.coins counted)) }
+    ensures few { IfOk result (λ found. found.plain ≤ max_block_sigops) }
+    ensures each { IfOk result (λ found. length found.coins.items ≡ length (spends tx.now)) }
 {
     let plain = counted.saturating_add(tx_sigops(tx));
     if plain > u128::from(MAX_BLOCK_SIGOPS) {
         return Err(Stop::Broken(Reason::TooManySigops));
     }
-    let Some(found) = spent_coins(alloc, layer, tx)? else {
+    let Some(coins) = spent_coins(alloc, layer, tx)? else {
         return Err(Stop::Broken(Reason::InputsMissingOrSpent));
     };
-    let coins = found.as_slice();
+    Ok(Found { coins, plain })
+}
+
+/// The age and the worth of these coins: what the transaction spends without what it pays, in satoshis.
+fn test_amount(coins: &[&Coin], context: &Context, tx: &Tx) -> Result<i128, Reason>
+    requires few { length coins.now ≤ 1000000 }
+    requires outputs { length tx.now.outputs ≤ 1000000 }
+    ensures fault { (m : Coins) (n : ℕ)
+        → HasFound (setting context.now) tx.now m n (coins_of coins.now)
+        → IfErr result (λ reason.
+        first_broken (turn_rules (setting context.now) (turn tx.now m n)) ≡ Some reason) }
+    ensures enough { (m : Coins) (n : ℕ)
+        → HasFound (setting context.now) tx.now m n (coins_of coins.now)
+        → OnOk result (UpToAmount (setting context.now) (turn tx.now m n)) }
+    ensures fee { (m : Coins) (n : ℕ)
+        → HasFound (setting context.now) tx.now m n (coins_of coins.now)
+        → IfOk result (λ given. given ≡ fee (turn tx.now m n)) }
+    ensures low { IfOk result (λ given. neg_ℤ (pos (2 ^ 84)) ≤ℤ given) }
+    ensures high { IfOk result (λ given. given ≤ℤ pos (2 ^ 84)) }
+{
     if has_immature(coins, context.height) {
-        return Err(Stop::Broken(Reason::PrematureCoinbaseSpend));
+        return Err(Reason::PrematureCoinbaseSpend);
     }
     let worth = worth(coins);
     let paid = paid(tx.outputs.as_slice());
     if pays_too_much(tx, worth, paid) {
-        return Err(Stop::Broken(Reason::InputsBelowOutputs));
+        return Err(Reason::InputsBelowOutputs);
     }
+    Ok(worth - paid)
+}
+
+/// The relative locks, and the signature operations with those of scripts that are paid to by their hash.
+fn test_locks(
+    alloc: Global,
+    coins: &[&Coin],
+    context: &Context,
+    tx: &Tx,
+    plain: u128,
+) -> Result<u128, Stop>
+    requires each { length coins.now ≡ length (spends tx.now) }
+    requires inputs { length coins.now ≤ length tx.now.inputs }
+    requires few { plain ≤ max_block_sigops }
+    ensures fault { (m : Coins) (n : ℕ)
+        → HasFound (setting context.now) tx.now m n (coins_of coins.now)
+        → UpToAmount (setting context.now) (turn tx.now m n) → plain ≡ plain_count (turn tx.now m n)
+        → IfErr result (IsReason (first_broken (turn_rules (setting context.now) (turn tx.now m n)))) }
+    ensures count { (m : Coins) (n : ℕ)
+        → HasFound (setting context.now) tx.now m n (coins_of coins.now)
+        → UpToAmount (setting context.now) (turn tx.now m n) → plain ≡ plain_count (turn tx.now m n)
+        → OnOk result (UpToCount (setting context.now) (turn tx.now m n)) }
+    ensures counted { (m : Coins) (n : ℕ)
+        → HasFound (setting context.now) tx.now m n (coins_of coins.now)
+        → plain ≡ plain_count (turn tx.now m n)
+        → IfOk result (λ all. all ≡ full_count (turn tx.now m n)) }
+    ensures bounded { IfOk result (λ all. all ≤ max_block_sigops) }
+{
     if is_locked(alloc, tx, coins, context)? {
         return Err(Stop::Broken(Reason::NonFinal));
     }
@@ -109,13 +216,7 @@ fn test_tx<B: Base>(
     if counted > u128::from(MAX_BLOCK_SIGOPS) {
         return Err(Stop::Broken(Reason::TooManySigops));
     }
-    if overwrites(layer, tx, id) {
-        return Err(Stop::Broken(Reason::OverwritesCoin));
-    }
-    Ok(Passed {
-        fee: worth - paid,
-        counted,
-    })
+    Ok(counted)
 }
 
 /// Whether a coinbase's coin is spent too early.
@@ -141,7 +242,10 @@ fn pays_too_much(tx: &Tx, worth: i128, paid: i128) -> bool
 /// Whether a relative lock of a transaction isn't met, where such locks are in force. A coinbase has none.
 fn is_locked(alloc: Global, tx: &Tx, coins: &[&Coin], context: &Context) -> Result<bool, Memory>
     requires { length coins.now ≡ length (spends tx.now) }
-    ensures { IfOk result (λ yes. yes ≡ ((setting context.now).rules.csv && not (are_met tx.now (map (lock_start context.now.medians.now) (coins_of coins.now)) context.now.height context.now.cutoff))) }
+    ensures { IfOk result (λ yes. yes ≡
+        ((setting context.now).rules.csv &&
+        not (are_met tx.now (map (lock_start context.now.medians.now) (coins_of coins.now))
+        context.now.height context.now.cutoff))) }
 {
     if tx.is_coinbase() || !context.params.at(context.height).csv {
         return Ok(false);
@@ -152,7 +256,8 @@ fn is_locked(alloc: Global, tx: &Tx, coins: &[&Coin], context: &Context) -> Resu
 
 /// From where the relative locks count of the inputs that spend these coins.
 fn lock_starts(alloc: Global, coins: &[&Coin], medians: &[u32]) -> Result<Vec<LockStart>, Memory>
-    ensures { IfOk result (λ starts. starts.items ≡ map (lock_start medians.now) (coins_of coins.now)) }
+    ensures { IfOk result (λ starts. starts.items ≡
+        map (lock_start medians.now) (coins_of coins.now)) }
 {
     let mut starts = Vec::with_capacity(alloc, coins.len())?;
     for coin in coins {

@@ -11,7 +11,7 @@ use Rattle.std.specs.List.{insert, list_all}
 use Rattle.std.specs.List.Sorted.{IsSorted, IsStrictlySortedBy, IsPermutation, IsSearchInRange, IsBinarySearchResult}
 use Rattle.std.specs.FinSet as set
 use Rattle.curve.specs.Triple.{Triple, Triples, triple_cmp}
-use Rattle.curve.specs.Order.{triple_cmp-total}
+use Rattle.curve.specs.laws.Order.{triple_cmp-total}
 use Rattle.curve.proofs.Once.{sorted_from_strict, strict_insert}
 use Rattle.std.specs.FinSet.{FinSet, IsAntisymmetric}
 use Rattle.std.proofs.lemmas.Bool.{cases_lt, and_parts, and_from}

@@ -10,8 +10,9 @@ use Rattle.std.proofs.lemmas.List.{get_or_append_left, get_or_push, length_push,
 use Rattle.std.proofs.lemmas.List.Quantifiers.{Any-push}
 use Rattle.hex.proofs.HexLemmas.{decode_of-same}
 use Rattle.curve.specs.Triple.{Triple, Triples, triple_of, triple_cmp}
-use Rattle.curve.specs.Order.{triple_cmp-total, triple_cmp-exact}
-use Rattle.curve.specs.Lines.{words, is_skipped, is_digit, IsHex, StandsFor, Spells, IsReadable, IsRefusal, IsTableOf, IsFaultOf}
+use Rattle.curve.specs.laws.Order.{triple_cmp-total, triple_cmp-exact}
+use Rattle.curve.specs.Lines.{words, is_skipped, is_digit, IsHex, StandsFor, Spells, IsReadable, IsTableOf, IsFaultOf}
+use Rattle.curve.specs.inside.Lines.{IsRefusal}
 use Rattle.curve.specs.declared.fault.TableFault.{TableFault}
 use Rattle.curve.specs.declared.fault.TableFault.TheVariants.{BadLine, Memory}
 

@@ -45,11 +45,6 @@ Spells _ t = ⊥
 abbrev pub IsReadable : List ℕ → Type 0
 IsReadable line = IsTrue (is_skipped (words line)) ⊎ ((t : Triple) × Spells (words line) t)
 
--- a line of a number is refused, as it can't be read; of want of memory nothing is said
-abbrev pub IsRefusal : List ℕ → ℕ → TableFault → Type 0
-IsRefusal line number (BadLine n) = (n ≡ number) × ¬ IsReadable line
-IsRefusal line number Memory = Unit {0}
-
 -- a table of lines: each can be read, and the triples are those that they spell
 pub record IsTableOf (ls : List (List ℕ)) (table : Triples) : Type 0 where
   pub readable : All IsReadable ls

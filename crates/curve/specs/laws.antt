@@ -1,3 +1,4 @@
 -- What holds of the definitions.
 pub mod Shape
 pub mod Members
+pub mod Order

@@ -11,6 +11,3 @@ mod triple;
 pub use fault::TableFault;
 pub use shape::der_shape;
 pub use table::Table;
-
-#[cfg(test)]
-mod tests;

@@ -3,7 +3,8 @@
 ghost use Rattle.std.specs.Prelude.{◌≡◌, ◌==◌, not, ◌<◌, ◌∷◌, [], ◌↔◌, ℕ, List, length, IsTrue, IfOk, IfErr, MatchOption};
 ghost use Rattle.std.specs.List.{AllPass, position};
 ghost use Rattle.curve.specs.Triple.{Triple};
-ghost use Rattle.curve.specs.Lines.{words, is_digit, is_skipped, IsDigest, StandsFor, Spells, IsRefusal};
+ghost use Rattle.curve.specs.Lines.{words, is_digit, is_skipped, IsDigest, StandsFor, Spells};
+ghost use Rattle.curve.specs.inside.Lines.{IsRefusal};
 
 use crate::fault::TableFault;
 use crate::triple::KeptTriple;
@@ -104,7 +105,8 @@ fn read_bytes(alloc: Global, word: &[u8]) -> Result<Option<Vec<u8>>, AllocError>
 
 /// The digest that a word of 64 digits stands for.
 fn read_digest(word: &[u8]) -> Option<[u8; 32]>
-    ensures { MatchOption result ((digest : List ℕ) → ¬ IsDigest word.now digest) (IsDigest word.now) }
+    ensures { MatchOption result ((digest : List ℕ) → ¬ IsDigest word.now digest)
+        (IsDigest word.now) }
 {
     if !is_lower_hex(word) {
         return None;

@@ -99,7 +99,8 @@ impl Table {
 
     /// Whether another table has each triple of this one.
     fn is_within(&self, other: &Table) -> bool
-        ensures { Decides result ((t : Triple) → set.contains self.now t ≡ true → set.contains other.now t ≡ true) }
+        ensures { Decides result ((t : Triple) → set.contains self.now t ≡ true
+            → set.contains other.now t ≡ true) }
     {
         other.has_each(self.triples.as_slice())
     }

@@ -8,6 +8,3 @@ mod key_hash;
 pub use double::{double_sha, finish};
 pub use id::Id;
 pub use key_hash::hash160;
-
-#[cfg(test)]
-mod tests;

@@ -1,7 +1,6 @@
 -- What elements stand for: truths (Bitcoin Core's `CastToBool`), and numbers.
-use Rattle.std.specs.Prelude.{ℕ, ◌==◌, [], ◌∷◌, Bool, true, false, not, ◌||◌, ◌&&◌, Option, Some, None, option_and_then, pos, negsuc, ℤ}
-use Rattle.script.specs.Num.{operand}
-use Rattle.interp.specs.Stack.{Bytes, Stack}
+use Rattle.std.specs.Prelude.{◌==◌, [], ◌∷◌, Bool, true, false, not, ◌||◌, ◌&&◌, pos, ℤ}
+use Rattle.interp.specs.Stack.{Bytes}
 
 -- some byte isn't 0, but for a last one of 80
 unfoldable pub truth : Bytes → Bool
@@ -18,17 +17,3 @@ truth_bytes false = []
 abbrev pub flag : Bool → ℤ
 flag true = pos 1
 flag false = pos 0
-
--- the top is there, and true
-abbrev pub top_is_true : Stack → Bool
-top_is_true [] = false
-top_is_true (a ∷ rest) = truth a
-
--- a number that isn't negative
-abbrev pub natural : ℤ → Option ℕ
-natural (pos n) = Some n
-natural (negsuc n) = None
-
--- the same of an element of at most so many bytes
-abbrev pub natural_of : ℕ → Bytes → Option ℕ
-natural_of most a = option_and_then natural (operand most a)

@@ -7,5 +7,6 @@ pub mod Signatures
 pub mod Timelocks
 pub mod Row
 pub mod Rules
+pub mod inside
 pub mod computed
 pub mod laws

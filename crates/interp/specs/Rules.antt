@@ -8,11 +8,11 @@ use Rattle.txn.specs.declared.tx.Tx.{Tx}
 use Rattle.txn.specs.declared.input.TxIn.{TxIn}
 use Rattle.curve.specs.Triple.{Triples}
 use Rattle.interp.specs.Limits.{max_ops, max_keys, max_elements, max_number_size, max_lock_size}
-use Rattle.interp.specs.Stack.{Stack, Bytes, Rearranges, pushed, nth}
+use Rattle.interp.specs.Stack.{Stack, Bytes, Rearranges, stack_with, nth}
 use Rattle.interp.specs.Elements.{truth, truth_bytes}
 use Rattle.interp.specs.Spending.{Spending, spending_of}
 use Rattle.interp.specs.declared.flags.Flags.{Flags}
-use Rattle.interp.specs.State.{State, executing, start}
+use Rattle.interp.specs.State.{State, is_executing, start}
 use Rattle.interp.specs.Signatures.{signed_code, is_valid, MayBeTried, Tries}
 use Rattle.interp.specs.Row.{Effect, Puts, Moves, One, Two, OneNumber, TwoNumbers, ThreeNumbers, Depth, Picks, Rolls, Check, Of, Sig, Multisig, Row, Disabled, Fails, Nothing, Changes, Tests, AndVerifies, Opens, Turns, Closes, ToAlt, FromAlt, Separates, Asks, row_of}
 
@@ -23,11 +23,11 @@ IsNumber most a z = (length a ≤ most) × (z ≡ num_value a)
 
 abbrev pub MapsOne : (Bytes → Option (List Bytes)) → Stack → Stack → Type 0
 MapsOne f old new =
-    (a : Bytes) × (rest : Stack) × (left : List Bytes) × (old ≡ a ∷ rest) × (f a ≡ Some left) × (new ≡ pushed left rest)
+    (a : Bytes) × (rest : Stack) × (left : List Bytes) × (old ≡ a ∷ rest) × (f a ≡ Some left) × (new ≡ stack_with left rest)
 
 abbrev pub MapsTwo : (Bytes → Bytes → Option (List Bytes)) → Stack → Stack → Type 0
 MapsTwo f old new =
-    (a b : Bytes) × (rest : Stack) × (left : List Bytes) × (old ≡ b ∷ a ∷ rest) × (f a b ≡ Some left) × (new ≡ pushed left rest)
+    (a b : Bytes) × (rest : Stack) × (left : List Bytes) × (old ≡ b ∷ a ∷ rest) × (f a b ≡ Some left) × (new ≡ stack_with left rest)
 
 abbrev pub MapsNumber : (ℤ → ℤ) → Stack → Stack → Type 0
 MapsNumber f old new =
@@ -148,7 +148,7 @@ Skipped Separates s t = t ≡ s
 Skipped (Asks in_force test) s t = t ≡ s
 
 abbrev pub Acts : Spending → List ℕ → Row → State → State → Type 0
-Acts p after row s t = ((executing s ≡ true) × Executed p after row s t) ⊎ ((executing s ≡ false) × Skipped row s t)
+Acts p after row s t = ((is_executing s ≡ true) × Executed p after row s t) ⊎ ((is_executing s ≡ false) × Skipped row s t)
 
 -- an opcode above 60 is counted, and there are at most 201
 abbrev pub Counts : ℕ → State → State → Type 0

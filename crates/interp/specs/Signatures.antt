@@ -1,11 +1,10 @@
 -- Signatures of an input (Bitcoin Core's `CheckSignatureEncoding`, `CheckSig` and `EvalScript`).
-use Rattle.std.specs.Prelude.{◌≡◌, ◌⊎◌, ℕ, ◌-◌, ◌%◌, ◌^◌, ◌<◌, ◌≤◌, ◌==◌, List, [], ◌∷◌, ◌++◌, length, map, take, slice_index, Bool, true, false, not, ◌&&◌, ◌||◌, nat_lt, Option, Some, None, option_and_then, if◌then◌else◌}
+use Rattle.std.specs.Prelude.{◌≡◌, ◌⊎◌, ℕ, ◌-◌, ◌%◌, ◌^◌, ◌<◌, ◌≤◌, ◌==◌, List, [], ◌∷◌, ◌++◌, length, map, take, slice_index, Bool, true, false, not, ◌&&◌, nat_lt, if◌then◌else◌}
 use Rattle.std.specs.Int.{w16, w32, to_le_bytes}
 use Rattle.std.specs.FinSet as set
 use Rattle.script.specs.Removal.{without}
 use Rattle.sighash.specs.Digest.{digest_of}
 use Rattle.curve.specs.Shape.{IsStrict}
-use Rattle.curve.specs.computed.Shape.{is_strict}
 use Rattle.curve.specs.Triple.{triple_of}
 use Rattle.interp.specs.Stack.{Bytes}
 use Rattle.interp.specs.Spending.{Spending}
@@ -31,14 +30,14 @@ signed_code code signatures = without (pieces_of signatures) code
 abbrev pub type_of : Bytes → ℕ
 type_of signature = slice_index signature (length signature - 1)
 
-abbrev pub proper : Bytes → Bytes
-proper signature = take (length signature - 1) signature
+abbrev pub signature_proper : Bytes → Bytes
+signature_proper signature = take (length signature - 1) signature
 
 -- it isn't empty, and the table has it for this key over the digest of its type
 unfoldable pub is_valid : Spending → List ℕ → Bytes → Bytes → Bool
 is_valid p code signature key =
     not (length signature == 0)
-    && set.contains p.triples (triple_of key (proper signature) (digest_of p.tx p.input code (type_of signature)))
+    && set.contains p.triples (triple_of key (signature_proper signature) (digest_of p.tx p.input code (type_of signature)))
 
 -- a signature may be tried where it is strictly encoded or empty (BIP 66), or that rule is out of force
 abbrev pub MayBeTried : Flags → Bytes → Type 0
@@ -54,18 +53,3 @@ Tries p code (signature ∷ signatures) (key ∷ keys) answer =
     ⊎ ((length signatures ≤ length keys) × MayBeTried p.flags signature
     × (((is_valid p code signature key ≡ true) × Tries p code signatures keys answer)
     ⊎ ((is_valid p code signature key ≡ false) × Tries p code (signature ∷ signatures) keys answer)))
-
--- ---- the same as tests
-unfoldable pub may_be_tried : Flags → Bytes → Bool
-may_be_tried flags signature = not flags.dersig || is_strict signature
-
--- whether a pair is valid, where the signature may be tried
-unfoldable pub judged : Spending → List ℕ → Bytes → Bytes → Option Bool
-judged p code signature key = if may_be_tried p.flags signature then Some (is_valid p code signature key) else None
-
-unfoldable pub tried : Spending → List ℕ → List Bytes → List Bytes → Option Bool
-tried p code [] keys = Some true
-tried p code (signature ∷ signatures) [] = Some false
-tried p code (signature ∷ signatures) (key ∷ keys) =
-    if nat_lt (length keys) (length signatures) then Some false
-    else option_and_then (λ valid. if valid then tried p code signatures keys else tried p code (signature ∷ signatures) keys) (judged p code signature key)

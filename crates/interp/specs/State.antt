@@ -14,8 +14,8 @@ pub record State : Type 0 where
   pub code : List ℕ
 
 -- every open branch is taken
-abbrev pub executing : State → Bool
-executing s = list_all (λ taken. taken) s.conditions
+abbrev pub is_executing : State → Bool
+is_executing s = list_all (λ taken. taken) s.conditions
 
 abbrev pub start : List ℕ → Stack → State
 start script main = record { main = main; alt = []; conditions = []; count = 0; code = script }

@@ -5,3 +5,7 @@ pub mod Meaning
 pub mod Step
 pub mod Verifying
 pub mod Examples
+pub mod Signatures
+pub mod Stack
+pub mod Timelocks
+pub mod Elements

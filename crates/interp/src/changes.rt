@@ -1,7 +1,7 @@
 //! Opcodes that change the main stack alone.
 
 ghost use Rattle.std.specs.Prelude.{◌≡◌, ◌∷◌, Some, IfOk};
-ghost use Rattle.interp.specs.Stack.{Gives};
+ghost use Rattle.interp.specs.computed.Stack.{Gives};
 ghost use Rattle.interp.specs.Row.{verify, if_dup, size, equal_bytes};
 ghost use Rattle.interp.specs.computed.Step.{effect};
 ghost use Rattle.interp.specs.computed.Meaning.{change_of};

@@ -1,12 +1,13 @@
 //! One script, opcode by opcode.
 
 ghost use Rattle.std.specs.Prelude.{◌≡◌, ◌<◌, ◌≤◌, ◌+◌, ℕ, List, [], length, IfOk, IfSome};
-ghost use Rattle.interp.specs.Stack.{Gives};
-ghost use Rattle.interp.specs.Spending.{Spending, spending_of};
-ghost use Rattle.interp.specs.State.{start, executing};
+ghost use Rattle.interp.specs.computed.Stack.{Gives};
+ghost use Rattle.interp.specs.Spending.{Spending};
+ghost use Rattle.interp.specs.inside.Spending.{spending_for};
+ghost use Rattle.interp.specs.State.{start, is_executing};
 ghost use Rattle.interp.specs.Timelocks.{locks_until, locks_for};
 ghost use Rattle.interp.specs.computed.Meaning.{meaning, check_of};
-ghost use Rattle.interp.specs.computed.Step.{executed, skipped, verified, with_main, opened, turned, closed, to_alt, from_alt, counts_of, sig_checked, multisig_checked, asked, tested, acted, counted, bounded, step_at, step, finished};
+ghost use Rattle.interp.specs.computed.Step.{after_executing, after_skipping, after_verify, with_main, after_open, after_turn, after_close, to_alt, from_alt, counts_of, after_sig, after_checking_multisig, after_asking, after_test, after_acting, with_count, within_bounds, step_at, step, stack_left};
 ghost use Rattle.interp.specs.Row.{push_row, row_of, AndVerifies};
 
 use crate::changes::{apply, compare, push, verify};
@@ -56,7 +57,13 @@ impl<'a> Model for Execution<'a> {
 
     ghost Value = { State };
 
-    ghost view = { λ m. record { main = m.main; alt = m.alt; conditions = m.conditions; count = m.count; code = m.code.now } };
+    ghost view = { λ m. record {
+      main = m.main;
+      alt = m.alt;
+      conditions = m.conditions;
+      count = m.count;
+      code = m.code.now;
+    } };
 }
 
 // A signature opcode: how many elements are taken, and the answer that is pushed in their place, without which the
@@ -88,20 +95,20 @@ impl<'a> Execution<'a> {
 
     /// Whether each open branch is taken.
     fn is_executing(&self) -> bool
-        ensures { result ≡ executing self.now }
+        ensures { result ≡ is_executing self.now }
     {
         self.conditions.all_taken()
     }
 
     /// Takes the top, and tells whether it is true.
     fn verify(&mut self) -> bool
-        ensures { Gives result (with_main self.old (verified self.old.main)) self.new }
+        ensures { Gives result (with_main self.old (after_verify self.old.main)) self.new }
     {
         verify(&mut self.main)
     }
 
     fn open(&mut self, at: bool) -> Result<bool, Memory>
-        ensures { IfOk result (λ done. Gives done (opened at self.old self.old.main) self.new) }
+        ensures { IfOk result (λ done. Gives done (after_open at self.old self.old.main) self.new) }
     {
         if self.main.len() == 0 {
             return Ok(false);
@@ -112,7 +119,8 @@ impl<'a> Execution<'a> {
     }
 
     fn turn(&mut self) -> Result<bool, Memory>
-        ensures { IfOk result (λ done. Gives done (turned self.old self.old.conditions) self.new) }
+        ensures { IfOk result (λ done. Gives done
+            (after_turn self.old self.old.conditions) self.new) }
     {
         if self.conditions.len() == 0 {
             return Ok(false);
@@ -123,7 +131,7 @@ impl<'a> Execution<'a> {
     }
 
     fn close(&mut self) -> bool
-        ensures { Gives result (closed self.old self.old.conditions) self.new }
+        ensures { Gives result (after_close self.old self.old.conditions) self.new }
     {
         if self.conditions.len() == 0 {
             return false;
@@ -177,10 +185,12 @@ impl<'a> Execution<'a> {
     }
 
     /// CHECKSIG: takes a signature and a key above it, and pushes whether they are a valid pair.
-    #[tactic(auto, unfolding(crate::specs::computed::Step::sig_checked))]
+    #[tactic(auto, unfolding(crate::specs::computed::Step::after_sig))]
     fn check_sig(&mut self, alloc: Global, job: &Job, table: &Table) -> Result<bool, Memory>
         requires { job.now.input < length job.now.tx.now.inputs }
-        ensures { IfOk result (λ done. Gives done (with_main self.old (sig_checked (spending_of job.now.tx.now job.now.input job.now.flags table.now) self.old.code self.old.main)) self.new) }
+        ensures { IfOk result (λ done.
+            let p = spending_for job.now table.now in
+            Gives done (with_main self.old (after_sig p self.old.code self.old.main)) self.new) }
     {
         if self.main.len() < 2 {
             return Ok(false);
@@ -191,10 +201,11 @@ impl<'a> Execution<'a> {
     }
 
     /// CHECKMULTISIG: takes its keys, its signatures and one element more, and pushes its answer.
-    #[tactic(auto, unfolding(crate::specs::computed::Step::multisig_checked))]
+    #[tactic(auto, unfolding(crate::specs::computed::Step::after_checking_multisig))]
     fn check_multisig(&mut self, alloc: Global, job: &Job, table: &Table) -> Result<bool, Memory>
         requires { job.now.input < length job.now.tx.now.inputs }
-        ensures { IfOk result (λ done. Gives done (multisig_checked (spending_of job.now.tx.now job.now.input job.now.flags table.now) self.old) self.new) }
+        ensures { IfOk result (λ done. Gives done
+            (after_checking_multisig (spending_for job.now table.now) self.old) self.new) }
     {
         let Some(counts) = self.counts() else {
             return Ok(false);
@@ -206,7 +217,8 @@ impl<'a> Execution<'a> {
     /// What leaves a truth or a number.
     fn test(&mut self, alloc: Global, job: &Job, table: &Table, by: Test) -> Result<bool, Memory>
         requires { job.now.input < length job.now.tx.now.inputs }
-        ensures { IfOk result (λ done. Gives done (tested (spending_of job.now.tx.now job.now.input job.now.flags table.now) (check_of by) self.old) self.new) }
+        ensures { IfOk result (λ done. Gives done
+            (after_test (spending_for job.now table.now) (check_of by) self.old) self.new) }
     {
         match by {
             Test::Equal => compare(alloc, &mut self.main),
@@ -224,7 +236,9 @@ impl<'a> Execution<'a> {
         by: Test,
     ) -> Result<bool, Memory>
         requires { job.now.input < length job.now.tx.now.inputs }
-        ensures { IfOk result (λ done. Gives done (executed (spending_of job.now.tx.now job.now.input job.now.flags table.now) [] (AndVerifies (check_of by)) self.old) self.new) }
+        ensures { IfOk result (λ done. Gives done
+            (after_executing (spending_for job.now table.now) [] (AndVerifies (check_of by))
+            self.old) self.new) }
     {
         if !self.test(alloc, job, table, by)? {
             return Ok(false);
@@ -233,19 +247,21 @@ impl<'a> Execution<'a> {
     }
 
     /// Whether the top is there and a lock time that the transaction keeps (BIP 65).
-    #[tactic(auto, unfolding(crate::specs::computed::Step::asked))]
+    #[tactic(auto, unfolding(crate::specs::computed::Step::after_asking))]
     fn ask_lock_time(&self, job: &Job) -> bool
         requires { job.now.input < length job.now.tx.now.inputs }
-        ensures { Gives result (asked (λ n. locks_until job.now.tx.now job.now.input n) self.now self.now.main) self.now }
+        ensures { Gives result (after_asking
+            (λ n. locks_until job.now.tx.now job.now.input n) self.now self.now.main) self.now }
     {
         self.main.len() > 0 && meets_lock_time(job, self.main.at(0).as_slice())
     }
 
     /// Whether the top is there and a relative lock that the input keeps (BIP 112).
-    #[tactic(auto, unfolding(crate::specs::computed::Step::asked))]
+    #[tactic(auto, unfolding(crate::specs::computed::Step::after_asking))]
     fn ask_sequence(&self, job: &Job) -> bool
         requires { job.now.input < length job.now.tx.now.inputs }
-        ensures { Gives result (asked (λ n. locks_for job.now.tx.now job.now.input n) self.now self.now.main) self.now }
+        ensures { Gives result (after_asking
+            (λ n. locks_for job.now.tx.now job.now.input n) self.now self.now.main) self.now }
     {
         self.main.len() > 0 && meets_sequence(job, self.main.at(0).as_slice())
     }
@@ -260,7 +276,9 @@ impl<'a> Execution<'a> {
         op: Op,
     ) -> Result<bool, Memory>
         requires { job.now.input < length job.now.tx.now.inputs }
-        ensures { IfOk result (λ done. Gives done (executed (spending_of job.now.tx.now job.now.input job.now.flags table.now) after.now (meaning op) self.old) self.new) }
+        ensures { IfOk result (λ done. Gives done
+            (after_executing (spending_for job.now table.now) after.now (meaning op) self.old)
+            self.new) }
     {
         match op {
             Op::Disabled | Op::Fails => Ok(false),
@@ -285,7 +303,7 @@ impl<'a> Execution<'a> {
 
     /// An opcode in a branch that isn't taken.
     fn skip(&mut self, op: Op) -> Result<bool, Memory>
-        ensures { IfOk result (λ done. Gives done (skipped (meaning op) self.old) self.new) }
+        ensures { IfOk result (λ done. Gives done (after_skipping (meaning op) self.old) self.new) }
     {
         match op {
             Op::Disabled => Ok(false),
@@ -300,7 +318,7 @@ impl<'a> Execution<'a> {
     }
 
     /// An opcode that is no push of bytes.
-    #[tactic(auto, unfolding(crate::specs::computed::Step::acted))]
+    #[tactic(auto, unfolding(crate::specs::computed::Step::after_acting))]
     fn act(
         &mut self,
         alloc: Global,
@@ -310,7 +328,9 @@ impl<'a> Execution<'a> {
         op: Op,
     ) -> Result<bool, Memory>
         requires { job.now.input < length job.now.tx.now.inputs }
-        ensures { IfOk result (λ done. Gives done (acted (spending_of job.now.tx.now job.now.input job.now.flags table.now) after.now (meaning op) self.old) self.new) }
+        ensures { IfOk result (λ done. Gives done
+            (after_acting (spending_for job.now table.now) after.now (meaning op) self.old)
+            self.new) }
     {
         if self.is_executing() {
             self.execute(alloc, job, table, after, op)
@@ -320,9 +340,10 @@ impl<'a> Execution<'a> {
     }
 
     /// A push of bytes.
-    #[tactic(auto, unfolding(crate::specs::computed::Step::acted))]
+    #[tactic(auto, unfolding(crate::specs::computed::Step::after_acting))]
     fn act_push(&mut self, alloc: Global, bytes: &[u8]) -> Result<bool, Memory>
-        ensures { IfOk result (λ done. (p : Spending) (after : List ℕ) → Gives done (acted p after (push_row bytes.now) self.old) self.new) }
+        ensures { IfOk result (λ done. (p : Spending) (after : List ℕ)
+            → Gives done (after_acting p after (push_row bytes.now) self.old) self.new) }
     {
         if bytes.len() > MAX_PUSH {
             return Ok(false);
@@ -334,9 +355,9 @@ impl<'a> Execution<'a> {
     }
 
     /// One more opcode of this number, unless there were as many as there may be.
-    #[tactic(auto, unfolding(crate::specs::computed::Step::counted))]
+    #[tactic(auto, unfolding(crate::specs::computed::Step::with_count))]
     fn count_one(&mut self, number: u8) -> bool
-        ensures { Gives result (counted number self.old) self.new }
+        ensures { Gives result (with_count number self.old) self.new }
     {
         if number <= OP_16 {
             return true;
@@ -349,9 +370,9 @@ impl<'a> Execution<'a> {
     }
 
     /// Whether the stacks are small enough.
-    #[tactic(auto, unfolding(crate::specs::computed::Step::bounded))]
+    #[tactic(auto, unfolding(crate::specs::computed::Step::within_bounds))]
     fn is_bounded(&self) -> bool
-        ensures { Gives result (bounded self.now) self.now }
+        ensures { Gives result (within_bounds self.now) self.now }
     {
         let main = self.main.len();
         main <= MAX_ELEMENTS && self.alt.len() <= MAX_ELEMENTS - main
@@ -368,7 +389,8 @@ impl<'a> Execution<'a> {
         op: &[u8],
     ) -> Result<bool, Memory>
         requires { job.now.input < length job.now.tx.now.inputs }
-        ensures { IfOk result (λ done. Gives done (step (spending_of job.now.tx.now job.now.input job.now.flags table.now) after.now op.now self.old) self.new) }
+        ensures { IfOk result (λ done. Gives done
+            (step (spending_for job.now table.now) after.now op.now self.old) self.new) }
     {
         let Some(number) = op.first() else {
             return Ok(false);
@@ -387,7 +409,7 @@ impl<'a> Execution<'a> {
 
     /// The main stack, if no condition is open.
     pub fn finish(self) -> Option<Pile<Element>>
-        ensures { result ≡ finished self.entry }
+        ensures { result ≡ stack_left self.entry }
     {
         let Execution {
             main,

@@ -3,7 +3,7 @@
 ghost use Rattle.std.specs.Prelude.{◌≡◌, IfOk, [], ◌∷◌, Some};
 ghost use Rattle.sha1.specs.Sha1.{sha1};
 ghost use Rattle.sha2.specs.Sha256.{sha256};
-ghost use Rattle.interp.specs.Stack.{Gives};
+ghost use Rattle.interp.specs.computed.Stack.{Gives};
 ghost use Rattle.interp.specs.computed.Step.{on_one};
 ghost use Rattle.interp.specs.computed.Groups.{hash_of};
 
@@ -52,7 +52,8 @@ macro_rules! row {
 /// Puts a digest in place of the top, if there is one.
 #[inline(never)]
 pub fn digest_top(alloc: Global, stack: &mut Pile<Element>, by: Hash) -> Result<bool, Memory>
-    ensures { IfOk result (λ there. Gives there (on_one (λ x. Some (hash_of by x ∷ [])) stack.old) stack.new) }
+    ensures { IfOk result (λ there. Gives there
+        (on_one (λ x. Some (hash_of by x ∷ [])) stack.old) stack.new) }
 {
     match by {
         Hash::Ripemd160 => row!(alloc, stack; a -> ripemd::digest(a)),

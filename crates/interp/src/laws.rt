@@ -9,5 +9,6 @@ ghost use Rattle.interp.specs.computed.Verifying.{accepts};
 
 /// The verdict that is computed is that of the relation.
 pub fn the_verdict_is_computed()
-    ensures { (tx : Tx) (input : ℕ) (spent : List ℕ) (flags : Flags) (triples : Triples) → IsTrue (accepts tx input spent flags triples) ↔ Accepts tx input spent flags triples }
+    ensures { (tx : Tx) (input : ℕ) (spent : List ℕ) (flags : Flags) (triples : Triples)
+        → IsTrue (accepts tx input spent flags triples) ↔ Accepts tx input spent flags triples }
 {}

@@ -22,6 +22,3 @@ mod verifying;
 pub use flags::Flags;
 pub use job::Job;
 pub use verifying::verify;
-
-#[cfg(test)]
-mod tests;

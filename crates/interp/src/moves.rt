@@ -1,7 +1,7 @@
 //! Rows of the stack: what is taken, and what is left in its place.
 
 ghost use Rattle.std.specs.Prelude.{IfOk};
-ghost use Rattle.interp.specs.Stack.{Gives, moved};
+ghost use Rattle.interp.specs.computed.Stack.{Gives, rearrangement};
 ghost use Rattle.interp.specs.computed.Groups.{move_of};
 
 use crate::element::Element;
@@ -69,7 +69,8 @@ macro_rules! row {
 /// Whether the elements are there; if so, they are rearranged.
 #[inline(never)]
 pub fn rearrange(alloc: Global, stack: &mut Pile<Element>, by: Move) -> Result<bool, Memory>
-    ensures { IfOk result (λ there. Gives there (moved (move_of by).0 (move_of by).1 stack.old) stack.new) }
+    ensures { IfOk result (λ there. Gives there
+        (rearrangement (move_of by).0 (move_of by).1 stack.old) stack.new) }
 {
     match by {
         Move::Drop2 => row!(alloc, stack, 2; a b -> ),

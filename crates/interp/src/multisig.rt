@@ -5,8 +5,9 @@ ghost use Rattle.std.specs.List.{concat, position};
 ghost use Rattle.std.specs.FinSet as set;
 ghost use Rattle.script.specs.Removal.{bytes_of};
 ghost use Rattle.curve.specs.Triple.{triple_of};
-ghost use Rattle.interp.specs.Spending.{spending_of};
-ghost use Rattle.interp.specs.Signatures.{is_valid, proper, signed_code, tried};
+ghost use Rattle.interp.specs.inside.Spending.{spending_for};
+ghost use Rattle.interp.specs.Signatures.{is_valid, signature_proper, signed_code};
+ghost use Rattle.interp.specs.computed.Signatures.{pairs_verdict};
 ghost use Rattle.interp.specs.computed.Step.{many, keys_in, signatures_in, multisig_answer};
 
 use crate::element::{Element, natural};
@@ -41,7 +42,8 @@ fn slices(
 ) -> Result<Vec<&[u8]>, Memory>
     requires order { from ≤ to }
     requires there { to ≤ length stack.now }
-    ensures { IfOk result (λ slices. bytes_of slices.items ≡ take (to - from) (drop from stack.now)) }
+    ensures { IfOk result (λ slices. bytes_of slices.items
+        ≡ take (to - from) (drop from stack.now)) }
 {
     let mut slices = Vec::new(alloc);
     for i in from..to {
@@ -53,7 +55,9 @@ fn slices(
 /// The place of the first key for which a signature is valid over this digest.
 fn first_key(table: &Table, digest: &[u8; 32], signature: &[u8], keys: &[&[u8]]) -> Option<usize>
     requires { 0 < length signature.now }
-    ensures value { result ≡ position (λ key. set.contains table.now (triple_of key.now (proper signature.now) digest.now)) keys.now }
+    ensures value { let proper = signature_proper signature.now in
+        result ≡ position (λ key. set.contains table.now (triple_of key.now proper digest.now))
+        keys.now }
     ensures bound { IfSome result (λ i. i < length keys.now) }
 {
     keys.iter()
@@ -69,7 +73,8 @@ fn try_pairs(
     keys: &[&[u8]],
 ) -> Option<bool>
     requires { job.now.input < length job.now.tx.now.inputs }
-    ensures { result ≡ tried (spending_of job.now.tx.now job.now.input job.now.flags table.now) (concat (bytes_of code.now)) (bytes_of signatures.now) (bytes_of keys.now) }
+    ensures { result ≡ pairs_verdict (spending_for job.now table.now) (concat (bytes_of code.now))
+        (bytes_of signatures.now) (bytes_of keys.now) }
 {
     let [signature, others @ ..] = signatures else {
         return Some(true);
@@ -105,7 +110,8 @@ pub fn answer(
     requires few { counts.0 ≤ 20 }
     requires no_more { counts.1 ≤ counts.0 }
     requires there { counts.0 + counts.1 + 3 ≤ length stack.now }
-    ensures { IfOk result (λ answer. answer ≡ multisig_answer (spending_of job.now.tx.now job.now.input job.now.flags table.now) code.now stack.now counts) }
+    ensures { IfOk result (λ answer. answer
+        ≡ multisig_answer (spending_for job.now table.now) code.now stack.now counts) }
 {
     let (keys, signatures) = counts;
     let middle = keys + 2;

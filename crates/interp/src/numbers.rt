@@ -2,7 +2,7 @@
 
 ghost use Rattle.std.specs.Prelude.{◌≡◌, ◌^◌, ◌∷◌, pos, negsuc, ◌<ℤ◌, IfOk, OnOk, MatchOption, IfSome, Some, None};
 ghost use Rattle.script.specs.Num.{operand, spelled};
-ghost use Rattle.interp.specs.Stack.{Gives};
+ghost use Rattle.interp.specs.computed.Stack.{Gives};
 ghost use Rattle.interp.specs.computed.Step.{top_number, on_number, on_two_numbers, on_three_numbers};
 ghost use Rattle.interp.specs.computed.Groups.{unary_of, binary_of, within_of};
 
@@ -56,7 +56,8 @@ fn number(bytes: &[u8]) -> Option<i64>
 /// Takes the number on top.
 #[tactic(auto, unfolding(crate::specs::computed::Step::top_number))]
 fn pop_number(stack: &mut Pile<Element>) -> Option<i64>
-    ensures value { MatchOption result (top_number stack.old ≡ None) (λ z. top_number stack.old ≡ Some (z, stack.new)) }
+    ensures value { MatchOption result (top_number stack.old ≡ None)
+        (λ z. top_number stack.old ≡ Some (z, stack.new)) }
     ensures above { IfSome result (λ z. negsuc (2 ^ 31) <ℤ z) }
     ensures below { IfSome result (λ z. z <ℤ pos (2 ^ 31)) }
 {
@@ -117,7 +118,8 @@ pub fn change_number(alloc: Global, stack: &mut Pile<Element>, by: Unary) -> Res
 #[tactic(auto, unfolding(crate::specs::computed::Step::on_two_numbers))]
 #[inline(never)]
 pub fn join_numbers(alloc: Global, stack: &mut Pile<Element>, by: Binary) -> Result<bool, Memory>
-    ensures { IfOk result (λ there. Gives there (on_two_numbers (binary_of by) stack.old) stack.new) }
+    ensures { IfOk result (λ there. Gives there
+        (on_two_numbers (binary_of by) stack.old) stack.new) }
 {
     match by {
         Binary::Add => row!(alloc, stack; a b -> a + b),

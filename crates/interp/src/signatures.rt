@@ -6,8 +6,9 @@ ghost use Rattle.std.specs.FinSet as set;
 ghost use Rattle.script.specs.Removal.{bytes_of};
 ghost use Rattle.sighash.specs.Digest.{digest_of};
 ghost use Rattle.curve.specs.Triple.{triple_of};
-ghost use Rattle.interp.specs.Spending.{spending_of};
-ghost use Rattle.interp.specs.Signatures.{push_of, pieces_of, signed_code, type_of, proper, is_valid, may_be_tried, judged};
+ghost use Rattle.interp.specs.inside.Spending.{spending_for};
+ghost use Rattle.interp.specs.Signatures.{push_of, pieces_of, signed_code, type_of, signature_proper, is_valid};
+ghost use Rattle.interp.specs.computed.Signatures.{may_be_tried, pair_verdict};
 
 use crate::element::Element;
 use crate::flags::Flags;
@@ -68,7 +69,8 @@ pub fn signed_parts<'a>(
     code: &'a [u8],
     signatures: &[&[u8]],
 ) -> Result<Vec<&'a [u8]>, Memory>
-    ensures { IfOk result (λ parts. concat (bytes_of parts.items) ≡ signed_code code.now (bytes_of signatures.now)) }
+    ensures { IfOk result (λ parts. concat (bytes_of parts.items)
+        ≡ signed_code code.now (bytes_of signatures.now)) }
 {
     let ops = pushes_of(alloc, signatures)?;
     let mut pieces = slices_of(alloc, ops.as_slice())?;
@@ -79,7 +81,8 @@ pub fn signed_parts<'a>(
 /// What a signature signs: its last byte is its type.
 pub fn digest_for(job: &Job, code: &[&[u8]], signature: &[u8]) -> [u8; 32]
     requires { job.now.input < length job.now.tx.now.inputs }
-    ensures { result ≡ digest_of job.now.tx.now job.now.input (concat (bytes_of code.now)) (type_of signature.now) }
+    ensures { result ≡ digest_of job.now.tx.now job.now.input (concat (bytes_of code.now))
+        (type_of signature.now) }
 {
     let kind = match signature.last() {
         Some(kind) => u32::from(*kind),
@@ -91,13 +94,14 @@ pub fn digest_for(job: &Job, code: &[&[u8]], signature: &[u8]) -> [u8; 32]
 /// Whether a signature that isn't empty is valid for a key over this digest.
 pub fn is_valid(table: &Table, digest: &[u8; 32], signature: &[u8], key: &[u8]) -> bool
     requires { 0 < length signature.now }
-    ensures { result ≡ set.contains table.now (triple_of key.now (proper signature.now) digest.now) }
+    ensures { result ≡ set.contains table.now
+        (triple_of key.now (signature_proper signature.now) digest.now) }
 {
     table.has(key, &signature[..signature.len() - 1], digest)
 }
 
 /// Whether a signature is strictly encoded or empty, where that is asked for.
-#[tactic(auto, unfolding(crate::specs::Signatures::may_be_tried))]
+#[tactic(auto, unfolding(crate::specs::computed::Signatures::may_be_tried))]
 pub fn may_be_tried(flags: Flags, signature: &[u8]) -> bool
     ensures { result ≡ may_be_tried flags signature.now }
 {
@@ -105,7 +109,7 @@ pub fn may_be_tried(flags: Flags, signature: &[u8]) -> bool
 }
 
 /// Whether a signature is valid for a key over a running script's code: None where it may not be tried.
-#[tactic(auto, unfolding(crate::specs::Signatures::judged, crate::specs::Signatures::is_valid))]
+#[tactic(auto, unfolding(crate::specs::computed::Signatures::pair_verdict, crate::specs::Signatures::is_valid))]
 pub fn judge(
     alloc: Global,
     job: &Job,
@@ -115,7 +119,7 @@ pub fn judge(
     key: &[u8],
 ) -> Result<Option<bool>, Memory>
     requires { job.now.input < length job.now.tx.now.inputs }
-    ensures { IfOk result (λ valid. valid ≡ judged (spending_of job.now.tx.now job.now.input job.now.flags table.now)
+    ensures { IfOk result (λ valid. valid ≡ pair_verdict (spending_for job.now table.now)
         (signed_code code.now (signature.now ∷ [])) signature.now key.now) }
 {
     if !may_be_tried(job.flags, signature) {

@@ -2,9 +2,9 @@
 
 ghost use Rattle.std.specs.Prelude.{◌≡◌, ◌<◌, ◌↔◌, [], ◌∷◌, ◌++◌, length, IsTrue, IfOk, MatchOption};
 ghost use Rattle.script.specs.Ops.{ops, rest};
-ghost use Rattle.interp.specs.Spending.{spending_of};
+ghost use Rattle.interp.specs.inside.Spending.{spending_for};
 ghost use Rattle.interp.specs.Rules.{Accepts};
-ghost use Rattle.interp.specs.computed.Step.{outcome, ends_true, accepted_inner, accepted_on, accepted};
+ghost use Rattle.interp.specs.computed.Step.{outcome, ends_true, inner_verdict, verdict_on, verdict};
 
 use crate::element::Element;
 use crate::execution::Execution;
@@ -20,7 +20,8 @@ use wire::Memory;
 pub fn verify(alloc: Global, job: &Job, table: &Table) -> Result<bool, Memory>
     // The input is one of the transaction's.
     requires { job.now.input < length job.now.tx.now.inputs }
-    ensures { IfOk result (λ yes. IsTrue yes ↔ Accepts job.now.tx.now job.now.input job.now.spent.now job.now.flags table.now) }
+    ensures { IfOk result (λ yes. IsTrue yes
+        ↔ Accepts job.now.tx.now job.now.input job.now.spent.now job.now.flags table.now) }
 {
     let script = job.tx.inputs.as_slice()[job.input].script.as_slice();
     let yes = accepts(alloc, job, table, script)?;
@@ -30,7 +31,8 @@ pub fn verify(alloc: Global, job: &Job, table: &Table) -> Result<bool, Memory>
 /// The opcode at the front of a script, if it is whole, and what follows it.
 fn first_op(script: &[u8]) -> Option<(&[u8], &[u8])>
     ensures { MatchOption result ((ops script.now ≡ []) × (rest script.now ≡ script.now))
-        (λ parts. (ops script.now ≡ parts.0.now ∷ ops parts.1.now) × (script.now ≡ parts.0.now ++ parts.1.now)) }
+        (λ parts. (ops script.now ≡ parts.0.now ∷ ops parts.1.now)
+        × (script.now ≡ parts.0.now ++ parts.1.now)) }
 {
     let mut ops = Ops::new(script);
     let op = ops.next()?;
@@ -47,7 +49,7 @@ fn run(
     stack: Pile<Element>,
 ) -> Result<Option<Pile<Element>>, Memory>
     requires { job.now.input < length job.now.tx.now.inputs }
-    ensures { IfOk result (λ end. end ≡ outcome (spending_of job.now.tx.now job.now.input job.now.flags table.now) script.now stack) }
+    ensures { IfOk result (λ end. end ≡ outcome (spending_for job.now table.now) script.now stack) }
 {
     if script.len() > MAX_SCRIPT_SIZE {
         return Ok(None);
@@ -76,7 +78,8 @@ fn runs_to_true(
     stack: Pile<Element>,
 ) -> Result<bool, Memory>
     requires { job.now.input < length job.now.tx.now.inputs }
-    ensures { IfOk result (λ yes. yes ≡ ends_true (outcome (spending_of job.now.tx.now job.now.input job.now.flags table.now) script.now stack)) }
+    ensures { IfOk result (λ yes. yes
+        ≡ ends_true (outcome (spending_for job.now table.now) script.now stack)) }
 {
     let Some(end) = run(alloc, job, table, script, stack)? else {
         return Ok(false);
@@ -89,7 +92,7 @@ fn runs_to_true(
 
 /// Whether the top of a stack, run as a script on the others, leaves a true element on top, and the input script
 /// that left the stack only pushes (BIP 16).
-#[tactic(auto, unfolding(crate::specs::computed::Step::accepted_inner))]
+#[tactic(auto, unfolding(crate::specs::computed::Step::inner_verdict))]
 fn accepts_inner(
     alloc: Global,
     job: &Job,
@@ -98,7 +101,8 @@ fn accepts_inner(
     left: Pile<Element>,
 ) -> Result<bool, Memory>
     requires { job.now.input < length job.now.tx.now.inputs }
-    ensures { IfOk result (λ yes. yes ≡ accepted_inner (spending_of job.now.tx.now job.now.input job.now.flags table.now) script.now left) }
+    ensures { IfOk result (λ yes. yes
+        ≡ inner_verdict (spending_for job.now table.now) script.now left) }
 {
     if !push_only(script) {
         return Ok(false);
@@ -112,7 +116,7 @@ fn accepts_inner(
 }
 
 /// Whether the scripts accept, with the stack that the input script left.
-#[tactic(auto, unfolding(crate::specs::computed::Step::accepted_on))]
+#[tactic(auto, unfolding(crate::specs::computed::Step::verdict_on))]
 fn accepts_on(
     alloc: Global,
     job: &Job,
@@ -121,7 +125,8 @@ fn accepts_on(
     left: Pile<Element>,
 ) -> Result<bool, Memory>
     requires { job.now.input < length job.now.tx.now.inputs }
-    ensures { IfOk result (λ yes. yes ≡ accepted_on (spending_of job.now.tx.now job.now.input job.now.flags table.now) script.now job.now.spent.now left) }
+    ensures { IfOk result (λ yes. yes
+        ≡ verdict_on (spending_for job.now table.now) script.now job.now.spent.now left) }
 {
     if !is_p2sh(job.spent) {
         return runs_to_true(alloc, job, table, job.spent, left);
@@ -134,10 +139,11 @@ fn accepts_on(
 }
 
 /// Whether the scripts accept, with the input script.
-#[tactic(auto, unfolding(crate::specs::computed::Step::accepted))]
+#[tactic(auto, unfolding(crate::specs::computed::Step::verdict))]
 fn accepts(alloc: Global, job: &Job, table: &Table, script: &[u8]) -> Result<bool, Memory>
     requires { job.now.input < length job.now.tx.now.inputs }
-    ensures { IfOk result (λ yes. yes ≡ accepted (spending_of job.now.tx.now job.now.input job.now.flags table.now) script.now job.now.spent.now) }
+    ensures { IfOk result (λ yes. yes
+        ≡ verdict (spending_for job.now table.now) script.now job.now.spent.now) }
 {
     let Some(left) = run(alloc, job, table, script, Pile::new(alloc))? else {
         return Ok(false);

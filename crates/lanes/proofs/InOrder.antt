@@ -7,19 +7,20 @@ use Rattle.std.proofs.Math.Seq.{take-add}
 use Rattle.std.proofs.lemmas.Slice.{take-put_mid}
 use borrow.Rule.Slice.PartMut.{put_mid}
 use Rattle.hash.specs.declared.id.Id.{Id}
-use Rattle.lanes.specs.Messages.{bytes_of, hashed, ids_of, message_at}
+use Rattle.lanes.specs.Messages.{bytes_of, message_id, ids_of}
+use Rattle.lanes.specs.inside.Messages.{message_at}
 
 pub length-ids : (messages : List (Bor (List ℕ))) → length (ids_of messages) ≡ length messages
-length-ids messages = length-map (bytes_of messages) hashed ∙ length-map messages (λ (m : Bor (List ℕ)). m.now)
+length-ids messages = length-map (bytes_of messages) message_id ∙ length-map messages (λ (m : Bor (List ℕ)). m.now)
 
-pub id-at : (messages : List (Bor (List ℕ))) (k : ℕ) (d : Bor (List ℕ)) (e : Id) → k < length messages → get_or (ids_of messages) k e ≡ hashed (get_or messages k d).now
+pub id-at : (messages : List (Bor (List ℕ))) (k : ℕ) (d : Bor (List ℕ)) (e : Id) → k < length messages → get_or (ids_of messages) k e ≡ message_id (get_or messages k d).now
 id-at messages k d e lt =
-    get_or-map hashed (bytes_of messages) k [] e (omega (arith, lt, length-map messages (λ (m : Bor (List ℕ)). m.now)))
-    ∙ ap hashed (get_or-map (λ (m : Bor (List ℕ)). m.now) messages k d [] lt)
+    get_or-map message_id (bytes_of messages) k [] e (omega (arith, lt, length-map messages (λ (m : Bor (List ℕ)). m.now)))
+    ∙ ap message_id (get_or-map (λ (m : Bor (List ℕ)). m.now) messages k d [] lt)
 
 -- one message more
 pub one_more : (messages : List (Bor (List ℕ))) (out : List Id) (k : ℕ) (v : Id) (d : Bor (List ℕ)) → length out ≡ length messages → k < length messages
-    → take k out ≡ take k (ids_of messages) → v ≡ hashed (get_or messages k d).now → take (k + 1) (set out k v) ≡ take (k + 1) (ids_of messages)
+    → take k out ≡ take k (ids_of messages) → v ≡ message_id (get_or messages k d).now → take (k + 1) (set out k v) ≡ take (k + 1) (ids_of messages)
 one_more messages out k v d len lt front is =
     take-set_at out k (k + 1) v refl (omega (arith, lt, len))
     ∙ (λ i. front i ++ (is ∙ sym (id-at messages k d v lt)) i ∷ [])
@@ -27,17 +28,17 @@ one_more messages out k v d len lt front is =
 
 -- the ids of eight messages, each that of its message
 pub eight_ids : (messages : List (Bor (List ℕ))) (ys : List Id) → length messages ≡ 8 → length ys ≡ 8
-    → ((k : ℕ) → k < 8 → (d : Id) → get_or ys k d ≡ hashed (message_at messages k)) → ys ≡ ids_of messages
+    → ((k : ℕ) → k < 8 → (d : Id) → get_or ys k d ≡ message_id (message_at messages k)) → ys ≡ ids_of messages
 eight_ids messages ys len eight at =
     same_lists ys (ids_of messages) (omega (arith, len, eight, length-ids messages))
     (λ k d lt. at k (omega (arith, lt, eight)) d
-    ∙ sym (get_or-map hashed (bytes_of messages) k [] d (omega (arith, lt, eight, len, length-map messages (λ (m : Bor (List ℕ)). m.now)))))
+    ∙ sym (get_or-map message_id (bytes_of messages) k [] d (omega (arith, lt, eight, len, length-map messages (λ (m : Bor (List ℕ)). m.now)))))
 
 ids-take : (n : ℕ) (messages : List (Bor (List ℕ))) → take n (ids_of messages) ≡ ids_of (take n messages)
-ids-take n messages = take-map hashed n (bytes_of messages) ∙ ap (map hashed) (take-map (λ (m : Bor (List ℕ)). m.now) n messages)
+ids-take n messages = take-map message_id n (bytes_of messages) ∙ ap (map message_id) (take-map (λ (m : Bor (List ℕ)). m.now) n messages)
 
 ids-drop : (n : ℕ) (messages : List (Bor (List ℕ))) → drop n (ids_of messages) ≡ ids_of (drop n messages)
-ids-drop n messages = drop-map hashed n (bytes_of messages) ∙ ap (map hashed) (drop-map (λ (m : Bor (List ℕ)). m.now) n messages)
+ids-drop n messages = drop-map message_id n (bytes_of messages) ∙ ap (map message_id) (drop-map (λ (m : Bor (List ℕ)). m.now) n messages)
 
 ids-part : (n j : ℕ) (messages : List (Bor (List ℕ))) → ids_of (take n (drop j messages)) ≡ take n (drop j (ids_of messages))
 ids-part n j messages = sym (ap (take n) (ids-drop j messages) ∙ ids-take n (drop j messages))

@@ -7,7 +7,7 @@ use Rattle.std.specs.Int.{to_be_bytes}
 use borrow.Rule.Slice.PartMut.{put_mid}
 use Rattle.sha2.proofs.Absorbing256.{hash_after_next}
 use Rattle.sha2.specs.Sha256.{compress, final_hash, hash_after, initial_hash_256, padded_message, padding}
-use Rattle.lanes.specs.Padded.{IsTail, after_blocks, block, block_count}
+use Rattle.lanes.specs.inside.Padded.{IsTail, after_blocks, block, block_count}
 
 length-zeros : (n : ℕ) → length (replicate {A = ℕ} n 0) ≡ n
 length-zeros n = length-replicate {A = ℕ} n 0

@@ -3,9 +3,9 @@
 ghost use Rattle.std.specs.Prelude.{◌≡◌, ◌*◌, ◌<◌, ◌++◌, ◌∷◌, [], ℕ, List, slice_index, slice_index_or};
 ghost use Rattle.sha2.specs.Sha256.{digest_bytes, final_hash, initial_hash_256, padding, word_at};
 ghost use Rattle.hash.specs.declared.id.Id as whole;
-ghost use Rattle.lanes.specs.Lane.{lanes};
-ghost use Rattle.lanes.specs.Messages.{hashed};
-ghost use Rattle.lanes.specs.State.{lane, lane_of};
+ghost use Rattle.lanes.specs.inside.Lane.{lanes};
+ghost use Rattle.lanes.specs.Messages.{message_id};
+ghost use Rattle.lanes.specs.inside.State.{lane, lane_of};
 
 use crate::rounds::{State, compressed, initial};
 use crate::words::{LANES, Words};
@@ -24,8 +24,9 @@ fn digest_block(
     g: Words,
     h: Words,
 ) -> [Words; 16]
-    ensures { (l : ℕ) → l < lanes → (k : ℕ) → k < 16 → slice_index (lane_of result l) k
-        ≡ word_at (digest_bytes (lane_of (a ∷ b ∷ c ∷ d ∷ e ∷ f ∷ g ∷ h ∷ []) l) 8 ++ padding 32) (4 * k) }
+    ensures { (l : ℕ) → l < lanes → (k : ℕ) → k < 16
+        → let words = lane_of (a ∷ b ∷ c ∷ d ∷ e ∷ f ∷ g ∷ h ∷ []) l in
+        slice_index (lane_of result l) k ≡ word_at (digest_bytes words 8 ++ padding 32) (4 * k) }
 {
     let end = Words::splat(0x8000_0000);
     let zero = Words::splat(0);
@@ -50,7 +51,8 @@ fn digest(words: [u32; 8]) -> [u8; 32]
 // The digest of each lane.
 #[inline(always)]
 fn digests(state: State) -> [Id; LANES]
-    ensures { (l : ℕ) → l < lanes → (d : whole.Id) → slice_index_or result l d ≡ record { 0 = digest_bytes (lane state l) 8 } }
+    ensures { (l : ℕ) → l < lanes → (d : whole.Id)
+        → slice_index_or result l d ≡ record { 0 = digest_bytes (lane state l) 8 } }
 {
     let a = state.a.to_array();
     let b = state.b.to_array();
@@ -75,8 +77,9 @@ fn digests(state: State) -> [Id; LANES]
 /// The double SHA-256 of each message, from the hash value of each.
 #[inline(always)]
 pub(crate) fn hashed_again(once: State) -> [Id; LANES]
-    ensures { (l : ℕ) → l < lanes → (message : List ℕ) → lane once l ≡ final_hash initial_hash_256 message
-        → (d : whole.Id) → slice_index_or result l d ≡ hashed message }
+    ensures { (l : ℕ) → l < lanes → (message : List ℕ)
+        → lane once l ≡ final_hash initial_hash_256 message
+        → (d : whole.Id) → slice_index_or result l d ≡ message_id message }
 {
     let words = digest_block(
         once.a, once.b, once.c, once.d, once.e, once.f, once.g, once.h,

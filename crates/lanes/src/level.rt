@@ -2,10 +2,11 @@
 
 ghost use Rattle.std.specs.Prelude.{◌≡◌, ◌+◌, ◌*◌, ◌/◌, ◌<◌, ◌≤◌, ◌++◌, ℕ, List, [], length, drop, slice_index, slice_index_or};
 ghost use Rattle.sha2.specs.Sha256.{word_at};
-ghost use Rattle.lanes.specs.Lane.{lanes};
-ghost use Rattle.lanes.specs.Level.{IsPairedUpTo, paired, pair_at};
-ghost use Rattle.lanes.specs.Messages.{hashed};
-ghost use Rattle.lanes.specs.State.{lane_of};
+ghost use Rattle.lanes.specs.inside.Lane.{lanes};
+ghost use Rattle.lanes.specs.Level.{pair_ids};
+ghost use Rattle.lanes.specs.inside.Level.{IsPairedUpTo, pair_at};
+ghost use Rattle.lanes.specs.Messages.{message_id};
+ghost use Rattle.lanes.specs.inside.State.{lane_of};
 
 use crate::blocks::word;
 use crate::digests::hashed_again;
@@ -35,7 +36,8 @@ fn words(ids: &[Id], i: usize) -> Words
     requires ids { length ids.now ≡ 2 * lanes }
     requires i { i < 16 }
     ensures len { (l : ℕ) → l < lanes → length (pair_at ids.now l) ≡ 64 }
-    ensures value { (l : ℕ) → l < lanes → slice_index result l ≡ word_at (pair_at ids.now l) (4 * i) }
+    ensures value { (l : ℕ) → l < lanes
+        → slice_index result l ≡ word_at (pair_at ids.now l) (4 * i) }
 {
     let mut words = [0; LANES];
     'lanes: for k in 0..LANES {
@@ -49,7 +51,8 @@ fn words(ids: &[Id], i: usize) -> Words
 fn load(ids: &[Id]) -> [Words; 16]
     requires { length ids.now ≡ 2 * lanes }
     ensures len { (l : ℕ) → l < lanes → length (pair_at ids.now l) ≡ 64 }
-    ensures value { (l : ℕ) → l < lanes → (k : ℕ) → k < 16 → slice_index (lane_of result l) k ≡ word_at (pair_at ids.now l) (4 * k) }
+    ensures value { (l : ℕ) → l < lanes → (k : ℕ) → k < 16
+        → slice_index (lane_of result l) k ≡ word_at (pair_at ids.now l) (4 * k) }
 {
     [
         words(ids, 0),
@@ -74,7 +77,7 @@ fn load(ids: &[Id]) -> [Words; 16]
 // Eight pairs.
 fn eight(ids: &[Id]) -> [Id; LANES]
     requires { length ids.now ≡ 2 * lanes }
-    ensures { result ≡ paired ids.now }
+    ensures { result ≡ pair_ids ids.now }
 {
     let blocks = load(ids);
     hashed_again(after_padding(compressed(initial(), &blocks)))
@@ -82,7 +85,7 @@ fn eight(ids: &[Id]) -> [Id; LANES]
 
 // One pair.
 fn pair(left: &Id, right: &Id) -> Id
-    ensures { result ≡ hashed (left.now.0 ++ right.now.0) }
+    ensures { result ≡ message_id (left.now.0 ++ right.now.0) }
 {
     let mut hasher = Sha256::new();
     hasher.update(left.0);
@@ -107,7 +110,7 @@ fn eight_by_eight(level: &mut [Id]) -> usize
 /// Puts the double SHA-256 of each two neighbouring ids of a Merkle level into its front, from left to
 /// right. What follows stays; so an odd level's last id is left for the caller to pair.
 pub fn pairs(level: &mut [Id])
-    ensures { level.new ≡ paired level.old ++ drop (length level.old / 2) level.old }
+    ensures { level.new ≡ pair_ids level.old ++ drop (length level.old / 2) level.old }
 {
     let start = eight_by_eight(level);
     for k in start..level.len() / 2 {

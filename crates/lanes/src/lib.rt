@@ -13,6 +13,3 @@ mod words;
 pub use level::pairs;
 pub use many::double_sha_many;
 pub use words::LANES;
-
-#[cfg(test)]
-mod tests;

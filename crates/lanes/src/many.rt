@@ -2,10 +2,11 @@
 
 ghost use Rattle.std.specs.Prelude.{◌≡◌, ◌+◌, ◌*◌, ◌<◌, ◌≤◌, ℕ, [], length, slice_index, slice_index_or};
 ghost use Rattle.sha2.specs.Sha256.{final_hash, initial_hash_256, word_at};
-ghost use Rattle.lanes.specs.Lane.{lanes};
-ghost use Rattle.lanes.specs.Messages.{ids_of, message_at};
-ghost use Rattle.lanes.specs.Padded.{AreBlocks, AreCounts, AreTails};
-ghost use Rattle.lanes.specs.State.{lane, lane_of};
+ghost use Rattle.lanes.specs.inside.Lane.{lanes};
+ghost use Rattle.lanes.specs.Messages.{ids_of};
+ghost use Rattle.lanes.specs.inside.Messages.{message_at};
+ghost use Rattle.lanes.specs.inside.Padded.{AreBlocks, AreCounts, AreTails};
+ghost use Rattle.lanes.specs.inside.State.{lane, lane_of};
 
 use crate::blocks::word;
 use crate::digests::hashed_again;
@@ -57,7 +58,8 @@ fn blocks(messages: &[&[u8]], tails: &[[u8; 128]; LANES], i: usize) -> [[u8; 64]
 #[inline(always)]
 fn words(blocks: &[[u8; 64]; LANES], i: usize) -> Words
     requires { i < 16 }
-    ensures { (l : ℕ) → l < lanes → slice_index result l ≡ word_at (slice_index_or blocks.now l []) (4 * i) }
+    ensures { (l : ℕ) → l < lanes
+        → slice_index result l ≡ word_at (slice_index_or blocks.now l []) (4 * i) }
 {
     let mut words = [0; LANES];
     'lanes: for k in 0..LANES {
@@ -69,7 +71,8 @@ fn words(blocks: &[[u8; 64]; LANES], i: usize) -> Words
 // The words of each block.
 #[inline(always)]
 fn load(blocks: &[[u8; 64]; LANES]) -> [Words; 16]
-    ensures { (l : ℕ) → l < lanes → (k : ℕ) → k < 16 → slice_index (lane_of result l) k ≡ word_at (slice_index_or blocks.now l []) (4 * k) }
+    ensures { (l : ℕ) → l < lanes → (k : ℕ) → k < 16
+        → slice_index (lane_of result l) k ≡ word_at (slice_index_or blocks.now l []) (4 * k) }
 {
     [
         words(blocks, 0),
@@ -137,7 +140,8 @@ fn most(counts: &[usize; LANES]) -> usize
 fn hash_values(messages: &[&[u8]], counts: &[usize; LANES]) -> State
     requires messages { length messages.now ≡ lanes }
     requires counts { AreCounts messages.now counts.now }
-    ensures { (l : ℕ) → l < lanes → lane result l ≡ final_hash initial_hash_256 (message_at messages.now l) }
+    ensures { (l : ℕ) → l < lanes
+        → lane result l ≡ final_hash initial_hash_256 (message_at messages.now l) }
 {
     let tails = tails(messages);
     let mut state = initial();

@@ -1,7 +1,7 @@
 //! The blocks of messages of any lengths, with their padding.
 
 ghost use Rattle.std.specs.Prelude.{◌≡◌, ◌+◌, ◌*◌, ◌<◌, ◌≤◌, ℕ, List, length, slice_index};
-ghost use Rattle.lanes.specs.Padded.{IsTail, block, block_count};
+ghost use Rattle.lanes.specs.inside.Padded.{IsTail, block, block_count};
 
 /// How many blocks a message has with its padding.
 pub(crate) fn block_count(message: &[u8]) -> usize

@@ -3,7 +3,7 @@
 ghost use Rattle.std.specs.Prelude.{◌≡◌, ◌/◌, ◌^◌, ◌<◌, if◌then◌else◌, nat_lt, slice_index};
 ghost use Rattle.std.specs.Int.{w32, rotate_right};
 ghost use Rattle.sha2.specs.Sha256.{add32, ch, maj, big_sigma0, big_sigma1, small_sigma0, small_sigma1};
-ghost use Rattle.lanes.specs.Lane.{EachLane};
+ghost use Rattle.lanes.specs.inside.Lane.{EachLane};
 
 use std::simd::prelude::*;
 
@@ -85,7 +85,8 @@ pub(crate) fn sum(x: Words, y: Words) -> Words
 /// The word of `new` in each lane that runs, and in any other that of `old`.
 #[inline(always)]
 pub(crate) fn chosen(runs: Words, new: Words, old: Words) -> Words
-    ensures { EachLane result (λ l. if nat_lt 0 (slice_index runs l) then slice_index new l else slice_index old l) }
+    ensures { EachLane result (λ l.
+        if nat_lt 0 (slice_index runs l) then slice_index new l else slice_index old l) }
 {
     Words::splat(0).simd_lt(runs).select(new, old)
 }
@@ -93,7 +94,8 @@ pub(crate) fn chosen(runs: Words, new: Words, old: Words) -> Words
 /// A word of the schedule, from those 2, 7, 15 and 16 before it.
 #[inline(always)]
 pub(crate) fn scheduled(two: Words, seven: Words, fifteen: Words, sixteen: Words) -> Words
-    ensures { EachLane result (λ l. add32 (add32 (add32 (small_sigma1 (slice_index two l)) (slice_index seven l))
+    ensures { EachLane result (λ l. add32 (add32
+        (add32 (small_sigma1 (slice_index two l)) (slice_index seven l))
         (small_sigma0 (slice_index fifteen l))) (slice_index sixteen l)) }
 {
     lower_sigma1(two) + seven + lower_sigma0(fifteen) + sixteen

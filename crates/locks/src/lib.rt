@@ -9,6 +9,3 @@ mod relative;
 pub use finality::{SEQUENCE_FINAL, is_final};
 pub use median_time::{MEDIAN_TIME_SPAN, median};
 pub use relative::{LockStart, relative_ok};
-
-#[cfg(test)]
-mod tests;

@@ -45,7 +45,8 @@ pub fn relative_ok(tx: &Tx, starts: &[LockStart], height: u32, cutoff: u32) -> b
 
 /// Whether the lock of each input is met.
 fn is_each_met(inputs: &[TxIn], starts: &[LockStart], height: u32, cutoff: u32) -> bool
-    ensures { result ≡ list_all (λ p. is_met height cutoff p.0.sequence p.1) (zip inputs.now starts.now) }
+    ensures { result ≡ list_all (λ p.
+        is_met height cutoff p.0.sequence p.1) (zip inputs.now starts.now) }
 {
     inputs.iter().zip(starts).all(|(input, start)| is_met(input.sequence, start, height, cutoff))
 }

@@ -7,21 +7,21 @@ use Rattle.block.specs.declared.block.Block.{Block}
 use Rattle.block.specs.Decoding.{decoded}
 use Rattle.tree.specs.Branches.{has, place_of}
 use Rattle.tree.specs.State.{State, usable, with_block, called}
-use Rattle.activate.specs.declared.command.Command.{Command}
-use Rattle.activate.specs.declared.command.Command.TheVariants as command
-use Rattle.activate.specs.declared.reply.Reply.{Reply}
-use Rattle.activate.specs.declared.reply.Reply.TheVariants as reply
-use Rattle.activate.specs.declared.reply.MarkReply.TheVariants.{Done}
-use Rattle.activate.specs.declared.reply.SubmitReply.{SubmitReply}
-use Rattle.activate.specs.declared.reply.SubmitReply.TheVariants.{Accepted, Inconclusive, Duplicate, DuplicateInvalid, DuplicateInconclusive, Rejected, DecodeFailed, TreeFull}
-use Rattle.activate.specs.Rules.{Rules}
-use Rattle.activate.specs.Valid.{fault}
-use Rattle.activate.specs.Settle.{active, settle}
-use Rattle.activate.specs.Context.{first_fault}
-use Rattle.activate.specs.Submission.{Outcome, submit_says, rejected, answer_known, answer_added, judged, submitted}
-use Rattle.activate.specs.Step.{Submit, Invalidate, Reconsider, Precious, mark_says, invalidated, reconsidered, preferred, step}
-use Rattle.activate.specs.Commands.{submit_step, command_step, outcome}
-use Rattle.node.specs.Held.{is_step, IsReplyTo, IsUndecodable}
+use Rattle.chain.specs.declared.command.Command.{Command}
+use Rattle.chain.specs.declared.command.Command.TheVariants as command
+use Rattle.chain.specs.declared.reply.Reply.{Reply}
+use Rattle.chain.specs.declared.reply.Reply.TheVariants as reply
+use Rattle.chain.specs.declared.reply.MarkReply.TheVariants.{Done}
+use Rattle.chain.specs.declared.reply.SubmitReply.{SubmitReply}
+use Rattle.chain.specs.declared.reply.SubmitReply.TheVariants.{Accepted, Inconclusive, Duplicate, DuplicateInvalid, DuplicateInconclusive, Rejected, DecodeFailed, TreeFull}
+use Rattle.chain.specs.Rules.{Rules}
+use Rattle.chain.specs.Valid.{fault}
+use Rattle.chain.specs.Settle.{active, settle}
+use Rattle.chain.specs.Context.{first_fault}
+use Rattle.chain.specs.Submission.{Outcome, submit_says, reply_by_reason, answer_known, answer_added, outcome_by_fault, outcome_of_submission}
+use Rattle.chain.specs.Step.{Submit, Invalidate, Reconsider, Precious, mark_says, outcome_of_invalidate, outcome_of_reconsider, outcome_of_precious, step}
+use Rattle.chain.specs.Commands.{submit_step, command_step, outcome}
+use Rattle.node.specs.inside.Keeping.{is_step, IsReplyTo, IsUndecodable}
 
 -- a reply to a submission that was a step
 abbrev IsJudgement : SubmitReply → Type 0
@@ -46,7 +46,7 @@ by_outcome P true x y p q = p
 by_outcome P false x y p q = q
 
 module _ (r : Rules Block Id) (s : State Block) where
-  is_rejected : (o : Option Reason) → IsJudgement (rejected o)
+  is_rejected : (o : Option Reason) → IsJudgement (reply_by_reason o)
   is_rejected None = tt
   is_rejected (Some reason) = tt
 
@@ -60,38 +60,38 @@ module _ (r : Rules Block Id) (s : State Block) where
   unfolding answer_added
   of_added p =
       by_test IsJudgement (eqb p (active r s)) Accepted _ tt
-      (by_test IsJudgement (has s.bad p) (rejected (fault r s.blocks p)) Inconclusive (is_rejected (fault r s.blocks p)) tt)
+      (by_test IsJudgement (has s.bad p) (reply_by_reason (fault r s.blocks p)) Inconclusive (is_rejected (fault r s.blocks p)) tt)
 
 module _ (r : Rules Block Id) (s : State Block) where
-  of_judged : (b : Block) (o : Option Reason) → IsSubmission (judged r s b o).1
-  unfolding judged
+  of_judged : (b : Block) (o : Option Reason) → IsSubmission (outcome_by_fault r s b o).1
+  unfolding outcome_by_fault
   of_judged b (Some reason) = tt
   of_judged b None =
       let t = settle r (with_block s b (unwrap_or (place_of r.names s.blocks (r.names.parent_of b)) 0)) in
       of_added r t (length t.blocks)
 
-  of_submitted : (now : ℕ) (b : Block) (o : Option ℕ) → IsSubmission (submitted r s now b o).1
-  unfolding submitted
+  of_submitted : (now : ℕ) (b : Block) (o : Option ℕ) → IsSubmission (outcome_of_submission r s now b o).1
+  unfolding outcome_of_submission
   of_submitted now b (Some p) = of_known r s p
-  of_submitted now b None = by_outcome IsSubmission _ (submit_says s TreeFull) (judged r s b (first_fault r s now b)) tt (of_judged b (first_fault r s now b))
+  of_submitted now b None = by_outcome IsSubmission _ (submit_says s TreeFull) (outcome_by_fault r s b (first_fault r s now b)) tt (of_judged b (first_fault r s now b))
 
   of_submit : (now : ℕ) (b : Block) → IsSubmission (step r s (Submit now b)).1
   unfolding step
   of_submit now b = of_submitted now b (place_of r.names s.blocks (r.names.id_of b))
 
-  of_invalidated : (o : Option ℕ) → IsMarking (invalidated r s o).1
-  unfolding invalidated
+  of_invalidated : (o : Option ℕ) → IsMarking (outcome_of_invalidate r s o).1
+  unfolding outcome_of_invalidate
   of_invalidated None = tt
   of_invalidated (Some zero) = tt
   of_invalidated (Some (suc p)) = tt
 
-  of_reconsidered : (o : Option ℕ) → IsMarking (reconsidered r s o).1
-  unfolding reconsidered
+  of_reconsidered : (o : Option ℕ) → IsMarking (outcome_of_reconsider r s o).1
+  unfolding outcome_of_reconsider
   of_reconsidered None = tt
   of_reconsidered (Some p) = tt
 
-  of_preferred : (o : Option ℕ) → IsMarking (preferred r s o).1
-  unfolding preferred
+  of_preferred : (o : Option ℕ) → IsMarking (outcome_of_precious r s o).1
+  unfolding outcome_of_precious
   of_preferred None = tt
   of_preferred (Some p) = by_outcome IsMarking _ (mark_says s Done) (mark_says (settle r (called s p)) Done) tt tt
 

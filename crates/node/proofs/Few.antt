@@ -10,51 +10,51 @@ use Rattle.tree.specs.Branches.{height, place_of}
 use Rattle.tree.specs.State.{State, cleared, called}
 use Rattle.tree.specs.Limits.{max_blocks}
 use Rattle.tree.specs.laws.Parents.{height-place}
-use Rattle.activate.specs.declared.command.Command.{Command}
-use Rattle.activate.specs.declared.command.Command.TheVariants as command
-use Rattle.activate.specs.declared.reply.MarkReply.TheVariants.{Done}
-use Rattle.activate.specs.declared.reply.SubmitReply.TheVariants.{DecodeFailed, TreeFull}
-use Rattle.activate.specs.Rules.{Rules}
-use Rattle.activate.specs.Settle.{active, settle}
-use Rattle.activate.specs.Context.{first_fault}
-use Rattle.activate.specs.Submission.{submit_says, kept_blocks, judged, submitted}
-use Rattle.activate.specs.Step.{mark_says, invalidated, reconsidered, preferred, step}
-use Rattle.activate.specs.Commands.{submit_step, command_step, outcome}
-use Rattle.activate.specs.Sound.{Sound}
-use Rattle.activate.specs.laws.Actives.{active_kept}
+use Rattle.chain.specs.declared.command.Command.{Command}
+use Rattle.chain.specs.declared.command.Command.TheVariants as command
+use Rattle.chain.specs.declared.reply.MarkReply.TheVariants.{Done}
+use Rattle.chain.specs.declared.reply.SubmitReply.TheVariants.{DecodeFailed, TreeFull}
+use Rattle.chain.specs.Rules.{Rules}
+use Rattle.chain.specs.Settle.{active, settle}
+use Rattle.chain.specs.Context.{first_fault}
+use Rattle.chain.specs.Submission.{submit_says, kept_blocks, outcome_by_fault, outcome_of_submission}
+use Rattle.chain.specs.Step.{mark_says, outcome_of_invalidate, outcome_of_reconsider, outcome_of_precious, step}
+use Rattle.chain.specs.Commands.{submit_step, command_step, outcome}
+use Rattle.chain.specs.Settled.{IsSettled}
+use Rattle.chain.specs.laws.Actives.{active_kept}
 
 -- so many blocks are kept at most
 abbrev pub AreFew : State Block → Type 0
 AreFew s = kept_blocks s ≤ max_blocks
 
 module _ (r : Rules Block Id) (s : State Block) (few : AreFew s) where
-  few-judged : (b : Block) (o : Option Reason) → suc (kept_blocks s) ≤ max_blocks → AreFew (judged r s b o).0
-  unfolding judged settle
+  few-judged : (b : Block) (o : Option Reason) → suc (kept_blocks s) ≤ max_blocks → AreFew (outcome_by_fault r s b o).0
+  unfolding outcome_by_fault settle
   few-judged b (Some reason) room = few
   few-judged b None room = room
 
-  few-submitted : (now : ℕ) (b : Block) (o : Option ℕ) → AreFew (submitted r s now b o).0
-  unfolding submitted
+  few-submitted : (now : ℕ) (b : Block) (o : Option ℕ) → AreFew (outcome_of_submission r s now b o).0
+  unfolding outcome_of_submission
   few-submitted now b (Some p) = few
   few-submitted now b None = either (leb max_blocks (kept_blocks s)) refl
     where
-      either : (v : Bool) → leb max_blocks (kept_blocks s) ≡ v → AreFew (cond v (submit_says s TreeFull) (judged r s b (first_fault r s now b))).0
+      either : (v : Bool) → leb max_blocks (kept_blocks s) ≡ v → AreFew (cond v (submit_says s TreeFull) (outcome_by_fault r s b (first_fault r s now b))).0
       either true e = few
       either false e = let l = leb-false max_blocks (kept_blocks s) e in few-judged b (first_fault r s now b) (omega arith)
 
-  few-invalidated : (o : Option ℕ) → AreFew (invalidated r s o).0
-  unfolding invalidated settle
+  few-invalidated : (o : Option ℕ) → AreFew (outcome_of_invalidate r s o).0
+  unfolding outcome_of_invalidate settle
   few-invalidated None = few
   few-invalidated (Some zero) = few
   few-invalidated (Some (suc p)) = few
 
-  few-reconsidered : (o : Option ℕ) → AreFew (reconsidered r s o).0
-  unfolding reconsidered cleared settle
+  few-reconsidered : (o : Option ℕ) → AreFew (outcome_of_reconsider r s o).0
+  unfolding outcome_of_reconsider cleared settle
   few-reconsidered None = few
   few-reconsidered (Some p) = few
 
-  few-preferred : (o : Option ℕ) → AreFew (preferred r s o).0
-  unfolding preferred settle
+  few-preferred : (o : Option ℕ) → AreFew (outcome_of_precious r s o).0
+  unfolding outcome_of_precious settle
   few-preferred None = few
   few-preferred (Some p) =
       elim (ltb (height s.blocks p) (height s.blocks (active r s))) as (λ (v : Bool). AreFew (cond v (mark_says s Done) (mark_says (settle r (called s p)) Done)).0) [
@@ -75,7 +75,7 @@ module _ (r : Rules Block Id) (s : State Block) (few : AreFew s) where
   few-outcome (command.Precious id) = few-preferred (place_of r.names s.blocks id)
 
   -- the active block's height is below the limit
-  pub height-few : Sound r s → height s.blocks (active r s) < max_blocks
+  pub height-few : IsSettled r s → height s.blocks (active r s) < max_blocks
   height-few sound =
       let kept = active_kept r s sound.genesis in
       let low = height-place s.blocks (active r s) (active r s) (omega arith) kept in

@@ -4,20 +4,21 @@ use Rattle.std.specs.FinMap as coin_map
 use Rattle.block.specs.declared.block.Block.{Block}
 use Rattle.rules.specs.declared.params.Params.{Params}
 use Rattle.tree.specs.State.{State}
-use Rattle.activate.specs.declared.command.Command.{Command}
-use Rattle.activate.specs.declared.reply.Reply.{Reply}
-use Rattle.activate.specs.declared.reply.Reply.TheVariants as reply
-use Rattle.activate.specs.declared.reply.SubmitReply.TheVariants.{DecodeFailed}
-use Rattle.activate.specs.declared.entry.Entry.{Entry}
-use Rattle.activate.specs.Submission.{Outcome, submit_says}
-use Rattle.activate.specs.Commands.{command_step, outcome}
-use Rattle.activate.specs.Regtest.{regtest}
-use Rattle.activate.specs.Machine.{Machine}
-use Rattle.activate.specs.History.{left, state_after, Answers, entry}
-use Rattle.activate.specs.Tracked.{WithCoins, IsChainstate, genesis_alone}
-use Rattle.activate.specs.laws.History.{state_after-append, legal_push}
+use Rattle.chain.specs.declared.command.Command.{Command}
+use Rattle.chain.specs.declared.reply.Reply.{Reply}
+use Rattle.chain.specs.declared.reply.Reply.TheVariants as reply
+use Rattle.chain.specs.declared.reply.SubmitReply.TheVariants.{DecodeFailed}
+use Rattle.chain.specs.declared.entry.Entry.{Entry}
+use Rattle.chain.specs.Submission.{Outcome, submit_says}
+use Rattle.chain.specs.Commands.{command_step, outcome}
+use Rattle.chain.specs.Regtest.{regtest}
+use Rattle.chain.specs.Machine.{Machine}
+use Rattle.chain.specs.History.{state_left, state_after_entries, Answers, entry_of}
+use Rattle.activate.specs.CoreState.{WithCoins, IsChainstate, genesis_alone}
+use Rattle.chain.specs.laws.History.{state_after-append, legal_push}
 use Rattle.node.specs.Origin.{Origin, machine}
-use Rattle.node.specs.Held.{Held, IsKept, IsLegal, IsReplyTo, IsUndecodable, Takes, is_step, state_of}
+use Rattle.node.specs.History.{NodeHistory}
+use Rattle.node.specs.inside.Keeping.{IsKept, IsLegal, IsReplyTo, IsUndecodable, Takes, is_step, last_state}
 use Rattle.node.proofs.Comes.{comes}
 use Rattle.node.proofs.Few.{AreFew, few-outcome}
 
@@ -25,7 +26,7 @@ use Rattle.node.proofs.Few.{AreFew, few-outcome}
 pub opens : (o : Origin) (chain : WithCoins) (journal : List Entry) → chain ≡ record { core = genesis_alone o.params; coins = coin_map.empty } → IsChainstate chain o.triples → journal ≡ [] → IsKept o chain journal
 opens o chain journal is sound none = record {
   legal = subst (λ (j : List Entry). IsLegal (record { origin = o; journal = j })) (sym none) tt;
-  state_is = ap (λ (c : WithCoins). c.core.state) is ∙ ap (λ (j : List Entry). state_of (record { origin = o; journal = j })) (sym none);
+  state_is = ap (λ (c : WithCoins). c.core.state) is ∙ ap (λ (j : List Entry). last_state (record { origin = o; journal = j })) (sym none);
   params_are = ap (λ (c : WithCoins). c.core.params) is;
   is_chainstate = sound;
   few = subst (λ (c : WithCoins). AreFew c.core.state) (sym is) (omega arith);
@@ -69,24 +70,24 @@ module _ (o : Origin) (old new : WithCoins) (journal : List Entry) (number : ℕ
     pub taken_reply : IsReplyTo c r
     taken_reply = taken.1
 
-    pub taken_kept : number < o.seats → (more : List Entry) → more ≡ journal ++ entry number c (Some r) ∷ [] → IsKept o new more
+    pub taken_kept : number < o.seats → (more : List Entry) → more ≡ journal ++ entry_of number c (Some r) ∷ [] → IsKept o new more
     taken_kept lt more is =
         let m : Machine = machine o in
-        let e : Entry = entry number c (Some r) in
-        let now : s ≡ state_after m m.opening journal = kept.state_is in
-        let stepped_now : m.step (state_after m m.opening journal) c ≡ Some (new.core.state, r) = subst (λ (x : State Block). m.step x c ≡ Some (new.core.state, r)) now taken.0 in
-        let right : Answers (Some r) (m.step (state_after m m.opening journal) c) = subst (λ (x : Option (Outcome Block)). Answers (Some r) x) (sym stepped_now) refl in
+        let e : Entry = entry_of number c (Some r) in
+        let now : s ≡ state_after_entries m m.opening journal = kept.state_is in
+        let stepped_now : m.step (state_after_entries m m.opening journal) c ≡ Some (new.core.state, r) = subst (λ (x : State Block). m.step x c ≡ Some (new.core.state, r)) now taken.0 in
+        let right : Answers (Some r) (m.step (state_after_entries m m.opening journal) c) = subst (λ (x : Option (Outcome Block)). Answers (Some r) x) (sym stepped_now) refl in
         subst (λ (j : List Entry). IsKept o new j) (sym is) (record {
           legal = legal_push m o.seats m.opening journal e kept.legal (record { seat_is = lt; reply_is = right });
-          state_is = sym (state_after-append m m.opening journal (e ∷ []) ∙ ap (left (state_after m m.opening journal)) stepped_now);
+          state_is = sym (state_after-append m m.opening journal (e ∷ []) ∙ ap (state_left (state_after_entries m m.opening journal)) stepped_now);
           params_are = params-new;
           is_chainstate = stepped.is_chainstate;
           few = few-new;
         })
 
-    pub taken_takes : (h : Held) (more : List Entry) → record { origin = o; journal = journal } ≡ h → more ≡ journal ++ entry number c (Some r) ∷ [] → Takes h (record { origin = o; journal = more }) number c r
+    pub taken_takes : (h : NodeHistory) (more : List Entry) → record { origin = o; journal = journal } ≡ h → more ≡ journal ++ entry_of number c (Some r) ∷ [] → Takes h (record { origin = o; journal = more }) number c r
     taken_takes h more of is =
-        subst (λ (x : Held). Takes x (record { origin = o; journal = more }) number c r) of
+        subst (λ (x : NodeHistory). Takes x (record { origin = o; journal = more }) number c r) of
         (inl (step, taken_reply, ap (λ (j : List Entry). record { origin = o; journal = j }) is))
 
   -- without a step nothing changes
@@ -113,7 +114,7 @@ module _ (o : Origin) (old new : WithCoins) (journal : List Entry) (number : ℕ
           few = few-new;
         })
 
-    pub stayed_takes : (h : Held) (same : List Entry) → record { origin = o; journal = journal } ≡ h → same ≡ journal → Takes h (record { origin = o; journal = same }) number c r
+    pub stayed_takes : (h : NodeHistory) (same : List Entry) → record { origin = o; journal = journal } ≡ h → same ≡ journal → Takes h (record { origin = o; journal = same }) number c r
     stayed_takes h same of is =
-        subst (λ (x : Held). Takes x (record { origin = o; journal = same }) number c r) of
+        subst (λ (x : NodeHistory). Takes x (record { origin = o; journal = same }) number c r) of
         (inr (stayed_reply, stayed_bytes, ap (λ (j : List Entry). record { origin = o; journal = j }) is))

@@ -1,6 +1,7 @@
 pub mod Calls
 pub mod Finishing
-pub mod Held
+pub mod History
 pub mod Opening
 pub mod Origin
 pub mod Pass
+pub mod inside

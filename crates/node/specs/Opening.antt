@@ -4,16 +4,16 @@ use Rattle.node.specs.declared.fault.OpenFault.{OpenFault}
 use Rattle.node.specs.declared.fault.OpenFault.TheVariants.{Workers, Seats, Memory, Readers}
 
 -- 1 to 16
-abbrev pub IsCount : ℕ → Type 0
-IsCount n = (1 ≤ n) × (n ≤ 16)
+abbrev pub IsWorkerCount : ℕ → Type 0
+IsWorkerCount n = (1 ≤ n) × (n ≤ 16)
 
 -- this version has one
-abbrev pub AreSeats : ℕ → Type 0
-AreSeats n = n ≡ 1
+abbrev pub IsSeatCount : ℕ → Type 0
+IsSeatCount n = n ≡ 1
 
 -- the first of these that holds
-abbrev pub Refused : ℕ → ℕ → OpenFault → Type 0
-Refused workers seats Workers = ¬ IsCount workers
-Refused workers seats Seats = IsCount workers × ¬ AreSeats seats
-Refused workers seats Memory = IsCount workers × AreSeats seats
-Refused workers seats Readers = ⊥
+abbrev pub IsOpenFault : ℕ → ℕ → OpenFault → Type 0
+IsOpenFault workers seats Workers = ¬ IsWorkerCount workers
+IsOpenFault workers seats Seats = IsWorkerCount workers × ¬ IsSeatCount seats
+IsOpenFault workers seats Memory = IsWorkerCount workers × IsSeatCount seats
+IsOpenFault workers seats Readers = ⊥

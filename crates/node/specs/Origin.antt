@@ -1,10 +1,13 @@
 -- What a node and its seats are of, and their chainstate.
-use Rattle.std.specs.Prelude.{ℕ}
+use Rattle.std.specs.Prelude.{ℕ, List, map, Option, option_map}
+use Rattle.txn.specs.declared.outpoint.OutPoint.{OutPoint}
 use Rattle.curve.specs.Triple.{Triples}
 use Rattle.coins.specs.declared.coin.Coin.{Coin}
+use Rattle.tree.specs.declared.tip.Tip.{Tip}
+use Rattle.tree.specs.Tips.{shown}
 use Rattle.rules.specs.declared.params.Params.{Params}
-use Rattle.activate.specs.Machine.{Machine}
-use Rattle.activate.specs.Chainstate.{chainstate}
+use Rattle.chain.specs.Machine.{Machine}
+use Rattle.chain.specs.Chainstate.{chainstate}
 use Rattle.node.specs.declared.answer.UnspentOutput.{UnspentOutput}
 
 -- the heights of soft forks, the valid signatures, and how many seats there are
@@ -13,18 +16,28 @@ pub record Origin : Type 0 where
   pub triples : Triples
   pub seats : ℕ
 
+-- what a node and its seats are of, from its parts
 abbrev pub origin : Params → Triples → ℕ → Origin
 origin params triples seats = record { params = params; triples = triples; seats = seats }
 
+-- the chainstate under these heights and signatures
 abbrev pub machine : Origin → Machine
 machine o = chainstate o.params o.triples
 
 -- a coin and how many blocks confirm it, as a seat tells them
-abbrev pub unspent : Coin × ℕ → UnspentOutput
-unspent (coin, confirmations) = record {
+abbrev pub unspent_output : Coin × ℕ → UnspentOutput
+unspent_output (coin, confirmations) = record {
   value = coin.value;
   script = coin.script;
   height = coin.height;
   coinbase = coin.coinbase;
   confirmations = confirmations;
 }
+
+-- the output at an outpoint, as a seat tells it, where it isn't spent
+abbrev pub output_at : (o : Origin) → OutPoint → (machine o).State → Option UnspentOutput
+output_at o at s = option_map unspent_output ((machine o).coin s at)
+
+-- the tips, as a seat tells them
+abbrev pub shown_tips : (o : Origin) → (machine o).State → List Tip
+shown_tips o s = map shown ((machine o).tips s)

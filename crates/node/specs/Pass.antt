@@ -1,12 +1,13 @@
 -- The pass of a seat: what it has seen of the history, and what of it is its own.
-use Rattle.std.specs.Prelude.{◌≡◌, ◌&&◌, ℕ, zero, suc, Bool, true, false, is_none, cond, List, [], ◌∷◌, ◌++◌, length, Option, Some}
+use Rattle.std.specs.Prelude.{◌≡◌, ◌&&◌, ℕ, zero, suc, Bool, true, false, is_none, if◌then◌else◌}
+use Rattle.std.specs.Prelude.{List, [], ◌∷◌, ◌++◌, length, Option, Some}
 use mathlib.Core.List.{IsPrefix}
-use Rattle.activate.specs.declared.command.Command.{Command}
-use Rattle.activate.specs.declared.reply.Reply.{Reply}
-use Rattle.activate.specs.declared.entry.Entry.{Entry}
-use Rattle.activate.specs.History.{state_at, Legal, own_of, entry}
+use Rattle.chain.specs.declared.command.Command.{Command}
+use Rattle.chain.specs.declared.reply.Reply.{Reply}
+use Rattle.chain.specs.declared.entry.Entry.{Entry}
+use Rattle.chain.specs.History.{state_at, Legal, own_of, entry_of}
 use Rattle.node.specs.Origin.{Origin, machine}
-use Rattle.node.specs.Held.{Held, held}
+use Rattle.node.specs.History.{NodeHistory, seat_history}
 
 -- the seat's number, what it is of, whether its node is finished, the beginning of the history that the seat
 -- has seen, and its own entries in order
@@ -18,8 +19,8 @@ pub record Pass : Type 0 where
   pub mine : List Entry
 
 -- that of a seat which has seen all that is kept
-abbrev pub pass_of : ℕ → Option Held → Held → Pass
-pass_of number history last = let h = held history last in record {
+abbrev pub pass_of : ℕ → Option NodeHistory → NodeHistory → Pass
+pass_of number history last = let h = seat_history history last in record {
   number = number;
   origin = h.origin;
   finished = is_none history;
@@ -28,17 +29,17 @@ pass_of number history last = let h = held history last in record {
 }
 
 -- a seat that has seen and done nothing
-abbrev pub fresh : Origin → ℕ → Pass
-fresh o number = record { number = number; origin = o; finished = false; seen = []; mine = [] }
+abbrev pub opening_pass : Origin → ℕ → Pass
+opening_pass o number = record { number = number; origin = o; finished = false; seen = []; mine = [] }
 
 -- so many seats, numbered from 0
-abbrev pub fresh_seats : Origin → ℕ → List Pass
-fresh_seats o zero = []
-fresh_seats o (suc n) = fresh_seats o n ++ fresh o n ∷ []
+abbrev pub opening_passes : Origin → ℕ → List Pass
+opening_passes o zero = []
+opening_passes o (suc n) = opening_passes o n ++ opening_pass o n ∷ []
 
 -- the seat of a finished node
-abbrev pub finished : Pass → Pass
-finished p = record p { finished = true }
+abbrev pub finished_pass : Pass → Pass
+finished_pass p = record p { finished = true }
 
 -- of the same seat: what it has seen only grew, and is legal
 pub record IsLater (p q : Pass) : Type 0 where
@@ -54,28 +55,30 @@ all_owed [] = true
 all_owed (e ∷ es) = is_none e.reply && all_owed es
 
 -- the entries up to the last whose reply isn't owed
-abbrev pub answered : List Entry → List Entry
-answered [] = []
-answered (e ∷ es) = cond (all_owed (e ∷ es)) [] (e ∷ answered es)
+abbrev pub answered_entries : List Entry → List Entry
+answered_entries [] = []
+answered_entries (e ∷ es) = if all_owed (e ∷ es) then [] else e ∷ answered_entries es
 
 -- the seat's entries in what it has seen begin with its own up to the last whose reply isn't owed
 abbrev pub IsOwn : Pass → Type 0
-IsOwn p = IsPrefix (answered p.mine) (own_of p.number p.seen)
+IsOwn p = IsPrefix (answered_entries p.mine) (own_of p.number p.seen)
 
 -- the step stands last in what the seat has then seen, with this reply, and the seat's entries are its own
-pub record Wrote (p q : Pass) (command : Command) (at : ℕ) (reply : Reply) : Type 0 where
-  pub last : (before : List Entry) × (q.seen ≡ before ++ entry p.number command (Some reply) ∷ []) × IsPrefix p.seen before
+pub record IsWrite (p q : Pass) (command : Command) (at : ℕ) (reply : Reply) : Type 0 where
+  pub last : let e = entry_of p.number command (Some reply) in
+      (before : List Entry) × (q.seen ≡ before ++ e ∷ []) × IsPrefix p.seen before
   pub at_is : at ≡ length q.seen
-  pub mine_is : q.mine ≡ p.mine ++ entry p.number command (Some reply) ∷ []
+  pub mine_is : q.mine ≡ p.mine ++ entry_of p.number command (Some reply) ∷ []
   pub own_is : own_of q.number q.seen ≡ q.mine
 
 -- no step was taken
-pub record Stayed (p q : Pass) (at : ℕ) : Type 0 where
+pub record IsNoStep (p q : Pass) (at : ℕ) : Type 0 where
   pub same : q ≡ p
   pub at_is : at ≡ length p.seen
 
 -- the value is what the history's state gives after all that the seat has then seen
-pub record IsRead (p q : Pass) {V : Type 0} (value : (machine p.origin).State → V) (at : ℕ) (answer : V) : Type 0 where
+pub record IsRead (p q : Pass) {V : Type 0} (value : (machine p.origin).State → V)
+    (at : ℕ) (answer : V) : Type 0 where
   pub at_is : at ≡ length q.seen
   pub value_is : answer ≡ value (state_at (machine p.origin) q.seen at)
   pub mine_is : q.mine ≡ p.mine

@@ -27,7 +27,7 @@ pub struct UnspentOutput {
 }
 
 impl UnspentOutput {
-    ghost use Rattle.node.specs.Origin.{unspent};
+    ghost use Rattle.node.specs.Origin.{unspent_output};
 
     /// What is told of a coin that so many blocks confirm.
     pub(crate) fn of(
@@ -35,7 +35,7 @@ impl UnspentOutput {
         coin: &Coin,
         confirmations: u32,
     ) -> Result<UnspentOutput, Memory>
-        ensures { IfOk result (λ output. output ≡ unspent (coin.now, confirmations)) }
+        ensures { IfOk result (λ output. output ≡ unspent_output (coin.now, confirmations)) }
     {
         Ok(UnspentOutput {
             value: coin.value,

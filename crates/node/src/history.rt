@@ -1,20 +1,23 @@
 //! The history, and the chainstate after it.
 
-ghost use Rattle.std.specs.Prelude.{◌≡◌, ◌<◌, ◌≤◌, [], length, map, option_map, IfOk, OnErr, Decides};
-ghost use Rattle.tree.specs.Tips.{shown};
-ghost use Rattle.activate.specs.Regtest.{regtest};
-ghost use Rattle.activate.specs.Chainstate.{confirmations};
-ghost use Rattle.activate.specs.History.{Legal};
-ghost use Rattle.node.specs.Origin.{machine, origin, unspent};
-ghost use Rattle.node.specs.Held.{Takes, state_of, is_step};
+ghost use Rattle.std.specs.Prelude.{◌≡◌, ◌<◌, ◌≤◌, [], length};
+ghost use Rattle.std.specs.Prelude.{IfOk, OnErr, Decides};
+ghost use Rattle.chain.specs.Regtest.{regtest};
+ghost use Rattle.chain.specs.Chainstate.{confirmations};
+ghost use Rattle.chain.specs.History.{Legal};
+ghost use Rattle.node.specs.Origin.{machine, origin, output_at, shown_tips};
+ghost use Rattle.node.specs.inside.Keeping.{Takes, last_state, is_step};
+ghost use Rattle.chain.specs.Commands.{outcome};
+ghost use Rattle.activate.specs.CoreState.{IsChainstate};
 
 use crate::answer::UnspentOutput;
-use activate::{Chainstate, Command, Entry, Reply, SubmitReply};
+use activate::Chainstate;
+use chain::{Command, Entry, Reply, SubmitReply};
 use coins::Base;
 use connect::Env;
 use curve::Table;
 use hash::Id;
-use queue::{Gate, Threaded};
+use queue::{Crew, Gate, Threaded};
 use rules::Params;
 use std::alloc::Global;
 use std::marker::Model;
@@ -25,36 +28,46 @@ use wire::Memory;
 
 /// The entries so far, and the chainstate after them.
 #[derive(Drop)]
-pub struct History {
+pub struct History<'t> {
     alloc: Global,
     params: Params,
-    table: Table,
+    /// It is lent, and the same at each step.
+    table: &'t Table,
     /// How many seats there are.
     seats: usize,
     chain: Chainstate,
     journal: Vec<Entry>,
 }
 
-impl Model for History {
+impl<'t> Model for History<'t> {
     ghost use Rattle.std.specs.Coded.{codes};
     ghost use Rattle.std.specs.FinSet as set;
     ghost use Rattle.curve.specs.Triple.{triple_cmp, coded_triple};
     ghost use Rattle.node.specs.Origin.{origin};
-    ghost use Rattle.node.specs.Held.{Held, IsKept};
+    ghost use Rattle.node.specs.History.{NodeHistory};
+    ghost use Rattle.node.specs.inside.Keeping.{IsKept};
 
-    ghost Value = { Held };
+    ghost Value = { NodeHistory };
 
     ghost coded = { Prim.hlevel (codes, set.code {R = triple_cmp} coded_triple) };
 
-    ghost view = { λ s. record { origin = origin s.params s.table s.seats; journal = s.journal.items } };
+    ghost view = { λ s. let o = origin s.params s.table.now s.seats in
+        record { origin = o; journal = s.journal.items } };
 
-    ghost invariant = { λ s. IsKept (origin s.params s.table s.seats) s.chain s.journal.items };
+    ghost invariant = { λ s. let o = origin s.params s.table.now s.seats in
+        IsKept o s.chain s.journal.items };
 }
 
-impl History {
+impl<'t> History<'t> {
     /// No entry yet.
-    pub fn new(alloc: Global, params: Params, table: Table, seats: usize) -> Result<History, Memory>
-        ensures { IfOk result (λ history. history ≡ record { origin = origin params table seats; journal = [] }) }
+    pub fn new(
+        alloc: Global,
+        params: Params,
+        table: &'t Table,
+        seats: usize,
+    ) -> Result<History<'t>, Memory>
+        ensures { let o = origin params table.now seats in
+            IfOk result (λ history. history ≡ record { origin = o; journal = [] }) }
     {
         Ok(History {
             alloc,
@@ -90,14 +103,15 @@ impl History {
 
     /// The best block's id.
     pub fn best(&self) -> Id
-        ensures { let m = machine self.now.origin in result ≡ m.best (state_of self.now) }
+        ensures { let m = machine self.now.origin in result ≡ m.best (last_state self.now) }
     {
         self.chain.best()
     }
 
     /// The tips of the tree.
     pub fn tips(&self, alloc: Global) -> Result<Vec<Tip>, Memory>
-        ensures { let m = machine self.now.origin in IfOk result (λ list. list.items ≡ map shown (m.tips (state_of self.now))) }
+        ensures { let tips = shown_tips self.now.origin (last_state self.now) in
+            IfOk result (λ list. list.items ≡ tips) }
     {
         self.chain.tips(alloc)
     }
@@ -108,7 +122,8 @@ impl History {
         alloc: Global,
         outpoint: &OutPoint,
     ) -> Result<Option<UnspentOutput>, Memory>
-        ensures { let m = machine self.now.origin in IfOk result (λ found. found ≡ option_map unspent (m.coin (state_of self.now) outpoint.now)) }
+        ensures { let output = output_at self.now.origin outpoint.now (last_state self.now) in
+            IfOk result (λ found. found ≡ output) }
     {
         let Some(coin) = self.chain.coins().get(outpoint) else {
             return Ok(None);
@@ -133,13 +148,15 @@ impl History {
         ensures kept { OnErr result (self.new ≡ self.old) }
     {
         self.journal.reserve(1)?;
-        let env = Env {
-            table: &self.table,
+        let reply = step_with(
+            self.alloc,
+            &mut self.chain,
+            &command,
+            self.table,
             workers,
-            early: &[],
-            crew: &Threaded { rt },
-        };
-        let reply = self.chain.step(self.alloc, &command, &env, gate)?;
+            &Threaded { rt },
+            gate,
+        )?;
         if !is_step(&reply) {
             return Ok(reply);
         }
@@ -153,8 +170,8 @@ impl History {
 
     /// The entries, given away.
     pub fn into_journal(self) -> Vec<Entry>
-        ensures journal { result.items ≡ self.journal }
-        ensures legal { Legal (machine self.origin) self.origin.seats result.items }
+        ensures journal { result.items ≡ self.entry.journal }
+        ensures legal { let o = self.entry.origin in Legal (machine o) o.seats result.items }
     {
         let History { journal, .. } = self;
         journal
@@ -162,11 +179,42 @@ impl History {
 
     /// How many blocks of the active branch there are from this height on.
     fn confirmations(&self, height: u32) -> u32
-        ensures { let o = self.now.origin in result ≡ confirmations (regtest o.params o.triples) (state_of self.now) height }
+        ensures { let o = self.now.origin in
+            result ≡ confirmations (regtest o.params o.triples) (last_state self.now) height }
     {
         let blocks = self.chain.height() as u32 + 1;
         blocks.saturating_sub(height)
     }
+}
+
+/// One step of a chainstate, its scripts run by this crew. The environment is made where the crew's type is a parameter
+/// (`connect::Env` says why).
+fn step_with<C: Crew>(
+    alloc: Global,
+    chain: &mut Chainstate,
+    command: &Command,
+    table: &Table,
+    workers: usize,
+    crew: &C,
+    gate: &(dyn Gate + Sync),
+) -> Result<Reply, Memory>
+    requires is_chainstate { IsChainstate chain.old table.now }
+    requires ready { C.is_ready crew.now }
+    requires workers { (1 ≤ workers) × (workers ≤ 16) }
+    ensures outcome { let old = chain.old.core in
+        IfOk result (λ reply. (chain.new.core.state, reply)
+        ≡ outcome (regtest old.params table.now) old.state command.now) }
+    ensures params { chain.new.core.params ≡ chain.old.core.params }
+    ensures is_chainstate { IsChainstate chain.new table.now }
+    ensures err { OnErr result (chain.new ≡ chain.old) }
+{
+    let env = Env {
+        table,
+        workers,
+        early: &[],
+        crew,
+    };
+    chain.step(alloc, command, &env, gate)
 }
 
 /// Whether it is the reply to what takes a step.

@@ -7,8 +7,8 @@ mod history;
 mod node;
 mod seat;
 
-pub use activate::{Bytes, Command, Entry, MarkReply, Reply, SubmitReply};
 pub use answer::{Stamped, UnspentOutput};
+pub use chain::{Bytes, Command, Entry, MarkReply, Reply, SubmitReply};
 pub use curve::Table;
 pub use fault::{Fault, OpenFault};
 pub use node::{Node, NodeOf};
@@ -16,6 +16,3 @@ pub use queue::{Gate, Open};
 pub use rules::Params;
 pub use seat::Seat;
 pub use tree::{Status, Tip};
-
-#[cfg(test)]
-mod tests;

@@ -1,17 +1,18 @@
 //! The node: what the seats share.
 
-ghost use Rattle.std.specs.Prelude.{◌≡◌, ℕ, [], ◌∷◌, map, IfOk, IfErr, OnOk, OnErr, Some, slice_get, Decides};
-ghost use Rattle.activate.specs.History.{Legal};
+ghost use Rattle.std.specs.Prelude.{◌≡◌, ℕ, [], ◌∷◌, map, Some, slice_get};
+ghost use Rattle.std.specs.Prelude.{IfOk, IfErr, OnOk, OnErr, Decides};
+ghost use Rattle.chain.specs.History.{Legal};
 ghost use Rattle.node.specs.Origin.{machine, origin};
-ghost use Rattle.node.specs.Pass.{Pass, IsStanding, finished, fresh, fresh_seats};
-ghost use Rattle.node.specs.Opening.{IsCount, AreSeats, Refused};
+ghost use Rattle.node.specs.Pass.{Pass, IsStanding, finished_pass, opening_pass, opening_passes};
+ghost use Rattle.node.specs.Opening.{IsWorkerCount, IsSeatCount, IsOpenFault};
 ghost use Rattle.node.specs.Finishing.{IsUnfit};
 ghost use Rattle.node.specs.declared.fault.Fault.TheVariants as faults;
 
 use crate::fault::{Fault, OpenFault};
 use crate::history::History;
 use crate::seat::Seat;
-use activate::Entry;
+use chain::Entry;
 use curve::Table;
 use queue::Gate;
 use rules::Params;
@@ -28,19 +29,19 @@ const SEATS: usize = 1;
 /// What the seats share. A clause sees of what they are: the heights of soft forks, the valid signatures and
 /// how many seats there are.
 #[derive(Drop)]
-pub struct NodeOf<G> {
+pub struct NodeOf<'t, G> {
     pub(crate) alloc: Global,
     params: Params,
-    table: Table,
+    table: &'t Table,
     seats: usize,
     pub(crate) workers: usize,
     pub(crate) gate: G,
 }
 
 /// A node whose gate is known by its trait alone.
-pub type Node<'g> = NodeOf<&'g (dyn Gate + Sync)>;
+pub type Node<'g> = NodeOf<'g, &'g (dyn Gate + Sync)>;
 
-impl<G> Model for NodeOf<G> {
+impl<'t, G> Model for NodeOf<'t, G> {
     ghost use Rattle.std.specs.Prelude.{◌≤◌};
     ghost use Rattle.std.specs.Coded.{codes};
     ghost use Rattle.std.specs.FinSet as set;
@@ -51,25 +52,29 @@ impl<G> Model for NodeOf<G> {
 
     ghost coded = { Prim.hlevel (codes, set.code {R = triple_cmp} coded_triple) };
 
-    ghost view = { λ node. origin node.params node.table node.seats };
+    ghost view = { λ node. origin node.params node.table.now node.seats };
 
     ghost invariant = { λ node. (1 ≤ node.workers) × (node.workers ≤ 16) };
 }
 
-impl<'g> NodeOf<&'g (dyn Gate + Sync)> {
+impl<'g> NodeOf<'g, &'g (dyn Gate + Sync)> {
     /// A node and its seats, numbered from 0. This version has one seat.
     ///
-    /// Scripts are run by so many workers, and the gate is called round each.
+    /// Scripts are run by so many workers, and the gate is called round each. The table of valid signatures is
+    /// lent for as long as node and seats live; it isn't copied.
     pub fn open(
         alloc: Global,
         params: Params,
-        table: Table,
+        table: &'g Table,
         workers: usize,
         seats: usize,
         gate: &'g (dyn Gate + Sync),
-    ) -> Result<(Node<'g>, Vec<Seat>), OpenFault>
-        ensures opened { IfOk result (λ r. IsCount workers × AreSeats seats × (r.0 ≡ origin params table seats) × (r.1.items ≡ fresh_seats (origin params table seats) seats)) }
-        ensures refused { IfErr result (λ fault. Refused workers seats fault) }
+    ) -> Result<(Node<'g>, Vec<Seat<'g>>), OpenFault>
+        ensures counts { OnOk result (IsWorkerCount workers × IsSeatCount seats) }
+        ensures node { IfOk result (λ r. r.0 ≡ origin params table.now seats) }
+        ensures seats { let o = origin params table.now seats in
+            IfOk result (λ r. r.1.items ≡ opening_passes o seats) }
+        ensures refused { IfErr result (λ fault. IsOpenFault workers seats fault) }
     {
         if workers < 1 || workers > MAX_WORKERS {
             return Err(OpenFault::Workers);
@@ -77,10 +82,7 @@ impl<'g> NodeOf<&'g (dyn Gate + Sync)> {
         if seats != SEATS {
             return Err(OpenFault::Seats);
         }
-        let Ok(kept) = table.copy() else {
-            return Err(OpenFault::Memory);
-        };
-        let Ok(list) = one_seat(alloc, params, kept) else {
+        let Ok(list) = one_seat(alloc, params, table) else {
             return Err(OpenFault::Memory);
         };
         let node = NodeOf {
@@ -98,16 +100,34 @@ impl<'g> NodeOf<&'g (dyn Gate + Sync)> {
     ///
     /// The seats are those of this node that came back, each once. They are finished then, and their calls are
     /// answered [`Fault::Closed`]. The only seat holds the history: without it the list is empty.
-    pub fn finish(self, seats: &mut [Seat]) -> Result<Vec<Entry>, Fault>
-        ensures legal { IfOk result (λ history. Legal (machine self.entry) self.entry.seats history.items) }
-        ensures each { IfOk result (λ history. (k : ℕ) (p : Pass) → slice_get seats.old k ≡ Some p → IsStanding history.items p) }
-        ensures finished { OnOk result (seats.new ≡ map finished seats.old) }
-        ensures fault { IfErr result (λ fault. (fault ≡ faults.Closed) × IsUnfit self.entry seats.old) }
+    pub fn finish(self, seats: &mut [Seat<'_>]) -> Result<Vec<Entry>, Fault>
+        ensures legal { let o = self.entry in
+            IfOk result (λ history. Legal (machine o) o.seats history.items) }
+        ensures each { (k : ℕ) (p : Pass) → slice_get seats.old k ≡ Some p →
+            IfOk result (λ history. IsStanding history.items p) }
+        ensures finished { OnOk result (seats.new ≡ map finished_pass seats.old) }
+        ensures closed { IfErr result (λ fault. fault ≡ faults.Closed) }
+        ensures unfit { OnErr result (IsUnfit self.entry seats.old) }
+        ensures kept { OnErr result (seats.new ≡ seats.old) }
+    {
+        let node = self;
+        node.whole_history(seats)
+    }
+
+    /// The same, of a node that stays.
+    fn whole_history(&self, seats: &mut [Seat<'_>]) -> Result<Vec<Entry>, Fault>
+        ensures legal { let o = self.now in
+            IfOk result (λ history. Legal (machine o) o.seats history.items) }
+        ensures each { (k : ℕ) (p : Pass) → slice_get seats.old k ≡ Some p →
+            IfOk result (λ history. IsStanding history.items p) }
+        ensures finished { OnOk result (seats.new ≡ map finished_pass seats.old) }
+        ensures closed { IfErr result (λ fault. fault ≡ faults.Closed) }
+        ensures unfit { OnErr result (IsUnfit self.now seats.old) }
         ensures kept { OnErr result (seats.new ≡ seats.old) }
     {
         match seats {
             [] => Ok(Vec::new(self.alloc)),
-            [seat] => match seat.give(&self) {
+            [seat] => match seat.give(self) {
                 Some(journal) => Ok(journal),
                 None => Err(Fault::Closed),
             },
@@ -116,16 +136,17 @@ impl<'g> NodeOf<&'g (dyn Gate + Sync)> {
     }
 
     /// Whether the history is of this node.
-    pub(crate) fn has(&self, history: &History) -> bool
+    pub(crate) fn has(&self, history: &History<'_>) -> bool
         ensures { Decides result (history.now.origin ≡ self.now) }
     {
-        history.is_of(&self.params, &self.table, self.seats)
+        history.is_of(&self.params, self.table, self.seats)
     }
 }
 
 /// The list of one seat.
-fn one_seat(alloc: Global, params: Params, table: Table) -> Result<Vec<Seat>, Memory>
-    ensures { IfOk result (λ list. list.items ≡ fresh (origin params table 1) 0 ∷ []) }
+fn one_seat<'t>(alloc: Global, params: Params, table: &'t Table) -> Result<Vec<Seat<'t>>, Memory>
+    ensures { let o = origin params table.now 1 in
+        IfOk result (λ list. list.items ≡ opening_pass o 0 ∷ []) }
 {
     let history = History::new(alloc, params, table, SEATS)?;
     let mut list = Vec::new(alloc);

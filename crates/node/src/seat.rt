@@ -1,17 +1,16 @@
 //! Seats: a caller's place at the history.
 
-ghost use Rattle.std.specs.Prelude.{◌≡◌, ◌⊎◌, ◌<◌, [], true, map, option_map, IfOk, IfErr, IfSome, IfNone};
-ghost use Rattle.tree.specs.Tips.{shown};
-ghost use Rattle.activate.specs.declared.command.Command.TheVariants as command;
-ghost use Rattle.activate.specs.declared.reply.Reply.TheVariants as reply;
-ghost use Rattle.activate.specs.History.{Legal};
-ghost use Rattle.node.specs.Origin.{machine, unspent};
+ghost use Rattle.std.specs.Prelude.{◌≡◌, ◌<◌, []};
+ghost use Rattle.std.specs.Prelude.{IfOk, IfErr, IfSome, IfNone};
+ghost use Rattle.chain.specs.declared.command.Command.TheVariants as command;
+ghost use Rattle.chain.specs.declared.reply.Reply.TheVariants as reply;
+ghost use Rattle.node.specs.Origin.{machine, output_at, shown_tips};
 
 use crate::answer::{Stamped, UnspentOutput};
 use crate::fault::Fault;
 use crate::history::History;
 use crate::node::Node;
-use activate::{Bytes, Command, Entry, MarkReply, Reply, SubmitReply};
+use chain::{Bytes, Command, Entry, MarkReply, Reply, SubmitReply};
 use hash::Id;
 use std::alloc::Global;
 use std::marker::Model;
@@ -23,20 +22,21 @@ use txn::OutPoint;
 /// A caller's place at the history. A clause sees its pass: what the seat has seen, and what of it is its
 /// own.
 #[derive(Drop)]
-pub struct Seat {
+pub struct Seat<'t> {
     number: usize,
     /// It is gone once the node is finished.
-    history: Option<History>,
+    history: Option<History<'t>>,
     /// What it was then, for proofs alone.
-    last: Snapshot<History>,
+    last: Snapshot<History<'t>>,
 }
 
-impl Model for Seat {
+impl<'t> Model for Seat<'t> {
     ghost use Rattle.std.specs.Prelude.{◌<◌};
     ghost use Rattle.std.specs.Coded.{codes};
     ghost use Rattle.std.specs.FinSet as set;
     ghost use Rattle.curve.specs.Triple.{triple_cmp, coded_triple};
-    ghost use Rattle.node.specs.Held.{IsLegal, held};
+    ghost use Rattle.node.specs.History.{seat_history};
+    ghost use Rattle.node.specs.inside.Keeping.{IsLegal};
     ghost use Rattle.node.specs.Pass.{Pass, pass_of};
 
     ghost Value = { Pass };
@@ -45,12 +45,17 @@ impl Model for Seat {
 
     ghost view = { λ s. pass_of s.number s.history s.last.value };
 
-    ghost invariant = { λ s. (s.number < (held s.history s.last.value).origin.seats) × IsLegal (held s.history s.last.value) };
+    ghost invariant = { λ s. let h = seat_history s.history s.last.value in
+        (s.number < h.origin.seats) × IsLegal h };
 }
 
-impl Seat {
-    ghost use Rattle.node.specs.Calls.{Answered, Submitted, Faulted, IsMark, ReadFaulted, IsClosed};
-    ghost use Rattle.node.specs.Pass.{IsLater, IsOwn, IsRead, IsStanding, Wrote, finished, fresh};
+impl<'t> Seat<'t> {
+    ghost use Rattle.node.specs.Calls.{IsSubmitAnswer, IsWriteFault, IsReadFault, IsClosedFault};
+    ghost use Rattle.node.specs.Pass.{IsLater, IsOwn, IsRead, IsStanding, IsWrite};
+    ghost use Rattle.node.specs.Pass.{finished_pass, opening_pass};
+    ghost use Rattle.node.specs.Finishing.{IsStranger};
+    ghost use Rattle.node.specs.inside.Giving.{IsGiven};
+    ghost use Rattle.node.specs.inside.Writing.{IsWriteAnswer, IsMark};
 
     /// Submits the bytes of a block, at a moment in seconds since 1970 (Bitcoin Core's `submitblock`).
     ///
@@ -63,9 +68,11 @@ impl Seat {
         now: u64,
     ) -> Result<Stamped<SubmitReply>, Fault>
         ensures later { IsLater self.old self.new }
-        ensures answer { IfOk result (λ r. Submitted self.old self.new bytes.now now r.at r.value) }
+        ensures answer { let IsAnswer = IsSubmitAnswer self.old self.new bytes.now now in
+            IfOk result (λ r. IsAnswer r.at r.value) }
         ensures own { IsOwn self.new }
-        ensures fault { IfErr result (λ fault. Faulted self.old self.new (command.Submit bytes.now now) fault) }
+        ensures fault { let asked = command.Submit bytes.now now in
+            IfErr result (IsWriteFault self.old self.new asked) }
     {
         if self.history.is_none() {
             return Err(Fault::Closed);
@@ -88,9 +95,10 @@ impl Seat {
         id: Id,
     ) -> Result<Stamped<MarkReply>, Fault>
         ensures later { IsLater self.old self.new }
-        ensures answer { IfOk result (λ r. Wrote self.old self.new (command.Invalidate id) r.at (reply.Mark r.value)) }
+        ensures answer { let IsAnswer = IsWrite self.old self.new (command.Invalidate id) in
+            IfOk result (λ r. IsAnswer r.at (reply.Mark r.value)) }
         ensures own { IsOwn self.new }
-        ensures fault { IfErr result (λ fault. Faulted self.old self.new (command.Invalidate id) fault) }
+        ensures fault { IfErr result (IsWriteFault self.old self.new (command.Invalidate id)) }
     {
         self.mark(rt, node, Command::Invalidate(id))
     }
@@ -105,9 +113,10 @@ impl Seat {
         id: Id,
     ) -> Result<Stamped<MarkReply>, Fault>
         ensures later { IsLater self.old self.new }
-        ensures answer { IfOk result (λ r. Wrote self.old self.new (command.Reconsider id) r.at (reply.Mark r.value)) }
+        ensures answer { let IsAnswer = IsWrite self.old self.new (command.Reconsider id) in
+            IfOk result (λ r. IsAnswer r.at (reply.Mark r.value)) }
         ensures own { IsOwn self.new }
-        ensures fault { IfErr result (λ fault. Faulted self.old self.new (command.Reconsider id) fault) }
+        ensures fault { IfErr result (IsWriteFault self.old self.new (command.Reconsider id)) }
     {
         self.mark(rt, node, Command::Reconsider(id))
     }
@@ -122,9 +131,10 @@ impl Seat {
         id: Id,
     ) -> Result<Stamped<MarkReply>, Fault>
         ensures later { IsLater self.old self.new }
-        ensures answer { IfOk result (λ r. Wrote self.old self.new (command.Precious id) r.at (reply.Mark r.value)) }
+        ensures answer { let IsAnswer = IsWrite self.old self.new (command.Precious id) in
+            IfOk result (λ r. IsAnswer r.at (reply.Mark r.value)) }
         ensures own { IsOwn self.new }
-        ensures fault { IfErr result (λ fault. Faulted self.old self.new (command.Precious id) fault) }
+        ensures fault { IfErr result (IsWriteFault self.old self.new (command.Precious id)) }
     {
         self.mark(rt, node, Command::Precious(id))
     }
@@ -140,9 +150,10 @@ impl Seat {
         outpoint: &OutPoint,
     ) -> Result<Stamped<Option<UnspentOutput>>, Fault>
         ensures later { IsLater self.old self.new }
-        ensures answer { let m = machine self.old.origin in IfOk result (λ r. IsRead self.old self.new (λ s. option_map unspent (m.coin s outpoint.now)) r.at r.value) }
+        ensures answer { let output = output_at self.old.origin outpoint.now in
+            IfOk result (λ r. IsRead self.old self.new output r.at r.value) }
         ensures own { IsOwn self.new }
-        ensures fault { IfErr result (λ fault. ReadFaulted self.old self.new fault) }
+        ensures fault { IfErr result (λ fault. IsReadFault self.old self.new fault) }
     {
         let Some(history) = &self.history else {
             return Err(Fault::Closed);
@@ -157,9 +168,10 @@ impl Seat {
     /// Seat and node are of one [`Node::open`].
     pub fn getbestblockhash(&mut self, _node: &Node<'_>) -> Result<Stamped<Id>, Fault>
         ensures later { IsLater self.old self.new }
-        ensures answer { let m = machine self.old.origin in IfOk result (λ r. IsRead self.old self.new m.best r.at r.value) }
+        ensures answer { let m = machine self.old.origin in
+            IfOk result (λ r. IsRead self.old self.new m.best r.at r.value) }
         ensures own { IsOwn self.new }
-        ensures fault { IfErr result (λ fault. IsClosed self.old self.new fault) }
+        ensures fault { IfErr result (λ fault. IsClosedFault self.old self.new fault) }
     {
         let Some(history) = &self.history else {
             return Err(Fault::Closed);
@@ -179,9 +191,10 @@ impl Seat {
         _node: &Node<'_>,
     ) -> Result<Stamped<Vec<Tip>>, Fault>
         ensures later { IsLater self.old self.new }
-        ensures answer { let m = machine self.old.origin in IfOk result (λ r. IsRead self.old self.new (λ s. map shown (m.tips s)) r.at r.value.items) }
+        ensures answer { let tips = shown_tips self.old.origin in
+            IfOk result (λ r. IsRead self.old self.new tips r.at r.value.items) }
         ensures own { IsOwn self.new }
-        ensures fault { IfErr result (λ fault. ReadFaulted self.old self.new fault) }
+        ensures fault { IfErr result (λ fault. IsReadFault self.old self.new fault) }
     {
         let Some(history) = &self.history else {
             return Err(Fault::Closed);
@@ -200,9 +213,10 @@ impl Seat {
     ) -> Result<Stamped<MarkReply>, Fault>
         requires mark { IsMark command }
         ensures later { IsLater self.old self.new }
-        ensures answer { IfOk result (λ r. Wrote self.old self.new command r.at (reply.Mark r.value)) }
+        ensures answer { let IsAnswer = IsWrite self.old self.new command in
+            IfOk result (λ r. IsAnswer r.at (reply.Mark r.value)) }
         ensures own { IsOwn self.new }
-        ensures fault { IfErr result (λ fault. Faulted self.old self.new command fault) }
+        ensures fault { IfErr result (λ fault. IsWriteFault self.old self.new command fault) }
     {
         let Stamped { at, value } = self.write(rt, node, command)?;
         match value {
@@ -219,9 +233,9 @@ impl Seat {
         command: Command,
     ) -> Result<Stamped<Reply>, Fault>
         ensures later { IsLater self.old self.new }
-        ensures answer { IfOk result (λ r. Answered self.old self.new command r.at r.value) }
+        ensures answer { IfOk result (λ r. IsWriteAnswer self.old self.new command r.at r.value) }
         ensures own { IsOwn self.new }
-        ensures fault { IfErr result (λ fault. Faulted self.old self.new command fault) }
+        ensures fault { IfErr result (λ fault. IsWriteFault self.old self.new command fault) }
     {
         let number = self.number;
         let Some(history) = &mut self.history else {
@@ -233,10 +247,10 @@ impl Seat {
     }
 
     /// A new seat, which has seen and done nothing.
-    pub(crate) fn new(number: usize, history: History) -> Seat
+    pub(crate) fn new(number: usize, history: History<'t>) -> Seat<'t>
         requires number { number < history.origin.seats }
         requires journal { history.journal ≡ [] }
-        ensures { result ≡ fresh history.origin number }
+        ensures { result ≡ opening_pass history.entry.origin number }
     {
         Seat {
             number,
@@ -247,8 +261,10 @@ impl Seat {
 
     /// Gives its history away, if it is of this node. The seat is finished then.
     pub(crate) fn give(&mut self, node: &Node<'_>) -> Option<Vec<Entry>>
-        ensures given { IfSome result (λ journal. (self.old.origin ≡ node.now) × (self.new ≡ finished self.old) × IsStanding journal.items self.old × Legal (machine node.now) node.now.seats journal.items) }
-        ensures kept { IfNone result ((self.new ≡ self.old) × ((self.old.finished ≡ true) ⊎ ¬ (self.old.origin ≡ node.now))) }
+        ensures given { let o = node.now in
+            IfSome result (λ journal. IsGiven o journal.items self.old self.new) }
+        ensures kept { IfNone result (self.new ≡ self.old) }
+        ensures stranger { IfNone result (IsStranger node.now self.old) }
     {
         let history = self.history.take()?;
         if !node.has(&history) {

@@ -31,7 +31,7 @@ impl<'d, 't> Section<'d, 't> {
         definitions: &'d Definitions,
         client: &Client<'d, 't>,
         node: &Node<'_>,
-        seat: &mut Seat,
+        seat: &mut Seat<'_>,
         progress: &mut Progress<'_, E>,
     ) -> Result<Section<'d, 't>, AllocError>
     where
@@ -61,7 +61,7 @@ fn asked<'d, R>(
     definitions: &'d Definitions,
     request: &Request<'d>,
     node: &Node<'_>,
-    seat: &mut Seat,
+    seat: &mut Seat<'_>,
 ) -> Result<Stamped<Told<'d>>, Fault>
 where
     R: AllocGlobal + Threads + Sync,

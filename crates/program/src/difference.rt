@@ -2,13 +2,13 @@
 
 ghost use Rattle.std.specs.Prelude.{◌≡◌, IfOk};
 ghost use Rattle.tree.specs.State.{opening};
-ghost use Rattle.activate.specs.Regtest.{regtest};
-ghost use Rattle.activate.specs.Commands.{replies_of};
-ghost use Rattle.program.specs.Agreement.{agrees, IsFirstDifference};
+ghost use Rattle.chain.specs.Regtest.{regtest};
+ghost use Rattle.chain.specs.Commands.{replies_of};
+ghost use Rattle.program.specs.inside.Agreement.{agrees, IsFirstDifference};
 
-use activate::slow;
 use curve::Table;
 use node::{Command, Params, Reply};
+use reference::slow;
 use std::alloc::Global;
 use wire::Memory;
 
@@ -21,7 +21,9 @@ pub fn first_refuted(
     table: &Table,
     recorded: &[Option<Reply>],
 ) -> Result<Option<usize>, Memory>
-    ensures { IfOk result (IsFirstDifference ⟦<Reply as PartialEq>⟧.eq recorded.now (replies_of (regtest params.now table.now) opening commands.now)) }
+    ensures { let same = ⟦<Reply as PartialEq>⟧.eq in
+        let replayed = replies_of (regtest params.now table.now) opening commands.now in
+        IfOk result (IsFirstDifference same recorded.now replayed) }
 {
     let replayed = slow(alloc, params, commands, table)?;
     Ok(first_difference(recorded, replayed.as_slice()))

@@ -18,4 +18,4 @@ mod run;
 mod saving;
 mod told;
 
-pub use run::{program, words};
+pub use run::{program, program_with_gate, words};

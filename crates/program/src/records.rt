@@ -3,7 +3,7 @@
 ghost use Rattle.std.specs.Prelude.{◌≡◌, ◌++◌, IfOk, OnOk};
 ghost use Rattle.std.specs.List.{flat_map};
 ghost use Rattle.block.specs.Blk.{spelled};
-ghost use Rattle.program.specs.Saved.{record_of};
+ghost use Rattle.program.specs.inside.Saved.{record_of};
 
 use crate::fault::Fault;
 use block::{BlkFault, BlkReader, SliceSource};

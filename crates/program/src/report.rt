@@ -5,7 +5,7 @@ use crate::fault::Fault;
 use crate::journal::{Asked, Step, block_of};
 use crate::progress::Progress;
 use hash::Id;
-use node::{Entry, Node, Open, Params};
+use node::{Entry, Gate, Node, Params};
 use scenario::{Client, Definitions};
 use std::alloc::{AllocError, Global};
 use std::fmt;
@@ -36,6 +36,7 @@ impl<'d, 't> Report<'d, 't> {
     pub fn run<R, E>(
         rt: &R,
         setting: Setting,
+        gate: &(dyn Gate + Sync),
         definitions: &'d Definitions,
         clients: &[Client<'d, 't>],
         progress: &mut Progress<'_, E>,
@@ -46,8 +47,8 @@ impl<'d, 't> Report<'d, 't> {
     {
         let alloc = rt.alloc();
         let Setting { params, workers } = setting;
-        let table = definitions.table().copy()?;
-        let (node, mut seats) = Node::open(alloc, params, table, workers, clients.len(), &Open)?;
+        let table = definitions.table();
+        let (node, mut seats) = Node::open(alloc, params, table, workers, clients.len(), gate)?;
         let mut sections = Vec::new(alloc);
         for (seat, client) in seats.iter_mut().zip(clients.iter()) {
             sections.push(Section::run(rt, definitions, client, &node, seat, progress)?)?;

@@ -11,6 +11,7 @@ use crate::options::{NAME, Options, RunOptions, no_text};
 use crate::progress::Progress;
 use crate::report::{Report, Setting};
 use crate::saving::save;
+use node::{Gate, Open};
 use scenario::{Definitions, Line, lines, number_after, read_clients};
 use std::alloc::{AllocError, Global};
 use std::convert::AsStr;
@@ -54,8 +55,28 @@ where
     E: Write + IsTerminal,
     ensures { result ≤ 1 }
 {
+    program_with_gate(rt, words, &Open, input, out, err)
+}
+
+/// The same, with this gate round each script that the node's workers run.
+pub fn program_with_gate<R, S, I, O, E>(
+    rt: &R,
+    words: &[S],
+    gate: &(dyn Gate + Sync),
+    input: &mut I,
+    out: &mut O,
+    err: &mut E,
+) -> u8
+where
+    R: Files + AllocGlobal + Clock + Threads + Sync,
+    S: AsStr,
+    I: Read,
+    O: Write,
+    E: Write + IsTerminal,
+    ensures { result ≤ 1 }
+{
     match named(rt.alloc(), words) {
-        Ok(words) => status(attempt(rt, words.as_slice(), input, out, err), err),
+        Ok(words) => status(attempt(rt, words.as_slice(), gate, input, out, err), err),
         Err(AllocError) => status(Err(Fault::Memory), err),
     }
 }
@@ -104,6 +125,7 @@ where
 fn attempt<'w, R, I, O, E>(
     rt: &R,
     words: &'w [&'w str],
+    gate: &(dyn Gate + Sync),
     input: &mut I,
     out: &mut O,
     err: &mut E,
@@ -117,7 +139,7 @@ where
 {
     match Options::read(rt.alloc(), words)? {
         Options::Run(options) => {
-            run(rt, &options, input, out, err)?;
+            run(rt, &options, gate, input, out, err)?;
             Ok(DONE)
         }
         Options::Audit(options) => {
@@ -144,6 +166,7 @@ fn status_of(finding: Finding) -> u8
 fn run<'w, R, I, O, E>(
     rt: &R,
     options: &RunOptions<'w>,
+    gate: &(dyn Gate + Sync),
     input: &mut I,
     out: &mut O,
     err: &mut E,
@@ -171,7 +194,14 @@ where
         params,
         workers: options.workers,
     };
-    let report = Report::run(rt, setting, &definitions, clients.as_slice(), &mut progress)?;
+    let report = Report::run(
+        rt,
+        setting,
+        gate,
+        &definitions,
+        clients.as_slice(),
+        &mut progress,
+    )?;
     progress.end(rt);
     print(out, report.to_string(alloc)?.as_str())?;
     match options.save {

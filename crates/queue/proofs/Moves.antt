@@ -7,7 +7,7 @@ use lib.ListN.{get_elem?}
 use Rattle.atomic_table.specs.Table.{State, Me, Step, keeps, stepped, opening, Allows, Splits, Joins}
 use Rattle.atomic_table.proofs.Lists.{at_set, at_snoc, set_again}
 use Rattle.queue.specs.declared.claims.Share.{Share}
-use Rattle.queue.specs.Claims.{share, times, misses, total, Fits, AreClaimed, Keeps, claims_next, looks, reads_noted, notes, kept_share, given_share, joined_share, spent_share}
+use Rattle.queue.specs.inside.Claims.{share, times, misses, total, Fits, AreClaimed, Keeps, claims_next, looks, reads_noted, notes, kept_share, given_share, joined_share, spent_share}
 use Rattle.queue.proofs.Totals.{times-append, misses-append, times-here, times-apart, misses-none, misses-one, total-set, total-snoc, total-le, total-nothing}
 
 module _ {C : Type 0} where

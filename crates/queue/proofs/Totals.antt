@@ -4,7 +4,7 @@ use Rattle.std.proofs.lemmas.Bool.Decides.{nat_tests}
 use mathlib.Core.Option.{some, some-ne-none, some-injective}
 use lib.ListN.{get_elem?}
 use Rattle.queue.specs.declared.claims.Share.{Share}
-use Rattle.queue.specs.Claims.{times, misses, total}
+use Rattle.queue.specs.inside.Claims.{times, misses, total}
 
 pub times-append : (place : ℕ) (xs ys : List ℕ) → times place (xs ++ ys) ≡ times place xs + times place ys
 times-append place [] ys = omega arith

@@ -11,8 +11,8 @@ use Rattle.interp.specs.declared.job.Job.{Job}
 use Rattle.curve.specs.Triple.{Triples}
 use Rattle.queue.specs.declared.claims.Share.{Share}
 use Rattle.queue.specs.Jobs.{AcceptsAt, FailsAt, IsFirstFailure}
-use Rattle.queue.specs.Claims.{share, times, misses}
-use Rattle.queue.specs.Report.{Sits, IsLeastOf, IsLeastBelow, Reports, lesser_of, IsLesser}
+use Rattle.queue.specs.inside.Claims.{share, times, misses}
+use Rattle.queue.specs.inside.Report.{Sits, IsLeastOf, IsLeastBelow, Reports, lesser_of, IsLesser}
 use Rattle.queue.proofs.Totals.{times-append, misses-append, times-here, times-apart, misses-none}
 
 times-either : (xs ys : List ℕ) (x : ℕ) → 0 < times x (xs ++ ys) → (0 < times x xs) ⊎ (0 < times x ys)

@@ -1,3 +1,3 @@
-pub mod Claims
 pub mod Jobs
-pub mod Report
+pub mod inside
+pub mod laws

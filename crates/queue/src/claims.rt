@@ -1,7 +1,7 @@
 //! The two words that the workers share, and their rule: how many places were claimed, and the least place that
 //! was noted as refused.
 
-ghost use Rattle.queue.specs.Claims.{claims_next, looks, reads_noted, notes};
+ghost use Rattle.queue.specs.inside.Claims.{claims_next, looks, reads_noted, notes};
 
 use crate::places::Places;
 use atomic_table::{Join, Play, Shared, Split, TableRule};
@@ -20,7 +20,7 @@ pub struct Claims;
 
 impl<C: Places> TableRule<(), Share<C>, C> for Claims {
     ghost use Rattle.std.specs.Prelude.{[], Some};
-    ghost use Rattle.queue.specs.Claims.{share, Keeps};
+    ghost use Rattle.queue.specs.inside.Claims.{share, Keeps};
 
     ghost holds = { Keeps C.count C.refuses };
 
@@ -59,7 +59,7 @@ impl<C> Play<(), Share<C>> for Note {
 pub struct Halves;
 
 impl<C> Split<Share<C>> for Halves {
-    ghost use Rattle.queue.specs.Claims.{kept_share, given_share};
+    ghost use Rattle.queue.specs.inside.Claims.{kept_share, given_share};
 
     ghost left = { kept_share };
 
@@ -67,7 +67,7 @@ impl<C> Split<Share<C>> for Halves {
 }
 
 impl<C> Join<Share<C>> for Halves {
-    ghost use Rattle.queue.specs.Claims.{joined_share, spent_share};
+    ghost use Rattle.queue.specs.inside.Claims.{joined_share, spent_share};
 
     ghost both = { joined_share };
 

@@ -3,6 +3,7 @@
 ghost use Rattle.std.specs.Prelude.{◌≡◌, ◌<◌, ◌≤◌, ◌^◌, length, All, IfOk};
 ghost use denote.Param.Send.{IsSync};
 ghost use Rattle.queue.specs.Jobs.{HasInput, IsFirstFailure};
+ghost use Rattle.queue.specs.laws.Sharing.{IsSync-prop};
 
 use crate::gate::Gate;
 use crate::index::Index;
@@ -19,6 +20,9 @@ use wire::Memory;
 pub trait Crew {
     /// What a crew needs to know of its own type: of threads, that they may share the handle that starts them.
     ghost is_ready: { Self → Type 0 };
+
+    /// There is one proof of it, so that a struct can keep it beside a crew.
+    ghost ready_once: { (crew : Self) → IsProp (is_ready crew) };
 
     /// The least place whose job isn't accepted, or none. A job that a verdict fits isn't run.
     fn first_failure_with(
@@ -47,6 +51,8 @@ pub struct Threaded<'r, R> {
 impl<'r, R: Threads + Sync> Crew for Threaded<'r, R> {
     ghost is_ready = { λ _. IsSync R.row };
 
+    ghost ready_once = { λ _. IsSync-prop R.row };
+
     fn first_failure_with(
         &self,
         alloc: Global,
@@ -65,7 +71,11 @@ impl<'r, R: Threads + Sync> Crew for Threaded<'r, R> {
 pub struct Alone;
 
 impl Crew for Alone {
+    ghost use Rattle.std.specs.Coded.{Unit-prop};
+
     ghost is_ready = { λ _. Unit {0} };
+
+    ghost ready_once = { λ _. Unit-prop };
 
     fn first_failure_with(
         &self,

@@ -26,8 +26,10 @@ pub fn check_early<'t, R: Threads + Sync, G: Gate + Sync>(
 ) -> Result<Vec<Verdict<'t>>, Memory>
     requires workers { (1 ≤ workers) × (workers ≤ 16) }
     requires inputs { All HasInput jobs.now }
-    ensures each { IfOk result (λ verdicts. map (λ v. v.asked) verdicts.items ≡ map asked jobs.now) }
-    ensures table { IfOk result (λ verdicts. All (λ v. v.triples ≡ table.entry.now) verdicts.items) }
+    ensures each { IfOk result (λ verdicts. map (λ v. v.asked) verdicts.items ≡
+        map asked jobs.now) }
+    ensures table { IfOk result (λ verdicts. All (λ v. v.triples ≡
+        table.entry.now) verdicts.items) }
 {
     let index = Index::new(alloc, &[], table)?;
     let list = JobList {
@@ -56,7 +58,8 @@ fn answers<R: Threads + Sync, G: Gate + Sync, C: Places + Sync>(
 ) -> Result<Vec<Option<bool>>, Memory>
     requires { 0 < workers }
     ensures len { IfOk result (λ found. vec_len found ≡ C.count list.now) }
-    ensures each { IfOk result (λ found. (place : ℕ) (yes : Bool) → slice_get found.items place ≡ Some (Some yes) → MatchBool yes (C.accepts list.now place) (C.refuses list.now place)) }
+    ensures each { IfOk result (λ found. (place : ℕ) (yes : Bool) → slice_get found.items place ≡
+        Some (Some yes) → MatchBool yes (C.accepts list.now place) (C.refuses list.now place)) }
 {
     let mut found = Vec::from_elem(alloc, None, list.count_places())?;
     for_each_mut(
@@ -65,7 +68,8 @@ fn answers<R: Threads + Sync, G: Gate + Sync, C: Places + Sync>(
         workers,
         &|place: usize, slot: &mut Option<bool>|
             requires { place < C.count list.now }
-            ensures { IfSome slot.exit.now (λ yes. MatchBool yes (C.accepts list.entry.now place) (C.refuses list.entry.now place)) }
+            ensures { IfSome slot.exit.now (λ yes.
+                MatchBool yes (C.accepts list.entry.now place) (C.refuses list.entry.now place)) }
         { *slot = run(alloc, list, place, gate).ok() },
     );
     Ok(found)

@@ -9,8 +9,6 @@ mod index;
 mod jobs;
 mod places;
 mod report;
-#[cfg(test)]
-mod tests;
 mod verdict;
 mod workers;
 

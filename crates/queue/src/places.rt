@@ -21,10 +21,12 @@ pub trait Places {
     /// The answer for a place, where it is known already.
     fn known(&self, place: usize) -> Option<bool>
         requires { place < count self.now }
-        ensures { IfSome result (λ yes. MatchBool yes (accepts self.now place) (refuses self.now place)) };
+        ensures { IfSome result (λ yes.
+            MatchBool yes (accepts self.now place) (refuses self.now place)) };
 
     /// The answer for a place.
     fn check(&self, alloc: Global, place: usize) -> Result<bool, Memory>
         requires { place < count self.now }
-        ensures { IfOk result (λ yes. MatchBool yes (accepts self.now place) (refuses self.now place)) };
+        ensures { IfOk result (λ yes.
+            MatchBool yes (accepts self.now place) (refuses self.now place)) };
 }

@@ -1,7 +1,7 @@
 //! What workers found, put together.
 
 ghost use Rattle.std.specs.Prelude.{◌≡◌, IfOk};
-ghost use Rattle.queue.specs.Report.{lesser_of, IsLesser};
+ghost use Rattle.queue.specs.inside.Report.{lesser_of, IsLesser};
 
 use wire::Memory;
 

@@ -33,9 +33,14 @@ impl<'t> Model for Verdict<'t> {
 
     ghost coded = { Prim.hlevel (codes, set.code {R = triple_cmp} coded_triple) };
 
-    ghost view = { λ v. record { asked = question v.tx.now v.input v.spent.items v.flags; triples = v.table.now; answer = v.answer } };
+    ghost view = { λ v. record {
+      asked = question v.tx.now v.input v.spent.items v.flags;
+      triples = v.table.now;
+      answer = v.answer;
+    } };
 
-    ghost invariant = { λ v. IsAnswer (question v.tx.now v.input v.spent.items v.flags) v.table.now v.answer };
+    ghost invariant = { λ v. IsAnswer (question v.tx.now v.input v.spent.items v.flags) v.table.now
+        v.answer };
 }
 
 impl<'t> Verdict<'t> {
@@ -49,7 +54,11 @@ impl<'t> Verdict<'t> {
         answer: bool,
     ) -> Result<Verdict<'t>, Memory>
         requires { IsAnswer (asked job.now) table.now answer }
-        ensures { IfOk result (λ v. v ≡ record { asked = asked job.now; triples = table.entry.now; answer = answer }) }
+        ensures { IfOk result (λ v. v ≡ record {
+          asked = asked job.now;
+          triples = table.entry.now;
+          answer = answer;
+        }) }
     {
         let spent = Vec::from_slice(alloc, job.spent)?;
         Ok(Verdict {

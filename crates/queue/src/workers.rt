@@ -2,7 +2,7 @@
 
 ghost use Rattle.std.specs.Prelude.{◌≡◌, ◌<◌, ◌≤◌, ◌^◌, [], ◌∷◌, length, All, IfOk, MatchBool};
 ghost use Rattle.queue.specs.Jobs.{HasInput, IsFirstFailure};
-ghost use Rattle.queue.specs.Report.{IsCounter, Sits, IsLeastOf, IsLeastBelow, Reports};
+ghost use Rattle.queue.specs.inside.Report.{IsCounter, Sits, IsLeastOf, IsLeastBelow, Reports};
 
 use crate::claims::{Claim, Halves, Look, Note, ReadNoted, Seat, Words};
 use crate::gate::Gate;
@@ -73,7 +73,8 @@ pub(crate) fn first_refused<R: Threads + Sync, G: Gate + Sync, C: Places + Sync>
 ) -> Result<Option<usize>, Memory>
     requires workers { (1 ≤ workers) × (workers ≤ 16) }
     requires few { C.count list.now < 2 ^ 32 }
-    ensures { IfOk result (λ place. IsLeastBelow (C.count list.now) (C.accepts list.now) (C.refuses list.now) place) }
+    ensures { IfOk result (λ place.
+        IsLeastBelow (C.count list.now) (C.accepts list.now) (C.refuses list.now) place) }
 {
     let (table, seat) = Shares::of_words(alloc, &[0, u64::MAX], list)?;
     let words: &Words<C> = &table.shared;
@@ -88,7 +89,8 @@ pub(crate) fn first_refused_alone<G: Gate, C: Places>(
     list: &C,
     gate: &G,
 ) -> Result<Option<usize>, Memory>
-    ensures { IfOk result (λ place. IsLeastBelow (C.count list.now) (C.accepts list.now) (C.refuses list.now) place) }
+    ensures { IfOk result (λ place.
+        IsLeastBelow (C.count list.now) (C.accepts list.now) (C.refuses list.now) place) }
 {
     for place in 0..list.count_places() {
         if !answer(alloc, list, place, gate)? {
@@ -112,8 +114,11 @@ fn in_threads<R: Threads + Sync, G: Gate + Sync, C: Places + Sync>(
     requires words { IsCounter words.now.table_id × (words.now.key ≡ list.now) }
     requires seat { Sits words.now.table_id list.now seat × (seat.me.0.claimed ≡ []) }
     requires workers { (1 ≤ workers) × (workers ≤ seat.me.0.parts) }
-    ensures seat { Sits words.now.table_id list.now result.0 × (result.0.me.0.parts ≡ seat.me.0.parts) }
-    ensures report { IfOk result.1 (λ place. Reports (C.count list.now) (C.accepts list.now) (C.refuses list.now) result.0.me.0.claimed place) }
+    ensures seat { Sits words.now.table_id list.now result.0 ×
+        (result.0.me.0.parts ≡ seat.me.0.parts) }
+    ensures report { IfOk result.1 (λ place.
+        Reports (C.count list.now) (C.accepts list.now) (C.refuses list.now) result.0.me.0.claimed
+        place) }
 {
     let mut seat = seat;
     if workers == 1 {
@@ -124,12 +129,24 @@ fn in_threads<R: Threads + Sync, G: Gate + Sync, C: Places + Sync>(
     let rest = workers - half;
     let other = words.split_seat::<Halves>(&mut seat);
     let theirs = move || -> (Seat<C>, Result<Option<usize>, Memory>)
-        requires { IsCounter words.now.table_id × (words.now.key ≡ list.now) × Sits words.now.table_id list.now other × (other.me.0.claimed ≡ []) × (1 ≤ half) × (half ≤ other.me.0.parts) }
-        ensures { Sits words.entry.now.table_id list.entry.now result.0 × (result.0.me.0.parts ≡ other.me.0.parts) × IfOk result.1 (λ place. Reports (C.count list.entry.now) (C.accepts list.entry.now) (C.refuses list.entry.now) result.0.me.0.claimed place) }
+        requires { IsCounter words.now.table_id × (words.now.key ≡ list.now) ×
+            Sits words.now.table_id list.now other × (other.me.0.claimed ≡ []) × (1 ≤ half) ×
+            (half ≤ other.me.0.parts) }
+        ensures { Sits words.entry.now.table_id list.entry.now result.0 ×
+            (result.0.me.0.parts ≡ other.me.0.parts) ×
+            IfOk result.1 (λ place.
+            Reports (C.count list.entry.now) (C.accepts list.entry.now) (C.refuses list.entry.now)
+            result.0.me.0.claimed place) }
     { in_threads(rt, alloc, list, words, other, half, gate) };
     let mine = move || -> (Seat<C>, Result<Option<usize>, Memory>)
-        requires { IsCounter words.now.table_id × (words.now.key ≡ list.now) × Sits words.now.table_id list.now seat × (seat.me.0.claimed ≡ []) × (1 ≤ rest) × (rest ≤ seat.me.0.parts) }
-        ensures { Sits words.entry.now.table_id list.entry.now result.0 × (result.0.me.0.parts ≡ seat.me.0.parts) × IfOk result.1 (λ place. Reports (C.count list.entry.now) (C.accepts list.entry.now) (C.refuses list.entry.now) result.0.me.0.claimed place) }
+        requires { IsCounter words.now.table_id × (words.now.key ≡ list.now) ×
+            Sits words.now.table_id list.now seat × (seat.me.0.claimed ≡ []) × (1 ≤ rest) ×
+            (rest ≤ seat.me.0.parts) }
+        ensures { Sits words.entry.now.table_id list.entry.now result.0 ×
+            (result.0.me.0.parts ≡ seat.me.0.parts) ×
+            IfOk result.1 (λ place.
+            Reports (C.count list.entry.now) (C.accepts list.entry.now) (C.refuses list.entry.now)
+            result.0.me.0.claimed place) }
     { in_threads(rt, alloc, list, words, seat, rest, gate) };
     let (first, second) = join(rt, theirs, mine);
     let (other, their_found) = first;
@@ -150,8 +167,11 @@ fn work<G: Gate, C: Places>(
     requires words { IsCounter words.now.table_id × (words.now.key ≡ list.now) }
     requires seat { Sits words.now.table_id list.now seat.old × (seat.old.me.0.claimed ≡ []) }
     requires part { 1 ≤ seat.old.me.0.parts }
-    ensures seat { Sits words.now.table_id list.now seat.new × (seat.new.me.0.parts ≡ seat.old.me.0.parts) }
-    ensures report { IfOk result (λ place. Reports (C.count list.now) (C.accepts list.now) (C.refuses list.now) seat.new.me.0.claimed place) }
+    ensures seat { Sits words.now.table_id list.now seat.new ×
+        (seat.new.me.0.parts ≡ seat.old.me.0.parts) }
+    ensures report { IfOk result (λ place.
+        Reports (C.count list.now) (C.accepts list.now) (C.refuses list.now) seat.new.me.0.claimed
+        place) }
 {
     let mut least = None;
     let mut past = 0;
@@ -183,7 +203,8 @@ fn find<G: Gate, C: Places>(
     requires seat { Sits words.now.table_id list.now seat.old }
     requires place { place < C.count list.now }
     ensures seat { (seat.new.table_id ≡ seat.old.table_id) × (seat.new.me ≡ seat.old.me) }
-    ensures found { IfOk result (λ found. IsLeastOf (C.count list.now) (C.accepts list.now) (C.refuses list.now) (place ∷ []) found) }
+    ensures found { IfOk result (λ found.
+        IsLeastOf (C.count list.now) (C.accepts list.now) (C.refuses list.now) (place ∷ []) found) }
 {
     let noted = words.load::<ReadNoted>(seat, 1) as usize;
     if noted < place {
@@ -204,7 +225,8 @@ fn answer<G: Gate, C: Places>(
     gate: &G,
 ) -> Result<bool, Memory>
     requires { place < C.count list.now }
-    ensures { IfOk result (λ yes. MatchBool yes (C.accepts list.now place) (C.refuses list.now place)) }
+    ensures { IfOk result (λ yes.
+        MatchBool yes (C.accepts list.now place) (C.refuses list.now place)) }
 {
     if let Some(yes) = list.known(place) {
         return Ok(yes);
@@ -220,7 +242,8 @@ pub(crate) fn run<G: Gate, C: Places>(
     gate: &G,
 ) -> Result<bool, Memory>
     requires { place < C.count list.now }
-    ensures { IfOk result (λ yes. MatchBool yes (C.accepts list.now place) (C.refuses list.now place)) }
+    ensures { IfOk result (λ yes.
+        MatchBool yes (C.accepts list.now place) (C.refuses list.now place)) }
 {
     gate.begin(place);
     let answer = list.check(alloc, place);

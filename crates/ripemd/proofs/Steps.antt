@@ -2,7 +2,7 @@
 use Rattle.std.proofs.Common.{◌≡◌, ℕ, ◌+◌, List, refl, sym, ap, ◌∙◌, add-one}
 use Rattle.ripemd.specs.Line.{Line, left_line, right_line}
 use Rattle.ripemd.specs.Block.{after_steps, line_step}
-use Rattle.ripemd.specs.Inside.{lines_after}
+use Rattle.ripemd.specs.inside.Lines.{lines_after}
 use Rattle.ripemd.specs.declared.state.State.{State}
 use Rattle.ripemd.specs.declared.block.Lines.{Lines}
 

@@ -5,7 +5,7 @@
 ghost use Rattle.std.specs.Prelude.{◌≡◌, ◌+◌, ◌≤◌, ◌<◌};
 ghost use Rattle.ripemd.specs.Block.{after_block, end_of_block, line_step, words_of};
 ghost use Rattle.ripemd.specs.Line.{left_line, right_line};
-ghost use Rattle.ripemd.specs.Inside.{lines_after};
+ghost use Rattle.ripemd.specs.inside.Lines.{lines_after};
 ghost use Rattle.ripemd.specs.declared.state.State.{State};
 
 use crate::line::{
@@ -59,7 +59,8 @@ impl Lines {
     #[inline(always)]
     fn step(self, words: &[u32; 16], j: usize) -> Lines
         requires { j < 80 }
-        ensures { (h : State) → self ≡ lines_after words.now h j → result ≡ lines_after words.now h (j + 1) }
+        ensures { (h : State) → self ≡ lines_after words.now h j
+            → result ≡ lines_after words.now h (j + 1) }
     {
         Lines {
             left: left_step(self.left, words, j),
@@ -71,7 +72,8 @@ impl Lines {
     #[inline(always)]
     fn four_steps(self, words: &[u32; 16], j: usize) -> Lines
         requires { j + 4 ≤ 80 }
-        ensures { (h : State) → self ≡ lines_after words.now h j → result ≡ lines_after words.now h (j + 4) }
+        ensures { (h : State) → self ≡ lines_after words.now h j
+            → result ≡ lines_after words.now h (j + 4) }
     {
         self.step(words, j)
             .step(words, j + 1)
@@ -82,7 +84,8 @@ impl Lines {
     // A round, from step `FIRST` on: each of the five is compiled by itself.
     fn round<const FIRST: usize>(self, words: &[u32; 16]) -> Lines
         requires { FIRST + 16 ≤ 80 }
-        ensures { (h : State) → self ≡ lines_after words.now h FIRST → result ≡ lines_after words.now h (FIRST + 16) }
+        ensures { (h : State) → self ≡ lines_after words.now h FIRST
+            → result ≡ lines_after words.now h (FIRST + 16) }
     {
         self.four_steps(words, FIRST)
             .four_steps(words, FIRST + 4)

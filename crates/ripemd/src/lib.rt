@@ -5,7 +5,6 @@ pub use hasher::{Ripemd160, digest};
 
 mod block;
 mod hasher;
+pub mod laws;
 mod line;
 mod state;
-#[cfg(test)]
-mod tests;

@@ -3,7 +3,7 @@
 // The two lines of a block: five rounds of sixteen steps each, as tables.
 
 ghost use Rattle.std.specs.Prelude.{◌≡◌};
-ghost use Rattle.ripemd.specs.Inside.{function_of};
+ghost use Rattle.ripemd.specs.inside.Lines.{function_of};
 
 /// A bitwise function of three words, f1 to f5 of the algorithm.
 #[derive(Clone, Copy)]

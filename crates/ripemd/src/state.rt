@@ -4,7 +4,7 @@
 
 ghost use Rattle.std.specs.Prelude.{◌≡◌};
 ghost use Rattle.ripemd.specs.Block.{step};
-ghost use Rattle.ripemd.specs.Inside.{function_of};
+ghost use Rattle.ripemd.specs.inside.Lines.{function_of};
 
 use crate::line::Bitwise;
 

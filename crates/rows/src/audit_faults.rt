@@ -2,7 +2,7 @@
 
 use crate::play::{expect_fault, play};
 use crate::saved_files::{Saved, saved_run};
-use crate::scenario_rows::FAILING_BRANCH;
+use crate::scenarios::branches::{BIP_66_BY_HEIGHT, FAILING_BRANCH};
 use std::alloc::Global;
 use std::fs;
 use std::process::Abort;
@@ -241,19 +241,26 @@ fn a_step_of_no_block(rt: HostRuntime) -> Result<(), Fail> {
 /// Heights that a run was made with are those that its audit is made with.
 #[test]
 fn an_audit_with_other_heights(rt: HostRuntime) -> Result<(), Fail> {
-    let saved = saved_run(&rt, &FAILING_BRANCH, "saved_heights")?;
-    let words = [
-        "audit",
-        "--heights",
-        "1,1,1,1",
-        "--blk",
-        "saved_heights/blocks.blk",
-        "--journal",
-        "saved_heights/journal.txt",
-    ];
-    let played = play(&rt, &words, b"");
-    assert_eq!(rt; played.out.as_slice(), b"agrees\n".as_slice());
-    assert_eq!(rt; played.status, 0);
+    let saved = saved_run(&rt, &BIP_66_BY_HEIGHT, "saved_heights")?;
+    for (heights, line, status) in [
+        ("1,9,5,1", "agrees\n", 0),
+        ("1,9,4,1", "line 4\n", 1),
+        ("1,9,6,1", "line 5\n", 1),
+        ("1,5,5,1", "line 6\n", 1),
+    ] {
+        let words = [
+            "audit",
+            "--heights",
+            heights,
+            "--blk",
+            "saved_heights/blocks.blk",
+            "--journal",
+            "saved_heights/journal.txt",
+        ];
+        let played = play(&rt, &words, b"");
+        assert_eq!(rt; played.out.as_slice(), line.as_bytes());
+        assert_eq!(rt; played.status, status);
+    }
     saved.remove(&rt)
 }
 

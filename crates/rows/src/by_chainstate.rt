@@ -1,11 +1,16 @@
-//! What a chainstate shows after commands: its best block, its tips and its coins.
+//! The table of scenarios through the chainstate; and what it shows after commands: its best block, its tips, its coins,
+//! and how many blocks' undo is kept.
 
 ghost use Rattle.std.specs.Prelude.{IfOk};
-ghost use Rattle.activate.specs.Tracked.{IsChainstate};
+ghost use Rattle.activate.specs.CoreState.{IsChainstate};
 
 use crate::commands::{Told, define, expect_texts};
+use crate::scenarios::Scenario;
+use crate::scenarios::branches::BRANCHES;
+use crate::scenarios::spends::{A_LONG_BRANCH_TAKEN_BACK, SPENDS};
 use crate::stepping::{Lent, played, played_over, take_each};
-use activate::{Chainstate, MarkReply, Reply, SubmitReply};
+use activate::Chainstate;
+use chain::{MarkReply, Reply, SubmitReply};
 use coins::{Base, Coin};
 use curve::Table;
 use hash::Id;
@@ -17,6 +22,36 @@ use std::process::Abort;
 use std::test::Fail;
 use tree::{Status, Tip};
 use txn::Script;
+
+/// Compares each reply of a scenario.
+fn expect<R: AllocGlobal + Abort>(rt: &R, scenario: &Scenario) -> Result<(), Fail> {
+    let alloc = rt.alloc();
+    let definitions = define(alloc, scenario.definitions)?;
+    let told = Told::from_text(alloc, &definitions, scenario.told)?;
+    let (_, replies) = played(
+        alloc,
+        scenario.params()?,
+        definitions.table(),
+        &told.commands,
+    )?;
+    expect_texts(rt, scenario.name, &replies, &told.replies)
+}
+
+#[test]
+fn branches(rt: HostRuntime) -> Result<(), Fail> {
+    for scenario in &BRANCHES {
+        expect(&rt, scenario)?;
+    }
+    Ok(())
+}
+
+#[test]
+fn spends(rt: HostRuntime) -> Result<(), Fail> {
+    for scenario in &SPENDS {
+        expect(&rt, scenario)?;
+    }
+    expect(&rt, &A_LONG_BRANCH_TAKEN_BACK)
+}
 
 /// A chain of 100 blocks, a block that spends the first one's coinbase, and 300 blocks more.
 const LONG: &str = "chain c 100 genesis
@@ -43,7 +78,7 @@ fn expect_start<R: AllocGlobal + Abort>(
 {
     let told = Told::from_text(rt.alloc(), definitions, text)?;
     let (chain, replies) = played(rt.alloc(), Params::regtest(), table, &told.commands)?;
-    expect_texts(rt, &replies, &told.replies)?;
+    expect_texts(rt, text, &replies, &told.replies)?;
     Ok(chain)
 }
 
@@ -60,7 +95,7 @@ fn expect_step<R: AllocGlobal + Abort>(
 {
     let told = Told::from_text(rt.alloc(), definitions, text)?;
     let replies = take_each(rt.alloc(), chain, table, &told.commands)?;
-    expect_texts(rt, &replies, &told.replies)
+    expect_texts(rt, text, &replies, &told.replies)
 }
 
 /// Compares the active block.
@@ -282,4 +317,23 @@ fn marked(changes: usize) -> Lent {
         reply: Reply::Mark(MarkReply::Done),
         changes,
     }
+}
+
+/// Undo is kept for as many blocks as there are, up to 288.
+#[test]
+fn undo_that_is_kept(rt: HostRuntime) -> Result<(), Fail> {
+    let alloc = rt.alloc();
+    let definitions = define(alloc, "chain c 300 genesis")?;
+    for (commands, kept) in [
+        ("", 0),
+        ("each c 1 2", 2),
+        ("each c 1 288", 288),
+        ("each c 1 300", 288),
+        ("each c 1 300\ninvalidate c300", 287),
+    ] {
+        let told = Told::from_text(alloc, &definitions, commands)?;
+        let (core, _) = played_over(alloc, definitions.table(), &told.commands)?;
+        assert_eq!(rt; core.undo_kept(), kept);
+    }
+    Ok(())
 }

@@ -14,9 +14,11 @@
 use crate::commands::{Told, define};
 use crate::dealing::Deal;
 use crate::stepping::played;
-use activate::{Bytes, Chainstate, Command, Reply, SubmitReply, slow};
+use activate::Chainstate;
+use chain::{Bytes, Command, Reply, SubmitReply};
 use coins::Base;
 use hash::Id;
+use reference::slow;
 use rules::Params;
 use scenario::Definitions;
 use std::alloc::Global;

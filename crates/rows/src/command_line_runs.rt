@@ -1,6 +1,8 @@
 //! Options of `run`: heights of soft forks, workers, folders; and how far the work is.
 
 use crate::play::{expect_fault, play, play_over};
+use crate::saved_files::saved_run;
+use crate::scenarios::branches::MARKS_SET_AND_TAKEN;
 use std::process::Abort;
 use std::rt::Files;
 use std::test::Fail;
@@ -123,17 +125,16 @@ fn progress(rt: HostRuntime) {
     assert_eq!(rt; play(&rt, &words, text).err.len(), 0);
 }
 
-/// A replay tells when it begins and when it has ended.
+/// A replay tells how many lines and blocks it has before it begins, and how many blocks it had when it has ended.
 #[test]
 fn progress_of_an_audit(rt: HostRuntime) -> Result<(), Fail> {
-    fs::write(&rt, "empty_journal.txt", "")?;
-    fs::write(&rt, "empty.blk", "")?;
+    let saved = saved_run(&rt, &MARKS_SET_AND_TAKEN, "saved_progress")?;
     let words = [
         "audit",
         "--journal",
-        "empty_journal.txt",
+        "saved_progress/journal.txt",
         "--blk",
-        "empty.blk",
+        "saved_progress/blocks.blk",
     ];
     let played = play_over(&rt, &words, b"", true);
     assert_eq!(rt;
@@ -141,10 +142,8 @@ fn progress_of_an_audit(rt: HostRuntime) -> Result<(), Fail> {
         (b"agrees\n".as_slice(), 0)
     );
     assert!(rt;
-        played.err.starts_with(b"regchain: replaying 0 lines, 0 blocks\nregchain: 0 blocks, ")
+        played.err.starts_with(b"regchain: replaying 9 lines, 5 blocks\nregchain: 5 blocks, ")
     );
     assert_eq!(rt; play(&rt, &words, b"").err.len(), 0);
-    fs::remove_file(&rt, "empty_journal.txt")?;
-    fs::remove_file(&rt, "empty.blk")?;
-    Ok(())
+    saved.remove(&rt)
 }

@@ -1,22 +1,12 @@
 //! Commands as texts, each with the reply that it must have.
 
-use crate::stepping::played;
-use activate::{Bytes, Command, Reply, slow};
 use block::GENESIS_TIME;
+use chain::{Bytes, Command, Reply};
 use curve::Table;
-use rules::Params;
 use scenario::{Definitions, Line, lines};
 use std::alloc::Global;
 use std::process::Abort;
 use std::test::Fail;
-
-/// Commands, each line with its reply, over what a scenario's lines define.
-#[derive(Drop)]
-pub struct Asked {
-    pub params: Params,
-    pub definitions: &'static str,
-    pub commands: &'static str,
-}
 
 /// The commands of some lines, and the replies that stand behind them.
 #[derive(Drop)]
@@ -27,41 +17,34 @@ pub struct Told {
     now: u64,
 }
 
-/// Asks by the definition and by the chainstate, and compares each reply.
-pub fn expect_replies<R: AllocGlobal + Abort>(rt: &R, asked: &Asked) -> Result<(), Fail> {
-    let alloc = rt.alloc();
-    let definitions = define(alloc, asked.definitions)?;
-    let told = Told::from_text(alloc, &definitions, asked.commands)?;
-    let replies = slow(alloc, &asked.params, &told.commands, definitions.table())?;
-    expect_texts(rt, &replies, &told.replies)?;
-    let (_, replies) = played(alloc, asked.params, definitions.table(), &told.commands)?;
-    expect_texts(rt, &replies, &told.replies)
-}
-
 /// What a scenario's lines define.
 pub fn define(alloc: Global, text: &str) -> Result<Definitions, Fail> {
     let text = lines(alloc, text.as_bytes())?;
     Ok(Definitions::read(alloc, &text, Table::new(alloc))?)
 }
 
-/// Replies, and the texts that they must have.
+/// Replies, and the texts that they must have. The name is shown where they differ.
 pub fn expect_texts<R: AllocGlobal + Abort>(
     rt: &R,
+    name: &str,
     replies: &[Reply],
     texts: &[String],
 ) -> Result<(), Fail> {
-    assert_eq!(rt; replies.len(), texts.len());
-    for (reply, wanted) in replies.iter().zip(texts) {
-        assert_eq!(rt;
-            format!(in rt.alloc(); "{reply}")?.as_str(),
-            wanted.as_str()
-        );
+    let mut given = format!(in rt.alloc(); "{name}\n")?;
+    for reply in replies {
+        write!(given, "{reply}\n")?;
     }
+    let mut wanted = format!(in rt.alloc(); "{name}\n")?;
+    for text in texts {
+        write!(wanted, "{text}\n")?;
+    }
+    assert_eq!(rt; given.as_str(), wanted.as_str());
     Ok(())
 }
 
 impl Told {
-    /// Reads lines: on each a command, and its reply behind ` = `; no reply where there is none.
+    /// Reads lines: on each a command, and its reply behind ` = ` and before its stamp; no reply where there is none.
+    /// What asks only for the state is left out.
     pub fn from_text(alloc: Global, definitions: &Definitions, text: &str) -> Result<Told, Fail> {
         let mut told = Told {
             commands: Vec::new(alloc),
@@ -81,8 +64,10 @@ impl Told {
         definitions: &Definitions,
         line: &Line<'_>,
     ) -> Result<(), Fail> {
-        let reply = line.text.split_once(" = ").map_or("", |(_, reply)| reply);
+        let answer = line.text.split_once(" = ").map_or("", |(_, answer)| answer);
+        let reply = answer.split_once(" @").map_or(answer, |(reply, _)| reply);
         match line.words.as_slice() {
+            ["best" | "tips" | "txout", ..] => Ok(()),
             ["now", moment] => {
                 self.now = moment.parse().map_err(|_| Fail::new("a moment"))?;
                 Ok(())

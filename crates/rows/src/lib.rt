@@ -12,6 +12,8 @@ mod by_chainstate;
 #[cfg(test)]
 mod by_definition;
 #[cfg(test)]
+mod by_program;
+#[cfg(test)]
 mod chance;
 #[cfg(test)]
 mod command_line;
@@ -24,9 +26,11 @@ mod context_free;
 #[cfg(test)]
 mod dealing;
 #[cfg(test)]
-mod dialogue;
+mod definition_alone;
 #[cfg(test)]
 mod large_blocks;
+#[cfg(test)]
+mod node_seats;
 #[cfg(test)]
 mod outside_blocks;
 #[cfg(test)]
@@ -36,9 +40,7 @@ mod saved_files;
 #[cfg(test)]
 mod scenario_faults;
 #[cfg(test)]
-mod scenario_rows;
-#[cfg(test)]
-mod scenario_rows_spends;
+mod scenarios;
 #[cfg(test)]
 mod scripts;
 #[cfg(test)]
@@ -47,6 +49,8 @@ mod stepping;
 mod streams;
 #[cfg(test)]
 mod table_files;
+#[cfg(test)]
+mod verdict_lines;
 #[cfg(test)]
 mod worked_examples;
 #[cfg(test)]

@@ -1,6 +1,7 @@
 //! The program on given words and a given standard input.
 
-use program::program;
+use node::Gate;
+use program::{program, program_with_gate};
 use std::io;
 use std::io::{IsTerminal, Write};
 use std::process::Abort;
@@ -62,6 +63,24 @@ pub fn play_over<R: Files + AllocGlobal + Clock + Threads + Sync>(
         is_terminal,
     };
     let status = program(rt, words, &mut input, &mut out, &mut errors);
+    let Errors { bytes: err, .. } = errors;
+    Played { status, out, err }
+}
+
+/// Runs the program with a gate round each script.
+pub fn play_with_gate<R: Files + AllocGlobal + Clock + Threads + Sync>(
+    rt: &R,
+    words: &[&str],
+    gate: &(dyn Gate + Sync),
+    text: &[u8],
+) -> Played {
+    let mut input = text;
+    let mut out = Vec::new(rt.alloc());
+    let mut errors = Errors {
+        bytes: Vec::new(rt.alloc()),
+        is_terminal: false,
+    };
+    let status = program_with_gate(rt, words, gate, &mut input, &mut out, &mut errors);
     let Errors { bytes: err, .. } = errors;
     Played { status, out, err }
 }

@@ -1,9 +1,10 @@
 //! What a run saves, and the audit of it.
 
-use crate::dialogue::{Dialogue, played};
+use crate::by_program::played;
 use crate::play::{Played, play};
-use crate::scenario_rows::{FAILING_BRANCH, PREFERENCES};
-use crate::scenario_rows_spends::LOCKED_BY_HEIGHT;
+use crate::scenarios::branches::{FAILING_BRANCH, PREFERENCES};
+use crate::scenarios::spends::LOCKED_BY_HEIGHT;
+use crate::scenarios::{REGTEST, Scenario};
 use std::alloc::Global;
 use std::process::Abort;
 use std::rt::Files;
@@ -23,12 +24,12 @@ pub struct Saved {
 }
 
 /// Saves a run in a new folder.
-pub fn saved_run<R>(rt: &R, dialogue: &Dialogue, folder: &'static str) -> Result<Saved, Fail>
+pub fn saved_run<R>(rt: &R, scenario: &Scenario, folder: &'static str) -> Result<Saved, Fail>
 where
     R: Files + AllocGlobal + Clock + Threads + Sync + Abort,
 {
     fs::create_dir_all(rt, folder)?;
-    let played = played(rt, dialogue, &["--save", folder])?;
+    let played = played(rt, scenario, &["--save", folder])?;
     assert_eq!(rt; played.err.as_slice(), b"".as_slice());
     assert_eq!(rt; played.status, 0);
     let journal = fs::read_to_string(rt, path(rt.alloc(), folder, "journal.txt")?.as_str())?;
@@ -202,8 +203,9 @@ fn locks_by_height_to_the_end(rt: HostRuntime) -> Result<(), Fail> {
 }
 
 /// The journal of the first block: its id in digits. Another program made the id and the block.
-const FIRST_BLOCK: Dialogue = Dialogue {
-    options: &[],
+const FIRST_BLOCK: Scenario = Scenario {
+    name: "the first block",
+    heights: REGTEST,
     definitions: "block b1 genesis\nverdict aa 3006 genesis.cb 0 51 1",
     told: "submit b1 = accepted @1\ninvalidate b1 = done @2\nbest = genesis @2",
 };

@@ -1,9 +1,10 @@
 //! Commands that a chainstate takes one after the other.
 
 ghost use Rattle.std.specs.Prelude.{◌≡◌, IfOk};
-ghost use Rattle.activate.specs.Tracked.{Follows, IsChainstate, coins_of};
+ghost use Rattle.activate.specs.CoreState.{Follows, IsChainstate, coins_of};
 
-use activate::{Chainstate, Command, Core, Reply};
+use activate::{Chainstate, Core};
+use chain::{Command, Reply};
 use coins::CoinMap;
 use connect::Env;
 use curve::Table;
@@ -28,11 +29,7 @@ pub fn take_each(
         early: &[],
         crew: &Alone,
     };
-    let mut replies = Vec::new(alloc);
-    for command in commands {
-        replies.push(chain.step(alloc, command, &env, &Open)?)?;
-    }
-    Ok(replies)
+    chain.run(alloc, commands, &env, &Open)
 }
 
 /// The chainstate after some commands from genesis on, and their replies.

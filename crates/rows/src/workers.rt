@@ -1,21 +1,31 @@
-//! A node whose workers meet: each waits in the gate until another has come.
+//! Workers that meet: each waits in the gate until the others have come.
 
+use crate::play::play_with_gate;
 use node::{Gate, Node, Params, Seat, SubmitReply};
 use scenario::{Definitions, lines};
 use std::process::Abort;
+use std::rt::Files;
 use std::sync::atomic::Ordering::SeqCst;
 use std::sync::atomic::{AtomicBool, AtomicU64};
 use std::test::Fail;
 use std::thread::{Threads, yield_now};
+use std::time::Clock;
 
-/// How often a worker looks whether the others have come.
-const TURNS: u32 = 10_000_000;
+/// How often a worker looks whether others have come that are to come.
+const MANY: u32 = 10_000_000;
+
+/// How often it looks whether others have come that are not to come.
+const FEW: u32 = 10_000;
 
 /// A gate at which each job waits until so many have begun.
 #[derive(Drop)]
 struct Meeting {
     wanted: u64,
+    /// How often a job looks.
+    turns: u32,
     begun: AtomicU64,
+    /// How many jobs have ended.
+    ended: AtomicU64,
     /// A job has waited in vain.
     is_late: AtomicBool,
 }
@@ -23,7 +33,7 @@ struct Meeting {
 impl Gate for Meeting {
     fn begin(&self, _job: usize) {
         self.begun.fetch_add(1, SeqCst);
-        for _ in 0..TURNS {
+        for _ in 0..self.turns {
             if self.begun.load(SeqCst) >= self.wanted {
                 return;
             }
@@ -32,7 +42,20 @@ impl Gate for Meeting {
         self.is_late.store(true, SeqCst);
     }
 
-    fn end(&self, _job: usize) {}
+    fn end(&self, _job: usize) {
+        self.ended.fetch_add(1, SeqCst);
+    }
+}
+
+/// A meeting of so many, at which nobody is yet.
+fn meeting_of(wanted: u64, turns: u32) -> Meeting {
+    Meeting {
+        wanted,
+        turns,
+        begun: AtomicU64::new(0),
+        ended: AtomicU64::new(0),
+        is_late: AtomicBool::new(false),
+    }
 }
 
 /// A chain of 100, and a block of two payments: two inputs, whose scripts two workers run.
@@ -50,14 +73,10 @@ const NOW: u64 = 1_296_688_602;
 
 #[test]
 fn two_workers_meet(rt: HostRuntime) -> Result<(), Fail> {
-    let gate = Meeting {
-        wanted: 2,
-        begun: AtomicU64::new(0),
-        is_late: AtomicBool::new(false),
-    };
+    let gate = meeting_of(2, MANY);
     let text = lines(rt.alloc(), DEFINITIONS.as_bytes())?;
     let definitions = Definitions::read(rt.alloc(), &text, node::Table::new(rt.alloc()))?;
-    let table = definitions.table().copy()?;
+    let table = definitions.table();
     let (node, mut seats) = Node::open(rt.alloc(), Params::regtest(), table, 2, 1, &gate)?;
     for seat in &mut seats {
         for height in 1..101u64 {
@@ -66,7 +85,7 @@ fn two_workers_meet(rt: HostRuntime) -> Result<(), Fail> {
         }
         expect_accepted(&rt, &definitions, &node, seat, "m0", 101)?;
     }
-    assert_eq!(rt; gate.begun.load(SeqCst), 2);
+    assert_eq!(rt; (gate.begun.load(SeqCst), gate.ended.load(SeqCst)), (2, 2));
     assert!(rt; !gate.is_late.load(SeqCst));
     Ok(())
 }
@@ -75,7 +94,7 @@ fn expect_accepted<R>(
     rt: &R,
     definitions: &Definitions,
     node: &Node<'_>,
-    seat: &mut Seat,
+    seat: &mut Seat<'_>,
     name: &str,
     at: u64,
 ) -> Result<(), Fail>
@@ -86,4 +105,44 @@ where
     let reply = seat.submit(rt, node, &block.bytes, NOW)?;
     assert_eq!(rt; (reply.at, reply.value), (at, SubmitReply::Accepted));
     Ok(())
+}
+
+/// A block of three payments, so of three inputs whose scripts are run.
+const SCENARIO: &str = "chain c 100 genesis
+tx A 1 0
+in c1.cb:0 -
+out 5000000000 51
+tx B 1 0
+in A:0 -
+out 5000000000 51
+tx C 1 0
+in B:0 -
+out 5000000000 51
+block m0 c100 A B C
+client a
+each c 1 100
+submit m0
+";
+
+/// Whether all three scripts of a run with these words run at once.
+fn three_meet<R>(rt: &R, words: &[&str], turns: u32) -> bool
+where
+    R: Files + AllocGlobal + Clock + Threads + Sync + Abort,
+{
+    let gate = meeting_of(3, turns);
+    let played = play_with_gate(rt, words, &gate, SCENARIO.as_bytes());
+    assert_eq!(rt; (played.status, played.err.len()), (0, 0));
+    assert_eq!(rt; (gate.begun.load(SeqCst), gate.ended.load(SeqCst)), (3, 3));
+    !gate.is_late.load(SeqCst)
+}
+
+/// Three workers run three scripts at once; two don't, and two there are by default.
+#[test]
+fn the_workers_of_the_command_line(rt: HostRuntime) {
+    let run = ["run", "--scenario", "-"];
+    let three = ["run", "--scenario", "-", "--workers", "3"];
+    let two = ["run", "--scenario", "-", "--workers", "2"];
+    assert!(rt; three_meet(&rt, &three, MANY));
+    assert!(rt; !three_meet(&rt, &two, FEW));
+    assert!(rt; !three_meet(&rt, &run, FEW));
 }

@@ -1,5 +1,5 @@
 -- The rules that a block obeys by its place in the tree.
-use Rattle.std.specs.Prelude.{ℕ, ◌+◌, ◌==◌, ◌&&◌, not, nat_lt, nat_le, List, [], ◌∷◌}
+use Rattle.std.specs.Prelude.{ℕ, ◌+◌, ◌==◌, ◌&&◌, not, nat_lt, nat_le, if◌then◌else◌, List, [], ◌∷◌, ◌++◌}
 use Rattle.std.specs.List.{list_all, starts_with}
 use Rattle.txn.specs.declared.tx.Tx.{Tx}
 use Rattle.txn.specs.declared.reason.Reason.TheVariants.{WrongBits, TimeTooOld, TimeTooNew, BadVersion, NonFinal, CoinbaseHeight}
@@ -40,3 +40,13 @@ place_rules rules block height cutoff =
     (not (list_all (λ tx. is_final tx height cutoff) block.txs), NonFinal)
     ∷ (rules.bip34 && not (starts_with (λ x y. x == y) (coinbase_script block.txs) (height_push height)), CoinbaseHeight)
     ∷ []
+
+-- BIP 113: with what a lock time that is a time is compared, where this is the parent's median time past
+abbrev pub finality_cutoff : InForce → Header → ℕ → ℕ
+finality_cutoff rules header median = if rules.csv then median else header.time
+
+-- of the header, and then of the transactions (`ContextualCheckBlockHeader`, `ContextualCheckBlock`)
+abbrev pub context_rules : InForce → Block → ℕ → ℕ → ℕ → Rules
+context_rules rules block height median now =
+    header_rules rules block.header median now
+    ++ place_rules rules block height (finality_cutoff rules block.header median)

@@ -96,7 +96,9 @@ fn any_coinbase(txs: &[Tx]) -> bool
 
 /// The first rule that its transactions break, one by one and then all together.
 fn broken_within(alloc: Global, txs: &[Tx]) -> Result<Option<Reason>, Memory>
-    ensures { IfOk result (λ found. found ≡ first_broken (flat_map tx_rules txs.now ++ (nat_lt max_block_sigops (sum_by tx_sigops txs.now), reason.TooManySigops) ∷ [])) }
+    ensures { IfOk result (λ found. found ≡
+        first_broken (flat_map tx_rules txs.now ++
+        (nat_lt max_block_sigops (sum_by tx_sigops txs.now), reason.TooManySigops) ∷ [])) }
 {
     if let Some(reason) = broken_tx(alloc, txs)? {
         return Ok(Some(reason));

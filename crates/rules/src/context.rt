@@ -5,7 +5,7 @@ ghost use Rattle.std.specs.List.{list_all};
 ghost use Rattle.locks.specs.Finality.{is_final};
 ghost use Rattle.txn.specs.First.{first_broken};
 ghost use Rattle.rules.specs.Params.{at};
-ghost use Rattle.rules.specs.Context.{max_future_block_time, header_rules, place_rules, coinbase_script};
+ghost use Rattle.rules.specs.Context.{max_future_block_time, header_rules, place_rules, context_rules, finality_cutoff, coinbase_script};
 
 use crate::height::begins_with_height;
 use crate::params::Params;
@@ -18,6 +18,38 @@ pub const REGTEST_BITS: u32 = 0x207f_ffff;
 
 /// So many seconds a block's time may lie ahead of the clock (Bitcoin Core's `MAX_FUTURE_BLOCK_TIME`).
 pub const MAX_FUTURE_BLOCK_TIME: u64 = 7200;
+
+/// The first rule that a block breaks by its place, of its header and then of its transactions.
+///
+/// The median is the median time past of its parent; `now` is the time of the clock; both are in seconds since
+/// 1970.
+pub fn context_fault(
+    block: &Block,
+    height: u32,
+    median: u32,
+    now: u64,
+    params: &Params,
+) -> Option<Reason>
+    ensures { result ≡ first_broken (context_rules (at params.now height) block.now height median
+        now) }
+{
+    if let Some(reason) = header_context(&block.header, height, median, now, params) {
+        return Some(reason);
+    }
+    let cutoff = finality_cutoff(&block.header, height, median, params);
+    block_context(block, height, cutoff, params)
+}
+
+/// With what the locks of a block's transactions that are times are compared (BIP 113).
+fn finality_cutoff(header: &Header, height: u32, median: u32, params: &Params) -> u32
+    ensures { result ≡ finality_cutoff (at params.now height) header.now median }
+{
+    if params.at(height).csv {
+        median
+    } else {
+        header.time
+    }
+}
 
 /// The first rule that a header breaks by its place (Bitcoin Core's `ContextualCheckBlockHeader`).
 ///

@@ -9,10 +9,9 @@ mod params;
 mod sigops;
 
 pub use alone::{MAX_BLOCK_SIGOPS, MAX_BLOCK_SIZE, block_alone, block_alone_with};
-pub use context::{MAX_FUTURE_BLOCK_TIME, REGTEST_BITS, block_context, header_context};
+pub use context::{
+    MAX_FUTURE_BLOCK_TIME, REGTEST_BITS, block_context, context_fault, header_context,
+};
 pub use in_force::InForce;
 pub use params::Params;
 pub use sigops::tx_sigops;
-
-#[cfg(test)]
-mod tests;

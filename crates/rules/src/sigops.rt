@@ -38,7 +38,8 @@ fn input_sigops(inputs: &[TxIn]) -> u128
 }
 
 fn output_sigops(outputs: &[TxOut]) -> u128
-    ensures { result ≡ min (sum_by (λ output. sigops Plain output.script) outputs.now) (2 ^ 128 - 1) }
+    ensures { result ≡ min (sum_by (λ output.
+        sigops Plain output.script) outputs.now) (2 ^ 128 - 1) }
 {
     let mut sum = 0u128;
     for output in outputs {

@@ -1,2 +1,1 @@
-pub mod Coinbase
-pub mod Making
+pub mod inside

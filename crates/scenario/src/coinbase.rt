@@ -2,7 +2,7 @@
 
 ghost use Rattle.std.specs.Prelude.{◌≡◌, ◌≤◌, ◌++◌, [], ◌∷◌, length, IfOk, OnOk};
 ghost use Rattle.rules.specs.Height.{height_push};
-ghost use Rattle.scenario.specs.Coinbase.{said_or, script_of, coinbase_of};
+ghost use Rattle.scenario.specs.inside.Coinbase.{said_or, script_of, coinbase_of};
 
 use crate::recipe::CoinbaseRecipe;
 use block::subsidy;

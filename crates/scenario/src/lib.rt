@@ -19,6 +19,3 @@ pub use fault::{LineFault, ScenarioFault};
 pub use label::Label;
 pub use line::{Line, is_name, lines, number_after};
 pub use making::Named;
-
-#[cfg(test)]
-mod tests;

@@ -3,7 +3,8 @@
 ghost use Rattle.std.specs.Prelude.{◌≡◌, ◌+◌, ◌<◌, ◌≤◌, ◌^◌, length, IfOk, OnOk, IfSome, IfNone, option_map};
 ghost use Rattle.txn.specs.Identity as identity;
 ghost use Rattle.block.specs.Merkle as tree;
-ghost use Rattle.scenario.specs.Making.{IsMined, IsBarren, IsSealed, IsMade, coinbase_said, with_first, unsealed};
+ghost use Rattle.scenario.specs.inside.Making.{IsMined, IsBarren, IsSealed, IsMade};
+ghost use Rattle.scenario.specs.inside.Making.{coinbase_said, with_first, unsealed};
 
 use crate::coinbase::coinbase;
 use crate::fault::LineFault;
@@ -92,7 +93,8 @@ fn known(
     height: u32,
 ) -> Result<Option<Known>, Memory>
     requires { length name.now ≤ 75 }
-    ensures tx { IfOk result (λ known. option_map (λ k. k.tx) known ≡ coinbase_said has_coinbase recipe name.now height) }
+    ensures tx { let said = coinbase_said has_coinbase recipe name.now height in
+        IfOk result (λ known. option_map (λ k. k.tx) known ≡ said) }
     ensures id { IfOk result (λ known. IfSome known (λ k. k.id ≡ identity.id_of k.tx)) }
 {
     if !has_coinbase {
@@ -104,7 +106,8 @@ fn known(
 
 /// Puts a copy of the coinbase first, if there is one.
 fn put_first(transactions: &mut Vec<Tx>, coinbase: &Option<Known>) -> Result<(), Memory>
-    ensures { OnOk result (transactions.new.items ≡ with_first (option_map (λ k. k.tx) coinbase.now) transactions.old.items) }
+    ensures { let first = option_map (λ k. k.tx) coinbase.now in
+        OnOk result (transactions.new.items ≡ with_first first transactions.old.items) }
 {
     if let Some(known) = coinbase {
         transactions.insert(0, known.tx.copy()?)?;

@@ -35,7 +35,8 @@ pub fn add_valid_signature(
     requires { valid.now.input < length valid.now.tx.now.inputs }
     ensures ok { let v = valid.now in
         let signed = digest_of v.tx.now v.input (without ((0xab ∷ []) ∷ []) v.code.now) v.kind in
-        OnOk result (table.new ≡ set.insert table.old (triple_of v.key.now v.signature.now signed)) }
+        let triple = triple_of v.key.now v.signature.now signed in
+        OnOk result (table.new ≡ set.insert table.old triple) }
     ensures err { OnErr result (table.new ≡ table.old) }
 {
     let pieces = without(alloc, valid.code, &[&[OP_CODESEPARATOR]])?;

@@ -4,7 +4,8 @@ use Rattle.std.proofs.lemmas.List.{take-append-drop, nil_from_length}
 use Rattle.std.proofs.Math.Seq.{get_or-append_seam}
 use borrow.Author.Tests.{eqb-true}
 use Rattle.script.specs.laws.Ops.{length_taken}
-use Rattle.script.specs.Kinds.{is_p2sh, IsP2sh}
+use Rattle.script.specs.Kinds.{is_p2sh}
+use Rattle.script.specs.laws.Grammar.{IsP2sh}
 
 -- twenty bytes and one
 last_one : (xs : List ℕ) → length xs ≡ 21 → xs ≡ take 20 xs ++ get_or xs 20 0 ∷ []

@@ -1,11 +1,11 @@
-use Rattle.std.proofs.Common.{◌≡◌, ℕ, zero, suc, ◌+◌, ◌/◌, ◌%◌, ◌<◌, ◌≤◌, ◌^◌, List, [], ◌∷◌, ◌++◌, get_or, refl, sym, ap, ◌∙◌, ◌⊎◌, inl, inr, ◌*◌, Bool, false, true, length, ℤ, pos, negsuc, ⊎_elim, append_assoc, subst, nat_le, ◌-◌, take, drop, arith}
+use Rattle.std.proofs.Common.{◌≡◌, ℕ, zero, suc, ◌+◌, ◌/◌, ◌%◌, ◌<◌, ◌≤◌, ◌^◌, List, [], ◌∷◌, ◌++◌, refl, sym, ap, ◌∙◌, ◌⊎◌, inl, inr, ◌*◌, Bool, false, true, length, ℤ, pos, negsuc, ⊎_elim, append_assoc, subst, ◌-◌, take, drop, arith}
 use Rattle.std.specs.Int.RustNames.{unsigned_abs}
 use Rattle.std.proofs.lemmas.Bool.{cases_lt}
 use Rattle.std.proofs.Math.Seq.{take-length}
 use Rattle.std.proofs.Math.Nat.{pow-suc, one-le-pow}
 use borrow.Author.Tests.{lt-ltb, le-ltb, lt-leb, le-leb}
 use Rattle.wire.specs.Grammar.{IsBytes}
-use Rattle.script.specs.Num.{spelled_with, spelled, magnitude, is_negative, signed, num_value}
+use Rattle.script.specs.Num.{spelled_with, spelled, magnitude, is_negative, with_sign, num_value}
 
 -- ---- spelling
 -- enough bytes are enough
@@ -94,7 +94,7 @@ spelled-short (suc f) sign (b ∷ c ∷ more) fits some =
     (λ past. let high = past_low b m low in
     rw (le-ltb (b + 256 * m) 128 past, high) (omega arith)) (cases_lt (b + 256 * m) 128)
 
-abs_signed : (sign : Bool) (n : ℕ) → unsigned_abs (signed sign n) ≡ n
+abs_signed : (sign : Bool) (n : ℕ) → unsigned_abs (with_sign sign n) ≡ n
 abs_signed true zero = refl
 abs_signed true (suc n) = refl
 abs_signed false n = refl
@@ -130,11 +130,3 @@ others_below [] fits h = omega arith
 others_below (b ∷ more) fits h =
     let one_less : length (b ∷ more) - 1 ≡ length more = omega arith in
     rw (one_less, take-length more) (magnitude_below 6 more (λ i. fits (suc i)) (omega arith))
-
--- the sign is the last byte's
-pub negative-last : (n : ℕ) (bytes : List ℕ) → length bytes ≡ suc n → is_negative bytes ≡ nat_le 128 (get_or bytes n 0)
-negative-last n [] h = absurd (omega arith)
-negative-last zero (b ∷ []) h = refl
-negative-last (suc n) (b ∷ []) h = absurd (omega arith)
-negative-last zero (b ∷ c ∷ more) h = absurd (omega arith)
-negative-last (suc n) (b ∷ c ∷ more) h = negative-last n (c ∷ more) (omega arith)

@@ -1,5 +1,5 @@
 -- Kinds of scripts that the rules know.
-use Rattle.std.specs.Prelude.{◌≡◌, ℕ, ◌==◌, List, [], ◌∷◌, ◌++◌, length, Bool, ◌&&◌, ◌||◌, nat_lt, nat_le, slice_index}
+use Rattle.std.specs.Prelude.{ℕ, ◌==◌, List, length, Bool, ◌&&◌, ◌||◌, nat_lt, nat_le, slice_index}
 use Rattle.std.specs.List.{list_all}
 use Rattle.script.specs.Op.{number_of}
 use Rattle.script.specs.Ops.{ops, is_whole}
@@ -9,10 +9,6 @@ unfoldable pub is_push_only : List ℕ → Bool
 is_push_only script = list_all (λ op. nat_le (number_of op) 0x60) (ops script) && is_whole script
 
 -- BIP 16: HASH160, a push of 20 bytes, EQUAL
-abbrev pub IsP2sh : List ℕ → Type 0
-IsP2sh script = (hash : List ℕ) × (length hash ≡ 20) × (script ≡ 0xa9 ∷ 20 ∷ (hash ++ 0x87 ∷ []))
-
--- the same as a test
 unfoldable pub is_p2sh : List ℕ → Bool
 is_p2sh script =
     (length script == 23) && (slice_index script 0 == 0xa9) && (slice_index script 1 == 20) && (slice_index script 22 == 0x87)

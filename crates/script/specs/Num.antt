@@ -14,13 +14,13 @@ is_negative (b ∷ []) = nat_le 128 b
 is_negative (b ∷ c ∷ bytes) = is_negative (c ∷ bytes)
 
 -- the number of this sign and magnitude
-abbrev pub signed : Bool → ℕ → ℤ
-signed true n = neg_ℤ (pos n)
-signed false n = pos n
+abbrev pub with_sign : Bool → ℕ → ℤ
+with_sign true n = neg_ℤ (pos n)
+with_sign false n = pos n
 
 -- the number that bytes spell, be it needlessly long
 unfoldable pub num_value : List ℕ → ℤ
-num_value bytes = signed (is_negative bytes) (magnitude bytes)
+num_value bytes = with_sign (is_negative bytes) (magnitude bytes)
 
 -- the number of at most so many bytes
 unfoldable pub operand : ℕ → List ℕ → Option ℤ

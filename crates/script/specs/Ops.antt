@@ -1,26 +1,20 @@
--- The opcodes of a script, and the rest: what they are, and how they are found from left to right.
-use Rattle.std.specs.Prelude.{◌≡◌, ℕ, Bool, zero, suc, ◌+◌, List, [], ◌∷◌, ◌++◌, length, take, drop, Option, Some, None, option_and_then, nat_lt, ◌==◌, slice_index, if◌then◌else◌}
-use Rattle.std.specs.List.{AllByRecursion, concat}
+-- The opcodes of a script, and the rest, as they are found from left to right. That there is no other way to split a
+-- script is a law.
+use Rattle.std.specs.Prelude.{ℕ, Bool, zero, suc, ◌+◌, List, [], ◌∷◌, length, take, drop, Option, Some, None, option_and_then, nat_lt, ◌==◌, slice_index, if◌then◌else◌}
+use Rattle.std.specs.List.{concat}
 use Rattle.std.specs.Int.{w16, w32, from_le_bytes}
-use Rattle.script.specs.Op.{IsOp, BeginsNone}
-
--- the script is these opcodes, one after the other, and then a rest that is empty or begins no whole opcode
-pub record Splits (script : List ℕ) (ops : List (List ℕ)) (rest : List ℕ) : Type 0 where
-  pub whole : script ≡ concat ops ++ rest
-  pub each : AllByRecursion IsOp ops
-  pub cut : BeginsNone rest
 
 -- `width` bytes for a length, and that many bytes
-abbrev pub sized : ℕ → List ℕ → ℕ → Option ℕ
-sized width bytes len = if nat_lt (length bytes) width then None else Some (width + len)
+abbrev pub sized_len : ℕ → List ℕ → ℕ → Option ℕ
+sized_len width bytes len = if nat_lt (length bytes) width then None else Some (width + len)
 
 -- how many bytes belong to an opcode after its number, where its length is there
 unfoldable pub operand_len : ℕ → List ℕ → Option ℕ
 operand_len number bytes =
     if nat_lt number 76 then Some number
-    else (if number == 76 then sized 1 bytes (slice_index bytes 0)
-    else (if number == 77 then sized 2 bytes (from_le_bytes w16 (take 2 bytes))
-    else (if number == 78 then sized 4 bytes (from_le_bytes w32 (take 4 bytes))
+    else (if number == 76 then sized_len 1 bytes (slice_index bytes 0)
+    else (if number == 77 then sized_len 2 bytes (from_le_bytes w16 (take 2 bytes))
+    else (if number == 78 then sized_len 4 bytes (from_le_bytes w32 (take 4 bytes))
     else Some 0)))
 
 -- the length with the number, where so many bytes are there

@@ -14,6 +14,3 @@ pub use num::Num;
 pub use ops::{Ops, number, pushed};
 pub use removal::without;
 pub use signatures::{Counting, p2sh_sigops, sigops};
-
-#[cfg(test)]
-mod tests;

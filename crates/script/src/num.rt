@@ -2,7 +2,7 @@
 
 ghost use Rattle.std.specs.Prelude.{◌≡◌, ◌<◌, ◌≤◌, ◌^◌, ◌+◌, ◌*◌, ◌++◌, ◌%◌, ◌/◌, List, ℕ, ℤ, length, min, nat_le, option_map, IfOk, OnOk};
 ghost use Rattle.wire.specs.Grammar.{IsBytes};
-ghost use Rattle.script.specs.Num.{magnitude, signed, num_value, operand, spelled, spelled_with};
+ghost use Rattle.script.specs.Num.{magnitude, with_sign, num_value, operand, spelled, spelled_with};
 
 use std::alloc::Global;
 use wire::Memory;

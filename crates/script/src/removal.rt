@@ -17,7 +17,8 @@ pub fn without<'a>(
     script: &'a [u8],
     pieces: &[&[u8]],
 ) -> Result<Vec<&'a [u8]>, Memory>
-    ensures { IfOk result (λ parts. concat (bytes_of parts.items) ≡ without (bytes_of pieces.now) script.now) }
+    ensures { IfOk result (λ parts. concat (bytes_of parts.items)
+        ≡ without (bytes_of pieces.now) script.now) }
 {
     let mut parts = Vec::new(alloc);
     let mut ahead = script;

@@ -7,7 +7,7 @@ use Rattle.wire.specs.Spelling.{compact}
 use Rattle.txn.specs.declared.input.TxIn.{TxIn}
 use Rattle.txn.specs.Grammar.{input}
 use Rattle.sighash.specs.Kind.{is_alone}
-use Rattle.sighash.specs.Copy.{own, other, signed_inputs}
+use Rattle.sighash.specs.Copy.{own_input, other_input, signed_inputs}
 
 one_item : {X : Type 0} (xs : List X) (x : X) → length xs ≡ 1 → x ≡ get_or xs 0 x → xs ≡ x ∷ []
 one_item [] x len is = absurd (omega (arith, len))
@@ -30,23 +30,23 @@ behind : (n : ℕ) (inputs before rest signed after : List TxIn) (x : TxIn) → 
 behind n inputs before rest signed after x c = sym (c.others ∙ ap (drop 1) c.back ∙ drop-drop 1 n inputs)
 
 pub fed_alone : (kind n : ℕ) (code fed : List ℕ) (inputs before rest signed after : List TxIn) (x : TxIn) → Cut n inputs before rest signed after x → is_alone kind ≡ true
-    → (fed ++ compact 1) ++ input.spell (own code x) ≡ fed ++ (compact (length (signed_inputs kind n code inputs)) ++ flat_map input.spell (signed_inputs kind n code inputs))
+    → (fed ++ compact 1) ++ input.spell (own_input code x) ≡ fed ++ (compact (length (signed_inputs kind n code inputs)) ++ flat_map input.spell (signed_inputs kind n code inputs))
 fed_alone kind n code fed inputs before rest signed after x c alone =
-    let list : signed_inputs kind n code inputs ≡ own code x ∷ [] = rw alone (ap (map (own code)) (middle n inputs before rest signed after x c)) in
-    rw list (append_assoc fed (compact 1) (input.spell (own code x)) ∙ ap (λ (t : List ℕ). fed ++ (compact 1 ++ t)) (sym (append-nil (input.spell (own code x)))))
+    let list : signed_inputs kind n code inputs ≡ own_input code x ∷ [] = rw alone (ap (map (own_input code)) (middle n inputs before rest signed after x c)) in
+    rw list (append_assoc fed (compact 1) (input.spell (own_input code x)) ∙ ap (λ (t : List ℕ). fed ++ (compact 1 ++ t)) (sym (append-nil (input.spell (own_input code x)))))
 
 same_length : (kind n : ℕ) (code : List ℕ) (inputs before rest signed after : List TxIn) (x : TxIn) → Cut n inputs before rest signed after x
-    → length ((map (other kind) before ++ own code x ∷ []) ++ map (other kind) after) ≡ length inputs
+    → length ((map (other_input kind) before ++ own_input code x ∷ []) ++ map (other_input kind) after) ≡ length inputs
 same_length kind n code inputs before rest signed after x c =
-    let a : List TxIn = map (other kind) before in
-    let b : List TxIn = map (other kind) after in
-    let o : TxIn = own code x in
+    let a : List TxIn = map (other_input kind) before in
+    let b : List TxIn = map (other_input kind) after in
+    let o : TxIn = own_input code x in
     omega (
       arith,
       length-append (a ++ o ∷ []) b,
       length-append a (o ∷ []),
-      length-map before (other kind),
-      length-map after (other kind),
+      length-map before (other_input kind),
+      length-map after (other_input kind),
       ap length c.front,
       ap length c.back,
       ap length c.first,
@@ -67,12 +67,12 @@ regroup : (fed n a o b : List ℕ) → (((fed ++ n) ++ a) ++ o) ++ b ≡ fed ++ 
 regroup fed n a o b = simp append_assoc
 
 pub fed_among : (kind n : ℕ) (code fed : List ℕ) (inputs before rest signed after : List TxIn) (x : TxIn) → Cut n inputs before rest signed after x → is_alone kind ≡ false
-    → (((fed ++ compact (length inputs)) ++ flat_map input.spell (map (other kind) before)) ++ input.spell (own code x)) ++ flat_map input.spell (map (other kind) after)
+    → (((fed ++ compact (length inputs)) ++ flat_map input.spell (map (other_input kind) before)) ++ input.spell (own_input code x)) ++ flat_map input.spell (map (other_input kind) after)
     ≡ fed ++ (compact (length (signed_inputs kind n code inputs)) ++ flat_map input.spell (signed_inputs kind n code inputs))
 fed_among kind n code fed inputs before rest signed after x c among =
-    let a : List TxIn = map (other kind) before in
-    let o : TxIn = own code x in
-    let b : List TxIn = map (other kind) after in
+    let a : List TxIn = map (other_input kind) before in
+    let o : TxIn = own_input code x in
+    let b : List TxIn = map (other_input kind) after in
     let list : signed_inputs kind n code inputs ≡ (a ++ o ∷ []) ++ b = rw (among, ← c.front, middle n inputs before rest signed after x c, behind n inputs before rest signed after x c) refl in
     regroup fed (compact (length inputs)) (flat_map input.spell a) (input.spell o) (flat_map input.spell b)
     ∙ ap (λ (t : List ℕ). fed ++ (compact (length inputs) ++ t)) (sym (three_spelled a b o))

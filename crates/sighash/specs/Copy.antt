@@ -6,28 +6,28 @@ use Rattle.txn.specs.declared.tx.Tx.{Tx}
 use Rattle.sighash.specs.Kind.{is_none, is_single, frees_sequences, is_alone}
 
 -- the input that is signed gets the code as its script
-abbrev pub own : List ℕ → TxIn → TxIn
-own code i = record { prev = i.prev; script = code; sequence = i.sequence }
+abbrev pub own_input : List ℕ → TxIn → TxIn
+own_input code i = record { prev = i.prev; script = code; sequence = i.sequence }
 
 -- the others get none
-abbrev pub other : ℕ → TxIn → TxIn
-other kind i = record { prev = i.prev; script = []; sequence = if frees_sequences kind then 0 else i.sequence }
+abbrev pub other_input : ℕ → TxIn → TxIn
+other_input kind i = record { prev = i.prev; script = []; sequence = if frees_sequences kind then 0 else i.sequence }
 
 -- the input of number n alone, or among the others
 abbrev pub signed_inputs : ℕ → ℕ → List ℕ → List TxIn → List TxIn
 signed_inputs kind n code inputs =
-    if is_alone kind then map (own code) (take 1 (drop n inputs))
-    else map (other kind) (take n inputs) ++ map (own code) (take 1 (drop n inputs)) ++ map (other kind) (drop (n + 1) inputs)
+    if is_alone kind then map (own_input code) (take 1 (drop n inputs))
+    else map (other_input kind) (take n inputs) ++ map (own_input code) (take 1 (drop n inputs)) ++ map (other_input kind) (drop (n + 1) inputs)
 
 -- an output of value -1 without a script
-abbrev pub blank : TxOut
-blank = record { value = negsuc 0; script = [] }
+abbrev pub blank_output : TxOut
+blank_output = record { value = negsuc 0; script = [] }
 
 -- none, those up to number n with the earlier ones blanked, or all
 abbrev pub signed_outputs : ℕ → ℕ → List TxOut → List TxOut
 signed_outputs kind n outputs =
     if is_none kind then []
-    else if is_single kind then map (λ _. blank) (take n outputs) ++ take 1 (drop n outputs)
+    else if is_single kind then map (λ _. blank_output) (take n outputs) ++ take 1 (drop n outputs)
     else outputs
 
 abbrev pub signed_copy : Tx → ℕ → List ℕ → ℕ → Tx

@@ -6,7 +6,7 @@ ghost use Rattle.sha2.specs.Hashers.{Holds256};
 ghost use Rattle.wire.specs.Grammar.{sized, counted};
 ghost use Rattle.txn.specs.Grammar as grammar;
 ghost use Rattle.script.specs.Removal.{bytes_of};
-ghost use Rattle.sighash.specs.Copy.{other, blank, signed_inputs, signed_outputs};
+ghost use Rattle.sighash.specs.Copy.{other_input, blank_output, signed_inputs, signed_outputs};
 ghost use Rattle.sighash.specs.Kind as kinds;
 
 use crate::kind::{frees_sequences, is_alone, is_none, is_single};
@@ -33,7 +33,8 @@ fn len(piece: &[u8]) -> u64
 
 /// Feeds a script that is the pieces joined, after its length.
 fn feed_script(hasher: &mut Sha256, pieces: &[&[u8]])
-    ensures { (fed : List ℕ) → Holds256 hasher.old fed → Holds256 hasher.new (fed ++ sized.spell (concat (bytes_of pieces.now))) }
+    ensures { (fed : List ℕ) → Holds256 hasher.old fed
+        → Holds256 hasher.new (fed ++ sized.spell (concat (bytes_of pieces.now))) }
 {
     feed_count(hasher, joined_len(pieces));
     for piece in pieces {
@@ -43,7 +44,13 @@ fn feed_script(hasher: &mut Sha256, pieces: &[&[u8]])
 
 /// Feeds an input with another script and another sequence.
 fn feed_input(hasher: &mut Sha256, input: &TxIn, pieces: &[&[u8]], sequence: u32)
-    ensures { (fed : List ℕ) → Holds256 hasher.old fed → Holds256 hasher.new (fed ++ grammar.input.spell (record { prev = input.now.prev; script = concat (bytes_of pieces.now); sequence = sequence })) }
+    ensures { (fed : List ℕ) → Holds256 hasher.old fed
+        → let script = concat (bytes_of pieces.now) in
+        Holds256 hasher.new (fed ++ grammar.input.spell (record {
+          prev = input.now.prev;
+          script = script;
+          sequence = sequence;
+        })) }
 {
     feed_outpoint(hasher, &input.prev);
     feed_script(hasher, pieces);
@@ -52,7 +59,8 @@ fn feed_input(hasher: &mut Sha256, input: &TxIn, pieces: &[&[u8]], sequence: u32
 
 /// Feeds an input that isn't the signed one.
 fn feed_other(hasher: &mut Sha256, input: &TxIn, kind: u32)
-    ensures { (fed : List ℕ) → Holds256 hasher.old fed → Holds256 hasher.new (fed ++ grammar.input.spell (other kind input.now)) }
+    ensures { (fed : List ℕ) → Holds256 hasher.old fed
+        → Holds256 hasher.new (fed ++ grammar.input.spell (other_input kind input.now)) }
 {
     let sequence = if frees_sequences(kind) {
         0
@@ -64,7 +72,9 @@ fn feed_other(hasher: &mut Sha256, input: &TxIn, kind: u32)
 
 /// Feeds inputs that aren't the signed one.
 fn feed_others(hasher: &mut Sha256, inputs: &[TxIn], kind: u32)
-    ensures { (fed : List ℕ) → Holds256 hasher.old fed → Holds256 hasher.new (fed ++ flat_map grammar.input.spell (map (other kind) inputs.now)) }
+    ensures { (fed : List ℕ) → Holds256 hasher.old fed
+        → let others = map (other_input kind) inputs.now in
+        Holds256 hasher.new (fed ++ flat_map grammar.input.spell others) }
 {
     for input in inputs {
         feed_other(hasher, input, kind);
@@ -74,7 +84,9 @@ fn feed_others(hasher: &mut Sha256, inputs: &[TxIn], kind: u32)
 /// Feeds the inputs, of which number `n` is the signed one.
 pub fn feed_signed_inputs(hasher: &mut Sha256, inputs: &[TxIn], n: usize, code: &[&[u8]], kind: u32)
     requires { n < length inputs.now }
-    ensures { (fed : List ℕ) → Holds256 hasher.old fed → Holds256 hasher.new (fed ++ (counted grammar.input).spell (signed_inputs kind n (concat (bytes_of code.now)) inputs.now)) }
+    ensures { (fed : List ℕ) → Holds256 hasher.old fed
+        → let signed = signed_inputs kind n (concat (bytes_of code.now)) inputs.now in
+        Holds256 hasher.new (fed ++ (counted grammar.input).spell signed) }
 {
     let (before, rest) = inputs.split_at(n);
     let (signed, after) = rest.split_at(1);
@@ -92,7 +104,9 @@ pub fn feed_signed_inputs(hasher: &mut Sha256, inputs: &[TxIn], n: usize, code: 
 
 /// Feeds so many outputs of value -1 without a script.
 fn feed_blanks(hasher: &mut Sha256, outputs: &[TxOut])
-    ensures { (fed : List ℕ) → Holds256 hasher.old fed → Holds256 hasher.new (fed ++ flat_map grammar.output.spell (map (λ _. blank) outputs.now)) }
+    ensures { (fed : List ℕ) → Holds256 hasher.old fed
+        → let blanks = map (λ _. blank_output) outputs.now in
+        Holds256 hasher.new (fed ++ flat_map grammar.output.spell blanks) }
 {
     for _ in outputs {
         hasher.update([255, 255, 255, 255, 255, 255, 255, 255, 0]);
@@ -102,7 +116,9 @@ fn feed_blanks(hasher: &mut Sha256, outputs: &[TxOut])
 /// Feeds the outputs, for the input of number `n`.
 pub fn feed_signed_outputs(hasher: &mut Sha256, outputs: &[TxOut], n: usize, kind: u32)
     requires { kinds.is_single kind ≡ true → n < length outputs.now }
-    ensures { (fed : List ℕ) → Holds256 hasher.old fed → Holds256 hasher.new (fed ++ (counted grammar.output).spell (signed_outputs kind n outputs.now)) }
+    ensures { (fed : List ℕ) → Holds256 hasher.old fed
+        → let signed = signed_outputs kind n outputs.now in
+        Holds256 hasher.new (fed ++ (counted grammar.output).spell signed) }
 {
     if is_none(kind) {
         feed_count(hasher, 0);

@@ -6,6 +6,3 @@ mod kind;
 mod signing;
 
 pub use signing::digest;
-
-#[cfg(test)]
-mod tests;

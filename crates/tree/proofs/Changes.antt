@@ -10,7 +10,8 @@ use Rattle.tree.specs.declared.node.Node.{Node}
 use Rattle.tree.specs.declared.node.Mark.{Mark}
 use Rattle.tree.specs.Branches.{Blocks, has, branch, on, parent_at}
 use Rattle.tree.specs.State.{State, usable, rank, rank_in}
-use Rattle.tree.specs.Nodes.{blocks_of, blank, mark_at, places_where, state_of, IsNode, IsRight, AreNodes, AreUsable}
+use Rattle.tree.specs.Nodes.{blocks_of, blank, mark_at, places_where, state_of}
+use Rattle.tree.specs.inside.Nodes.{IsNode, IsRight, AreNodes, AreUsable}
 use Rattle.tree.specs.laws.Sets.{all_agree}
 use Rattle.tree.specs.laws.Branches.{on-bounds}
 use Rattle.tree.specs.laws.Marks.{usable-parent, usable-genesis}

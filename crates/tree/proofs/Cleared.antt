@@ -9,7 +9,8 @@ use Rattle.block.specs.declared.block.Block.{Block}
 use Rattle.tree.specs.declared.node.Node.{Node}
 use Rattle.tree.specs.declared.node.Mark.{Mark}
 use Rattle.tree.specs.Branches.{Blocks, has, on, down_from}
-use Rattle.tree.specs.Nodes.{AreNodes, blocks_of, mark_at, places_where}
+use Rattle.tree.specs.Nodes.{blocks_of, mark_at, places_where}
+use Rattle.tree.specs.inside.Nodes.{AreNodes}
 use Rattle.tree.specs.laws.Sets.{filter_agree}
 use Rattle.tree.specs.laws.Branches.{branch-genesis}
 use Rattle.tree.proofs.Changes.{branch_down}

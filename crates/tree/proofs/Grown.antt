@@ -19,8 +19,9 @@ use Rattle.tree.specs.State.{State, usable, rank, with_block}
 use Rattle.tree.specs.Limits.{max_blocks}
 use Rattle.tree.specs.MedianTime.{median_time_past}
 use Rattle.tree.specs.Names.{names, id_cmp}
-use Rattle.tree.specs.Nodes.{kept_of, blocks_of, blank, mark_at, places_where, state_of, IsNode, IsMark, IsRight, AreNodes, AreIds}
-use Rattle.tree.specs.Slots.{AreInOrder, slot_of, leaves_of}
+use Rattle.tree.specs.Nodes.{kept_of, blocks_of, blank, mark_at, places_where, state_of}
+use Rattle.tree.specs.inside.Nodes.{IsNode, IsMark, IsRight, AreNodes, AreIds}
+use Rattle.tree.specs.inside.Slots.{AreInOrder, slot_of, leaves_of}
 use Rattle.tree.specs.laws.Sets.{filter_agree}
 use Rattle.tree.specs.laws.Branches.{parent_there, height_there}
 use Rattle.tree.specs.laws.Added.{block_there, id_there, id_here, blocks-old, usable_there, usable_new}

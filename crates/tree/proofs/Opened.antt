@@ -5,15 +5,15 @@ use Rattle.std.specs.BTreeMap.{is_at}
 use Rattle.std.specs.Ordering.{eq_by_cmp}
 use Rattle.locks.specs.MedianTime.{median_of, is_middle}
 use Rattle.hash.specs.declared.id.Id.{Id}
-use Rattle.block.specs.declared.genesis.TheConstants.{GENESIS_ID}
 use Rattle.tree.specs.declared.node.Node.{Node}
 use Rattle.tree.specs.declared.node.Mark.{Mark}
 use Rattle.tree.specs.Branches.{down_from, branch, before, height, parent_at, block_at, id_at, place_of}
 use Rattle.tree.specs.State.{opening, usable, rank, rank_in}
 use Rattle.tree.specs.MedianTime.{median_time_past}
-use Rattle.tree.specs.Names.{id_cmp}
-use Rattle.tree.specs.Nodes.{blocks_of, mark_at, places_where, state_of, IsNode, IsMark, IsRight, first_node, first_mark}
-use Rattle.tree.specs.Slots.{slot_of, leaves_of}
+use Rattle.tree.specs.Names.{names, id_cmp}
+use Rattle.tree.specs.Nodes.{blocks_of, mark_at, places_where, state_of}
+use Rattle.tree.specs.inside.Nodes.{IsNode, IsMark, IsRight, first_node, first_mark}
+use Rattle.tree.specs.inside.Slots.{slot_of, leaves_of}
 
 abbrev nodes : List Node
 nodes = first_node ∷ []
@@ -37,7 +37,7 @@ blocks_none : ◌≡◌ (blocks_of nodes) []
 unfolding blocks_of
 blocks_none = refl
 
-pub right_opened : (ids : List (Id × ℕ)) (leaves : List ℕ) → ((i : Id) → lookup (is_at (id_cmp i)) ids ≡ cond {A = Option ℕ} (eq_by_cmp id_cmp GENESIS_ID i) (Some 0) None)
+pub right_opened : (ids : List (Id × ℕ)) (leaves : List ℕ) → ((i : Id) → lookup (is_at (id_cmp i)) ids ≡ cond {A = Option ℕ} (eq_by_cmp id_cmp names.genesis_id i) (Some 0) None)
     → ◌≡◌ {A = List ℕ} leaves (0 ∷ []) → IsRight nodes marks [] ids leaves
 unfolding place_of blocks_of leaves_of
 right_opened ids leaves f g = record {

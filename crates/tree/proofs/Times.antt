@@ -7,7 +7,8 @@ use Rattle.tree.specs.declared.node.Node.{Node}
 use Rattle.tree.specs.Branches.{Blocks, branch, block_at, blocks_at}
 use Rattle.tree.specs.MedianTime.{time_of}
 use Rattle.tree.specs.Names.{names}
-use Rattle.tree.specs.Nodes.{AreNodes, IsNode, blocks_of}
+use Rattle.tree.specs.Nodes.{blocks_of}
+use Rattle.tree.specs.inside.Nodes.{AreNodes, IsNode}
 use Rattle.tree.specs.laws.Branches.{branch-genesis}
 use Rattle.tree.proofs.Changes.{branch_down}
 

@@ -9,8 +9,9 @@ use Rattle.tree.specs.declared.node.Node.{Node}
 use Rattle.tree.specs.declared.node.Mark.{Mark}
 use Rattle.tree.specs.Branches.{Blocks, has, down_from}
 use Rattle.tree.specs.State.{State, usable, rank, joined}
-use Rattle.tree.specs.Nodes.{kept_of, blocks_of, blank, mark_at, places_where, state_of, IsNode, IsRight, AreIds}
-use Rattle.tree.specs.Slots.{AreInOrder, leaves_of}
+use Rattle.tree.specs.Nodes.{kept_of, blocks_of, blank, mark_at, places_where, state_of}
+use Rattle.tree.specs.inside.Nodes.{IsNode, IsRight, AreIds}
+use Rattle.tree.specs.inside.Slots.{AreInOrder, leaves_of}
 use Rattle.tree.specs.laws.Sets.{has-filter, filter_agree, has_filter-above}
 
 -- ---- the nodes as blocks

@@ -1,6 +1,6 @@
 -- The kept blocks and their branches (Bitcoin Core's `CBlockIndex`). A block is named by its place in the
 -- order of arrival; genesis has place 0.
-use Rattle.std.specs.Prelude.{ℕ, zero, suc, ◌==◌, Bool, cond, List, [], ◌∷◌, length, map, Option, None, Some}
+use Rattle.std.specs.Prelude.{ℕ, zero, suc, ◌==◌, Bool, if◌then◌else◌, List, [], ◌∷◌, length, map, Option, None, Some}
 use Rattle.std.specs.List.{list_any}
 use Rattle.tree.specs.Naming.{Naming}
 
@@ -43,7 +43,7 @@ module _ {B : Type 0} where
   -- the places from p down to genesis
   unfoldable pub branch : Blocks B → ℕ → List ℕ
   branch [] p = 0 ∷ []
-  branch (k ∷ older) p = cond (suc (length older) == p) (p ∷ branch older k.parent) (branch older p)
+  branch (k ∷ older) p = if suc (length older) == p then p ∷ branch older k.parent else branch older p
 
   -- the same without p itself
   unfoldable pub before : Blocks B → ℕ → List ℕ
@@ -64,16 +64,16 @@ module _ {B I : Type 0} (names : Naming B I) where
   -- the block at a place
   unfoldable pub block_at : Blocks B → ℕ → B
   block_at [] p = names.genesis
-  block_at (k ∷ older) p = cond (suc (length older) == p) k.block (block_at older p)
+  block_at (k ∷ older) p = if suc (length older) == p then k.block else block_at older p
 
   unfoldable pub id_at : Blocks B → ℕ → I
   id_at [] p = names.genesis_id
-  id_at (k ∷ older) p = cond (suc (length older) == p) (names.id_of k.block) (id_at older p)
+  id_at (k ∷ older) p = if suc (length older) == p then names.id_of k.block else id_at older p
 
   abbrev pub blocks_at : Blocks B → List ℕ → List B
   blocks_at t ps = map (block_at t) ps
 
   -- the place of the kept block with this id
   unfoldable pub place_of : Blocks B → I → Option ℕ
-  place_of [] i = cond (names.same_id names.genesis_id i) (Some 0) None
-  place_of (k ∷ older) i = cond (names.same_id (names.id_of k.block) i) (Some (suc (length older))) (place_of older i)
+  place_of [] i = if names.same_id names.genesis_id i then Some 0 else None
+  place_of (k ∷ older) i = if names.same_id (names.id_of k.block) i then Some (suc (length older)) else place_of older i

@@ -5,9 +5,8 @@ pub mod MedianTime
 pub mod Names
 pub mod Naming
 pub mod Nodes
-pub mod Slots
 pub mod Sound
 pub mod State
 pub mod Tips
-pub mod Tops
+pub mod inside
 pub mod laws

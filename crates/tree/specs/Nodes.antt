@@ -1,22 +1,16 @@
--- How the program's tree is seen, and what is always right in it.
-use Rattle.std.specs.Prelude.{◌≡◌, ℕ, ◌-◌, ◌<◌, ◌≤◌, Bool, true, false, not, ◌&&◌, List, [], ◌∷◌, length, map, reverse, filter, slice_index_or}
-use Rattle.std.specs.Map.{lookup}
-use Rattle.std.specs.BTreeMap.{is_at}
-use Rattle.hash.specs.declared.id.Id.{Id}
+-- How the program's tree is seen.
+use Rattle.std.specs.Prelude.{ℕ, ◌-◌, Bool, false, List, [], ◌∷◌, length, map, reverse, filter, slice_index_or}
 use Rattle.block.specs.declared.block.Block.{Block}
 use Rattle.tree.specs.declared.node.Node.{Node}
 use Rattle.tree.specs.declared.node.Mark.{Mark}
-use Rattle.tree.specs.Branches.{Kept, Blocks, has, down_from, branch, height, parent_at, block_at, id_at, blocks_at, place_of}
-use Rattle.tree.specs.Slots.{AreInOrder, slot_of, leaves_of}
-use Rattle.tree.specs.State.{State, usable, rank}
-use Rattle.tree.specs.Limits.{max_blocks}
-use Rattle.tree.specs.MedianTime.{median_time_past}
-use Rattle.block.specs.declared.genesis.TheConstants.{GENESIS_ID, GENESIS_TIME}
-use Rattle.tree.specs.Names.{names, genesis, id_cmp}
+use Rattle.tree.specs.Branches.{Kept, Blocks, down_from}
+use Rattle.tree.specs.State.{State}
 
+-- the block of a node, with its parent's place
 abbrev pub kept_of : Node → Kept Block
 kept_of n = record { block = n.block; parent = n.parent }
 
+-- all but the first
 abbrev pub after_first : {A : Type 0} → List A → List A
 after_first [] = []
 after_first (x ∷ xs) = xs
@@ -25,9 +19,11 @@ after_first (x ∷ xs) = xs
 unfoldable pub blocks_of : List Node → Blocks Block
 blocks_of nodes = reverse (map kept_of (after_first nodes))
 
+-- where no mark stands
 abbrev pub blank : Mark
 blank = record { bad = false; seen = false; usable = false; rank = 0 }
 
+-- the mark at a place
 abbrev pub mark_at : List Mark → ℕ → Mark
 mark_at marks p = slice_index_or marks p blank
 
@@ -35,6 +31,7 @@ mark_at marks p = slice_index_or marks p blank
 unfoldable pub places_where : (Mark → Bool) → List Mark → List ℕ
 places_where f marks = filter (λ p. f (mark_at marks p)) (down_from (length marks - 1))
 
+-- the state that nodes, marks and calls are
 unfoldable pub state_of : List Node → List Mark → List ℕ → State Block
 state_of nodes marks calls = record {
   blocks = blocks_of nodes;
@@ -42,63 +39,3 @@ state_of nodes marks calls = record {
   seen = places_where (λ m. m.seen) marks;
   precious = reverse calls;
 }
-
--- ---- what is right
-
--- of a node, by its place
-pub record IsNode (t : Blocks Block) (p : ℕ) (n : Node) : Type 0 where
-  pub block : n.block ≡ block_at names t p
-  pub id : n.id ≡ id_at names t p
-  pub parent : n.parent ≡ parent_at t p
-  pub height : n.height ≡ height t p
-  pub median : n.median ≡ median_time_past (blocks_at names t (branch t p))
-  pub slot : n.slot ≡ slot_of t p
-
--- of what follows from the marks of all blocks
-pub record IsMark (s : State Block) (p : ℕ) (m : Mark) : Type 0 where
-  pub usable : m.usable ≡ usable s p
-  pub rank : m.rank ≡ rank s p
-
-abbrev pub AreNodes : Blocks Block → List Node → Type 0
-AreNodes t nodes = (p : ℕ) (d : Node) → p < length nodes → IsNode t p (slice_index_or nodes p d)
-
--- the ids, each with the place of its block
-abbrev pub AreIds : Blocks Block → List (Id × ℕ) → Type 0
-AreIds t ids = (i : Id) → lookup (is_at (id_cmp i)) ids ≡ place_of names t i
-
-pub record IsRight (nodes : List Node) (marks : List Mark) (calls : List ℕ) (ids : List (Id × ℕ)) (leaves : List ℕ) : Type 0 where
-  pub some : 0 < length nodes
-  pub room : length nodes ≤ max_blocks
-  pub same : length marks ≡ length nodes
-  pub are_nodes : AreNodes (blocks_of nodes) nodes
-  pub are_marks : (p : ℕ) → p < length nodes → IsMark (state_of nodes marks calls) p (mark_at marks p)
-  pub genesis : (mark_at marks 0).bad ≡ false
-  pub are_calls : (p : ℕ) → length nodes ≤ p → has (reverse calls) p ≡ false
-  pub in_order : AreInOrder (blocks_of nodes)
-  pub are_ids : AreIds (blocks_of nodes) ids
-  pub are_leaves : leaves ≡ leaves_of (blocks_of nodes)
-
--- ---- what a change of marks leaves
-
--- all but whether the branch is usable
-pub record SameFlags (m n : Mark) : Type 0 where
-  pub bad : m.bad ≡ n.bad
-  pub seen : m.seen ≡ n.seen
-  pub rank : m.rank ≡ n.rank
-
--- the mark of an invalid block is taken, if it is told to be
-pub record MarksTaken (m n : Mark) (told : Bool) : Type 0 where
-  pub bad : m.bad ≡ (n.bad && not told)
-  pub seen : m.seen ≡ n.seen
-  pub rank : m.rank ≡ n.rank
-
-abbrev pub AreUsable : State Block → List Mark → ℕ → Type 0
-AreUsable s marks n = (p : ℕ) → p < n → (mark_at marks p).usable ≡ usable s p
-
--- ---- genesis
-
-abbrev pub first_node : Node
-first_node = record { block = genesis; id = GENESIS_ID; parent = 0; height = 0; median = GENESIS_TIME; slot = 0 }
-
-abbrev pub first_mark : Mark
-first_mark = record { bad = false; seen = true; usable = true; rank = 0 }

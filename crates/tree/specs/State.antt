@@ -1,5 +1,5 @@
 -- The state of the tree: the kept blocks, their marks, and which of two is the better one.
-use Rattle.std.specs.Prelude.{ℕ, suc, ◌==◌, nat_lt, Bool, not, ◌&&◌, ◌||◌, cond, List, [], ◌∷◌, length}
+use Rattle.std.specs.Prelude.{ℕ, suc, ◌==◌, nat_lt, Bool, not, ◌&&◌, ◌||◌, if◌then◌else◌, List, [], ◌∷◌, length}
 use Rattle.std.specs.List.{list_all, filter}
 use Rattle.tree.specs.Branches.{Blocks, has, older_of, places, branch, on, height}
 
@@ -23,7 +23,7 @@ joined all set passes = filter (λ p. has set p || passes p) all
 -- the number of the last call for p, counted from 1; 0 where none was
 unfoldable pub rank_in : List ℕ → ℕ → ℕ
 rank_in [] p = 0
-rank_in (x ∷ earlier) p = cond (x == p) (suc (length earlier)) (rank_in earlier p)
+rank_in (x ∷ earlier) p = if x == p then suc (length earlier) else rank_in earlier p
 
 module _ {B : Type 0} where
   -- no block of the branch is marked

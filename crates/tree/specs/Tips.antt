@@ -1,5 +1,5 @@
 -- The tips of the tree (Bitcoin Core's `getchaintips`), beside the active block at `a`.
-use Rattle.std.specs.Prelude.{ℕ, ◌-◌, ◌==◌, nat_lt, Bool, not, ◌&&◌, ◌||◌, cond, if◌then◌else◌, List, [], ◌∷◌, map, filter, find, unwrap_or}
+use Rattle.std.specs.Prelude.{ℕ, ◌-◌, ◌==◌, nat_lt, Bool, not, ◌&&◌, ◌||◌, if◌then◌else◌, List, [], ◌∷◌, map, filter, find, unwrap_or}
 use Rattle.std.specs.List.{list_any}
 use Rattle.hash.specs.declared.id.Id.{Id}
 use Rattle.tree.specs.declared.tip.Status.{Status}
@@ -19,7 +19,7 @@ pub record TipOf (I : Type 0) : Type 0 where
 -- a place put before the first that it goes before
 unfoldable pub put_in : (ℕ → ℕ → Bool) → ℕ → List ℕ → List ℕ
 put_in first p [] = p ∷ []
-put_in first p (q ∷ rest) = cond (first p q) (p ∷ q ∷ rest) (q ∷ put_in first p rest)
+put_in first p (q ∷ rest) = if first p q then p ∷ q ∷ rest else q ∷ put_in first p rest
 
 unfoldable pub ordered : (ℕ → ℕ → Bool) → List ℕ → List ℕ
 ordered first [] = []

@@ -2,7 +2,8 @@
 
 ghost use Rattle.std.specs.Prelude.{◌≡◌, ℕ, ◌<◌, ◌==◌, ◌||◌, ◌&&◌, nat_lt, not, length, [], true, false, slice_index_or, IfOk};
 ghost use Rattle.tree.specs.Branches.{on};
-ghost use Rattle.tree.specs.Nodes.{AreNodes, AreUsable, MarksTaken, blocks_of, mark_at, state_of};
+ghost use Rattle.tree.specs.Nodes.{blocks_of, mark_at, state_of};
+ghost use Rattle.tree.specs.inside.Nodes.{AreNodes, AreUsable, MarksTaken};
 
 use crate::node::{Mark, Node};
 use crate::spoiling::spoil;
@@ -15,7 +16,8 @@ pub(crate) fn related(alloc: Global, nodes: &[Node], place: usize) -> Result<Vec
     requires kept { place < length nodes.now }
     ensures len { IfOk result (λ related. length related.items ≡ length nodes.now) }
     ensures related { let t = blocks_of nodes.now in
-        IfOk result (λ related. (x : ℕ) → x < length nodes.now → slice_index_or related.items x false ≡ (on t place x || on t x place)) }
+        IfOk result (λ related. (x : ℕ) → x < length nodes.now →
+        slice_index_or related.items x false ≡ (on t place x || on t x place)) }
 {
     let mut related = descendants(alloc, nodes, place)?;
     add_ancestors(nodes, place, &mut related);
@@ -26,7 +28,8 @@ pub(crate) fn related(alloc: Global, nodes: &[Node], place: usize) -> Result<Vec
 fn descendants(alloc: Global, nodes: &[Node], place: usize) -> Result<Vec<bool>, Memory>
     requires nodes { AreNodes (blocks_of nodes.now) nodes.now }
     ensures len { IfOk result (λ down. length down.items ≡ length nodes.now) }
-    ensures down { IfOk result (λ down. (x : ℕ) → x < length nodes.now → slice_index_or down.items x false ≡ on (blocks_of nodes.now) x place) }
+    ensures down { IfOk result (λ down. (x : ℕ) → x < length nodes.now →
+        slice_index_or down.items x false ≡ on (blocks_of nodes.now) x place) }
 {
     let mut down = Vec::new(alloc);
     for next in 0..nodes.len() {
@@ -39,7 +42,8 @@ fn descendants(alloc: Global, nodes: &[Node], place: usize) -> Result<Vec<bool>,
 /// Whether the block is this one, or its parent is among those that stand on it.
 fn stands_on(down: &[bool], next: usize, parent: usize, place: usize) -> bool
     requires { 0 < next → parent < length down.now }
-    ensures { result ≡ ((next == place) || (nat_lt 0 next && slice_index_or down.now parent false)) }
+    ensures { result ≡ ((next == place) ||
+        (nat_lt 0 next && slice_index_or down.now parent false)) }
 {
     next == place || (next > 0 && down[parent])
 }
@@ -49,7 +53,8 @@ fn add_ancestors(nodes: &[Node], place: usize, related: &mut Vec<bool>)
     requires kept { place < length nodes.now }
     requires len { length related.old.items ≡ length nodes.now }
     ensures len { length related.new.items ≡ length nodes.now }
-    ensures up { (x : ℕ) → x < length nodes.now → slice_index_or related.new.items x false ≡ (on (blocks_of nodes.now) place x || slice_index_or related.old.items x false) }
+    ensures up { (x : ℕ) → x < length nodes.now → slice_index_or related.new.items x false ≡
+        (on (blocks_of nodes.now) place x || slice_index_or related.old.items x false) }
 {
     let mut next = place;
     'down: loop {
@@ -70,7 +75,9 @@ pub(crate) fn take_marks(nodes: &[Node], marks: &mut [Mark], related: &[bool])
     requires genesis { (mark_at marks.old 0).bad ≡ false }
     requires usable { (mark_at marks.old 0).usable ≡ true }
     ensures same { length marks.new ≡ length nodes.now }
-    ensures taken { (x : ℕ) → x < length nodes.now → MarksTaken (mark_at marks.new x) (mark_at marks.old x) (slice_index_or related.now x false) }
+    ensures taken { (x : ℕ) → x < length nodes.now →
+        MarksTaken (mark_at marks.new x) (mark_at marks.old x)
+        (slice_index_or related.now x false) }
     ensures usable { AreUsable (state_of nodes.now marks.new []) marks.new (length nodes.now) }
 {
     unmark(marks, related);
@@ -80,7 +87,11 @@ pub(crate) fn take_marks(nodes: &[Node], marks: &mut [Mark], related: &[bool])
 fn unmark(marks: &mut [Mark], related: &[bool])
     requires { length marks.old ≡ length related.now }
     ensures len { length marks.new ≡ length marks.old }
-    ensures marks { (x : ℕ) → x < length marks.old → mark_at marks.new x ≡ record (mark_at marks.old x) { bad = (mark_at marks.old x).bad && not (slice_index_or related.now x false) } }
+    ensures marks { (x : ℕ) → x < length marks.old → mark_at marks.new x ≡
+        record (mark_at marks.old x) {
+          bad = (mark_at marks.old x).bad &&
+              not (slice_index_or related.now x false);
+        } }
 {
     for place in 0..marks.len() {
         if related[place] {

@@ -2,7 +2,8 @@
 
 ghost use Rattle.std.specs.Prelude.{◌≡◌, ℕ, ◌<◌, false, true, length, [], IfOk};
 ghost use Rattle.tree.specs.Branches.{has};
-ghost use Rattle.tree.specs.Nodes.{AreNodes, AreUsable, blocks_of, mark_at, places_where, state_of};
+ghost use Rattle.tree.specs.Nodes.{blocks_of, mark_at, places_where, state_of};
+ghost use Rattle.tree.specs.inside.Nodes.{AreNodes, AreUsable};
 
 use crate::node::{Mark, Node};
 use crate::spoiling::spoil;
@@ -30,7 +31,12 @@ impl Model for Flags {
 
 /// The flags that these marks have.
 pub(crate) fn flags_of(alloc: Global, marks: &[Mark]) -> Result<Flags, Memory>
-    ensures { IfOk result (λ flags. flags ≡ record { len = length marks.now; bad = places_where (λ m. m.bad) marks.now; seen = places_where (λ m. m.seen) marks.now }) }
+    ensures { IfOk result (λ flags. flags ≡
+        record {
+          len = length marks.now;
+          bad = places_where (λ m. m.bad) marks.now;
+          seen = places_where (λ m. m.seen) marks.now;
+        }) }
 {
     let mut bad = Vec::new(alloc);
     let mut seen = Vec::new(alloc);
@@ -52,7 +58,8 @@ pub(crate) fn put_back(nodes: &[Node], marks: &mut [Mark], flags: &Flags)
     ensures same { length marks.new ≡ length nodes.now }
     ensures bad { places_where (λ m. m.bad) marks.new ≡ flags.now.bad }
     ensures seen { places_where (λ m. m.seen) marks.new ≡ flags.now.seen }
-    ensures rank { (x : ℕ) → x < length nodes.now → (mark_at marks.new x).rank ≡ (mark_at marks.old x).rank }
+    ensures rank { (x : ℕ) → x < length nodes.now → (mark_at marks.new x).rank ≡
+        (mark_at marks.old x).rank }
     ensures usable { AreUsable (state_of nodes.now marks.new []) marks.new (length nodes.now) }
 {
     set_each(marks, flags);
@@ -65,8 +72,10 @@ fn set_each(marks: &mut [Mark], flags: &Flags)
     ensures len { length marks.new ≡ length marks.old }
     ensures bad { places_where (λ m. m.bad) marks.new ≡ flags.now.bad }
     ensures seen { places_where (λ m. m.seen) marks.new ≡ flags.now.seen }
-    ensures usable { (x : ℕ) → x < length marks.old → (mark_at marks.new x).usable ≡ (mark_at marks.old x).usable }
-    ensures rank { (x : ℕ) → x < length marks.old → (mark_at marks.new x).rank ≡ (mark_at marks.old x).rank }
+    ensures usable { (x : ℕ) → x < length marks.old → (mark_at marks.new x).usable ≡
+        (mark_at marks.old x).usable }
+    ensures rank { (x : ℕ) → x < length marks.old → (mark_at marks.new x).rank ≡
+        (mark_at marks.old x).rank }
 {
     for place in 0..marks.len() {
         marks[place] = Mark {

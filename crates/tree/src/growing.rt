@@ -1,6 +1,6 @@
 //! How a block is added, and taken back.
 
-ghost use Rattle.std.specs.Prelude.{◌≡◌, ℕ, ◌<◌, ◌-◌, ◌==◌, nat_lt, cond, length, OnOk, OnErr, Some, ◌∷◌, [], ◌++◌, take, slice_index, slice_set};
+ghost use Rattle.std.specs.Prelude.{◌≡◌, ℕ, ◌<◌, ◌-◌, ◌==◌, nat_lt, if◌then◌else◌, length, OnOk, OnErr, Some, ◌∷◌, [], ◌++◌, take, slice_index, slice_set};
 ghost use Rattle.std.specs.Map.{lookup};
 ghost use Rattle.std.specs.BTreeMap.{is_at};
 ghost use Rattle.std.specs.Ordering.{eq_by_cmp};
@@ -8,8 +8,9 @@ ghost use Rattle.hash.specs.declared.id.Id.{Id};
 ghost use Rattle.block.specs.Identity.{id_of};
 ghost use Rattle.tree.specs.Limits.{max_blocks};
 ghost use Rattle.tree.specs.Names.{id_cmp};
-ghost use Rattle.tree.specs.Nodes.{AreNodes, IsNode, blocks_of, kept_of};
-ghost use Rattle.tree.specs.Slots.{AreInOrder, is_leaf, slot_of, slots, leaves_of};
+ghost use Rattle.tree.specs.Nodes.{blocks_of, kept_of};
+ghost use Rattle.tree.specs.inside.Nodes.{AreNodes, IsNode};
+ghost use Rattle.tree.specs.inside.Slots.{AreInOrder, is_leaf, slot_of, slots, leaves_of};
 
 use crate::node::Node;
 use crate::past::median_on;
@@ -27,7 +28,8 @@ pub(crate) fn node_on(nodes: &[Node], leaves: &[usize], block: Block, id: Id, pa
     requires room { length nodes.now < max_blocks }
     requires id { id ≡ id_of block.header }
     ensures kept { kept_of result ≡ record { block = block; parent = parent } }
-    ensures node { let t = blocks_of nodes.now in IsNode (kept_of result ∷ t) (length nodes.now) result }
+    ensures node { let t = blocks_of nodes.now in
+        IsNode (kept_of result ∷ t) (length nodes.now) result }
 {
     let height = nodes[parent].height + 1;
     let median = median_on(nodes, parent, block.header.time);
@@ -48,7 +50,8 @@ fn slot_on(nodes: &[Node], leaves: &[usize], parent: usize) -> usize
     requires order { AreInOrder (blocks_of nodes.now) }
     requires leaves { leaves.now ≡ leaves_of (blocks_of nodes.now) }
     requires kept { parent < length nodes.now }
-    ensures { let t = blocks_of nodes.now in result ≡ cond (is_leaf t parent) (slot_of t parent) (slots t) }
+    ensures { let t = blocks_of nodes.now in result ≡
+        (if is_leaf t parent then slot_of t parent else slots t) }
 {
     let slot = nodes[parent].slot;
     if holds(leaves, slot, parent) {
@@ -74,8 +77,12 @@ pub(crate) fn enter(
     slot: usize,
     place: usize,
 ) -> Result<(), Memory>
-    ensures ids { OnOk result ((i : Id) → lookup (is_at (id_cmp i)) ids.new.entries ≡ cond (eq_by_cmp id_cmp id i) (Some place) (lookup (is_at (id_cmp i)) ids.old.entries)) }
-    ensures leaves { OnOk result (leaves.new.items ≡ cond (nat_lt slot (length leaves.old.items)) (slice_set leaves.old.items slot place) (leaves.old.items ++ place ∷ [])) }
+    ensures ids { OnOk result ((i : Id) → lookup (is_at (id_cmp i)) ids.new.entries ≡
+        (if eq_by_cmp id_cmp id i then Some place else lookup (is_at (id_cmp i)) ids.old.entries)) }
+    ensures leaves { OnOk result (leaves.new.items ≡
+        (if nat_lt slot (length leaves.old.items)
+        then slice_set leaves.old.items slot place
+        else leaves.old.items ++ place ∷ [])) }
     ensures kept { OnErr result (ids.new.entries ≡ ids.old.entries) }
     ensures same { OnErr result (leaves.new.items ≡ leaves.old.items) }
 {
@@ -93,7 +100,10 @@ pub(crate) fn enter(
 /// Takes a block out of its slot, which goes back to its parent if that had it before.
 pub(crate) fn leave(leaves: &mut Vec<usize>, slot: usize, parent: usize, parents_slot: usize)
     requires { slot < length leaves.old.items }
-    ensures { leaves.new.items ≡ cond (slot == parents_slot) (slice_set leaves.old.items slot parent) (take (length leaves.old.items - 1) leaves.old.items) }
+    ensures { leaves.new.items ≡
+        (if slot == parents_slot
+        then slice_set leaves.old.items slot parent
+        else take (length leaves.old.items - 1) leaves.old.items) }
 {
     if slot == parents_slot {
         leaves[slot] = parent;

@@ -22,6 +22,3 @@ pub use fault::AddFault;
 pub use flags::Flags;
 pub use tip::{Status, Tip};
 pub use tree::{MAX_BLOCKS, Tree};
-
-#[cfg(test)]
-mod tests;

@@ -2,7 +2,7 @@
 
 ghost use Rattle.std.specs.Prelude.{◌≡◌};
 ghost use Rattle.tree.specs.Names.{genesis};
-ghost use Rattle.tree.specs.Nodes.{first_node};
+ghost use Rattle.tree.specs.inside.Nodes.{first_node};
 
 use crate::node::Node;
 use block::{Block, GENESIS_ID, GENESIS_ROOT, GENESIS_TIME, Header, Txs};

@@ -5,7 +5,8 @@ ghost use Rattle.locks.specs.MedianTime.{median_of};
 ghost use Rattle.tree.specs.Branches.{blocks_at, branch};
 ghost use Rattle.tree.specs.MedianTime.{time_of};
 ghost use Rattle.tree.specs.Names.{names};
-ghost use Rattle.tree.specs.Nodes.{AreNodes, blocks_of};
+ghost use Rattle.tree.specs.Nodes.{blocks_of};
+ghost use Rattle.tree.specs.inside.Nodes.{AreNodes};
 
 use crate::node::Node;
 use locks::{MEDIAN_TIME_SPAN, median};
@@ -14,7 +15,8 @@ use locks::{MEDIAN_TIME_SPAN, median};
 pub(crate) fn median_on(nodes: &[Node], parent: usize, time: u32) -> u32
     requires nodes { AreNodes (blocks_of nodes.now) nodes.now }
     requires kept { parent < length nodes.now }
-    ensures { let t = blocks_of nodes.now in result ≡ median_of (take 11 (time ∷ map time_of (blocks_at names t (branch t parent)))) }
+    ensures { let t = blocks_of nodes.now in result ≡
+        median_of (take 11 (time ∷ map time_of (blocks_at names t (branch t parent)))) }
 {
     let mut times = [time; MEDIAN_TIME_SPAN];
     let mut next = parent;

@@ -1,7 +1,8 @@
 //! Which branches the marks spoil.
 
 ghost use Rattle.std.specs.Prelude.{◌≡◌, ℕ, ◌<◌, ◌&&◌, not, length, []};
-ghost use Rattle.tree.specs.Nodes.{AreNodes, AreUsable, SameFlags, blocks_of, mark_at, state_of};
+ghost use Rattle.tree.specs.Nodes.{blocks_of, mark_at, state_of};
+ghost use Rattle.tree.specs.inside.Nodes.{AreNodes, AreUsable, SameFlags};
 
 use crate::node::{Mark, Node};
 

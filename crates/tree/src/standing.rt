@@ -13,7 +13,10 @@ pub(crate) struct Standing {
 impl Standing {
     /// Higher; or as high and of a higher rank; or as high, of the same rank, and earlier.
     pub(crate) fn is_above(&self, other: &Standing) -> bool
-        ensures { result ≡ (nat_lt other.now.height self.now.height || ((self.now.height == other.now.height) && (nat_lt other.now.rank self.now.rank || ((self.now.rank == other.now.rank) && nat_lt self.now.place other.now.place)))) }
+        ensures { result ≡ (nat_lt other.now.height self.now.height ||
+            ((self.now.height == other.now.height) &&
+            (nat_lt other.now.rank self.now.rank ||
+            ((self.now.rank == other.now.rank) && nat_lt self.now.place other.now.place)))) }
     {
         self.height > other.height
             || (self.height == other.height

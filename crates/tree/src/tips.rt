@@ -1,10 +1,10 @@
 //! The tips of a tree, in their order.
 
-ghost use Rattle.std.specs.Prelude.{◌≡◌, ◌≤◌, ◌==◌, ◌&&◌, nat_lt, length, slice_index, map, reverse, filter, cond, ◌++◌, ◌∷◌, [], IfOk};
+ghost use Rattle.std.specs.Prelude.{◌≡◌, ◌≤◌, ◌==◌, ◌&&◌, nat_lt, length, slice_index, map, reverse, filter, if◌then◌else◌, ◌++◌, ◌∷◌, [], IfOk};
 ghost use Rattle.tree.specs.Branches.{places, branch};
 ghost use Rattle.tree.specs.Names.{names};
-ghost use Rattle.tree.specs.Tops.{top_at};
-ghost use Rattle.tree.specs.Slots.{is_leaf, leaves_of};
+ghost use Rattle.tree.specs.inside.Tops.{top_at};
+ghost use Rattle.tree.specs.inside.Slots.{is_leaf, leaves_of};
 ghost use Rattle.tree.specs.Tips.{goes_first, is_tip, ordered, shown, status, tip};
 
 use crate::tip::{Status, Tip};
@@ -17,7 +17,8 @@ use wire::Memory;
 pub(crate) fn tops(alloc: Global, tree: &Tree, best: usize) -> Result<Vec<Top>, Memory>
     requires { best ≤ length tree.now.blocks }
     ensures { let t = tree.now.blocks in
-        IfOk result (λ tops. tops.items ≡ map (top_at t) (ordered (goes_first t) (filter (is_tip t best) (places t)))) }
+        IfOk result (λ tops. tops.items ≡
+        map (top_at t) (ordered (goes_first t) (filter (is_tip t best) (places t)))) }
 {
     let mut tops = all_tops(alloc, tree, tree.leaves(), best)?;
     tops.sort_unstable();
@@ -29,7 +30,8 @@ fn all_tops(alloc: Global, tree: &Tree, leaves: &[usize], best: usize) -> Result
     requires kept { best ≤ length tree.now.blocks }
     requires leaves { leaves.now ≡ leaves_of tree.now.blocks }
     ensures { let t = tree.now.blocks in
-        IfOk result (λ tops. tops.items ≡ map (top_at t) (leaves_of t ++ cond (is_leaf t best) [] (best ∷ []))) }
+        IfOk result (λ tops. tops.items ≡
+        map (top_at t) (leaves_of t ++ (if is_leaf t best then [] else best ∷ []))) }
 {
     let mut tops = Vec::new(alloc);
     for place in leaves {
@@ -75,7 +77,8 @@ pub(crate) fn tip_at(tree: &Tree, best: usize, active: &[usize], place: usize) -
 
 /// Whether this block is at this height of a branch.
 fn stands_at(branch: &[usize], height: usize, place: usize) -> bool
-    ensures { result ≡ (nat_lt height (length branch.now) && (slice_index branch.now height == place)) }
+    ensures { result ≡ (nat_lt height (length branch.now) &&
+        (slice_index branch.now height == place)) }
 {
     height < branch.len() && branch[height] == place
 }

@@ -7,7 +7,7 @@ ghost use Rattle.tree.specs.Limits.{max_blocks};
 ghost use Rattle.tree.specs.Flags.{flags_of};
 ghost use Rattle.tree.specs.Branches.{has, rest_of, height, parent_at, place_of, block_at, id_at, blocks_at, branch};
 ghost use Rattle.tree.specs.State.{opening, usable, rank, better, with_block, without_last, marked, cleared, saw, called};
-ghost use Rattle.tree.specs.Slots.{AreInOrder, is_leaf, leaves_of};
+ghost use Rattle.tree.specs.inside.Slots.{AreInOrder, is_leaf, leaves_of};
 ghost use Rattle.tree.specs.Sound.{IsBest, IsFresh};
 ghost use Rattle.tree.specs.Tips.{shown, tips};
 ghost use Rattle.tree.specs.MedianTime.{median_time_past};
@@ -51,13 +51,15 @@ pub struct Tree {
 impl Model for Tree {
     ghost use Rattle.block.specs.declared.block.Block.{Block};
     ghost use Rattle.tree.specs.State.{State};
-    ghost use Rattle.tree.specs.Nodes.{state_of, IsRight};
+    ghost use Rattle.tree.specs.Nodes.{state_of};
+    ghost use Rattle.tree.specs.inside.Nodes.{IsRight};
 
     ghost Value = { State Block };
 
     ghost view = { λ t. state_of t.nodes.items t.marks.items t.calls.items };
 
-    ghost invariant = { λ t. IsRight t.nodes.items t.marks.items t.calls.items t.ids.entries t.leaves.items };
+    ghost invariant = { λ t. IsRight t.nodes.items t.marks.items t.calls.items t.ids.entries
+        t.leaves.items };
 }
 
 impl Tree {
@@ -175,7 +177,11 @@ impl Tree {
 
     fn standing(&self, place: usize) -> Standing
         requires { place ≤ length self.now.blocks }
-        ensures { result ≡ record { height = height self.now.blocks place; rank = rank self.now place; place = place } }
+        ensures { result ≡ record {
+          height = height self.now.blocks place;
+          rank = rank self.now place;
+          place = place;
+        } }
     {
         Standing {
             height: self.nodes[place].height,
@@ -187,7 +193,8 @@ impl Tree {
     /// The median time past of its branch, in seconds since 1970 (BIP 113).
     pub fn median(&self, place: usize) -> u32
         requires { place ≤ length self.now.blocks }
-        ensures { let t = self.now.blocks in result ≡ median_time_past (blocks_at names t (branch t place)) }
+        ensures { let t = self.now.blocks in result ≡
+            median_time_past (blocks_at names t (branch t place)) }
     {
         self.nodes[place].median
     }
@@ -309,7 +316,8 @@ impl Tree {
         requires id { id ≡ id_of block.header }
         ensures place { IfOk result (λ place. place ≡ suc (length self.old.blocks)) }
         ensures ok { OnOk result (self.new ≡ with_block self.old block parent) }
-        ensures fresh { OnOk result (place_of names self.old.blocks id ≡ None → IsFresh names self.new) }
+        ensures fresh { OnOk result (place_of names self.old.blocks id ≡ None →
+            IsFresh names self.new) }
         ensures full { (result ≡ Err Full) ↔ (max_blocks ≤ suc (length self.old.blocks)) }
         ensures err { OnErr result (self.new ≡ self.old) }
     {
@@ -329,7 +337,8 @@ impl Tree {
         requires id { id ≡ id_of block.header }
         ensures place { IfOk result (λ place. place ≡ suc (length self.old.blocks)) }
         ensures ok { OnOk result (self.new ≡ with_block self.old block parent) }
-        ensures fresh { OnOk result (place_of names self.old.blocks id ≡ None → IsFresh names self.new) }
+        ensures fresh { OnOk result (place_of names self.old.blocks id ≡ None →
+            IsFresh names self.new) }
         ensures err { OnErr result (self.new ≡ self.old) }
     {
         self.nodes.reserve(1)?;

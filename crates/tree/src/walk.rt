@@ -2,7 +2,8 @@
 
 ghost use Rattle.std.specs.Prelude.{◌≡◌, ◌<◌, length, IfOk};
 ghost use Rattle.tree.specs.Branches.{branch};
-ghost use Rattle.tree.specs.Nodes.{AreNodes, blocks_of};
+ghost use Rattle.tree.specs.Nodes.{blocks_of};
+ghost use Rattle.tree.specs.inside.Nodes.{AreNodes};
 
 use crate::node::Node;
 use std::alloc::Global;

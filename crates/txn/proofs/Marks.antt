@@ -1,24 +1,15 @@
 -- Transactions that are spelled one after the other, and their ids.
-use Rattle.std.proofs.Common.{◌≡◌, ◌≢◌, ℕ, suc, ◌+◌, ◌-◌, ◌*◌, ◌<◌, ◌≤◌, inl, inr, List, [], ◌∷◌, ◌++◌, length, pos, take, drop, map, set, get_or, replicate, refl, sym, ap, ◌∙◌, append_assoc, arith}
+use Rattle.std.proofs.Common.{◌≡◌, ◌≢◌, ℕ, ◌+◌, ◌-◌, ◌*◌, ◌<◌, ◌≤◌, inl, inr, List, [], ◌++◌, length, pos, take, drop, set, get_or, sym, ap, ◌∙◌, append_assoc, arith}
 use Rattle.std.specs.Borrow.{Bor}
 use Rattle.std.proofs.lemmas.Bool.{cases_lt}
-use Rattle.std.proofs.lemmas.List.{drop-append-le, get_or-map, get_or-set_other, get_or-set_same, get_or_default, length-append, length-drop, length-map, length-set, map-append, same_lists, take-append-le, take_all, take_more}
+use Rattle.std.proofs.lemmas.List.{drop-append-le, get_or-map, get_or-set_other, get_or-set_same, get_or_default, length-append, length-drop, length-map, length-set, map-append, same_lists, take-append-le, take_all}
 use Rattle.std.proofs.Math.Seq.{drop-append_seam, take-add}
 use Rattle.hash.specs.declared.id.Id.{Id}
 use Rattle.lanes.specs.Messages as messages
 use Rattle.txn.specs.declared.tx.Tx.{Tx}
 use Rattle.txn.specs.Grammar.{transaction}
 use Rattle.txn.specs.Identity.{id_of, ids_of}
-use Rattle.txn.specs.Marks.{AreMarks}
-
-pub no_marks : (txs : List Tx) (bytes marks : List ℕ) → bytes ≡ [] → marks ≡ replicate 9 0 → AreMarks txs bytes marks 0
-no_marks txs bytes marks none zeros = record {
-  len = ap length zeros;
-  last = ap (λ (l : List ℕ). get_or l 0 0) zeros ∙ sym (ap length none);
-  order = λ l lt. absurd (omega (arith, lt));
-  within = λ l lt. absurd (omega (arith, lt));
-  each = λ l d lt. absurd (omega (arith, lt));
-}
+use Rattle.txn.specs.inside.Marks.{AreMarks}
 
 -- what stands between two marks stays as bytes are added
 kept : (bytes more : List ℕ) (a b : ℕ) → a ≤ b → b ≤ length bytes → take (b - a) (drop a (bytes ++ more)) ≡ take (b - a) (drop a bytes)
@@ -73,14 +64,14 @@ pub same_ids : (parts : List (Bor (List ℕ))) (txs : List Tx) → length parts 
     → ((k : ℕ) (d : Bor (List ℕ)) (e : Tx) → k < length txs → (get_or parts k d).now ≡ transaction.spell (get_or txs k e)) → messages.ids_of parts ≡ ids_of txs
 same_ids parts txs len each =
     let now = λ (part : Bor (List ℕ)). part.now in
-    let long : length (messages.ids_of parts) ≡ length parts = length-map (messages.bytes_of parts) messages.hashed ∙ length-map parts now in
+    let long : length (messages.ids_of parts) ≡ length parts = length-map (messages.bytes_of parts) messages.message_id ∙ length-map parts now in
     same_lists (messages.ids_of parts) (ids_of txs) (long ∙ len ∙ sym (length-map txs id_of))
     (λ k d lt.
     let none : Bor (List ℕ) = record { ref_ptr = (0, 0); now = [] } in
     let within : k < length parts = omega (arith, lt, long) in
     let tx : Tx = record { version = pos 0; inputs = []; outputs = []; lock_time = 0 } in
-    get_or-map messages.hashed (messages.bytes_of parts) k [] d (omega (arith, within, length-map parts now))
-    ∙ ap messages.hashed (get_or-map now parts k none [] within ∙ each k none tx (omega (arith, within, len)))
+    get_or-map messages.message_id (messages.bytes_of parts) k [] d (omega (arith, within, length-map parts now))
+    ∙ ap messages.message_id (get_or-map now parts k none [] within ∙ each k none tx (omega (arith, within, len)))
     ∙ sym (get_or-map id_of txs k tx d (omega (arith, within, len))))
 
 -- the ids of eight transactions more, as the code cuts out the places

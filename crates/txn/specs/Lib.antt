@@ -7,8 +7,7 @@ pub mod Grammar
 pub mod Identity
 pub mod Limits
 pub mod LockTime
-pub mod Marks
 pub mod Reason
-pub mod Room
+pub mod inside
 pub mod computed
 pub mod laws

@@ -69,7 +69,10 @@ fn broken_output(outputs: &[TxOut]) -> Option<Reason>
 fn broken_value(value: i64, before: i64) -> Option<Reason>
     requires low { pos 0 ≤ℤ before }
     requires high { before ≤ℤ max_money }
-    ensures reason { result ≡ first_broken ((int_lt value (pos 0), reason.OutputNegative) ∷ (int_lt max_money value, reason.OutputTooLarge) ∷ (int_lt max_money (before +ℤ value), reason.OutputSumTooLarge) ∷ []) }
+    ensures reason { result ≡ first_broken
+        ((int_lt value (pos 0), reason.OutputNegative)
+        ∷ (int_lt max_money value, reason.OutputTooLarge)
+        ∷ (int_lt max_money (before +ℤ value), reason.OutputSumTooLarge) ∷ []) }
     ensures low { IfNone result (pos 0 ≤ℤ (before +ℤ value)) }
     ensures high { IfNone result ((before +ℤ value) ≤ℤ max_money) }
 {
@@ -124,7 +127,8 @@ fn has_bad_length(tx: &Tx) -> bool
 
 /// Whether it isn't one, and spends the null outpoint.
 fn has_null(tx: &Tx) -> bool
-    ensures { result ≡ (not (is_coinbase tx.now) && list_any (λ input. is_null input.prev) tx.now.inputs) }
+    ensures { result ≡ (not (is_coinbase tx.now)
+        && list_any (λ input. is_null input.prev) tx.now.inputs) }
 {
     !tx.is_coinbase() && spends_null(tx.inputs.as_slice())
 }

@@ -1,7 +1,7 @@
 //! Why a transaction could not be read.
 
 ghost use Rattle.std.specs.Prelude.{◌≡◌, Some, None};
-ghost use Rattle.txn.specs.Fault.{spoken};
+ghost use Rattle.txn.specs.Fault.{wire_fault_of};
 
 use std::alloc::{AllocError, AllocFailed};
 use std::error::Error;
@@ -35,7 +35,7 @@ impl fmt::Display for TxFault {
 impl Error for TxFault {}
 
 impl From<WireFault> for TxFault {
-    ghost from_gives = { λ f e. spoken e ≡ Some f };
+    ghost from_gives = { λ f e. wire_fault_of e ≡ Some f };
 
     fn from(fault: WireFault) -> TxFault {
         match fault {
@@ -47,7 +47,7 @@ impl From<WireFault> for TxFault {
 }
 
 impl From<AllocError> for TxFault {
-    ghost from_gives = { λ _ e. spoken e ≡ None };
+    ghost from_gives = { λ _ e. wire_fault_of e ≡ None };
 
     fn from(_error: AllocError) -> TxFault {
         TxFault::Memory
@@ -55,7 +55,7 @@ impl From<AllocError> for TxFault {
 }
 
 impl<T: Drop> From<AllocFailed<T>> for TxFault {
-    ghost from_gives = { λ _ e. spoken e ≡ None };
+    ghost from_gives = { λ _ e. wire_fault_of e ≡ None };
 
     fn from(_error: AllocFailed<T>) -> TxFault {
         TxFault::Memory

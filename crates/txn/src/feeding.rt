@@ -26,7 +26,8 @@ pub fn feed_count(hasher: &mut Sha256, n: u128)
 
 /// Feeds an outpoint.
 pub fn feed_outpoint(hasher: &mut Sha256, p: &OutPoint)
-    ensures { (fed : List ℕ) → Holds256 hasher.old fed → Holds256 hasher.new (fed ++ outpoint.spell p.now) }
+    ensures { (fed : List ℕ) → Holds256 hasher.old fed
+        → Holds256 hasher.new (fed ++ outpoint.spell p.now) }
 {
     hasher.update(p.id.0);
     hasher.update(p.index.to_le_bytes());
@@ -34,7 +35,8 @@ pub fn feed_outpoint(hasher: &mut Sha256, p: &OutPoint)
 
 /// Feeds a script after its length.
 pub fn feed_script(hasher: &mut Sha256, script: &Script)
-    ensures { (fed : List ℕ) → Holds256 hasher.old fed → Holds256 hasher.new (fed ++ sized.spell script.now) }
+    ensures { (fed : List ℕ) → Holds256 hasher.old fed
+        → Holds256 hasher.new (fed ++ sized.spell script.now) }
 {
     feed_count(hasher, script.len() as u128);
     hasher.update(script.as_slice());
@@ -42,7 +44,8 @@ pub fn feed_script(hasher: &mut Sha256, script: &Script)
 
 /// Feeds an input.
 pub fn feed_input(hasher: &mut Sha256, i: &TxIn)
-    ensures { (fed : List ℕ) → Holds256 hasher.old fed → Holds256 hasher.new (fed ++ input.spell i.now) }
+    ensures { (fed : List ℕ) → Holds256 hasher.old fed
+        → Holds256 hasher.new (fed ++ input.spell i.now) }
 {
     feed_outpoint(hasher, &i.prev);
     feed_script(hasher, &i.script);
@@ -51,7 +54,8 @@ pub fn feed_input(hasher: &mut Sha256, i: &TxIn)
 
 /// Feeds inputs one after the other, without their count.
 fn feed_each_input(hasher: &mut Sha256, inputs: &[TxIn])
-    ensures { (fed : List ℕ) → Holds256 hasher.old fed → Holds256 hasher.new (fed ++ flat_map input.spell inputs.now) }
+    ensures { (fed : List ℕ) → Holds256 hasher.old fed
+        → Holds256 hasher.new (fed ++ flat_map input.spell inputs.now) }
 {
     for i in inputs {
         feed_input(hasher, i);
@@ -60,7 +64,8 @@ fn feed_each_input(hasher: &mut Sha256, inputs: &[TxIn])
 
 /// Feeds inputs after their count.
 pub fn feed_inputs(hasher: &mut Sha256, inputs: &[TxIn])
-    ensures { (fed : List ℕ) → Holds256 hasher.old fed → Holds256 hasher.new (fed ++ (counted input).spell inputs.now) }
+    ensures { (fed : List ℕ) → Holds256 hasher.old fed
+        → Holds256 hasher.new (fed ++ (counted input).spell inputs.now) }
 {
     feed_count(hasher, inputs.len() as u128);
     feed_each_input(hasher, inputs);
@@ -68,7 +73,8 @@ pub fn feed_inputs(hasher: &mut Sha256, inputs: &[TxIn])
 
 /// Feeds an output.
 pub fn feed_output(hasher: &mut Sha256, o: &TxOut)
-    ensures { (fed : List ℕ) → Holds256 hasher.old fed → Holds256 hasher.new (fed ++ output.spell o.now) }
+    ensures { (fed : List ℕ) → Holds256 hasher.old fed
+        → Holds256 hasher.new (fed ++ output.spell o.now) }
 {
     hasher.update(o.value.to_le_bytes());
     feed_script(hasher, &o.script);
@@ -76,7 +82,8 @@ pub fn feed_output(hasher: &mut Sha256, o: &TxOut)
 
 /// Feeds outputs one after the other, without their count.
 pub fn feed_each_output(hasher: &mut Sha256, outputs: &[TxOut])
-    ensures { (fed : List ℕ) → Holds256 hasher.old fed → Holds256 hasher.new (fed ++ flat_map output.spell outputs.now) }
+    ensures { (fed : List ℕ) → Holds256 hasher.old fed
+        → Holds256 hasher.new (fed ++ flat_map output.spell outputs.now) }
 {
     for o in outputs {
         feed_output(hasher, o);
@@ -85,7 +92,8 @@ pub fn feed_each_output(hasher: &mut Sha256, outputs: &[TxOut])
 
 /// Feeds outputs after their count.
 pub fn feed_outputs(hasher: &mut Sha256, outputs: &[TxOut])
-    ensures { (fed : List ℕ) → Holds256 hasher.old fed → Holds256 hasher.new (fed ++ (counted output).spell outputs.now) }
+    ensures { (fed : List ℕ) → Holds256 hasher.old fed
+        → Holds256 hasher.new (fed ++ (counted output).spell outputs.now) }
 {
     feed_count(hasher, outputs.len() as u128);
     feed_each_output(hasher, outputs);
@@ -93,7 +101,8 @@ pub fn feed_outputs(hasher: &mut Sha256, outputs: &[TxOut])
 
 /// Feeds a transaction.
 pub fn feed_tx(hasher: &mut Sha256, tx: &Tx)
-    ensures { (fed : List ℕ) → Holds256 hasher.old fed → Holds256 hasher.new (fed ++ transaction.spell tx.now) }
+    ensures { (fed : List ℕ) → Holds256 hasher.old fed
+        → Holds256 hasher.new (fed ++ transaction.spell tx.now) }
 {
     hasher.update(tx.version.to_le_bytes());
     feed_inputs(hasher, tx.inputs.as_slice());

@@ -26,6 +26,3 @@ pub use reason::Reason;
 pub use script::Script;
 pub use tx::{LOCKTIME_THRESHOLD, Tx};
 pub use writing::write;
-
-#[cfg(test)]
-mod tests;

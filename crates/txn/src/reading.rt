@@ -5,9 +5,9 @@ ghost use Rattle.wire.specs.declared.fault.WireFault.{WireFault};
 ghost use Rattle.wire.specs.Grammar.{IsBytes};
 ghost use Rattle.wire.specs.computed.Reading.{Gives, sized_at, many_at, counted_at};
 ghost use Rattle.txn.specs.declared.tx.Tx.{Tx};
-ghost use Rattle.txn.specs.Fault.{spoken};
+ghost use Rattle.txn.specs.Fault.{wire_fault_of};
 ghost use Rattle.txn.specs.Grammar.{transaction};
-ghost use Rattle.txn.specs.Room.{least_input, least_output};
+ghost use Rattle.txn.specs.inside.Room.{least_input, least_output};
 ghost use Rattle.txn.specs.computed.Reading.{outpoint_at, tx_in_at, tx_out_at, tx_at};
 
 use crate::fault::TxFault;
@@ -28,7 +28,7 @@ const LEAST_OUTPUT: usize = 9;
 
 #[tactic(auto, unfolding(crate::specs::computed::Reading::outpoint_at))]
 fn outpoint(bytes: &mut Cursor) -> Result<OutPoint, TxFault>
-    ensures { Gives spoken result bytes.new (outpoint_at bytes.old) }
+    ensures { Gives wire_fault_of result bytes.new (outpoint_at bytes.old) }
 {
     let mut id = [0; 32];
     id.copy_from_slice(bytes.take(32)?);
@@ -38,7 +38,7 @@ fn outpoint(bytes: &mut Cursor) -> Result<OutPoint, TxFault>
 
 #[tactic(auto, unfolding(wire::specs::computed::Reading::sized_at))]
 fn script(alloc: Global, bytes: &mut Cursor) -> Result<Script, TxFault>
-    ensures { Gives spoken result bytes.new (sized_at bytes.old) }
+    ensures { Gives wire_fault_of result bytes.new (sized_at bytes.old) }
 {
     let len = bytes.compact()?;
     let piece = bytes.take(len as usize)?;
@@ -47,7 +47,7 @@ fn script(alloc: Global, bytes: &mut Cursor) -> Result<Script, TxFault>
 
 #[tactic(auto, unfolding(crate::specs::computed::Reading::tx_in_at))]
 fn tx_in(alloc: Global, bytes: &mut Cursor) -> Result<TxIn, TxFault>
-    ensures { Gives spoken result bytes.new (tx_in_at bytes.old) }
+    ensures { Gives wire_fault_of result bytes.new (tx_in_at bytes.old) }
 {
     let prev = outpoint(bytes)?;
     let script = script(alloc, bytes)?;
@@ -61,7 +61,7 @@ fn tx_in(alloc: Global, bytes: &mut Cursor) -> Result<TxIn, TxFault>
 
 #[tactic(auto, unfolding(crate::specs::computed::Reading::tx_out_at))]
 fn tx_out(alloc: Global, bytes: &mut Cursor) -> Result<TxOut, TxFault>
-    ensures { Gives spoken result bytes.new (tx_out_at bytes.old) }
+    ensures { Gives wire_fault_of result bytes.new (tx_out_at bytes.old) }
 {
     let value = bytes.i64le()?;
     let script = script(alloc, bytes)?;
@@ -70,7 +70,7 @@ fn tx_out(alloc: Global, bytes: &mut Cursor) -> Result<TxOut, TxFault>
 
 #[tactic(auto, unfolding(wire::specs::computed::Reading::counted_at))]
 fn inputs(alloc: Global, bytes: &mut Cursor) -> Result<Inputs, TxFault>
-    ensures { Gives spoken result bytes.new (counted_at tx_in_at bytes.old) }
+    ensures { Gives wire_fault_of result bytes.new (counted_at tx_in_at bytes.old) }
 {
     let count = bytes.compact()?;
     // A count alone takes no memory: there is no room for more than the bytes can spell.
@@ -87,7 +87,7 @@ fn each_input(
 ) -> Result<Inputs, TxFault>
     requires empty { empty.items ≡ [] }
     requires room { vec_capacity empty ≡ min count (length bytes.old / least_input) }
-    ensures { Gives spoken result bytes.new (many_at tx_in_at count bytes.old) }
+    ensures { Gives wire_fault_of result bytes.new (many_at tx_in_at count bytes.old) }
 {
     let mut items = empty;
     for _ in 0..count {
@@ -98,7 +98,7 @@ fn each_input(
 
 #[tactic(auto, unfolding(wire::specs::computed::Reading::counted_at))]
 fn outputs(alloc: Global, bytes: &mut Cursor) -> Result<Outputs, TxFault>
-    ensures { Gives spoken result bytes.new (counted_at tx_out_at bytes.old) }
+    ensures { Gives wire_fault_of result bytes.new (counted_at tx_out_at bytes.old) }
 {
     let count = bytes.compact()?;
     let empty = Vec::with_capacity(alloc, bytes.room(count, LEAST_OUTPUT))?;
@@ -114,7 +114,7 @@ fn each_output(
 ) -> Result<Outputs, TxFault>
     requires empty { empty.items ≡ [] }
     requires room { vec_capacity empty ≡ min count (length bytes.old / least_output) }
-    ensures { Gives spoken result bytes.new (many_at tx_out_at count bytes.old) }
+    ensures { Gives wire_fault_of result bytes.new (many_at tx_out_at count bytes.old) }
 {
     let mut items = empty;
     for _ in 0..count {
@@ -125,7 +125,7 @@ fn each_output(
 
 #[tactic(auto, unfolding(crate::specs::computed::Reading::tx_at))]
 fn tx(alloc: Global, bytes: &mut Cursor) -> Result<Tx, TxFault>
-    ensures { Gives spoken result bytes.new (tx_at bytes.old) }
+    ensures { Gives wire_fault_of result bytes.new (tx_at bytes.old) }
 {
     let version = bytes.i32le()?;
     let inputs = inputs(alloc, bytes)?;
@@ -141,7 +141,7 @@ fn tx(alloc: Global, bytes: &mut Cursor) -> Result<Tx, TxFault>
 
 /// The transaction at the front, as it is read from left to right.
 fn front(alloc: Global, bytes: &mut Cursor) -> Result<Tx, TxFault>
-    ensures exact { Gives spoken result bytes.new (tx_at bytes.old) }
+    ensures exact { Gives wire_fault_of result bytes.new (tx_at bytes.old) }
     ensures kept { OnErr result (bytes.new ≡ bytes.old) }
     ensures bytes { IsBytes bytes.old }
 {
@@ -156,17 +156,22 @@ fn front(alloc: Global, bytes: &mut Cursor) -> Result<Tx, TxFault>
 /// A count of 0 inputs is read as such. The first refusal met from the left is the answer.
 pub fn read(alloc: Global, bytes: &mut Cursor) -> Result<Tx, TxFault>
     // What is read is lawful, and spelled at the front.
-    ensures found { IfOk result (λ t. transaction.Lawful t × (bytes.old ≡ transaction.spell t ++ bytes.new)) }
+    ensures found { IfOk result (λ t. transaction.Lawful t
+        × (bytes.old ≡ transaction.spell t ++ bytes.new)) }
     // A refusal names a fault that the bytes have, unless memory ran out.
-    ensures refused { IfErr result (λ e. IfSome (spoken e) (λ fault. transaction.Faulty fault bytes.old)) }
+    ensures refused { IfErr result (λ e. IfSome (wire_fault_of e)
+        (λ fault. transaction.Faulty fault bytes.old)) }
     // A refusal leaves the cursor where it was.
     ensures kept { OnErr result (bytes.new ≡ bytes.old) }
     // What is spelled at the front is read, unless memory runs out.
-    ensures reads { (t : Tx) (rest : List ℕ) → transaction.Lawful t → bytes.old ≡ transaction.spell t ++ rest → Gives spoken result bytes.new (Ok (t, rest)) }
+    ensures reads { (t : Tx) (rest : List ℕ) → transaction.Lawful t
+        → bytes.old ≡ transaction.spell t ++ rest
+        → Gives wire_fault_of result bytes.new (Ok (t, rest)) }
     // What has a fault is refused with it, unless memory runs out.
-    ensures refuses { (fault : WireFault) → transaction.Faulty fault bytes.old → Gives spoken result bytes.new (Err fault) }
+    ensures refuses { (fault : WireFault) → transaction.Faulty fault bytes.old
+        → Gives wire_fault_of result bytes.new (Err fault) }
     // The same, as reading from left to right.
-    ensures exact { Gives spoken result bytes.new (tx_at bytes.old) }
+    ensures exact { Gives wire_fault_of result bytes.new (tx_at bytes.old) }
 {
     front(alloc, bytes)
 }

@@ -3,7 +3,7 @@
 ghost use Rattle.std.specs.Prelude.{◌≡◌, ◌≤◌, ◌++◌, length, OnOk, OnErr};
 ghost use Rattle.wire.specs.Grammar.{sized, counted};
 ghost use Rattle.wire.specs.Spelling.{limit};
-ghost use Rattle.wire.specs.Writing.{Extends};
+ghost use Rattle.wire.specs.inside.Writing.{Extends};
 ghost use Rattle.txn.specs.Grammar.{outpoint, input, output, transaction};
 ghost use Rattle.txn.specs.Limits.{AreInputsWithin, AreOutputsWithin, IsWithinLimits};
 
@@ -69,7 +69,8 @@ fn put_tx_out(out: &mut Vec<u8>, o: &TxOut) -> Result<(), Memory>
 
 #[tactic(auto, using(wire::specs::laws::Writing::extending))]
 fn put_inputs(out: &mut Vec<u8>, inputs: &Inputs) -> Result<(), Memory>
-    ensures written { OnOk result (out.new.items ≡ out.old.items ++ (counted input).spell inputs.now) }
+    ensures written { OnOk result (out.new.items
+        ≡ out.old.items ++ (counted input).spell inputs.now) }
     ensures extends { Extends out.old.items out.new.items }
     ensures lawful { OnOk result (AreInputsWithin inputs.now → (counted input).Lawful inputs.now) }
 {
@@ -82,9 +83,11 @@ fn put_inputs(out: &mut Vec<u8>, inputs: &Inputs) -> Result<(), Memory>
 
 #[tactic(auto, using(wire::specs::laws::Writing::extending))]
 fn put_outputs(out: &mut Vec<u8>, outputs: &Outputs) -> Result<(), Memory>
-    ensures written { OnOk result (out.new.items ≡ out.old.items ++ (counted output).spell outputs.now) }
+    ensures written { OnOk result (out.new.items
+        ≡ out.old.items ++ (counted output).spell outputs.now) }
     ensures extends { Extends out.old.items out.new.items }
-    ensures lawful { OnOk result (AreOutputsWithin outputs.now → (counted output).Lawful outputs.now) }
+    ensures lawful { OnOk result (AreOutputsWithin outputs.now
+        → (counted output).Lawful outputs.now) }
 {
     put_compact(out, outputs.len() as u64)?;
     for o in outputs.as_slice() {

@@ -1,8 +1,7 @@
 -- What a transaction does to the coins.
-use Rattle.std.specs.Prelude.{◌≡◌, ℕ, ◌+◌, ◌^◌, ◌<◌, ◌≤◌, Bool, cond, List, [], ◌∷◌, ◌++◌, length, map, fold, None, IsSome}
+use Rattle.std.specs.Prelude.{◌≡◌, ℕ, ◌+◌, ◌^◌, ◌<◌, ◌≤◌, Bool, if◌then◌else◌, List, [], ◌∷◌, ◌++◌, length, map, fold, None, IsSome}
 use Rattle.std.specs.Option.{option_to_list}
-use Rattle.std.specs.List.{AllByRecursion, IsDistinct, zip}
-use Rattle.std.specs.Map.{keys_of}
+use Rattle.std.specs.List.{AllByRecursion, IsDistinct}
 use Rattle.std.specs.FinMap as coin_map
 use Rattle.hash.specs.declared.id.Id.{Id}
 use Rattle.txn.specs.declared.outpoint.OutPoint.{OutPoint}
@@ -15,7 +14,7 @@ use Rattle.coins.specs.Coins.{Coins, same}
 
 -- the outpoints that a transaction spends: those of its inputs, and none of a coinbase
 abbrev pub spends : Tx → List OutPoint
-spends tx = cond (is_coinbase tx) [] (prevs tx.inputs)
+spends tx = if is_coinbase tx then [] else prevs tx.inputs
 
 -- the outpoint of the output at a place
 abbrev pub place : Id → ℕ → OutPoint
@@ -25,7 +24,7 @@ place id index = record { id = id; index = index }
 abbrev pub spendable : Id → ℕ → List TxOut → List (OutPoint × TxOut)
 spendable id index [] = []
 spendable id index (output ∷ outputs) =
-    cond (is_unspendable output.script) [] ((place id index, output) ∷ []) ++ spendable id (index + 1) outputs
+    (if is_unspendable output.script then [] else (place id index, output) ∷ []) ++ spendable id (index + 1) outputs
 
 -- the coin that an output makes
 abbrev pub coin_of : ℕ → Bool → TxOut → Coin
@@ -69,25 +68,3 @@ pub record IsApplied (m : Coins) (tx : Tx) (id : Id) (height : ℕ) (n : Coins) 
   pub applicable : IsApplicable m tx id
   pub after : n ≡ after m tx id height
   pub spent : taken ≡ spent m tx
-
--- ---- what the functions that apply and revert do
-
--- these are coins, each once
-pub record AreCoins (m : Coins) (outpoints : List OutPoint) : Type 0 where
-  pub coins : AllByRecursion (λ outpoint. IsSome (coin_map.get m outpoint)) outpoints
-  pub once : IsDistinct same outpoints
-
--- these are no coins, each once
-pub record AreNew (m : Coins) (made : List (OutPoint × Coin)) : Type 0 where
-  pub new : AllByRecursion (λ c. coin_map.get m c.0 ≡ None) made
-  pub once : IsDistinct same (keys_of made)
-
--- the coins before a transaction that spent these
-unfoldable pub reverted : Coins → Tx → Id → List Coin → Coins
-reverted n tx id taken = with_coins (without n (keys_of (spendable id 0 tx.outputs))) (zip (spends tx) taken)
-
-pub record IsRevertible (n : Coins) (tx : Tx) (id : Id) (taken : List Coin) : Type 0 where
-  pub outputs : AreCoins n (keys_of (spendable id 0 tx.outputs))
-  pub inputs : AreNew (without n (keys_of (spendable id 0 tx.outputs))) (zip (spends tx) taken)
-  pub alike : length taken ≡ length (spends tx)
-  pub numbered : length tx.outputs ≤ 2 ^ 32

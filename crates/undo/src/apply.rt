@@ -6,7 +6,8 @@ ghost use Rattle.hash.specs.declared.id.Id.{Id};
 ghost use Rattle.txn.specs.Check.{prevs};
 ghost use Rattle.script.specs.Kinds.{is_unspendable};
 ghost use Rattle.coins.specs.Entries.{over, IsSound};
-ghost use Rattle.undo.specs.Effect.{spends, spendable, coin_of, makes, without, with_coins, after, coins_at, spent, IsApplicable, AreCoins, AreNew};
+ghost use Rattle.undo.specs.Effect.{spends, spendable, coin_of, makes, without, with_coins, after, coins_at, spent, IsApplicable};
+ghost use Rattle.undo.specs.inside.Reverting.{AreCoins, AreNew};
 
 use crate::block_undo::Spent;
 use coins::{Base, Cache, Coin, Writes};
@@ -27,7 +28,8 @@ pub fn apply_tx<B: Base>(
 ) -> Result<Spent, Memory>
     requires { IsApplicable cache.old.coins tx.now id }
     ensures spent { IfOk result (λ taken. taken ≡ spent cache.old.coins tx.now) }
-    ensures ok { OnOk result (cache.new ≡ record cache.old { coins = after cache.old.coins tx.now id height }) }
+    ensures ok { OnOk result (cache.new ≡
+        record cache.old { coins = after cache.old.coins tx.now id height }) }
     ensures err { OnErr result (cache.new ≡ cache.old) }
 {
     let (spent, writes) = applied(alloc, &*cache, tx, id, height)?;
@@ -46,37 +48,44 @@ fn applied<B: Base>(
     requires { IsApplicable (B.coins base.now) tx.now id }
     ensures spent { IfOk result (λ applied. applied.0 ≡ spent (B.coins base.now) tx.now) }
     ensures sound { IfOk result (λ applied. IsSound (B.coins base.now) applied.1) }
-    ensures over { IfOk result (λ applied. over (B.coins base.now) applied.1 ≡ after (B.coins base.now) tx.now id height) }
+    ensures over { IfOk result (λ applied. over (B.coins base.now) applied.1 ≡
+        after (B.coins base.now) tx.now id height) }
 {
-    let mut layer = Cache::over(alloc, base);
-    let spent = apply_in_layer(alloc, &mut layer, tx, id, height)?;
+    let (layer, spent) = apply_in_layer(alloc, Cache::over(alloc, base), tx, id, height)?;
     Ok((spent, layer.into_writes()))
 }
 
-/// The same in a layer that the caller drops at a refusal, since part of the transaction may then be
-/// applied. It does half the work.
-pub fn apply_in_layer<B: Base>(
+/// The same in a layer that is the caller's own, which is given back where the transaction was applied: at a
+/// refusal, when part of it may be, it is dropped. It does half the work.
+pub fn apply_in_layer<'b, B: Base>(
     alloc: Global,
-    layer: &mut Cache<'_, B>,
+    mut layer: Cache<'b, B>,
     tx: &Tx,
     id: Id,
     height: u32,
-) -> Result<Spent, Memory>
-    requires { IsApplicable layer.old.coins tx.now id }
-    ensures spent { IfOk result (λ taken. taken ≡ spent layer.old.coins tx.now) }
-    ensures ok { OnOk result (layer.new ≡ record layer.old { coins = after layer.old.coins tx.now id height }) }
-    ensures base { layer.new.base ≡ layer.old.base }
+) -> Result<(Cache<'b, B>, Spent), Memory>
+    requires { IsApplicable layer.coins tx.now id }
+    ensures layer { IfOk result (λ done.
+        done.0 ≡ record layer.entry { coins = after layer.entry.coins tx.now id height }) }
+    ensures spent { IfOk result (λ done. done.1 ≡ spent layer.entry.coins tx.now) }
 {
-    let spent = spend_inputs(alloc, layer, tx)?;
-    add_all(layer, id, tx.outputs.as_slice(), height, tx.is_coinbase())?;
-    Ok(spent)
+    let spent = spend_inputs(alloc, &mut layer, tx)?;
+    add_all(
+        &mut layer,
+        id,
+        tx.outputs.as_slice(),
+        height,
+        tx.is_coinbase(),
+    )?;
+    Ok((layer, spent))
 }
 
 /// Takes the coins that a transaction spends. A coinbase spends none.
 fn spend_inputs<B: Base>(alloc: Global, layer: &mut Cache<'_, B>, tx: &Tx) -> Result<Spent, Memory>
     requires { AreCoins layer.old.coins (spends tx.now) }
     ensures spent { IfOk result (λ taken. taken ≡ coins_at layer.old.coins (spends tx.now)) }
-    ensures ok { OnOk result (layer.new ≡ record layer.old { coins = without layer.old.coins (spends tx.now) }) }
+    ensures ok { OnOk result (layer.new ≡
+        record layer.old { coins = without layer.old.coins (spends tx.now) }) }
     ensures base { layer.new.base ≡ layer.old.base }
 {
     if tx.is_coinbase() {
@@ -93,7 +102,8 @@ fn spend_all<B: Base>(
 ) -> Result<Spent, Memory>
     requires { AreCoins layer.old.coins (prevs inputs.now) }
     ensures spent { IfOk result (λ taken. taken ≡ coins_at layer.old.coins (prevs inputs.now)) }
-    ensures ok { OnOk result (layer.new ≡ record layer.old { coins = without layer.old.coins (prevs inputs.now) }) }
+    ensures ok { OnOk result (layer.new ≡
+        record layer.old { coins = without layer.old.coins (prevs inputs.now) }) }
     ensures base { layer.new.base ≡ layer.old.base }
 {
     let mut spent = Spent::new(alloc);
@@ -111,9 +121,14 @@ fn add_all<B: Base>(
     height: u32,
     coinbase: bool,
 ) -> Result<(), Memory>
-    requires new { AreNew layer.old.coins (map (λ o. (o.0, coin_of height coinbase o.1)) (spendable id 0 outputs.now)) }
+    requires new { AreNew layer.old.coins (map (λ o.
+        (o.0, coin_of height coinbase o.1)) (spendable id 0 outputs.now)) }
     requires numbered { length outputs.now ≤ 2 ^ 32 }
-    ensures ok { OnOk result (layer.new ≡ record layer.old { coins = with_coins layer.old.coins (map (λ o. (o.0, coin_of height coinbase o.1)) (spendable id 0 outputs.now)) }) }
+    ensures ok { OnOk result (layer.new ≡
+        record layer.old {
+          coins = with_coins layer.old.coins (map (λ o.
+              (o.0, coin_of height coinbase o.1)) (spendable id 0 outputs.now));
+        }) }
     ensures base { layer.new.base ≡ layer.old.base }
 {
     for (place, output) in outputs.iter().enumerate() {
@@ -132,7 +147,11 @@ fn add_one<B: Base>(
     coinbase: bool,
 ) -> Result<(), Memory>
     requires { is_unspendable output.now.script ≡ false → coin_map.get layer.old.coins at ≡ None }
-    ensures ok { OnOk result (layer.new ≡ record layer.old { coins = (if is_unspendable output.now.script then layer.old.coins else coin_map.insert layer.old.coins at (coin_of height coinbase output.now)) }) }
+    ensures ok { OnOk result (layer.new ≡
+        record layer.old {
+          coins = (if is_unspendable output.now.script then layer.old.coins else
+              coin_map.insert layer.old.coins at (coin_of height coinbase output.now));
+        }) }
     ensures base { layer.new.base ≡ layer.old.base }
 {
     if unspendable(output.script.as_slice()) {

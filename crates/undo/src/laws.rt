@@ -11,24 +11,36 @@ ghost use Rattle.txn.specs.declared.tx.Tx.{Tx};
 ghost use Rattle.txn.specs.Check.{is_coinbase};
 ghost use Rattle.script.specs.Kinds.{is_unspendable};
 ghost use Rattle.coins.specs.Coins.{Coins, same};
-ghost use Rattle.undo.specs.Effect.{spends, place, coin_of, after, spent, reverted, IsApplicable};
+ghost use Rattle.undo.specs.Effect.{spends, place, coin_of, after, spent, IsApplicable};
+ghost use Rattle.undo.specs.inside.Reverting.{reverted};
 
 /// What a transaction spends is gone after it.
 pub fn what_is_spent_is_gone()
-    ensures { (coins : Coins) (tx : Tx) (id : Id) (height : ℕ) → IsApplicable coins tx id → AllByRecursion (λ outpoint. coin_map.get (after coins tx id height) outpoint ≡ None) (spends tx) }
+    ensures { (coins : Coins) (tx : Tx) (id : Id) (height : ℕ) → IsApplicable coins tx id →
+        AllByRecursion (λ outpoint. coin_map.get (after coins tx id height) outpoint ≡
+        None) (spends tx) }
 {}
 
 /// At each output's place stands its coin, and nothing where it can't be one.
 pub fn each_output_makes_its_coin()
-    ensures { (coins : Coins) (tx : Tx) (id : Id) (height : ℕ) → IsApplicable coins tx id → (index : ℕ) (other : TxOut) → index < length tx.outputs → (let output = get_or tx.outputs index other in coin_map.get (after coins tx id height) (place id index) ≡ (if is_unspendable output.script then None else Some (coin_of height (is_coinbase tx) output))) }
+    ensures { (coins : Coins) (tx : Tx) (id : Id) (height : ℕ) → IsApplicable coins tx id →
+        (index : ℕ) (other : TxOut) → index < length tx.outputs →
+        (let output = get_or tx.outputs index other in
+        coin_map.get (after coins tx id height) (place id index) ≡
+        (if is_unspendable output.script then None else
+        Some (coin_of height (is_coinbase tx) output))) }
 {}
 
 /// All other coins stay.
 pub fn all_other_coins_stay()
-    ensures { (coins : Coins) (tx : Tx) (id : Id) (height : ℕ) (outpoint : OutPoint) → list_any (same outpoint) (spends tx) ≡ false → ((index : ℕ) → index < length tx.outputs → ¬ (outpoint ≡ place id index)) → coin_map.get (after coins tx id height) outpoint ≡ coin_map.get coins outpoint }
+    ensures { (coins : Coins) (tx : Tx) (id : Id) (height : ℕ) (outpoint : OutPoint) →
+        list_any (same outpoint) (spends tx) ≡ false →
+        ((index : ℕ) → index < length tx.outputs → ¬ (outpoint ≡ place id index)) →
+        coin_map.get (after coins tx id height) outpoint ≡ coin_map.get coins outpoint }
 {}
 
 /// A transaction that is taken back leaves the coins of before.
 pub fn taking_back_leaves_the_coins_of_before()
-    ensures { (coins : Coins) (tx : Tx) (id : Id) (height : ℕ) → IsApplicable coins tx id → reverted (after coins tx id height) tx id (spent coins tx) ≡ coins }
+    ensures { (coins : Coins) (tx : Tx) (id : Id) (height : ℕ) → IsApplicable coins tx id →
+        reverted (after coins tx id height) tx id (spent coins tx) ≡ coins }
 {}

@@ -9,6 +9,3 @@ mod revert;
 pub use apply::{apply_in_layer, apply_tx};
 pub use block_undo::{BlockUndo, Spent};
 pub use revert::{revert_in_layer, revert_tx};
-
-#[cfg(test)]
-mod tests;

@@ -8,7 +8,8 @@ ghost use Rattle.txn.specs.Check.{prevs};
 ghost use Rattle.script.specs.Kinds.{is_unspendable};
 ghost use Rattle.coins.specs.Coins.{Coins};
 ghost use Rattle.coins.specs.Entries.{over, IsSound};
-ghost use Rattle.undo.specs.Effect.{spends, spendable, without, with_coins, reverted, IsApplied, IsRevertible, AreCoins, AreNew};
+ghost use Rattle.undo.specs.Effect.{spends, spendable, without, with_coins, IsApplied};
+ghost use Rattle.undo.specs.inside.Reverting.{reverted, IsRevertible, AreCoins, AreNew};
 
 use crate::block_undo::Spent;
 use coins::{Base, Cache, Coin, Writes};
@@ -27,8 +28,11 @@ pub fn revert_tx<B: Base>(
     id: Id,
     spent: &Spent,
 ) -> Result<(), Memory>
-    requires { (before : Coins) × (height : ℕ) × IsApplied before tx.now id height cache.old.coins spent.now }
-    ensures ok { (before : Coins) (height : ℕ) → IsApplied before tx.now id height cache.old.coins spent.now → OnOk result (cache.new ≡ record cache.old { coins = before }) }
+    requires { (before : Coins) × (height : ℕ) ×
+        IsApplied before tx.now id height cache.old.coins spent.now }
+    ensures ok { (before : Coins) (height : ℕ) →
+        IsApplied before tx.now id height cache.old.coins spent.now →
+        OnOk result (cache.new ≡ record cache.old { coins = before }) }
     ensures err { OnErr result (cache.new ≡ cache.old) }
 {
     let writes = undone(alloc, &*cache, tx, id, spent)?;
@@ -45,42 +49,51 @@ fn undone<B: Base>(
 ) -> Result<Writes, Memory>
     requires { IsRevertible (B.coins base.now) tx.now id spent.now }
     ensures sound { IfOk result (λ writes. IsSound (B.coins base.now) writes) }
-    ensures over { IfOk result (λ writes. over (B.coins base.now) writes ≡ reverted (B.coins base.now) tx.now id spent.now) }
+    ensures over { IfOk result (λ writes. over (B.coins base.now) writes ≡
+        reverted (B.coins base.now) tx.now id spent.now) }
 {
-    let mut layer = Cache::over(alloc, base);
-    revert(&mut layer, tx, id, spent)?;
+    let layer = revert(Cache::over(alloc, base), tx, id, spent)?;
     Ok(layer.into_writes())
 }
 
-/// The same in a layer that the caller drops at a refusal, since part of the transaction may then be
-/// taken back. It does half the work.
-pub fn revert_in_layer<B: Base>(
-    layer: &mut Cache<'_, B>,
+/// The same in a layer that is the caller's own, which is given back where the transaction was taken back: at a
+/// refusal, when part of it may be, it is dropped. It does half the work.
+pub fn revert_in_layer<'b, B: Base>(
+    layer: Cache<'b, B>,
     tx: &Tx,
     id: Id,
     spent: &Spent,
-) -> Result<(), Memory>
-    requires { (before : Coins) × (height : ℕ) × IsApplied before tx.now id height layer.old.coins spent.now }
-    ensures ok { (before : Coins) (height : ℕ) → IsApplied before tx.now id height layer.old.coins spent.now → OnOk result (layer.new ≡ record layer.old { coins = before }) }
-    ensures base { layer.new.base ≡ layer.old.base }
+) -> Result<Cache<'b, B>, Memory>
+    requires { (before : Coins) × (height : ℕ) ×
+        IsApplied before tx.now id height layer.coins spent.now }
+    ensures { (before : Coins) (height : ℕ) →
+        IsApplied before tx.now id height layer.entry.coins spent.now →
+        IfOk result (λ left. left ≡ record layer.entry { coins = before }) }
 {
     revert(layer, tx, id, spent)
 }
 
-fn revert<B: Base>(layer: &mut Cache<'_, B>, tx: &Tx, id: Id, spent: &Spent) -> Result<(), Memory>
-    requires { IsRevertible layer.old.coins tx.now id spent.now }
-    ensures ok { OnOk result (layer.new ≡ record layer.old { coins = reverted layer.old.coins tx.now id spent.now }) }
-    ensures base { layer.new.base ≡ layer.old.base }
+fn revert<'b, B: Base>(
+    mut layer: Cache<'b, B>,
+    tx: &Tx,
+    id: Id,
+    spent: &Spent,
+) -> Result<Cache<'b, B>, Memory>
+    requires { IsRevertible layer.coins tx.now id spent.now }
+    ensures { IfOk result (λ left.
+        left ≡ record layer.entry { coins = reverted layer.entry.coins tx.now id spent.now }) }
 {
-    take_all(layer, id, tx.outputs.as_slice())?;
-    return_inputs(layer, tx, spent)
+    take_all(&mut layer, id, tx.outputs.as_slice())?;
+    return_inputs(&mut layer, tx, spent)?;
+    Ok(layer)
 }
 
 /// Puts the coins back that a transaction spent. A coinbase spent none.
 fn return_inputs<B: Base>(layer: &mut Cache<'_, B>, tx: &Tx, spent: &Spent) -> Result<(), Memory>
     requires new { AreNew layer.old.coins (zip (spends tx.now) spent.now) }
     requires alike { length spent.now ≡ length (spends tx.now) }
-    ensures ok { OnOk result (layer.new ≡ record layer.old { coins = with_coins layer.old.coins (zip (spends tx.now) spent.now) }) }
+    ensures ok { OnOk result (layer.new ≡
+        record layer.old { coins = with_coins layer.old.coins (zip (spends tx.now) spent.now) }) }
     ensures base { layer.new.base ≡ layer.old.base }
 {
     if tx.is_coinbase() {
@@ -93,7 +106,10 @@ fn return_inputs<B: Base>(layer: &mut Cache<'_, B>, tx: &Tx, spent: &Spent) -> R
 fn take_all<B: Base>(layer: &mut Cache<'_, B>, id: Id, outputs: &[TxOut]) -> Result<(), Memory>
     requires there { AreCoins layer.old.coins (keys_of (spendable id 0 outputs.now)) }
     requires numbered { length outputs.now ≤ 2 ^ 32 }
-    ensures ok { OnOk result (layer.new ≡ record layer.old { coins = without layer.old.coins (keys_of (spendable id 0 outputs.now)) }) }
+    ensures ok { OnOk result (layer.new ≡
+        record layer.old {
+          coins = without layer.old.coins (keys_of (spendable id 0 outputs.now));
+        }) }
     ensures base { layer.new.base ≡ layer.old.base }
 {
     for (place, output) in outputs.iter().enumerate() {
@@ -106,7 +122,11 @@ fn take_all<B: Base>(layer: &mut Cache<'_, B>, id: Id, outputs: &[TxOut]) -> Res
 /// Takes the coin of an output away, if it can be one.
 fn take_one<B: Base>(layer: &mut Cache<'_, B>, at: OutPoint, output: &TxOut) -> Result<(), Memory>
     requires { is_unspendable output.now.script ≡ false → IsSome (coin_map.get layer.old.coins at) }
-    ensures ok { OnOk result (layer.new ≡ record layer.old { coins = (if is_unspendable output.now.script then layer.old.coins else coin_map.remove layer.old.coins at) }) }
+    ensures ok { OnOk result (layer.new ≡
+        record layer.old {
+          coins = (if is_unspendable output.now.script then layer.old.coins else
+              coin_map.remove layer.old.coins at);
+        }) }
     ensures base { layer.new.base ≡ layer.old.base }
 {
     if unspendable(output.script.as_slice()) {
@@ -124,7 +144,10 @@ fn return_all<B: Base>(
 ) -> Result<(), Memory>
     requires new { AreNew layer.old.coins (zip (prevs inputs.now) spent.now) }
     requires alike { length spent.now ≡ length inputs.now }
-    ensures ok { OnOk result (layer.new ≡ record layer.old { coins = with_coins layer.old.coins (zip (prevs inputs.now) spent.now) }) }
+    ensures ok { OnOk result (layer.new ≡
+        record layer.old {
+          coins = with_coins layer.old.coins (zip (prevs inputs.now) spent.now);
+        }) }
     ensures base { layer.new.base ≡ layer.old.base }
 {
     for index in 0..inputs.len() {

@@ -1,5 +1,5 @@
 pub mod Spelling
 pub mod Grammar
-pub mod Writing
+pub mod inside
 pub mod computed
 pub mod laws

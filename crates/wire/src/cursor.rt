@@ -54,10 +54,12 @@ impl<'a> Cursor<'a> {
 
     /// The next `len` bytes.
     pub fn take(&mut self, len: usize) -> Result<&'a [u8], WireFault>
-        ensures found { IfOk result (λ bytes. (length bytes.now ≡ len) × (self.old ≡ bytes.now ++ self.new)) }
+        ensures found { IfOk result (λ bytes. (length bytes.now ≡ len)
+            × (self.old ≡ bytes.now ++ self.new)) }
         ensures refused { IfErr result (λ fault. (piece len).Faulty fault self.old) }
         ensures kept { OnErr result (self.new ≡ self.old) }
-        ensures exact { Reads (λ bytes. bytes.now) result self.old self.new (piece_at len self.old) }
+        ensures exact { Reads (λ bytes. bytes.now) result self.old self.new
+            (piece_at len self.old) }
     {
         if self.rest.len() < len {
             return Err(WireFault::Short);
@@ -69,7 +71,8 @@ impl<'a> Cursor<'a> {
 
     /// A number in four bytes, the lowest first.
     pub fn u32le(&mut self) -> Result<u32, WireFault>
-        ensures found { IfOk result (λ n. (number 4).Lawful n × (self.old ≡ (number 4).spell n ++ self.new)) }
+        ensures found { IfOk result (λ n. (number 4).Lawful n
+            × (self.old ≡ (number 4).spell n ++ self.new)) }
         ensures refused { IfErr result (λ fault. (number 4).Faulty fault self.old) }
         ensures kept { OnErr result (self.new ≡ self.old) }
         ensures exact { Reads (λ n. n) result self.old self.new (number_at 4 self.old) }
@@ -80,7 +83,8 @@ impl<'a> Cursor<'a> {
 
     /// A signed number in four bytes, the lowest first, in two's complement.
     pub fn i32le(&mut self) -> Result<i32, WireFault>
-        ensures found { IfOk result (λ n. signed32.Lawful n × (self.old ≡ signed32.spell n ++ self.new)) }
+        ensures found { IfOk result (λ n. signed32.Lawful n
+            × (self.old ≡ signed32.spell n ++ self.new)) }
         ensures refused { IfErr result (λ fault. signed32.Faulty fault self.old) }
         ensures kept { OnErr result (self.new ≡ self.old) }
         ensures exact { Reads (λ n. n) result self.old self.new (i32_at self.old) }
@@ -91,7 +95,8 @@ impl<'a> Cursor<'a> {
 
     /// A signed number in eight bytes, the lowest first, in two's complement.
     pub fn i64le(&mut self) -> Result<i64, WireFault>
-        ensures found { IfOk result (λ n. signed64.Lawful n × (self.old ≡ signed64.spell n ++ self.new)) }
+        ensures found { IfOk result (λ n. signed64.Lawful n
+            × (self.old ≡ signed64.spell n ++ self.new)) }
         ensures refused { IfErr result (λ fault. signed64.Faulty fault self.old) }
         ensures kept { OnErr result (self.new ≡ self.old) }
         ensures exact { Reads (λ n. n) result self.old self.new (i64_at self.old) }
@@ -108,7 +113,8 @@ impl<'a> Cursor<'a> {
         ensures refused { IfErr result (λ fault. count.Faulty fault self.old) }
         ensures kept { OnErr result (self.new ≡ self.old) }
         // What is spelled at the front is read.
-        ensures reads { (n : ℕ) (rest : List ℕ) → count.Lawful n → self.old ≡ count.spell n ++ rest → IsOkAnd result (λ x. x ≡ n) × (self.new ≡ rest) }
+        ensures reads { (n : ℕ) (rest : List ℕ) → count.Lawful n → self.old ≡ count.spell n ++ rest
+            → IsOkAnd result (λ x. x ≡ n) × (self.new ≡ rest) }
         // What has a fault is refused with it.
         ensures refuses { (fault : WireFault) → count.Faulty fault self.old → result ≡ Err fault }
         // The same, as reading from left to right.

@@ -15,6 +15,3 @@ pub use fault::WireFault;
 pub use memory::Memory;
 pub use parts::Parts;
 pub use writing::put_compact;
-
-#[cfg(test)]
-mod tests;

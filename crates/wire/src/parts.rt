@@ -31,7 +31,8 @@ impl<T: PartialEq> PartialEq for Parts<T> {
     fn eq(&self, other: &Parts<T>) -> bool
         ensures each { result ≡ pointwise T.eq self.now other.now }
         // Where parts compare as equal exactly if they are, so do lists of them.
-        ensures equal { ((a b : T) → Decides (T.eq a b) (a ≡ b)) → IsTrue result ↔ (self.now ≡ other.now) }
+        ensures equal { ((a b : T) → Decides (T.eq a b) (a ≡ b))
+            → IsTrue result ↔ (self.now ≡ other.now) }
     {
         self.items == other.items
     }

@@ -15,11 +15,12 @@ use Rattle.tree.specs.Names.{names}
 use Rattle.tree.specs.laws.Branches.{branch_head, branch-genesis, on-bounds, on-genesis, height-genesis}
 use Rattle.tree.specs.laws.Parents.{branch-parent, height-parent, climb}
 use Rattle.tree.specs.laws.Walks.{has_at, on_by_height}
-use Rattle.activate.specs.Replay.{replay}
-use Rattle.activate.specs.Regtest.{ledger}
-use Rattle.activate.specs.Tracked.{coins_after, undo_at, highest_undo}
-use Rattle.activate.specs.Ways.{AreConnected}
-use Rattle.activate.specs.Unlinking.{place_at, IsConnectedBranch, IsUndoAbove}
+use Rattle.chain.specs.Replay.{replay}
+use Rattle.chain.specs.Regtest.{ledger}
+use Rattle.activate.specs.CoreState.{coins_after}
+use Rattle.activate.specs.inside.Keeping.{undo_at, highest_undo}
+use Rattle.activate.specs.inside.Paths.{AreConnected}
+use Rattle.activate.specs.inside.Disconnection.{place_at, IsConnectedBranch, IsUndoAbove}
 
 -- ---- one step up a branch
 
@@ -29,8 +30,8 @@ module _ {B : Type 0} (t : Blocks B) where
   at p h = get_or (branch t p) (length (branch t p) - 1 - h) 0
 
   -- each place above genesis has the one below it as its parent
-  abbrev Climbs : ℕ → Type 0
-  Climbs p = (h : ℕ) → suc h < length (branch t p) → (0 < at p (suc h)) × (parent_at t (at p (suc h)) ≡ at p h)
+  abbrev IsAscent : ℕ → Type 0
+  IsAscent p = (h : ℕ) → suc h < length (branch t p) → (0 < at p (suc h)) × (parent_at t (at p (suc h)) ≡ at p h)
 
   module _ (p : ℕ) (z : 0 < p) (k : p ≤ length t) where
     abbrev q : ℕ
@@ -49,7 +50,7 @@ module _ {B : Type 0} (t : Blocks B) where
         ap (λ (b : List ℕ). get_or b (length b - 1 - h) 0) down
         ∙ ap (λ i. get_or (p ∷ branch t q) i 0) {x = length (p ∷ branch t q) - 1 - h} {y = 0} (omega arith)
 
-    up : (q ≤ length t) → Climbs q → Climbs p
+    up : (q ≤ length t) → IsAscent q → IsAscent p
     up kept below h l =
         let long = ap (λ (b : List ℕ). length b) down in
         elim (cases_eq (suc h) (length (branch t q))) [
@@ -65,9 +66,9 @@ module _ {B : Type 0} (t : Blocks B) where
               (subst (λ x. 0 < x) (sym new) w.0, ap (parent_at t) new ∙ w.1 ∙ sym old)
         ]
 
-  climbs : (p : ℕ) → p ≤ length t → Climbs p
+  climbs : (p : ℕ) → p ≤ length t → IsAscent p
   climbs p k =
-      climb t 0 Climbs (λ h l. let one = ap (λ (b : List ℕ). length b) (branch-genesis t) in absurd (omega arith)) (λ x z l o below. up x z l (on-bounds t x (parent_at t x) (Rattle.tree.specs.laws.Parents.on-parent t x z l)).1 below)
+      climb t 0 IsAscent (λ h l. let one = ap (λ (b : List ℕ). length b) (branch-genesis t) in absurd (omega arith)) (λ x z l o below. up x z l (on-bounds t x (parent_at t x) (Rattle.tree.specs.laws.Parents.on-parent t x z l)).1 below)
       p k (on-genesis t p)
 
 -- ---- the places by height

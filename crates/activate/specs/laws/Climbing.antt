@@ -22,22 +22,20 @@ use Rattle.tree.specs.laws.Branches.{branch_head, branch-genesis, on-bounds, on-
 use Rattle.tree.specs.laws.Parents.{parent-kept, before-parent, branch-parent, height-parent, climb}
 use Rattle.tree.specs.laws.Walks.{has_at}
 use Rattle.tree.specs.laws.Above.{above, above-end, above-step, above-rest, above-part, OnWay}
-use Rattle.activate.specs.Rules.{Rules}
-use Rattle.activate.specs.Valid.{fault, connects, valid, first_to_fail}
-use Rattle.activate.specs.Sound.{AllKept}
-use Rattle.activate.specs.Regtest.{medians_of, setting_on, ledger, regtest}
-use Rattle.activate.specs.Tracked.{branch_blocks, coins_after, undo_at}
-use Rattle.activate.specs.Ways.{AreConnected}
-use Rattle.activate.specs.Climbs.{top_of, LeadsUp}
-use Rattle.activate.specs.laws.Candidates.{valid_gives}
-use Rattle.activate.specs.laws.Coins.{length-blocks, length-older, step-up, fault-parent}
+use Rattle.chain.specs.Rules.{Rules}
+use Rattle.chain.specs.Valid.{fault, connects, valid, first_to_fail}
+use Rattle.chain.specs.Settled.{AllKept}
+use Rattle.chain.specs.laws.Medians.{length-medians}
+use Rattle.chain.specs.Regtest.{medians_of, setting_on, ledger, regtest}
+use Rattle.activate.specs.CoreState.{branch_blocks, coins_after}
+use Rattle.activate.specs.inside.Keeping.{undo_at}
+use Rattle.activate.specs.inside.Paths.{AreConnected}
+use Rattle.activate.specs.inside.Ascents.{top_of, LeadsUp}
+use Rattle.chain.specs.laws.Candidates.{valid_gives}
+use Rattle.chain.specs.laws.Coins.{length-blocks, length-older, step-up, fault-parent}
 use Rattle.activate.specs.laws.Fork.{setting_at, connected-at}
 
 -- ---- where the next block stands
-
-pub length-medians : (bs : List Block) → length (medians_of bs) ≡ length bs
-length-medians [] = refl
-length-medians (b ∷ older) = ap suc (length-medians older)
 
 -- the last of the medians by height is that of the highest block
 last-median : (bs : List Block) → 0 < length bs → get_or (reverse (medians_of bs)) (length (reverse (medians_of bs)) - 1) 0 ≡ median_time_past bs
@@ -126,7 +124,7 @@ module _ (params : Params) (triples : Triples) (t : Blocks Block) where
         connected = connected-at params triples t x z k all (valid_gives r t p x v o);
       }
 
--- ---- the blocks of a way
+-- ---- the blocks of a path
 
 has-mid : (front : List ℕ) (x : ℕ) (rest : List ℕ) → has (front ++ (x ∷ rest)) x ≡ true
 has-mid [] x rest = has_here x rest
@@ -140,7 +138,7 @@ module _ (t : Blocks Block) (f : ℕ) where
         | inr n ↦ let b = (on-bounds t p f o).0 in ap (top_of f) (above-step t p f (omega arith) h)
       ]
 
-  -- a block of a way, and those below it, of which the first is its parent
+  -- a block of a path, and those below it, of which the first is its parent
   pub record IsNext (up : List ℕ) (x : ℕ) (rest : List ℕ) : Type 0 where
     pub above_genesis : 0 < x
     pub kept : x ≤ length t
@@ -160,7 +158,7 @@ module _ (t : Blocks Block) (f : ℕ) where
         there = ap (λ (l : List ℕ). has l x) (above-rest t p f w.kept w.shared ∙ ap (λ (l : List ℕ). l ++ branch t f) (sym w.all ∙ e) ∙ append_assoc front (x ∷ rest) (branch t f)) ∙ has-mid front x (rest ++ branch t f);
       }
 
-  -- the block above so many of a way's, counted from the fork
+  -- the block above so many of a path's, counted from the fork
   module _ (up : List ℕ) (w : LeadsUp t f up) (passed : ℕ) (low : passed < length up) (x : ℕ) (is : x ≡ get_or up (length up - 1 - passed) 0) where
     pub rest-next : ◌≡◌ {A = List ℕ} (drop (length up - (passed + 1)) up) (x ∷ drop (length up - passed) up)
     rest-next =

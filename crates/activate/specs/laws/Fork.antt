@@ -11,14 +11,14 @@ use Rattle.connect.specs.Turns.{effect, undo_of}
 use Rattle.connect.specs.Connecting.{IsConnected}
 use Rattle.tree.specs.Branches.{Blocks, branch, height, parent_at, block_at, blocks_at}
 use Rattle.tree.specs.Names.{names}
-use Rattle.activate.specs.Rules.{Rules}
-use Rattle.activate.specs.Valid.{connects}
-use Rattle.activate.specs.Replay.{coins_at}
-use Rattle.activate.specs.Regtest.{setting_on, ledger, regtest}
-use Rattle.activate.specs.Sound.{AllKept}
-use Rattle.activate.specs.laws.Bound.{rules_kept}
-use Rattle.activate.specs.laws.Coins.{length-blocks, length-older, step-up, connects-parent}
-use Rattle.activate.specs.laws.Kept.{alone-at}
+use Rattle.chain.specs.Rules.{Rules}
+use Rattle.chain.specs.Valid.{connects}
+use Rattle.chain.specs.Replay.{coins_at}
+use Rattle.chain.specs.Regtest.{setting_on, ledger, regtest}
+use Rattle.chain.specs.Settled.{AllKept}
+use Rattle.chain.specs.laws.Bound.{rules_kept}
+use Rattle.chain.specs.laws.Coins.{length-blocks, length-older, step-up, connects-parent}
+use Rattle.chain.specs.laws.Kept.{alone-at}
 
 module _ (params : Params) (triples : Triples) (t : Blocks Block) where
   abbrev r : Rules Block Id

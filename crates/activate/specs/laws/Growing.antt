@@ -13,9 +13,10 @@ use Rattle.tree.specs.laws.Sets.{has_here, has_there}
 use Rattle.tree.specs.laws.Branches.{branch_there, height_here, height_there, parent_here, parent_there, parent-genesis}
 use Rattle.tree.specs.laws.Parents.{parent-kept}
 use Rattle.tree.specs.laws.Added.{branch_within, block_there, block_here, blocks-old}
-use Rattle.activate.specs.Replay.{replay}
-use Rattle.activate.specs.Regtest.{medians_of, ledger}
-use Rattle.activate.specs.Tracked.{branch_blocks, undo_at, highest_undo, IsBranch}
+use Rattle.chain.specs.Replay.{replay}
+use Rattle.chain.specs.Regtest.{medians_of, ledger}
+use Rattle.activate.specs.CoreState.{branch_blocks}
+use Rattle.activate.specs.inside.Keeping.{undo_at, highest_undo, IsBranch}
 
 -- maps that agree on a list of places
 map_agree : {A : Type 0} (f g : ℕ → A) (l : List ℕ) → ((x : ℕ) → has l x ≡ true → f x ≡ g x) → map f l ≡ map g l

@@ -1,4 +1,4 @@
--- What a try leaves on the tree, told by the way that it went.
+-- What a try leaves on the tree, told by the path that it went.
 use Rattle.std.proofs.Common.{◌≡◌, ℕ, ◌+◌, ◌<◌, ◌≤◌, Bool, true, false, ◌&&◌, ◌||◌, eqb, List, [], length, take, get_or, sym, ap, ◌∙◌, subst, inl, inr, ◌⊎◌, arith}
 use Rattle.std.proofs.lemmas.Bool.{eqb-true, eq-eqb, and_parts, and_from, or_cases, or_left, or_right, false_from_ne_true}
 use Rattle.std.proofs.lemmas.List.Folds.{list_any-append, list_any_more}
@@ -8,11 +8,11 @@ use Rattle.tree.specs.laws.Sets.{InOrder, same_tests, filter_agree, joined_agree
 use Rattle.tree.specs.laws.Branches.{on-bounds, on-itself, on_trans, on_chain}
 use Rattle.tree.specs.laws.Parents.{parent-kept, on-parent, on-rest}
 use Rattle.tree.specs.laws.Above.{above, above-rest, OnWay, IsShared}
-use Rattle.activate.specs.Rules.{Rules}
-use Rattle.activate.specs.Valid.{valid, first_to_fail}
-use Rattle.activate.specs.Sound.{IsFirstFault}
-use Rattle.activate.specs.Try.{fails_on, passes_on, tried}
-use Rattle.activate.specs.laws.Candidates.{valid_from, valid_below, never_fails, below_first, same_first}
+use Rattle.chain.specs.Rules.{Rules}
+use Rattle.chain.specs.Valid.{valid, first_to_fail}
+use Rattle.chain.specs.inside.Faults.{IsFirstFault}
+use Rattle.chain.specs.inside.Try.{fails_on, passes_on, state_after_try}
+use Rattle.chain.specs.laws.Candidates.{valid_from, valid_below, never_fails, below_first, same_first}
 
 -- ---- sets
 
@@ -21,8 +21,8 @@ module _ (n : ℕ) (set : List ℕ) where
   same_joined : (f g : ℕ → Bool) → ((x : ℕ) → x ≤ n → f x ≡ true → (has set x ≡ true) ⊎ (g x ≡ true)) → ((x : ℕ) → x ≤ n → g x ≡ true → (has set x ≡ true) ⊎ (f x ≡ true))
       → joined (down_from n) set f ≡ joined (down_from n) set g
   unfolding joined
-  same_joined f g there back =
-      filter_agree (λ x. has set x || f x) (λ x. has set x || g x) n (λ x l. same_tests (has set x || f x) (has set x || g x) (one f g x (there x l)) (one g f x (back x l)))
+  same_joined f g there rollback =
+      filter_agree (λ x. has set x || f x) (λ x. has set x || g x) n (λ x l. same_tests (has set x || f x) (has set x || g x) (one f g x (there x l)) (one g f x (rollback x l)))
     where
       one : (p q : ℕ → Bool) (x : ℕ) → (p x ≡ true → (has set x ≡ true) ⊎ (q x ≡ true)) → (has set x || p x) ≡ true → (has set x || q x) ≡ true
       one p q x h e =
@@ -46,7 +46,7 @@ module _ (n : ℕ) (set : List ℕ) where
       turned : (x y : ℕ) → eqb x y ≡ eqb y x
       turned x y = same_tests (eqb x y) (eqb y x) (λ e. eq-eqb y x (sym (eqb-true x y e))) (λ e. eq-eqb x y (sym (eqb-true y x e)))
 
--- ---- the blocks of a way
+-- ---- the blocks of a path
 
 module _ {B : Type 0} (t : Blocks B) (f : ℕ) where
   -- what is on a branch above f or below it
@@ -68,9 +68,9 @@ module _ {B I : Type 0} (r : Rules B I) (s : State B) (a p f : ℕ) (l : p ≤ l
   was : (x : ℕ) → on t f x ≡ true → has s.seen x ≡ true
   was x o = seen x (on_trans t a f x shared.here o)
 
-  -- a way whose blocks all connect
-  pub way_noted : valid r t p ≡ true → InOrder (length t) s.bad → record s { seen = joined (places t) s.seen (λ x. has (above t p f) x) } ≡ tried r s p
-  unfolding tried fails_on passes_on
+  -- a path whose blocks all connect
+  pub way_noted : valid r t p ≡ true → InOrder (length t) s.bad → record s { seen = joined (places t) s.seen (λ x. has (above t p f) x) } ≡ state_after_try r s p
+  unfolding state_after_try fails_on passes_on
   way_noted v order =
       ap (λ (b : List ℕ). record s { bad = b; seen = joined (places t) s.seen (λ x. has (above t p f) x) })
       (sym order ∙ joined_agree (length t) s.bad (λ x. false) (λ x. first_to_fail r t x && on t p x)
@@ -80,7 +80,7 @@ module _ {B I : Type 0} (r : Rules B I) (s : State B) (a p f : ℕ) (l : p ≤ l
       (λ x k h. let o = above-on t f p x l shared.there h in inr (and_from (valid r t x) (on t p x) (valid_below r t p x v o) o))
       (λ x k h. elim (on-above t f p x l shared.there (and_parts (valid r t x) (on t p x) h).1) [ inl o ↦ inl (was x o) | inr o ↦ inr o ]))
 
-  -- a way with a block that is the first that doesn't connect: those below it, and itself
+  -- a path with a block that is the first that doesn't connect: those below it, and itself
   module _ (c : ℕ) (rest : List ℕ) (first : IsFirstFault r t p c) (on_way : OnWay t f c rest) where
     abbrev down : ℕ
     down = parent_at t c
@@ -109,8 +109,8 @@ module _ {B I : Type 0} (r : Rules B I) (s : State B) (a p f : ℕ) (l : p ≤ l
           | inr h ↦ absurd (never_fails r t x c v h first.first)
         ]
 
-    pub flaw_noted : record s { bad = joined (places t) s.bad (λ x. eqb x c); seen = joined (places t) s.seen (λ x. has rest x) } ≡ tried r s p
-    unfolding tried fails_on passes_on
+    pub flaw_noted : record s { bad = joined (places t) s.bad (λ x. eqb x c); seen = joined (places t) s.seen (λ x. has rest x) } ≡ state_after_try r s p
+    unfolding state_after_try fails_on passes_on
     flaw_noted =
         ap (λ (b : List ℕ). record s { bad = b; seen = joined (places t) s.seen (λ x. has rest x) })
         (joined_agree (length t) s.bad (λ x. eqb x c) (λ x. first_to_fail r t x && on t p x)

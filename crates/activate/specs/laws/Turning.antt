@@ -11,11 +11,12 @@ use Rattle.tree.specs.laws.Branches.{branch_head, branch-genesis, on-bounds, on-
 use Rattle.tree.specs.laws.Parents.{branch-parent, climb}
 use Rattle.tree.specs.laws.Sets.{has_there}
 use Rattle.tree.specs.laws.Above.{above, above-rest}
-use Rattle.activate.specs.declared.way.Way.{Way}
-use Rattle.activate.specs.Regtest.{medians_of}
-use Rattle.activate.specs.Tracked.{branch_blocks, undo_at, most_undo, highest_undo, IsBranch}
-use Rattle.activate.specs.Trails.{median_at, newest}
-use Rattle.activate.specs.Ways.{IsWay}
+use Rattle.activate.specs.declared.path.BranchPath.{BranchPath}
+use Rattle.chain.specs.Regtest.{medians_of}
+use Rattle.activate.specs.CoreState.{branch_blocks, most_undo}
+use Rattle.activate.specs.inside.Keeping.{undo_at, highest_undo, IsBranch}
+use Rattle.activate.specs.inside.ActiveBranch.{median_at, newest}
+use Rattle.activate.specs.inside.Paths.{IsPath}
 
 -- ---- lists
 
@@ -52,14 +53,14 @@ beyond (x ∷ xs) ys (suc n) = beyond xs ys n ∙ ap (λ k. take k ys) {x = n - 
 
 -- ---- the branch
 
-module _ (t : Blocks Block) (a p : ℕ) (h : a ≤ length t) (k : p ≤ length t) (way : Way) (is : IsWay t a p way) where
+module _ (t : Blocks Block) (a p : ℕ) (h : a ≤ length t) (k : p ≤ length t) (path : BranchPath) (is : IsPath t a p path) where
   abbrev f : ℕ
-  f = way.fork
+  f = path.fork
 
   down : ◌≡◌ {A = List ℕ} (branch t a) (above t a f ++ branch t f)
   down = above-rest t a f h is.shared.here
 
-  up : ◌≡◌ {A = List ℕ} (branch t p) (way.up.items ++ branch t f)
+  up : ◌≡◌ {A = List ℕ} (branch t p) (path.up.items ++ branch t f)
   up = above-rest t p f k is.shared.there ∙ ap (λ (l : List ℕ). l ++ branch t f) (sym is.up)
 
   f_kept : f ≤ length t
@@ -70,7 +71,7 @@ module _ (t : Blocks Block) (a p : ℕ) (h : a ≤ length t) (k : p ≤ length t
   long q l = ap (λ (k : List ℕ). length k) (branch_head t q l)
 
   -- how many blocks are let go, and how many come
-  pub gone : length (above t a f) + way.height ≡ height t a
+  pub gone : length (above t a f) + path.height ≡ height t a
   gone =
       let d = ap (λ (l : List ℕ). length l) down ∙ length-append (above t a f) (branch t f) in
       let e = long a h in
@@ -78,18 +79,18 @@ module _ (t : Blocks Block) (a p : ℕ) (h : a ≤ length t) (k : p ≤ length t
       let w = is.high in
       omega arith
 
-  pub come : length way.up.items + way.height ≡ height t p
+  pub come : length path.up.items + path.height ≡ height t p
   come =
-      let d = ap (λ (l : List ℕ). length l) up ∙ length-append way.up.items (branch t f) in
+      let d = ap (λ (l : List ℕ). length l) up ∙ length-append path.up.items (branch t f) in
       let e = long p k in
       let g = long f f_kept in
       let w = is.high in
       omega arith
 
-  -- a block of the way up is on the branch, so it is kept
-  pub up_kept : (x : ℕ) → has way.up.items x ≡ true → x ≤ length t
+  -- a block of the path up is on the branch, so it is kept
+  pub up_kept : (x : ℕ) → has path.up.items x ≡ true → x ≤ length t
   unfolding on
-  up_kept x o = (on-bounds t p x (ap (λ (l : List ℕ). has l x) up ∙ has_front x way.up.items (branch t f) o)).1
+  up_kept x o = (on-bounds t p x (ap (λ (l : List ℕ). has l x) up ∙ has_front x path.up.items (branch t f) o)).1
     where
       has_front : (x : ℕ) (k l : List ℕ) → has k x ≡ true → has (k ++ l) x ≡ true
       has_front x [] l o = cc
@@ -104,17 +105,17 @@ module _ (t : Blocks Block) (a p : ℕ) (h : a ≤ length t) (k : p ≤ length t
         ∙ rest (map g (above t a f)) (map g (branch t f))
 
     -- by height: what is kept of each block, up to the fork
-    pub kept_below : take (suc way.height) (reverse (map g (branch t a))) ≡ reverse (map g (branch t f))
+    pub kept_below : take (suc path.height) (reverse (map g (branch t a))) ≡ reverse (map g (branch t f))
     kept_below =
-        turned_first (length (above t a f)) (suc way.height) (map g (branch t a))
+        turned_first (length (above t a f)) (suc path.height) (map g (branch t a))
         (sym (ap (λ (l : List A). length l) above_gone ∙ length-map (branch t f) g ∙ long f f_kept ∙ ap suc (sym is.high)))
         ∙ ap reverse above_gone
 
     -- and then of those above it
-    pub kept_above : reverse (map g (branch t f)) ++ reverse (map g way.up.items) ≡ reverse (map g (branch t p))
+    pub kept_above : reverse (map g (branch t f)) ++ reverse (map g path.up.items) ≡ reverse (map g (branch t p))
     kept_above =
-        sym (reverse-append (map g way.up.items) (map g (branch t f)))
-        ∙ ap (λ (l : List A). reverse l) (sym (map-append g way.up.items (branch t f)))
+        sym (reverse-append (map g path.up.items) (map g (branch t f)))
+        ∙ ap (λ (l : List A). reverse l) (sym (map-append g path.up.items (branch t f)))
         ∙ ap (λ (l : List ℕ). reverse (map g l)) (sym up)
 
   -- ---- undo
@@ -149,15 +150,15 @@ module _ (t : Blocks Block) (a p : ℕ) (h : a ≤ length t) (k : p ≤ length t
         least x y l = omega arith
 
     abbrev most : ℕ
-    most = length way.up.items + left
+    most = length path.up.items + left
 
     -- and that of those that come is added
-    undo_whole : highest_undo t f left ++ reverse (map (undo_at t) way.up.items) ≡ highest_undo t p most
+    undo_whole : highest_undo t f left ++ reverse (map (undo_at t) path.up.items) ≡ highest_undo t p most
     unfolding highest_undo
     undo_whole =
-        sym (reverse-append (map (undo_at t) way.up.items) (map (undo_at t) (take left (branch t f))))
-        ∙ ap (λ (l : List (List (List Coin))). reverse l) (sym (map-append (undo_at t) way.up.items (take left (branch t f))))
-        ∙ ap (λ (l : List ℕ). reverse (map (undo_at t) l)) (over way.up.items (branch t f) left ∙ ap (take most) (sym up))
+        sym (reverse-append (map (undo_at t) path.up.items) (map (undo_at t) (take left (branch t f))))
+        ∙ ap (λ (l : List (List (List Coin))). reverse l) (sym (map-append (undo_at t) path.up.items (take left (branch t f))))
+        ∙ ap (λ (l : List ℕ). reverse (map (undo_at t) l)) (over path.up.items (branch t f) left ∙ ap (take most) (sym up))
 
     undo_long : length (highest_undo t p most) ≡ most
     unfolding highest_undo
@@ -208,36 +209,36 @@ highest-long t p n k l =
     length-reverse (map (undo_at t) (take n (branch t p))) ∙ length-map (take n (branch t p)) (undo_at t) ∙ length-take n (branch t p) ∙ omega arith
 
 -- what is kept of a branch, led over to another one
-pub turned_branch : (t : Blocks Block) (a p : ℕ) (h : a ≤ length t) (k : p ≤ length t) (way : Way) (is : IsWay t a p way)
-    (places medians : List ℕ) (undo more : List (List (List Coin))) → IsBranch t a places medians undo → more ≡ reverse (map (undo_at t) way.up.items)
-    → IsBranch t p (take (suc way.height) places ++ reverse way.up.items) (take (suc way.height) medians ++ reverse (map (median_at t) way.up.items)) (newest most_undo (take (length undo - (height t a - way.height)) undo ++ more))
-turned_branch t a p h k way is places medians undo more kept new =
+pub turned_branch : (t : Blocks Block) (a p : ℕ) (h : a ≤ length t) (k : p ≤ length t) (path : BranchPath) (is : IsPath t a p path)
+    (places medians : List ℕ) (undo more : List (List (List Coin))) → IsBranch t a places medians undo → more ≡ reverse (map (undo_at t) path.up.items)
+    → IsBranch t p (take (suc path.height) places ++ reverse path.up.items) (take (suc path.height) medians ++ reverse (map (median_at t) path.up.items)) (newest most_undo (take (length undo - (height t a - path.height)) undo ++ more))
+turned_branch t a p h k path is places medians undo more kept new =
     let n : ℕ = length undo in
     let few = kept.undo_above in
-    let lower = gone t a p h k way is in
-    let higher = come t a p h k way is in
-    let left : ℕ = n - length (above t a way.fork) in
-    let most : ℕ = length way.up.items + left in
-    let whole : newest most_undo (take (n - (height t a - way.height)) undo ++ more) ≡ highest_undo t p (min most_undo most) =
-    ap (λ i. newest most_undo (take i undo ++ more)) {x = n - (height t a - way.height)} {y = left} (omega arith)
+    let lower = gone t a p h k path is in
+    let higher = come t a p h k path is in
+    let left : ℕ = n - length (above t a path.fork) in
+    let most : ℕ = length path.up.items + left in
+    let whole : newest most_undo (take (n - (height t a - path.height)) undo ++ more) ≡ highest_undo t p (min most_undo most) =
+    ap (λ i. newest most_undo (take i undo ++ more)) {x = n - (height t a - path.height)} {y = left} (omega arith)
     ∙ ap (λ (l : List (List (List Coin))). newest most_undo (take left l ++ more)) kept.undo_is
-    ∙ ap (λ (l : List (List (List Coin))). newest most_undo (l ++ more)) (undo_below t a p h k way is n few)
-    ∙ ap (λ (l : List (List (List Coin))). newest most_undo (highest_undo t way.fork left ++ l)) new
-    ∙ ap (newest most_undo) (undo_whole t a p h k way is n few)
-    ∙ undo_kept t a p h k way is n few in
+    ∙ ap (λ (l : List (List (List Coin))). newest most_undo (l ++ more)) (undo_below t a p h k path is n few)
+    ∙ ap (λ (l : List (List (List Coin))). newest most_undo (highest_undo t path.fork left ++ l)) new
+    ∙ ap (newest most_undo) (undo_whole t a p h k path is n few)
+    ∙ undo_kept t a p h k path is n few in
     let size : length (highest_undo t p (min most_undo most)) ≡ min most_undo most = highest-long t p (min most_undo most) k (omega arith) in
-    let long : length (newest most_undo (take (n - (height t a - way.height)) undo ++ more)) ≡ min most_undo most = ap (λ (l : List (List (List Coin))). length l) whole ∙ size in
+    let long : length (newest most_undo (take (n - (height t a - path.height)) undo ++ more)) ≡ min most_undo most = ap (λ (l : List (List (List Coin))). length l) whole ∙ size in
     record {
       places_are =
-          ap (λ (l : List ℕ). take (suc way.height) l ++ reverse way.up.items) (kept.places_are ∙ ap (λ (l : List ℕ). reverse l) (sym (map-id (branch t a))))
-          ∙ ap (λ (l : List ℕ). l ++ reverse way.up.items) (kept_below t a p h k way is (λ x. x))
-          ∙ ap (λ (l : List ℕ). reverse (map (λ x. x) (branch t way.fork)) ++ reverse l) (sym (map-id way.up.items))
-          ∙ kept_above t a p h k way is (λ x. x)
+          ap (λ (l : List ℕ). take (suc path.height) l ++ reverse path.up.items) (kept.places_are ∙ ap (λ (l : List ℕ). reverse l) (sym (map-id (branch t a))))
+          ∙ ap (λ (l : List ℕ). l ++ reverse path.up.items) (kept_below t a p h k path is (λ x. x))
+          ∙ ap (λ (l : List ℕ). reverse (map (λ x. x) (branch t path.fork)) ++ reverse l) (sym (map-id path.up.items))
+          ∙ kept_above t a p h k path is (λ x. x)
           ∙ ap (λ (l : List ℕ). reverse l) (map-id (branch t p));
       medians_are =
-          ap (λ (l : List ℕ). take (suc way.height) l ++ reverse (map (median_at t) way.up.items)) (kept.medians_are ∙ ap (λ (l : List ℕ). reverse l) (medians-branch t a h))
-          ∙ ap (λ (l : List ℕ). l ++ reverse (map (median_at t) way.up.items)) (kept_below t a p h k way is (median_at t))
-          ∙ kept_above t a p h k way is (median_at t)
+          ap (λ (l : List ℕ). take (suc path.height) l ++ reverse (map (median_at t) path.up.items)) (kept.medians_are ∙ ap (λ (l : List ℕ). reverse l) (medians-branch t a h))
+          ∙ ap (λ (l : List ℕ). l ++ reverse (map (median_at t) path.up.items)) (kept_below t a p h k path is (median_at t))
+          ∙ kept_above t a p h k path is (median_at t)
           ∙ ap (λ (l : List ℕ). reverse l) (sym (medians-branch t p k));
       undo_is = whole ∙ ap (highest_undo t p) (sym long);
       undo_few = omega arith;

@@ -10,7 +10,7 @@ use Rattle.block.specs.Grammar.{block}
 use Rattle.block.specs.computed.Reading.{block_at}
 use Rattle.block.specs.laws.Reading.{block_decides}
 use Rattle.block.specs.Whole.{Faulty, HasExtra}
-use Rattle.block.specs.Decoding.{alone, whole, decoded}
+use Rattle.block.specs.Decoding.{block_alone, whole_block, decoded}
 
 pub read_again : (bytes : List ℕ) (b : Block) → block.Lawful b → bytes ≡ block.spell b → block_at bytes ≡ Ok (b, [])
 read_again bytes b lawful e = ap block_at (e ∙ sym (append-nil (block.spell b))) ∙ block_decides.again b [] lawful
@@ -23,16 +23,16 @@ read_extra bytes x = ap block_at x.3 ∙ block_decides.again x.0 x.1 x.2
 
 -- what is spelled is decoded
 pub decoded-spelled : (bytes : List ℕ) (b : Block) → block.Lawful b → bytes ≡ block.spell b → decoded bytes ≡ Some b
-decoded-spelled bytes b lawful e = ap whole (read_again bytes b lawful e)
+decoded-spelled bytes b lawful e = ap whole_block (read_again bytes b lawful e)
 
-none_with_more : (b : Block) (rest : List ℕ) → 0 < length rest → alone b rest ≡ None
+none_with_more : (b : Block) (rest : List ℕ) → 0 < length rest → block_alone b rest ≡ None
 none_with_more b [] lt = absurd (omega (arith, lt))
 none_with_more b (x ∷ xs) lt = refl
 
 -- what has a fault isn't
 pub decoded-faulty : (bytes : List ℕ) (e : ReadFault) → Faulty e bytes → decoded bytes ≡ None
-decoded-faulty bytes faults.Short h = ap whole (read_faulty bytes wire.Short h)
-decoded-faulty bytes faults.LongForm h = ap whole (read_faulty bytes wire.LongForm h)
-decoded-faulty bytes faults.TooLarge h = ap whole (read_faulty bytes wire.TooLarge h)
-decoded-faulty bytes faults.Extra h = ap whole (read_extra bytes h) ∙ none_with_more h.0 h.1 h.4
+decoded-faulty bytes faults.Short h = ap whole_block (read_faulty bytes wire.Short h)
+decoded-faulty bytes faults.LongForm h = ap whole_block (read_faulty bytes wire.LongForm h)
+decoded-faulty bytes faults.TooLarge h = ap whole_block (read_faulty bytes wire.TooLarge h)
+decoded-faulty bytes faults.Extra h = ap whole_block (read_extra bytes h) ∙ none_with_more h.0 h.1 h.4
 decoded-faulty bytes faults.Memory h = absurd h

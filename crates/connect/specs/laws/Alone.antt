@@ -29,7 +29,7 @@ use Rattle.wire.specs.Spelling.{compact, i32le, i64le}
 use Rattle.coins.specs.Coins.{same}
 use Rattle.coins.specs.laws.Lookups.{same-true}
 use Rattle.rules.specs.Alone.{max_block_size, max_block_sigops, begins_with_coinbase, tx_sigops, alone_rules}
-use Rattle.connect.specs.Inside.{IsLawful}
+use Rattle.connect.specs.inside.Turns.{IsLawful}
 use Rattle.connect.specs.laws.Broken.{head_clear, tail_clear}
 
 -- ---- lengths of spellings

@@ -1,11 +1,10 @@
 -- The computed fault is the relation's.
-use Rattle.std.proofs.Common.{◌≡◌, ◌⊎◌, inl, inr, Bool, true, false, if◌then◌else◌, List, [], ◌∷◌, Option, Some, None, refl, sym, ◌∙◌, ap}
+use Rattle.std.proofs.Common.{◌≡◌, inl, inr, Bool, true, false, if◌then◌else◌, List, [], ◌∷◌, Option, Some, None, refl, sym, ◌∙◌}
 use Rattle.std.specs.Option.{option_or}
 use Rattle.txn.specs.declared.tx.Tx.{Tx}
 use Rattle.txn.specs.declared.reason.Reason.{Reason}
 use Rattle.txn.specs.First.{first_broken}
 use Rattle.curve.specs.Triple.{Triples}
-use Rattle.interp.specs.Rules.{Accepts}
 use Rattle.interp.specs.computed.Verifying.{accepts}
 use Rattle.interp.specs.laws.Verifying.{accepts-right}
 use Rattle.coins.specs.Coins.{Coins}

@@ -22,7 +22,8 @@ use Rattle.coins.specs.declared.coin.Coin.{Coin}
 use Rattle.coins.specs.Coins.{Coins, same}
 use Rattle.coins.specs.Total.{sum_of_values, total}
 use Rattle.coins.specs.laws.Totals.{total-insert, total-remove}
-use Rattle.undo.specs.Effect.{place, spends, spendable, coin_of, makes, without, with_coins, after, coins_at, spent, AreCoins, AreNew}
+use Rattle.undo.specs.Effect.{place, spends, spendable, coin_of, makes, without, with_coins, after, coins_at, spent}
+use Rattle.undo.specs.inside.Reverting.{AreCoins, AreNew}
 use Rattle.undo.specs.laws.Effects.{other_kept, coins_next, new_next}
 use Rattle.undo.specs.laws.Undoing.{are_coins, are_new}
 use Rattle.connect.specs.Setting.{Setting}

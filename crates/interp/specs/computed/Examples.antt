@@ -5,48 +5,48 @@ use Rattle.script.specs.Ops.{ops, operand_len, rest}
 use Rattle.script.specs.Num.{operand, num_value, spelled, spelled_with}
 use Rattle.interp.specs.Elements.{truth}
 use Rattle.interp.specs.Spending.{Spending}
-use Rattle.interp.specs.Signatures.{tried}
+use Rattle.interp.specs.computed.Signatures.{pairs_verdict}
 use Rattle.interp.specs.Row.{row_at, row_of}
-use Rattle.interp.specs.computed.Step.{top_number, on_number, on_two_numbers, on_three_numbers, top_place, rolled, many, counts_of, multisig_checked, acted, counted, bounded, step_at, step, run, outcome}
+use Rattle.interp.specs.computed.Step.{top_number, on_number, on_two_numbers, on_three_numbers, top_place, after_roll, many, counts_of, after_checking_multisig, after_acting, with_count, within_bounds, step_at, step, run, outcome}
 
 -- 1 2 3 ROT
 rot : (p : Spending) → outcome p (0x51 ∷ 0x52 ∷ 0x53 ∷ 0x7b ∷ []) [] ≡ Some ((1 ∷ []) ∷ (3 ∷ []) ∷ (2 ∷ []) ∷ [])
-unfolding operand_len ops rest row_at row_of acted counted bounded step_at step run outcome
+unfolding operand_len ops rest row_at row_of after_acting with_count within_bounds step_at step run outcome
 rot p = refl
 
 -- 2 5 SUB
 sub : (p : Spending) → outcome p (0x52 ∷ 0x55 ∷ 0x94 ∷ []) [] ≡ Some ((0x83 ∷ []) ∷ [])
-unfolding operand_len ops rest row_at row_of acted counted bounded step_at step run outcome operand num_value spelled spelled_with top_number on_two_numbers
+unfolding operand_len ops rest row_at row_of after_acting with_count within_bounds step_at step run outcome operand num_value spelled spelled_with top_number on_two_numbers
 sub p = refl
 
 -- 2 1 2 WITHIN: the end isn't within
 within : (p : Spending) → outcome p (0x52 ∷ 0x51 ∷ 0x52 ∷ 0xa5 ∷ []) [] ≡ Some ([] ∷ [])
-unfolding operand_len ops rest row_at row_of acted counted bounded step_at step run outcome operand num_value spelled spelled_with top_number on_three_numbers
+unfolding operand_len ops rest row_at row_of after_acting with_count within_bounds step_at step run outcome operand num_value spelled spelled_with top_number on_three_numbers
 within p = refl
 
 -- 7 8 9 and 2 ROLL
 roll : (p : Spending) → outcome p (0x57 ∷ 0x58 ∷ 0x59 ∷ 0x52 ∷ 0x7a ∷ []) [] ≡ Some ((7 ∷ []) ∷ (9 ∷ []) ∷ (8 ∷ []) ∷ [])
-unfolding operand_len ops rest row_at row_of acted counted bounded step_at step run outcome operand num_value top_place rolled
+unfolding operand_len ops rest row_at row_of after_acting with_count within_bounds step_at step run outcome operand num_value top_place after_roll
 roll p = refl
 
 -- ELSE may come again: 1 IF 1 ELSE 0 ELSE 2 ENDIF
 branches : (p : Spending) → outcome p (0x51 ∷ 0x63 ∷ 0x51 ∷ 0x67 ∷ 0x00 ∷ 0x67 ∷ 0x52 ∷ 0x68 ∷ []) [] ≡ Some ((2 ∷ []) ∷ (1 ∷ []) ∷ [])
-unfolding truth pushed_of operand_len ops rest row_at row_of acted counted bounded step_at step run outcome
+unfolding truth pushed_of operand_len ops rest row_at row_of after_acting with_count within_bounds step_at step run outcome
 branches p = refl
 
 -- VERIF in a branch that isn't taken
 verif : (p : Spending) → outcome p (0x00 ∷ 0x63 ∷ 0x65 ∷ 0x68 ∷ 0x51 ∷ []) [] ≡ None
-unfolding truth pushed_of operand_len ops rest row_at row_of acted counted bounded step_at step run outcome
+unfolding truth pushed_of operand_len ops rest row_at row_of after_acting with_count within_bounds step_at step run outcome
 verif p = refl
 
 -- 2147483647 1ADD leaves five bytes, which aren't an operand
 five_bytes : (p : Spending) → outcome p (0x04 ∷ 0xff ∷ 0xff ∷ 0xff ∷ 0x7f ∷ 0x8b ∷ 0x8b ∷ []) [] ≡ None
-unfolding pushed_of operand_len ops rest row_at row_of acted counted bounded step_at step run outcome operand num_value spelled spelled_with top_number on_number
+unfolding pushed_of operand_len ops rest row_at row_of after_acting with_count within_bounds step_at step run outcome operand num_value spelled spelled_with top_number on_number
 five_bytes p = refl
 
 -- no signature of no key, with the element more that CHECKMULTISIG takes
 none_of_none : (p : Spending) → outcome p (0x00 ∷ 0x00 ∷ 0x00 ∷ 0xae ∷ []) [] ≡ Some ((1 ∷ []) ∷ [])
-unfolding pushed_of operand_len ops rest row_at row_of acted counted bounded step_at step run outcome operand num_value tried many counts_of multisig_checked
+unfolding pushed_of operand_len ops rest row_at row_of after_acting with_count within_bounds step_at step run outcome operand num_value pairs_verdict many counts_of after_checking_multisig
 none_of_none p = refl
 
 -- a push that is cut short

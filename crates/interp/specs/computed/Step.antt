@@ -6,12 +6,16 @@ use Rattle.script.specs.Ops.{ops, rest, is_whole}
 use Rattle.script.specs.Kinds.{is_push_only, is_p2sh, max_script_size}
 use Rattle.script.specs.Num.{operand, spelled}
 use Rattle.interp.specs.Limits.{max_ops, max_keys, max_elements, max_number_size}
-use Rattle.interp.specs.Stack.{Stack, Bytes, pushed, nth, moved}
-use Rattle.interp.specs.Elements.{truth, truth_bytes, top_is_true, natural_of}
+use Rattle.interp.specs.Stack.{Stack, Bytes, stack_with, nth}
+use Rattle.interp.specs.computed.Stack.{rearrangement}
+use Rattle.interp.specs.Elements.{truth, truth_bytes}
+use Rattle.interp.specs.computed.Elements.{top_is_true, natural_of}
 use Rattle.interp.specs.Spending.{Spending}
-use Rattle.interp.specs.State.{State, executing, start}
-use Rattle.interp.specs.Signatures.{signed_code, judged, tried}
-use Rattle.interp.specs.Timelocks.{same, is_met}
+use Rattle.interp.specs.State.{State, is_executing, start}
+use Rattle.interp.specs.Signatures.{signed_code}
+use Rattle.interp.specs.computed.Signatures.{pair_verdict, pairs_verdict}
+use Rattle.interp.specs.Timelocks.{is_same}
+use Rattle.interp.specs.computed.Timelocks.{is_met}
 use Rattle.interp.specs.Row.{Effect, Puts, Moves, One, Two, OneNumber, TwoNumbers, ThreeNumbers, Depth, Picks, Rolls, Check, Of, Sig, Multisig, Row, Disabled, Fails, Nothing, Changes, Tests, AndVerifies, Opens, Turns, Closes, ToAlt, FromAlt, Separates, Asks, verify, row_of}
 
 infixl 10 ◌>>=◌
@@ -21,12 +25,12 @@ o >>= f = option_and_then f o
 -- ---- the main stack
 abbrev pub on_one : (Bytes → Option (List Bytes)) → Stack → Option Stack
 on_one f [] = None
-on_one f (a ∷ rest) = option_map (λ left. pushed left rest) (f a)
+on_one f (a ∷ rest) = option_map (λ left. stack_with left rest) (f a)
 
 abbrev pub on_two : (Bytes → Bytes → Option (List Bytes)) → Stack → Option Stack
 on_two f [] = None
 on_two f (b ∷ []) = None
-on_two f (b ∷ a ∷ rest) = option_map (λ left. pushed left rest) (f a b)
+on_two f (b ∷ a ∷ rest) = option_map (λ left. stack_with left rest) (f a b)
 
 -- the number on top, and the rest
 unfoldable pub top_number : Stack → Option (ℤ × Stack)
@@ -52,50 +56,50 @@ on_three_numbers f s = do
   Some (spelled (f a.0 b.0 c.0) ∷ a.1)
 
 -- a place among the others, by the number on top, and the others
-abbrev pub placed : Stack → ℕ → Option (ℕ × Stack)
-placed rest n = if nat_lt n (length rest) then Some (n, rest) else None
+abbrev pub place_among : Stack → ℕ → Option (ℕ × Stack)
+place_among rest n = if nat_lt n (length rest) then Some (n, rest) else None
 
 unfoldable pub top_place : Stack → Option (ℕ × Stack)
 top_place [] = None
-top_place (a ∷ rest) = option_and_then (placed rest) (natural_of max_number_size a)
+top_place (a ∷ rest) = option_and_then (place_among rest) (natural_of max_number_size a)
 
-unfoldable pub picked : Stack → Option Stack
-picked s = option_map (λ p. nth p.1 p.0 ∷ p.1) (top_place s)
+unfoldable pub after_pick : Stack → Option Stack
+after_pick s = option_map (λ p. nth p.1 p.0 ∷ p.1) (top_place s)
 
-unfoldable pub rolled : Stack → Option Stack
-rolled s = option_map (λ p. nth p.1 p.0 ∷ remove p.1 p.0) (top_place s)
+unfoldable pub after_roll : Stack → Option Stack
+after_roll s = option_map (λ p. nth p.1 p.0 ∷ remove p.1 p.0) (top_place s)
 
 abbrev pub effect : Effect → Stack → Option Stack
 effect (Puts x) s = Some (x ∷ s)
-effect (Moves n left) s = moved n left s
+effect (Moves n left) s = rearrangement n left s
 effect (One f) s = on_one f s
 effect (Two f) s = on_two f s
 effect (OneNumber f) s = on_number f s
 effect (TwoNumbers f) s = on_two_numbers f s
 effect (ThreeNumbers f) s = on_three_numbers f s
 effect Depth s = Some (spelled (pos (length s)) ∷ s)
-effect Picks s = picked s
-effect Rolls s = rolled s
+effect Picks s = after_pick s
+effect Rolls s = after_roll s
 
 -- ---- states
 -- a state with another main stack
 abbrev pub with_main : State → Option Stack → Option State
 with_main s m = option_map (λ main. record s { main = main }) m
 
-abbrev pub verified : Stack → Option Stack
-verified s = effect verify s
+abbrev pub after_verify : Stack → Option Stack
+after_verify s = effect verify s
 
-abbrev pub opened : Bool → State → Stack → Option State
-opened at s [] = None
-opened at s (a ∷ rest) = Some (record s { main = rest; conditions = same at (truth a) ∷ s.conditions })
+abbrev pub after_open : Bool → State → Stack → Option State
+after_open at s [] = None
+after_open at s (a ∷ rest) = Some (record s { main = rest; conditions = is_same at (truth a) ∷ s.conditions })
 
-abbrev pub turned : State → List Bool → Option State
-turned s [] = None
-turned s (c ∷ cs) = Some (record s { conditions = not c ∷ cs })
+abbrev pub after_turn : State → List Bool → Option State
+after_turn s [] = None
+after_turn s (c ∷ cs) = Some (record s { conditions = not c ∷ cs })
 
-abbrev pub closed : State → List Bool → Option State
-closed s [] = None
-closed s (c ∷ cs) = Some (record s { conditions = cs })
+abbrev pub after_close : State → List Bool → Option State
+after_close s [] = None
+after_close s (c ∷ cs) = Some (record s { conditions = cs })
 
 abbrev pub to_alt : State → Stack → Option State
 to_alt s [] = None
@@ -108,10 +112,10 @@ from_alt s (a ∷ rest) = Some (record s { main = a ∷ s.main; alt = rest })
 -- CHECKSIG, of a code
 abbrev pub sig_answer : Spending → List ℕ → Bytes → Bytes → Option (List Bytes)
 sig_answer p code signature key =
-    option_map (λ valid. truth_bytes valid ∷ []) (judged p (signed_code code (signature ∷ [])) signature key)
+    option_map (λ valid. truth_bytes valid ∷ []) (pair_verdict p (signed_code code (signature ∷ [])) signature key)
 
-unfoldable pub sig_checked : Spending → List ℕ → Stack → Option Stack
-sig_checked p code s = on_two (sig_answer p code) s
+unfoldable pub after_sig : Spending → List ℕ → Stack → Option Stack
+after_sig p code s = on_two (sig_answer p code) s
 
 -- CHECKMULTISIG: a number on top, from 0 to so many
 unfoldable pub many : ℕ → Stack → Option ℕ
@@ -133,76 +137,76 @@ counts_of s = do
 
 abbrev pub multisig_answer : Spending → List ℕ → Stack → ℕ × ℕ → Option Bool
 multisig_answer p code s counts =
-    tried p (signed_code code (signatures_in counts.0 counts.1 s)) (signatures_in counts.0 counts.1 s) (keys_in counts.0 s)
+    pairs_verdict p (signed_code code (signatures_in counts.0 counts.1 s)) (signatures_in counts.0 counts.1 s) (keys_in counts.0 s)
 
 abbrev pub after_multisig : State → ℕ × ℕ → Bool → State
 after_multisig s counts valid =
     record s { main = truth_bytes valid ∷ drop (counts.0 + counts.1 + 3) s.main; count = s.count + counts.0 }
 
-unfoldable pub multisig_checked : Spending → State → Option State
-multisig_checked p s = do
+unfoldable pub after_checking_multisig : Spending → State → Option State
+after_checking_multisig p s = do
   counts ← counts_of s
   valid ← multisig_answer p s.code s.main counts
   Some (after_multisig s counts valid)
 
-unfoldable pub asked : (ℕ → Bool) → State → Stack → Option State
-asked test s [] = None
-asked test s (a ∷ rest) = if is_met test a then Some s else None
+unfoldable pub after_asking : (ℕ → Bool) → State → Stack → Option State
+after_asking test s [] = None
+after_asking test s (a ∷ rest) = if is_met test a then Some s else None
 
-abbrev pub tested : Spending → Check → State → Option State
-tested p (Of x) s = with_main s (effect x s.main)
-tested p Sig s = with_main s (sig_checked p s.code s.main)
-tested p Multisig s = multisig_checked p s
+abbrev pub after_test : Spending → Check → State → Option State
+after_test p (Of x) s = with_main s (effect x s.main)
+after_test p Sig s = with_main s (after_sig p s.code s.main)
+after_test p Multisig s = after_checking_multisig p s
 
 -- a row that is executed; what follows the opcode in the script is `after`
-abbrev pub executed : Spending → List ℕ → Row → State → Option State
-executed p after Disabled s = None
-executed p after Fails s = None
-executed p after Nothing s = Some s
-executed p after (Changes x) s = with_main s (effect x s.main)
-executed p after (Tests check) s = tested p check s
-executed p after (AndVerifies check) s = tested p check s >>= λ t. with_main t (verified t.main)
-executed p after (Opens at) s = opened at s s.main
-executed p after Turns s = turned s s.conditions
-executed p after Closes s = closed s s.conditions
-executed p after ToAlt s = to_alt s s.main
-executed p after FromAlt s = from_alt s s.alt
-executed p after Separates s = Some (record s { code = after })
-executed p after (Asks in_force test) s = if in_force p.flags then asked (test p) s s.main else Some s
+abbrev pub after_executing : Spending → List ℕ → Row → State → Option State
+after_executing p after Disabled s = None
+after_executing p after Fails s = None
+after_executing p after Nothing s = Some s
+after_executing p after (Changes x) s = with_main s (effect x s.main)
+after_executing p after (Tests check) s = after_test p check s
+after_executing p after (AndVerifies check) s = after_test p check s >>= λ t. with_main t (after_verify t.main)
+after_executing p after (Opens at) s = after_open at s s.main
+after_executing p after Turns s = after_turn s s.conditions
+after_executing p after Closes s = after_close s s.conditions
+after_executing p after ToAlt s = to_alt s s.main
+after_executing p after FromAlt s = from_alt s s.alt
+after_executing p after Separates s = Some (record s { code = after })
+after_executing p after (Asks in_force test) s = if in_force p.flags then after_asking (test p) s s.main else Some s
 
 -- a row in a branch that isn't taken
-abbrev pub skipped : Row → State → Option State
-skipped Disabled s = None
-skipped (Opens at) s = Some (record s { conditions = false ∷ s.conditions })
-skipped Turns s = turned s s.conditions
-skipped Closes s = closed s s.conditions
-skipped Fails s = Some s
-skipped Nothing s = Some s
-skipped (Changes x) s = Some s
-skipped (Tests check) s = Some s
-skipped (AndVerifies check) s = Some s
-skipped ToAlt s = Some s
-skipped FromAlt s = Some s
-skipped Separates s = Some s
-skipped (Asks in_force test) s = Some s
+abbrev pub after_skipping : Row → State → Option State
+after_skipping Disabled s = None
+after_skipping (Opens at) s = Some (record s { conditions = false ∷ s.conditions })
+after_skipping Turns s = after_turn s s.conditions
+after_skipping Closes s = after_close s s.conditions
+after_skipping Fails s = Some s
+after_skipping Nothing s = Some s
+after_skipping (Changes x) s = Some s
+after_skipping (Tests check) s = Some s
+after_skipping (AndVerifies check) s = Some s
+after_skipping ToAlt s = Some s
+after_skipping FromAlt s = Some s
+after_skipping Separates s = Some s
+after_skipping (Asks in_force test) s = Some s
 
-unfoldable pub acted : Spending → List ℕ → Row → State → Option State
-acted p after row s = if executing s then executed p after row s else skipped row s
+unfoldable pub after_acting : Spending → List ℕ → Row → State → Option State
+after_acting p after row s = if is_executing s then after_executing p after row s else after_skipping row s
 
 -- no more than so many opcodes above 60, taken or not
-unfoldable pub counted : ℕ → State → Option State
-counted number s = if nat_lt 0x60 number then (if nat_lt s.count max_ops then Some (record s { count = s.count + 1 }) else None) else Some s
+unfoldable pub with_count : ℕ → State → Option State
+with_count number s = if nat_lt 0x60 number then (if nat_lt s.count max_ops then Some (record s { count = s.count + 1 }) else None) else Some s
 
 -- no more than so many elements on both stacks
-unfoldable pub bounded : State → Option State
-bounded s = if nat_lt max_elements (length s.main + length s.alt) then None else Some s
+unfoldable pub within_bounds : State → Option State
+within_bounds s = if nat_lt max_elements (length s.main + length s.alt) then None else Some s
 
 -- one opcode of this number and this row
 unfoldable pub step_at : Spending → List ℕ → ℕ → Row → State → Option State
 step_at p after number row s = do
-  counted_state ← counted number s
-  acted_state ← acted p after row counted_state
-  bounded acted_state
+  counted_state ← with_count number s
+  acted_state ← after_acting p after row counted_state
+  within_bounds acted_state
 
 -- one opcode with its bytes
 unfoldable pub step : Spending → List ℕ → List ℕ → State → Option State
@@ -216,14 +220,14 @@ run p left [] s = Some s
 run p left (op ∷ others) s = option_and_then (run p left others) (step p (concat others ++ left) op s)
 
 -- the main stack, where no condition is open
-abbrev pub finished : State → Option Stack
-finished s = if length s.conditions == 0 then Some s.main else None
+abbrev pub stack_left : State → Option Stack
+stack_left s = if length s.conditions == 0 then Some s.main else None
 
 -- a script on a stack, and the stack that it leaves
 unfoldable pub outcome : Spending → List ℕ → Stack → Option Stack
 outcome p script stack =
     if nat_lt max_script_size (length script) then None
-    else (if is_whole script then option_and_then finished (run p (rest script) (ops script) (start script stack)) else None)
+    else (if is_whole script then option_and_then stack_left (run p (rest script) (ops script) (start script stack)) else None)
 
 unfoldable pub ends_true : Option Stack → Bool
 ends_true end = option_map_or top_is_true end false
@@ -234,13 +238,13 @@ abbrev pub inner_outcome : Spending → Stack → Option Stack
 inner_outcome p [] = None
 inner_outcome p (inner ∷ others) = outcome p inner others
 
-unfoldable pub accepted_inner : Spending → List ℕ → Stack → Bool
-accepted_inner p script left = is_push_only script && ends_true (inner_outcome p left)
+unfoldable pub inner_verdict : Spending → List ℕ → Stack → Bool
+inner_verdict p script left = is_push_only script && ends_true (inner_outcome p left)
 
 -- the spent script on the stack that the input script left, and the inner script where there is one
-unfoldable pub accepted_on : Spending → List ℕ → List ℕ → Stack → Bool
-accepted_on p script spent left =
-    ends_true (outcome p spent left) && (if is_p2sh spent then accepted_inner p script left else true)
+unfoldable pub verdict_on : Spending → List ℕ → List ℕ → Stack → Bool
+verdict_on p script spent left =
+    ends_true (outcome p spent left) && (if is_p2sh spent then inner_verdict p script left else true)
 
-unfoldable pub accepted : Spending → List ℕ → List ℕ → Bool
-accepted p script spent = option_map_or (accepted_on p script spent) (outcome p script []) false
+unfoldable pub verdict : Spending → List ℕ → List ℕ → Bool
+verdict p script spent = option_map_or (verdict_on p script spent) (outcome p script []) false

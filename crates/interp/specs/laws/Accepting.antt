@@ -1,5 +1,6 @@
 -- What is computed of scripts is what the relations say.
-use Rattle.std.proofs.Common.{◌≡◌, ℕ, zero, suc, ◌<◌, ◌≤◌, List, [], ◌∷◌, ◌++◌, Bool, true, false, ◌&&◌, cond, eqb, Option, Some, None, length, get_or, slice_get, IsTrue, refl, sym, ap, ◌∙◌, ⊎_elim, append-nil, arith}
+use Rattle.std.specs.Prelude.{if◌then◌else◌}
+use Rattle.std.proofs.Common.{◌≡◌, ℕ, zero, suc, ◌<◌, ◌≤◌, List, [], ◌∷◌, ◌++◌, Bool, true, false, ◌&&◌, eqb, Option, Some, None, length, get_or, slice_get, IsTrue, refl, sym, ap, ◌∙◌, ⊎_elim, append-nil, arith}
 use Rattle.std.specs.Option.{option_and_then, option_map_or}
 use Rattle.std.specs.List.{concat}
 use Rattle.std.proofs.lemmas.Bool.{cases_lt, and_parts, and_from}
@@ -11,11 +12,11 @@ use Rattle.txn.specs.declared.tx.Tx.{Tx}
 use Rattle.txn.specs.declared.input.TxIn.{TxIn}
 use Rattle.curve.specs.Triple.{Triples}
 use Rattle.interp.specs.Stack.{Stack}
-use Rattle.interp.specs.Elements.{top_is_true}
+use Rattle.interp.specs.computed.Elements.{top_is_true}
 use Rattle.interp.specs.Spending.{Spending, spending_of}
 use Rattle.interp.specs.declared.flags.Flags.{Flags}
 use Rattle.interp.specs.State.{State, start}
-use Rattle.interp.specs.computed.Step.{run, step, finished, outcome, ends_true, inner_outcome, accepted_inner, accepted_on, accepted}
+use Rattle.interp.specs.computed.Step.{run, step, stack_left, outcome, ends_true, inner_outcome, inner_verdict, verdict_on, verdict}
 use Rattle.interp.specs.Rules.{Steps, Run, RunsToTrue, AcceptsInner, Accepts}
 use Rattle.interp.specs.laws.Affecting.{then-some}
 use Rattle.interp.specs.laws.Runs.{outcome-long, outcome-cut, outcome-ran}
@@ -35,7 +36,7 @@ run-again p [] s t r = ap Some (sym r)
 run-again p (op ∷ others) s t r =
     ap (option_and_then (run p [] others)) (ap (λ after. step p after op s) (append-nil (concat others)) ∙ step-again p (concat others) op s r.0 r.1) ∙ run-again p others r.0 t r.2
 
-finished-by : (s : State) (end : Stack) (cs : List Bool) → s.conditions ≡ cs → cond (eqb (length cs) 0) (Some s.main) None ≡ Some end → (s.conditions ≡ []) × (end ≡ s.main)
+finished-by : (s : State) (end : Stack) (cs : List Bool) → s.conditions ≡ cs → (if eqb (length cs) 0 then Some s.main else None) ≡ Some end → (s.conditions ≡ []) × (end ≡ s.main)
 finished-by s end [] is e = (is, sym (cc))
 finished-by s end (c ∷ cs) is e = let f = rw (ne_eqb (length (c ∷ cs)) 0 (λ z. omega arith)) at e in cc
 
@@ -43,7 +44,7 @@ ran-sound : (p : Spending) (script : List ℕ) (stack end : Stack) → length sc
 ran-sound p script stack end small whole e =
     let none : rest script ≡ [] = nil_from_length (rest script) (eqb-true (length (rest script)) 0 whole) in
     let f = outcome-ran p script stack (run p (rest script) (ops script) (start script stack)) small whole refl in
-    let h = then-some (run p (rest script) (ops script) (start script stack)) finished end (sym f ∙ e) in
+    let h = then-some (run p (rest script) (ops script) (start script stack)) stack_left end (sym f ∙ e) in
     let over = finished-by h.0 end h.0.conditions refl h.2 in
     record {
       short = small;
@@ -88,18 +89,18 @@ unfolding ends_true
 inner-by p script [] only e = cc
 inner-by p script (inner ∷ others) only e = (only, (inner, others, refl, ends-by p inner others (outcome p inner others) refl e))
 
-inner-sound : (p : Spending) (script : List ℕ) (left : Stack) → accepted_inner p script left ≡ true → AcceptsInner p script left
-unfolding accepted_inner
+inner-sound : (p : Spending) (script : List ℕ) (left : Stack) → inner_verdict p script left ≡ true → AcceptsInner p script left
+unfolding inner_verdict
 inner-sound p script left e =
     let both = and_parts (is_push_only script) (ends_true (inner_outcome p left)) e in inner-by p script left both.0 both.1
 
-inner-again : (p : Spending) (script : List ℕ) (left : Stack) → AcceptsInner p script left → accepted_inner p script left ≡ true
-unfolding accepted_inner
+inner-again : (p : Spending) (script : List ℕ) (left : Stack) → AcceptsInner p script left → inner_verdict p script left ≡ true
+unfolding inner_verdict
 inner-again p script left (only, (inner, others, is, r)) =
     and_from (is_push_only script) (ends_true (inner_outcome p left)) only (rw is (ends-again p inner others r))
 
-pub inner-empty : (p : Spending) (script : List ℕ) (left : Stack) → length left ≡ 0 → false ≡ accepted_inner p script left
-unfolding accepted_inner ends_true
+pub inner-empty : (p : Spending) (script : List ℕ) (left : Stack) → length left ≡ 0 → false ≡ inner_verdict p script left
+unfolding inner_verdict ends_true
 inner-empty p script [] h = neither (is_push_only script)
   where
     neither : (b : Bool) → false ≡ (b && false)
@@ -108,44 +109,44 @@ inner-empty p script [] h = neither (is_push_only script)
 inner-empty p script (a ∷ left) h = absurd (omega arith)
 
 -- ---- the input
-on-sound : (p : Spending) (script spent : List ℕ) (left : Stack) → accepted_on p script spent left ≡ true → RunsToTrue p spent left × (is_p2sh spent ≡ true → AcceptsInner p script left)
-unfolding accepted_on
+on-sound : (p : Spending) (script spent : List ℕ) (left : Stack) → verdict_on p script spent left ≡ true → RunsToTrue p spent left × (is_p2sh spent ≡ true → AcceptsInner p script left)
+unfolding verdict_on
 on-sound p script spent left e =
-    let both = and_parts (ends_true (outcome p spent left)) (cond (is_p2sh spent) (accepted_inner p script left) true) e in
+    let both = and_parts (ends_true (outcome p spent left)) (if is_p2sh spent then inner_verdict p script left else true) e in
     (ends-sound p spent left both.0, λ is. inner-sound p script left (rw is at both.1))
 
-on-again : (p : Spending) (script spent : List ℕ) (left : Stack) → RunsToTrue p spent left → (is_p2sh spent ≡ true → AcceptsInner p script left) → accepted_on p script spent left ≡ true
-unfolding accepted_on
+on-again : (p : Spending) (script spent : List ℕ) (left : Stack) → RunsToTrue p spent left → (is_p2sh spent ≡ true → AcceptsInner p script left) → verdict_on p script spent left ≡ true
+unfolding verdict_on
 on-again p script spent left r inner =
-    and_from (ends_true (outcome p spent left)) (cond (is_p2sh spent) (accepted_inner p script left) true) (ends-again p spent left r) (by (is_p2sh spent) (λ is. inner-again p script left (inner is)))
+    and_from (ends_true (outcome p spent left)) (if is_p2sh spent then inner_verdict p script left else true) (ends-again p spent left r) (by (is_p2sh spent) (λ is. inner-again p script left (inner is)))
   where
-    by : (b : Bool) → (b ≡ true → accepted_inner p script left ≡ true) → cond b (accepted_inner p script left) true ≡ true
+    by : (b : Bool) → (b ≡ true → inner_verdict p script left ≡ true) → (if b then inner_verdict p script left else true) ≡ true
     by true h = h refl
     by false h = refl
 
-accepted-by : (p : Spending) (script spent : List ℕ) (o : Option Stack) → outcome p script [] ≡ o → option_map_or (accepted_on p script spent) o false ≡ true → (left : Stack) × Run p script [] left × RunsToTrue p spent left × (is_p2sh spent ≡ true → AcceptsInner p script left)
+accepted-by : (p : Spending) (script spent : List ℕ) (o : Option Stack) → outcome p script [] ≡ o → option_map_or (verdict_on p script spent) o false ≡ true → (left : Stack) × Run p script [] left × RunsToTrue p spent left × (is_p2sh spent ≡ true → AcceptsInner p script left)
 accepted-by p script spent None is e = cc
 accepted-by p script spent (Some left) is e = let h = on-sound p script spent left e in (left, outcome-sound p script [] left is, h.0, h.1)
 
-pub accepted-sound : (tx : Tx) (input : ℕ) (spent : List ℕ) (flags : Flags) (triples : Triples) (own : TxIn) → slice_get tx.inputs input ≡ Some own → accepted (spending_of tx input flags triples) own.script spent ≡ true → Accepts tx input spent flags triples
-unfolding accepted
+pub accepted-sound : (tx : Tx) (input : ℕ) (spent : List ℕ) (flags : Flags) (triples : Triples) (own : TxIn) → slice_get tx.inputs input ≡ Some own → verdict (spending_of tx input flags triples) own.script spent ≡ true → Accepts tx input spent flags triples
+unfolding verdict
 accepted-sound tx input spent flags triples own is e =
     let p = spending_of tx input flags triples in
     (own, is, accepted-by p own.script spent (outcome p own.script []) refl e)
 
-pub accepted-again : (tx : Tx) (input : ℕ) (spent : List ℕ) (flags : Flags) (triples : Triples) (own : TxIn) → slice_get tx.inputs input ≡ Some own → Accepts tx input spent flags triples → accepted (spending_of tx input flags triples) own.script spent ≡ true
-unfolding accepted
+pub accepted-again : (tx : Tx) (input : ℕ) (spent : List ℕ) (flags : Flags) (triples : Triples) (own : TxIn) → slice_get tx.inputs input ≡ Some own → Accepts tx input spent flags triples → verdict (spending_of tx input flags triples) own.script spent ≡ true
+unfolding verdict
 accepted-again tx input spent flags triples own is (other, other_is, (left, ran, to_true, inner)) =
     let p = spending_of tx input flags triples in
     let same : other ≡ own = cc in
-    let at : (script : List ℕ) → other.script ≡ script → option_map_or (accepted_on p script spent) (outcome p script []) false ≡ true =
+    let at : (script : List ℕ) → other.script ≡ script → option_map_or (verdict_on p script spent) (outcome p script []) false ≡ true =
     λ script e. rw (sym e) (rw (outcome-again p other.script [] left ran) (on-again p other.script spent left to_true inner)) in
     at own.script (ap (λ (i : TxIn). i.script) same)
 
 pub verified-is : (tx : Tx) (input : ℕ) (spent : List ℕ) (flags : Flags) (triples : Triples) (own : TxIn) (script : List ℕ) (answer : Bool) → slice_get tx.inputs input ≡ Some own → script ≡ own.script
-    → answer ≡ accepted (spending_of tx input flags triples) script spent → (IsTrue answer → Accepts tx input spent flags triples) × (Accepts tx input spent flags triples → IsTrue answer)
+    → answer ≡ verdict (spending_of tx input flags triples) script spent → (IsTrue answer → Accepts tx input spent flags triples) × (Accepts tx input spent flags triples → IsTrue answer)
 verified-is tx input spent flags triples own script answer is same e =
-    let f = e ∙ ap (λ (s : List ℕ). accepted (spending_of tx input flags triples) s spent) same in
+    let f = e ∙ ap (λ (s : List ℕ). verdict (spending_of tx input flags triples) s spent) same in
     (λ t. accepted-sound tx input spent flags triples own is (sym f ∙ t), λ r. f ∙ accepted-again tx input spent flags triples own is r)
 
 there : {A : Type 0} (xs : List A) (k : ℕ) (d : A) → k < length xs → slice_get xs k ≡ Some (get_or xs k d)

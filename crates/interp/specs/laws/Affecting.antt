@@ -4,10 +4,11 @@ use Rattle.std.proofs.lemmas.Bool.{cases_lt}
 use borrow.Author.Tests.{lt-ltb, le-ltb}
 use Rattle.std.specs.Option.{option_map, option_and_then}
 use Rattle.script.specs.Num.{operand, spelled}
-use Rattle.interp.specs.Stack.{Stack, Bytes, Rearranges, pushed, nth, moved, put_back, take_off}
-use Rattle.interp.specs.Elements.{natural, natural_of}
+use Rattle.interp.specs.Stack.{Stack, Bytes, Rearranges, stack_with, nth}
+use Rattle.interp.specs.computed.Stack.{rearrangement, put_back, take_off}
+use Rattle.interp.specs.computed.Elements.{natural, natural_of}
 use Rattle.interp.specs.Row.{Effect, Puts, Moves, One, Two, OneNumber, TwoNumbers, ThreeNumbers, Depth, Picks, Rolls}
-use Rattle.interp.specs.computed.Step.{on_one, on_two, top_number, on_number, on_two_numbers, on_three_numbers, placed, top_place, picked, rolled, effect}
+use Rattle.interp.specs.computed.Step.{on_one, on_two, top_number, on_number, on_two_numbers, on_three_numbers, place_among, top_place, after_pick, after_roll, effect}
 use Rattle.interp.specs.Rules.{IsNumber, MapsOne, MapsTwo, MapsNumber, JoinsNumbers, JoinsThree, Placing, Affects}
 
 same_pair : {A B : Type 0} (a a' : A) (b b' : B) → ◌≡◌ {A = Option (A × B)} (Some (a, b)) (Some (a', b')) → (a ≡ a') × (b ≡ b')
@@ -22,7 +23,7 @@ map-some None f y e = cc
 map-some (Some x) f y e = (x, refl, sym (cc))
 
 -- ---- rearrangements
-take_off-sound : (n : ℕ) (s acc taken rest : Stack) → take_off n s acc ≡ Some (taken, rest) → (pushed acc s ≡ pushed taken rest) × (length taken ≡ n + length acc)
+take_off-sound : (n : ℕ) (s acc taken rest : Stack) → take_off n s acc ≡ Some (taken, rest) → (stack_with acc s ≡ stack_with taken rest) × (length taken ≡ n + length acc)
 take_off-sound zero s acc taken rest e = let p = same_pair acc taken s rest e in (rw (p.0, p.1) refl, omega (arith, ap length p.0))
 take_off-sound (suc n) [] acc taken rest e = cc
 take_off-sound (suc n) (x ∷ s) acc taken rest e =
@@ -33,9 +34,9 @@ take_off-end zero s acc t x rest e = let p = same_pair acc t s (x ∷ rest) e in
 take_off-end (suc m) [] acc t x rest e = cc
 take_off-end (suc m) (y ∷ s) acc t x rest e = take_off-end m s (y ∷ acc) t x rest e
 
-take_off-again : (taken rest acc : Stack) → take_off (length taken) (pushed taken rest) acc ≡ Some (taken ++ acc, rest)
+take_off-again : (taken rest acc : Stack) → take_off (length taken) (stack_with taken rest) acc ≡ Some (taken ++ acc, rest)
 take_off-again [] rest acc = refl
-take_off-again (x ∷ taken) rest acc = take_off-end (length taken) (pushed taken (x ∷ rest)) acc (taken ++ acc) x rest (take_off-again taken (x ∷ rest) acc)
+take_off-again (x ∷ taken) rest acc = take_off-end (length taken) (stack_with taken (x ∷ rest)) acc (taken ++ acc) x rest (take_off-again taken (x ∷ rest) acc)
 
 moved-by : (n : ℕ) (left : List ℕ) (old new : Stack) (o : Option (Stack × Stack)) → take_off n old [] ≡ o → option_map (put_back left) o ≡ Some new → Rearranges n left old new
 moved-by n left old new None e f = cc
@@ -43,10 +44,10 @@ moved-by n left old new (Some (taken, rest)) e f =
     let h = take_off-sound n old [] taken rest e in
     record { taken = taken; rest = rest; many = h.1 ∙ add-zero n; before = h.0; after = cc }
 
-moved-sound : (n : ℕ) (left : List ℕ) (old new : Stack) → moved n left old ≡ Some new → Rearranges n left old new
+moved-sound : (n : ℕ) (left : List ℕ) (old new : Stack) → rearrangement n left old ≡ Some new → Rearranges n left old new
 moved-sound n left old new e = moved-by n left old new (take_off n old []) refl e
 
-moved-again : (n : ℕ) (left : List ℕ) (old new : Stack) → Rearranges n left old new → moved n left old ≡ Some new
+moved-again : (n : ℕ) (left : List ℕ) (old new : Stack) → Rearranges n left old new → rearrangement n left old ≡ Some new
 moved-again n left old new r =
     let e : take_off n old [] ≡ Some (r.taken, r.rest) = rw (sym r.many, r.before) (take_off-again r.taken r.rest [] ∙ ap (λ t. Some (t, r.rest)) (append-nil r.taken)) in
     ap (option_map (put_back left)) e ∙ ap Some (sym r.after)
@@ -132,7 +133,7 @@ top_place-sound : (s : Stack) (n : ℕ) (rest : Stack) → top_place s ≡ Some 
 unfolding top_place
 top_place-sound [] n rest e = cc
 top_place-sound (a ∷ others) n rest e =
-    let h = then-some (natural_of 4 a) (placed others) (n, rest) e in
+    let h = then-some (natural_of 4 a) (place_among others) (n, rest) e in
     ⊎_elim (λ below. let f = rw (lt-ltb h.0 (length others) below) at h.2 in
     let p = same_pair h.0 n others rest f in
     (a, ap (λ s. a ∷ s) p.1, subst (λ (k : ℕ). IsNumber 4 a (pos k)) p.0 (natural-sound 4 a h.0 h.1), rw (p.0, p.1) at below))
@@ -140,7 +141,7 @@ top_place-sound (a ∷ others) n rest e =
 
 top_place-again : (a : Bytes) (rest : Stack) (n : ℕ) → IsNumber 4 a (pos n) → n < length rest → top_place (a ∷ rest) ≡ Some (n, rest)
 unfolding top_place
-top_place-again a rest n h below = ap (option_and_then (placed rest)) (natural-again 4 a n h) ∙ rw (lt-ltb n (length rest) below) refl
+top_place-again a rest n h below = ap (option_and_then (place_among rest)) (natural-again 4 a n h) ∙ rw (lt-ltb n (length rest) below) refl
 
 place-sound : (f : Stack → ℕ → Stack) (old new : Stack) → option_map (λ p. f p.1 p.0) (top_place old) ≡ Some new → Placing f old new
 place-sound f old new e =
@@ -154,7 +155,7 @@ place-again f old new (a, rest, n, is, a_is, below, after) = rw (is, top_place-a
 -- ---- one or two elements
 one-sound : (f : Bytes → Option (List Bytes)) (old new : Stack) → on_one f old ≡ Some new → MapsOne f old new
 one-sound f [] new e = cc
-one-sound f (a ∷ rest) new e = let h = map-some (f a) (λ left. pushed left rest) new e in (a, rest, h.0, refl, h.1, h.2)
+one-sound f (a ∷ rest) new e = let h = map-some (f a) (λ left. stack_with left rest) new e in (a, rest, h.0, refl, h.1, h.2)
 
 one-again : (f : Bytes → Option (List Bytes)) (old new : Stack) → MapsOne f old new → on_one f old ≡ Some new
 one-again f old new (a, rest, left, is, gives, after) = rw (is, gives, after) refl
@@ -162,14 +163,14 @@ one-again f old new (a, rest, left, is, gives, after) = rw (is, gives, after) re
 pub two-sound : (f : Bytes → Bytes → Option (List Bytes)) (old new : Stack) → on_two f old ≡ Some new → MapsTwo f old new
 two-sound f [] new e = cc
 two-sound f (b ∷ []) new e = cc
-two-sound f (b ∷ a ∷ rest) new e = let h = map-some (f a b) (λ left. pushed left rest) new e in (a, b, rest, h.0, refl, h.1, h.2)
+two-sound f (b ∷ a ∷ rest) new e = let h = map-some (f a b) (λ left. stack_with left rest) new e in (a, b, rest, h.0, refl, h.1, h.2)
 
 pub two-again : (f : Bytes → Bytes → Option (List Bytes)) (old new : Stack) → MapsTwo f old new → on_two f old ≡ Some new
 two-again f old new (a, b, rest, left, is, gives, after) = rw (is, gives, after) refl
 
 -- ---- each effect
 pub effect-sound : (x : Effect) (old new : Stack) → effect x old ≡ Some new → Affects x old new
-unfolding picked rolled
+unfolding after_pick after_roll
 effect-sound (Puts x) old new e = cc
 effect-sound (Moves n left) old new e = moved-sound n left old new e
 effect-sound (One f) old new e = one-sound f old new e
@@ -182,7 +183,7 @@ effect-sound Picks old new e = place-sound (λ rest n. nth rest n ∷ rest) old 
 effect-sound Rolls old new e = place-sound (λ rest n. nth rest n ∷ remove rest n) old new e
 
 pub effect-again : (x : Effect) (old new : Stack) → Affects x old new → effect x old ≡ Some new
-unfolding picked rolled
+unfolding after_pick after_roll
 effect-again (Puts x) old new r = ap Some (sym r)
 effect-again (Moves n left) old new r = moved-again n left old new r
 effect-again (One f) old new r = one-again f old new r

@@ -1,5 +1,6 @@
 -- What is computed of signatures is what the relations say.
-use Rattle.std.proofs.Common.{◌≡◌, ◌⊎◌, inl, inr, ℕ, suc, ◌+◌, ◌<◌, ◌≤◌, List, [], ◌∷◌, ◌++◌, Bool, true, false, not, ◌||◌, cond, ltb, Option, Some, None, length, take, drop, refl, sym, ap, ◌∙◌, subst, ⊎_elim, pos, length-append, length-drop, arith}
+use Rattle.std.specs.Prelude.{if◌then◌else◌}
+use Rattle.std.proofs.Common.{◌≡◌, ◌⊎◌, inl, inr, ℕ, suc, ◌+◌, ◌<◌, ◌≤◌, List, [], ◌∷◌, ◌++◌, Bool, true, false, not, ◌||◌, ltb, Option, Some, None, length, take, drop, refl, sym, ap, ◌∙◌, subst, ⊎_elim, pos, length-append, length-drop, arith}
 use Rattle.std.proofs.lemmas.Bool.{cases_lt}
 use Rattle.std.proofs.lemmas.List.{take_at, drop_at, take-append-drop, length-take-le}
 use Rattle.std.proofs.Math.Seq.{drop-append-add}
@@ -8,13 +9,15 @@ use Rattle.std.specs.Option.{option_and_then}
 use Rattle.curve.specs.Shape.{IsStrict}
 use Rattle.curve.specs.laws.Shape.{strict-sound, strict-again}
 use Rattle.curve.specs.computed.Shape.{is_strict}
-use Rattle.interp.specs.Stack.{Stack, Bytes, pushed}
-use Rattle.interp.specs.Elements.{truth_bytes, natural_of}
+use Rattle.interp.specs.Stack.{Stack, Bytes, stack_with}
+use Rattle.interp.specs.Elements.{truth_bytes}
+use Rattle.interp.specs.computed.Elements.{natural_of}
 use Rattle.interp.specs.Spending.{Spending}
 use Rattle.interp.specs.declared.flags.Flags.{Flags}
 use Rattle.interp.specs.State.{State}
-use Rattle.interp.specs.Signatures.{signed_code, is_valid, may_be_tried, MayBeTried, judged, tried, Tries}
-use Rattle.interp.specs.computed.Step.{sig_answer, sig_checked, many, keys_in, signatures_in, counts_of, multisig_answer, after_multisig, multisig_checked}
+use Rattle.interp.specs.Signatures.{signed_code, is_valid, MayBeTried, Tries}
+use Rattle.interp.specs.computed.Signatures.{may_be_tried, pair_verdict, pairs_verdict}
+use Rattle.interp.specs.computed.Step.{sig_answer, after_sig, many, keys_in, signatures_in, counts_of, multisig_answer, after_multisig, after_checking_multisig}
 use Rattle.interp.specs.Rules.{IsNumber, ChecksOne, ChecksMany}
 use Rattle.interp.specs.laws.Affecting.{then-some, map-some, natural-sound, natural-again, two-sound}
 
@@ -31,62 +34,62 @@ may-again flags signature h = by flags.dersig h
     by true h = strict-again signature (h refl)
     by false h = refl
 
-judged-by : (p : Spending) (code : List ℕ) (signature key : Bytes) (valid b : Bool) → may_be_tried p.flags signature ≡ b → cond b (Some (is_valid p code signature key)) None ≡ Some valid → (may_be_tried p.flags signature ≡ true) × (is_valid p code signature key ≡ valid)
+judged-by : (p : Spending) (code : List ℕ) (signature key : Bytes) (valid b : Bool) → may_be_tried p.flags signature ≡ b → (if b then Some (is_valid p code signature key) else None) ≡ Some valid → (may_be_tried p.flags signature ≡ true) × (is_valid p code signature key ≡ valid)
 judged-by p code signature key valid true is e = (is, cc)
 judged-by p code signature key valid false is e = cc
 
-judged-sound : (p : Spending) (code : List ℕ) (signature key : Bytes) (valid : Bool) → judged p code signature key ≡ Some valid → MayBeTried p.flags signature × (is_valid p code signature key ≡ valid)
-unfolding judged
+judged-sound : (p : Spending) (code : List ℕ) (signature key : Bytes) (valid : Bool) → pair_verdict p code signature key ≡ Some valid → MayBeTried p.flags signature × (is_valid p code signature key ≡ valid)
+unfolding pair_verdict
 judged-sound p code signature key valid e =
     let h = judged-by p code signature key valid (may_be_tried p.flags signature) refl e in (may-sound p.flags signature h.0, h.1)
 
-judged-again : (p : Spending) (code : List ℕ) (signature key : Bytes) (valid : Bool) → MayBeTried p.flags signature → is_valid p code signature key ≡ valid → judged p code signature key ≡ Some valid
-unfolding judged
+judged-again : (p : Spending) (code : List ℕ) (signature key : Bytes) (valid : Bool) → MayBeTried p.flags signature → is_valid p code signature key ≡ valid → pair_verdict p code signature key ≡ Some valid
+unfolding pair_verdict
 judged-again p code signature key valid h is = rw (may-again p.flags signature h, is) refl
 
 -- ---- CHECKSIG
-pub sig-sound : (p : Spending) (code : List ℕ) (old new : Stack) → sig_checked p code old ≡ Some new → ChecksOne p code old new
-unfolding sig_checked
+pub sig-sound : (p : Spending) (code : List ℕ) (old new : Stack) → after_sig p code old ≡ Some new → ChecksOne p code old new
+unfolding after_sig
 sig-sound p code old new e =
     let h = two-sound (sig_answer p code) old new e in
     sig-by h.0 h.1 h.2 h.3 h.4 h.5 h.6
   where
-    sig-by : (signature key : Bytes) (rest : Stack) (left : List Bytes) → old ≡ key ∷ signature ∷ rest → sig_answer p code signature key ≡ Some left → new ≡ pushed left rest → ChecksOne p code old new
+    sig-by : (signature key : Bytes) (rest : Stack) (left : List Bytes) → old ≡ key ∷ signature ∷ rest → sig_answer p code signature key ≡ Some left → new ≡ stack_with left rest → ChecksOne p code old new
     sig-by signature key rest left is gives after =
-        let g = map-some (judged p (signed_code code (signature ∷ [])) signature key) (λ valid. truth_bytes valid ∷ []) left gives in
+        let g = map-some (pair_verdict p (signed_code code (signature ∷ [])) signature key) (λ valid. truth_bytes valid ∷ []) left gives in
         let j = judged-sound p (signed_code code (signature ∷ [])) signature key g.0 g.1 in
-        (signature, key, rest, is, j.0, after ∙ ap (λ l. pushed l rest) (g.2 ∙ ap (λ valid. truth_bytes valid ∷ []) (sym j.1)))
+        (signature, key, rest, is, j.0, after ∙ ap (λ l. stack_with l rest) (g.2 ∙ ap (λ valid. truth_bytes valid ∷ []) (sym j.1)))
 
-pub sig-again : (p : Spending) (code : List ℕ) (old new : Stack) → ChecksOne p code old new → sig_checked p code old ≡ Some new
-unfolding sig_checked
+pub sig-again : (p : Spending) (code : List ℕ) (old new : Stack) → ChecksOne p code old new → after_sig p code old ≡ Some new
+unfolding after_sig
 sig-again p code old new (signature, key, rest, is, strict, after) =
     let j = judged-again p (signed_code code (signature ∷ [])) signature key _ strict refl in
     rw (is, j, after) refl
 
 -- ---- pairs
 pair-by : (p : Spending) (code : List ℕ) (signature key : Bytes) (signatures keys : List Bytes) (answer valid : Bool) → is_valid p code signature key ≡ valid
-    → cond valid (tried p code signatures keys) (tried p code (signature ∷ signatures) keys) ≡ Some answer
-    → (tried p code signatures keys ≡ Some answer → Tries p code signatures keys answer)
-    → (tried p code (signature ∷ signatures) keys ≡ Some answer → Tries p code (signature ∷ signatures) keys answer)
+    → (if valid then pairs_verdict p code signatures keys else pairs_verdict p code (signature ∷ signatures) keys) ≡ Some answer
+    → (pairs_verdict p code signatures keys ≡ Some answer → Tries p code signatures keys answer)
+    → (pairs_verdict p code (signature ∷ signatures) keys ≡ Some answer → Tries p code (signature ∷ signatures) keys answer)
     → ((is_valid p code signature key ≡ true) × Tries p code signatures keys answer) ⊎ ((is_valid p code signature key ≡ false) × Tries p code (signature ∷ signatures) keys answer)
 pair-by p code signature key signatures keys answer true is e used kept = inl (is, used e)
 pair-by p code signature key signatures keys answer false is e used kept = inr (is, kept e)
 
-tried-sound : (p : Spending) (code : List ℕ) (signatures keys : List Bytes) (answer : Bool) → tried p code signatures keys ≡ Some answer → Tries p code signatures keys answer
-unfolding tried
+tried-sound : (p : Spending) (code : List ℕ) (signatures keys : List Bytes) (answer : Bool) → pairs_verdict p code signatures keys ≡ Some answer → Tries p code signatures keys answer
+unfolding pairs_verdict
 tried-sound p code [] keys answer e = cc
 tried-sound p code (signature ∷ signatures) [] answer e = cc
 tried-sound p code (signature ∷ signatures) (key ∷ keys) answer e =
     ⊎_elim (λ short. let f = rw (lt-ltb (length keys) (length signatures) short) at e in inl (short, cc))
     (λ enough.
     let f = rw (le-ltb (length keys) (length signatures) enough) at e in
-    let h = then-some (judged p code signature key) (λ valid. cond valid (tried p code signatures keys) (tried p code (signature ∷ signatures) keys)) answer f in
+    let h = then-some (pair_verdict p code signature key) (λ valid. (if valid then pairs_verdict p code signatures keys else pairs_verdict p code (signature ∷ signatures) keys)) answer f in
     let j = judged-sound p code signature key h.0 h.1 in
     inr (enough, j.0, pair-by p code signature key signatures keys answer h.0 j.1 h.2 (tried-sound p code signatures keys answer) (tried-sound p code (signature ∷ signatures) keys answer)))
     (cases_lt (length keys) (length signatures))
 
-tried-again : (p : Spending) (code : List ℕ) (signatures keys : List Bytes) (answer : Bool) → Tries p code signatures keys answer → tried p code signatures keys ≡ Some answer
-unfolding tried
+tried-again : (p : Spending) (code : List ℕ) (signatures keys : List Bytes) (answer : Bool) → Tries p code signatures keys answer → pairs_verdict p code signatures keys ≡ Some answer
+unfolding pairs_verdict
 tried-again p code [] keys answer r = ap Some (sym r)
 tried-again p code (signature ∷ signatures) [] answer r = ap Some (sym r)
 tried-again p code (signature ∷ signatures) (key ∷ keys) answer r =
@@ -127,7 +130,7 @@ many-sound : (most : ℕ) (s : Stack) (n : ℕ) → many most s ≡ Some n → (
 unfolding many
 many-sound most [] n e = cc
 many-sound most (a ∷ rest) n e =
-    let h = then-some (natural_of 4 a) (λ k. cond (ltb most k) None (Some k)) n e in
+    let h = then-some (natural_of 4 a) (λ k. (if ltb most k then None else Some k)) n e in
     ⊎_elim (λ above. let f = rw (lt-ltb most h.0 above) at h.2 in cc)
     (λ within. let f = rw (le-ltb most h.0 within) at h.2 in
     let same : h.0 ≡ n = cc in
@@ -138,7 +141,7 @@ unfolding many
 many-again most a rest n h within = rw (natural-again 4 a n h, le-ltb most n within) refl
 
 abbrev limits : State → ℕ → ℕ → Option (ℕ × ℕ)
-limits s keys signatures = cond (ltb (length s.main) (keys + signatures + 3)) None (cond (ltb 201 (s.count + keys)) None (Some (keys, signatures)))
+limits s keys signatures = (if ltb (length s.main) (keys + signatures + 3) then None else if ltb 201 (s.count + keys) then None else Some (keys, signatures))
 
 limited : (s : State) (keys signatures n m : ℕ) → limits s keys signatures ≡ Some (n, m)
     → (keys ≡ n) × (signatures ≡ m) × (keys + signatures + 3 ≤ length s.main) × (s.count + keys ≤ 201)
@@ -209,8 +212,8 @@ lies-by n m nb others main is e there =
     (lying n m nb h.0 others h.1 (drop m h.1) (omega (arith, length-drop n others)) cut h.3 h.4 (omega (arith, length-drop n others)) refl (omega (arith, length-drop n others, length-drop m h.1)))
 
 -- ---- CHECKMULTISIG
-pub multisig-sound : (p : Spending) (s t : State) → multisig_checked p s ≡ Some t → ChecksMany p s t
-unfolding multisig_checked
+pub multisig-sound : (p : Spending) (s t : State) → after_checking_multisig p s ≡ Some t → ChecksMany p s t
+unfolding after_checking_multisig
 multisig-sound p s t e =
     let h = then-some (counts_of s) (λ counts. option_and_then (λ valid. Some (after_multisig s counts valid)) (multisig_answer p s.code s.main counts)) t e in
     let g = then-some (multisig_answer p s.code s.main h.0) (λ valid. Some (after_multisig s h.0 valid)) t h.2 in
@@ -222,8 +225,8 @@ multisig-sound p s t e =
     let keys_are : keys_in n s.main ≡ l.keys = ap (keys_in n) l.lies ∙ ap (λ j. keys_in j (layout top.0 l.keys l.mb l.signatures l.extra l.below)) (sym l.many_keys) ∙ at-keys top.0 l.mb l.extra l.keys l.signatures l.below in
     let signatures_are : signatures_in n m s.main ≡ l.signatures = ap (signatures_in n m) l.lies ∙ cc (l.many_keys, l.many_signatures, at-signatures top.0 l.mb l.extra l.keys l.signatures l.below) in
     let left : drop (n + m + 3) s.main ≡ l.below = ap (drop (n + m + 3)) l.lies ∙ ap (λ j. drop (j + m + 3) (layout top.0 l.keys l.mb l.signatures l.extra l.below)) (sym l.many_keys) ∙ ap (λ j. drop (length l.keys + j + 3) (layout top.0 l.keys l.mb l.signatures l.extra l.below)) (sym l.many_signatures) ∙ at-end top.0 l.mb l.extra l.keys l.signatures l.below in
-    let answered : tried p (signed_code s.code l.signatures) l.signatures l.keys ≡ Some g.0 =
-    sym (ap (λ ks. tried p (signed_code s.code (signatures_in n m s.main)) (signatures_in n m s.main) ks) keys_are ∙ ap (λ ss. tried p (signed_code s.code ss) ss l.keys) signatures_are) ∙ g.1 in
+    let answered : pairs_verdict p (signed_code s.code l.signatures) l.signatures l.keys ≡ Some g.0 =
+    sym (ap (λ ks. pairs_verdict p (signed_code s.code (signatures_in n m s.main)) (signatures_in n m s.main) ks) keys_are ∙ ap (λ ss. pairs_verdict p (signed_code s.code ss) ss l.keys) signatures_are) ∙ g.1 in
     let ended : t ≡ after_multisig s h.0 g.0 = sym (cc (g.2)) in
     record {
       keys = l.keys;
@@ -243,8 +246,8 @@ multisig-sound p s t e =
       after = ended ∙ ap (λ main. record s { main = truth_bytes g.0 ∷ main; count = s.count + n }) left ∙ ap (λ j. record s { main = truth_bytes g.0 ∷ l.below; count = s.count + j }) (sym l.many_keys);
     }
 
-pub multisig-again : (p : Spending) (s t : State) → ChecksMany p s t → multisig_checked p s ≡ Some t
-unfolding multisig_checked
+pub multisig-again : (p : Spending) (s t : State) → ChecksMany p s t → after_checking_multisig p s ≡ Some t
+unfolding after_checking_multisig
 multisig-again p s t r =
     let n = length r.keys in
     let m = length r.signatures in

@@ -1,15 +1,18 @@
 -- What is computed of one opcode is what the relations say.
-use Rattle.std.proofs.Common.{◌≡◌, ◌⊎◌, inl, inr, ℕ, ◌+◌, ◌≤◌, List, [], ◌∷◌, Bool, true, false, cond, Option, Some, None, length, refl, sym, ap, ◌∙◌, subst, ⊎_elim}
+use Rattle.std.specs.Prelude.{if◌then◌else◌}
+use Rattle.std.proofs.Common.{◌≡◌, ◌⊎◌, inl, inr, ℕ, ◌+◌, ◌≤◌, List, [], ◌∷◌, Bool, true, false, Option, Some, None, length, refl, sym, ap, ◌∙◌, subst, ⊎_elim}
 use Rattle.std.proofs.lemmas.Bool.{cases_lt}
 use borrow.Author.Tests.{lt-ltb, le-ltb}
 use Rattle.std.specs.Option.{option_map_or, option_and_then}
-use Rattle.interp.specs.Stack.{Stack, Bytes, pushed}
-use Rattle.interp.specs.Elements.{truth, natural_of}
+use Rattle.interp.specs.Stack.{Stack, Bytes, stack_with}
+use Rattle.interp.specs.Elements.{truth}
+use Rattle.interp.specs.computed.Elements.{natural_of}
 use Rattle.interp.specs.Spending.{Spending}
-use Rattle.interp.specs.State.{State, executing}
-use Rattle.interp.specs.Timelocks.{same, is_met}
+use Rattle.interp.specs.State.{State, is_executing}
+use Rattle.interp.specs.Timelocks.{is_same}
+use Rattle.interp.specs.computed.Timelocks.{is_met}
 use Rattle.interp.specs.Row.{Check, Of, Sig, Multisig, Row, Disabled, Fails, Nothing, Changes, Tests, AndVerifies, Opens, Turns, Closes, ToAlt, FromAlt, Separates, Asks, verify, row_of}
-use Rattle.interp.specs.computed.Step.{effect, with_main, verified, opened, turned, closed, to_alt, from_alt, sig_checked, tested, asked, executed, skipped, acted, counted, bounded, step_at, step}
+use Rattle.interp.specs.computed.Step.{effect, with_main, after_verify, after_open, after_turn, after_close, to_alt, from_alt, after_sig, after_test, after_asking, after_executing, after_skipping, after_acting, with_count, within_bounds, step_at, step}
 use Rattle.interp.specs.Rules.{Affects, OnMain, TakesTrue, Opening, Turning, Closing, ChecksOne, Checks, Asking, Executed, Skipped, Acts, Counts, Step1}
 use Rattle.interp.specs.laws.Affecting.{then-some, effect-sound, effect-again, natural-sound, natural-again}
 use Rattle.interp.specs.laws.Checking.{sig-sound, sig-again, multisig-sound, multisig-again}
@@ -24,47 +27,47 @@ on_main-again R s t m h r = ap (with_main s) (h r.0 r.1) ∙ ap Some (sym r.2)
 abbrev nothing : List Bytes
 nothing = []
 
-kept : (b : Bool) (left : List Bytes) → cond b (Some nothing) None ≡ Some left → (b ≡ true) × (left ≡ nothing)
+kept : (b : Bool) (left : List Bytes) → (if b then Some nothing else None) ≡ Some left → (b ≡ true) × (left ≡ nothing)
 kept true left e = (refl, sym (cc))
 kept false left e = cc
 
-true-sound : (old new : Stack) → verified old ≡ Some new → TakesTrue old new
+true-sound : (old new : Stack) → after_verify old ≡ Some new → TakesTrue old new
 true-sound old new e = true-by (effect-sound verify old new e)
   where
     true-by : Affects verify old new → TakesTrue old new
     true-by (a, rest, left, is, gives, after) =
-        let k = kept (truth a) left gives in (a, is ∙ ap (λ s. a ∷ s) (sym (after ∙ ap (λ l. pushed l rest) k.1)), k.0)
+        let k = kept (truth a) left gives in (a, is ∙ ap (λ s. a ∷ s) (sym (after ∙ ap (λ l. stack_with l rest) k.1)), k.0)
 
-true-again : (old new : Stack) → TakesTrue old new → verified old ≡ Some new
+true-again : (old new : Stack) → TakesTrue old new → after_verify old ≡ Some new
 true-again old new r = rw (r.1, r.2) refl
 
 -- ---- conditions and the alternative stack
-opened-sound : (at : Bool) (s t : State) (m : Stack) → s.main ≡ m → opened at s m ≡ Some t → Opening at s t
+opened-sound : (at : Bool) (s t : State) (m : Stack) → s.main ≡ m → after_open at s m ≡ Some t → Opening at s t
 opened-sound at s t [] is e = cc
 opened-sound at s t (a ∷ rest) is e = opened-by at (truth a) refl e
   where
-    opened-by : (at b : Bool) → truth a ≡ b → Some (record s { main = rest; conditions = same at b ∷ s.conditions }) ≡ Some t → Opening at s t
+    opened-by : (at b : Bool) → truth a ≡ b → Some (record s { main = rest; conditions = is_same at b ∷ s.conditions }) ≡ Some t → Opening at s t
     opened-by true true is_true e = (a, rest, is, inl (is_true, cc))
     opened-by true false is_true e = (a, rest, is, inr (is_true, cc))
     opened-by false true is_true e = (a, rest, is, inr (is_true, cc))
     opened-by false false is_true e = (a, rest, is, inl (is_true, cc))
 
-opened-again : (at : Bool) (s t : State) → Opening at s t → opened at s s.main ≡ Some t
+opened-again : (at : Bool) (s t : State) → Opening at s t → after_open at s s.main ≡ Some t
 opened-again true s t r = ⊎_elim (λ h. rw (r.2, h.0, h.1) refl) (λ h. rw (r.2, h.0, h.1) refl) r.3
 opened-again false s t r = ⊎_elim (λ h. rw (r.2, h.0, h.1) refl) (λ h. rw (r.2, h.0, h.1) refl) r.3
 
-turned-sound : (s t : State) (cs : List Bool) → s.conditions ≡ cs → turned s cs ≡ Some t → Turning s t
+turned-sound : (s t : State) (cs : List Bool) → s.conditions ≡ cs → after_turn s cs ≡ Some t → Turning s t
 turned-sound s t [] is e = cc
 turned-sound s t (c ∷ cs) is e = (c, cs, is, cc)
 
-turned-again : (s t : State) → Turning s t → turned s s.conditions ≡ Some t
+turned-again : (s t : State) → Turning s t → after_turn s s.conditions ≡ Some t
 turned-again s t r = rw (r.2, r.3) refl
 
-closed-sound : (s t : State) (cs : List Bool) → s.conditions ≡ cs → closed s cs ≡ Some t → Closing s t
+closed-sound : (s t : State) (cs : List Bool) → s.conditions ≡ cs → after_close s cs ≡ Some t → Closing s t
 closed-sound s t [] is e = cc
 closed-sound s t (c ∷ cs) is e = (c, cs, is, cc)
 
-closed-again : (s t : State) → Closing s t → closed s s.conditions ≡ Some t
+closed-again : (s t : State) → Closing s t → after_close s s.conditions ≡ Some t
 closed-again s t r = rw (r.2, r.3) refl
 
 to_alt-sound : (p : Spending) (after : List ℕ) (s t : State) (m : Stack) → s.main ≡ m → to_alt s m ≡ Some t → Executed p after ToAlt s t
@@ -88,48 +91,48 @@ met-again : (test : ℕ → Bool) (a : Bytes) (n : ℕ) → natural_of 5 a ≡ S
 unfolding is_met
 met-again test a n e is = rw e is
 
-asked-sound : (test : ℕ → Bool) (s t : State) (m : Stack) → s.main ≡ m → asked test s m ≡ Some t → Asking test s t
-unfolding asked
+asked-sound : (test : ℕ → Bool) (s t : State) (m : Stack) → s.main ≡ m → after_asking test s m ≡ Some t → Asking test s t
+unfolding after_asking
 asked-sound test s t [] is e = cc
 asked-sound test s t (a ∷ rest) is e = asked-by (is_met test a) refl e
   where
-    asked-by : (b : Bool) → is_met test a ≡ b → cond b (Some s) None ≡ Some t → Asking test s t
+    asked-by : (b : Bool) → is_met test a ≡ b → (if b then Some s else None) ≡ Some t → Asking test s t
     asked-by true met e = let h = met-sound test a met in (a, rest, h.0, is, natural-sound 5 a h.0 h.1, h.2, cc)
     asked-by false met e = cc
 
-asked-again : (test : ℕ → Bool) (s t : State) → Asking test s t → asked test s s.main ≡ Some t
-unfolding asked
+asked-again : (test : ℕ → Bool) (s t : State) → Asking test s t → after_asking test s s.main ≡ Some t
+unfolding after_asking
 asked-again test s t (a, rest, n, is, a_is, passed, after) =
-    ap (asked test s) is ∙ ap (λ b. cond b (Some s) None) (met-again test a n (natural-again 5 a n a_is) passed) ∙ ap Some (sym after)
+    ap (after_asking test s) is ∙ ap (λ b. (if b then Some s else None)) (met-again test a n (natural-again 5 a n a_is) passed) ∙ ap Some (sym after)
 
-asks-sound : (b : Bool) (test : ℕ → Bool) (s t : State) → cond b (asked test s s.main) (Some s) ≡ Some t → ((b ≡ true) × Asking test s t) ⊎ ((b ≡ false) × (t ≡ s))
+asks-sound : (b : Bool) (test : ℕ → Bool) (s t : State) → (if b then after_asking test s s.main else Some s) ≡ Some t → ((b ≡ true) × Asking test s t) ⊎ ((b ≡ false) × (t ≡ s))
 asks-sound true test s t e = inl (refl, asked-sound test s t s.main refl e)
 asks-sound false test s t e = inr (refl, sym (cc))
 
-asks-again : (b : Bool) (test : ℕ → Bool) (s t : State) → ((b ≡ true) × Asking test s t) ⊎ ((b ≡ false) × (t ≡ s)) → cond b (asked test s s.main) (Some s) ≡ Some t
+asks-again : (b : Bool) (test : ℕ → Bool) (s t : State) → ((b ≡ true) × Asking test s t) ⊎ ((b ≡ false) × (t ≡ s)) → (if b then after_asking test s s.main else Some s) ≡ Some t
 asks-again b test s t r = ⊎_elim (λ h. rw h.0 (asked-again test s t h.1)) (λ h. rw h.0 (ap Some (sym h.1))) r
 
 -- ---- tests
-tested-sound : (p : Spending) (check : Check) (s t : State) → tested p check s ≡ Some t → Checks p check s t
+tested-sound : (p : Spending) (check : Check) (s t : State) → after_test p check s ≡ Some t → Checks p check s t
 tested-sound p (Of x) s t e = on_main-by (Affects x) s t (effect x s.main) (λ new. effect-sound x s.main new) e
-tested-sound p Sig s t e = on_main-by (ChecksOne p s.code) s t (sig_checked p s.code s.main) (λ new. sig-sound p s.code s.main new) e
+tested-sound p Sig s t e = on_main-by (ChecksOne p s.code) s t (after_sig p s.code s.main) (λ new. sig-sound p s.code s.main new) e
 tested-sound p Multisig s t e = multisig-sound p s t e
 
-tested-again : (p : Spending) (check : Check) (s t : State) → Checks p check s t → tested p check s ≡ Some t
+tested-again : (p : Spending) (check : Check) (s t : State) → Checks p check s t → after_test p check s ≡ Some t
 tested-again p (Of x) s t r = on_main-again (Affects x) s t (effect x s.main) (λ new. effect-again x s.main new) r
-tested-again p Sig s t r = on_main-again (ChecksOne p s.code) s t (sig_checked p s.code s.main) (λ new. sig-again p s.code s.main new) r
+tested-again p Sig s t r = on_main-again (ChecksOne p s.code) s t (after_sig p s.code s.main) (λ new. sig-again p s.code s.main new) r
 tested-again p Multisig s t r = multisig-again p s t r
 
 -- ---- rows
-executed-sound : (p : Spending) (after : List ℕ) (row : Row) (s t : State) → executed p after row s ≡ Some t → Executed p after row s t
+executed-sound : (p : Spending) (after : List ℕ) (row : Row) (s t : State) → after_executing p after row s ≡ Some t → Executed p after row s t
 executed-sound p after Disabled s t e = cc
 executed-sound p after Fails s t e = cc
 executed-sound p after Nothing s t e = cc
 executed-sound p after (Changes x) s t e = on_main-by (Affects x) s t (effect x s.main) (λ new. effect-sound x s.main new) e
 executed-sound p after (Tests check) s t e = tested-sound p check s t e
 executed-sound p after (AndVerifies check) s t e =
-    let h = then-some (tested p check s) (λ m. with_main m (verified m.main)) t e in
-    (h.0, tested-sound p check s h.0 h.1, on_main-by TakesTrue h.0 t (verified h.0.main) (λ new. true-sound h.0.main new) h.2)
+    let h = then-some (after_test p check s) (λ m. with_main m (after_verify m.main)) t e in
+    (h.0, tested-sound p check s h.0 h.1, on_main-by TakesTrue h.0 t (after_verify h.0.main) (λ new. true-sound h.0.main new) h.2)
 executed-sound p after (Opens at) s t e = opened-sound at s t s.main refl e
 executed-sound p after Turns s t e = turned-sound s t s.conditions refl e
 executed-sound p after Closes s t e = closed-sound s t s.conditions refl e
@@ -138,14 +141,14 @@ executed-sound p after FromAlt s t e = from_alt-sound p after s t s.alt refl e
 executed-sound p after Separates s t e = cc
 executed-sound p after (Asks in_force test) s t e = asks-sound (in_force p.flags) (test p) s t e
 
-executed-again : (p : Spending) (after : List ℕ) (row : Row) (s t : State) → Executed p after row s t → executed p after row s ≡ Some t
+executed-again : (p : Spending) (after : List ℕ) (row : Row) (s t : State) → Executed p after row s t → after_executing p after row s ≡ Some t
 executed-again p after Disabled s t r = absurd r
 executed-again p after Fails s t r = absurd r
 executed-again p after Nothing s t r = ap Some (sym r)
 executed-again p after (Changes x) s t r = on_main-again (Affects x) s t (effect x s.main) (λ new. effect-again x s.main new) r
 executed-again p after (Tests check) s t r = tested-again p check s t r
 executed-again p after (AndVerifies check) s t r =
-    ap (option_and_then (λ m. with_main m (verified m.main))) (tested-again p check s r.0 r.1) ∙ on_main-again TakesTrue r.0 t (verified r.0.main) (λ new. true-again r.0.main new) r.2
+    ap (option_and_then (λ m. with_main m (after_verify m.main))) (tested-again p check s r.0 r.1) ∙ on_main-again TakesTrue r.0 t (after_verify r.0.main) (λ new. true-again r.0.main new) r.2
 executed-again p after (Opens at) s t r = opened-again at s t r
 executed-again p after Turns s t r = turned-again s t r
 executed-again p after Closes s t r = closed-again s t r
@@ -154,7 +157,7 @@ executed-again p after FromAlt s t r = rw (r.2, r.3) refl
 executed-again p after Separates s t r = ap Some (sym r)
 executed-again p after (Asks in_force test) s t r = asks-again (in_force p.flags) (test p) s t r
 
-skipped-sound : (row : Row) (s t : State) → skipped row s ≡ Some t → Skipped row s t
+skipped-sound : (row : Row) (s t : State) → after_skipping row s ≡ Some t → Skipped row s t
 skipped-sound Disabled s t e = cc
 skipped-sound (Opens at) s t e = cc
 skipped-sound Turns s t e = turned-sound s t s.conditions refl e
@@ -169,7 +172,7 @@ skipped-sound FromAlt s t e = cc
 skipped-sound Separates s t e = cc
 skipped-sound (Asks in_force test) s t e = cc
 
-skipped-again : (row : Row) (s t : State) → Skipped row s t → skipped row s ≡ Some t
+skipped-again : (row : Row) (s t : State) → Skipped row s t → after_skipping row s ≡ Some t
 skipped-again Disabled s t r = absurd r
 skipped-again (Opens at) s t r = ap Some (sym r)
 skipped-again Turns s t r = turned-again s t r
@@ -185,46 +188,46 @@ skipped-again Separates s t r = ap Some (sym r)
 skipped-again (Asks in_force test) s t r = ap Some (sym r)
 
 -- ---- one opcode
-acted-sound : (p : Spending) (after : List ℕ) (row : Row) (s t : State) → acted p after row s ≡ Some t → Acts p after row s t
-unfolding acted
-acted-sound p after row s t e = acted-by (executing s) refl e
+acted-sound : (p : Spending) (after : List ℕ) (row : Row) (s t : State) → after_acting p after row s ≡ Some t → Acts p after row s t
+unfolding after_acting
+acted-sound p after row s t e = acted-by (is_executing s) refl e
   where
-    acted-by : (b : Bool) → executing s ≡ b → cond b (executed p after row s) (skipped row s) ≡ Some t → Acts p after row s t
+    acted-by : (b : Bool) → is_executing s ≡ b → (if b then after_executing p after row s else after_skipping row s) ≡ Some t → Acts p after row s t
     acted-by true is e = inl (is, executed-sound p after row s t e)
     acted-by false is e = inr (is, skipped-sound row s t e)
 
-acted-again : (p : Spending) (after : List ℕ) (row : Row) (s t : State) → Acts p after row s t → acted p after row s ≡ Some t
-unfolding acted
+acted-again : (p : Spending) (after : List ℕ) (row : Row) (s t : State) → Acts p after row s t → after_acting p after row s ≡ Some t
+unfolding after_acting
 acted-again p after row s t r = ⊎_elim (λ h. rw h.0 (executed-again p after row s t h.1)) (λ h. rw h.0 (skipped-again row s t h.1)) r
 
-counted-sound : (b : ℕ) (s t : State) → counted b s ≡ Some t → Counts b s t
-unfolding counted
+counted-sound : (b : ℕ) (s t : State) → with_count b s ≡ Some t → Counts b s t
+unfolding with_count
 counted-sound b s t e =
     ⊎_elim (λ above. let g = rw (lt-ltb 96 b above) at e in
     ⊎_elim (λ few. let h = rw (lt-ltb s.count 201 few) at g in inr (above, few, cc)) (λ many. let h = rw (le-ltb s.count 201 many) at g in cc) (cases_lt s.count 201))
     (λ low. let g = rw (le-ltb 96 b low) at e in inl (low, cc)) (cases_lt 96 b)
 
-counted-again : (b : ℕ) (s t : State) → Counts b s t → counted b s ≡ Some t
-unfolding counted
+counted-again : (b : ℕ) (s t : State) → Counts b s t → with_count b s ≡ Some t
+unfolding with_count
 counted-again b s t r =
     ⊎_elim (λ h. rw (le-ltb 96 b h.0, h.1) refl) (λ h. rw (lt-ltb 96 b h.0, lt-ltb s.count 201 h.1, h.2) refl) r
 
-bounded-sound : (s t : State) → bounded s ≡ Some t → (s ≡ t) × (length s.main + length s.alt ≤ 1000)
-unfolding bounded
+bounded-sound : (s t : State) → within_bounds s ≡ Some t → (s ≡ t) × (length s.main + length s.alt ≤ 1000)
+unfolding within_bounds
 bounded-sound s t e =
     ⊎_elim (λ long. let g = rw (lt-ltb 1000 (length s.main + length s.alt) long) at e in cc)
     (λ small. let g = rw (le-ltb 1000 (length s.main + length s.alt) small) at e in (cc, small)) (cases_lt 1000 (length s.main + length s.alt))
 
-bounded-again : (s : State) → length s.main + length s.alt ≤ 1000 → bounded s ≡ Some s
-unfolding bounded
+bounded-again : (s : State) → length s.main + length s.alt ≤ 1000 → within_bounds s ≡ Some s
+unfolding within_bounds
 bounded-again s h = rw (le-ltb 1000 (length s.main + length s.alt) h) refl
 
 pub step-sound : (p : Spending) (after op : List ℕ) (s t : State) → step p after op s ≡ Some t → Step1 p after op s t
 unfolding step step_at
 step-sound p after [] s t e = cc
 step-sound p after (b ∷ bytes) s t e =
-    let c = then-some (counted b s) (λ x. option_and_then bounded (acted p after (row_of (b ∷ bytes)) x)) t e in
-    let a = then-some (acted p after (row_of (b ∷ bytes)) c.0) bounded t c.2 in
+    let c = then-some (with_count b s) (λ x. option_and_then within_bounds (after_acting p after (row_of (b ∷ bytes)) x)) t e in
+    let a = then-some (after_acting p after (row_of (b ∷ bytes)) c.0) within_bounds t c.2 in
     let l = bounded-sound a.0 t a.2 in
     let P : State → Type 0 = λ u. Acts p after (row_of (b ∷ bytes)) c.0 u × (length u.main + length u.alt ≤ 1000) in
     let r = subst P l.0 (acted-sound p after (row_of (b ∷ bytes)) c.0 a.0 a.1, l.1) in

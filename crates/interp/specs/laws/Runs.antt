@@ -1,15 +1,17 @@
 -- A script, opcode by opcode.
-use Rattle.std.proofs.Common.{◌≡◌, ℕ, zero, suc, ◌<◌, ◌≤◌, List, [], ◌∷◌, ◌++◌, Bool, true, false, cond, ltb, Option, Some, None, length, take, drop, refl, sym, ap, ◌∙◌, append_assoc, length-drop, arith}
+use Rattle.std.specs.Prelude.{if◌then◌else◌}
+use Rattle.std.proofs.Common.{◌≡◌, ℕ, zero, suc, ◌<◌, ◌≤◌, List, [], ◌∷◌, ◌++◌, Bool, true, false, ltb, Option, Some, None, length, take, drop, refl, sym, ap, ◌∙◌, append_assoc, length-drop, arith}
 use Rattle.std.specs.Option.{option_and_then}
 use Rattle.std.specs.List.{concat}
 use Rattle.std.proofs.lemmas.List.{take-append-drop}
 use borrow.Author.Tests.{lt-ltb, le-ltb}
 use Rattle.script.specs.Ops.{op_len, ops, rest, is_whole}
 use Rattle.script.specs.laws.Ops.{length_taken, op_len_positive, op_len_bound, ops-more, ops-none, rest-more, rest-none}
-use Rattle.interp.specs.Stack.{Stack, Gives}
+use Rattle.interp.specs.Stack.{Stack}
+use Rattle.interp.specs.computed.Stack.{Gives}
 use Rattle.interp.specs.Spending.{Spending}
 use Rattle.interp.specs.State.{State, start}
-use Rattle.interp.specs.computed.Step.{run, step, outcome, finished}
+use Rattle.interp.specs.computed.Step.{run, step, outcome, stack_left}
 
 pub gave : {A : Type 0} (b : Bool) (o : Option A) (x : A) → b ≡ true → Gives b o x → o ≡ Some x
 gave true o x e g = g
@@ -67,11 +69,11 @@ pub outcome-long : (p : Spending) (script : List ℕ) (stack : Stack) → 10000 
 unfolding outcome
 outcome-long p script stack h = rw (lt-ltb 10000 (length script) h) refl
 
-none-or : (b : Bool) (x : Option Stack) → x ≡ None → cond b None x ≡ None
+none-or : (b : Bool) (x : Option Stack) → x ≡ None → (if b then None else x) ≡ None
 none-or true x e = refl
 none-or false x e = e
 
-or-none : (b : Bool) (x : Option Stack) → x ≡ None → cond b x None ≡ None
+or-none : (b : Bool) (x : Option Stack) → x ≡ None → (if b then x else None) ≡ None
 or-none true x e = e
 or-none false x e = refl
 
@@ -80,7 +82,7 @@ unfolding outcome
 outcome-cut p script stack h = none-or (ltb 10000 (length script)) _ (rw h refl)
 
 pub outcome-ran : (p : Spending) (script : List ℕ) (stack : Stack) (o : Option State) → length script ≤ 10000 → is_whole script ≡ true → run p (rest script) (ops script) (start script stack) ≡ o
-    → outcome p script stack ≡ option_and_then finished o
+    → outcome p script stack ≡ option_and_then stack_left o
 unfolding outcome
 outcome-ran p script stack o h w e = rw (le-ltb 10000 (length script) h, w, e) refl
 

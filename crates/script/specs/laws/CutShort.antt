@@ -9,8 +9,8 @@ use Rattle.std.proofs.lemmas.Nat.{le_bytes_2, le_bytes_4}
 use borrow.Author.Tests.{le-ltb}
 use Rattle.wire.specs.Grammar.{IsBytes}
 use Rattle.wire.specs.laws.Reading.{IsBytes-take, IsBytes-after}
-use Rattle.script.specs.Op.{IsOp, BeginsNone, IsCutShort}
-use Rattle.script.specs.Ops.{operand_len, sized, within, op_len, ops, rest}
+use Rattle.script.specs.laws.Grammar.{IsOp, BeginsNone, IsCutShort}
+use Rattle.script.specs.Ops.{operand_len, sized_len, within, op_len, ops, rest}
 use Rattle.script.specs.laws.Ops.{length_taken, none-again, direct-again, bare-again, splits}
 
 -- ---- zeros in place of the bytes that lack
@@ -37,7 +37,7 @@ within-none : (bytes : List ℕ) (n : ℕ) → within bytes n ≡ None → lengt
 within-none bytes n e =
     ⊎_elim (λ short. short) (λ long. let f = rw (le-ltb (length bytes) n long) at e in cc) (cases_lt (length bytes) n)
 
-sized-none : (w m : ℕ) (tail : List ℕ) → option_and_then (within tail) (sized w tail m) ≡ None → w ≤ length tail → length tail < w + m
+sized-none : (w m : ℕ) (tail : List ℕ) → option_and_then (within tail) (sized_len w tail m) ≡ None → w ≤ length tail → length tail < w + m
 sized-none w m tail e h = within-none tail (w + m) (rw (le-ltb (length tail) w h) at e)
 
 direct-completes : (b : ℕ) (tail : List ℕ) → b < 76 → length tail < b → Completes b tail
@@ -62,7 +62,7 @@ module _ (number w : ℕ) (value : List ℕ → ℕ) (whole : (front pushed : Li
       let op = whole (take w tail) (drop w tail ++ lacks) (length_taken w tail h) (IsBytes-take w tail fits) many in
       (lacks, subst (λ (t : List ℕ). IsOp (number ∷ t)) (sym (append_assoc (take w tail) (drop w tail) lacks) ∙ ap (λ t. t ++ lacks) (take-append-drop w tail)) op)
 
-  sized-completes : (tail : List ℕ) → IsBytes tail → option_and_then (within tail) (sized w tail (value (take w tail))) ≡ None → Completes number tail
+  sized-completes : (tail : List ℕ) → IsBytes tail → option_and_then (within tail) (sized_len w tail (value (take w tail))) ≡ None → Completes number tail
   sized-completes tail fits e =
       ⊎_elim (λ short. in-length tail fits short) (λ long. in-data tail fits long (sized-none w (value (take w tail)) tail e long)) (cases_lt (length tail) w)
 
@@ -88,7 +88,7 @@ unfolding operand_len
 completes b tail fits e =
     let P : ℕ → Type 0 = λ c. op_len (c ∷ tail) ≡ None → Completes c tail in
     ⊎_elim (λ direct. direct-completes b tail direct (within-none tail b (rw (direct-again b tail direct) at e)))
-    (λ h. ⊎_elim (λ i. let is : 76 ≡ b = omega arith in subst P is (λ f. sized-completes 76 1 (λ t. slice_index t 0) whole-76 tail fits (ap (λ m. option_and_then (within tail) (sized 1 tail m)) (sym (first-taken tail)) ∙ f)) e)
+    (λ h. ⊎_elim (λ i. let is : 76 ≡ b = omega arith in subst P is (λ f. sized-completes 76 1 (λ t. slice_index t 0) whole-76 tail fits (ap (λ m. option_and_then (within tail) (sized_len 1 tail m)) (sym (first-taken tail)) ∙ f)) e)
     (λ i. ⊎_elim (λ j. let is : 77 ≡ b = omega arith in subst P is (λ f. sized-completes 77 2 (from_le_bytes w16) whole-77 tail fits f) e)
     (λ j. ⊎_elim (λ k. let is : 78 ≡ b = omega arith in subst P is (λ f. sized-completes 78 4 (from_le_bytes w32) whole-78 tail fits f) e)
     (λ k. absurd (omega (arith, within-none tail 0 (rw (bare-again b tail k) at e)))) (cases_lt b 79)) (cases_lt b 78)) (cases_lt b 77)) (cases_lt b 76)

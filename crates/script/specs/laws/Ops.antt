@@ -11,8 +11,10 @@ use Rattle.std.proofs.Math.Seq.{drop-append-add}
 use borrow.Author.Tests.{lt-ltb, le-ltb, ne_eqb}
 use Rattle.wire.specs.Grammar.{IsBytes}
 use Rattle.wire.specs.laws.Reading.{IsBytes-take, IsBytes-after}
-use Rattle.script.specs.Op.{IsOp, Spells, BeginsNone, number_of, pushed_of}
-use Rattle.script.specs.Ops.{Splits, operand_len, sized, within, op_len, cut_first, ops_within, ops, rest}
+use Rattle.script.specs.Op.{number_of, pushed_of}
+use Rattle.script.specs.laws.Grammar.{IsOp, Spells, BeginsNone}
+use Rattle.script.specs.Ops.{operand_len, sized_len, within, op_len, cut_first, ops_within, ops, rest}
+use Rattle.script.specs.laws.Grammar.{Splits}
 
 -- ---- an opcode of the grammar is found
 some_same : {A : Type 0} {x y : A} → Some x ≡ Some y → x ≡ y
@@ -23,7 +25,7 @@ whole b tail more e =
     let long = length-append tail more in
     rw (e, le-ltb (length (tail ++ more)) (length tail) (omega arith)) (ap Some (add-one (length tail)))
 
-sized-again : (w n : ℕ) (bytes : List ℕ) → w ≤ length bytes → sized w bytes n ≡ Some (w + n)
+sized-again : (w n : ℕ) (bytes : List ℕ) → w ≤ length bytes → sized_len w bytes n ≡ Some (w + n)
 sized-again w n bytes h = rw (le-ltb (length bytes) w h) refl
 
 pub direct-again : (n : ℕ) (bytes : List ℕ) → n < 76 → operand_len n bytes ≡ Some n
@@ -37,13 +39,13 @@ one-again bytes more = sized-again 1 (length bytes) ((length bytes ∷ bytes) ++
 two-again : (bytes more : List ℕ) → length bytes < 2 ^ 16 → operand_len 77 ((to_le_bytes w16 (length bytes) ++ bytes) ++ more) ≡ Some (length (to_le_bytes w16 (length bytes) ++ bytes))
 unfolding operand_len
 two-again bytes more h =
-    ap (sized 2 ((to_le_bytes w16 (length bytes) ++ bytes) ++ more)) (from_le_bytes-to_le_bytes_2 (length bytes) h)
+    ap (sized_len 2 ((to_le_bytes w16 (length bytes) ++ bytes) ++ more)) (from_le_bytes-to_le_bytes_2 (length bytes) h)
     ∙ sized-again 2 (length bytes) ((to_le_bytes w16 (length bytes) ++ bytes) ++ more) (omega arith) ∙ ap Some (omega arith)
 
 four-again : (bytes more : List ℕ) → length bytes < 2 ^ 32 → operand_len 78 ((to_le_bytes w32 (length bytes) ++ bytes) ++ more) ≡ Some (length (to_le_bytes w32 (length bytes) ++ bytes))
 unfolding operand_len
 four-again bytes more h =
-    ap (sized 4 ((to_le_bytes w32 (length bytes) ++ bytes) ++ more)) (from_le_bytes-to_le_bytes_4 (length bytes) h)
+    ap (sized_len 4 ((to_le_bytes w32 (length bytes) ++ bytes) ++ more)) (from_le_bytes-to_le_bytes_4 (length bytes) h)
     ∙ sized-again 4 (length bytes) ((to_le_bytes w32 (length bytes) ++ bytes) ++ more) (omega arith) ∙ ap Some (omega arith)
 
 pub bare-again : (b : ℕ) (more : List ℕ) → 78 < b → operand_len b more ≡ Some 0
@@ -73,7 +75,7 @@ then-some : (bytes : List ℕ) (o : Option ℕ) (k : ℕ) → option_and_then (w
 then-some bytes None k e = cc
 then-some bytes (Some n) k e = let h = within-some bytes n k e in (n, refl, h.0, h.1)
 
-sized-some : (w m : ℕ) (bytes : List ℕ) (n : ℕ) → sized w bytes m ≡ Some n → (w ≤ length bytes) × (n ≡ w + m)
+sized-some : (w m : ℕ) (bytes : List ℕ) (n : ℕ) → sized_len w bytes m ≡ Some n → (w ≤ length bytes) × (n ≡ w + m)
 sized-some w m bytes n e =
     ⊎_elim (λ short. let f = rw (lt-ltb (length bytes) w short) at e in cc)
     (λ long. let f = rw (le-ltb (length bytes) w long) at e in (long, cc)) (cases_lt (length bytes) w)

@@ -6,7 +6,7 @@ use Rattle.std.proofs.lemmas.Bool.{cases_Bool, cases_eq, eqb-true, eq-eqb, ne_eq
 use Rattle.std.proofs.lemmas.List.{length-set, length_push, get_or-set_same, get_or-set_other, set-set, set-get_or, take_at}
 use Rattle.std.specs.List.{list_any}
 use Rattle.tree.specs.Branches.{Kept, Blocks}
-use Rattle.tree.specs.Slots.{AreInOrder, is_leaf, slots, slot_of, leaves_of}
+use Rattle.tree.specs.inside.Slots.{AreInOrder, is_leaf, slots, slot_of, leaves_of}
 
 -- ---- a new block
 

@@ -5,7 +5,7 @@ use Rattle.std.specs.List.{filter}
 use Rattle.std.proofs.lemmas.Bool.{cases_Bool, cases_eq, eqb-true, eq-eqb, ne_eqb, lt-ltb, ltb-true, cases_lt, cases_order, or_cases, or_left, or_right, and_parts, and_from, false_from_ne_true, true≢false}
 use Rattle.std.proofs.lemmas.List.Sums.{sum_by-cons, sum_by-set, sum_by_push, sum_by-append}
 use Rattle.tree.specs.Branches.{Kept, Blocks, has, places, height}
-use Rattle.tree.specs.Slots.{AreInOrder, is_leaf, slot_of, leaves_of}
+use Rattle.tree.specs.inside.Slots.{AreInOrder, is_leaf, slot_of, leaves_of}
 use Rattle.tree.specs.Tips.{is_tip, goes_first, ordered}
 use Rattle.tree.specs.laws.Orders.{one, times, one_same, one_other, times-filter, times_filter-above, IsOrdered, same_order, times-ordered, order-ordered}
 use Rattle.tree.specs.laws.Slots.{length-leaves, slot-below, leaf_slot, leaf_above, leaf_same, leaf_lost, on_other, leaves_taken, leaves_new}

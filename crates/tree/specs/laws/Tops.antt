@@ -14,8 +14,8 @@ use Rattle.block.specs.declared.block.Block.{Block}
 use Rattle.tree.specs.declared.top.Top.{Top}
 use Rattle.tree.specs.Branches.{Blocks, has, places, height}
 use Rattle.tree.specs.Limits.{max_blocks}
-use Rattle.tree.specs.Tops.{top_at, top_cmp}
-use Rattle.tree.specs.Slots.{AreInOrder}
+use Rattle.tree.specs.inside.Tops.{top_at, top_cmp}
+use Rattle.tree.specs.inside.Slots.{AreInOrder}
 use Rattle.tree.specs.Tips.{is_tip, goes_first, ordered}
 use Rattle.tree.specs.laws.Sets.{has_here, has_there}
 use Rattle.tree.specs.laws.Parents.{height-place}

@@ -112,12 +112,3 @@ is_coinbase-means t = (only_null t.inputs, back)
   where
     back : IsCoinbase t → is_coinbase t ≡ true
     back (input, one, is) = ap is_only_null one ∙ ap is_null is ∙ same_outpoint-refl null
-
--- the answer of a test
-pub is_coinbase-tested : (t : Tx) (b : Bool) → (b ≡ true) ↔ IsCoinbase t → b ≡ is_coinbase t
-is_coinbase-tested t true h = sym ((is_coinbase-means t).1 (h.0 refl))
-is_coinbase-tested t false h = at (is_coinbase t) refl
-  where
-    at : (u : Bool) → is_coinbase t ≡ u → false ≡ u
-    at true p = h.1 ((is_coinbase-means t).0 p)
-    at false p = refl

@@ -10,7 +10,8 @@ use Rattle.txn.specs.declared.outpoint.OutPoint.{OutPoint}
 use Rattle.coins.specs.declared.coin.Coin.{Coin}
 use Rattle.coins.specs.Coins.{Coins, same}
 use Rattle.coins.specs.laws.Lookups.{total_order, same-true, same-self, same-sym, found}
-use Rattle.undo.specs.Effect.{without, with_coins, AreCoins, AreNew}
+use Rattle.undo.specs.Effect.{without, with_coins}
+use Rattle.undo.specs.inside.Reverting.{AreCoins, AreNew}
 
 gone : (a b : Bool) (o : Option Coin) → cond b None (cond a None o) ≡ cond (a || b) None o
 gone true true o = refl

@@ -14,7 +14,8 @@ use Rattle.script.specs.Kinds.{is_unspendable}
 use Rattle.coins.specs.declared.coin.Coin.{Coin}
 use Rattle.coins.specs.Coins.{Coins, same}
 use Rattle.coins.specs.laws.Lookups.{same_coins, same-true, same-self, same-sym, found}
-use Rattle.undo.specs.Effect.{spends, place, spendable, coin_of, makes, without, with_coins, after, coins_at, spent, reverted, IsApplicable, IsApplied, IsRevertible, AreCoins, AreNew}
+use Rattle.undo.specs.Effect.{spends, place, spendable, coin_of, makes, without, with_coins, after, coins_at, spent, IsApplicable, IsApplied}
+use Rattle.undo.specs.inside.Reverting.{reverted, IsRevertible, AreCoins, AreNew}
 use Rattle.undo.specs.laws.Effects.{get-without, get-with_coins, all_from, all_at, found_key}
 
 -- ---- the outpoints of outputs

@@ -140,9 +140,6 @@ record Long (lead w least : ℕ) : Type 0 where
   shorter : (x : ℕ) → x < least → length (compact x) < w + 1
   longest : (x : ℕ) → length (compact x) < w + 1 → x < 256 ^ w → x < least
 
-compact_length : (x lead w least past : ℕ) → OfSize x lead w least past → length (compact x) ≡ w + 1
-compact_length x lead w least past s = form_length lead x w (compact x) s.is
-
 shorter3 : (x : ℕ) → x < 253 → length (compact x) < 3
 shorter3 x lt = rw (compact1 x lt) (omega arith)
 

@@ -2,7 +2,7 @@
 use Rattle.std.proofs.Common.{Bool, true, false, Result, Ok, Err, ◌≡◌, ℕ, List, [], ◌++◌, length, take, refl, sym, ◌∙◌, ap, append_assoc}
 use Rattle.std.specs.Prelude.{if◌then◌else◌, OnOk, OnErr}
 use Rattle.std.proofs.lemmas.List.{append-nil, take_at}
-use Rattle.wire.specs.Writing.{Extends}
+use Rattle.wire.specs.inside.Writing.{Extends}
 
 pub extends-same : (old new : List ℕ) → new ≡ old → Extends old new
 unfolding Extends

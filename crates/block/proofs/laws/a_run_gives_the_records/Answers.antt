@@ -2,4 +2,4 @@ use Rattle.block.proofs.OneReading.{run_splits}
 use Rattle.block.proofs.laws.a_run_gives_the_records.Goals as goal
 
 pub returns : goal.returns
-returns c = run_splits
+returns c = λ file blocks rest. run_splits file rest blocks

@@ -2,4 +2,4 @@ use Rattle.block.proofs.OneReading.{one_split}
 use Rattle.block.proofs.laws.one_split.Goals as goal
 
 pub returns : goal.returns
-returns c = one_split
+returns c = λ file blocks rest others last. one_split file blocks others rest last

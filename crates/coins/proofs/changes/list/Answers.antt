@@ -2,7 +2,8 @@ use Rattle.std.proofs.Common.{◌≡◌, [], ◌∷◌, ◌++◌, Option, MatchO
 use Rattle.std.specs.FinMap as map
 use Rattle.coins.specs.Coins.{Coin}
 use Rattle.coins.specs.Entries.{Entries, stands}
-use Rattle.coins.specs.Changes.{Changes, Lists}
+use Rattle.coins.specs.Changes.{Changes}
+use Rattle.coins.specs.inside.Changes.{Lists}
 use Rattle.coins.proofs.Listing.{MarksOf, marks-sound, lists_none, lists_skip, lists_push}
 use Rattle.coins.proofs.changes.list.Goals as goal
 

@@ -1,5 +1,6 @@
 use Rattle.std.proofs.Common.{◌++◌}
-use Rattle.coins.specs.Changes.{Changes, Lists}
+use Rattle.coins.specs.Changes.{Changes}
+use Rattle.coins.specs.inside.Changes.{Lists}
 use Rattle.coins.proofs.Listing.{MarksOf}
 use Rattle.coins.proofs.changes.list.Given as goal
 

@@ -6,7 +6,8 @@ use Rattle.std.proofs.lemmas.Map.Keys.{IsDistinct-from_sorted}
 use Rattle.txn.specs.declared.outpoint.OutPoint.{OutPoint}
 use Rattle.coins.specs.declared.entry.CacheEntry.{CacheEntry}
 use Rattle.coins.specs.Coins.{same, outpoint_cmp}
-use Rattle.coins.specs.Entries.{Entries, HasRoom, entry_at, merged_at}
+use Rattle.coins.specs.Entries.{Entries, entry_at}
+use Rattle.coins.specs.inside.Entries.{HasRoom, merged_at}
 use Rattle.coins.proofs.Merging.{lay_room, lay_rest, lay_step}
 use Rattle.coins.proofs.entry.lay_all.Goals as goal
 

@@ -3,7 +3,8 @@ use Rattle.std.specs.Map.{keys_of}
 use Rattle.std.specs.List.{IsDistinct}
 use Rattle.txn.specs.declared.outpoint.OutPoint.{OutPoint}
 use Rattle.coins.specs.Coins.{same}
-use Rattle.coins.specs.Entries.{HasRoom, entry_at, merged_at}
+use Rattle.coins.specs.Entries.{entry_at}
+use Rattle.coins.specs.inside.Entries.{HasRoom, merged_at}
 use Rattle.coins.proofs.entry.lay_all.Given as goal
 
 abbrev pub invariant-loop-at : goal.invariant-loop-at

@@ -1,6 +1,7 @@
 use Rattle.std.proofs.Common.{subst, sym}
 use Rattle.coins.specs.declared.entry.CacheEntry.{CacheEntry}
-use Rattle.coins.specs.Entries.{Written, entry_at, merged}
+use Rattle.coins.specs.Entries.{entry_at}
+use Rattle.coins.specs.inside.Entries.{Written, merged}
 use Rattle.coins.proofs.Merging.{written_same}
 use Rattle.coins.proofs.entry.lay_one.Goals as goal
 

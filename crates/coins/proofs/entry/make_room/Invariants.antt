@@ -1,5 +1,6 @@
 use Rattle.std.proofs.Common.{◌≡◌, ◌++◌}
-use Rattle.coins.specs.Entries.{Entries, AreReadied, HasRoom}
+use Rattle.coins.specs.Entries.{Entries}
+use Rattle.coins.specs.inside.Entries.{AreReadied, HasRoom}
 use Rattle.coins.proofs.entry.make_room.Given as goal
 
 abbrev pub invariant-loop-at : goal.invariant-loop-at

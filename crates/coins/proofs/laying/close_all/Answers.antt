@@ -2,7 +2,7 @@ use Rattle.std.proofs.Common.{◌+◌, List, [], take, get_or, sym, subst, arith
 use Rattle.std.specs.FinMap as map
 use Rattle.txn.specs.declared.outpoint.OutPoint.{OutPoint}
 use Rattle.coins.specs.Coins.{Coins}
-use Rattle.coins.specs.Changes.{Opened}
+use Rattle.coins.specs.inside.Changes.{Opened}
 use Rattle.coins.proofs.Rooms.{opened_more}
 use Rattle.std.proofs.lemmas.List.{take_more}
 use Rattle.coins.proofs.laying.close_all.Goals as goal

@@ -1,5 +1,5 @@
 use Rattle.std.proofs.Common.{take}
-use Rattle.coins.specs.Changes.{Opened}
+use Rattle.coins.specs.inside.Changes.{Opened}
 use Rattle.coins.proofs.laying.close_all.Given as goal
 
 abbrev pub invariant-loop-at : goal.invariant-loop-at

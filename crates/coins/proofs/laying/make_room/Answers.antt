@@ -3,7 +3,8 @@ use Rattle.std.specs.Prelude.{is_some}
 use Rattle.std.proofs.lemmas.List.{take_more}
 use Rattle.txn.specs.declared.outpoint.OutPoint.{OutPoint}
 use Rattle.coins.specs.Coins.{Coin}
-use Rattle.coins.specs.Changes.{Changes, named, Opened, HasRoomFor}
+use Rattle.coins.specs.Changes.{Changes, named}
+use Rattle.coins.specs.inside.Changes.{Opened, HasRoomFor}
 use Rattle.coins.proofs.Layers.{on_not_err}
 use Rattle.coins.proofs.Rooms.{opened_back, room_more, named_at, named_more}
 use Rattle.coins.proofs.laying.make_room.Goals as goal

@@ -3,7 +3,7 @@ use Rattle.std.specs.FinMap as map
 use Rattle.std.specs.Prelude.{is_some}
 use Rattle.txn.specs.declared.outpoint.OutPoint.{OutPoint}
 use Rattle.coins.specs.Coins.{Coins}
-use Rattle.coins.specs.Changes.{Opened}
+use Rattle.coins.specs.inside.Changes.{Opened}
 use Rattle.coins.proofs.Rooms.{opened_push, opened_put, insert_keeps, insert_there, none_from}
 use Rattle.coins.proofs.laying.open.Goals as goal
 

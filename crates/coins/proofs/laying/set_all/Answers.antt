@@ -4,7 +4,8 @@ use Rattle.std.specs.List.{IsDistinct}
 use Rattle.std.specs.Vec.Iter.{into_iter_items}
 use Rattle.std.proofs.lemmas.Map.Keys.{IsDistinct-from_sorted}
 use Rattle.coins.specs.Coins.{Coins, outpoint_cmp, same}
-use Rattle.coins.specs.Changes.{Changes, laid, HasRoomFor}
+use Rattle.coins.specs.Changes.{Changes, laid}
+use Rattle.coins.specs.inside.Changes.{HasRoomFor}
 use Rattle.coins.proofs.Rooms.{laid_first, laid_nothing, rest_distinct, room_rest, room_here, no_length}
 use Rattle.coins.proofs.laying.set_all.Goals as goal
 

@@ -2,7 +2,7 @@ use Rattle.std.proofs.Common.{◌≡◌, ◌+◌, Bor, List, drop, ap, ◌+ℤ�
 use Rattle.std.proofs.lemmas.Int.{ints}
 use Rattle.coins.specs.declared.coin.Coin.{Coin}
 use Rattle.coins.specs.Total.{sum_of_values}
-use Rattle.connect.specs.Inside.{coins_of}
+use Rattle.connect.specs.inside.Turns.{coins_of}
 use Rattle.connect.proofs.Steps.{drop_item}
 use Rattle.connect.proofs.amounts.worth.Goals as goal
 

@@ -1,6 +1,6 @@
 use Rattle.std.proofs.Common.{◌≡◌, ◌*◌, drop, pos, neg_ℤ, ◌≤ℤ◌, ◌+ℤ◌}
 use Rattle.coins.specs.Total.{sum_of_values}
-use Rattle.connect.specs.Inside.{coins_of}
+use Rattle.connect.specs.inside.Turns.{coins_of}
 use Rattle.connect.proofs.amounts.worth.Given as goal
 
 abbrev pub invariant-loop-coin : goal.invariant-loop-coin

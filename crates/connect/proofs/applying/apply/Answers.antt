@@ -6,7 +6,7 @@ use Rattle.coins.specs.Coins.{Coins, Layer}
 use Rattle.connect.specs.Setting.{Setting}
 use Rattle.connect.specs.Turns.{effect, undo_of}
 use Rattle.connect.specs.Connecting.{IsConnected}
-use Rattle.connect.specs.Inside.{IsBlockApplied}
+use Rattle.connect.specs.inside.Applied.{IsBlockApplied}
 use Rattle.connect.specs.laws.Applying.{block_applied}
 use Rattle.connect.proofs.applying.apply.Goals as goal
 
@@ -15,8 +15,8 @@ applied_again : (h : ℕ) (m : Coins) (b : Block) (txs : List Tx) → txs ≡ b.
 applied_again h m b txs e s n taken high connected =
     subst (λ (k : ℕ). IsBlockApplied k m txs n taken) high (subst (λ (l : List Tx). IsBlockApplied s.height m l n taken) (sym e) (block_applied s m b n taken connected))
 
-pub done-requires-clause-applied : goal.done-requires-clause-applied
-done-requires-clause-applied g c =
+pub undo_and_writes-requires-clause-applied : goal.undo_and_writes-requires-clause-applied
+undo_and_writes-requires-clause-applied g c =
     let p = c.requires.connected in
     (p.1, p.2, applied_again c.args.height c.args.cache.now.coins c.args.block.now c.as_slice.result.now c.as_slice.ensures p.0 p.1 p.2 p.3 p.4)
 

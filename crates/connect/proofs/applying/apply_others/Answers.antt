@@ -8,7 +8,7 @@ use Rattle.connect.proofs.applying.apply_others.Goals as goal
 pub loop-index-init : goal.loop-index-init
 loop-index-init g c = record {
   base = search rules;
-  going = λ n taken a. subst (λ (l : List (List Coin)). Going c.args.height c.args.layer.now.coins c.args.txs.now n taken l) (sym c.new-undo.ensures) (going_first c.args.height c.args.layer.now.coins c.args.txs.now n taken a);
+  going = λ n taken a. subst (λ (l : List (List Coin)). Going c.args.height c.args.layer.coins c.args.txs.now n taken l) (sym c.new-undo.ensures) (going_first c.args.height c.args.layer.coins c.args.txs.now n taken a);
 }
 
 pub apply_in_layer-requires : goal.apply_in_layer-requires
@@ -19,19 +19,19 @@ apply_in_layer-requires g c =
 
 pub loop-index-preserved : goal.loop-index-preserved
 loop-index-preserved g c = record {
-  base = c.in_ok-spent.ensures.base ∙ c.loop-index.invariant.base;
+  base = ap (λ (l : Layer). l.base) c.in_ok-left.ensures.layer ∙ c.loop-index.invariant.base;
   going = λ n taken a.
       goes_on c.args.height c.loop-index.layer.coins c.args.txs.now c.args.ids.now c.requires.ids c.loop-index.index c.index-txs-index.result _ (omega arith) c.index-txs-index.is n taken c.loop-index.undo
-      (c.loop-index.invariant.going n taken a) c.apply_in_layer.new.layer.coins c.push.new.self c.in_ok-spent.spent
-      (ap (λ (l : Layer). l.coins) c.in_ok-spent.ensures.ok) c.in_ok-spent.ensures.spent c.in_ok-push.ensures.ok;
+      (c.loop-index.invariant.going n taken a) c.in_ok-left.left.coins c.push.new.self c.in_ok-left.spent
+      (ap (λ (l : Layer). l.coins) c.in_ok-left.ensures.layer) c.in_ok-left.ensures.spent c.in_ok-push.ensures.ok;
 }
 
 pub returns-clause-undo : goal.returns-clause-undo
 returns-clause-undo g c = λ n taken a.
     (gone c.args.height c.loop-index.layer.coins (drop c.loop-index.index c.args.txs.now) n taken c.loop-index.undo (drop_of_length-le c.args.txs.now (omega arith)) (c.loop-index.invariant.going n taken a)).1
 
-pub returns-clause-ok : goal.returns-clause-ok
-returns-clause-ok g c = λ n taken a.
+pub returns-clause-layer : goal.returns-clause-layer
+returns-clause-layer g c = λ n taken a.
     let coins = (gone c.args.height c.loop-index.layer.coins (drop c.loop-index.index c.args.txs.now) n taken c.loop-index.undo (drop_of_length-le c.args.txs.now (omega arith)) (c.loop-index.invariant.going n taken a)).0 in
     let base = c.loop-index.invariant.base in
     λ i. record { base = base i; coins = coins i }

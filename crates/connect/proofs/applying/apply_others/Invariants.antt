@@ -1,7 +1,7 @@
 use Rattle.std.proofs.Common.{◌≡◌, List, drop}
 use Rattle.coins.specs.declared.coin.Coin.{Coin}
 use Rattle.coins.specs.Coins.{Coins}
-use Rattle.connect.specs.Inside.{AreApplied}
+use Rattle.connect.specs.inside.Applied.{AreApplied}
 use Rattle.connect.proofs.Again.{Going}
 use Rattle.connect.proofs.applying.apply_others.Given as goal
 

@@ -1,7 +1,7 @@
 use Rattle.std.proofs.Common.{◌≤◌, List, length, sym, subst}
 use Rattle.std.specs.List.{AllByRecursion}
 use Rattle.txn.specs.declared.tx.Tx.{Tx}
-use Rattle.connect.specs.Inside.{IsLawful}
+use Rattle.connect.specs.inside.Turns.{IsLawful}
 use Rattle.connect.specs.laws.Alone.{lawful_block}
 use Rattle.connect.proofs.connecting.attempt.Goals as goal
 

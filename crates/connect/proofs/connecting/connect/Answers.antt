@@ -7,7 +7,7 @@ use Rattle.rules.specs.declared.in_force.InForce.{InForce}
 use Rattle.connect.specs.Setting.{setting}
 use Rattle.connect.specs.Turns.{undo_of}
 use Rattle.connect.specs.Scripts.{Check, flags_of, script_checks, IsFirstRefused}
-use Rattle.connect.specs.Inside.{listed}
+use Rattle.connect.specs.inside.Listing.{checks_from}
 use Rattle.connect.specs.laws.Alone.{lawful_block}
 use Rattle.connect.proofs.Steps.{tail_of}
 use Rattle.connect.proofs.Whole.{Fits, lawful_coinbase_first, block_fits, block_few, block_checks, fault_is}
@@ -56,12 +56,12 @@ returns-in-Some-clause-fault g c =
     let others : take (length slice - 1) (drop 1 slice) ≡ drop 1 txs = tail_of slice ∙ ap (drop 1) c.as_slice.ensures in
     let undo : c.in-Ok.undo ≡ undo_of s.height m txs = c.in-Ok.ensures.undo in
     let triples = c.args.env.now.table.now in
-    let checks : listed (flags_of c.at-rules.result) 1 (take (length slice - 1) (drop 1 slice)) c.in-Ok.undo ≡ script_checks s m txs =
-    ap (λ (r : InForce). listed (flags_of r) 1 (take (length slice - 1) (drop 1 slice)) c.in-Ok.undo) c.at-rules.ensures
-    ∙ ap₂ (λ (l : List Tx) (k : List (List Coin)). listed (flags_of s.rules) 1 l k) others undo
+    let checks : checks_from (flags_of c.at-rules.result) 1 (take (length slice - 1) (drop 1 slice)) c.in-Ok.undo ≡ script_checks s m txs =
+    ap (λ (r : InForce). checks_from (flags_of r) 1 (take (length slice - 1) (drop 1 slice)) c.in-Ok.undo) c.at-rules.ensures
+    ∙ ap₂ (λ (l : List Tx) (k : List (List Coin)). checks_from (flags_of s.rules) 1 l k) others undo
     ∙ block_checks s m txs coinbase in
-    let refused : IsFirstRefused triples (listed (flags_of c.at-rules.result) 1 (take (length slice - 1) (drop 1 slice)) c.in-Ok.undo) (Some c.in-Some.reason) =
-    subst (λ o. IsFirstRefused triples (listed (flags_of c.at-rules.result) 1 (take (length slice - 1) (drop 1 slice)) c.in-Ok.undo) o) c.in-Some.is c.in_ok-reason-in-Ok.ensures in
+    let refused : IsFirstRefused triples (checks_from (flags_of c.at-rules.result) 1 (take (length slice - 1) (drop 1 slice)) c.in-Ok.undo) (Some c.in-Some.reason) =
+    subst (λ o. IsFirstRefused triples (checks_from (flags_of c.at-rules.result) 1 (take (length slice - 1) (drop 1 slice)) c.in-Ok.undo) o) c.in-Some.is c.in_ok-reason-in-Ok.ensures in
     fault_is s m txs triples (Some c.in-Some.reason) c.in-Ok.ensures.none (subst (λ (l : List Check). IsFirstRefused triples l (Some c.in-Some.reason)) checks refused)
 
 pub returns-in_ok-absorb-in-Ok-clause-fault : goal.returns-in_ok-absorb-in-Ok-clause-fault
@@ -75,12 +75,12 @@ returns-in_ok-absorb-in-Ok-clause-fault g c =
     let others : take (length slice - 1) (drop 1 slice) ≡ drop 1 txs = tail_of slice ∙ ap (drop 1) c.as_slice.ensures in
     let undo : c.in-Ok.undo ≡ undo_of s.height m txs = c.in-Ok.ensures.undo in
     let triples = c.args.env.now.table.now in
-    let checks : listed (flags_of c.at-rules.result) 1 (take (length slice - 1) (drop 1 slice)) c.in-Ok.undo ≡ script_checks s m txs =
-    ap (λ (r : InForce). listed (flags_of r) 1 (take (length slice - 1) (drop 1 slice)) c.in-Ok.undo) c.at-rules.ensures
-    ∙ ap₂ (λ (l : List Tx) (k : List (List Coin)). listed (flags_of s.rules) 1 l k) others undo
+    let checks : checks_from (flags_of c.at-rules.result) 1 (take (length slice - 1) (drop 1 slice)) c.in-Ok.undo ≡ script_checks s m txs =
+    ap (λ (r : InForce). checks_from (flags_of r) 1 (take (length slice - 1) (drop 1 slice)) c.in-Ok.undo) c.at-rules.ensures
+    ∙ ap₂ (λ (l : List Tx) (k : List (List Coin)). checks_from (flags_of s.rules) 1 l k) others undo
     ∙ block_checks s m txs coinbase in
-    let refused : IsFirstRefused triples (listed (flags_of c.at-rules.result) 1 (take (length slice - 1) (drop 1 slice)) c.in-Ok.undo) None =
-    subst (λ o. IsFirstRefused triples (listed (flags_of c.at-rules.result) 1 (take (length slice - 1) (drop 1 slice)) c.in-Ok.undo) o) c.in_default.is c.in_ok-reason-in-Ok.ensures in
+    let refused : IsFirstRefused triples (checks_from (flags_of c.at-rules.result) 1 (take (length slice - 1) (drop 1 slice)) c.in-Ok.undo) None =
+    subst (λ o. IsFirstRefused triples (checks_from (flags_of c.at-rules.result) 1 (take (length slice - 1) (drop 1 slice)) c.in-Ok.undo) o) c.in_default.is c.in_ok-reason-in-Ok.ensures in
     fault_is s m txs triples None c.in-Ok.ensures.none (subst (λ (l : List Check). IsFirstRefused triples l None) checks refused)
 
 pub returns-in_ok-absorb-in-Ok-clause-connected : goal.returns-in_ok-absorb-in-Ok-clause-connected

@@ -11,13 +11,13 @@ use Rattle.coins.specs.Coins.{Coins, Layer}
 use Rattle.connect.specs.Setting.{setting}
 use Rattle.connect.specs.Turns.{Turn, turn, turns, effect, spent_in, left_by, full_count}
 use Rattle.connect.specs.Faults.{fee, turn_rules}
-use Rattle.connect.specs.Inside.{IsLawful, IsReason}
+use Rattle.connect.specs.inside.Turns.{IsLawful, IsReason}
 use Rattle.connect.proofs.Steps.{drop_item, drop_of_length-le}
 use Rattle.connect.proofs.Blocks.{turns_none, turns_next, effect_none, effect_next, past, still_first}
 use Rattle.connect.proofs.connecting.connect_others.Goals as goal
 
-pub returns-in_err-spent-clause-fault : goal.returns-in_err-spent-clause-fault
-returns-in_err-spent-clause-fault g c =
+pub returns-in_err-turned-clause-fault : goal.returns-in_err-turned-clause-fault
+returns-in_err-turned-clause-fault g c =
     let s = setting c.args.context.now in
     let h = s.height in
     let m = c.loop-index.layer.coins in
@@ -29,11 +29,18 @@ returns-in_err-spent-clause-fault g c =
     let t = turn x m n in
     let item = drop_item xs i x (omega arith) c.index-txs-index.is in
     let after = flat_map (turn_rules s) (turns h (left_by h t) (full_count t) rest) in
-    let first : IsReason (first_broken (turn_rules s t)) c.in_err-spent.field-0.0 = c.in_err-spent.ensures.fault in
-    let whole : first_broken (turn_rules s t ++ after) ≡ first_broken (flat_map (turn_rules s) (turns h c.args.layer.now.coins c.args.counted xs)) =
+    let first : IsReason (first_broken (turn_rules s t)) c.in_err-turned.field-0.0 = c.in_err-turned.ensures.fault in
+    let whole : first_broken (turn_rules s t ++ after) ≡ first_broken (flat_map (turn_rules s) (turns h c.args.layer.coins c.args.counted xs)) =
     sym (ap (λ (l : List Tx). first_broken (flat_map (turn_rules s) (turns h m n l))) item ∙ ap (λ l. first_broken (flat_map (turn_rules s) l)) (turns_next h m n x rest)) ∙ c.loop-index.invariant.rules in
-    let reason = subst (λ o. IsReason o c.in_err-spent.field-0.0) whole (still_first (turn_rules s t) after c.in_err-spent.field-0.0 first) in
+    let reason = subst (λ o. IsReason o c.in_err-turned.field-0.0) whole (still_first (turn_rules s t) after c.in_err-turned.field-0.0 first) in
     search rules
+
+pub overflow_add-fees : goal.overflow_add-fees
+overflow_add-fees g c =
+    let done = c.in_ok-turned.ensures in
+    let few = c.requires.few in
+    let before = c.loop-index.invariant in
+    omega (arith, ints, done.low, done.high, before.low, before.high, few)
 
 pub loop-index-preserved : goal.loop-index-preserved
 loop-index-preserved g c =
@@ -47,22 +54,22 @@ loop-index-preserved g c =
     let rest = drop (i + 1) xs in
     let t = turn x m n in
     let item = drop_item xs i x (omega arith) c.index-txs-index.is in
-    let done = c.in_ok-spent.ensures in
-    let new = c.connect_tx.new.layer in
-    let k = c.in_ok-spent.passed.counted in
-    let now : new.coins ≡ left_by h t = ap (λ (l : Layer). l.coins) done.coins in
+    let done = c.in_ok-turned.ensures in
+    let new = c.in_ok-turned.turned.layer in
+    let k = c.in_ok-turned.turned.passed.counted in
+    let now : new.coins ≡ left_by h t = ap (λ (l : Layer). l.coins) done.layer in
     let later = turns h new.coins k rest in
     let turns_here : turns h m n (drop i xs) ≡ t ∷ later =
     ap (turns h m n) item ∙ turns_next h m n x rest ∙ ap₂ (λ (l : Coins) j. t ∷ turns h l j rest) (sym now) (sym done.counted) in
-    let push : c.push.new.self ≡ c.loop-index.undo ++ c.in_ok-spent.spent ∷ [] = c.in_ok-push.ensures.ok in
+    let push : c.push.new.self ≡ c.loop-index.undo ++ c.in_ok-turned.turned.spent ∷ [] = c.in_ok-push.ensures.ok in
     let undo : c.push.new.self ++ map spent_in later ≡ c.loop-index.undo ++ map spent_in (turns h m n (drop i xs)) =
     ap (λ (l : List (List Coin)). l ++ map spent_in later) push
-    ∙ append_assoc c.loop-index.undo (c.in_ok-spent.spent ∷ []) (map spent_in later)
+    ∙ append_assoc c.loop-index.undo (c.in_ok-turned.turned.spent ∷ []) (map spent_in later)
     ∙ ap (λ (l : List Coin). c.loop-index.undo ++ (l ∷ map spent_in later)) done.spent
     ∙ sym (ap (λ (l : List Turn). c.loop-index.undo ++ map spent_in l) turns_here) in
-    let sum : to_z w128 (of_z w128 (to_z w128 c.loop-index.fees-bits +ℤ to_z w128 (of_z w128 c.in_ok-spent.passed.fee))) ≡ to_z w128 c.loop-index.fees-bits +ℤ fee t = omega (arith, ints, done.fee, done.low, done.high) in
+    let sum : to_z w128 (of_z w128 (to_z w128 c.loop-index.fees-bits +ℤ to_z w128 (of_z w128 c.in_ok-turned.turned.passed.fee))) ≡ to_z w128 c.loop-index.fees-bits +ℤ fee t = omega (arith, ints, done.fee, done.low, done.high) in
     record {
-      base = ap (λ (l : Layer). l.base) done.coins ∙ c.loop-index.invariant.base;
+      base = ap (λ (l : Layer). l.base) done.layer ∙ c.loop-index.invariant.base;
       lawful = (subst (λ (l : List Tx). AllByRecursion IsLawful l) item c.loop-index.invariant.lawful).1;
       ids = ap (drop (i + 1)) c.requires.ids ∙ drop-map id_of (i + 1) xs;
       rules = sym (ap (λ (l : List Turn). first_broken (flat_map (turn_rules s) l)) turns_here ∙ past (turn_rules s t) (flat_map (turn_rules s) later) done.none) ∙ c.loop-index.invariant.rules;
@@ -104,8 +111,8 @@ returns-clause-fees g c =
     sym (ap (λ (l : List Tx). sum (turns h m n l)) (drop_of_length-le c.args.txs.now (omega arith)) ∙ ap sum (turns_none h m n))
     ∙ c.loop-index.invariant.fees
 
-pub returns-clause-coins : goal.returns-clause-coins
-returns-clause-coins g c =
+pub returns-clause-layer : goal.returns-clause-layer
+returns-clause-layer g c =
     let h = c.args.context.now.height in
     let m = c.loop-index.layer.coins in
     let coins = sym (ap (effect h m) (drop_of_length-le c.args.txs.now (omega arith)) ∙ effect_none h m) ∙ c.loop-index.invariant.after in

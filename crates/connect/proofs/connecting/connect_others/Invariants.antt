@@ -6,7 +6,7 @@ use Rattle.rules.specs.Alone.{max_block_sigops}
 use Rattle.connect.specs.Setting.{setting}
 use Rattle.connect.specs.Turns.{spent_in, turns, effect}
 use Rattle.connect.specs.Faults.{fee, fees, turn_rules}
-use Rattle.connect.specs.Inside.{IsLawful}
+use Rattle.connect.specs.inside.Turns.{IsLawful}
 use Rattle.connect.proofs.connecting.connect_others.Given as goal
 
 abbrev pub invariant-loop-index : goal.invariant-loop-index

@@ -12,7 +12,7 @@ use Rattle.coins.specs.Coins.{Coins, Layer}
 use Rattle.connect.specs.Setting.{setting}
 use Rattle.connect.specs.Turns.{Turn, turn, turns, effect, spent_in, undo_of, left_by}
 use Rattle.connect.specs.Faults.{overwrites, fees, reward_of, turn_rules, connect_rules}
-use Rattle.connect.specs.Inside.{IsReason}
+use Rattle.connect.specs.inside.Turns.{IsReason}
 use Rattle.connect.proofs.Steps.{drop_item, tail_of}
 use Rattle.connect.proofs.Blocks.{at_clash, at_turn, after_turns, each_is, later_is, later_turns, undo_is, effect_next, past, still_first}
 use Rattle.connect.proofs.connecting.connect_txs.Goals as goal
@@ -21,7 +21,7 @@ pub returns-then-is_overwriting-clause-fault : goal.returns-then-is_overwriting-
 returns-then-is_overwriting-clause-fault g c =
     let s = setting c.args.context.now in
     let h = s.height in
-    let m = c.args.layer.now.coins in
+    let m = c.args.layer.coins in
     let xs = c.args.txs.now in
     at_clash s m xs (sym c.is_overwriting.ensures ∙ c.if-is_overwriting.true)
 
@@ -29,7 +29,7 @@ pub returns-in_err-coinbase-clause-fault : goal.returns-in_err-coinbase-clause-f
 returns-in_err-coinbase-clause-fault g c =
     let s = setting c.args.context.now in
     let h = s.height in
-    let m = c.args.layer.now.coins in
+    let m = c.args.layer.coins in
     let xs = c.args.txs.now in
     let new : list_any (overwrites m) xs ≡ false = sym c.is_overwriting.ensures ∙ c.if-is_overwriting.false in
     let x = c.index-txs-0.result in
@@ -41,11 +41,11 @@ returns-in_err-coinbase-clause-fault g c =
     let reason : IsReason (first_broken (connect_rules s m xs)) why = at_turn s m xs why new (subst (λ l. IsReason (first_broken l) why) (sym each) (still_first (turn_rules s t) (flat_map (turn_rules s) (later_turns s m x rest)) why c.in_err-coinbase.ensures.fault)) in
     search rules
 
-pub returns-in_err-undo-clause-fault : goal.returns-in_err-undo-clause-fault
-returns-in_err-undo-clause-fault g c =
+pub returns-in_err-others-clause-fault : goal.returns-in_err-others-clause-fault
+returns-in_err-others-clause-fault g c =
     let s = setting c.args.context.now in
     let h = s.height in
-    let m = c.args.layer.now.coins in
+    let m = c.args.layer.coins in
     let xs = c.args.txs.now in
     let new : list_any (overwrites m) xs ≡ false = sym c.is_overwriting.ensures ∙ c.if-is_overwriting.false in
     let x = c.index-txs-0.result in
@@ -54,20 +54,20 @@ returns-in_err-undo-clause-fault g c =
     let parts : xs ≡ x ∷ rest = drop_item xs 0 x c.requires.some c.index-txs-0.is ∙ ap (λ (l : List Tx). x ∷ l) (sym (tail_of xs)) in
     let each : flat_map (turn_rules s) (turns h m 0 xs) ≡ turn_rules s t ++ flat_map (turn_rules s) (later_turns s m x rest) = ap (λ (l : List Tx). flat_map (turn_rules s) (turns h m 0 l)) parts ∙ each_is s m x rest in
     let done = c.in_ok-coinbase.ensures in
-    let left = c.connect_tx.new.layer in
-    let now : left.coins ≡ left_by h t = ap (λ (l : Layer). l.coins) done.coins in
-    let later : turns h left.coins c.in_ok-coinbase.coinbase.counted rest ≡ later_turns s m x rest = ap₂ (λ (l : Coins) k. turns h l k rest) now done.counted in
-    let each_later : first_broken (flat_map (turn_rules s) (turns h m 0 xs)) ≡ first_broken (flat_map (turn_rules s) (turns h left.coins c.in_ok-coinbase.coinbase.counted rest)) =
+    let left = c.in_ok-coinbase.coinbase.layer in
+    let now : left.coins ≡ left_by h t = ap (λ (l : Layer). l.coins) done.layer in
+    let later : turns h left.coins c.in_ok-coinbase.coinbase.passed.counted rest ≡ later_turns s m x rest = ap₂ (λ (l : Coins) k. turns h l k rest) now done.counted in
+    let each_later : first_broken (flat_map (turn_rules s) (turns h m 0 xs)) ≡ first_broken (flat_map (turn_rules s) (turns h left.coins c.in_ok-coinbase.coinbase.passed.counted rest)) =
     ap first_broken each ∙ past (turn_rules s t) (flat_map (turn_rules s) (later_turns s m x rest)) done.none ∙ ap (λ (l : List Turn). first_broken (flat_map (turn_rules s) l)) (sym later) in
-    let why = c.in_err-undo.field-0.0 in
-    let reason : IsReason (first_broken (connect_rules s m xs)) why = at_turn s m xs why new (subst (λ o. IsReason o why) (sym each_later) c.in_err-undo.ensures.fault) in
+    let why = c.in_err-others.field-0.0 in
+    let reason : IsReason (first_broken (connect_rules s m xs)) why = at_turn s m xs why new (subst (λ o. IsReason o why) (sym each_later) c.in_err-others.ensures.fault) in
     search rules
 
 pub returns-then-is_overpaid-clause-fault : goal.returns-then-is_overpaid-clause-fault
 returns-then-is_overpaid-clause-fault g c =
     let s = setting c.args.context.now in
     let h = s.height in
-    let m = c.args.layer.now.coins in
+    let m = c.args.layer.coins in
     let xs = c.args.txs.now in
     let new : list_any (overwrites m) xs ≡ false = sym c.is_overwriting.ensures ∙ c.if-is_overwriting.false in
     let x = c.index-txs-0.result in
@@ -76,15 +76,15 @@ returns-then-is_overpaid-clause-fault g c =
     let parts : xs ≡ x ∷ rest = drop_item xs 0 x c.requires.some c.index-txs-0.is ∙ ap (λ (l : List Tx). x ∷ l) (sym (tail_of xs)) in
     let each : flat_map (turn_rules s) (turns h m 0 xs) ≡ turn_rules s t ++ flat_map (turn_rules s) (later_turns s m x rest) = ap (λ (l : List Tx). flat_map (turn_rules s) (turns h m 0 l)) parts ∙ each_is s m x rest in
     let done = c.in_ok-coinbase.ensures in
-    let left = c.connect_tx.new.layer in
-    let now : left.coins ≡ left_by h t = ap (λ (l : Layer). l.coins) done.coins in
-    let later : turns h left.coins c.in_ok-coinbase.coinbase.counted rest ≡ later_turns s m x rest = ap₂ (λ (l : Coins) k. turns h l k rest) now done.counted in
-    let each_later : first_broken (flat_map (turn_rules s) (turns h m 0 xs)) ≡ first_broken (flat_map (turn_rules s) (turns h left.coins c.in_ok-coinbase.coinbase.counted rest)) =
+    let left = c.in_ok-coinbase.coinbase.layer in
+    let now : left.coins ≡ left_by h t = ap (λ (l : Layer). l.coins) done.layer in
+    let later : turns h left.coins c.in_ok-coinbase.coinbase.passed.counted rest ≡ later_turns s m x rest = ap₂ (λ (l : Coins) k. turns h l k rest) now done.counted in
+    let each_later : first_broken (flat_map (turn_rules s) (turns h m 0 xs)) ≡ first_broken (flat_map (turn_rules s) (turns h left.coins c.in_ok-coinbase.coinbase.passed.counted rest)) =
     ap first_broken each ∙ past (turn_rules s t) (flat_map (turn_rules s) (later_turns s m x rest)) done.none ∙ ap (λ (l : List Turn). first_broken (flat_map (turn_rules s) l)) (sym later) in
-    let all = c.in_ok-undo.ensures in
+    let all = c.in_ok-others.ensures in
     let paid : total c.as_slice.result.now ≡ reward_of xs = ap total c.as_slice.ensures ∙ search rules in
-    let taken : to_z w128 (of_z w128 c.in_ok-undo.fees) ≡ fees (drop 1 (turns h m 0 xs)) =
-    to_z-of_z w128 c.in_ok-undo.fees (search rules) ∙ all.fees ∙ ap fees (later ∙ sym (ap (λ (l : List Tx). drop 1 (turns h m 0 l)) parts ∙ later_is s m x rest)) in
+    let taken : to_z w128 (of_z w128 c.in_ok-others.others.fees) ≡ fees (drop 1 (turns h m 0 xs)) =
+    to_z-of_z w128 c.in_ok-others.others.fees (search rules) ∙ all.fees ∙ ap fees (later ∙ sym (ap (λ (l : List Tx). drop 1 (turns h m 0 l)) parts ∙ later_is s m x rest)) in
     let over : c.is_overpaid.result ≡ int_lt (pos (subsidy_of h) +ℤ fees (drop 1 (turns h m 0 xs))) (reward_of xs) =
     c.is_overpaid.ensures ∙ ap₂ (λ y z. int_lt (pos (subsidy_of h) +ℤ y) z) taken paid in
     let rules_are = after_turns s m xs new (each_later ∙ all.none) in
@@ -94,7 +94,7 @@ pub returns-clause-none : goal.returns-clause-none
 returns-clause-none g c =
     let s = setting c.args.context.now in
     let h = s.height in
-    let m = c.args.layer.now.coins in
+    let m = c.args.layer.coins in
     let xs = c.args.txs.now in
     let new : list_any (overwrites m) xs ≡ false = sym c.is_overwriting.ensures ∙ c.if-is_overwriting.false in
     let x = c.index-txs-0.result in
@@ -103,15 +103,15 @@ returns-clause-none g c =
     let parts : xs ≡ x ∷ rest = drop_item xs 0 x c.requires.some c.index-txs-0.is ∙ ap (λ (l : List Tx). x ∷ l) (sym (tail_of xs)) in
     let each : flat_map (turn_rules s) (turns h m 0 xs) ≡ turn_rules s t ++ flat_map (turn_rules s) (later_turns s m x rest) = ap (λ (l : List Tx). flat_map (turn_rules s) (turns h m 0 l)) parts ∙ each_is s m x rest in
     let done = c.in_ok-coinbase.ensures in
-    let left = c.connect_tx.new.layer in
-    let now : left.coins ≡ left_by h t = ap (λ (l : Layer). l.coins) done.coins in
-    let later : turns h left.coins c.in_ok-coinbase.coinbase.counted rest ≡ later_turns s m x rest = ap₂ (λ (l : Coins) k. turns h l k rest) now done.counted in
-    let each_later : first_broken (flat_map (turn_rules s) (turns h m 0 xs)) ≡ first_broken (flat_map (turn_rules s) (turns h left.coins c.in_ok-coinbase.coinbase.counted rest)) =
+    let left = c.in_ok-coinbase.coinbase.layer in
+    let now : left.coins ≡ left_by h t = ap (λ (l : Layer). l.coins) done.layer in
+    let later : turns h left.coins c.in_ok-coinbase.coinbase.passed.counted rest ≡ later_turns s m x rest = ap₂ (λ (l : Coins) k. turns h l k rest) now done.counted in
+    let each_later : first_broken (flat_map (turn_rules s) (turns h m 0 xs)) ≡ first_broken (flat_map (turn_rules s) (turns h left.coins c.in_ok-coinbase.coinbase.passed.counted rest)) =
     ap first_broken each ∙ past (turn_rules s t) (flat_map (turn_rules s) (later_turns s m x rest)) done.none ∙ ap (λ (l : List Turn). first_broken (flat_map (turn_rules s) l)) (sym later) in
-    let all = c.in_ok-undo.ensures in
+    let all = c.in_ok-others.ensures in
     let paid : total c.as_slice.result.now ≡ reward_of xs = ap total c.as_slice.ensures ∙ search rules in
-    let taken : to_z w128 (of_z w128 c.in_ok-undo.fees) ≡ fees (drop 1 (turns h m 0 xs)) =
-    to_z-of_z w128 c.in_ok-undo.fees (search rules) ∙ all.fees ∙ ap fees (later ∙ sym (ap (λ (l : List Tx). drop 1 (turns h m 0 l)) parts ∙ later_is s m x rest)) in
+    let taken : to_z w128 (of_z w128 c.in_ok-others.others.fees) ≡ fees (drop 1 (turns h m 0 xs)) =
+    to_z-of_z w128 c.in_ok-others.others.fees (search rules) ∙ all.fees ∙ ap fees (later ∙ sym (ap (λ (l : List Tx). drop 1 (turns h m 0 l)) parts ∙ later_is s m x rest)) in
     let over : c.is_overpaid.result ≡ int_lt (pos (subsidy_of h) +ℤ fees (drop 1 (turns h m 0 xs))) (reward_of xs) =
     c.is_overpaid.ensures ∙ ap₂ (λ y z. int_lt (pos (subsidy_of h) +ℤ y) z) taken paid in
     let rules_are = after_turns s m xs new (each_later ∙ all.none) in
@@ -121,7 +121,7 @@ pub returns-clause-undo : goal.returns-clause-undo
 returns-clause-undo g c =
     let s = setting c.args.context.now in
     let h = s.height in
-    let m = c.args.layer.now.coins in
+    let m = c.args.layer.coins in
     let xs = c.args.txs.now in
     let new : list_any (overwrites m) xs ≡ false = sym c.is_overwriting.ensures ∙ c.if-is_overwriting.false in
     let x = c.index-txs-0.result in
@@ -130,18 +130,18 @@ returns-clause-undo g c =
     let parts : xs ≡ x ∷ rest = drop_item xs 0 x c.requires.some c.index-txs-0.is ∙ ap (λ (l : List Tx). x ∷ l) (sym (tail_of xs)) in
     let each : flat_map (turn_rules s) (turns h m 0 xs) ≡ turn_rules s t ++ flat_map (turn_rules s) (later_turns s m x rest) = ap (λ (l : List Tx). flat_map (turn_rules s) (turns h m 0 l)) parts ∙ each_is s m x rest in
     let done = c.in_ok-coinbase.ensures in
-    let left = c.connect_tx.new.layer in
-    let now : left.coins ≡ left_by h t = ap (λ (l : Layer). l.coins) done.coins in
-    let later : turns h left.coins c.in_ok-coinbase.coinbase.counted rest ≡ later_turns s m x rest = ap₂ (λ (l : Coins) k. turns h l k rest) now done.counted in
-    let each_later : first_broken (flat_map (turn_rules s) (turns h m 0 xs)) ≡ first_broken (flat_map (turn_rules s) (turns h left.coins c.in_ok-coinbase.coinbase.counted rest)) =
+    let left = c.in_ok-coinbase.coinbase.layer in
+    let now : left.coins ≡ left_by h t = ap (λ (l : Layer). l.coins) done.layer in
+    let later : turns h left.coins c.in_ok-coinbase.coinbase.passed.counted rest ≡ later_turns s m x rest = ap₂ (λ (l : Coins) k. turns h l k rest) now done.counted in
+    let each_later : first_broken (flat_map (turn_rules s) (turns h m 0 xs)) ≡ first_broken (flat_map (turn_rules s) (turns h left.coins c.in_ok-coinbase.coinbase.passed.counted rest)) =
     ap first_broken each ∙ past (turn_rules s t) (flat_map (turn_rules s) (later_turns s m x rest)) done.none ∙ ap (λ (l : List Turn). first_broken (flat_map (turn_rules s) l)) (sym later) in
-    c.in_ok-undo.ensures.undo ∙ ap (map spent_in) later ∙ sym (ap (undo_of h m) parts ∙ undo_is s m x rest)
+    c.in_ok-others.ensures.undo ∙ ap (map spent_in) later ∙ sym (ap (undo_of h m) parts ∙ undo_is s m x rest)
 
-pub returns-clause-coins : goal.returns-clause-coins
-returns-clause-coins g c =
+pub returns-clause-layer : goal.returns-clause-layer
+returns-clause-layer g c =
     let s = setting c.args.context.now in
     let h = s.height in
-    let m = c.args.layer.now.coins in
+    let m = c.args.layer.coins in
     let xs = c.args.txs.now in
     let new : list_any (overwrites m) xs ≡ false = sym c.is_overwriting.ensures ∙ c.if-is_overwriting.false in
     let x = c.index-txs-0.result in
@@ -150,12 +150,12 @@ returns-clause-coins g c =
     let parts : xs ≡ x ∷ rest = drop_item xs 0 x c.requires.some c.index-txs-0.is ∙ ap (λ (l : List Tx). x ∷ l) (sym (tail_of xs)) in
     let each : flat_map (turn_rules s) (turns h m 0 xs) ≡ turn_rules s t ++ flat_map (turn_rules s) (later_turns s m x rest) = ap (λ (l : List Tx). flat_map (turn_rules s) (turns h m 0 l)) parts ∙ each_is s m x rest in
     let done = c.in_ok-coinbase.ensures in
-    let left = c.connect_tx.new.layer in
-    let now : left.coins ≡ left_by h t = ap (λ (l : Layer). l.coins) done.coins in
-    let later : turns h left.coins c.in_ok-coinbase.coinbase.counted rest ≡ later_turns s m x rest = ap₂ (λ (l : Coins) k. turns h l k rest) now done.counted in
-    let each_later : first_broken (flat_map (turn_rules s) (turns h m 0 xs)) ≡ first_broken (flat_map (turn_rules s) (turns h left.coins c.in_ok-coinbase.coinbase.counted rest)) =
+    let left = c.in_ok-coinbase.coinbase.layer in
+    let now : left.coins ≡ left_by h t = ap (λ (l : Layer). l.coins) done.layer in
+    let later : turns h left.coins c.in_ok-coinbase.coinbase.passed.counted rest ≡ later_turns s m x rest = ap₂ (λ (l : Coins) k. turns h l k rest) now done.counted in
+    let each_later : first_broken (flat_map (turn_rules s) (turns h m 0 xs)) ≡ first_broken (flat_map (turn_rules s) (turns h left.coins c.in_ok-coinbase.coinbase.passed.counted rest)) =
     ap first_broken each ∙ past (turn_rules s t) (flat_map (turn_rules s) (later_turns s m x rest)) done.none ∙ ap (λ (l : List Turn). first_broken (flat_map (turn_rules s) l)) (sym later) in
-    let ok = c.in_ok-undo.ensures.coins in
-    let base = ap (λ (l : Layer). l.base) ok ∙ ap (λ (l : Layer). l.base) done.coins in
+    let ok = c.in_ok-others.ensures.layer in
+    let base = ap (λ (l : Layer). l.base) ok ∙ ap (λ (l : Layer). l.base) done.layer in
     let coins = ap (λ (l : Layer). l.coins) ok ∙ ap (λ (l : Coins). effect h l rest) now ∙ sym (ap (effect h m) parts ∙ effect_next h m x rest) in
     λ i. record { base = base i; coins = coins i }

@@ -3,7 +3,7 @@ use Rattle.std.specs.List.{AllByRecursion, list_any, drop-map}
 use Rattle.txn.specs.declared.tx.Tx.{Tx}
 use Rattle.txn.specs.Identity.{id_of}
 use Rattle.connect.specs.Faults.{overwrites}
-use Rattle.connect.specs.Inside.{IsLawful}
+use Rattle.connect.specs.inside.Turns.{IsLawful}
 use Rattle.connect.proofs.Steps.{drop_item}
 use Rattle.connect.proofs.connecting.is_overwriting.Goals as goal
 

@@ -2,7 +2,7 @@ use Rattle.std.proofs.Common.{◌≡◌, drop}
 use Rattle.std.specs.List.{AllByRecursion, list_any}
 use Rattle.txn.specs.Identity.{ids_of}
 use Rattle.connect.specs.Faults.{overwrites}
-use Rattle.connect.specs.Inside.{IsLawful}
+use Rattle.connect.specs.inside.Turns.{IsLawful}
 use Rattle.connect.proofs.connecting.is_overwriting.Given as goal
 
 abbrev pub invariant-loop-index : goal.invariant-loop-index

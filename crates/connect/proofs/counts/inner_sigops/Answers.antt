@@ -7,7 +7,7 @@ use Rattle.txn.specs.declared.input.TxIn.{TxIn}
 use Rattle.coins.specs.declared.coin.Coin.{Coin}
 use Rattle.script.specs.Signatures.{p2sh_sigops}
 use Rattle.connect.specs.Turns.{inner_sigops}
-use Rattle.connect.specs.Inside.{coins_of}
+use Rattle.connect.specs.inside.Turns.{coins_of}
 use Rattle.connect.proofs.Steps.{take_item, zip_at, length-zip, map_at, item_of}
 use Rattle.connect.proofs.counts.inner_sigops.Goals as goal
 

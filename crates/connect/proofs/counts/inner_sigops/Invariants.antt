@@ -1,7 +1,7 @@
 use Rattle.std.proofs.Common.{◌≡◌, ◌-◌, ◌^◌, take, min, sum_by}
 use Rattle.std.specs.List.{zip}
 use Rattle.script.specs.Signatures.{p2sh_sigops}
-use Rattle.connect.specs.Inside.{coins_of}
+use Rattle.connect.specs.inside.Turns.{coins_of}
 use Rattle.connect.proofs.counts.inner_sigops.Given as goal
 
 abbrev pub invariant-loop-index : goal.invariant-loop-index

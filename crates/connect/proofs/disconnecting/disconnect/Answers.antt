@@ -1,13 +1,13 @@
 use Rattle.std.proofs.Common.{List, sym, ap, subst, ◌∙◌}
 use Rattle.txn.specs.declared.tx.Tx.{Tx}
 use Rattle.coins.specs.Coins.{Coins, Layer}
-use Rattle.connect.specs.Inside.{IsBlockApplied}
+use Rattle.connect.specs.inside.Applied.{IsBlockApplied}
 use Rattle.connect.specs.laws.Applying.{block_applied}
 use Rattle.connect.proofs.Back.{on_ok}
 use Rattle.connect.proofs.disconnecting.disconnect.Goals as goal
 
-pub undone-requires-clause-applied : goal.undone-requires-clause-applied
-undone-requires-clause-applied g c =
+pub writes_back-requires-clause-applied : goal.writes_back-requires-clause-applied
+writes_back-requires-clause-applied g c =
     let p = c.requires.connected in
     (p.0.height, p.1, subst (λ (l : List Tx). IsBlockApplied p.0.height p.1 l c.args.cache.now.coins c.args.undo.now) (sym c.as_slice.ensures) (block_applied p.0 p.1 c.args.block.now c.args.cache.now.coins c.args.undo.now p.2))
 

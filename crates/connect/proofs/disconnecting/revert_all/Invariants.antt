@@ -1,7 +1,7 @@
 use Rattle.std.proofs.Common.{◌≡◌, ℕ, ◌-◌, length, take}
 use Rattle.coins.specs.Coins.{Coins}
 use Rattle.connect.specs.Turns.{effect}
-use Rattle.connect.specs.Inside.{AreApplied}
+use Rattle.connect.specs.inside.Applied.{AreApplied}
 use Rattle.connect.proofs.disconnecting.revert_all.Given as goal
 
 abbrev pub invariant-loop-done : goal.invariant-loop-done

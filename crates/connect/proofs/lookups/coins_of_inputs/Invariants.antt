@@ -3,7 +3,7 @@ use Rattle.std.specs.List.{list_all}
 use Rattle.txn.specs.Check.{prevs}
 use Rattle.undo.specs.Effect.{coins_at}
 use Rattle.connect.specs.Faults.{has_coin}
-use Rattle.connect.specs.Inside.{coins_of}
+use Rattle.connect.specs.inside.Turns.{coins_of}
 use Rattle.connect.proofs.lookups.coins_of_inputs.Given as goal
 
 abbrev pub invariant-loop-input : goal.invariant-loop-input

@@ -5,7 +5,7 @@ use Rattle.std.proofs.lemmas.List.Elements.{All-push}
 use Rattle.interp.specs.declared.job.Job.{Job}
 use Rattle.queue.specs.Jobs.{HasInput, asked, question}
 use Rattle.connect.specs.Scripts.{Check, input_checks}
-use Rattle.connect.specs.Inside.{checks_in}
+use Rattle.connect.specs.inside.Listing.{checks_in}
 use Rattle.connect.proofs.Steps.{take_item}
 use Rattle.connect.proofs.Checks.{checks_push, input_push}
 use Rattle.connect.proofs.scripts.add.Goals as goal
@@ -29,9 +29,9 @@ loop-input-preserved c =
     record {
       even = ap length places ∙ length_push before.places.items place ∙ ap (λ n. n + 1) c.loop-input.invariant.even ∙ sym (ap length jobs ∙ length_push before.jobs.items job);
       inputs = subst (λ (l : List Job). All HasInput l) (sym jobs) (All-push HasInput before.jobs.items job c.loop-input.invariant.inputs (omega arith));
-      listed = ap₂ (λ (l : List ℕ) (k : List Job). zip l (map asked k)) places jobs
+      checks_from = ap₂ (λ (l : List ℕ) (k : List Job). zip l (map asked k)) places jobs
           ∙ checks_push before.places.items before.jobs.items place job c.loop-input.invariant.even
-          ∙ ap₂ (λ (l : List Check) y. l ++ y ∷ []) c.loop-input.invariant.listed check
+          ∙ ap₂ (λ (l : List Check) y. l ++ y ∷ []) c.loop-input.invariant.checks_from check
           ∙ append_assoc start (input_checks flags place tx (take i coins)) ((place, question tx (length (take i coins)) x.script flags) ∷ [])
           ∙ ap (λ (l : List Check). start ++ l) (sym (ap (input_checks flags place tx) (take_item coins i x (omega arith) c.index-coins-input.is) ∙ input_push flags place tx (take i coins) x));
       few = omega (arith, ap length jobs, length_push before.jobs.items job, c.loop-input.invariant.few);

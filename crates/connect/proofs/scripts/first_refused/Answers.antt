@@ -3,7 +3,7 @@ use Rattle.txn.specs.declared.reason.Reason.TheVariants.{ScriptRefused}
 use Rattle.interp.specs.declared.flags.Flags.{Flags}
 use Rattle.queue.specs.Jobs.{IsFirstFailure}
 use Rattle.connect.specs.Scripts.{Check, flags_of, IsFirstRefused}
-use Rattle.connect.specs.Inside.{listed, checks_in}
+use Rattle.connect.specs.inside.Listing.{checks_from, checks_in}
 use Rattle.connect.proofs.Checks.{none_refused, first_refused_is, below_of}
 use Rattle.connect.proofs.scripts.first_refused.Goals as goal
 
@@ -11,7 +11,7 @@ pub returns-in_default : goal.returns-in_default
 returns-in_default g c =
     let triples = c.args.env.now.table.now in
     let checks = c.in_ok-checks.checks in
-    let all : checks_in checks ≡ listed (flags_of c.args.rules) 1 c.args.txs.now c.args.undo.now = c.in_ok-checks.ensures.listed ∙ ap (λ (f : Flags). listed f 1 c.args.txs.now c.args.undo.now) c.flags_of.ensures in
+    let all : checks_in checks ≡ checks_from (flags_of c.args.rules) 1 c.args.txs.now c.args.undo.now = c.in_ok-checks.ensures.checks_from ∙ ap (λ (f : Flags). checks_from f 1 c.args.txs.now c.args.undo.now) c.flags_of.ensures in
     let none : IsFirstFailure triples checks.jobs.items None = search rules in
     subst (λ (l : List Check). IsFirstRefused triples l None) all (none_refused triples checks.places.items checks.jobs.items none)
 
@@ -34,7 +34,7 @@ returns g c =
     let triples = c.args.env.now.table.now in
     let checks = c.in_ok-checks.checks in
     let place = c.in-Some.place in
-    let all : checks_in checks ≡ listed (flags_of c.args.rules) 1 c.args.txs.now c.args.undo.now = c.in_ok-checks.ensures.listed ∙ ap (λ (f : Flags). listed f 1 c.args.txs.now c.args.undo.now) c.flags_of.ensures in
+    let all : checks_in checks ≡ checks_from (flags_of c.args.rules) 1 c.args.txs.now c.args.undo.now = c.in_ok-checks.ensures.checks_from ∙ ap (λ (f : Flags). checks_from f 1 c.args.txs.now c.args.undo.now) c.flags_of.ensures in
     let first : IsFirstFailure triples checks.jobs.items (Some place) = search rules in
     let below = below_of checks.jobs.items place first.0.0 first.0.1 in
     let even : length checks.places.items ≡ length checks.jobs.items = c.in_ok-checks.ensures.even in

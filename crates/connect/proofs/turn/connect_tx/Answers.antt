@@ -9,5 +9,5 @@ use Rattle.connect.proofs.turn.connect_tx.Goals as goal
 pub apply_in_layer-requires : goal.apply_in_layer-requires
 apply_in_layer-requires g c =
     let s = setting c.args.context.now in
-    let t = turn c.args.tx.now c.args.layer.now.coins c.args.counted in
-    subst (λ (id : Id). IsApplicable c.args.layer.now.coins c.args.tx.now id) (sym c.requires.id) (applies s t c.requires.lawful c.in_ok-passed.ensures.none)
+    let t = turn c.args.tx.now c.args.layer.coins c.args.counted in
+    subst (λ (id : Id). IsApplicable c.args.layer.coins c.args.tx.now id) (sym c.requires.id) (applies s t c.requires.lawful c.in_ok-passed.ensures.none)

@@ -10,7 +10,7 @@ use Rattle.coins.specs.declared.coin.Coin.{Coin}
 use Rattle.rules.specs.declared.in_force.InForce.{InForce}
 use Rattle.undo.specs.Effect.{spends}
 use Rattle.connect.specs.Faults.{lock_start}
-use Rattle.connect.specs.Inside.{coins_of}
+use Rattle.connect.specs.inside.Turns.{coins_of}
 use Rattle.connect.proofs.turn.is_locked.Goals.{then-is_coinbase-via-then-is_coinbase, then-is_coinbase-via-else-is_coinbase+then-not-at}
 use Rattle.connect.proofs.turn.is_locked.Goals as goal
 

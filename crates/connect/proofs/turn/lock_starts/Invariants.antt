@@ -1,6 +1,6 @@
 use Rattle.std.proofs.Common.{◌≡◌, map, take}
 use Rattle.connect.specs.Faults.{lock_start}
-use Rattle.connect.specs.Inside.{coins_of}
+use Rattle.connect.specs.inside.Turns.{coins_of}
 use Rattle.connect.proofs.turn.lock_starts.Given as goal
 
 abbrev pub invariant-loop-coin : goal.invariant-loop-coin

@@ -3,12 +3,12 @@ use Rattle.std.specs.List.{concat}
 use borrow.Author.Tests.{eqb-true}
 use Rattle.script.specs.Removal.{bytes_of}
 use Rattle.interp.specs.Spending.{spending_of}
-use Rattle.interp.specs.Signatures.{tried}
+use Rattle.interp.specs.computed.Signatures.{pairs_verdict}
 use Rattle.interp.proofs.Pairs.{none-there, pairs-short, pairs-unshaped, pairs-empty, spare-none, spare-found, some-there, later}
 use Rattle.interp.proofs.multisig.+try_pairs.Goals as goal
 
 pub returns-in_default : goal.returns-in_default
-unfolding tried
+unfolding pairs_verdict
 returns-in_default t c = rw (none-there c.args.signatures.now c.in_default.len_below) refl
 
 pub returns-then-keys-others : goal.returns-then-keys-others
@@ -31,6 +31,6 @@ returns-in_default-first_key t c =
 pub returns : goal.returns
 returns t c =
     c.try_pairs.ensures
-    ∙ ap (λ keys. tried (spending_of c.args.job.now.tx.now c.args.job.now.input c.args.job.now.flags c.args.table.now) (concat (bytes_of c.args.code.now)) (bytes_of (later c.args.signatures.now)) (bytes_of keys)) c.split_at-2.ensures.back
+    ∙ ap (λ keys. pairs_verdict (spending_of c.args.job.now.tx.now c.args.job.now.input c.args.job.now.flags c.args.table.now) (concat (bytes_of c.args.code.now)) (bytes_of (later c.args.signatures.now)) (bytes_of keys)) c.split_at-2.ensures.back
     ∙ sym (spare-found _ _ _ c.args.signatures.now c.args.keys.now _ _ _ c.in-len1-up.len_at_least c.if-keys-others.false (sym c.if-not-may_be_tried.ensures) (some-there _ c.if-is_empty.ensures) c.digest_for-digest.ensures
     c.split_at.ensures.front (sym c.first_key.ensures.value ∙ c.in-Some.is))

@@ -1,5 +1,5 @@
 use Rattle.std.proofs.Common.{◌*◌}
-use Rattle.lanes.specs.Level.{IsPairedUpTo}
+use Rattle.lanes.specs.inside.Level.{IsPairedUpTo}
 use Rattle.lanes.proofs.level.eight_by_eight.Given as goal
 
 abbrev pub invariant-loop-k : goal.invariant-loop-k

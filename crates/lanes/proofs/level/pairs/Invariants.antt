@@ -1,4 +1,4 @@
-use Rattle.lanes.specs.Level.{IsPairedUpTo}
+use Rattle.lanes.specs.inside.Level.{IsPairedUpTo}
 use Rattle.lanes.proofs.level.pairs.Given as goal
 
 abbrev pub invariant-loop-k : goal.invariant-loop-k

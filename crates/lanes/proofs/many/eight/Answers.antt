@@ -1,5 +1,5 @@
 use Rattle.std.proofs.Common.{arith}
-use Rattle.lanes.specs.Messages.{message_at}
+use Rattle.lanes.specs.inside.Messages.{message_at}
 use Rattle.lanes.proofs.InOrder.{eight_ids}
 use Rattle.lanes.proofs.many.eight.Goals as goal
 

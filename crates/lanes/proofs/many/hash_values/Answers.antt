@@ -1,8 +1,8 @@
 use Rattle.std.proofs.Common.{◌*◌, ℕ, List, inl, inr, sym, ap, ◌∙◌, arith}
 use Rattle.std.proofs.lemmas.Bool.{cases_lt}
 use Rattle.sha2.specs.Sha256.{compress, word_at}
-use Rattle.lanes.specs.Messages.{message_at}
-use Rattle.lanes.specs.Padded.{block, block_count}
+use Rattle.lanes.specs.inside.Messages.{message_at}
+use Rattle.lanes.specs.inside.Padded.{block, block_count}
 use Rattle.lanes.proofs.Padding.{all_blocks, no_more, none_yet, one_more}
 use Rattle.lanes.proofs.many.hash_values.Goals as goal
 

@@ -1,5 +1,5 @@
 use Rattle.std.proofs.Common.{arith, ◌≡◌, ◌*◌, refl, ◌∙◌, ap}
-use Rattle.lanes.specs.State.{lane}
+use Rattle.lanes.specs.inside.State.{lane}
 use Rattle.sha2.specs.Sha256.{add_state, compress, padding, rounds, schedule}
 use Rattle.lanes.proofs.rounds.after_padding.Goals as goal
 

@@ -10,5 +10,5 @@ returns c = λ l lt h at.
     let words = schedule (padding 64) 48 in
     let t = c.args.t in
     let fed = (everywhere (slice_index sums t)).at l lt ∙ sums-at t c.requires in
-    c.turned.ensures l lt (slice_index round_constants t) (slice_index words t) fed
+    c.turned.ensures l lt (slice_index words t) (slice_index round_constants t) fed
     ∙ ap (λ (v : List ℕ). round v (slice_index round_constants t) (slice_index words t)) at ∙ sym (rounds_next h words t)

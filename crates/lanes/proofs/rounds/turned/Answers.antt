@@ -4,7 +4,7 @@ use Rattle.sha2.specs.Sha256.{big_sigma0, big_sigma1, ch, maj, add32}
 use Rattle.lanes.proofs.rounds.turned.Goals as goal
 
 pub returns : goal.returns
-returns c = λ l lt k w fed.
+returns c = λ l lt w k fed.
     let at = λ (v : List ℕ). slice_index v l in
     let first = of_both add32 (of_both add32 (of_both add32 (itself c.args.h c.fits-h.0) c.upper_sigma1.ensures) c.choice.ensures)
     (itself c.args.fed c.fits-fed.0) in

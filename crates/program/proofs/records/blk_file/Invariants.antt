@@ -1,6 +1,6 @@
 use Rattle.std.proofs.Common.{◌≡◌, take}
 use Rattle.std.specs.List.{flat_map}
-use Rattle.program.specs.Saved.{record_of}
+use Rattle.program.specs.inside.Saved.{record_of}
 use Rattle.program.proofs.records.blk_file.Given as goal
 
 abbrev pub invariant-loop-entry : goal.invariant-loop-entry

@@ -3,7 +3,7 @@ use Rattle.std.specs.Prelude.{IfOk}
 use Rattle.std.proofs.lemmas.Result.{IfOk-weaker}
 use Rattle.atomic_table.specs.Table.{Me}
 use Rattle.queue.specs.declared.claims.Share.{Share}
-use Rattle.queue.specs.Report.{Reports}
+use Rattle.queue.specs.inside.Report.{Reports}
 use Rattle.queue.proofs.Moves.{splits, joins}
 use Rattle.queue.proofs.Work.{found-joined}
 use Rattle.queue.proofs.workers.+threads.Goals as goal

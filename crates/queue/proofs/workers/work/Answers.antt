@@ -1,7 +1,7 @@
 use Rattle.std.proofs.Common.{◌+◌, ◌<◌, sym, subst, arith}
 use mathlib.Core.Option.{none}
 use Rattle.atomic_table.specs.Table.{step}
-use Rattle.queue.specs.Claims.{misses}
+use Rattle.queue.specs.inside.Claims.{misses}
 use Rattle.queue.proofs.Moves.{claims}
 use Rattle.queue.proofs.Work.{Working, works-on, reports-end}
 use Rattle.queue.proofs.workers.work.Goals as goal

@@ -1,6 +1,6 @@
 use Rattle.std.proofs.Common.{◌∙◌, ap, ℕ, List}
 use Rattle.ripemd.specs.Block.{after_block, end_of_block}
-use Rattle.ripemd.specs.Inside.{lines_after}
+use Rattle.ripemd.specs.inside.Lines.{lines_after}
 use Rattle.ripemd.specs.declared.block.Lines.{Lines}
 use Rattle.ripemd.proofs.Steps.{lines_start}
 use Rattle.ripemd.proofs.block.absorb.Goals as goal

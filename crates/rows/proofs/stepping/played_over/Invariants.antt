@@ -1,5 +1,5 @@
 use Rattle.std.proofs.Common.{◌≡◌}
-use Rattle.activate.specs.Tracked.{Follows, coins_of}
+use Rattle.activate.specs.CoreState.{Follows, coins_of}
 use Rattle.rows.proofs.stepping.played_over.Given as goal
 
 abbrev pub invariant-loop-command : goal.invariant-loop-command

@@ -1,6 +1,6 @@
 use Rattle.std.proofs.Common.{rules, ◌≡◌, ◌+◌, List, ap, subst, sym, ◌∙◌, option_map}
 use Rattle.txn.specs.declared.tx.Tx.{Tx}
-use Rattle.scenario.specs.Making.{IsMade, IsSealed, coinbase_said, with_first, txs_of, unsealed}
+use Rattle.scenario.specs.inside.Making.{IsMade, IsSealed, coinbase_said, with_first, txs_of, unsealed}
 use Rattle.scenario.proofs.making.made.Goals as goal
 
 pub returns : goal.returns

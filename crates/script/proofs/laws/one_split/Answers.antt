@@ -9,4 +9,4 @@ pub returns-clause-cut : goal.returns-clause-cut
 returns-clause-cut c = rest-cut_short
 
 pub returns-clause-alone : goal.returns-clause-alone
-returns-clause-alone c = alone
+returns-clause-alone c = λ script list left. alone script left list

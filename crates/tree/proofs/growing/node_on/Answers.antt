@@ -5,7 +5,8 @@ use Rattle.tree.specs.declared.node.Node.{Node}
 use Rattle.tree.specs.Branches.{Blocks, height}
 use Rattle.tree.specs.MedianTime.{time_of, median_time_past}
 use Rattle.tree.specs.Names.{names}
-use Rattle.tree.specs.Nodes.{AreNodes, IsNode, blocks_of, kept_of}
+use Rattle.tree.specs.Nodes.{blocks_of, kept_of}
+use Rattle.tree.specs.inside.Nodes.{AreNodes, IsNode}
 use Rattle.tree.specs.laws.Branches.{parent_here, height_here}
 use Rattle.tree.specs.laws.Parents.{height-place}
 use Rattle.tree.specs.laws.Added.{block_here, id_here, blocks-new}

@@ -1,7 +1,8 @@
 use Rattle.std.proofs.Common.{◌≡◌, ℕ, ◌<◌, eqb, cond, List, length, get_or, sym, ap, ◌∙◌, subst, arith}
 use Rattle.tree.specs.declared.node.Node.{Node}
-use Rattle.tree.specs.Nodes.{AreNodes, IsNode, blocks_of}
-use Rattle.tree.specs.Slots.{AreInOrder, is_leaf, slots, slot_of, leaves_of}
+use Rattle.tree.specs.Nodes.{blocks_of}
+use Rattle.tree.specs.inside.Nodes.{AreNodes, IsNode}
+use Rattle.tree.specs.inside.Slots.{AreInOrder, is_leaf, slots, slot_of, leaves_of}
 use Rattle.tree.specs.laws.Slots.{length-leaves, slot-below, leaf_slot}
 use Rattle.tree.proofs.Views.{length-blocks}
 use Rattle.tree.proofs.growing.slot_on.Goals as goal

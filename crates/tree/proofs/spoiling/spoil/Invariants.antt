@@ -1,5 +1,6 @@
 use Rattle.std.proofs.Common.{◌≡◌, ℕ, [], length}
-use Rattle.tree.specs.Nodes.{AreUsable, SameFlags, mark_at, state_of}
+use Rattle.tree.specs.Nodes.{mark_at, state_of}
+use Rattle.tree.specs.inside.Nodes.{AreUsable, SameFlags}
 use Rattle.tree.proofs.spoiling.spoil.Given as goal
 
 abbrev pub invariant-loop-place : goal.invariant-loop-place

@@ -1,5 +1,5 @@
 use Rattle.std.proofs.Common.{◌≡◌, map, take}
-use Rattle.tree.specs.Tops.{top_at}
+use Rattle.tree.specs.inside.Tops.{top_at}
 use Rattle.tree.proofs.tips.all_tops.Given as goal
 
 abbrev pub invariant-loop-place : goal.invariant-loop-place

@@ -1,4 +1,4 @@
-use Rattle.std.proofs.Common.{◌≡◌, ◌++◌, arith, ap, sym, ◌∙◌}
+use Rattle.std.proofs.Common.{◌≡◌, ◌++◌, arith, ap, ◌∙◌}
 use Rattle.txn.specs.Grammar.{transaction}
 use Rattle.txn.proofs.Marks.{one_more}
 use Rattle.txn.proofs.many_ids.spell_eight.Goals as goal

@@ -1,4 +1,4 @@
-use Rattle.txn.specs.Marks.{AreMarks}
+use Rattle.txn.specs.inside.Marks.{AreMarks}
 use Rattle.txn.proofs.many_ids.spell_eight.Given as goal
 
 abbrev pub invariant-spelled : goal.invariant-spelled

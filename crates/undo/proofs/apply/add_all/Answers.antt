@@ -5,7 +5,8 @@ use Rattle.txn.specs.declared.output.TxOut.{TxOut}
 use Rattle.script.specs.Kinds.{is_unspendable}
 use Rattle.coins.specs.declared.coin.Coin.{Coin}
 use Rattle.coins.specs.Coins.{Coins, Layer}
-use Rattle.undo.specs.Effect.{place, spendable, coin_of, with_coins, AreNew}
+use Rattle.undo.specs.Effect.{place, spendable, coin_of, with_coins}
+use Rattle.undo.specs.inside.Reverting.{AreNew}
 use Rattle.undo.proofs.Steps.{drop_item, made_rest, made_same}
 use Rattle.undo.proofs.apply.add_all.Goals as goal
 

@@ -5,7 +5,8 @@ use Rattle.txn.specs.declared.input.TxIn.{TxIn}
 use Rattle.txn.specs.Check.{prevs}
 use Rattle.coins.specs.declared.coin.Coin.{Coin}
 use Rattle.coins.specs.Coins.{Coins, Layer}
-use Rattle.undo.specs.Effect.{without, coins_at, AreCoins}
+use Rattle.undo.specs.Effect.{without, coins_at}
+use Rattle.undo.specs.inside.Reverting.{AreCoins}
 use Rattle.undo.specs.laws.Effects.{coins_next}
 use Rattle.undo.proofs.Steps.{drop_item, drop_of_length-le, coins_at-next}
 use Rattle.undo.proofs.apply.spend_all.Goals as goal

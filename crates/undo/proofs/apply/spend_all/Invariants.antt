@@ -1,6 +1,7 @@
 use Rattle.std.proofs.Common.{◌≡◌, ◌++◌, drop}
 use Rattle.txn.specs.Check.{prevs}
-use Rattle.undo.specs.Effect.{without, coins_at, AreCoins}
+use Rattle.undo.specs.Effect.{without, coins_at}
+use Rattle.undo.specs.inside.Reverting.{AreCoins}
 use Rattle.undo.proofs.apply.spend_all.Given as goal
 
 abbrev pub invariant-loop-input : goal.invariant-loop-input

@@ -3,15 +3,16 @@ use Rattle.std.specs.List.{zip}
 use Rattle.std.specs.Map.{keys_of}
 use Rattle.txn.specs.declared.output.TxOut.{TxOut}
 use Rattle.coins.specs.Coins.{Coins}
-use Rattle.undo.specs.Effect.{spends, spendable, without, with_coins, reverted}
-use Rattle.undo.proofs.Steps.{on_ok, two_steps, to_coins}
+use Rattle.undo.specs.Effect.{spends, spendable, without, with_coins}
+use Rattle.undo.specs.inside.Reverting.{reverted}
+use Rattle.undo.proofs.Steps.{two_steps, to_coins}
 use Rattle.undo.proofs.revert.revert.Goals as goal
 
-pub returns-clause-ok : goal.returns-clause-ok
+pub returns : goal.returns
 unfolding reverted
-returns-clause-ok g c = on_ok c.return_inputs.result c.return_inputs.ensures.ok (λ h.
-    let l = c.args.layer.now in
+returns g c =
+    let l = c.args.layer in
     let left : List TxOut → Coins → Coins = λ os m. without m (keys_of (spendable c.args.id 0 os)) in
     let whole : Coins → Coins = λ m. with_coins m (zip (spends c.args.tx.now) c.args.spent.now) in
-    two_steps (left c.as_slice.result.now) whole l c.take_all.new.layer c.return_inputs.new.layer c.in_ok-take_all.ensures.ok h
-    ∙ to_coins l _ _ (ap (λ (os : List TxOut). whole (left os l.coins)) c.as_slice.ensures))
+    two_steps (left c.as_slice.result.now) whole l c.take_all.new.layer c.return_inputs.new.layer c.in_ok-take_all.ensures.ok c.in_ok-return_inputs.ensures.ok
+    ∙ to_coins l _ _ (ap (λ (os : List TxOut). whole (left os l.coins)) c.as_slice.ensures)

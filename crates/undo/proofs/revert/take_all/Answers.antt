@@ -4,7 +4,8 @@ use Rattle.std.specs.FinMap as coin_map
 use Rattle.txn.specs.declared.output.TxOut.{TxOut}
 use Rattle.script.specs.Kinds.{is_unspendable}
 use Rattle.coins.specs.Coins.{Coins, Layer}
-use Rattle.undo.specs.Effect.{place, spendable, without, AreCoins}
+use Rattle.undo.specs.Effect.{place, spendable, without}
+use Rattle.undo.specs.inside.Reverting.{AreCoins}
 use Rattle.undo.proofs.Steps.{drop_item, gone_rest, gone_same}
 use Rattle.undo.proofs.revert.take_all.Goals as goal
 

@@ -3,13 +3,13 @@ use Rattle.std.proofs.lemmas.List.{at_drop_more, at_drop_all, append-nil, take_a
 use Rattle.block.specs.declared.block.Block.{Block}
 use Rattle.rules.specs.declared.params.Params.{Params}
 use Rattle.tree.specs.State.{State}
-use Rattle.activate.specs.declared.command.Command.{Command}
-use Rattle.activate.specs.declared.reply.Reply.{Reply}
-use Rattle.activate.specs.Submission.{Outcome}
-use Rattle.activate.specs.Commands.{outcome, replies_of, state_of}
-use Rattle.activate.specs.Regtest.{regtest}
-use Rattle.activate.specs.Tracked.{WithCoins}
-use Rattle.activate.proofs.Outcomes.{state-more}
+use Rattle.chain.specs.declared.command.Command.{Command}
+use Rattle.chain.specs.declared.reply.Reply.{Reply}
+use Rattle.chain.specs.Submission.{Outcome}
+use Rattle.chain.specs.Commands.{outcome, replies_of, state_after_commands}
+use Rattle.chain.specs.Regtest.{regtest}
+use Rattle.activate.specs.CoreState.{WithCoins}
+use Rattle.chain.specs.laws.Outcomes.{state-more}
 use Rattle.activate.proofs.chainstate.Chainstate.run.Goals as goal
 
 on_err : {V E : Type 0} {P : Type 0} (o : Result V E) → P → OnErr o P
@@ -34,9 +34,6 @@ returns-in_err-reserve-clause-is_chainstate g c = c.loop-index.invariant.is_chai
 
 pub returns-in_err-reserve-clause-err : goal.returns-in_err-reserve-clause-err
 returns-in_err-reserve-clause-err g c = on_err c.from_residual.result (c.loop-index.index, c.loop-index.auto.index-end, c.loop-index.invariant.state)
-
-pub step-requires-clause-is_chainstate : goal.step-requires-clause-is_chainstate
-step-requires-clause-is_chainstate g c = c.loop-index.invariant.is_chainstate
 
 pub returns-in_err-reply-clause-params : goal.returns-in_err-reply-clause-params
 returns-in_err-reply-clause-params g c = c.in_err-reply.ensures.params ∙ c.loop-index.invariant.params
@@ -80,7 +77,7 @@ returns-clause-replies g c =
 pub returns-clause-state : goal.returns-clause-state
 returns-clause-state g c =
     let r = regtest c.args.self.now.core.params c.args.env.now.table.now in
-    c.loop-index.invariant.state ∙ ap (state_of r c.args.self.now.core.state) (take_all c.loop-index.index c.args.commands.now c.loop-index-test.false)
+    c.loop-index.invariant.state ∙ ap (state_after_commands r c.args.self.now.core.state) (take_all c.loop-index.index c.args.commands.now c.loop-index-test.false)
 
 pub returns-clause-params : goal.returns-clause-params
 returns-clause-params g c = c.loop-index.invariant.params

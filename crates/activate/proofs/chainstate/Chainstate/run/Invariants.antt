@@ -1,13 +1,13 @@
 use Rattle.std.proofs.Common.{◌≡◌, ◌++◌, drop, take}
-use Rattle.activate.specs.Commands.{replies_of, state_of}
-use Rattle.activate.specs.Regtest.{regtest}
-use Rattle.activate.specs.Tracked.{IsChainstate}
+use Rattle.chain.specs.Commands.{replies_of, state_after_commands}
+use Rattle.chain.specs.Regtest.{regtest}
+use Rattle.activate.specs.CoreState.{IsChainstate}
 use Rattle.activate.proofs.chainstate.Chainstate.run.Given as goal
 
 abbrev pub invariant-loop-index : goal.invariant-loop-index
 invariant-loop-index g l = record {
   replies : l.replies.items ++ replies_of (regtest l.initial.self.core.params l.env.table.now) l.self.core.state (drop l.index l.commands) ≡ replies_of (regtest l.initial.self.core.params l.env.table.now) l.initial.self.core.state l.commands;
-  state : l.self.core.state ≡ state_of (regtest l.initial.self.core.params l.env.table.now) l.initial.self.core.state (take l.index l.commands);
+  state : l.self.core.state ≡ state_after_commands (regtest l.initial.self.core.params l.env.table.now) l.initial.self.core.state (take l.index l.commands);
   params : l.self.core.params ≡ l.initial.self.core.params;
   is_chainstate : IsChainstate l.self l.env.table.now;
 }

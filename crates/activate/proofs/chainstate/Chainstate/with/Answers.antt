@@ -1,6 +1,6 @@
 use Rattle.std.proofs.Common.{ap, sym, subst, ◌∙◌}
 use Rattle.coins.specs.Coins.{Coins}
-use Rattle.activate.specs.Tracked.{IsChainstate, Tracked, WithCoins, genesis_alone}
+use Rattle.activate.specs.CoreState.{IsChainstate, CoreState, WithCoins, genesis_alone}
 use Rattle.activate.proofs.Openings.{opens}
 use Rattle.activate.proofs.chainstate.Chainstate.with.Goals as goal
 
@@ -10,5 +10,5 @@ returns-clause-is_chainstate c triples =
     (sym (ap (λ t. with_coins t c.new.result) c.in_ok-with.ensures.value ∙ ap (with_coins (genesis_alone c.args.params)) c.new.ensures))
     (opens c.args.params triples)
   where
-    with_coins : Tracked → Coins → WithCoins
+    with_coins : CoreState → Coins → WithCoins
     with_coins core coins = record { core = core; coins = coins }

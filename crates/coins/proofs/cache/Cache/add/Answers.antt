@@ -1,7 +1,8 @@
 use Rattle.std.proofs.Common.{◌≡◌, Some, ap, sym, subst, ◌∙◌}
 use Rattle.std.specs.FinMap as map
 use Rattle.coins.specs.declared.entry.CacheEntry.{CacheEntry}
-use Rattle.coins.specs.Entries.{MarkHolds, entry_at, added_entry, stands}
+use Rattle.coins.specs.Entries.{MarkHolds, entry_at, stands}
+use Rattle.coins.specs.inside.Entries.{added_entry}
 use Rattle.coins.proofs.Layers.{layer_get, layer_write, layer_same, sound_after, added_mark, added_stands, on_ok, on_err}
 use Rattle.coins.proofs.cache.Cache.add.Goals as goal
 

@@ -3,7 +3,8 @@ use Rattle.std.specs.FinMap as map
 use Rattle.std.specs.Option.{option_copied}
 use Rattle.std.specs.Prelude.{is_some}
 use Rattle.coins.specs.declared.entry.CacheEntry.TheVariants.{Dirty}
-use Rattle.coins.specs.Entries.{entry_at, emptied}
+use Rattle.coins.specs.Entries.{entry_at}
+use Rattle.coins.specs.inside.Entries.{emptied}
 use Rattle.coins.proofs.Layers.{layer_get, layer_write, layer_same, layer_below, own_stands, emptied_stands, copied_some}
 use Rattle.coins.proofs.cache.Cache.spend.Goals as goal
 

@@ -1,5 +1,6 @@
 use Rattle.std.proofs.Common.{subst, ◌∙◌}
-use Rattle.coins.specs.Changes.{Changes, Covered}
+use Rattle.coins.specs.Changes.{Changes}
+use Rattle.coins.specs.inside.Changes.{Covered}
 use Rattle.coins.proofs.Rooms.{covered_laid}
 use Rattle.coins.proofs.coin_map.CoinMap.lay.Goals as goal
 

@@ -4,7 +4,7 @@ use Rattle.std.specs.FinSet as set
 use Rattle.std.specs.List.{insert}
 use Rattle.std.specs.List.Sorted.{IsStrictlySortedBy}
 use Rattle.curve.specs.Triple.{triple_of, triple_cmp}
-use Rattle.curve.specs.Order.{triple_cmp-total, triple_cmp-exact}
+use Rattle.curve.specs.laws.Order.{triple_cmp-total, triple_cmp-exact}
 use Rattle.curve.proofs.Once.{sorted_from_strict}
 use Rattle.curve.proofs.Search.{is_ok-search, strict-missed, from_list-insert, insert_again}
 use Rattle.curve.proofs.table.Table.add.Goals as goal

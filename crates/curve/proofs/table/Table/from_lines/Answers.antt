@@ -10,7 +10,7 @@ use Rattle.std.proofs.lemmas.List.Sorted.{ranks_by}
 use Rattle.std.proofs.lemmas.Result.{err_from_is_err_and}
 use Rattle.curve.specs.Lines.{lines}
 use Rattle.curve.specs.Triple.{triple_cmp}
-use Rattle.curve.specs.Order.{triple_cmp-total, triple_cmp-exact}
+use Rattle.curve.specs.laws.Order.{triple_cmp-total, triple_cmp-exact}
 use Rattle.curve.proofs.Once.{from_list_once}
 use Rattle.curve.proofs.Search.{from_list-IsPermutation}
 use Rattle.curve.proofs.Tables.{table_none, table_skips, table_adds, one_more, fault_from}

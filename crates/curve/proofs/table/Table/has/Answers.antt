@@ -1,7 +1,7 @@
 use Rattle.std.proofs.Common.{ap, ◌∙◌}
 use Rattle.std.specs.FinSet as set
 use Rattle.curve.specs.Triple.{triple_of}
-use Rattle.curve.specs.Order.{triple_cmp-total}
+use Rattle.curve.specs.laws.Order.{triple_cmp-total}
 use Rattle.curve.proofs.Once.{sorted_from_strict}
 use Rattle.curve.proofs.Search.{is_ok-search}
 use Rattle.curve.proofs.table.Table.has.Goals as goal

@@ -2,7 +2,7 @@ use Rattle.std.proofs.Common.{ap, ◌∙◌, rules}
 use Rattle.std.proofs.lemmas.Fn.{always_returns_same}
 use Rattle.std.specs.FinSet as set
 use Rattle.curve.specs.Triple.{triple_cmp}
-use Rattle.curve.specs.Order.{triple_cmp-total}
+use Rattle.curve.specs.laws.Order.{triple_cmp-total}
 use Rattle.curve.proofs.Once.{sorted_from_strict}
 use Rattle.curve.proofs.Search.{is_ok-search}
 use Rattle.curve.proofs.table.Table.has_kept.Goals as goal

@@ -5,7 +5,8 @@ use Rattle.tree.specs.declared.node.Node.{Node}
 use Rattle.tree.specs.declared.node.Mark.{Mark}
 use Rattle.tree.specs.Branches.{Blocks, on}
 use Rattle.tree.specs.State.{cleared}
-use Rattle.tree.specs.Nodes.{AreUsable, IsRight, blocks_of, mark_at, state_of}
+use Rattle.tree.specs.Nodes.{blocks_of, mark_at, state_of}
+use Rattle.tree.specs.inside.Nodes.{AreUsable, IsRight}
 use Rattle.tree.proofs.Views.{kept, where_agree}
 use Rattle.tree.proofs.Changes.{made, blocks-view, bad-view, seen-view, precious-view, usable_zero, right_from, right-usable, right-rank, whole}
 use Rattle.tree.proofs.Cleared.{where_cleared}

@@ -1,5 +1,5 @@
 use Rattle.std.proofs.Common.{ℕ, eqb, List, length, get_or, ap, ◌∙◌, arith}
-use Rattle.tree.specs.Slots.{leaves_of}
+use Rattle.tree.specs.inside.Slots.{leaves_of}
 use Rattle.tree.specs.laws.Slots.{length-leaves, slot-below, leaf_slot}
 use Rattle.tree.proofs.Views.{kept, node_at, order_at, leaves_at}
 use Rattle.tree.proofs.tree.Tree.is_leaf.Goals as goal

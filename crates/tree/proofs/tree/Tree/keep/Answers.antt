@@ -11,8 +11,9 @@ use Rattle.tree.specs.Branches.{Kept, place_of}
 use Rattle.tree.specs.Sound.{IsFresh}
 use Rattle.tree.specs.State.{State, usable, with_block}
 use Rattle.tree.specs.Names.{names, id_cmp}
-use Rattle.tree.specs.Nodes.{IsNode, IsRight, blocks_of, kept_of, state_of}
-use Rattle.tree.specs.Slots.{AreInOrder, leaves_of}
+use Rattle.tree.specs.Nodes.{blocks_of, kept_of, state_of}
+use Rattle.tree.specs.inside.Nodes.{IsNode, IsRight}
+use Rattle.tree.specs.inside.Slots.{AreInOrder, leaves_of}
 use Rattle.tree.proofs.Views.{kept, usable_at}
 use Rattle.tree.proofs.Grown.{right_grown, state_grown, fresh_grown}
 use Rattle.tree.proofs.tree.Tree.keep.Goals as goal

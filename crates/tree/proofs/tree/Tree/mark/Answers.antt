@@ -5,7 +5,8 @@ use Rattle.tree.specs.declared.node.Node.{Node}
 use Rattle.tree.specs.declared.node.Mark.{Mark}
 use Rattle.tree.specs.Branches.{down_from}
 use Rattle.tree.specs.State.{joined, usable, marked}
-use Rattle.tree.specs.Nodes.{AreUsable, IsRight, mark_at, state_of}
+use Rattle.tree.specs.Nodes.{mark_at, state_of}
+use Rattle.tree.specs.inside.Nodes.{AreUsable, IsRight}
 use Rattle.tree.proofs.Views.{kept, where_agree, where_joined}
 use Rattle.tree.proofs.Changes.{set_there, set_kept, set_joined, made, blocks-view, bad-view, seen-view, precious-view, right_from, right-usable, right-rank, usable_marked, whole}
 use Rattle.tree.proofs.tree.Tree.mark.Goals as goal

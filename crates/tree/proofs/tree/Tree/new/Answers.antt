@@ -3,11 +3,11 @@ use Rattle.std.specs.Map.{lookup}
 use Rattle.std.specs.BTreeMap.{is_at}
 use Rattle.std.specs.Ordering.{eq_by_cmp}
 use Rattle.hash.specs.declared.id.Id.{Id}
-use Rattle.block.specs.declared.genesis.TheConstants.{GENESIS_ID}
 use Rattle.tree.specs.declared.node.Node.{Node}
 use Rattle.tree.specs.declared.node.Mark.{Mark}
-use Rattle.tree.specs.Names.{id_cmp}
-use Rattle.tree.specs.Nodes.{IsRight, state_of, first_node, first_mark}
+use Rattle.tree.specs.Names.{names, id_cmp}
+use Rattle.tree.specs.Nodes.{state_of}
+use Rattle.tree.specs.inside.Nodes.{IsRight, first_node, first_mark}
 use Rattle.tree.proofs.Opened.{opened, right_opened}
 use Rattle.tree.proofs.tree.Tree.new.Goals as goal
 
@@ -21,7 +21,7 @@ invariant_of-result c =
     (subst (λ (l : List Mark). IsRight (first_node ∷ []) l c.new.result.items ids leaves) (sym ms)
     (subst (λ (l : List ℕ). IsRight (first_node ∷ []) (first_mark ∷ []) l ids leaves) (sym c.new.ensures.items)
     (right_opened ids leaves
-    (λ i. c.in_ok-insert.ensures.updates.0 i ∙ ap (λ (es : List (Id × ℕ)). cond {A = Option ℕ} (eq_by_cmp id_cmp GENESIS_ID i) (Some 0) (lookup (is_at (id_cmp i)) es)) c.new-ids.ensures.empty)
+    (λ i. c.in_ok-insert.ensures.updates.0 i ∙ ap (λ (es : List (Id × ℕ)). cond {A = Option ℕ} (eq_by_cmp id_cmp names.genesis_id i) (Some 0) (lookup (is_at (id_cmp i)) es)) c.new-ids.ensures.empty)
     (c.in_ok-push-3.ensures.items ∙ ap (λ (l : List ℕ). l ++ 0 ∷ []) c.new-leaves.ensures.items))))
 
 pub returns : goal.returns

@@ -2,7 +2,8 @@ use Rattle.std.proofs.Common.{◌≡◌, ℕ, List, [], length, sym, ap, ◌∙�
 use Rattle.tree.specs.declared.node.Node.{Node}
 use Rattle.tree.specs.declared.node.Mark.{Mark}
 use Rattle.tree.specs.Branches.{has}
-use Rattle.tree.specs.Nodes.{AreUsable, IsRight, mark_at, state_of}
+use Rattle.tree.specs.Nodes.{mark_at, state_of}
+use Rattle.tree.specs.inside.Nodes.{AreUsable, IsRight}
 use Rattle.tree.proofs.Views.{kept, has-where}
 use Rattle.tree.proofs.Changes.{made, blocks-view, precious-view, usable_zero, right_from, right-usable, right-rank, whole}
 use Rattle.tree.proofs.tree.Tree.set_flags.Goals as goal

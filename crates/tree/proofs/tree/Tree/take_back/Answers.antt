@@ -3,7 +3,8 @@ use Rattle.std.proofs.lemmas.List.{length_push}
 use Rattle.std.specs.Option.{option_to_list}
 use Rattle.tree.specs.declared.node.Node.{Node}
 use Rattle.tree.specs.declared.node.Mark.{Mark}
-use Rattle.tree.specs.Nodes.{IsNode, IsRight, blank, blocks_of, kept_of, state_of}
+use Rattle.tree.specs.Nodes.{blank, blocks_of, kept_of, state_of}
+use Rattle.tree.specs.inside.Nodes.{IsNode, IsRight}
 use Rattle.tree.proofs.Views.{kept}
 use Rattle.tree.proofs.Back.{node_was, parent_within, slot_within, list_back, not_bad, not_seen, not_called, id_gone, right_back, state_back}
 use Rattle.tree.proofs.tree.Tree.take_back.Goals as goal

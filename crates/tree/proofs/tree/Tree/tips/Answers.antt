@@ -4,7 +4,7 @@ use Rattle.block.specs.declared.block.Block.{Block}
 use Rattle.tree.specs.declared.top.Top.{Top}
 use Rattle.tree.specs.declared.tip.Tip.{Tip}
 use Rattle.tree.specs.Names.{names}
-use Rattle.tree.specs.Tops.{top_at}
+use Rattle.tree.specs.inside.Tops.{top_at}
 use Rattle.tree.specs.State.{State}
 use Rattle.tree.specs.Tips.{shown, tip, tips}
 use Rattle.tree.specs.laws.Tops.{tip_kept}

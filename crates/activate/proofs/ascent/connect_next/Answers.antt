@@ -1,0 +1,97 @@
+use Rattle.std.proofs.Common.{◌≡◌, ℕ, ◌≤◌, List, [], ◌∷◌, ◌++◌, length, reverse, IfOk, Some, None, sym, ap, ◌∙◌, subst, arith}
+use Rattle.std.proofs.lemmas.List.{length-reverse}
+use Rattle.std.specs.Result.{result_err}
+use Rattle.block.specs.declared.block.Block.{Block}
+use Rattle.txn.specs.First.{first_broken}
+use Rattle.rules.specs.Alone.{alone_rules}
+use Rattle.connect.specs.Connecting.{IsConnected}
+use Rattle.connect.specs.Scripts.{IsConnectFault}
+use Rattle.connect.specs.laws.Scripts.{fault-found}
+use Rattle.tree.specs.Branches.{Blocks, parent_at, height}
+use Rattle.tree.specs.laws.Parents.{height-parent}
+use Rattle.chain.specs.Regtest.{medians_of, regtest}
+use Rattle.activate.specs.CoreState.{branch_blocks}
+use Rattle.activate.specs.laws.Climbing.{length-parent, setting_under, fault-next, undo-next, coins-next, medians-next}
+use Rattle.chain.specs.laws.Kept.{alone-at}
+use Rattle.chain.specs.laws.Medians.{length-medians}
+use Rattle.activate.proofs.ascent.connect_next.Goals as goal
+
+-- there is a median below
+some : (t : Blocks Block) (p : ℕ) (medians : List ℕ) → length (branch_blocks t (parent_at t p)) ≡ height t p → 1 ≤ height t p → medians ≡ reverse (medians_of (branch_blocks t (parent_at t p))) → 1 ≤ length medians
+some t p medians l z e =
+    let a = ap (λ (k : List ℕ). length k) e in
+    let b = length-reverse (medians_of (branch_blocks t (parent_at t p))) in
+    let d = length-medians (branch_blocks t (parent_at t p)) in
+    omega arith
+
+pub overflow_sub-context : goal.overflow_sub-context
+overflow_sub-context g c =
+    let t = c.args.tree.now.blocks in
+    let p = c.args.place in
+    let up = height-parent t p c.requires.above c.requires.place in
+    some t p c.as_slice-below.result.now (length-parent c.args.params.now c.args.env.now.table.now t p c.requires.above c.requires.place) (omega arith) (c.as_slice-below.ensures.value ∙ c.requires.medians)
+
+pub bounds-below-below : goal.bounds-below-below
+bounds-below-below g c =
+    let t = c.args.tree.now.blocks in
+    let p = c.args.place in
+    let up = height-parent t p c.requires.above c.requires.place in
+    let s = some t p c.as_slice-below.result.now (length-parent c.args.params.now c.args.env.now.table.now t p c.requires.above c.requires.place) (omega arith) (c.as_slice-below.ensures.value ∙ c.requires.medians) in
+    omega arith
+
+pub connect-requires-clause-alone : goal.connect-requires-clause-alone
+connect-requires-clause-alone g c =
+    ap (λ (b : Block). first_broken (alone_rules b)) c.block-block.ensures
+    ∙ alone-at (regtest c.args.params.now c.args.env.now.table.now) c.args.tree.now.blocks c.args.place c.requires.kept c.requires.above c.requires.place
+
+pub returns-in-Ok-clause-fault : goal.returns-in-Ok-clause-fault
+returns-in-Ok-clause-fault g c =
+    let params = c.args.params.now in
+    let triples = c.args.env.now.table.now in
+    let s = setting_under params c.height_of.result c.as_slice-below.result.now in
+    let m = c.args.layer.now.coins in
+    let txs = c.block-block.result.now.txs in
+    (fault-found s m txs triples None).0 (subst (λ a. IsConnectFault s m txs triples (result_err a)) c.in-Ok.is c.in_ok-undo.ensures.fault)
+    ∙ fault-next params triples c.args.tree.now.blocks c.args.place c.requires.above c.requires.place c.height_of.result m c.block-block.result.now c.height_of.ensures c.requires.coins c.block-block.ensures
+    c.as_slice-below.result.now (c.as_slice-below.ensures.value ∙ c.requires.medians)
+
+pub returns-in-Ok-clause-undo : goal.returns-in-Ok-clause-undo
+returns-in-Ok-clause-undo g c =
+    let params = c.args.params.now in
+    let triples = c.args.env.now.table.now in
+    let s = setting_under params c.height_of.result c.as_slice-below.result.now in
+    let m = c.args.layer.now.coins in
+    let done = subst (λ a. IfOk a (λ undo. IsConnected s m c.block-block.result.now c.connect.new.cache.coins undo)) c.in-Ok.is c.in_ok-undo.ensures.connected in
+    done.spent
+    ∙ undo-next params triples c.args.tree.now.blocks c.args.place c.requires.above c.requires.place c.height_of.result m c.block-block.result.now c.height_of.ensures c.requires.coins c.block-block.ensures
+
+pub returns-in-Ok-clause-coins : goal.returns-in-Ok-clause-coins
+returns-in-Ok-clause-coins g c =
+    let params = c.args.params.now in
+    let triples = c.args.env.now.table.now in
+    let s = setting_under params c.height_of.result c.as_slice-below.result.now in
+    let m = c.args.layer.now.coins in
+    let done = subst (λ a. IfOk a (λ undo. IsConnected s m c.block-block.result.now c.connect.new.cache.coins undo)) c.in-Ok.is c.in_ok-undo.ensures.connected in
+    done.after
+    ∙ coins-next params triples c.args.tree.now.blocks c.args.place c.requires.above c.requires.place c.height_of.result m c.block-block.result.now c.height_of.ensures c.requires.coins c.block-block.ensures
+
+pub returns-in-Ok-clause-medians : goal.returns-in-Ok-clause-medians
+returns-in-Ok-clause-medians g c =
+    let params = c.args.params.now in
+    let triples = c.args.env.now.table.now in
+    let t = c.args.tree.now.blocks in
+    c.in_ok-push-in-Ok.ensures.items
+    ∙ ap (λ (l : List ℕ). l ++ c.median.result ∷ []) c.requires.medians
+    ∙ ap (λ (x : ℕ). reverse (medians_of (branch_blocks t (parent_at t c.args.place))) ++ x ∷ []) c.median.ensures
+    ∙ sym (medians-next t c.args.place c.requires.above c.requires.place)
+
+pub returns-clause-fault : goal.returns-clause-fault
+returns-clause-fault g c =
+    let params = c.args.params.now in
+    let triples = c.args.env.now.table.now in
+    let s = setting_under params c.height_of.result c.as_slice-below.result.now in
+    let m = c.args.layer.now.coins in
+    let txs = c.block-block.result.now.txs in
+    (fault-found s m txs triples (Some c.in-Err.reason)).0 (subst (λ a. IsConnectFault s m txs triples (result_err a)) c.in-Err.is c.in_ok-undo.ensures.fault)
+    ∙ fault-next params triples c.args.tree.now.blocks c.args.place c.requires.above c.requires.place c.height_of.result m c.block-block.result.now c.height_of.ensures c.requires.coins c.block-block.ensures
+    c.as_slice-below.result.now (c.as_slice-below.ensures.value ∙ c.requires.medians)

@@ -1,0 +1,97 @@
+use Rattle.std.proofs.Common.{◌≡◌, ℕ, ◌+◌, ◌-◌, List, [], ◌∷◌, ◌++◌, length, reverse, take, drop, map, get_or, Some, IfOk, OnOk, sym, refl, ap, ◌∙◌, subst, arith}
+use Rattle.std.proofs.lemmas.List.{reverse-append}
+use Rattle.std.specs.Result.{result_err}
+use Rattle.coins.specs.declared.coin.Coin.{Coin}
+use Rattle.chain.specs.Valid.{fault, valid}
+use Rattle.chain.specs.Regtest.{medians_of, regtest}
+use Rattle.activate.specs.CoreState.{branch_blocks, coins_after}
+use Rattle.activate.specs.inside.Keeping.{undo_at}
+use Rattle.activate.specs.inside.Ascents.{top_of, LeadsUp}
+use Rattle.activate.specs.laws.Climbing.{is-next, rest-next, parts-back, counted-back, valid-next, first-next}
+use Rattle.activate.proofs.ascent.connect_up.Goals as goal
+
+pub connect_next-requires-clause-above : goal.connect_next-requires-clause-above
+connect_next-requires-clause-above g c =
+    let t = c.args.tree.now.blocks in
+    let up = c.as_slice-up.result.now in
+    let w = subst (LeadsUp t c.args.path.now.fork) (sym c.as_slice-up.ensures.value) c.requires.path in
+    (is-next t c.args.path.now.fork up w c.loop-passed.passed c.loop-passed-test.true (get_or up (length up - 1 - c.loop-passed.passed) 0) refl).above_genesis
+
+pub connect_next-requires-clause-place : goal.connect_next-requires-clause-place
+connect_next-requires-clause-place g c =
+    let t = c.args.tree.now.blocks in
+    let up = c.as_slice-up.result.now in
+    let w = subst (LeadsUp t c.args.path.now.fork) (sym c.as_slice-up.ensures.value) c.requires.path in
+    (is-next t c.args.path.now.fork up w c.loop-passed.passed c.loop-passed-test.true (get_or up (length up - 1 - c.loop-passed.passed) 0) refl).kept
+
+pub connect_next-requires-clause-coins : goal.connect_next-requires-clause-coins
+connect_next-requires-clause-coins g c =
+    let t = c.args.tree.now.blocks in
+    let up = c.as_slice-up.result.now in
+    let w = subst (LeadsUp t c.args.path.now.fork) (sym c.as_slice-up.ensures.value) c.requires.path in
+    let n = is-next t c.args.path.now.fork up w c.loop-passed.passed c.loop-passed-test.true (get_or up (length up - 1 - c.loop-passed.passed) 0) refl in
+    c.loop-passed.invariant.coins ∙ ap (λ (p : ℕ). coins_after t p) (sym n.parent)
+
+pub connect_next-requires-clause-medians : goal.connect_next-requires-clause-medians
+connect_next-requires-clause-medians g c =
+    let t = c.args.tree.now.blocks in
+    let up = c.as_slice-up.result.now in
+    let w = subst (LeadsUp t c.args.path.now.fork) (sym c.as_slice-up.ensures.value) c.requires.path in
+    let n = is-next t c.args.path.now.fork up w c.loop-passed.passed c.loop-passed-test.true (get_or up (length up - 1 - c.loop-passed.passed) 0) refl in
+    c.loop-passed.invariant.medians ∙ ap (λ (p : ℕ). reverse (medians_of (branch_blocks t p))) (sym n.parent)
+
+pub returns-in-Err-clause-climb : goal.returns-in-Err-clause-climb
+returns-in-Err-clause-climb g c =
+    let params = c.args.params.now in
+    let triples = c.args.env.now.table.now in
+    let t = c.args.tree.now.blocks in
+    let f = c.args.path.now.fork in
+    let up = c.as_slice-up.result.now in
+    let passed = c.loop-passed.passed in
+    let x = get_or up (length up - 1 - passed) 0 in
+    let w = subst (LeadsUp t f) (sym c.as_slice-up.ensures.value) c.requires.path in
+    let n = is-next t f up w passed c.loop-passed-test.true x refl in
+    let v = ap (valid (regtest params triples) t) n.parent ∙ c.loop-passed.invariant.good in
+    let e : fault (regtest params triples) t x ≡ Some c.in-Err.reason = sym c.in_ok-spent.ensures.fault ∙ ap result_err c.in-Err.is in
+    record {
+      front = reverse (drop (length up - passed) up);
+      place = x;
+      rest = reverse (take (length up - (passed + 1)) up);
+      parts = ap (λ (l : List ℕ). reverse l) (sym c.as_slice-up.ensures.value) ∙ parts-back t f up w passed c.loop-passed-test.true x refl;
+      counted = counted-back t f up w passed c.loop-passed-test.true x refl;
+      first = record {
+        on = ap (λ (l : List ℕ). Rattle.tree.specs.Branches.on t (top_of f l) x) (sym c.as_slice-up.ensures.value) ∙ n.there;
+        first = first-next params triples t x n.above_genesis n.kept c.in-Err.reason v e;
+      };
+      broken = e;
+    }
+
+pub loop-passed-preserved : goal.loop-passed-preserved
+loop-passed-preserved g c =
+    let params = c.args.params.now in
+    let triples = c.args.env.now.table.now in
+    let t = c.args.tree.now.blocks in
+    let f = c.args.path.now.fork in
+    let up = c.as_slice-up.result.now in
+    let passed = c.loop-passed.passed in
+    let x = get_or up (length up - 1 - passed) 0 in
+    let w = subst (LeadsUp t f) (sym c.as_slice-up.ensures.value) c.requires.path in
+    let n = is-next t f up w passed c.loop-passed-test.true x refl in
+    let more = rest-next t f up w passed c.loop-passed-test.true x refl in
+    let top = ap (top_of f) more in
+    let i = c.loop-passed.invariant in
+    let spent = subst (λ a. IfOk a (λ undo. undo ≡ undo_at t x)) c.in-Ok.is c.in_ok-spent.ensures.undo in
+    let coins = subst (λ a. OnOk a (c.connect_next.new.layer.coins ≡ coins_after t x)) c.in-Ok.is c.in_ok-spent.ensures.coins in
+    let medians = subst (λ a. OnOk a (c.connect_next.new.medians.items ≡ reverse (medians_of (branch_blocks t x)))) c.in-Ok.is c.in_ok-spent.ensures.medians in
+    let good = valid-next params triples t x n.above_genesis n.kept (ap (valid (regtest params triples) t) n.parent ∙ i.good) (sym c.in_ok-spent.ensures.fault ∙ ap result_err c.in-Ok.is) in
+    record {
+      spent = c.in_ok-push-in-Ok.ensures.items
+          ∙ ap (λ (l : List (List (List Coin))). l ++ c.in-Ok.spent ∷ []) i.spent
+          ∙ ap (λ (u : List (List Coin)). reverse (map (undo_at t) (drop (length up - passed) up)) ++ u ∷ []) spent
+          ∙ sym (reverse-append (undo_at t x ∷ []) (map (undo_at t) (drop (length up - passed) up)))
+          ∙ ap (λ (l : List ℕ). reverse (map (undo_at t) l)) (sym more);
+      good = ap (valid (regtest params triples) t) top ∙ good;
+      coins = coins ∙ ap (coins_after t) (sym top);
+      medians = medians ∙ ap (λ (p : ℕ). reverse (medians_of (branch_blocks t p))) (sym top);
+      base = c.in_ok-spent.ensures.base ∙ i.base;
+    }

@@ -1,0 +1,125 @@
+use Rattle.std.proofs.Common.{◌≡◌, ℕ, ◌+◌, ◌≤◌, List, length, reverse, take, IfOk, sym, ap, ◌∙◌, subst, arith}
+use Rattle.std.proofs.lemmas.List.{length-take-le}
+use Rattle.block.specs.declared.block.Block.{Block}
+use Rattle.tree.specs.Branches.{Blocks, branch, on}
+use Rattle.tree.specs.laws.Above.{above}
+use Rattle.tree.specs.laws.Branches.{on-bounds}
+use Rattle.tree.specs.laws.Parents.{height-place}
+use Rattle.activate.specs.declared.path.BranchPath.{BranchPath}
+use Rattle.chain.specs.Valid.{valid}
+use Rattle.chain.specs.Regtest.{medians_of, regtest}
+use Rattle.chain.specs.laws.Candidates.{valid_below}
+use Rattle.coins.specs.Coins.{Coins}
+use Rattle.coins.specs.Changes.{AreChanges, laid}
+use Rattle.activate.specs.CoreState.{branch_blocks, coins_after}
+use Rattle.activate.specs.inside.Paths.{IsPath, IsStop}
+use Rattle.activate.specs.declared.ascent.Ascent.{Ascent}
+use Rattle.activate.specs.inside.Ascents.{top_of, LeadsUp, IsTop, IsAscent}
+use Rattle.activate.specs.laws.Climbing.{top-above, height-below, length-branch, length-medians_at, medians-shared, were-connected}
+use Rattle.activate.proofs.branch_try.try_branch.Goals as goal
+
+-- a path leads to its block, from a block of the active branch
+module _ (t : Blocks Block) (a p : ℕ) (path : BranchPath) (w : IsPath t a p path) (h : p ≤ length t) where
+  leads : top_of path.fork path.up.items ≡ p
+  leads = ap (top_of path.fork) w.up ∙ top-above t path.fork p h w.shared.there
+
+-- the fork's medians begin the active ones
+module _ (t : Blocks Block) (a p : ℕ) (path : BranchPath) (w : IsPath t a p path) (k : a ≤ length t) where
+  shares : path.height + 1 ≤ length (branch t a)
+  shares =
+      let e = w.high in
+      let b = height-below t a path.fork k w.shared.here in
+      let l = length-branch t a k in
+      omega arith
+
+  shared : take (path.height + 1) (reverse (medians_of (branch_blocks t a))) ≡ reverse (medians_of (branch_blocks t path.fork))
+  shared = ap (λ (n : ℕ). take (n + 1) (reverse (medians_of (branch_blocks t a)))) w.high ∙ medians-shared t a path.fork k w.shared.here
+
+-- a path goes up to its block
+module _ (t : Blocks Block) (a p : ℕ) (path : BranchPath) (w : IsPath t a p path) (h : p ≤ length t) where
+  leads-up : LeadsUp t path.fork path.up.items
+  leads-up =
+      let e = leads t a p path w h in
+      record {
+        kept = omega arith;
+        shared = ap (λ (q : ℕ). on t q path.fork) e ∙ w.shared.there;
+        all = w.up ∙ ap (λ (q : ℕ). above t q path.fork) (sym e);
+      }
+
+-- so many medians are there
+enough : (t : Blocks Block) (a p : ℕ) (path : BranchPath) → IsPath t a p path → a ≤ length t → (medians : List ℕ) → medians ≡ reverse (medians_of (branch_blocks t a)) → path.height + 1 ≤ length medians
+enough t a p path w k medians e =
+    let s = shares t a p path w k in
+    let m = length-medians_at t a in
+    let n = ap (λ (l : List ℕ). length l) e in
+    omega arith
+
+pub disconnect_to_fork-requires-clause-connected : goal.disconnect_to_fork-requires-clause-connected
+disconnect_to_fork-requires-clause-connected g c =
+    were-connected c.args.active_branch.now.params.now c.args.env.now.table.now c.args.active_branch.now.tree.now.blocks c.args.active_branch.now.active
+    c.requires.active c.requires.kept c.requires.good
+
+pub overflow_add-path : goal.overflow_add-path
+overflow_add-path g c =
+    let w = c.in_ok-path.ensures in
+    let e = w.high in
+    let h = height-place c.args.active_branch.now.tree.now.blocks c.in_ok-path.path.fork c.in_ok-path.path.fork (omega arith) (on-bounds c.args.active_branch.now.tree.now.blocks c.args.active_branch.now.active c.in_ok-path.path.fork w.shared.here).1 in
+    let k = (on-bounds c.args.active_branch.now.tree.now.blocks c.args.active_branch.now.active c.in_ok-path.path.fork w.shared.here).1 in
+    let few = c.len-few.ensures.room in
+    omega arith
+
+pub slice_bounds-from_slice-end : goal.slice_bounds-from_slice-end
+slice_bounds-from_slice-end g c =
+    sym (length-take-le (c.in_ok-path.path.height + 1) c.args.active_branch.now.medians.now
+    (enough c.args.active_branch.now.tree.now.blocks c.args.active_branch.now.active c.args.place c.in_ok-path.path c.in_ok-path.ensures c.requires.active
+    c.args.active_branch.now.medians.now c.requires.branch.medians_are))
+
+pub connect_up-requires-clause-path : goal.connect_up-requires-clause-path
+connect_up-requires-clause-path g c =
+    leads-up c.args.active_branch.now.tree.now.blocks c.args.active_branch.now.active c.args.place c.in_ok-path.path c.in_ok-path.ensures c.requires.place
+
+pub connect_up-requires-clause-good : goal.connect_up-requires-clause-good
+connect_up-requires-clause-good g c =
+    valid_below (regtest c.args.active_branch.now.params.now c.args.env.now.table.now) c.args.active_branch.now.tree.now.blocks c.args.active_branch.now.active
+    c.in_ok-path.path.fork c.requires.good c.in_ok-path.ensures.shared.here
+
+pub connect_up-requires-clause-medians : goal.connect_up-requires-clause-medians
+connect_up-requires-clause-medians g c =
+    c.in_ok-shared.ensures.items
+    ∙ ap (take (c.in_ok-path.path.height + 1)) c.requires.branch.medians_are
+    ∙ shared c.args.active_branch.now.tree.now.blocks c.args.active_branch.now.active c.args.place c.in_ok-path.path c.in_ok-path.ensures c.requires.active
+
+pub returns-in-Top : goal.returns-in-Top
+returns-in-Top g c =
+    let t = c.args.active_branch.now.tree.now.blocks in
+    let a = c.args.active_branch.now.active in
+    let r = regtest c.args.active_branch.now.params.now c.args.env.now.table.now in
+    let path = c.in_ok-path.path in
+    let w = c.in_ok-path.ensures in
+    let top : IsTop r t path.fork path.up.items c.in-Top.undo.items c.connect_up.new.layer.coins =
+    subst (λ (x : Ascent). IsAscent r t path.fork path.up.items c.connect_up.new.layer.coins x) c.in-Top.is c.in_ok-undo.ensures.climb in
+    let e = leads t a c.args.place path w c.requires.place in
+    let after : c.connect_up.new.layer.coins ≡ coins_after t c.args.place = top.left ∙ ap (coins_after t) e in
+    let below : c.connect_up.new.layer.base ≡ coins_after t a = c.in_ok-undo.ensures.base ∙ c.in_ok-disconnect_to_fork.ensures.base ∙ c.over-layer.ensures.below ∙ c.requires.coins in
+    record {
+      path = w;
+      good = ap (valid r t) (sym e) ∙ top.good;
+      undo = top.spent;
+      changes =
+          subst (λ (x : Coins). AreChanges x (coins_after t c.args.place) c.in_ok-changes-in-Top.changes.items) below
+          (subst (λ (x : Coins). AreChanges c.connect_up.new.layer.base x c.in_ok-changes-in-Top.changes.items) after c.in_ok-changes-in-Top.ensures.differences);
+      laid = ap (λ (x : Coins). laid x c.in_ok-changes-in-Top.changes.items) (sym below) ∙ c.in_ok-changes-in-Top.ensures.laid ∙ after;
+    }
+
+pub returns : goal.returns
+returns g c =
+    let t = c.args.active_branch.now.tree.now.blocks in
+    let r = regtest c.args.active_branch.now.params.now c.args.env.now.table.now in
+    let path = c.in_ok-path.path in
+    let w = c.in_ok-path.ensures in
+    let stop : IsStop r t (top_of path.fork path.up.items) path.up.items c.in-Stops.passed c.in-Stops.reason =
+    subst (λ (x : Ascent). IsAscent r t path.fork path.up.items c.connect_up.new.layer.coins x) c.in-Stops.is c.in_ok-undo.ensures.climb in
+    record {
+      path = w;
+      stop = subst (λ (q : ℕ). IsStop r t q path.up.items c.in-Stops.passed c.in-Stops.reason) (leads t c.args.active_branch.now.active c.args.place path w c.requires.place) stop;
+    }

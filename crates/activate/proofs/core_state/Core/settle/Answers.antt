@@ -1,0 +1,24 @@
+use Rattle.std.proofs.Common.{None, refl, sym, subst}
+use Rattle.activate.specs.declared.prepared.Completion.TheVariants.{Activate}
+use Rattle.activate.specs.declared.path.Attempt.{Attempt}
+use Rattle.activate.specs.inside.Preparation.{Settles}
+use Rattle.chain.specs.Regtest.{regtest}
+use Rattle.activate.specs.CoreState.{CoreState}
+use Rattle.activate.specs.inside.Paths.{LeadsTo, IsAttempt}
+use Rattle.activate.proofs.Plans.{said-once, settles-once}
+use Rattle.activate.proofs.core_state.Core.settle.Goals as goal
+
+pub returns-in-Succeeds-clause-settled : goal.returns-in-Succeeds-clause-settled
+returns-in-Succeeds-clause-settled g c =
+    let a : CoreState = c.args.self.now in
+    let r = regtest a.params c.args.env.now.table.now in
+    let move = c.in-Succeeds.found in
+    let told : LeadsTo r a.state.blocks a.active c.args.place move = subst (λ (x : Attempt). IsAttempt r a.state.blocks a.active c.args.place x) c.in-Succeeds.is c.in_ok-found.ensures in
+    settles-once r a c.args.place move c.requires.can c.requires.best told (Activate c.args.place move.path move.undo) refl
+
+pub returns-in-Succeeds-clause-said : goal.returns-in-Succeeds-clause-said
+returns-in-Succeeds-clause-said g c =
+    let a : CoreState = c.args.self.now in
+    let r = regtest a.params c.args.env.now.table.now in
+    let told : LeadsTo r a.state.blocks a.active c.args.place c.in-Succeeds.found = subst (λ (x : Attempt). IsAttempt r a.state.blocks a.active c.args.place x) c.in-Succeeds.is c.in_ok-found.ensures in
+    said-once r a c.requires.can c.args.place c.requires.best told.good

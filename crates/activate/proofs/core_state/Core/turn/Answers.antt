@@ -1,0 +1,142 @@
+use Rattle.std.proofs.Common.{◌≡◌, ℕ, suc, ◌+◌, ◌-◌, ◌≤◌, ◌++◌, List, length, map, reverse, take, get_or, true, arith, sym, ap, ◌∙◌, subst}
+use Rattle.std.proofs.lemmas.List.{length-append, length-map, length-reverse, length-take, length-take-le}
+use Rattle.block.specs.declared.block.Block.{Block}
+use Rattle.rules.specs.declared.params.Params.{Params}
+use Rattle.tree.specs.State.{State}
+use Rattle.tree.specs.Branches.{has, height}
+use Rattle.tree.specs.laws.Walks.{has_at}
+use Rattle.tree.specs.laws.Parents.{height-place}
+use Rattle.coins.specs.declared.coin.Coin.{Coin}
+use Rattle.activate.specs.CoreState.{CoreState, least, most_undo}
+use Rattle.activate.specs.inside.Keeping.{undo_at}
+use Rattle.activate.specs.inside.Preparation.{undo_after}
+use Rattle.activate.proofs.Trails.{length-newest}
+use Rattle.activate.specs.inside.ActiveBranch.{median_at, newest}
+use Rattle.activate.specs.inside.Paths.{IsPath}
+use Rattle.activate.specs.laws.Turning.{gone, come, turned_branch, up_kept}
+use Rattle.activate.proofs.core_state.Core.turn.Goals as goal
+
+pub overflow_sub-gone : goal.overflow_sub-gone
+overflow_sub-gone c =
+    let t = c.self.inside.tree.blocks in
+    let k : c.args.place ≤ length t = subst (λ (s : CoreState). c.args.place ≤ length s.state.blocks) (sym c.self.view_is) c.requires.kept in
+    let w : IsPath t c.self.inside.active c.args.place c.args.path.now = subst (λ (s : CoreState). IsPath s.state.blocks s.active c.args.place c.args.path.now) (sym c.self.view_is) c.requires.path in
+    let d = gone t c.self.inside.active c.args.place c.self.invariant.0 k c.args.path.now w in
+    let e = c.height.ensures in
+    omega arith
+
+pub overflow_add-path : goal.overflow_add-path
+overflow_add-path c =
+    let t = c.self.inside.tree.blocks in
+    let k : c.args.place ≤ length t = subst (λ (s : CoreState). c.args.place ≤ length s.state.blocks) (sym c.self.view_is) c.requires.kept in
+    let w : IsPath t c.self.inside.active c.args.place c.args.path.now = subst (λ (s : CoreState). IsPath s.state.blocks s.active c.args.place c.args.path.now) (sym c.self.view_is) c.requires.path in
+    let d = gone t c.self.inside.active c.args.place c.self.invariant.0 k c.args.path.now w in
+    let e = height-place t c.self.inside.active c.self.inside.active (omega arith) c.self.invariant.0 in
+    let a = c.self.invariant.0 in
+    let r = c.self.invariant.2.for_places in
+    let s = c.self.inside.branch.small in
+    omega arith
+
+pub overflow_add-path-2 : goal.overflow_add-path-2
+overflow_add-path-2 c =
+    let t = c.self.inside.tree.blocks in
+    let k : c.args.place ≤ length t = subst (λ (s : CoreState). c.args.place ≤ length s.state.blocks) (sym c.self.view_is) c.requires.kept in
+    let w : IsPath t c.self.inside.active c.args.place c.args.path.now = subst (λ (s : CoreState). IsPath s.state.blocks s.active c.args.place c.args.path.now) (sym c.self.view_is) c.requires.path in
+    let d = gone t c.self.inside.active c.args.place c.self.invariant.0 k c.args.path.now w in
+    let e = height-place t c.self.inside.active c.self.inside.active (omega arith) c.self.invariant.0 in
+    let a = c.self.invariant.0 in
+    let r = c.self.invariant.2.for_places in
+    let s = c.self.inside.branch.small in
+    omega arith
+
+pub append_places-requires-clause-kept : goal.append_places-requires-clause-kept
+append_places-requires-clause-kept c i d below =
+    let t = c.self.inside.tree.blocks in
+    let k : c.args.place ≤ length t = subst (λ (s : CoreState). c.args.place ≤ length s.state.blocks) (sym c.self.view_is) c.requires.kept in
+    let w : IsPath t c.self.inside.active c.args.place c.args.path.now = subst (λ (s : CoreState). IsPath s.state.blocks s.active c.args.place c.args.path.now) (sym c.self.view_is) c.requires.path in
+    let up : List ℕ = c.as_slice.result.now in
+    up_kept t c.self.inside.active c.args.place c.self.invariant.0 k c.args.path.now w (get_or up i d)
+    (subst (λ (q : List ℕ). has q (get_or up i d) ≡ true) c.as_slice.ensures.value (has_at up i d below))
+
+pub append_places-requires-clause-places : goal.append_places-requires-clause-places
+append_places-requires-clause-places c =
+    let t = c.self.inside.tree.blocks in
+    let k : c.args.place ≤ length t = subst (λ (s : CoreState). c.args.place ≤ length s.state.blocks) (sym c.self.view_is) c.requires.kept in
+    let w : IsPath t c.self.inside.active c.args.place c.args.path.now = subst (λ (s : CoreState). IsPath s.state.blocks s.active c.args.place c.args.path.now) (sym c.self.view_is) c.requires.path in
+    let d = come t c.self.inside.active c.args.place c.self.invariant.0 k c.args.path.now w in
+    let up = height-place t c.args.place c.args.place (omega arith) k in
+    let s = ap (λ (q : List ℕ). length q) c.truncate.ensures.items ∙ length-take (c.args.path.now.height + 1) c.self.inside.branch.items in
+    let r = c.self.invariant.2.for_places in
+    let v = c.truncate.ensures.capacity in
+    let m = ap (λ (q : List ℕ). length q) c.as_slice.ensures.value in
+    omega arith
+
+pub append_places-requires-clause-medians : goal.append_places-requires-clause-medians
+append_places-requires-clause-medians c =
+    let t = c.self.inside.tree.blocks in
+    let k : c.args.place ≤ length t = subst (λ (s : CoreState). c.args.place ≤ length s.state.blocks) (sym c.self.view_is) c.requires.kept in
+    let w : IsPath t c.self.inside.active c.args.place c.args.path.now = subst (λ (s : CoreState). IsPath s.state.blocks s.active c.args.place c.args.path.now) (sym c.self.view_is) c.requires.path in
+    let d = come t c.self.inside.active c.args.place c.self.invariant.0 k c.args.path.now w in
+    let up = height-place t c.args.place c.args.place (omega arith) k in
+    let s = ap (λ (q : List ℕ). length q) c.truncate-2.ensures.items ∙ length-take (c.args.path.now.height + 1) c.self.inside.medians.items in
+    let r = c.self.invariant.2.for_medians in
+    let v = c.truncate-2.ensures.capacity in
+    let m = ap (λ (q : List ℕ). length q) c.as_slice.ensures.value in
+    omega arith
+
+pub invariant_of-self : goal.invariant_of-self
+invariant_of-self c =
+    let t = c.self.inside.tree.blocks in
+    let k : c.args.place ≤ length t = subst (λ (s : CoreState). c.args.place ≤ length s.state.blocks) (sym c.self.view_is) c.requires.kept in
+    let w : IsPath t c.self.inside.active c.args.place c.args.path.now = subst (λ (s : CoreState). IsPath s.state.blocks s.active c.args.place c.args.path.now) (sym c.self.view_is) c.requires.path in
+    let more : c.args.undo.items ≡ reverse (map (undo_at t) c.args.path.now.up.items) = subst (λ (s : CoreState). c.args.undo.items ≡ reverse (map (undo_at s.state.blocks) c.args.path.now.up.items)) (sym c.self.view_is) c.requires.undo in
+    let up = c.args.path.now.up.items in
+    let h = c.args.path.now.height in
+    let undos = c.self.inside.undo.items in
+    let places : ◌≡◌ {A = List ℕ} c.append_places.new.branch.items (take (suc h) c.self.inside.branch.items ++ reverse up) =
+    c.append_places.ensures.branch ∙ ap (λ (q : List ℕ). q ++ reverse c.as_slice.result.now) (c.truncate.ensures.items ∙ ap (λ n. take n c.self.inside.branch.items) {x = h + 1} {y = suc h} (omega arith))
+    ∙ ap (λ (q : List ℕ). take (suc h) c.self.inside.branch.items ++ reverse q) c.as_slice.ensures.value in
+    let medians : ◌≡◌ {A = List ℕ} c.append_places.new.medians.items (take (suc h) c.self.inside.medians.items ++ reverse (map (median_at t) up)) =
+    c.append_places.ensures.medians ∙ ap (λ (q : List ℕ). q ++ reverse (map (median_at t) c.as_slice.result.now)) (c.truncate-2.ensures.items ∙ ap (λ n. take n c.self.inside.medians.items) {x = h + 1} {y = suc h} (omega arith))
+    ∙ ap (λ (q : List ℕ). take (suc h) c.self.inside.medians.items ++ reverse (map (median_at t) q)) c.as_slice.ensures.value in
+    let size = c.self.inside.undo.ok.0 in
+    let len = c.len.ensures in
+    let high = c.height.ensures in
+    let rest = c.saturating_sub-left.ensures in
+    let left : c.saturating_sub-left.result ≡ length undos - (height t c.self.inside.active - h) = omega arith in
+    let undo : ◌≡◌ {A = List (List (List Coin))} c.keep_undo.new.kept.items (newest most_undo (take (length undos - (height t c.self.inside.active - h)) undos ++ c.args.undo.items)) =
+    c.keep_undo.ensures.kept ∙ ap (λ (q : List (List (List Coin))). newest most_undo (q ++ c.args.undo.items)) (c.truncate-3.ensures.items ∙ ap (λ n. take n undos) left) in
+    let whole = turned_branch t c.self.inside.active c.args.place c.self.invariant.0 k c.args.path.now w c.self.inside.branch.items c.self.inside.medians.items undos c.args.undo.items c.self.invariant.1 more in
+    let room = c.self.invariant.2 in (
+      k,
+      rw (places, medians, undo) whole,
+      record {
+        for_places = (let r = room.for_places in let a = c.append_places.ensures.room in let b = c.truncate.ensures.capacity in omega arith);
+        for_medians = (let r = room.for_medians in let a = c.append_places.ensures.room_too in let b = c.truncate-2.ensures.capacity in omega arith);
+        for_undo = (let r = room.for_undo in let a = c.keep_undo.ensures.room in let b = c.truncate-3.ensures.capacity in omega arith);
+      },
+    )
+
+pub returns : goal.returns
+returns c =
+    let i = c.self.inside in
+    let undos = i.undo.items in
+    let path = c.args.path.now in
+    let more : c.args.undo.items ≡ reverse (map (undo_at i.tree.blocks) path.up.items) = subst (λ (s : CoreState). c.args.undo.items ≡ reverse (map (undo_at s.state.blocks) path.up.items)) (sym c.self.view_is) c.requires.undo in
+    let size = i.undo.ok.0 in
+    let len = c.len.ensures in
+    let high = c.height.ensures in
+    let rest = c.saturating_sub-left.ensures in
+    let left : c.saturating_sub-left.result ≡ length undos - (height i.tree.blocks i.active - path.height) = omega arith in
+    let stay : ◌≡◌ {A = List (List (List Coin))} c.truncate-3.new.self.items (take (length undos - (height i.tree.blocks i.active - path.height)) undos) = c.truncate-3.ensures.items ∙ ap (λ n. take n undos) left in
+    let first = ap (λ (l : List (List (List Coin))). length l) stay ∙ length-take-le (length undos - (height i.tree.blocks i.active - path.height)) undos (omega arith) in
+    let second = ap (λ (l : List (List (List Coin))). length l) more ∙ length-reverse (map (undo_at i.tree.blocks) path.up.items) ∙ length-map path.up.items (undo_at i.tree.blocks) in
+    let both = length-append c.truncate-3.new.self.items c.args.undo.items in
+    let all : length (c.truncate-3.new.self.items ++ c.args.undo.items) ≡ (length undos - (height i.tree.blocks i.active - path.height)) + length path.up.items = omega arith in
+    let kept : length c.keep_undo.new.kept.items ≡ undo_after i.tree.blocks i.active (length undos) path =
+    ap (λ (l : List (List (List Coin))). length l) c.keep_undo.ensures.kept ∙ length-newest most_undo (c.truncate-3.new.self.items ++ c.args.undo.items) ∙ ap (least most_undo) all in
+    ap (λ (n : ℕ). with_undo i.params i.tree c.args.place n) kept
+    ∙ ap (λ (x : CoreState). record x { active = c.args.place; undo_kept = undo_after x.state.blocks x.active x.undo_kept path }) c.self.view_is
+  where
+    with_undo : Params → State Block → ℕ → ℕ → CoreState
+    with_undo params state active n = record { params = params; state = state; active = active; undo_kept = n }

@@ -1,7 +1,0 @@
-use Rattle.std.proofs.Common.{◌≡◌, map, take}
-use Rattle.tree.specs.MedianTime.{time_of}
-use Rattle.activate.specs.Slow.{blocks_in}
-use Rattle.activate.proofs.slowly.replaying.times_of.Given as goal
-
-abbrev pub invariant-loop-index : goal.invariant-loop-index
-invariant-loop-index l = l.times.items ≡ map time_of (blocks_in l.held (take l.index l.branch))

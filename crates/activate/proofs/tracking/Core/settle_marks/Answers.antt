@@ -1,8 +1,0 @@
-use Rattle.std.proofs.Common.{refl}
-use Rattle.activate.specs.Regtest.{regtest}
-use Rattle.activate.proofs.Planned.{plan-marks}
-use Rattle.activate.proofs.tracking.Core.settle_marks.Goals as goal
-
-pub returns-in-Ok-clause-plan : goal.returns-in-Ok-clause-plan
-returns-in-Ok-clause-plan g c a e =
-    plan-marks (regtest c.args.self.now.params c.args.env.now.table.now) a c.args.self.now c.settle_rest.new.self c.args.flags c.in-Ok.place c.in-Ok.found c.requires.can c.requires.flags e c.in-Ok.ensures.flags c.in-Ok.ensures.leads _ refl refl refl refl refl

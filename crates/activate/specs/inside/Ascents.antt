@@ -1,0 +1,37 @@
+-- Words for the walk up a path, block by block. No public clause needs them.
+use Rattle.std.specs.Prelude.{◌≡◌, ℕ, ◌≤◌, true, List, [], ◌∷◌, length, map, reverse}
+use Rattle.hash.specs.declared.id.Id.{Id}
+use Rattle.block.specs.declared.block.Block.{Block}
+use Rattle.coins.specs.declared.coin.Coin.{Coin}
+use Rattle.coins.specs.Coins.{Coins}
+use Rattle.tree.specs.Branches.{Blocks, on}
+use Rattle.tree.specs.laws.Above.{above}
+use Rattle.activate.specs.declared.ascent.Ascent.{Ascent}
+use Rattle.activate.specs.declared.ascent.Ascent.TheVariants.{Top, Stops}
+use Rattle.chain.specs.Rules.{Rules}
+use Rattle.chain.specs.Valid.{valid}
+use Rattle.activate.specs.CoreState.{coins_after}
+use Rattle.activate.specs.inside.Keeping.{undo_at}
+use Rattle.activate.specs.inside.Paths.{IsStop}
+
+-- the highest of these places above the fork f, or f where there is none
+abbrev pub top_of : ℕ → List ℕ → ℕ
+top_of f [] = f
+top_of f (x ∷ up) = x
+
+-- these are the places from one down to the fork f, without f
+pub record LeadsUp (t : Blocks Block) (f : ℕ) (up : List ℕ) : Type 0 where
+  pub kept : top_of f up ≤ length t
+  pub shared : on t (top_of f up) f ≡ true
+  pub all : up ≡ above t (top_of f up) f
+
+-- each of these blocks, the highest first, connects: what they spend, the lowest first, and which coins they leave
+pub record IsTop (r : Rules Block Id) (t : Blocks Block) (f : ℕ) (up : List ℕ) (undo : List (List (List Coin))) (coins : Coins) : Type 0 where
+  pub good : valid r t (top_of f up) ≡ true
+  pub spent : undo ≡ reverse (map (undo_at t) up)
+  pub left : coins ≡ coins_after t (top_of f up)
+
+-- what the walk up comes to, and these coins
+abbrev pub IsAscent : Rules Block Id → Blocks Block → ℕ → List ℕ → Coins → Ascent → Type 0
+IsAscent r t f up coins (Top undo) = IsTop r t f up undo.items coins
+IsAscent r t f up coins (Stops passed reason) = IsStop r t (top_of f up) up passed reason

@@ -1,0 +1,24 @@
+-- Words for taking active blocks back. No public clause needs them.
+use Rattle.std.specs.Prelude.{◌≡◌, ℕ, suc, ◌+◌, ◌<◌, List, [], length}
+use Rattle.std.proofs.Common.{get_or}
+use Rattle.block.specs.declared.block.Block.{Block}
+use Rattle.coins.specs.declared.coin.Coin.{Coin}
+use Rattle.tree.specs.Branches.{Blocks, height, parent_at}
+use Rattle.activate.specs.inside.Keeping.{undo_at}
+use Rattle.activate.specs.inside.Paths.{WasConnected}
+
+-- the place at a height of a branch
+abbrev pub place_at : List ℕ → ℕ → ℕ
+place_at places h = get_or places h 0
+
+-- these are the places of a branch by height, and each of its blocks but genesis was connected
+pub record IsConnectedBranch (t : Blocks Block) (places : List ℕ) : Type 0 where
+  pub genesis : place_at places 0 ≡ 0
+  pub kept : (h : ℕ) → h < length places → place_at places h < suc (length t)
+  pub high : (h : ℕ) → h < length places → height t (place_at places h) ≡ h
+  pub parent : (h : ℕ) → suc h < length places → parent_at t (place_at places (suc h)) ≡ place_at places h
+  pub connected : (h : ℕ) → suc h < length places → WasConnected t (place_at places (suc h))
+
+-- this is what the blocks of a branch from above this height on spend, the lowest first
+abbrev pub IsUndoAbove : Blocks Block → List ℕ → ℕ → List (List (List Coin)) → Type 0
+IsUndoAbove t places low undo = (i : ℕ) → i < length undo → get_or undo i [] ≡ undo_at t (place_at places (suc (low + i)))

@@ -1,0 +1,31 @@
+-- What the core keeps beside the tree. No public clause needs these words.
+use Rattle.std.specs.Prelude.{◌≡◌, ℕ, suc, List, length, map, reverse, take, ◌≤◌}
+use Rattle.block.specs.declared.block.Block.{Block}
+use Rattle.coins.specs.declared.coin.Coin.{Coin}
+use Rattle.connect.specs.Turns.{undo_of}
+use Rattle.tree.specs.Branches.{Blocks, branch, height, parent_at, block_at}
+use Rattle.tree.specs.Names.{names}
+use Rattle.chain.specs.Regtest.{medians_of}
+use Rattle.activate.specs.CoreState.{branch_blocks, coins_after, most_undo}
+
+-- what the transactions of the block at a place spend
+unfoldable pub undo_at : Blocks Block → ℕ → List (List Coin)
+undo_at t p = undo_of (height t p) (coins_after t (parent_at t p)) (block_at names t p).txs
+
+-- of so many of the highest blocks of the branch of a place, the lowest first
+unfoldable pub highest_undo : Blocks Block → ℕ → ℕ → List (List (List Coin))
+highest_undo t p n = reverse (map (undo_at t) (take n (branch t p)))
+
+-- the active branch by height: its places, their medians time past, and the undo of the highest, but not of genesis
+pub record IsBranch (t : Blocks Block) (p : ℕ) (places medians : List ℕ) (undo : List (List (List Coin))) : Type 0 where
+  pub places_are : places ≡ reverse (branch t p)
+  pub medians_are : medians ≡ reverse (medians_of (branch_blocks t p))
+  pub undo_is : undo ≡ highest_undo t p (length undo)
+  pub undo_few : length undo ≤ most_undo
+  pub undo_above : length undo ≤ height t p
+
+-- so many places, medians and blocks' undo can be kept without more memory: of the branch of each kept block
+pub record HasRoom (t : Blocks Block) (places medians undo : ℕ) : Type 0 where
+  pub for_places : suc (length t) ≤ places
+  pub for_medians : suc (length t) ≤ medians
+  pub for_undo : most_undo ≤ undo

@@ -1,0 +1,66 @@
+-- Words for what `Core` does inside when another block becomes the active one. No public clause needs them.
+use Rattle.std.specs.Prelude.{◌≡◌, ℕ, ◌<◌, true, List, ◌∷◌, ◌++◌, length, map, reverse, Some}
+use Rattle.txn.specs.declared.reason.Reason.{Reason}
+use Rattle.hash.specs.declared.id.Id.{Id}
+use Rattle.block.specs.declared.block.Block.{Block}
+use Rattle.coins.specs.Changes.{AreChanges, laid}
+use Rattle.connect.specs.Setting.{Setting}
+use Rattle.connect.specs.Connecting.{IsConnected}
+use Rattle.tree.specs.Branches.{Blocks, on, height, parent_at, block_at}
+use Rattle.tree.specs.Names.{names}
+use Rattle.tree.specs.laws.Above.{above, IsShared}
+use Rattle.activate.specs.declared.path.BranchPath.{BranchPath}
+use Rattle.activate.specs.declared.path.Reorganisation.{Reorganisation}
+use Rattle.activate.specs.declared.path.FailedTry.{FailedTry}
+use Rattle.activate.specs.declared.path.Attempt.{Attempt}
+use Rattle.activate.specs.declared.path.Attempt.TheVariants.{Succeeds, Fails}
+use Rattle.chain.specs.Rules.{Rules}
+use Rattle.chain.specs.Valid.{fault, valid}
+use Rattle.chain.specs.inside.Faults.{IsFirstFault}
+use Rattle.activate.specs.CoreState.{coins_after}
+use Rattle.activate.specs.inside.Keeping.{undo_at}
+
+-- the block at a place was connected to the coins of its parent's branch
+pub record WasConnected (t : Blocks Block) (p : ℕ) : Type 0 where
+  pub setting : Setting
+  pub high : setting.height ≡ height t p
+  pub connected : IsConnected setting (coins_after t (parent_at t p)) (block_at names t p) (coins_after t p) (undo_at t p)
+
+-- so was each of its branch, but for genesis
+abbrev pub AreConnected : Blocks Block → ℕ → Type 0
+AreConnected t p = (x : ℕ) → 0 < x → on t p x ≡ true → WasConnected t x
+
+-- from the active block at a to the block at p: down to the last block that their branches share, and up from there
+pub record IsPath (t : Blocks Block) (a p : ℕ) (path : BranchPath) : Type 0 where
+  pub shared : IsShared t a p path.fork
+  pub high : path.height ≡ height t path.fork
+  pub up : path.up.items ≡ above t p path.fork
+
+-- each block of the branch of p connects: what its blocks above the fork spend, the lowest first, and how the coins
+-- of its branch differ from the active ones
+pub record LeadsTo (r : Rules Block Id) (t : Blocks Block) (a p : ℕ) (move : Reorganisation) : Type 0 where
+  pub path : IsPath t a p move.path
+  pub good : valid r t p ≡ true
+  pub undo : move.undo.items ≡ reverse (map (undo_at t) move.path.up.items)
+  pub changes : AreChanges (coins_after t a) (coins_after t p) move.changes.items
+  pub laid : laid (coins_after t a) move.changes.items ≡ coins_after t p
+
+-- of the branch of p so many of the blocks above a fork connect, the highest of which comes first, and the next one
+-- doesn't
+pub record IsStop (r : Rules Block Id) (t : Blocks Block) (p : ℕ) (up : List ℕ) (passed : ℕ) (reason : Reason) : Type 0 where
+  pub front : List ℕ
+  pub place : ℕ
+  pub rest : List ℕ
+  pub parts : reverse up ≡ front ++ (place ∷ rest)
+  pub counted : passed ≡ length front
+  pub first : IsFirstFault r t p place
+  pub broken : fault r t place ≡ Some reason
+
+-- a try of the block at p fails
+pub record FailsAt (r : Rules Block Id) (t : Blocks Block) (a p : ℕ) (failed : FailedTry) : Type 0 where
+  pub path : IsPath t a p failed.path
+  pub stop : IsStop r t p failed.path.up.items failed.passed failed.reason
+
+abbrev pub IsAttempt : Rules Block Id → Blocks Block → ℕ → ℕ → Attempt → Type 0
+IsAttempt r t a p (Succeeds move) = LeadsTo r t a p move
+IsAttempt r t a p (Fails failed) = FailsAt r t a p failed

@@ -1,0 +1,187 @@
+-- Words for what `Core` prepares for a command, before it puts it in place. No public clause needs them.
+use Rattle.std.specs.Prelude.{◌≡◌, ℕ, suc, ◌+◌, ◌-◌, ◌==◌, if◌then◌else◌, ◌<◌, ◌≤◌, true, false, List, [], length, map, reverse, Option, None, Some, ⊤}
+use Rattle.hash.specs.declared.id.Id.{Id}
+use Rattle.block.specs.declared.block.Block.{Block}
+use Rattle.coins.specs.declared.coin.Coin.{Coin}
+use Rattle.coins.specs.Changes.{Changes, AreChanges}
+use Rattle.tree.specs.Branches.{Blocks, has, height, rest_of, on}
+use Rattle.tree.specs.State.{State, usable, without_last, marked}
+use Rattle.tree.specs.Flags.{FlagsOf}
+use Rattle.tree.specs.Names.{names}
+use Rattle.tree.specs.Sound.{IsFresh}
+use Rattle.tree.specs.laws.Sets.{InOrder}
+use Rattle.chain.specs.declared.command.Command.{Command}
+use Rattle.activate.specs.declared.prepared.Prepared.{Prepared}
+use Rattle.activate.specs.declared.prepared.Rollback.{Rollback}
+use Rattle.activate.specs.declared.prepared.TreeChange.{TreeChange}
+use Rattle.activate.specs.declared.prepared.TreeChange.TheVariants.{Unchanged, BlockAdded, CalledPrecious}
+use Rattle.activate.specs.declared.prepared.Completion.{Completion}
+use Rattle.activate.specs.declared.prepared.Completion.TheVariants.{Nothing, Mark, Activate}
+use Rattle.chain.specs.declared.reply.Reply.{Reply}
+use Rattle.chain.specs.declared.reply.SubmitReply.{SubmitReply}
+use Rattle.chain.specs.declared.reply.SubmitReply.TheVariants.{Inconclusive, Rejected}
+use Rattle.activate.specs.declared.path.FailedTry.{FailedTry}
+use Rattle.activate.specs.declared.path.Reorganisation.{Reorganisation}
+use Rattle.activate.specs.declared.path.BranchPath.{BranchPath}
+use Rattle.chain.specs.Rules.{Rules}
+use Rattle.chain.specs.Valid.{valid}
+use Rattle.chain.specs.Settle.{active, settle}
+use Rattle.chain.specs.inside.Try.{state_after_try}
+use Rattle.chain.specs.Settled.{AllKept}
+use Rattle.chain.specs.Commands.{outcome}
+use Rattle.chain.specs.Submission.{Outcome}
+use Rattle.activate.specs.CoreState.{CoreState, coins_of, least, most_undo}
+use Rattle.activate.specs.inside.Keeping.{undo_at}
+use Rattle.activate.specs.inside.Paths.{FailsAt, IsPath, LeadsTo}
+
+-- what is always right of the flags between two tries: the active branch is valid and was seen
+pub record CanTry (r : Rules Block Id) (c : CoreState) : Type 0 where
+  pub genesis : usable c.state 0 ≡ true
+  pub kept : c.active ≤ length c.state.blocks
+  pub all : AllKept r c.state.blocks
+  pub good : valid r c.state.blocks c.active ≡ true
+  pub seen : (x : ℕ) → on c.state.blocks c.active x ≡ true → has c.state.seen x ≡ true
+  pub bad_in_order : InOrder (length c.state.blocks) c.state.bad
+  pub seen_in_order : InOrder (length c.state.blocks) c.state.seen
+
+-- the flags of s are those between two tries, where the block at a is active
+pub record HasFlags (s : State Block) (a : ℕ) : Type 0 where
+  pub seen : (x : ℕ) → on s.blocks a x ≡ true → has s.seen x ≡ true
+  pub bad_in_order : InOrder (length s.blocks) s.bad
+  pub seen_in_order : InOrder (length s.blocks) s.seen
+
+-- a path to a block whose branch is valid
+pub record IsValidPath (r : Rules Block Id) (s : State Block) (a p : ℕ) (path : BranchPath) : Type 0 where
+  pub kept : p ≤ length s.blocks
+  pub leads : IsPath s.blocks a p path
+  pub good : valid r s.blocks p ≡ true
+  pub flags : HasFlags s a
+
+-- a try of a block that failed
+pub record IsFailedTry (r : Rules Block Id) (s : State Block) (a p : ℕ) (failed : FailedTry) : Type 0 where
+  pub kept : p ≤ length s.blocks
+  pub fails : FailsAt r s.blocks a p failed
+  pub flags : HasFlags s a
+
+-- the tree may be flagged by a try of p that failed
+pub record CanFlag (r : Rules Block Id) (c : CoreState) (p : ℕ) (failed : FailedTry) : Type 0 where
+  pub can : CanTry r c
+  pub kept : p ≤ length c.state.blocks
+  pub fails : FailsAt r c.state.blocks c.active p failed
+
+-- ---- what is still to be put in place
+
+-- the block at p may become active
+pub record CanActivate (r : Rules Block Id) (c : CoreState) (p : ℕ) (path : BranchPath) (undo : List (List (List Coin))) : Type 0 where
+  pub can : CanTry r c
+  pub kept : p ≤ length c.state.blocks
+  pub is_way : IsPath c.state.blocks c.active p path
+  pub good : valid r c.state.blocks p ≡ true
+  pub undo_is : undo ≡ reverse (map (undo_at c.state.blocks) path.up.items)
+
+abbrev pub IsReady : Rules Block Id → CoreState → Completion → Type 0
+IsReady r c Nothing = ⊤
+IsReady r c (Mark p) = (0 < p) × (p ≤ length c.state.blocks)
+IsReady r c (Activate p path undo) = CanActivate r c p path undo.items
+
+-- of so many blocks undo is kept after a path was gone: not of those that were taken back, and at most of the highest
+abbrev pub undo_after : Blocks Block → ℕ → ℕ → BranchPath → ℕ
+undo_after t a kept path = least most_undo ((kept - (height t a - path.height)) + length path.up.items)
+
+abbrev pub core_after_commit : Rules Block Id → CoreState → Completion → CoreState
+core_after_commit r c Nothing = c
+core_after_commit r c (Mark p) = record c { state = marked c.state p }
+core_after_commit r c (Activate p path undo) = record c {
+  state = state_after_try r c.state p;
+  active = p;
+  undo_kept = undo_after c.state.blocks c.active c.undo_kept path;
+}
+
+-- ---- how the tree becomes what it was
+
+abbrev pub with_flags : Option FlagsOf → State Block → State Block
+with_flags None s = s
+with_flags (Some f) s = record s { bad = f.bad; seen = f.seen }
+
+abbrev pub state_before_change : TreeChange → State Block → State Block
+state_before_change Unchanged s = s
+state_before_change BlockAdded s = without_last s
+state_before_change CalledPrecious s = record s { precious = rest_of s.precious }
+
+abbrev pub core_after_rollback : CoreState → Rollback → CoreState
+core_after_rollback c rollback = record c { state = state_before_change rollback.first (with_flags rollback.flags c.state) }
+
+abbrev pub FlagsFit : State Block → Option FlagsOf → Type 0
+FlagsFit s None = ⊤
+FlagsFit s (Some f) = (f.len ≡ suc (length s.blocks)) × (has f.bad 0 ≡ false)
+
+-- the block that was added isn't the active one
+abbrev pub CanBeTakenBack : TreeChange → ℕ → State Block → Type 0
+CanBeTakenBack Unchanged a s = ⊤
+CanBeTakenBack BlockAdded a s = (a < length s.blocks) × IsFresh names s
+CanBeTakenBack CalledPrecious a s = 0 < length s.precious
+
+pub record CanRollBack (c : CoreState) (rollback : Rollback) : Type 0 where
+  pub flags : FlagsFit c.state rollback.flags
+  pub first : CanBeTakenBack rollback.first c.active (with_flags rollback.flags c.state)
+
+-- ---- tries
+
+-- b is a with other flags
+pub record HasOtherFlags (a b : CoreState) : Type 0 where
+  pub same : record a { state = b.state } ≡ b
+  pub blocks_are : b.state.blocks ≡ a.state.blocks
+  pub precious_is : b.state.precious ≡ a.state.precious
+
+-- tries led from a to b
+pub record TriesLead (r : Rules Block Id) (a b : CoreState) : Type 0 where
+  pub flags : HasOtherFlags a b
+  pub can : CanTry r b
+  pub settles : settle r b.state ≡ settle r a.state
+  pub active_is : active r b.state ≡ active r a.state
+
+-- and a try of the block at p settles the state
+pub record TryLeads (r : Rules Block Id) (a b : CoreState) (p : ℕ) (move : Reorganisation) : Type 0 where
+  pub can : CanTry r b
+  pub kept : p ≤ length b.state.blocks
+  pub moves : LeadsTo r b.state.blocks b.active p move
+  pub settles : state_after_try r b.state p ≡ settle r a.state
+  pub active_is : active r a.state ≡ p
+
+-- of a try that failed: the last block of the branch is the first that doesn't connect, or isn't
+unfoldable pub reply_to_failed_try : FailedTry → SubmitReply
+reply_to_failed_try failed = if failed.passed + 1 == length failed.path.up.items then Rejected failed.reason else Inconclusive
+
+-- ---- what a command comes to
+
+-- b is a before the command, with what preparing it did to the tree; the coins and the state that the command leaves are
+-- those after the rest is put in place
+pub record IsPreparationFor (r : Rules Block Id) (a : CoreState) (after : Outcome Block) (b : CoreState) (prepared : Prepared) : Type 0 where
+  pub params_are : b.params ≡ a.params
+  pub outcome_is : ((core_after_commit r b prepared.rest).state, prepared.reply) ≡ after
+  pub active_is : (core_after_commit r b prepared.rest).active ≡ active r (core_after_commit r b prepared.rest).state
+  pub changes_are : AreChanges (coins_of a) (coins_of (core_after_commit r b prepared.rest)) prepared.changes.items
+  pub ready : IsReady r b prepared.rest
+  pub can_go_back : CanRollBack b prepared.rollback
+  pub back_is : core_after_rollback b prepared.rollback ≡ a
+
+abbrev pub IsPreparation : Rules Block Id → CoreState → Command → CoreState → Prepared → Type 0
+IsPreparation r a command b prepared = IsPreparationFor r a (outcome r a.state command) b prepared
+
+-- what is prepared for a command that changes nothing
+pub record ChangesNothing (reply : Reply) (prepared : Prepared) : Type 0 where
+  pub reply_is : prepared.reply ≡ reply
+  pub first_is : prepared.rollback.first ≡ Unchanged
+  pub flags_are : prepared.rollback.flags ≡ None
+  pub rest_is : prepared.rest ≡ Nothing
+  pub changes_are : prepared.changes.items ≡ []
+
+-- the same of settling the state as it is
+pub record Settles (r : Rules Block Id) (a b : CoreState) (flags : Option FlagsOf) (rest : Completion) (changes : Changes) : Type 0 where
+  pub other_flags : HasOtherFlags a b
+  pub state_is : (core_after_commit r b rest).state ≡ settle r a.state
+  pub active_is : (core_after_commit r b rest).active ≡ active r a.state
+  pub changes_are : AreChanges (coins_of a) (coins_of (core_after_commit r b rest)) changes
+  pub ready : IsReady r b rest
+  pub fit : FlagsFit b.state flags
+  pub back_is : record b { state = with_flags flags b.state } ≡ a

@@ -1,0 +1,107 @@
+//! A try of a block: whether its branch connects.
+
+ghost use Rattle.std.specs.Prelude.{◌≡◌, ◌≤◌, true, length, IfOk};
+ghost use Rattle.chain.specs.Valid.{valid};
+ghost use Rattle.chain.specs.Regtest.{regtest};
+ghost use Rattle.chain.specs.Settled.{AllKept};
+ghost use Rattle.activate.specs.CoreState.{coins_after};
+ghost use Rattle.activate.specs.inside.Keeping.{IsBranch};
+ghost use Rattle.activate.specs.inside.Paths.{IsAttempt};
+
+use crate::ascent::{Ascent, connect_up};
+use crate::disconnection::disconnect_to_fork;
+use crate::fork_search::path_to;
+use crate::path::{Attempt, FailedTry, Reorganisation};
+use coins::{Base, Cache};
+use connect::Env;
+use queue::{Crew, Gate};
+use rules::Params;
+use std::alloc::Global;
+use std::collections::VecDeque;
+use tree::Tree;
+use undo::BlockUndo;
+use wire::Memory;
+
+/// The active branch, as a try looks at it.
+#[derive(Clone, Copy)]
+pub(crate) struct ActiveBranch<'a> {
+    pub(crate) tree: &'a Tree,
+    pub(crate) params: &'a Params,
+    pub(crate) active: usize,
+    /// The places of the active branch, by height.
+    pub(crate) branch: &'a [usize],
+    /// Their medians time past, by height.
+    pub(crate) medians: &'a [u32],
+    /// What the highest of its blocks spent, the lowest first.
+    pub(crate) undo: &'a VecDeque<BlockUndo>,
+}
+
+/// Tries a block over the coins of the active branch, on a layer that is dropped: the active branch is taken back down
+/// to the fork, and the block's branch is connected up from there.
+pub(crate) fn try_branch<B: Base, C: Crew>(
+    alloc: Global,
+    active_branch: &ActiveBranch,
+    base: &B,
+    place: usize,
+    env: &Env<'_, C>,
+    gate: &(dyn Gate + Sync),
+) -> Result<Attempt, Memory>
+    requires branch { let b = active_branch.now in
+        IsBranch b.tree.now.blocks b.active b.branch.now b.medians.now b.undo.now.items }
+    requires active { active_branch.now.active ≤ length active_branch.now.tree.now.blocks }
+    requires place { place ≤ length active_branch.now.tree.now.blocks }
+    requires kept { AllKept (regtest active_branch.now.params.now env.now.table.now)
+        active_branch.now.tree.now.blocks }
+    requires good { let b = active_branch.now in
+        valid (regtest b.params.now env.now.table.now) b.tree.now.blocks b.active ≡ true }
+    requires coins { B.coins base.now
+        ≡ coins_after active_branch.now.tree.now.blocks active_branch.now.active }
+    ensures { let b = active_branch.now in
+        let r = regtest b.params.now env.now.table.now in
+        IfOk result (λ attempt. IsAttempt r b.tree.now.blocks b.active place attempt) }
+{
+    // So few blocks are kept that a height has a next one.
+    let _few = active_branch.tree.len();
+    let path = path_to(
+        alloc,
+        active_branch.tree,
+        active_branch.active,
+        active_branch.branch,
+        place,
+    )?;
+    let mut layer = Cache::over(alloc, base);
+    disconnect_to_fork(
+        alloc,
+        &mut layer,
+        active_branch.tree,
+        active_branch.active,
+        active_branch.branch,
+        active_branch.undo,
+        path.fork,
+    )?;
+    let shared = Vec::from_slice(alloc, &active_branch.medians[..=path.height])?;
+    match connect_up(
+        alloc,
+        &mut layer,
+        active_branch.tree,
+        active_branch.params,
+        shared,
+        &path,
+        env,
+        gate,
+    )? {
+        Ascent::Top(undo) => {
+            let changes = layer.changes(alloc)?;
+            Ok(Attempt::Succeeds(Reorganisation {
+                path,
+                undo,
+                changes,
+            }))
+        }
+        Ascent::Stops(passed, reason) => Ok(Attempt::Fails(FailedTry {
+            path,
+            passed,
+            reason,
+        })),
+    }
+}

@@ -1,0 +1,131 @@
+//! A chainstate over coins that are lent to it.
+
+ghost use Rattle.std.specs.Prelude.{◌≡◌, ◌≤◌, IfOk, map};
+ghost use Rattle.std.specs.FinMap as coin_map;
+ghost use Rattle.curve.specs.Triple.{Triples};
+ghost use Rattle.rules.specs.Params.{regtest as regtest_params};
+ghost use Rattle.chain.specs.Regtest.{regtest};
+ghost use Rattle.chain.specs.Settle.{active, best, tips};
+ghost use Rattle.tree.specs.Branches.{height};
+ghost use Rattle.tree.specs.Tips.{shown};
+ghost use Rattle.activate.specs.CoreState.{Follows, coins_of, genesis_alone, most_undo};
+
+mod committing;
+mod marking;
+pub(crate) mod preparing;
+mod settling;
+mod stepping;
+
+use crate::active_branch::MOST_UNDO;
+use block::GENESIS_TIME;
+use hash::Id;
+use rules::Params;
+use std::alloc::Global;
+use std::collections::VecDeque;
+use std::marker::Model;
+use tree::{Tip, Tree};
+use undo::BlockUndo;
+use wire::Memory;
+
+/// The tree, the active block, and the undo of the highest active blocks; the coins lie with the caller. A clause
+/// sees the heights of soft forks, the state, and the active place.
+#[derive(Drop)]
+pub struct Core {
+    params: Params,
+    tree: Tree,
+    active: usize,
+    /// The places of the active branch, by height.
+    branch: Vec<usize>,
+    /// Their medians time past, by height.
+    medians: Vec<u32>,
+    /// What the highest of them spent, the lowest first.
+    undo: VecDeque<BlockUndo>,
+}
+
+impl Model for Core {
+    ghost use Rattle.std.specs.Prelude.{length, ◌≤◌, vec_capacity};
+    ghost use Rattle.std.specs.VecDeque.{deque_capacity};
+    ghost use Rattle.activate.specs.CoreState.{CoreState};
+    ghost use Rattle.activate.specs.inside.Keeping.{IsBranch, HasRoom};
+
+    ghost Value = { CoreState };
+
+    ghost view = { λ c. record {
+      params = c.params;
+      state = c.tree;
+      active = c.active;
+      undo_kept = length c.undo.items;
+    } };
+
+    ghost invariant = { λ c. let t = c.tree.blocks in
+        (c.active ≤ length t)
+        × IsBranch t c.active c.branch.items c.medians.items c.undo.items
+        × HasRoom t (vec_capacity c.branch) (vec_capacity c.medians) (deque_capacity c.undo) };
+}
+
+impl Core {
+    /// Genesis alone, by the rules of regtest.
+    pub fn new(alloc: Global) -> Result<Core, Memory>
+        ensures value { IfOk result (λ core. core ≡ genesis_alone regtest_params) }
+        ensures follows { (triples : Triples)
+            → IfOk result (λ core.
+            Follows core triples × (coins_of core ≡ coin_map.empty)) }
+    {
+        Core::with(alloc, Params::regtest())
+    }
+
+    /// Genesis alone, with these heights of soft forks.
+    pub fn with(alloc: Global, params: Params) -> Result<Core, Memory>
+        ensures value { IfOk result (λ core. core ≡ genesis_alone params) }
+        ensures follows { (triples : Triples)
+            → IfOk result (λ core.
+            Follows core triples × (coins_of core ≡ coin_map.empty)) }
+    {
+        let mut branch = Vec::new(alloc);
+        branch.push(0)?;
+        let mut medians = Vec::new(alloc);
+        medians.push(GENESIS_TIME)?;
+        Ok(Core {
+            params,
+            tree: Tree::new(alloc)?,
+            active: 0,
+            branch,
+            medians,
+            undo: VecDeque::with_capacity(alloc, MOST_UNDO)?,
+        })
+    }
+
+    /// The active block's id.
+    pub fn best(&self) -> Id
+        ensures { (triples : Triples) → Follows self.now triples
+            → result ≡ best (regtest self.now.params triples) self.now.state }
+    {
+        self.tree.id(self.active)
+    }
+
+    /// The active block's height.
+    pub fn height(&self) -> usize
+        ensures { (triples : Triples) → Follows self.now triples
+            → let s = self.now.state in
+            result ≡ height s.blocks (active (regtest self.now.params triples) s) }
+    {
+        self.tree.height(self.active)
+    }
+
+    /// The tips of the tree, by height downwards, then by arrival (Bitcoin Core's `getchaintips`).
+    pub fn tips(&self, alloc: Global) -> Result<Vec<Tip>, Memory>
+        ensures { (triples : Triples) → Follows self.now triples
+            → let r = regtest self.now.params triples in
+            IfOk result (λ list. list.items ≡ map shown (tips r self.now.state)) }
+    {
+        self.tree.tips(alloc, self.active, self.branch.as_slice())
+    }
+
+    /// Of how many of the highest active blocks undo is kept.
+    pub fn undo_kept(&self) -> usize
+        ensures value { result ≡ self.now.undo_kept }
+        ensures few { result ≤ most_undo }
+    {
+        self.undo.len()
+    }
+}

@@ -1,0 +1,74 @@
+//! What was prepared is put in place, or given up. Neither takes memory.
+
+ghost use Rattle.std.specs.Prelude.{◌≡◌, ◌≤◌, length, map, reverse};
+ghost use Rattle.activate.specs.inside.Preparation.{undo_after, CanRollBack, IsReady, core_after_commit, core_after_rollback};
+ghost use Rattle.curve.specs.Triple.{Triples};
+ghost use Rattle.chain.specs.Regtest.{regtest};
+ghost use Rattle.activate.specs.inside.Keeping.{undo_at};
+ghost use Rattle.activate.specs.inside.Paths.{IsPath};
+
+use crate::active_branch::{append_places, keep_undo};
+use crate::core_state::Core;
+use crate::path::BranchPath;
+use crate::prepared::{Completion, Rollback, TreeChange};
+use crate::try_flags::flag_valid_path;
+use undo::BlockUndo;
+
+impl Core {
+    /// Puts in place what is left to do of a prepared command.
+    pub(crate) fn commit(&mut self, rest: Completion)
+        requires { (triples : Triples) × IsReady (regtest self.old.params triples) self.old rest }
+        ensures { (triples : Triples) → IsReady (regtest self.old.params triples) self.old rest
+            → self.new ≡ core_after_commit (regtest self.old.params triples) self.old rest }
+    {
+        match rest {
+            Completion::Nothing => {}
+            Completion::Mark(place) => self.tree.mark(place),
+            Completion::Activate(place, path, undo) => {
+                flag_valid_path(&mut self.tree, &path);
+                self.turn(place, &path, undo);
+            }
+        }
+    }
+
+    /// Leads over to another block what is kept of the active branch.
+    fn turn(&mut self, place: usize, path: &BranchPath, undo: Vec<BlockUndo>)
+        requires kept { place ≤ length self.old.state.blocks }
+        requires path { IsPath self.old.state.blocks self.old.active place path.now }
+        requires undo { undo.items ≡ reverse (map (undo_at self.old.state.blocks) path.now.up.items) }
+        ensures { self.new ≡ record self.old {
+          active = place;
+          undo_kept = undo_after self.old.state.blocks self.old.active self.old.undo_kept path.now;
+        } }
+    {
+        let gone = self.tree.height(self.active) - path.height;
+        let left = self.undo.len().saturating_sub(gone);
+        self.active = place;
+        self.branch.truncate(path.height + 1);
+        self.medians.truncate(path.height + 1);
+        append_places(
+            &self.tree,
+            path.up.as_slice(),
+            &mut self.branch,
+            &mut self.medians,
+        );
+        self.undo.truncate(left);
+        keep_undo(&mut self.undo, undo);
+    }
+
+    /// Takes back what preparing a command did to the tree.
+    pub(crate) fn roll_back(&mut self, rollback: Rollback)
+        requires { CanRollBack self.old rollback }
+        ensures { self.new ≡ core_after_rollback self.old rollback }
+    {
+        let Rollback { first, flags } = rollback;
+        if let Some(flags) = flags {
+            self.tree.set_flags(flags);
+        }
+        match first {
+            TreeChange::Unchanged => {}
+            TreeChange::BlockAdded => self.tree.take_back(),
+            TreeChange::CalledPrecious => self.tree.take_back_call(),
+        }
+    }
+}

@@ -1,0 +1,285 @@
+//! What a command comes to.
+
+ghost use Rattle.std.specs.Prelude.{◌≡◌, ◌≤◌, ◌<◌, IfOk, None, OnOk, OnErr, suc, length};
+ghost use Rattle.block.specs.declared.fault.ReadFault.TheVariants as faults;
+ghost use Rattle.block.specs.Identity.{id_of};
+ghost use Rattle.hash.specs.declared.id.Id.{Id};
+ghost use Rattle.block.specs.declared.block.Block.{Block};
+ghost use Rattle.txn.specs.Identity.{ids_of};
+ghost use Rattle.tree.specs.Branches.{place_of};
+ghost use Rattle.tree.specs.Limits.{max_blocks};
+ghost use Rattle.tree.specs.Names.{names};
+ghost use Rattle.tree.specs.Sound.{IsFresh};
+ghost use Rattle.tree.specs.State.{with_block};
+ghost use Rattle.chain.specs.Regtest.{regtest};
+ghost use Rattle.chain.specs.Rules.{Rules};
+ghost use Rattle.chain.specs.inside.Faults.{IsNew};
+ghost use Rattle.chain.specs.Step.{Submit, step};
+ghost use Rattle.chain.specs.Submission.{answer_known};
+ghost use Rattle.activate.specs.CoreState.{Follows, coins_of};
+ghost use Rattle.activate.specs.inside.Preparation.{IsPreparation, IsPreparationFor, ChangesNothing};
+
+use crate::block_faults::fault_or_parent;
+use crate::core_state::Core;
+use crate::path::BranchPath;
+use crate::prepared::{Completion, Prepared, Rollback, TreeChange};
+use crate::tip_connection::connect_tip;
+use block::{Block, ReadFault};
+use chain::{Command, MarkReply, Reply, SubmitReply};
+use coins::Base;
+use connect::{Context, Env};
+use hash::Id;
+use queue::{Crew, Gate};
+use std::alloc::Global;
+use tree::{AddFault, MAX_BLOCKS};
+use txn::ids;
+use wire::Memory;
+
+/// What is prepared for a command that changes nothing.
+pub(crate) fn still(alloc: Global, reply: Reply) -> Prepared
+    ensures { ChangesNothing reply result }
+{
+    Prepared {
+        reply,
+        rollback: Rollback {
+            first: TreeChange::Unchanged,
+            flags: None,
+        },
+        rest: Completion::Nothing,
+        changes: Vec::new(alloc),
+    }
+}
+
+/// Refuses where the fault is want of memory, and not of the bytes.
+fn undecodable(fault: ReadFault) -> Result<(), Memory>
+    ensures { IfOk result (λ _. ¬ (fault ≡ faults.Memory)) }
+{
+    match fault {
+        ReadFault::Memory => Err(Memory),
+        _ => Ok(()),
+    }
+}
+
+impl Core {
+    /// Looks at everything that a command comes to, and gets all memory for it. Where it refuses nothing has changed;
+    /// else the tree is as the rollback tells how to take back.
+    pub(crate) fn prepare<B: Base, C: Crew>(
+        &mut self,
+        alloc: Global,
+        base: &B,
+        command: &Command,
+        env: &Env<'_, C>,
+        gate: &(dyn Gate + Sync),
+    ) -> Result<Prepared, Memory>
+        requires follows { Follows self.old env.now.table.now }
+        requires coins { B.coins base.now ≡ coins_of self.old }
+        ensures prepared { IfOk result (λ prepared.
+            IsPreparation (regtest self.old.params env.now.table.now) self.old
+            command.now self.new prepared) }
+        ensures err { OnErr result (self.new ≡ self.old) }
+    {
+        match command {
+            Command::Submit(bytes, now) => match block::read(alloc, bytes.as_slice()) {
+                Ok(block) => self.prepare_block(alloc, base, block, *now, env, gate),
+                Err(fault) => {
+                    undecodable(fault)?;
+                    Ok(still(alloc, Reply::Submit(SubmitReply::DecodeFailed)))
+                }
+            },
+            Command::Invalidate(id) => self.prepare_invalidate(alloc, base, id, env, gate),
+            Command::Reconsider(id) => self.prepare_reconsider(alloc, base, id, env, gate),
+            Command::Precious(id) => self.prepare_precious(alloc, base, id, env, gate),
+        }
+    }
+
+    /// What a submitted block comes to (Bitcoin Core's `ProcessNewBlock`).
+    fn prepare_block<B: Base, C: Crew>(
+        &mut self,
+        alloc: Global,
+        base: &B,
+        block: Block,
+        now: u64,
+        env: &Env<'_, C>,
+        gate: &(dyn Gate + Sync),
+    ) -> Result<Prepared, Memory>
+        requires follows { Follows self.old env.now.table.now }
+        requires coins { B.coins base.now ≡ coins_of self.old }
+        ensures prepared { IfOk result (λ prepared.
+            IsPreparationFor (regtest self.old.params env.now.table.now) self.old
+            (step (regtest self.old.params env.now.table.now)
+            self.old.state (Submit now block))
+            self.new prepared) }
+        ensures err { OnErr result (self.new ≡ self.old) }
+    {
+        let id = block.id();
+        if let Some(place) = self.tree.find(&id) {
+            return Ok(still(alloc, Reply::Submit(self.known(place))));
+        }
+        if self.tree.len() >= MAX_BLOCKS {
+            return Ok(still(alloc, Reply::Submit(SubmitReply::TreeFull)));
+        }
+        let ids = ids(alloc, block.txs.as_slice())?;
+        match fault_or_parent(alloc, &self.tree, &self.params, &block, &ids, now)? {
+            Err(reason) => Ok(still(alloc, Reply::Submit(SubmitReply::Rejected(reason)))),
+            Ok(parent) if parent == self.active => {
+                self.prepare_on_tip(alloc, base, block, id, &ids, now, env, gate)
+            }
+            Ok(parent) => self.prepare_beside(alloc, base, block, id, parent, now, env, gate),
+        }
+    }
+
+    /// The answer to a block that was kept before.
+    fn known(&self, place: usize) -> SubmitReply
+        requires { place ≤ length self.now.state.blocks }
+        ensures { (r : Rules Block Id) → result ≡ answer_known r self.now.state place }
+    {
+        if !self.tree.usable(place) {
+            SubmitReply::DuplicateInvalid
+        } else if self.tree.seen(place) {
+            SubmitReply::Duplicate
+        } else {
+            SubmitReply::DuplicateInconclusive
+        }
+    }
+
+    /// A new block on the active one. It is connected before it is added, and nothing else is looked at.
+    fn prepare_on_tip<B: Base, C: Crew>(
+        &mut self,
+        alloc: Global,
+        base: &B,
+        block: Block,
+        id: Id,
+        ids: &[Id],
+        now: u64,
+        env: &Env<'_, C>,
+        gate: &(dyn Gate + Sync),
+    ) -> Result<Prepared, Memory>
+        requires follows { Follows self.old env.now.table.now }
+        requires new { IsNew (regtest self.old.params env.now.table.now) self.old.state now block
+            self.old.active }
+        requires id { id ≡ id_of block.header }
+        requires ids { ids.now ≡ ids_of block.txs }
+        requires coins { B.coins base.now ≡ coins_of self.old }
+        ensures prepared { IfOk result (λ prepared.
+            IsPreparationFor (regtest self.old.params env.now.table.now) self.old
+            (step (regtest self.old.params env.now.table.now)
+            self.old.state (Submit now block))
+            self.new prepared) }
+        ensures err { OnErr result (self.new ≡ self.old) }
+    {
+        let height = self.tree.height(self.active);
+        let context = Context {
+            height: (height + 1) as u32,
+            cutoff: self.tree.median(self.active),
+            medians: self.medians.as_slice(),
+            params: &self.params,
+        };
+        let connected = connect_tip(alloc, base, &context, &block, ids, env, gate)?;
+        let mut up = Vec::with_capacity(alloc, 1)?;
+        let mut undo = Vec::with_capacity(alloc, 1)?;
+        let fork = self.active;
+        let place = self.add(block, id, fork)?;
+        let rollback = Rollback {
+            first: TreeChange::BlockAdded,
+            flags: None,
+        };
+        match connected {
+            Err(reason) => Ok(Prepared {
+                reply: Reply::Submit(SubmitReply::Rejected(reason)),
+                rollback,
+                rest: Completion::Mark(place),
+                changes: Vec::new(alloc),
+            }),
+            Ok(connected) => {
+                up.push_reserved(place);
+                undo.push_reserved(connected.undo);
+                let path = BranchPath { fork, height, up };
+                Ok(Prepared {
+                    reply: Reply::Submit(SubmitReply::Accepted),
+                    rollback,
+                    rest: Completion::Activate(place, path, undo),
+                    changes: connected.changes,
+                })
+            }
+        }
+    }
+
+    /// A new block on another one.
+    fn prepare_beside<B: Base, C: Crew>(
+        &mut self,
+        alloc: Global,
+        base: &B,
+        block: Block,
+        id: Id,
+        parent: usize,
+        now: u64,
+        env: &Env<'_, C>,
+        gate: &(dyn Gate + Sync),
+    ) -> Result<Prepared, Memory>
+        requires follows { Follows self.old env.now.table.now }
+        requires new { IsNew (regtest self.old.params env.now.table.now) self.old.state now block
+            parent }
+        requires id { id ≡ id_of block.header }
+        requires coins { B.coins base.now ≡ coins_of self.old }
+        ensures prepared { IfOk result (λ prepared.
+            IsPreparationFor (regtest self.old.params env.now.table.now) self.old
+            (step (regtest self.old.params env.now.table.now)
+            self.old.state (Submit now block))
+            self.new prepared) }
+        ensures err { OnErr result (self.new ≡ self.old) }
+    {
+        let place = self.add(block, id, parent)?;
+        if !self.tree.better(place, self.active) {
+            return Ok(Prepared {
+                reply: Reply::Submit(SubmitReply::Inconclusive),
+                rollback: Rollback {
+                    first: TreeChange::BlockAdded,
+                    flags: None,
+                },
+                rest: Completion::Nothing,
+                changes: Vec::new(alloc),
+            });
+        }
+        match self.settle(alloc, base, place, env, gate) {
+            Ok(settled) => Ok(Prepared {
+                reply: Reply::Submit(settled.said),
+                rollback: Rollback {
+                    first: TreeChange::BlockAdded,
+                    flags: settled.flags,
+                },
+                rest: settled.rest,
+                changes: settled.changes,
+            }),
+            Err(Memory) => {
+                self.roll_back(Rollback {
+                    first: TreeChange::BlockAdded,
+                    flags: None,
+                });
+                Err(Memory)
+            }
+        }
+    }
+
+    /// Keeps a new block, with room for it on the active branch.
+    fn add(&mut self, block: Block, id: Id, parent: usize) -> Result<usize, Memory>
+        requires parent { parent ≤ length self.old.state.blocks }
+        requires room { suc (length self.old.state.blocks) < max_blocks }
+        requires id { id ≡ id_of block.header }
+        requires new { place_of names self.old.state.blocks id ≡ None }
+        ensures place { IfOk result (λ place. place ≡ suc (length self.old.state.blocks)) }
+        ensures ok { OnOk result
+            (self.new
+            ≡ record self.old { state = with_block self.old.state block parent }) }
+        ensures fresh { OnOk result (IsFresh names self.new.state) }
+        ensures err { OnErr result (self.new ≡ self.old) }
+    {
+        let more = self.tree.len() + 1 - self.branch.len();
+        self.branch.reserve(more)?;
+        self.medians.reserve(more)?;
+        match self.tree.add(block, id, parent) {
+            Ok(place) => Ok(place),
+            Err(AddFault::Full) => unreachable!(),
+            Err(AddFault::Memory) => Err(Memory),
+        }
+    }
+}

@@ -1,0 +1,192 @@
+//! Tries of one block after the other, until the best that is left is valid.
+
+ghost use Rattle.std.specs.Prelude.{ℕ, ◌≡◌, ◌≤◌, ◌<◌, length, IfOk, OnErr};
+ghost use Rattle.tree.specs.Sound.{IsBest};
+ghost use Rattle.tree.specs.State.{usable};
+ghost use Rattle.hash.specs.declared.id.Id.{Id};
+ghost use Rattle.block.specs.declared.block.Block.{Block};
+ghost use Rattle.chain.specs.Rules.{Rules};
+ghost use Rattle.chain.specs.Settle.{settle};
+ghost use Rattle.chain.specs.inside.Try.{state_after_try};
+ghost use Rattle.chain.specs.Submission.{answer_added};
+ghost use Rattle.chain.specs.Regtest.{regtest};
+ghost use Rattle.activate.specs.CoreState.{coins_of};
+ghost use Rattle.activate.specs.inside.Paths.{FailsAt, IsAttempt};
+ghost use Rattle.activate.specs.inside.Preparation.{CanFlag, CanTry, HasOtherFlags, TryLeads, Settles, reply_to_failed_try};
+
+use crate::branch_try::{ActiveBranch, try_branch};
+use crate::core_state::Core;
+use crate::path::{Attempt, FailedTry, Reorganisation};
+use crate::prepared::Completion;
+use crate::try_flags::flag_failed_try;
+use chain::SubmitReply;
+use coins::{Base, Coin};
+use connect::Env;
+use queue::{Crew, Gate};
+use std::alloc::Global;
+use tree::Flags;
+use txn::OutPoint;
+use wire::Memory;
+
+/// A settled state, before it is put in place.
+#[derive(Drop)]
+pub(crate) struct Settled {
+    /// The flags before it, where tries changed them.
+    pub(crate) flags: Option<Flags>,
+    pub(crate) rest: Completion,
+    pub(crate) changes: Vec<(OutPoint, Option<Coin>)>,
+    /// What a submission of the block that was tried first comes to.
+    pub(crate) said: SubmitReply,
+}
+
+impl Core {
+    /// Settles the state, where this is the best block whose branch has no mark (Bitcoin Core's `ActivateBestChain`).
+    pub(crate) fn settle<B: Base, C: Crew>(
+        &mut self,
+        alloc: Global,
+        base: &B,
+        place: usize,
+        env: &Env<'_, C>,
+        gate: &(dyn Gate + Sync),
+    ) -> Result<Settled, Memory>
+        requires can { CanTry (regtest self.old.params env.now.table.now) self.old }
+        requires best { IsBest self.old.state (usable self.old.state) (length self.old.state.blocks)
+            place }
+        requires coins { B.coins base.now ≡ coins_of self.old }
+        ensures settled { IfOk result (λ s.
+            Settles (regtest self.old.params env.now.table.now) self.old self.new
+            s.flags s.rest s.changes.items) }
+        ensures said { IfOk result (λ s.
+            s.said
+            ≡ answer_added (regtest self.old.params env.now.table.now)
+            (settle (regtest self.old.params env.now.table.now) self.old.state)
+            place) }
+        ensures err { OnErr result (self.new ≡ self.old) }
+    {
+        match self.try_block(alloc, base, place, env, gate)? {
+            Attempt::Succeeds(found) => Ok(Settled {
+                flags: None,
+                rest: Completion::Activate(place, found.path, found.undo),
+                changes: found.changes,
+                said: SubmitReply::Accepted,
+            }),
+            Attempt::Fails(failed) => self.settle_after(alloc, base, place, failed, env, gate),
+        }
+    }
+
+    /// The same after a try that failed.
+    fn settle_after<B: Base, C: Crew>(
+        &mut self,
+        alloc: Global,
+        base: &B,
+        place: usize,
+        failed: FailedTry,
+        env: &Env<'_, C>,
+        gate: &(dyn Gate + Sync),
+    ) -> Result<Settled, Memory>
+        requires can { CanTry (regtest self.old.params env.now.table.now) self.old }
+        requires best { IsBest self.old.state (usable self.old.state) (length self.old.state.blocks)
+            place }
+        requires fails { FailsAt (regtest self.old.params env.now.table.now) self.old.state.blocks
+            self.old.active place failed }
+        requires coins { B.coins base.now ≡ coins_of self.old }
+        ensures settled { IfOk result (λ s.
+            Settles (regtest self.old.params env.now.table.now) self.old self.new
+            s.flags s.rest s.changes.items) }
+        ensures said { IfOk result (λ s.
+            s.said
+            ≡ answer_added (regtest self.old.params env.now.table.now)
+            (settle (regtest self.old.params env.now.table.now) self.old.state)
+            place) }
+        ensures err { OnErr result (self.new ≡ self.old) }
+    {
+        let flags = self.tree.flags(alloc)?;
+        self.flag(&failed);
+        match self.settle_rest(alloc, base, env, gate) {
+            Ok((other, found)) => Ok(Settled {
+                flags: Some(flags),
+                rest: Completion::Activate(other, found.path, found.undo),
+                changes: found.changes,
+                said: refused(&failed),
+            }),
+            Err(Memory) => {
+                self.tree.set_flags(flags);
+                Err(Memory)
+            }
+        }
+    }
+
+    /// Tries the best block whose branch has no mark (Bitcoin Core's `FindMostWorkChain`), until one is valid. Each
+    /// other one that is tried is marked, or a block below it is.
+    pub(crate) fn settle_rest<B: Base, C: Crew>(
+        &mut self,
+        alloc: Global,
+        base: &B,
+        env: &Env<'_, C>,
+        gate: &(dyn Gate + Sync),
+    ) -> Result<(usize, Reorganisation), Memory>
+        requires can { CanTry (regtest self.old.params env.now.table.now) self.old }
+        requires coins { B.coins base.now ≡ coins_of self.old }
+        ensures leads { IfOk result (λ found.
+            TryLeads (regtest self.old.params env.now.table.now) self.old self.new
+            found.0 found.1) }
+        ensures flags { HasOtherFlags self.old self.new }
+    {
+        'tries: loop {
+            let place = self.tree.best_usable();
+            match self.try_block(alloc, base, place, env, gate)? {
+                Attempt::Succeeds(found) => return Ok((place, found)),
+                Attempt::Fails(failed) => self.flag(&failed),
+            }
+        }
+    }
+
+    /// Notes what a try that failed has found.
+    fn flag(&mut self, failed: &FailedTry)
+        requires { (r : Rules Block Id) × (p : ℕ) × CanFlag r self.old p failed.now }
+        ensures { (r : Rules Block Id) (p : ℕ) → CanFlag r self.old p failed.now
+            → self.new ≡ record self.old { state = state_after_try r self.old.state p } }
+    {
+        flag_failed_try(&mut self.tree, failed);
+    }
+
+    /// Tries a block over the coins of the active branch.
+    fn try_block<B: Base, C: Crew>(
+        &self,
+        alloc: Global,
+        base: &B,
+        place: usize,
+        env: &Env<'_, C>,
+        gate: &(dyn Gate + Sync),
+    ) -> Result<Attempt, Memory>
+        requires can { CanTry (regtest self.now.params env.now.table.now) self.now }
+        requires place { place ≤ length self.now.state.blocks }
+        requires coins { B.coins base.now ≡ coins_of self.now }
+        ensures { IfOk result (λ attempt.
+            IsAttempt (regtest self.now.params env.now.table.now) self.now.state.blocks
+            self.now.active place attempt) }
+    {
+        let active_branch = ActiveBranch {
+            tree: &self.tree,
+            params: &self.params,
+            active: self.active,
+            branch: self.branch.as_slice(),
+            medians: self.medians.as_slice(),
+            undo: &self.undo,
+        };
+        try_branch(alloc, &active_branch, base, place, env, gate)
+    }
+}
+
+/// What a submission of a block comes to that was tried and isn't valid: its own fault, if that is the first on its
+/// branch.
+fn refused(failed: &FailedTry) -> SubmitReply
+    requires { failed.now.passed < length failed.now.path.up.items }
+    ensures { result ≡ reply_to_failed_try failed.now }
+{
+    if failed.passed + 1 == failed.path.up.len() {
+        SubmitReply::Rejected(failed.reason)
+    } else {
+        SubmitReply::Inconclusive
+    }
+}

@@ -1,0 +1,114 @@
+//! The blocks of the active branch, taken back from the coins.
+
+ghost use Rattle.std.specs.Prelude.{◌≡◌, ◌≤◌, ◌<◌, ◌+◌, true, length, reverse, IfOk, OnOk};
+ghost use Rattle.tree.specs.Branches.{branch, on, height};
+ghost use Rattle.tree.specs.Limits.{max_blocks};
+ghost use Rattle.activate.specs.CoreState.{coins_after};
+ghost use Rattle.activate.specs.inside.Keeping.{highest_undo};
+ghost use Rattle.activate.specs.inside.Paths.{AreConnected};
+ghost use Rattle.activate.specs.inside.Disconnection.{place_at, IsConnectedBranch, IsUndoAbove};
+
+use coins::{Base, Cache, CoinMap};
+use connect::{apply, disconnect};
+use std::alloc::Global;
+use std::collections::VecDeque;
+use tree::Tree;
+use txn::ids;
+use undo::BlockUndo;
+use wire::Memory;
+
+/// Takes the active blocks above the fork back from the coins (Bitcoin Core's `DisconnectTip`). The places are those of
+/// the active branch by height, and the undo is that of its highest blocks; where it ends above the fork, that of the
+/// blocks between is made anew.
+pub(crate) fn disconnect_to_fork<B: Base>(
+    alloc: Global,
+    layer: &mut Cache<'_, B>,
+    tree: &Tree,
+    active: usize,
+    places: &[usize],
+    undo: &VecDeque<BlockUndo>,
+    fork: usize,
+) -> Result<(), Memory>
+    requires kept { active ≤ length tree.now.blocks }
+    requires on { on tree.now.blocks active fork ≡ true }
+    requires branch { places.now ≡ reverse (branch tree.now.blocks active) }
+    requires undo { undo.now.items ≡ highest_undo tree.now.blocks active (length undo.now.items) }
+    requires above { length undo.now.items ≤ height tree.now.blocks active }
+    requires connected { AreConnected tree.now.blocks active }
+    requires coins { layer.old.coins ≡ coins_after tree.now.blocks active }
+    ensures coins { OnOk result (layer.new.coins ≡ coins_after tree.now.blocks fork) }
+    ensures base { layer.new.base ≡ layer.old.base }
+{
+    // So few blocks are kept that their heights fit 32 bits.
+    let _few = tree.len();
+    let low = tree.height(fork);
+    // Undo is kept of the blocks above this height.
+    let kept = tree.height(active) - undo.len();
+    if kept <= low {
+        return disconnect_blocks(alloc, layer, tree, places, kept, undo, low);
+    }
+    disconnect_blocks(alloc, layer, tree, places, kept, undo, kept)?;
+    let again = replayed_undo(alloc, tree, places, low, kept)?;
+    disconnect_blocks(alloc, layer, tree, places, low, &again, low)
+}
+
+/// Takes blocks of a branch back down to a height, with the undo of its blocks above the height `low`.
+fn disconnect_blocks<B: Base>(
+    alloc: Global,
+    layer: &mut Cache<'_, B>,
+    tree: &Tree,
+    places: &[usize],
+    low: usize,
+    undo: &VecDeque<BlockUndo>,
+    down_to: usize,
+) -> Result<(), Memory>
+    requires branch { IsConnectedBranch tree.now.blocks places.now }
+    requires undo { IsUndoAbove tree.now.blocks places.now low undo.now.items }
+    requires inside { low + length undo.now.items < length places.now }
+    requires from { low ≤ down_to }
+    requires to { down_to ≤ low + length undo.now.items }
+    requires coins { layer.old.coins
+        ≡ coins_after tree.now.blocks
+        (place_at places.now (low + length undo.now.items)) }
+    ensures coins { OnOk result
+        (layer.new.coins
+        ≡ coins_after tree.now.blocks (place_at places.now down_to)) }
+    ensures base { layer.new.base ≡ layer.old.base }
+{
+    for done in 0..low + undo.len() - down_to {
+        let index = undo.len() - 1 - done;
+        let block = tree.block(places[low + 1 + index]);
+        let ids = ids(alloc, block.txs.as_slice())?;
+        disconnect(alloc, layer, block, &ids, &undo[index])?;
+    }
+    Ok(())
+}
+
+/// The undo of the blocks above one height up to another, made anew by a replay from genesis.
+fn replayed_undo(
+    alloc: Global,
+    tree: &Tree,
+    places: &[usize],
+    low: usize,
+    high: usize,
+) -> Result<VecDeque<BlockUndo>, Memory>
+    requires branch { IsConnectedBranch tree.now.blocks places.now }
+    requires few { length places.now ≤ max_blocks }
+    requires order { low ≤ high }
+    requires inside { high < length places.now }
+    ensures count { IfOk result (λ undo. low + length undo.items ≡ high) }
+    ensures undo { IfOk result (λ undo. IsUndoAbove tree.now.blocks places.now low undo.items) }
+{
+    let base = CoinMap::new(alloc);
+    let mut coins = Cache::over(alloc, &base);
+    let mut undo = VecDeque::new(alloc);
+    for height in 1..high + 1 {
+        let block = tree.block(places[height]);
+        let ids = ids(alloc, block.txs.as_slice())?;
+        let spent = apply(alloc, &mut coins, height as u32, block, &ids)?;
+        if height > low {
+            undo.push_back(spent)?;
+        }
+    }
+    Ok(undo)
+}

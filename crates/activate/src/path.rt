@@ -1,0 +1,42 @@
+//! The path from the active block to another one, and what a try of it comes to.
+
+use coins::Coin;
+use txn::{OutPoint, Reason};
+use undo::BlockUndo;
+
+/// From the active branch up to a block.
+#[derive(Drop)]
+pub(crate) struct BranchPath {
+    /// The place of the last block of both branches.
+    pub(crate) fork: usize,
+    /// Its height.
+    pub(crate) height: usize,
+    /// The places of the blocks above it on the block's branch, the highest first.
+    pub(crate) up: Vec<usize>,
+}
+
+/// What is to be put in place for a block to become active.
+#[derive(Drop)]
+pub(crate) struct Reorganisation {
+    pub(crate) path: BranchPath,
+    /// What the blocks above the fork spend, the lowest first.
+    pub(crate) undo: Vec<BlockUndo>,
+    /// The coins that change.
+    pub(crate) changes: Vec<(OutPoint, Option<Coin>)>,
+}
+
+/// A branch with a block that doesn't connect.
+#[derive(Drop)]
+pub(crate) struct FailedTry {
+    pub(crate) path: BranchPath,
+    /// How many blocks above the fork connect before that one.
+    pub(crate) passed: usize,
+    pub(crate) reason: Reason,
+}
+
+/// What a try of a block comes to.
+#[derive(Drop)]
+pub(crate) enum Attempt {
+    Succeeds(Reorganisation),
+    Fails(FailedTry),
+}

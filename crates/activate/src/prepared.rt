@@ -1,0 +1,47 @@
+//! What a command comes to, before it is put in place.
+
+use crate::path::BranchPath;
+use chain::Reply;
+use coins::Coin;
+use tree::Flags;
+use txn::OutPoint;
+use undo::BlockUndo;
+
+/// A command that was looked at whole. Nothing that is left to do takes memory.
+#[derive(Drop)]
+pub(crate) struct Prepared {
+    pub(crate) reply: Reply,
+    pub(crate) rollback: Rollback,
+    pub(crate) rest: Completion,
+    /// The coins that change.
+    pub(crate) changes: Vec<(OutPoint, Option<Coin>)>,
+}
+
+/// How the tree becomes what it was before the command.
+#[derive(Drop)]
+pub(crate) struct Rollback {
+    pub(crate) first: TreeChange,
+    /// The flags after that first thing, where tries changed them.
+    pub(crate) flags: Option<Flags>,
+}
+
+/// What was first done to the tree.
+#[derive(Clone, Copy, Debug, PartialEq, Eq)]
+pub(crate) enum TreeChange {
+    /// It was kept as it was.
+    Unchanged,
+    /// A block was added.
+    BlockAdded,
+    /// A block was called precious.
+    CalledPrecious,
+}
+
+/// What is still to be put in place.
+#[derive(Drop)]
+pub(crate) enum Completion {
+    Nothing,
+    /// The block at a place is marked.
+    Mark(usize),
+    /// The block at a place becomes active, by this path, and its blocks spend this, the lowest first.
+    Activate(usize, BranchPath, Vec<BlockUndo>),
+}

@@ -1,0 +1,69 @@
+//! A block connected to the coins of its parent's branch.
+
+ghost use Rattle.std.specs.Prelude.{◌≡◌, IfOk, None};
+ghost use Rattle.std.specs.Result.{result_err};
+ghost use Rattle.txn.specs.First.{first_broken};
+ghost use Rattle.txn.specs.Identity.{ids_of};
+ghost use Rattle.coins.specs.Changes.{AreChanges, laid};
+ghost use Rattle.rules.specs.Alone.{alone_rules};
+ghost use Rattle.connect.specs.Setting.{setting};
+ghost use Rattle.connect.specs.Turns.{effect, undo_of};
+ghost use Rattle.connect.specs.computed.Scripts.{connect_fault};
+
+use block::Block;
+use coins::{Base, Cache, Coin};
+use connect::{Context, Env, connect};
+use hash::Id;
+use queue::{Crew, Gate};
+use std::alloc::Global;
+use txn::{OutPoint, Reason};
+use undo::BlockUndo;
+use wire::Memory;
+
+/// What a block that connects spends, and which coins it changes.
+#[derive(Drop)]
+pub(crate) struct ConnectedTip {
+    pub(crate) undo: BlockUndo,
+    pub(crate) changes: Vec<(OutPoint, Option<Coin>)>,
+}
+
+/// Connects a block to these coins, which stay: the first rule that it breaks over them, or what it does (Bitcoin
+/// Core's `ConnectTip`).
+pub(crate) fn connect_tip<B: Base, C: Crew>(
+    alloc: Global,
+    base: &B,
+    context: &Context,
+    block: &Block,
+    ids: &[Id],
+    env: &Env<'_, C>,
+    gate: &(dyn Gate + Sync),
+) -> Result<Result<ConnectedTip, Reason>, Memory>
+    requires alone { first_broken (alone_rules block.now) ≡ None }
+    requires ids { ids.now ≡ ids_of block.now.txs }
+    ensures fault { IfOk result (λ answer.
+        result_err answer
+        ≡ connect_fault (setting context.now) (B.coins base.now) block.now.txs
+        env.now.table.now) }
+    ensures undo { IfOk result (λ answer.
+        IfOk answer (λ connected.
+        connected.undo
+        ≡ undo_of context.now.height (B.coins base.now) block.now.txs)) }
+    ensures changes { IfOk result (λ answer.
+        IfOk answer (λ connected.
+        AreChanges (B.coins base.now)
+        (effect context.now.height (B.coins base.now) block.now.txs)
+        connected.changes.items)) }
+    ensures laid { IfOk result (λ answer.
+        IfOk answer (λ connected.
+        laid (B.coins base.now) connected.changes.items
+        ≡ effect context.now.height (B.coins base.now) block.now.txs)) }
+{
+    let mut layer = Cache::over(alloc, base);
+    match connect(alloc, &mut layer, context, block, ids, env, gate)? {
+        Err(reason) => Ok(Err(reason)),
+        Ok(undo) => {
+            let changes = layer.changes(alloc)?;
+            Ok(Ok(ConnectedTip { undo, changes }))
+        }
+    }
+}

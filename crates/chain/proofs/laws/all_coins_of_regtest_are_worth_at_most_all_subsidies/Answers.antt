@@ -1,0 +1,21 @@
+use Rattle.std.proofs.Common.{arith}
+use Rattle.std.proofs.lemmas.Int.{ints}
+use Rattle.coins.specs.Total.{total}
+use Rattle.block.specs.Reward.{subsidy_of}
+use Rattle.tree.specs.Branches.{height}
+use Rattle.tree.specs.State.{opening}
+use Rattle.chain.specs.Settle.{active}
+use Rattle.chain.specs.Step.{state_after_requests}
+use Rattle.chain.specs.Regtest.{ledger, regtest}
+use Rattle.chain.specs.laws.Bound.{bounded}
+use Rattle.chain.specs.laws.Coins.{total-reached}
+use Rattle.chain.specs.laws.Subsidies.{subsidies-end}
+use Rattle.chain.proofs.laws.all_coins_of_regtest_are_worth_at_most_all_subsidies.Goals as goal
+
+pub returns : goal.returns
+returns g = λ params triples cs.
+    let r = regtest params triples in
+    let s = state_after_requests r opening cs in
+    let worth = total-reached r ledger total subsidy_of (bounded params triples) cs in
+    let end = subsidies-end (height s.blocks (active r s)) in
+    omega (arith, ints)

@@ -1,0 +1,17 @@
+pub mod Chainstate
+pub mod Commands
+pub mod Context
+pub mod History
+pub mod Machine
+pub mod Regtest
+pub mod Replay
+pub mod Rules
+pub mod Settle
+pub mod Settled
+pub mod Step
+pub mod Submission
+pub mod Total
+pub mod Valid
+pub mod computed
+pub mod inside
+pub mod laws

@@ -1,0 +1,65 @@
+-- What the calls of a layer do to its entries.
+use Rattle.std.specs.Prelude.{◌≡◌, Bool, true, false, if◌then◌else◌, Option, None, Some, IsSome}
+use Rattle.std.specs.List.{AllByRecursion}
+use Rattle.txn.specs.declared.outpoint.OutPoint.{OutPoint}
+use Rattle.coins.specs.declared.entry.CacheEntry.{CacheEntry}
+use Rattle.coins.specs.declared.entry.CacheEntry.TheVariants.{Clean, Dirty, Fresh}
+use Rattle.coins.specs.Coins.{Coin, same}
+use Rattle.coins.specs.Entries.{Entries, entry_at}
+
+-- fs are es with this entry, or none, at an outpoint
+pub record Written (es fs : Entries) (k : OutPoint) (e : Option CacheEntry) : Type 0 where
+  pub at : (q : OutPoint) → entry_at fs q ≡ (if same k q then e else entry_at es q)
+
+-- the entry of a coin that is added: a dirty one isn't fresh, for a coin may stand below
+abbrev pub added_entry : Option CacheEntry → Coin → CacheEntry
+added_entry None coin = Fresh coin
+added_entry (Some Clean) coin = Fresh coin
+added_entry (Some (Dirty before)) coin = Dirty (Some coin)
+added_entry (Some (Fresh before)) coin = Fresh coin
+
+abbrev pub is_fresh : Option CacheEntry → Bool
+is_fresh None = false
+is_fresh (Some Clean) = false
+is_fresh (Some (Dirty coin)) = false
+is_fresh (Some (Fresh coin)) = true
+
+-- the coin that an entry holds
+abbrev pub own_coin : Option CacheEntry → Option Coin
+own_coin None = None
+own_coin (Some Clean) = None
+own_coin (Some (Dirty coin)) = coin
+own_coin (Some (Fresh coin)) = Some coin
+
+-- the entry after that coin is taken: a fresh one is dropped
+abbrev pub emptied : Option CacheEntry → Option CacheEntry
+emptied None = None
+emptied (Some Clean) = Some Clean
+emptied (Some (Dirty coin)) = Some (Dirty None)
+emptied (Some (Fresh coin)) = None
+
+-- an entry stays, or is clean where there was none
+abbrev pub Readied : Option CacheEntry → Option CacheEntry → Type 0
+Readied None None = Unit {0}
+Readied None (Some Clean) = Unit {0}
+Readied None (Some (Dirty coin)) = ⊥
+Readied None (Some (Fresh coin)) = ⊥
+Readied (Some e) o = o ≡ Some e
+
+pub record AreReadied (es fs : Entries) : Type 0 where
+  pub at : (q : OutPoint) → Readied (entry_at es q) (entry_at fs q)
+
+-- es has an entry at each outpoint that has one among ws
+pub record HasRoom (es ws : Entries) : Type 0 where
+  pub all : AllByRecursion (λ e. IsSome (entry_at es e.0)) ws
+
+-- the entry after one of the layer above is laid over it
+abbrev pub merged : Option CacheEntry → CacheEntry → Option CacheEntry
+merged o Clean = o
+merged o (Dirty None) = if is_fresh o then None else Some (Dirty None)
+merged o (Dirty (Some coin)) = Some (if is_fresh o then Fresh coin else Dirty (Some coin))
+merged o (Fresh coin) = Some (added_entry o coin)
+
+abbrev pub merged_at : Option CacheEntry → Option CacheEntry → Option CacheEntry
+merged_at o None = o
+merged_at o (Some e) = merged o e

@@ -1,0 +1,4 @@
+-- What private functions and invariants alone cite.
+pub mod Turns
+pub mod Listing
+pub mod Applied

@@ -1,0 +1,4 @@
+-- What private clauses and invariants alone cite.
+pub mod Giving
+pub mod Keeping
+pub mod Writing

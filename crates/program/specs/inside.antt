@@ -1,0 +1,4 @@
+-- What private clauses alone cite.
+pub mod Agreement
+pub mod Heights
+pub mod Saved

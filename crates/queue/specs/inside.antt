@@ -1,0 +1,3 @@
+-- What private functions and invariants alone cite.
+pub mod Claims
+pub mod Report

@@ -1,0 +1,134 @@
+//! What is found of each block for a command that settles.
+
+ghost use Rattle.std.specs.Prelude.{◌≡◌, ◌<◌, ◌&&◌, ℕ, length, reverse, not, true, slice_index_or, IfOk};
+ghost use Rattle.std.specs.List.{list_all};
+ghost use Rattle.block.specs.declared.block.Block.{Block};
+ghost use Rattle.curve.specs.Triple.{Triples};
+ghost use Rattle.rules.specs.declared.params.Params.{Params};
+ghost use Rattle.tree.specs.State.{State, rank_in, usable};
+ghost use Rattle.chain.specs.Regtest.{regtest};
+ghost use Rattle.chain.specs.Settle.{active};
+ghost use Rattle.reference.specs.inside.Replayed.{IsRight, AreJudgements, above, chain_rules, is_flagged, is_valid, judgement_at, judgement_in, state_of_replayed};
+
+use crate::branch_replay::{Chain, Trial, replay};
+use crate::kept_block::branch_of;
+use crate::replayed::Replayed;
+use std::alloc::Global;
+use wire::Memory;
+
+/// A block's branch, and what decides which of two blocks is the better one.
+#[derive(Clone, Copy, Debug)]
+pub(crate) struct Judgement {
+    pub(crate) trial: Trial,
+    pub(crate) usable: bool,
+    pub(crate) height: usize,
+    pub(crate) rank: usize,
+}
+
+/// Each block, judged by the replay of its branch.
+pub(crate) fn survey(alloc: Global, chain: &Chain, old: &Replayed) -> Result<Vec<Judgement>, Memory>
+    requires { IsRight (chain_rules chain.now) old.now }
+    ensures { IfOk result (λ judged.
+        AreJudgements (chain_rules chain.now) (state_of_replayed old.now) judged.items) }
+{
+    let mut judged = Vec::new(alloc);
+    for place in 0..old.held.len() {
+        judged.push(judge(alloc, chain, old, place)?)?;
+    }
+    Ok(judged)
+}
+
+fn judge(alloc: Global, chain: &Chain, old: &Replayed, place: usize) -> Result<Judgement, Memory>
+    requires right { IsRight (chain_rules chain.now) old.now }
+    requires kept { place < length old.now.held.items }
+    ensures { IfOk result (λ judged.
+        judged ≡ judgement_at (chain_rules chain.now) (state_of_replayed old.now) place) }
+{
+    let branch = branch_of(alloc, &old.held, place)?;
+    let trial = replay(alloc, chain, &old.held, &branch)?;
+    Ok(Judgement {
+        trial,
+        usable: is_usable(alloc, old, place)?,
+        height: branch.len() - 1,
+        rank: rank_of(&old.calls, place),
+    })
+}
+
+/// Whether no block of a branch is marked.
+pub(crate) fn is_usable(alloc: Global, old: &Replayed, place: usize) -> Result<bool, Memory>
+    requires right { (params : Params) × (triples : Triples) × IsRight (regtest params triples) old.now }
+    requires kept { place < length old.now.held.items }
+    ensures { IfOk result (λ found. found ≡ usable (state_of_replayed old.now) place) }
+{
+    let branch = branch_of(alloc, &old.held, place)?;
+    Ok(has_none(&old.bad, &branch))
+}
+
+/// Whether none of these places has the flag.
+fn has_none(flags: &[bool], places: &[usize]) -> bool
+    requires { (i : ℕ) → i < length places.now → slice_index_or places.now i 0 < length flags.now }
+    ensures { result ≡ list_all (λ x. not (is_flagged flags.now x)) places.now }
+{
+    for index in 0..places.len() {
+        if flags[places[index]] {
+            return false;
+        }
+    }
+    true
+}
+
+/// The number of the last call for this place, from 1; 0 where there is none.
+fn rank_of(calls: &[usize], place: usize) -> usize
+    ensures { result ≡ rank_in (reverse calls.now) place }
+{
+    let mut rank = 0;
+    for index in 0..calls.len() {
+        if calls[index] == place {
+            rank = index + 1;
+        }
+    }
+    rank
+}
+
+/// The active block: the best of those that are usable and whose branch is valid.
+pub(crate) fn best_of(judged: &[Judgement]) -> usize
+    requires { 0 < length judged.now }
+    ensures kept { result < length judged.now }
+    ensures active { (params : Params) (triples : Triples) (s : State Block)
+        → AreJudgements (regtest params triples) s judged.now → usable s 0 ≡ true
+        → result ≡ active (regtest params triples) s }
+{
+    let mut best = 0;
+    for place in 1..judged.len() {
+        if beats(judged, place, best) {
+            best = place;
+        }
+    }
+    best
+}
+
+/// Whether a block may be the active one, and is better than another.
+fn beats(judged: &[Judgement], place: usize, other: usize) -> bool
+    requires place { place < length judged.now }
+    requires other { other < length judged.now }
+    ensures { let one = judgement_in judged.now place in
+        result ≡ ((one.usable && is_valid one.trial) && above one place (judgement_in judged.now other) other) }
+{
+    can_be_active(&judged[place]) && is_above(&judged[place], place, &judged[other], other)
+}
+
+fn can_be_active(judged: &Judgement) -> bool
+    ensures { result ≡ (judged.now.usable && is_valid judged.now.trial) }
+{
+    judged.usable && judged.trial == Trial::Valid
+}
+
+/// Whether the first of two blocks is better, where they came in the order of these places: higher; or as high and
+/// called precious later; or as high, both never called, and came earlier.
+pub(crate) fn is_above(one: &Judgement, place: usize, other: &Judgement, other_place: usize) -> bool
+    ensures { result ≡ above one.now place other.now other_place }
+{
+    one.height > other.height
+        || (one.height == other.height
+            && (one.rank > other.rank || (one.rank == other.rank && place < other_place)))
+}

@@ -1,0 +1,11 @@
+use Rattle.ripemd.specs.laws.Ripemd160.{of_nothing, of_abc, of_two_blocks}
+use Rattle.ripemd.proofs.laws.published_digests.Goals as goal
+
+pub returns-clause-nothing : goal.returns-clause-nothing
+returns-clause-nothing c = of_nothing
+
+pub returns-clause-abc : goal.returns-clause-abc
+returns-clause-abc c = of_abc
+
+pub returns-clause-two_blocks : goal.returns-clause-two_blocks
+returns-clause-two_blocks c = of_two_blocks

@@ -1,0 +1,634 @@
+//! Blocks that connect, and one for each rule that they can break over the coins.
+
+ghost use Rattle.std.specs.Prelude.{◌≡◌, ◌≤◌, All};
+
+use crate::queue_vectors::{Tally, are_ready};
+use block::{Block, GENESIS_ID, Header, Txs, meets_target, merkle};
+use coins::{Base, Cache, Coin, CoinMap};
+use connect::{Context, Env, apply, connect, disconnect};
+use curve::Table;
+use hash::{Id, hash160};
+use interp::{Flags, Job};
+use queue::{Alone, Crew, Gate, Open, Threaded, Verdict, check_early};
+use rules::{Params, REGTEST_BITS, block_alone_with};
+use std::alloc::Global;
+use std::sync::atomic::Ordering::SeqCst;
+use std::test::*;
+use txn::{Inputs, OutPoint, Outputs, Reason, Script, Tx, TxIn, TxOut, ids};
+use wire::Memory;
+
+/// Scripts that accept and refuse.
+const GOOD: &[u8] = &[0x51];
+
+const BAD: &[u8] = &[0x00];
+
+const HEIGHT: u32 = 120;
+
+const SUBSIDY: i64 = 50 * 100_000_000;
+
+/// No relative lock.
+const FINAL: u32 = 0xffff_ffff;
+
+/// The coins of the tests stand at the outpoints of one id.
+fn at(index: u32) -> OutPoint {
+    OutPoint {
+        id: Id([7; 32]),
+        index,
+    }
+}
+
+fn script(alloc: Global, bytes: &[u8]) -> Result<Script, Memory> {
+    Ok(Script::from_vec(Vec::from_slice(alloc, bytes)?))
+}
+
+fn coin(alloc: Global, value: i64, bytes: &[u8], height: u32) -> Result<Coin, Memory> {
+    Ok(Coin {
+        value,
+        script: script(alloc, bytes)?,
+        height,
+        coinbase: false,
+    })
+}
+
+/// A coin of 50 with a script that accepts, at each of the first outpoints, of height 10.
+fn funded(alloc: Global, count: u32) -> Result<CoinMap, Memory> {
+    let mut map = CoinMap::new(alloc);
+    for index in 0..count {
+        map.insert(at(index), coin(alloc, 50, GOOD, 10)?)?;
+    }
+    Ok(map)
+}
+
+/// A transaction of these outpoints, each with an input script and a sequence number, and of these outputs.
+fn transaction(
+    alloc: Global,
+    version: i32,
+    spent: &[(OutPoint, &[u8], u32)],
+    paid: &[(i64, &[u8])],
+) -> Result<Tx, Memory> {
+    let mut inputs = Vec::new(alloc);
+    for (prev, bytes, sequence) in spent {
+        inputs.push(TxIn {
+            prev: *prev,
+            script: script(alloc, *bytes)?,
+            sequence: *sequence,
+        })?;
+    }
+    let mut outputs = Vec::new(alloc);
+    for (value, bytes) in paid {
+        outputs.push(TxOut {
+            value: *value,
+            script: script(alloc, *bytes)?,
+        })?;
+    }
+    Ok(Tx {
+        version,
+        inputs: Inputs::from_vec(inputs),
+        outputs: Outputs::from_vec(outputs),
+        lock_time: 0,
+    })
+}
+
+/// One that spends an outpoint to one output with a script that accepts.
+fn payment(alloc: Global, prev: OutPoint, value: i64) -> Result<Tx, Memory> {
+    transaction(alloc, 1, &[(prev, &[], FINAL)], &[(value, GOOD)])
+}
+
+fn coinbase(alloc: Global, value: i64) -> Result<Tx, Memory> {
+    transaction(
+        alloc,
+        1,
+        &[(OutPoint::NULL, &[0x01, 0x78], FINAL)],
+        &[(value, GOOD)],
+    )
+}
+
+/// A block with work of a coinbase with this value and of these transactions.
+fn block_of(alloc: Global, value: i64, others: Vec<Tx>) -> Result<Block, Memory> {
+    let mut txs = Vec::new(alloc);
+    txs.push(coinbase(alloc, value)?)?;
+    for tx in others.as_slice() {
+        txs.push(tx.copy()?)?;
+    }
+    let (root, _twin) = merkle(alloc, ids(alloc, &txs)?.as_slice())?;
+    let mut header = Header {
+        version: 4,
+        prev: GENESIS_ID,
+        root,
+        time: 0,
+        bits: REGTEST_BITS,
+        nonce: 0,
+    };
+    for nonce in 0..100 {
+        header.nonce = nonce;
+        if meets_target(&header.id()) {
+            break;
+        }
+    }
+    Ok(Block {
+        header,
+        txs: Txs::from_vec(txs),
+    })
+}
+
+fn one(alloc: Global, tx: Tx) -> Result<Vec<Tx>, Memory> {
+    let mut txs = Vec::new(alloc);
+    txs.push(tx)?;
+    Ok(txs)
+}
+
+fn two(alloc: Global, first: Tx, second: Tx) -> Result<Vec<Tx>, Memory> {
+    let mut txs = one(alloc, first)?;
+    txs.push(second)?;
+    Ok(txs)
+}
+
+/// The rules that a block obeys by itself, and then those over the coins. Where it is connected it is taken back.
+fn judged<B: Base, C: Crew>(
+    alloc: Global,
+    cache: &mut Cache<'_, B>,
+    context: &Context,
+    block: &Block,
+    workers: usize,
+    crew: &C,
+) -> Result<Option<Reason>, Memory>
+    requires ready { C.is_ready crew.now }
+    requires workers { (1 ≤ workers) × (workers ≤ 16) }
+{
+    let table = Table::new(alloc);
+    let env = Env {
+        table: &table,
+        workers,
+        early: &[],
+        crew,
+    };
+    let ids = ids(alloc, block.txs.as_slice())?;
+    if let Some(reason) = block_alone_with(alloc, block, &ids)? {
+        return Ok(Some(reason));
+    }
+    match connect(alloc, cache, context, block, &ids, &env, &Open)? {
+        Err(reason) => Ok(Some(reason)),
+        Ok(undo) => {
+            disconnect(alloc, cache, block, &ids, &undo)?;
+            Ok(None)
+        }
+    }
+}
+
+/// The first reason of a block of height 120 over these coins, with the medians of 100 seconds for each height.
+fn answer(
+    alloc: Global,
+    map: &CoinMap,
+    value: i64,
+    txs: Vec<Tx>,
+) -> Result<Option<Reason>, Memory> {
+    at_height(alloc, map, HEIGHT, value, txs)
+}
+
+fn at_height(
+    alloc: Global,
+    map: &CoinMap,
+    height: u32,
+    value: i64,
+    txs: Vec<Tx>,
+) -> Result<Option<Reason>, Memory> {
+    let mut medians = Vec::new(alloc);
+    for index in 0..120u32 {
+        medians.push(100 * index)?;
+    }
+    let params = Params::regtest();
+    let context = Context {
+        height,
+        cutoff: 100 * 119,
+        medians: &medians,
+        params: &params,
+    };
+    let block = block_of(alloc, value, txs)?;
+    let mut cache = Cache::over(alloc, map);
+    judged(alloc, &mut cache, &context, &block, 1, &Alone)
+}
+
+#[test]
+fn subsidy_and_fees(rt: HostRuntime) -> Result<(), Fail> {
+    let alloc = rt.alloc();
+    let map = funded(alloc, 2)?;
+    let none = Vec::new(alloc);
+    assert_eq!(rt; answer(alloc, &map, SUBSIDY, none)?, None);
+    let none = Vec::new(alloc);
+    assert_eq!(rt;
+        answer(alloc, &map, SUBSIDY + 1, none)?,
+        Some(Reason::CoinbaseAmount)
+    );
+    let fees = two(
+        alloc,
+        payment(alloc, at(0), 47)?,
+        payment(alloc, at(1), 50)?,
+    )?;
+    assert_eq!(rt; answer(alloc, &map, SUBSIDY + 3, fees)?, None);
+    let fees = two(
+        alloc,
+        payment(alloc, at(0), 47)?,
+        payment(alloc, at(1), 50)?,
+    )?;
+    assert_eq!(rt;
+        answer(alloc, &map, SUBSIDY + 4, fees)?,
+        Some(Reason::CoinbaseAmount)
+    );
+    let halved = at_height(alloc, &map, 150, SUBSIDY / 2 + 1, Vec::new(alloc))?;
+    assert_eq!(rt; halved, Some(Reason::CoinbaseAmount));
+    Ok(())
+}
+
+#[test]
+fn inputs_and_outputs(rt: HostRuntime) -> Result<(), Fail> {
+    let alloc = rt.alloc();
+    let map = funded(alloc, 1)?;
+    let equal = one(alloc, payment(alloc, at(0), 50)?)?;
+    assert_eq!(rt; answer(alloc, &map, 0, equal)?, None);
+    let below = one(alloc, payment(alloc, at(0), 51)?)?;
+    assert_eq!(rt;
+        answer(alloc, &map, 0, below)?,
+        Some(Reason::InputsBelowOutputs)
+    );
+    let missing = one(alloc, payment(alloc, at(1), 50)?)?;
+    assert_eq!(rt;
+        answer(alloc, &map, 0, missing)?,
+        Some(Reason::InputsMissingOrSpent)
+    );
+    let twice = two(
+        alloc,
+        payment(alloc, at(0), 50)?,
+        payment(alloc, at(0), 49)?,
+    )?;
+    assert_eq!(rt;
+        answer(alloc, &map, 0, twice)?,
+        Some(Reason::InputsMissingOrSpent)
+    );
+    Ok(())
+}
+
+#[test]
+fn outputs_of_the_same_block(rt: HostRuntime) -> Result<(), Fail> {
+    let alloc = rt.alloc();
+    let map = funded(alloc, 1)?;
+    let first = payment(alloc, at(0), 50)?;
+    let made = OutPoint {
+        id: first.id(),
+        index: 0,
+    };
+    let forwards = two(alloc, first.copy()?, payment(alloc, made, 50)?)?;
+    assert_eq!(rt; answer(alloc, &map, 0, forwards)?, None);
+    let backwards = two(alloc, payment(alloc, made, 50)?, first)?;
+    assert_eq!(rt;
+        answer(alloc, &map, 0, backwards)?,
+        Some(Reason::InputsMissingOrSpent)
+    );
+    let returns = transaction(alloc, 1, &[(at(0), &[], FINAL)], &[(50, &[0x6a])])?;
+    let nothing = OutPoint {
+        id: returns.id(),
+        index: 0,
+    };
+    let unspendable = two(alloc, returns, payment(alloc, nothing, 50)?)?;
+    assert_eq!(rt;
+        answer(alloc, &map, 0, unspendable)?,
+        Some(Reason::InputsMissingOrSpent)
+    );
+    Ok(())
+}
+
+#[test]
+fn coins_that_are_there(rt: HostRuntime) -> Result<(), Fail> {
+    let alloc = rt.alloc();
+    let tx = payment(alloc, at(0), 50)?;
+    let made = OutPoint {
+        id: tx.id(),
+        index: 0,
+    };
+    let mut map = funded(alloc, 1)?;
+    map.insert(made, coin(alloc, 1, GOOD, 10)?)?;
+    assert_eq!(rt;
+        answer(alloc, &map, 0, one(alloc, tx)?)?,
+        Some(Reason::OverwritesCoin)
+    );
+    let mut map = funded(alloc, 0)?;
+    let beyond = OutPoint {
+        id: coinbase(alloc, 0)?.id(),
+        index: 1,
+    };
+    map.insert(beyond, coin(alloc, 1, GOOD, 10)?)?;
+    assert_eq!(rt; answer(alloc, &map, 0, Vec::new(alloc))?, None);
+    map.insert(OutPoint { index: 0, ..beyond }, coin(alloc, 1, GOOD, 10)?)?;
+    let there = answer(alloc, &map, 0, Vec::new(alloc))?;
+    assert_eq!(rt; there, Some(Reason::OverwritesCoin));
+    Ok(())
+}
+
+#[test]
+fn coins_of_coinbases(rt: HostRuntime) -> Result<(), Fail> {
+    let alloc = rt.alloc();
+    for (height, reason) in [(20, None), (21, Some(Reason::PrematureCoinbaseSpend))] {
+        let mut map = CoinMap::new(alloc);
+        let made = Coin {
+            coinbase: true,
+            ..coin(alloc, 50, GOOD, height)?
+        };
+        map.insert(at(0), made)?;
+        let spending = one(alloc, payment(alloc, at(0), 50)?)?;
+        assert_eq!(rt; answer(alloc, &map, 0, spending)?, reason);
+    }
+    Ok(())
+}
+
+/// The coin has height 10, so 110 blocks are met and 111 aren't. The median before its block is 900, and the
+/// cutoff 11,900: 21 units of 512 seconds are met, and 22 aren't.
+#[test]
+fn relative_locks(rt: HostRuntime) -> Result<(), Fail> {
+    let alloc = rt.alloc();
+    let map = funded(alloc, 1)?;
+    let time = 1 << 22;
+    for (version, sequence, reason) in [
+        (2, 110, None),
+        (2, 111, Some(Reason::NonFinal)),
+        (1, 111, None),
+        (2, time + 21, None),
+        (2, time + 22, Some(Reason::NonFinal)),
+        (2, 0x8000_0000 + 111, None),
+    ] {
+        let tx = transaction(alloc, version, &[(at(0), &[], sequence)], &[(50, GOOD)])?;
+        assert_eq!(rt; answer(alloc, &map, 0, one(alloc, tx)?)?, reason);
+    }
+    Ok(())
+}
+
+/// OP_0 IF, 199 times CHECKMULTISIG, ENDIF, OP_1: accepted, with 3,980 signature operations as an inner script.
+fn inner(alloc: Global) -> Result<Vec<u8>, Memory> {
+    let mut bytes = Vec::new(alloc);
+    bytes.push(0x00)?;
+    bytes.push(0x63)?;
+    for _ in 0..199 {
+        bytes.push(0xae)?;
+    }
+    bytes.push(0x68)?;
+    bytes.push(0x51)?;
+    Ok(bytes)
+}
+
+/// So many coins that pay to the inner script, spent to an output with so many CHECKSIGs.
+fn counted(alloc: Global, coins: u32, plain: u32) -> Result<Option<Reason>, Memory> {
+    let inner = inner(alloc)?;
+    let mut spent_script = Vec::from_slice(alloc, &[0xa9, 0x14])?;
+    for byte in hash160(&inner) {
+        spent_script.push(byte)?;
+    }
+    spent_script.push(0x87)?;
+    let mut push = Vec::from_slice(alloc, &[0x4c, 203])?;
+    for byte in inner.as_slice() {
+        push.push(*byte)?;
+    }
+    let mut map = CoinMap::new(alloc);
+    let mut inputs: Vec<(OutPoint, &[u8], u32)> = Vec::new(alloc);
+    for index in 0..coins {
+        map.insert(at(index), coin(alloc, 50, &spent_script, 10)?)?;
+        inputs.push((at(index), push.as_slice(), FINAL))?;
+    }
+    let mut checks = Vec::new(alloc);
+    for _ in 0..plain {
+        checks.push(0xac)?;
+    }
+    let tx = transaction(alloc, 1, &inputs, &[(50, checks.as_slice())])?;
+    answer(alloc, &map, 0, one(alloc, tx)?)
+}
+
+#[test]
+fn signature_operations(rt: HostRuntime) -> Result<(), Fail> {
+    let alloc = rt.alloc();
+    let many = Some(Reason::TooManySigops);
+    assert_eq!(rt; counted(alloc, 1, 20_001)?, many);
+    assert_eq!(rt; counted(alloc, 5, 0)?, None);
+    assert_eq!(rt; counted(alloc, 6, 0)?, many);
+    assert_eq!(rt; counted(alloc, 5, 100)?, None);
+    assert_eq!(rt; counted(alloc, 5, 101)?, many);
+    Ok(())
+}
+
+/// Two transactions of three inputs, of which these scripts refuse: input 2 of the first, or 1 and 2 of the second.
+#[test]
+fn scripts_by_any_crew(rt: HostRuntime) -> Result<(), Fail> {
+    let alloc = rt.alloc();
+    for (refused, transaction_place, input) in [
+        ([2, 9, 9], 1, 2),
+        ([4, 5, 9], 2, 1),
+        ([5, 0, 4], 1, 0),
+    ] {
+        let mut map = CoinMap::new(alloc);
+        for index in 0..6u32 {
+            let bytes = if refused.contains(&index) { BAD } else { GOOD };
+            map.insert(at(index), coin(alloc, 50, bytes, 10)?)?;
+        }
+        let first = transaction(
+            alloc,
+            1,
+            &[
+                (at(0), &[], FINAL),
+                (at(1), &[], FINAL),
+                (at(2), &[], FINAL),
+            ],
+            &[(50, GOOD)],
+        )?;
+        let second = transaction(
+            alloc,
+            1,
+            &[
+                (at(3), &[], FINAL),
+                (at(4), &[], FINAL),
+                (at(5), &[], FINAL),
+            ],
+            &[(50, GOOD)],
+        )?;
+        let block = block_of(alloc, 0, two(alloc, first, second)?)?;
+        let params = Params::regtest();
+        let context = Context {
+            height: HEIGHT,
+            cutoff: 0,
+            medians: &[],
+            params: &params,
+        };
+        let reason = Some(Reason::ScriptRefused {
+            transaction: transaction_place,
+            input,
+        });
+        let mut cache = Cache::over(alloc, &map);
+        let alone = judged(alloc, &mut cache, &context, &block, 1, &Alone)?;
+        assert_eq!(rt; alone, reason);
+        let threaded = Threaded { rt: &rt };
+        for workers in [1, 2, 8] {
+            let found = judged(alloc, &mut cache, &context, &block, workers, &threaded)?;
+            assert_eq!(rt; found, reason);
+        }
+    }
+    Ok(())
+}
+
+#[test]
+fn there_and_back(rt: HostRuntime) -> Result<(), Fail> {
+    let alloc = rt.alloc();
+    let map = funded(alloc, 1)?;
+    let tx = payment(alloc, at(0), 40)?;
+    let made = OutPoint {
+        id: tx.id(),
+        index: 0,
+    };
+    let block = block_of(alloc, SUBSIDY + 10, one(alloc, tx)?)?;
+    let params = Params::regtest();
+    let context = Context {
+        height: HEIGHT,
+        cutoff: 0,
+        medians: &[],
+        params: &params,
+    };
+    let mut cache = Cache::over(alloc, &map);
+    assert!(rt; is_moved(alloc, &mut cache, &context, &block, &made)?);
+    assert!(rt; cache.get(&made).is_none() && cache.get(&at(0)).is_some());
+    assert!(rt; cache.changes(alloc)?.is_empty());
+    Ok(())
+}
+
+/// Whether connecting the block spends the first coin and makes this one. It is taken back again.
+fn is_moved<B: Base>(
+    alloc: Global,
+    cache: &mut Cache<'_, B>,
+    context: &Context,
+    block: &Block,
+    made: &OutPoint,
+) -> Result<bool, Memory> {
+    let table = Table::new(alloc);
+    let env = Env {
+        table: &table,
+        workers: 1,
+        early: &[],
+        crew: &Alone,
+    };
+    let ids = ids(alloc, block.txs.as_slice())?;
+    if block_alone_with(alloc, block, &ids)?.is_some() {
+        return Ok(false);
+    }
+    let Ok(undo) = connect(alloc, cache, context, block, &ids, &env, &Open)? else {
+        return Ok(false);
+    };
+    let moved = cache.get(&at(0)).is_none() && cache.get(made).is_some() && undo.len() == 1;
+    disconnect(alloc, cache, block, &ids, &undo)?;
+    Ok(moved)
+}
+
+#[test]
+fn there_again(rt: HostRuntime) -> Result<(), Fail> {
+    let alloc = rt.alloc();
+    let map = funded(alloc, 1)?;
+    let tx = payment(alloc, at(0), 40)?;
+    let made = OutPoint {
+        id: tx.id(),
+        index: 0,
+    };
+    let block = block_of(alloc, SUBSIDY + 10, one(alloc, tx)?)?;
+    let params = Params::regtest();
+    let context = Context {
+        height: HEIGHT,
+        cutoff: 0,
+        medians: &[],
+        params: &params,
+    };
+    let mut cache = Cache::over(alloc, &map);
+    assert!(rt; is_repeated(alloc, &mut cache, &context, &block)?);
+    assert!(rt; cache.get(&made).is_some() && cache.get(&at(0)).is_none());
+    assert!(rt; cache.changes(alloc)?.len() == 3);
+    Ok(())
+}
+
+/// Whether a block that was connected and taken back can be applied again, and then spends as much.
+fn is_repeated<B: Base>(
+    alloc: Global,
+    cache: &mut Cache<'_, B>,
+    context: &Context,
+    block: &Block,
+) -> Result<bool, Memory> {
+    let table = Table::new(alloc);
+    let env = Env {
+        table: &table,
+        workers: 1,
+        early: &[],
+        crew: &Alone,
+    };
+    let ids = ids(alloc, block.txs.as_slice())?;
+    if block_alone_with(alloc, block, &ids)?.is_some() {
+        return Ok(false);
+    }
+    let Ok(undo) = connect(alloc, cache, context, block, &ids, &env, &Open)? else {
+        return Ok(false);
+    };
+    disconnect(alloc, cache, block, &ids, &undo)?;
+    let again = apply(alloc, cache, context.height, block, &ids)?;
+    Ok(again.len() == 1 && undo.len() == 1)
+}
+
+/// Whether a block is connected with these verdicts, by the caller alone.
+fn is_connected_with<'a, B: Base>(
+    alloc: Global,
+    cache: &mut Cache<'_, B>,
+    context: &Context,
+    block: &Block,
+    table: &'a Table,
+    early: &'a [Verdict<'a>],
+    gate: &(dyn Gate + Sync),
+) -> Result<bool, Memory>
+    requires { All (λ v. v.triples ≡ table.now) early.now }
+{
+    let env = Env {
+        table,
+        workers: 1,
+        early,
+        crew: &Alone,
+    };
+    let ids = ids(alloc, block.txs.as_slice())?;
+    if block_alone_with(alloc, block, &ids)?.is_some() {
+        return Ok(false);
+    }
+    Ok(connect(alloc, cache, context, block, &ids, &env, gate)?.is_ok())
+}
+
+/// A script whose verdict is handed in isn't run, and without the verdict it is.
+#[test]
+fn a_verdict_got_before(rt: HostRuntime) -> Result<(), Fail> {
+    let alloc = rt.alloc();
+    let map = funded(alloc, 1)?;
+    let block = block_of(alloc, SUBSIDY, one(alloc, payment(alloc, at(0), 50)?)?)?;
+    let params = Params::regtest();
+    let context = Context {
+        height: HEIGHT,
+        cutoff: 0,
+        medians: &[],
+        params: &params,
+    };
+    let table = Table::new(alloc);
+    let tally = Tally::new();
+    let payment = block.txs.as_slice().get(1).ok_or(Memory)?;
+    let jobs = [Job {
+        tx: payment,
+        input: 0,
+        spent: GOOD,
+        flags: Flags::ALL,
+    }];
+    assert!(rt; are_ready(&jobs));
+    let verdicts = check_early(&rt, alloc, &jobs, &table, 2, &tally)?;
+    assert_eq!(rt; tally.count.load(SeqCst), 1);
+    let mut with = Cache::over(alloc, &map);
+    assert!(rt;
+        is_connected_with(
+            alloc, &mut with, &context, &block, &table, &verdicts, &tally
+        )?
+    );
+    assert_eq!(rt; tally.count.load(SeqCst), 1);
+    let mut without = Cache::over(alloc, &map);
+    assert!(rt; is_connected_with(alloc, &mut without, &context, &block, &table, &[], &tally)?);
+    assert_eq!(rt; tally.count.load(SeqCst), 2);
+    Ok(())
+}

@@ -1,0 +1,247 @@
+//! Jobs on several workers, and verdicts got before.
+
+ghost use Rattle.std.specs.Prelude.{◌<◌, ◌^◌, length, All, IsTrue};
+ghost use Rattle.queue.specs.Jobs.{HasInput};
+
+use curve::Table;
+use hash::Id;
+use interp::{Flags, Job};
+use queue::{Alone, Crew, Gate, Open, Threaded, check_early, first_failure, first_failure_with};
+use std::alloc::{AllocError, Global};
+use std::sync::atomic::Ordering::SeqCst;
+use std::sync::atomic::{AtomicBool, AtomicU64};
+use std::test::Fail;
+use std::thread::yield_now;
+use txn::{Inputs, OutPoint, Outputs, Script, Tx, TxIn};
+
+/// A script that accepts, one that refuses.
+const GOOD: &[u8] = &[0x51];
+
+const BAD: &[u8] = &[0x00];
+
+/// A transaction of so many inputs with empty scripts.
+fn transaction(alloc: Global, count: u32) -> Result<Tx, AllocError> {
+    let mut inputs = Vec::new(alloc);
+    for index in 0..count {
+        inputs.push(TxIn {
+            prev: OutPoint {
+                id: Id([7; 32]),
+                index,
+            },
+            script: Script::from_vec(Vec::new(alloc)),
+            sequence: 0,
+        })?;
+    }
+    Ok(Tx {
+        version: 1,
+        inputs: Inputs::from_vec(inputs),
+        outputs: Outputs::from_vec(Vec::new(alloc)),
+        lock_time: 0,
+    })
+}
+
+/// The jobs of a transaction's inputs, which spend these scripts.
+fn jobs<'a>(alloc: Global, tx: &'a Tx, spent: &[&'a [u8]]) -> Result<Vec<Job<'a>>, AllocError> {
+    let mut jobs = Vec::new(alloc);
+    for (input, script) in spent.iter().enumerate() {
+        jobs.push(Job {
+            tx,
+            input,
+            spent: *script,
+            flags: Flags::ALL,
+        })?;
+    }
+    Ok(jobs)
+}
+
+/// Whether there are few jobs, each of an input that is there.
+pub(crate) fn are_ready(jobs: &[Job]) -> bool
+    ensures few { IsTrue result → length jobs.now < 2 ^ 32 }
+    ensures inputs { IsTrue result → All HasInput jobs.now }
+{
+    jobs.len() < 1000 && jobs.iter().all(|job| job.input < job.tx.inputs.len())
+}
+
+/// Holds each job until so many have begun.
+#[derive(Drop)]
+struct Meeting {
+    wanted: u64,
+    entered: AtomicU64,
+    late: AtomicBool,
+}
+
+impl Meeting {
+    fn new(wanted: u64) -> Meeting {
+        Meeting {
+            wanted,
+            entered: AtomicU64::new(0),
+            late: AtomicBool::new(false),
+        }
+    }
+}
+
+impl Gate for Meeting {
+    fn begin(&self, _job: usize) {
+        self.entered.fetch_add(1, SeqCst);
+        for _ in 0..10_000_000 {
+            if self.entered.load(SeqCst) >= self.wanted {
+                return;
+            }
+            yield_now();
+        }
+        self.late.store(true, SeqCst);
+    }
+
+    fn end(&self, _job: usize) {}
+}
+
+#[test]
+fn each_worker_runs_a_job(rt: HostRuntime) -> Result<(), Fail> {
+    let table = Table::new(rt.alloc());
+    let tx = transaction(rt.alloc(), 16)?;
+    let spent = [GOOD; 16];
+    for workers in 2..17 {
+        let list = jobs(rt.alloc(), &tx, &spent[..workers])?;
+        assert!(rt; are_ready(&list));
+        let gate = Meeting::new(workers as u64);
+        let answer = first_failure(&rt, rt.alloc(), &list, &table, workers, &gate)?;
+        assert_eq!(rt; answer, None);
+        assert!(rt; !gate.late.load(SeqCst));
+        assert_eq!(rt; gate.entered.load(SeqCst), workers as u64);
+    }
+    Ok(())
+}
+
+/// Counts the jobs that begin and those that end, and adds up the places of the first.
+#[derive(Drop)]
+pub(crate) struct Tally {
+    pub count: AtomicU64,
+    places: AtomicU64,
+    ended: AtomicU64,
+}
+
+impl Tally {
+    pub(crate) fn new() -> Tally {
+        Tally {
+            count: AtomicU64::new(0),
+            places: AtomicU64::new(0),
+            ended: AtomicU64::new(0),
+        }
+    }
+}
+
+impl Gate for Tally {
+    fn begin(&self, job: usize) {
+        self.count.fetch_add(1, SeqCst);
+        self.places.fetch_add(job as u64, SeqCst);
+    }
+
+    fn end(&self, _job: usize) {
+        self.ended.fetch_add(1, SeqCst);
+    }
+}
+
+#[test]
+fn a_job_above_a_failing_one_is_not_run(rt: HostRuntime) -> Result<(), Fail> {
+    let table = Table::new(rt.alloc());
+    let tx = transaction(rt.alloc(), 3)?;
+    let list = jobs(rt.alloc(), &tx, &[BAD, GOOD, BAD])?;
+    assert!(rt; are_ready(&list));
+    let gate = Tally::new();
+    let answer = first_failure(&rt, rt.alloc(), &list, &table, 1, &gate)?;
+    assert_eq!(rt; answer, Some(0));
+    assert_eq!(rt; (gate.count.load(SeqCst), gate.places.load(SeqCst)), (1, 0));
+    assert_eq!(rt; gate.ended.load(SeqCst), 1);
+    Ok(())
+}
+
+/// Three verdicts, and a list of the first job alone.
+#[test]
+fn more_verdicts_than_jobs(rt: HostRuntime) -> Result<(), Fail> {
+    let table = Table::new(rt.alloc());
+    let tx = transaction(rt.alloc(), 3)?;
+    let list = jobs(rt.alloc(), &tx, &[GOOD, BAD, GOOD])?;
+    assert!(rt; are_ready(&list));
+    let gate = Tally::new();
+    let verdicts = check_early(&rt, rt.alloc(), &list, &table, 2, &gate)?;
+    assert_eq!(rt; (gate.count.load(SeqCst), gate.ended.load(SeqCst)), (3, 3));
+    let fewer = jobs(rt.alloc(), &tx, &[GOOD])?;
+    assert!(rt; are_ready(&fewer));
+    let answer = first_failure_with(&rt, rt.alloc(), &fewer, &verdicts, &table, 1, &gate)?;
+    assert_eq!(rt; (answer, gate.count.load(SeqCst)), (None, 3));
+    Ok(())
+}
+
+#[test]
+fn a_verdict_is_of_an_equal_job_alone(rt: HostRuntime) -> Result<(), Fail> {
+    let table = Table::new(rt.alloc());
+    let tx = transaction(rt.alloc(), 1)?;
+    let job = Job {
+        tx: &tx,
+        input: 0,
+        spent: GOOD,
+        flags: Flags::ALL,
+    };
+    let early = [job];
+    assert!(rt; are_ready(&early));
+    let gate = Tally::new();
+    let verdicts = check_early(&rt, rt.alloc(), &early, &table, 2, &gate)?;
+    assert_eq!(rt; (verdicts.len(), gate.count.load(SeqCst)), (1, 1));
+    let other = [Job { spent: BAD, ..job }];
+    let unruled = Job {
+        flags: Flags::NONE,
+        ..job
+    };
+    for verdict in verdicts.as_slice() {
+        assert!(rt; verdict.fits(&job) && verdict.answer());
+        assert!(rt; !verdict.fits(&other[0]) && !verdict.fits(&unruled));
+    }
+    let threaded = Threaded { rt: &rt };
+    let early_answer = threaded.first_failure_with(
+        rt.alloc(),
+        &early,
+        &verdicts,
+        &table,
+        4,
+        &gate,
+    )?;
+    assert_eq!(rt; (early_answer, gate.count.load(SeqCst)), (None, 1));
+    assert!(rt; are_ready(&other));
+    let other_answer = first_failure_with(&rt, rt.alloc(), &other, &verdicts, &table, 1, &gate)?;
+    assert_eq!(rt; (other_answer, gate.count.load(SeqCst)), (Some(0), 2));
+    let alone = Alone.first_failure_with(rt.alloc(), &other, &verdicts, &table, 1, &Open)?;
+    assert_eq!(rt; alone, Some(0));
+    Ok(())
+}
+
+/// The next of a row of numbers by Marsaglia's xorshift.
+fn next(state: u64) -> u64 {
+    let a = state ^ (state << 13);
+    let b = a ^ (a >> 7);
+    b ^ (b << 17)
+}
+
+/// 1,000 lists of up to 40 jobs, and the plain loop over each.
+#[test]
+fn random_lists_and_the_plain_loop(rt: HostRuntime) -> Result<(), Fail> {
+    let table = Table::new(rt.alloc());
+    let tx = transaction(rt.alloc(), 40)?;
+    let mut state = 88_172_645_463_325_252;
+    for _ in 0..1000 {
+        state = next(state);
+        let count = (state % 41) as usize;
+        let mut spent = Vec::new(rt.alloc());
+        for _ in 0..count {
+            state = next(state);
+            spent.push(if state % 8 == 0 { BAD } else { GOOD })?;
+        }
+        let expected = spent.iter().position(|script| *script == BAD);
+        let list = jobs(rt.alloc(), &tx, &spent)?;
+        assert!(rt; are_ready(&list));
+        for workers in [1, 2, 8, 16] {
+            let answer = first_failure(&rt, rt.alloc(), &list, &table, workers, &Open)?;
+            assert_eq!(rt; answer, expected);
+        }
+    }
+    Ok(())
+}

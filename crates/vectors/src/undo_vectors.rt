@@ -1,0 +1,100 @@
+//! What no clause says of undo: each call once.
+
+ghost use Rattle.std.specs.Prelude.{◌≡◌, ◌∷◌, [], length, IfOk};
+
+use coins::{Base, Cache, Coin, CoinMap};
+use hash::Id;
+use std::alloc::Global;
+use std::test::*;
+use txn::{Inputs, OutPoint, Outputs, Script, Tx, TxIn, TxOut};
+use undo::{BlockUndo, Spent, apply_in_layer, apply_tx, revert_in_layer, revert_tx};
+use wire::Memory;
+
+/// A transaction of one input, with an output of 50 that can be a coin and one that can't.
+fn spending(alloc: Global, prev: OutPoint) -> Result<Tx, Memory>
+    ensures input { IfOk result (λ tx. tx.inputs ≡ record { prev = prev; script = []; sequence = 0 } ∷ []) }
+    ensures outputs { IfOk result (λ tx. length tx.outputs ≡ 2) }
+{
+    let input = TxIn {
+        prev,
+        script: Script::from_vec(Vec::new(alloc)),
+        sequence: 0,
+    };
+    let spendable = TxOut {
+        value: 50,
+        script: Script::from_vec(vec![in alloc; 0x51]?),
+    };
+    let unspendable = TxOut {
+        value: 7,
+        script: Script::from_vec(vec![in alloc; 0x6a]?),
+    };
+    let mut inputs = Vec::new(alloc);
+    inputs.push(input)?;
+    let mut outputs = Vec::new(alloc);
+    outputs.push(spendable)?;
+    outputs.push(unspendable)?;
+    Ok(Tx {
+        version: 1,
+        inputs: Inputs::from_vec(inputs),
+        outputs: Outputs::from_vec(outputs),
+        lock_time: 0,
+    })
+}
+
+const ID: Id = Id([7; 32]);
+
+fn value_at<B: Base>(base: &B, index: u32) -> Option<i64> {
+    base.get(&OutPoint { id: ID, index }).map(|coin| coin.value)
+}
+
+#[test]
+fn a_coinbase(rt: HostRuntime) -> Result<(), Fail> {
+    let map = CoinMap::new(rt.alloc());
+    let mut layer = Cache::over(rt.alloc(), &map);
+    let tx = spending(rt.alloc(), OutPoint::NULL)?;
+    let spent = apply_tx(rt.alloc(), &mut layer, &tx, ID, 9)?;
+    assert!(rt; spent.is_empty());
+    assert_eq!(rt; value_at(&layer, 0), Some(50));
+    assert_eq!(rt; value_at(&layer, 1), None, "it begins with OP_RETURN");
+    revert_tx(rt.alloc(), &mut layer, &tx, ID, &spent)?;
+    assert_eq!(rt; value_at(&layer, 0), None);
+    Ok(())
+}
+
+const PREV: OutPoint = OutPoint {
+    id: Id([8; 32]),
+    index: 3,
+};
+
+fn old_coin(alloc: Global) -> Coin {
+    Coin {
+        value: 60,
+        script: Script::from_vec(Vec::new(alloc)),
+        height: 4,
+        coinbase: true,
+    }
+}
+
+#[test]
+fn a_payment(rt: HostRuntime) -> Result<(), Fail> {
+    let mut map = CoinMap::new(rt.alloc());
+    map.insert(PREV, old_coin(rt.alloc()))?;
+    let layer = Cache::over(rt.alloc(), &map);
+    let tx = spending(rt.alloc(), PREV)?;
+    let (layer, spent) = apply_in_layer(rt.alloc(), layer, &tx, ID, 9)?;
+    assert!(rt; layer.get(&PREV).is_none());
+    assert_eq!(rt; value_at(&layer, 0), Some(50));
+    let layer = revert_in_layer(layer, &tx, ID, &spent)?;
+    assert_eq!(rt; layer.get(&PREV).map(|coin| coin.height), Some(4));
+    assert_eq!(rt; value_at(&layer, 0), None);
+    Ok(())
+}
+
+#[test]
+fn what_a_block_spent(rt: HostRuntime) -> Result<(), Fail> {
+    let mut undo = BlockUndo::new(rt.alloc());
+    undo.push(Spent::new(rt.alloc()))?;
+    assert_eq!(rt; undo.len(), 1);
+    assert!(rt; undo.as_slice().iter().all(|spent| spent.is_empty()));
+    Ok(())
+}
