@@ -52,6 +52,3 @@ module _ (t : Blocks Block) (p : ℕ) (h : p ≤ length t) (places medians : Lis
   medians-long =
       ap (λ (k : List ℕ). length k) (is.medians_are ∙ ap (λ (k : List ℕ). reverse k) (medians-branch t p h))
       ∙ length-reverse (map (median_at t) (branch t p)) ∙ length-map (branch t p) (median_at t) ∙ branch-long
-
-  pub not-higher : height t p ≤ length t
-  not-higher = let l = height-place t p p (omega arith) h in omega arith

@@ -39,8 +39,6 @@ pub(crate) fn disconnect_to_fork<B: Base>(
     ensures coins { OnOk result (layer.new.coins ≡ coins_after tree.now.blocks fork) }
     ensures base { layer.new.base ≡ layer.old.base }
 {
-    // So few blocks are kept that their heights fit 32 bits.
-    let _few = tree.len();
     let low = tree.height(fork);
     // Undo is kept of the blocks above this height.
     let kept = tree.height(active) - undo.len();

@@ -4,25 +4,27 @@ ghost use Rattle.std.specs.Prelude.{◌≡◌, ◌≤◌, ◌==◌, ◌&&◌, na
 ghost use Rattle.tree.specs.Branches as branches;
 ghost use Rattle.activate.specs.inside.Paths.{IsPath};
 
+use crate::branch_try::ActiveBranch;
 use crate::path::BranchPath;
 use std::alloc::Global;
-use tree::Tree;
 use wire::Memory;
 
-/// The path from the active block to another one, `branch` being the active branch from genesis on. It walks the
-/// other one's branch down to that (Bitcoin Core's `CChain::FindFork`).
+/// The path from the active block to another one. It walks the other one's branch down to the active one (Bitcoin
+/// Core's `CChain::FindFork`).
 pub(crate) fn path_to(
     alloc: Global,
-    tree: &Tree,
-    active: usize,
-    branch: &[usize],
+    active_branch: &ActiveBranch<'_>,
     place: usize,
 ) -> Result<BranchPath, Memory>
-    requires active { active ≤ length tree.now.blocks }
-    requires branch { branch.now ≡ reverse (branches.branch tree.now.blocks active) }
-    requires place { place ≤ length tree.now.blocks }
-    ensures { IfOk result (λ path. IsPath tree.now.blocks active place path) }
+    requires active { active_branch.now.active ≤ length active_branch.now.tree.now.blocks }
+    requires branch { let b = active_branch.now in
+        b.branch.now ≡ reverse (branches.branch b.tree.now.blocks b.active) }
+    requires place { place ≤ length active_branch.now.tree.now.blocks }
+    ensures { let b = active_branch.now in
+        IfOk result (λ path. IsPath b.tree.now.blocks b.active place path) }
 {
+    let tree = active_branch.tree;
+    let branch = active_branch.branch;
     let mut up = Vec::new(alloc);
     let mut next = place;
     'down: loop {

@@ -34,11 +34,6 @@ coins_at-next m p ps c h e =
 abbrev pub first_and : Bool → OutPoint → TxOut → List (OutPoint × TxOut) → List (OutPoint × TxOut)
 first_and b p o es = cond b [] ((p, o) ∷ []) ++ es
 
-pub made_here : (b : Bool) (m : Coins) (height : ℕ) (coinbase : Bool) (p : OutPoint) (o : TxOut) (es : List (OutPoint × TxOut))
-    → AreNew m (map (λ x. (x.0, coin_of height coinbase x.1)) (first_and b p o es)) → b ≡ false → coin_map.get m p ≡ None
-made_here true m height coinbase p o es h f = cc
-made_here false m height coinbase p o es h f = h.new.0
-
 pub made_rest : (b : Bool) (m : Coins) (height : ℕ) (coinbase : Bool) (p : OutPoint) (o : TxOut) (es : List (OutPoint × TxOut))
     → AreNew m (map (λ x. (x.0, coin_of height coinbase x.1)) (first_and b p o es))
     → AreNew (cond b m (coin_map.insert m p (coin_of height coinbase o))) (map (λ x. (x.0, coin_of height coinbase x.1)) es)
@@ -52,10 +47,6 @@ made_same true m height coinbase p o es = refl
 made_same false m height coinbase p o es = refl
 
 -- an output that is taken away, if it can be a coin
-pub gone_here : (b : Bool) (m : Coins) (p : OutPoint) (o : TxOut) (es : List (OutPoint × TxOut)) → AreCoins m (keys_of (first_and b p o es)) → b ≡ false → IsSome (coin_map.get m p)
-gone_here true m p o es h f = cc
-gone_here false m p o es h f = h.coins.0
-
 pub gone_rest : (b : Bool) (m : Coins) (p : OutPoint) (o : TxOut) (es : List (OutPoint × TxOut)) → AreCoins m (keys_of (first_and b p o es)) → AreCoins (cond b m (coin_map.remove m p)) (keys_of es)
 gone_rest true m p o es h = h
 gone_rest false m p o es h = coins_next m p (keys_of es) h

@@ -177,9 +177,6 @@ module _ (t : Blocks Block) (places : List ℕ) (branch : IsConnectedBranch t pl
   pub step-high : step-setting.height ≡ suc h
   step-high = (branch.connected h l).high ∙ branch.high (suc h) l
 
-  pub step-kept : p ≤ length t
-  step-kept = let w = branch.kept (suc h) l in omega arith
-
   -- it led from the coins of the block below to its own
   pub step-connected : (m : Coins) (block : Block) (n : Coins) (undo : List (List Coin)) → m ≡ coins_after t (place_at places h) → block ≡ block_at names t p → n ≡ coins_after t p → undo ≡ undo_at t p
       → IsConnected step-setting m block n undo

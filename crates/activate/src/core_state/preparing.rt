@@ -1,6 +1,6 @@
 //! What a command comes to.
 
-ghost use Rattle.std.specs.Prelude.{◌≡◌, ◌≤◌, ◌<◌, IfOk, None, OnOk, OnErr, suc, length};
+ghost use Rattle.std.specs.Prelude.{◌≡◌, ℕ, ◌×◌, ◌≤◌, ◌<◌, IfOk, None, OnOk, OnErr, suc, length};
 ghost use Rattle.block.specs.declared.fault.ReadFault.TheVariants as faults;
 ghost use Rattle.block.specs.Identity.{id_of};
 ghost use Rattle.hash.specs.declared.id.Id.{Id};
@@ -122,9 +122,9 @@ impl Core {
         match fault_or_parent(alloc, &self.tree, &self.params, &block, &ids, now)? {
             Err(reason) => Ok(still(alloc, Reply::Submit(SubmitReply::Rejected(reason)))),
             Ok(parent) if parent == self.active => {
-                self.prepare_on_tip(alloc, base, block, id, &ids, now, env, gate)
+                self.prepare_on_tip(alloc, base, block, id, &ids, env, gate)
             }
-            Ok(parent) => self.prepare_beside(alloc, base, block, id, parent, now, env, gate),
+            Ok(parent) => self.prepare_beside(alloc, base, block, id, parent, env, gate),
         }
     }
 
@@ -150,17 +150,18 @@ impl Core {
         block: Block,
         id: Id,
         ids: &[Id],
-        now: u64,
         env: &Env<'_, C>,
         gate: &(dyn Gate + Sync),
     ) -> Result<Prepared, Memory>
         requires follows { Follows self.old env.now.table.now }
-        requires new { IsNew (regtest self.old.params env.now.table.now) self.old.state now block
-            self.old.active }
+        requires new { (now : ℕ)
+            × IsNew (regtest self.old.params env.now.table.now) self.old.state now block self.old.active }
         requires id { id ≡ id_of block.header }
         requires ids { ids.now ≡ ids_of block.txs }
         requires coins { B.coins base.now ≡ coins_of self.old }
-        ensures prepared { IfOk result (λ prepared.
+        ensures prepared { (now : ℕ)
+            → IsNew (regtest self.old.params env.now.table.now) self.old.state now block self.old.active
+            → IfOk result (λ prepared.
             IsPreparationFor (regtest self.old.params env.now.table.now) self.old
             (step (regtest self.old.params env.now.table.now)
             self.old.state (Submit now block))
@@ -212,16 +213,17 @@ impl Core {
         block: Block,
         id: Id,
         parent: usize,
-        now: u64,
         env: &Env<'_, C>,
         gate: &(dyn Gate + Sync),
     ) -> Result<Prepared, Memory>
         requires follows { Follows self.old env.now.table.now }
-        requires new { IsNew (regtest self.old.params env.now.table.now) self.old.state now block
-            parent }
+        requires new { (now : ℕ)
+            × IsNew (regtest self.old.params env.now.table.now) self.old.state now block parent }
         requires id { id ≡ id_of block.header }
         requires coins { B.coins base.now ≡ coins_of self.old }
-        ensures prepared { IfOk result (λ prepared.
+        ensures prepared { (now : ℕ)
+            → IsNew (regtest self.old.params env.now.table.now) self.old.state now block parent
+            → IfOk result (λ prepared.
             IsPreparationFor (regtest self.old.params env.now.table.now) self.old
             (step (regtest self.old.params env.now.table.now)
             self.old.state (Submit now block))

@@ -21,7 +21,7 @@ long t p h =
 pub overflow_add-height : goal.overflow_add-height
 overflow_add-height c =
     let l = height-place c.args.tree.now.blocks c.args.parent c.args.parent (omega arith) c.requires.kept in
-    let e = c.height.ensures in
+    let e = c.height.ensures.value in
     let r = c.requires.room in
     let k = c.requires.kept in
     omega arith
@@ -29,7 +29,7 @@ overflow_add-height c =
 pub overflow_cast-height : goal.overflow_cast-height
 overflow_cast-height c =
     let l = height-place c.args.tree.now.blocks c.args.parent c.args.parent (omega arith) c.requires.kept in
-    let e = c.height.ensures in
+    let e = c.height.ensures.value in
     let r = c.requires.room in
     let k = c.requires.kept in
     omega arith
@@ -39,7 +39,7 @@ returns c triples =
     let t = c.args.tree.now.blocks in
     let b = c.args.block.now in
     let rules = λ (n m : ℕ). first_broken (context_rules (at c.args.params.now n) b n m c.args.now) in
-    let high : c.height.result + 1 ≡ length (blocks_at names t (branch t c.args.parent)) = ap (λ (k : ℕ). k + 1) c.height.ensures ∙ long t c.args.parent c.requires.kept in
+    let high : c.height.result + 1 ≡ length (blocks_at names t (branch t c.args.parent)) = ap (λ (k : ℕ). k + 1) c.height.ensures.value ∙ long t c.args.parent c.requires.kept in
     c.context_fault.ensures
     ∙ ap (λ (k : ℕ). rules k c.median.result) high
     ∙ ap (λ (k : ℕ). rules (length (blocks_at names t (branch t c.args.parent))) k) c.median.ensures

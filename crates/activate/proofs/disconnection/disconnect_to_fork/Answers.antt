@@ -49,95 +49,95 @@ height-low-requires g c = (on-bounds c.args.tree.now.blocks c.args.active c.args
 pub disconnect_blocks-requires-clause-branch : goal.disconnect_blocks-requires-clause-branch
 disconnect_blocks-requires-clause-branch g c =
     let s = stands c.args.tree.now.blocks c.args.places.now c.args.undo.now.items c.args.active c.args.fork c.requires.kept c.requires.on c.requires.branch c.requires.undo c.requires.above c.requires.connected
-    c.height-low.result c.height.result c.len.result c.height-low.ensures c.height.ensures (omega (arith, c.len.ensures, c.args.undo.now.ok)) in
+    c.height-low.result c.height.result c.len.result c.height-low.ensures.value c.height.ensures.value (omega (arith, c.len.ensures, c.args.undo.now.ok)) in
     s.branch_is
 
 pub disconnect_blocks-requires-clause-undo : goal.disconnect_blocks-requires-clause-undo
 disconnect_blocks-requires-clause-undo g c =
     let s = stands c.args.tree.now.blocks c.args.places.now c.args.undo.now.items c.args.active c.args.fork c.requires.kept c.requires.on c.requires.branch c.requires.undo c.requires.above c.requires.connected
-    c.height-low.result c.height.result c.len.result c.height-low.ensures c.height.ensures (omega (arith, c.len.ensures, c.args.undo.now.ok)) in
+    c.height-low.result c.height.result c.len.result c.height-low.ensures.value c.height.ensures.value (omega (arith, c.len.ensures, c.args.undo.now.ok)) in
     s.undo_is
 
 pub disconnect_blocks-requires-clause-inside : goal.disconnect_blocks-requires-clause-inside
 disconnect_blocks-requires-clause-inside g c =
     let s = stands c.args.tree.now.blocks c.args.places.now c.args.undo.now.items c.args.active c.args.fork c.requires.kept c.requires.on c.requires.branch c.requires.undo c.requires.above c.requires.connected
-    c.height-low.result c.height.result c.len.result c.height-low.ensures c.height.ensures (omega (arith, c.len.ensures, c.args.undo.now.ok)) in
+    c.height-low.result c.height.result c.len.result c.height-low.ensures.value c.height.ensures.value (omega (arith, c.len.ensures, c.args.undo.now.ok)) in
     s.inside
 
 pub disconnect_blocks-requires-clause-to : goal.disconnect_blocks-requires-clause-to
 disconnect_blocks-requires-clause-to g c =
     let s = stands c.args.tree.now.blocks c.args.places.now c.args.undo.now.items c.args.active c.args.fork c.requires.kept c.requires.on c.requires.branch c.requires.undo c.requires.above c.requires.connected
-    c.height-low.result c.height.result c.len.result c.height-low.ensures c.height.ensures (omega (arith, c.len.ensures, c.args.undo.now.ok)) in
+    c.height-low.result c.height.result c.len.result c.height-low.ensures.value c.height.ensures.value (omega (arith, c.len.ensures, c.args.undo.now.ok)) in
     s.reach
 
 pub disconnect_blocks-requires-clause-coins : goal.disconnect_blocks-requires-clause-coins
 disconnect_blocks-requires-clause-coins g c =
     let s = stands c.args.tree.now.blocks c.args.places.now c.args.undo.now.items c.args.active c.args.fork c.requires.kept c.requires.on c.requires.branch c.requires.undo c.requires.above c.requires.connected
-    c.height-low.result c.height.result c.len.result c.height-low.ensures c.height.ensures (omega (arith, c.len.ensures, c.args.undo.now.ok)) in
+    c.height-low.result c.height.result c.len.result c.height-low.ensures.value c.height.ensures.value (omega (arith, c.len.ensures, c.args.undo.now.ok)) in
     c.requires.coins ∙ ap (coins_after c.args.tree.now.blocks) (sym s.top)
 
 pub returns-then-kept-low-clause-coins : goal.returns-then-kept-low-clause-coins
 returns-then-kept-low-clause-coins g c =
     let s = stands c.args.tree.now.blocks c.args.places.now c.args.undo.now.items c.args.active c.args.fork c.requires.kept c.requires.on c.requires.branch c.requires.undo c.requires.above c.requires.connected
-    c.height-low.result c.height.result c.len.result c.height-low.ensures c.height.ensures (omega (arith, c.len.ensures, c.args.undo.now.ok)) in
+    c.height-low.result c.height.result c.len.result c.height-low.ensures.value c.height.ensures.value (omega (arith, c.len.ensures, c.args.undo.now.ok)) in
     on_ok c.disconnect_blocks.result c.disconnect_blocks.ensures.coins (λ e. e ∙ ap (coins_after c.args.tree.now.blocks) s.here)
 
 pub disconnect_blocks-requires-2-clause-branch : goal.disconnect_blocks-requires-2-clause-branch
 disconnect_blocks-requires-2-clause-branch g c =
     let s = stands c.args.tree.now.blocks c.args.places.now c.args.undo.now.items c.args.active c.args.fork c.requires.kept c.requires.on c.requires.branch c.requires.undo c.requires.above c.requires.connected
-    c.height-low.result c.height.result c.len.result c.height-low.ensures c.height.ensures (omega (arith, c.len.ensures, c.args.undo.now.ok)) in
+    c.height-low.result c.height.result c.len.result c.height-low.ensures.value c.height.ensures.value (omega (arith, c.len.ensures, c.args.undo.now.ok)) in
     s.branch_is
 
 pub disconnect_blocks-requires-2-clause-undo : goal.disconnect_blocks-requires-2-clause-undo
 disconnect_blocks-requires-2-clause-undo g c =
     let s = stands c.args.tree.now.blocks c.args.places.now c.args.undo.now.items c.args.active c.args.fork c.requires.kept c.requires.on c.requires.branch c.requires.undo c.requires.above c.requires.connected
-    c.height-low.result c.height.result c.len.result c.height-low.ensures c.height.ensures (omega (arith, c.len.ensures, c.args.undo.now.ok)) in
+    c.height-low.result c.height.result c.len.result c.height-low.ensures.value c.height.ensures.value (omega (arith, c.len.ensures, c.args.undo.now.ok)) in
     s.undo_is
 
 pub disconnect_blocks-requires-2-clause-inside : goal.disconnect_blocks-requires-2-clause-inside
 disconnect_blocks-requires-2-clause-inside g c =
     let s = stands c.args.tree.now.blocks c.args.places.now c.args.undo.now.items c.args.active c.args.fork c.requires.kept c.requires.on c.requires.branch c.requires.undo c.requires.above c.requires.connected
-    c.height-low.result c.height.result c.len.result c.height-low.ensures c.height.ensures (omega (arith, c.len.ensures, c.args.undo.now.ok)) in
+    c.height-low.result c.height.result c.len.result c.height-low.ensures.value c.height.ensures.value (omega (arith, c.len.ensures, c.args.undo.now.ok)) in
     s.inside
 
 pub disconnect_blocks-requires-2-clause-coins : goal.disconnect_blocks-requires-2-clause-coins
 disconnect_blocks-requires-2-clause-coins g c =
     let s = stands c.args.tree.now.blocks c.args.places.now c.args.undo.now.items c.args.active c.args.fork c.requires.kept c.requires.on c.requires.branch c.requires.undo c.requires.above c.requires.connected
-    c.height-low.result c.height.result c.len.result c.height-low.ensures c.height.ensures (omega (arith, c.len.ensures, c.args.undo.now.ok)) in
+    c.height-low.result c.height.result c.len.result c.height-low.ensures.value c.height.ensures.value (omega (arith, c.len.ensures, c.args.undo.now.ok)) in
     c.requires.coins ∙ ap (coins_after c.args.tree.now.blocks) (sym s.top)
 
 pub replayed_undo-requires-clause-branch : goal.replayed_undo-requires-clause-branch
 replayed_undo-requires-clause-branch g c =
     let s = stands c.args.tree.now.blocks c.args.places.now c.args.undo.now.items c.args.active c.args.fork c.requires.kept c.requires.on c.requires.branch c.requires.undo c.requires.above c.requires.connected
-    c.height-low.result c.height.result c.len.result c.height-low.ensures c.height.ensures (omega (arith, c.len.ensures, c.args.undo.now.ok)) in
+    c.height-low.result c.height.result c.len.result c.height-low.ensures.value c.height.ensures.value (omega (arith, c.len.ensures, c.args.undo.now.ok)) in
     s.branch_is
 
 pub replayed_undo-requires-clause-few : goal.replayed_undo-requires-clause-few
 replayed_undo-requires-clause-few g c =
     let s = stands c.args.tree.now.blocks c.args.places.now c.args.undo.now.items c.args.active c.args.fork c.requires.kept c.requires.on c.requires.branch c.requires.undo c.requires.above c.requires.connected
-    c.height-low.result c.height.result c.len.result c.height-low.ensures c.height.ensures (omega (arith, c.len.ensures, c.args.undo.now.ok)) in
+    c.height-low.result c.height.result c.len.result c.height-low.ensures.value c.height.ensures.value (omega (arith, c.len.ensures, c.args.undo.now.ok)) in
     omega (arith, s.few, c.len-few.ensures.room)
 
 pub replayed_undo-requires-clause-inside : goal.replayed_undo-requires-clause-inside
 replayed_undo-requires-clause-inside g c =
     let s = stands c.args.tree.now.blocks c.args.places.now c.args.undo.now.items c.args.active c.args.fork c.requires.kept c.requires.on c.requires.branch c.requires.undo c.requires.above c.requires.connected
-    c.height-low.result c.height.result c.len.result c.height-low.ensures c.height.ensures (omega (arith, c.len.ensures, c.args.undo.now.ok)) in
+    c.height-low.result c.height.result c.len.result c.height-low.ensures.value c.height.ensures.value (omega (arith, c.len.ensures, c.args.undo.now.ok)) in
     omega (arith, s.inside)
 
 pub disconnect_blocks-requires-3-clause-branch : goal.disconnect_blocks-requires-3-clause-branch
 disconnect_blocks-requires-3-clause-branch g c =
     let s = stands c.args.tree.now.blocks c.args.places.now c.args.undo.now.items c.args.active c.args.fork c.requires.kept c.requires.on c.requires.branch c.requires.undo c.requires.above c.requires.connected
-    c.height-low.result c.height.result c.len.result c.height-low.ensures c.height.ensures (omega (arith, c.len.ensures, c.args.undo.now.ok)) in
+    c.height-low.result c.height.result c.len.result c.height-low.ensures.value c.height.ensures.value (omega (arith, c.len.ensures, c.args.undo.now.ok)) in
     s.branch_is
 
 pub disconnect_blocks-requires-3-clause-inside : goal.disconnect_blocks-requires-3-clause-inside
 disconnect_blocks-requires-3-clause-inside g c =
     let s = stands c.args.tree.now.blocks c.args.places.now c.args.undo.now.items c.args.active c.args.fork c.requires.kept c.requires.on c.requires.branch c.requires.undo c.requires.above c.requires.connected
-    c.height-low.result c.height.result c.len.result c.height-low.ensures c.height.ensures (omega (arith, c.len.ensures, c.args.undo.now.ok)) in
+    c.height-low.result c.height.result c.len.result c.height-low.ensures.value c.height.ensures.value (omega (arith, c.len.ensures, c.args.undo.now.ok)) in
     omega (arith, s.inside, c.in_ok-again.ensures.count)
 
 pub returns-clause-coins : goal.returns-clause-coins
 returns-clause-coins g c =
     let s = stands c.args.tree.now.blocks c.args.places.now c.args.undo.now.items c.args.active c.args.fork c.requires.kept c.requires.on c.requires.branch c.requires.undo c.requires.above c.requires.connected
-    c.height-low.result c.height.result c.len.result c.height-low.ensures c.height.ensures (omega (arith, c.len.ensures, c.args.undo.now.ok)) in
+    c.height-low.result c.height.result c.len.result c.height-low.ensures.value c.height.ensures.value (omega (arith, c.len.ensures, c.args.undo.now.ok)) in
     on_ok c.disconnect_blocks-3.result c.disconnect_blocks-3.ensures.coins (λ e. e ∙ ap (coins_after c.args.tree.now.blocks) s.here)

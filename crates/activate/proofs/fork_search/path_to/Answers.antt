@@ -33,14 +33,14 @@ module _ (t : Blocks Block) (a p x h : ℕ) (up : List ℕ) (kept : x ≤ length
 
 pub returns-then-stands_at : goal.returns-then-stands_at
 returns-then-stands_at c =
-    let t = c.args.tree.now.blocks in
-    let a = c.args.active in
+    let t = c.args.active_branch.now.tree.now.blocks in
+    let a = c.args.active_branch.now.active in
     let x = c.down.next in
     let i = c.down.invariant in
-    let o = on_is t a x c.height-height.result c.args.branch.now c.stands_at.result c.stands_at.ensures c.requires.branch c.height-height.ensures c.requires.active ∙ c.if-stands_at.true in
+    let o = on_is t a x c.height-height.result c.args.active_branch.now.branch.now c.stands_at.result c.stands_at.ensures c.requires.branch c.height-height.ensures.value c.requires.active ∙ c.if-stands_at.true in
     record {
       shared = is_shared t a c.args.place x 0 c.down.up.items i.kept c.requires.place o i.same i.up;
-      high = c.height-height.ensures;
+      high = c.height-height.ensures.value;
       up = whole t a c.args.place x 0 c.down.up.items i.kept c.requires.place o i.same i.up;
     }
 
@@ -64,9 +64,9 @@ module _ (t : Blocks Block) (a x next : ℕ) (kept : x ≤ length t) (z : 0 < x)
 
 pub down-smaller : goal.down-smaller
 down-smaller c =
-    let t = c.args.tree.now.blocks in
-    let a = c.args.active in
-    let o = on_is t a c.down.next c.height-height.result c.args.branch.now c.stands_at.result c.stands_at.ensures c.requires.branch c.height-height.ensures c.requires.active in
+    let t = c.args.active_branch.now.tree.now.blocks in
+    let a = c.args.active_branch.now.active in
+    let o = on_is t a c.down.next c.height-height.result c.args.active_branch.now.branch.now c.stands_at.result c.stands_at.ensures c.requires.branch c.height-height.ensures.value c.requires.active in
     let z = above_genesis t a c.down.next (o ∙ c.if-stands_at.false) in
     let b = parent-below t c.down.next z c.down.invariant.kept in
     let e = c.parent-next.ensures in
@@ -74,11 +74,11 @@ down-smaller c =
 
 pub down-preserved : goal.down-preserved
 down-preserved c =
-    let t = c.args.tree.now.blocks in
-    let a = c.args.active in
+    let t = c.args.active_branch.now.tree.now.blocks in
+    let a = c.args.active_branch.now.active in
     let x = c.down.next in
     let i = c.down.invariant in
-    let off = on_is t a x c.height-height.result c.args.branch.now c.stands_at.result c.stands_at.ensures c.requires.branch c.height-height.ensures c.requires.active ∙ c.if-stands_at.false in
+    let off = on_is t a x c.height-height.result c.args.active_branch.now.branch.now c.stands_at.result c.stands_at.ensures c.requires.branch c.height-height.ensures.value c.requires.active ∙ c.if-stands_at.false in
     let z = above_genesis t a x off in
     let e = c.parent-next.ensures in
     let up = parent-kept t x z i.kept in

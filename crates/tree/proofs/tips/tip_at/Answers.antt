@@ -27,17 +27,17 @@ unfolding tip
 returns-then-stands_at c =
     let t = c.args.tree.now.blocks in
     let a = c.args.best in
-    let o = on_is t a c.down.shared c.height-height.result c.args.active.now c.stands_at.result c.stands_at.ensures c.requires.active c.height-height.ensures c.requires.best in
+    let o = on_is t a c.down.shared c.height-height.result c.args.active.now c.stands_at.result c.stands_at.ensures c.requires.active c.height-height.ensures.value c.requires.best in
     let shared : c.down.shared ≡ last_shared t a c.args.place = sym (shared_here t a c.down.shared c.down.invariant.kept (o ∙ c.if-stands_at.true)) ∙ c.down.invariant.same in
-    same_tip c.id.ensures c.height.ensures
-    (ap (λ (x : ℕ). x - c.height-height.result) c.height-then-stands_at.ensures ∙ ap (λ (x : ℕ). height t c.args.place - x) (c.height-height.ensures ∙ ap (height t) shared))
+    same_tip c.id.ensures c.height.ensures.value
+    (ap (λ (x : ℕ). x - c.height-height.result) c.height-then-stands_at.ensures.value ∙ ap (λ (x : ℕ). height t c.args.place - x) (c.height-height.ensures.value ∙ ap (height t) shared))
     c.status_of.ensures
 
 pub down-smaller : goal.down-smaller
 down-smaller c =
     let t = c.args.tree.now.blocks in
     let a = c.args.best in
-    let o = on_is t a c.down.shared c.height-height.result c.args.active.now c.stands_at.result c.stands_at.ensures c.requires.active c.height-height.ensures c.requires.best in
+    let o = on_is t a c.down.shared c.height-height.result c.args.active.now c.stands_at.result c.stands_at.ensures c.requires.active c.height-height.ensures.value c.requires.best in
     let z = above_genesis t a c.down.shared (o ∙ c.if-stands_at.false) in
     let b = parent-below t c.down.shared z c.down.invariant.kept in
     let e = c.parent-shared.ensures in
@@ -48,7 +48,7 @@ down-preserved c =
     let t = c.args.tree.now.blocks in
     let a = c.args.best in
     let k = c.down.invariant.kept in
-    let off = on_is t a c.down.shared c.height-height.result c.args.active.now c.stands_at.result c.stands_at.ensures c.requires.active c.height-height.ensures c.requires.best ∙ c.if-stands_at.false in
+    let off = on_is t a c.down.shared c.height-height.result c.args.active.now c.stands_at.result c.stands_at.ensures c.requires.active c.height-height.ensures.value c.requires.best ∙ c.if-stands_at.false in
     let z = above_genesis t a c.down.shared off in
     let e = c.parent-shared.ensures in
     let up = parent-kept t c.down.shared z k in

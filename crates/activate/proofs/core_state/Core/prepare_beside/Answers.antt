@@ -2,7 +2,7 @@ use Rattle.std.proofs.Common.{◌≡◌, ℕ, suc, true, false, length, Option, 
 use Rattle.std.specs.Option.{unwrap_or}
 use Rattle.tree.specs.Names.{names}
 use Rattle.tree.specs.Sound.{IsBest, IsFresh}
-use Rattle.tree.specs.State.{better, usable, with_block}
+use Rattle.tree.specs.State.{beats, has_no_mark, with_block}
 use Rattle.tree.specs.laws.Added.{place-bound}
 use Rattle.activate.specs.declared.prepared.TreeChange.TheVariants.{BlockAdded}
 use Rattle.activate.specs.declared.prepared.Completion.TheVariants.{Nothing}
@@ -20,10 +20,10 @@ use Rattle.activate.proofs.Planned.{best-added, can-added, coins-added, fresh-ba
 use Rattle.activate.proofs.core_state.Core.prepare_beside.Goals as goal
 
 pub add-requires-clause-parent : goal.add-requires-clause-parent
-add-requires-clause-parent g c = place-bound names c.args.self.now.state.blocks c.args.block.header.prev c.args.parent c.requires.new.parent
+add-requires-clause-parent g c = place-bound names c.args.self.now.state.blocks c.args.block.header.prev c.args.parent c.requires.new.1.parent
 
 pub returns-then-not-better-clause-prepared : goal.returns-then-not-better-clause-prepared
-returns-then-not-better-clause-prepared g c =
+returns-then-not-better-clause-prepared g c now is =
     let a : CoreState = c.args.self.now in
     let r = regtest a.params c.args.env.now.table.now in
     let b = c.args.block in
@@ -32,15 +32,15 @@ returns-then-not-better-clause-prepared g c =
     let A : CoreState = record a { state = with_block a.state b p } in
     let sound = c.requires.follows.sound in
     let can = can-follows r a sound c.requires.follows.kept c.requires.follows.active_is in
-    let inside : better c.add.new.self.state c.in_ok-place.place c.add.new.self.active ≡ false = subst (λ (x : CoreState). better x.state c.in_ok-place.place x.active ≡ false) c.self.view_is (sym c.better.ensures ∙ c.if-not-better.true) in
-    let here : better A.state n a.active ≡ false =
-    ap (λ (q : ℕ). better A.state q a.active) (sym c.in_ok-place.ensures.place) ∙ subst (λ (x : CoreState). better x.state c.in_ok-place.place x.active ≡ false) c.in_ok-place.ensures.ok inside in
-    let lower : better A.state n (active r a.state) ≡ false = subst (λ (q : ℕ). better A.state n q ≡ false) c.requires.follows.active_is here in
+    let inside : beats c.add.new.self.state c.in_ok-place.place c.add.new.self.active ≡ false = subst (λ (x : CoreState). beats x.state c.in_ok-place.place x.active ≡ false) c.self.view_is (sym c.better.ensures ∙ c.if-not-better.true) in
+    let here : beats A.state n a.active ≡ false =
+    ap (λ (q : ℕ). beats A.state q a.active) (sym c.in_ok-place.ensures.place) ∙ subst (λ (x : CoreState). beats x.state c.in_ok-place.place x.active ≡ false) c.in_ok-place.ensures.ok inside in
+    let lower : beats A.state n (active r a.state) ≡ false = subst (λ (q : ℕ). beats A.state n q ≡ false) c.requires.follows.active_is here in
     let fresh : IsFresh names A.state = subst (λ (x : CoreState). IsFresh names x.state) c.in_ok-place.ensures.ok c.in_ok-place.ensures.fresh in
-    subst (λ (x : CoreState). IsPreparationFor r a (step r a.state (Submit c.args.now b)) x (record { reply = reply.Submit Inconclusive; rollback = record { first = BlockAdded; flags = None }; rest = Nothing; changes = c.new.result })) (sym c.in_ok-place.ensures.ok)
-    (plan-beside r a sound b p can (faultless-alone r a.state c.args.now b c.requires.new.faultless) (place-bound names a.state.blocks b.header.prev p c.requires.new.parent) c.requires.new.unknown c.requires.new.parent
-    c.requires.follows.active_is fresh lower (record { reply = reply.Submit Inconclusive; rollback = record { first = BlockAdded; flags = None }; rest = Nothing; changes = c.new.result }) refl refl refl c.new.ensures.items (step r a.state (Submit c.args.now b))
-    (sym (step-beside r a.state sound c.args.now b p c.requires.new lower)))
+    subst (λ (x : CoreState). IsPreparationFor r a (step r a.state (Submit now b)) x (record { reply = reply.Submit Inconclusive; rollback = record { first = BlockAdded; flags = None }; rest = Nothing; changes = c.new.result })) (sym c.in_ok-place.ensures.ok)
+    (plan-beside r a sound b p can (faultless-alone r a.state now b is.faultless) (place-bound names a.state.blocks b.header.prev p is.parent) is.unknown is.parent
+    c.requires.follows.active_is fresh lower (record { reply = reply.Submit Inconclusive; rollback = record { first = BlockAdded; flags = None }; rest = Nothing; changes = c.new.result }) refl refl refl c.new.ensures.items (step r a.state (Submit now b))
+    (sym (step-beside r a.state sound now b p is lower)))
 
 pub settle-requires-clause-can : goal.settle-requires-clause-can
 settle-requires-clause-can g c =
@@ -50,7 +50,7 @@ settle-requires-clause-can g c =
     let p = c.args.parent in
     let can = can-follows r a c.requires.follows.sound c.requires.follows.kept c.requires.follows.active_is in
     subst (λ (x : CoreState). CanTry (regtest x.params c.args.env.now.table.now) x) (sym c.in_ok-place.ensures.ok)
-    (can-added r a c.requires.follows.sound b p can (faultless-alone r a.state c.args.now b c.requires.new.faultless) (place-bound names a.state.blocks b.header.prev p c.requires.new.parent) c.requires.new.unknown c.requires.new.parent)
+    (can-added r a c.requires.follows.sound b p can (faultless-alone r a.state c.requires.new.0 b c.requires.new.1.faultless) (place-bound names a.state.blocks b.header.prev p c.requires.new.1.parent) c.requires.new.1.unknown c.requires.new.1.parent)
 
 pub settle-requires-clause-best : goal.settle-requires-clause-best
 settle-requires-clause-best g c =
@@ -62,15 +62,15 @@ settle-requires-clause-best g c =
     let A : CoreState = record a { state = with_block a.state b p } in
     let sound = c.requires.follows.sound in
     let can = can-follows r a sound c.requires.follows.kept c.requires.follows.active_is in
-    let inside : better c.add.new.self.state c.in_ok-place.place c.add.new.self.active ≡ true = subst (λ (x : CoreState). better x.state c.in_ok-place.place x.active ≡ true) c.self.view_is (sym c.better.ensures ∙ c.if-not-better.false) in
-    let here : better A.state n a.active ≡ true =
-    ap (λ (q : ℕ). better A.state q a.active) (sym c.in_ok-place.ensures.place) ∙ subst (λ (x : CoreState). better x.state c.in_ok-place.place x.active ≡ true) c.in_ok-place.ensures.ok inside in
-    let from = faultless-parent r a.state c.args.now b c.requires.new.faultless in
-    let same : from.0 ≡ p = ap (λ (o : Option ℕ). unwrap_or o 0) (sym from.1 ∙ c.requires.new.parent) in
-    let u : usable a.state p ≡ true = subst (λ (q : ℕ). usable a.state q ≡ true) same from.2 in
-    subst (λ (x : CoreState). IsBest x.state (usable x.state) (length x.state.blocks) c.in_ok-place.place) (sym c.in_ok-place.ensures.ok)
-    (subst (λ (q : ℕ). IsBest A.state (usable A.state) (length A.state.blocks) q) (sym c.in_ok-place.ensures.place)
-    (best-added r a sound b p can (faultless-alone r a.state c.args.now b c.requires.new.faultless) (place-bound names a.state.blocks b.header.prev p c.requires.new.parent) c.requires.new.unknown c.requires.new.parent c.requires.follows.active_is u here))
+    let inside : beats c.add.new.self.state c.in_ok-place.place c.add.new.self.active ≡ true = subst (λ (x : CoreState). beats x.state c.in_ok-place.place x.active ≡ true) c.self.view_is (sym c.better.ensures ∙ c.if-not-better.false) in
+    let here : beats A.state n a.active ≡ true =
+    ap (λ (q : ℕ). beats A.state q a.active) (sym c.in_ok-place.ensures.place) ∙ subst (λ (x : CoreState). beats x.state c.in_ok-place.place x.active ≡ true) c.in_ok-place.ensures.ok inside in
+    let from = faultless-parent r a.state c.requires.new.0 b c.requires.new.1.faultless in
+    let same : from.0 ≡ p = ap (λ (o : Option ℕ). unwrap_or o 0) (sym from.1 ∙ c.requires.new.1.parent) in
+    let u : has_no_mark a.state p ≡ true = subst (λ (q : ℕ). has_no_mark a.state q ≡ true) same from.2 in
+    subst (λ (x : CoreState). IsBest x.state (has_no_mark x.state) (length x.state.blocks) c.in_ok-place.place) (sym c.in_ok-place.ensures.ok)
+    (subst (λ (q : ℕ). IsBest A.state (has_no_mark A.state) (length A.state.blocks) q) (sym c.in_ok-place.ensures.place)
+    (best-added r a sound b p can (faultless-alone r a.state c.requires.new.0 b c.requires.new.1.faultless) (place-bound names a.state.blocks b.header.prev p c.requires.new.1.parent) c.requires.new.1.unknown c.requires.new.1.parent c.requires.follows.active_is u here))
 
 pub settle-requires-clause-coins : goal.settle-requires-clause-coins
 settle-requires-clause-coins g c =
@@ -80,7 +80,7 @@ settle-requires-clause-coins g c =
     let p = c.args.parent in
     let can = can-follows r a c.requires.follows.sound c.requires.follows.kept c.requires.follows.active_is in
     c.requires.coins
-    ∙ sym (ap coins_of c.in_ok-place.ensures.ok ∙ coins-added r a c.requires.follows.sound b p can (faultless-alone r a.state c.args.now b c.requires.new.faultless) (place-bound names a.state.blocks b.header.prev p c.requires.new.parent) c.requires.new.unknown c.requires.new.parent)
+    ∙ sym (ap coins_of c.in_ok-place.ensures.ok ∙ coins-added r a c.requires.follows.sound b p can (faultless-alone r a.state c.requires.new.0 b c.requires.new.1.faultless) (place-bound names a.state.blocks b.header.prev p c.requires.new.1.parent) c.requires.new.1.unknown c.requires.new.1.parent)
 
 pub roll_back-requires : goal.roll_back-requires
 roll_back-requires g c =
@@ -91,10 +91,10 @@ roll_back-requires g c =
     let can = can-follows r a c.requires.follows.sound c.requires.follows.kept c.requires.follows.active_is in
     let fresh : IsFresh names (with_block a.state b p) = subst (λ (x : CoreState). IsFresh names x.state) c.in_ok-place.ensures.ok c.in_ok-place.ensures.fresh in
     subst (λ (x : CoreState). CanRollBack x (record { first = BlockAdded; flags = None })) (sym (c.in-Err.ensures.err ∙ c.in_ok-place.ensures.ok))
-    (fresh-back r a c.requires.follows.sound b p can (faultless-alone r a.state c.args.now b c.requires.new.faultless) (place-bound names a.state.blocks b.header.prev p c.requires.new.parent) c.requires.new.unknown c.requires.new.parent (let k = can.kept in omega arith, fresh))
+    (fresh-back r a c.requires.follows.sound b p can (faultless-alone r a.state c.requires.new.0 b c.requires.new.1.faultless) (place-bound names a.state.blocks b.header.prev p c.requires.new.1.parent) c.requires.new.1.unknown c.requires.new.1.parent (let k = can.kept in omega arith, fresh))
 
 pub returns-in-Ok-clause-prepared : goal.returns-in-Ok-clause-prepared
-returns-in-Ok-clause-prepared g c =
+returns-in-Ok-clause-prepared g c now is =
     let a : CoreState = c.args.self.now in
     let r = regtest a.params c.args.env.now.table.now in
     let b = c.args.block in
@@ -104,15 +104,15 @@ returns-in-Ok-clause-prepared g c =
     let s = c.in-Ok.settled in
     let sound = c.requires.follows.sound in
     let can = can-follows r a sound c.requires.follows.kept c.requires.follows.active_is in
-    let alone = faultless-alone r a.state c.args.now b c.requires.new.faultless in
-    let kept = place-bound names a.state.blocks b.header.prev p c.requires.new.parent in
-    let next = can-added r a sound b p can alone kept c.requires.new.unknown c.requires.new.parent in
+    let alone = faultless-alone r a.state now b is.faultless in
+    let kept = place-bound names a.state.blocks b.header.prev p is.parent in
+    let next = can-added r a sound b p can alone kept is.unknown is.parent in
     let fresh : IsFresh names A.state = subst (λ (x : CoreState). IsFresh names x.state) c.in_ok-place.ensures.ok c.in_ok-place.ensures.fresh in
     let settled : Settles r A c.settle.new.self s.flags s.rest s.changes.items =
     subst (λ (x : CoreState). Settles (regtest x.params c.args.env.now.table.now) x c.settle.new.self s.flags s.rest s.changes.items) c.in_ok-place.ensures.ok c.in-Ok.ensures.settled in
     let said : s.said ≡ answer_added r (settle r A.state) n =
     subst (λ (x : CoreState). s.said ≡ answer_added (regtest x.params c.args.env.now.table.now) (settle (regtest x.params c.args.env.now.table.now) x.state) c.in_ok-place.place) c.in_ok-place.ensures.ok c.in-Ok.ensures.said
     ∙ ap (answer_added r (settle r A.state)) c.in_ok-place.ensures.place in
-    plan-settled r a A c.settle.new.self s.flags s.rest s.changes.items settled next.genesis _ refl refl refl (step r a.state (Submit c.args.now b)) BlockAdded refl refl
-    (coins-added r a sound b p can alone kept c.requires.new.unknown c.requires.new.parent) refl (let k = can.kept in omega arith, fresh)
-    (says-added r a sound b p can alone kept c.requires.new.unknown c.requires.new.parent s.said said ∙ sym (step-added r a.state c.args.now b p c.requires.new))
+    plan-settled r a A c.settle.new.self s.flags s.rest s.changes.items settled next.genesis _ refl refl refl (step r a.state (Submit now b)) BlockAdded refl refl
+    (coins-added r a sound b p can alone kept is.unknown is.parent) refl (let k = can.kept in omega arith, fresh)
+    (says-added r a sound b p can alone kept is.unknown is.parent s.said said ∙ sym (step-added r a.state now b p is))

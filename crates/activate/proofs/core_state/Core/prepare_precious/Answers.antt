@@ -2,7 +2,7 @@ use Rattle.std.proofs.Common.{◌≡◌, ℕ, ◌<◌, ◌≤◌, Bool, length, 
 use Rattle.std.specs.Prelude.{if◌then◌else◌}
 use Rattle.tree.specs.Branches.{height, place_of}
 use Rattle.tree.specs.Names.{names}
-use Rattle.tree.specs.State.{called, usable}
+use Rattle.tree.specs.State.{with_call, has_no_mark}
 use Rattle.tree.specs.Sound.{IsBest}
 use Rattle.tree.specs.laws.Added.{place-bound}
 use Rattle.activate.specs.declared.prepared.TreeChange.TheVariants.{CalledPrecious}
@@ -36,12 +36,12 @@ returns-then-height-clause-prepared g c =
     let r = regtest a.params c.args.env.now.table.now in
     let p = c.in-Some.place in
     let found : place_of names a.state.blocks c.args.id.now ≡ Some p = subst (λ (x : CoreState). place_of names x.state.blocks c.args.id.now ≡ Some p) c.self.view_is (sym c.find.ensures ∙ c.in-Some.is) in
-    let one = c.height.ensures in
+    let one = c.height.ensures.value in
     let two = c.height-2.ensures in
     let less = c.if-height.true in
     let inside : height c.self.inside.tree.blocks p < height c.self.inside.tree.blocks c.self.inside.active = omega arith in
     let low : height a.state.blocks p < height a.state.blocks a.active = subst (λ (x : CoreState). height x.state.blocks p < height x.state.blocks x.active) c.self.view_is inside in
-    plan-still r a (reply.Mark Done) c.still-then-height.result (step r a.state (Precious c.args.id.now)) c.requires.follows.active_is c.still-then-height.ensures
+    plan-still r a (reply.Mark Done) c.still-then-height.result (step r a.state (Precious c.args.id.now)) c.requires.follows.active_is c.still-then-height.ensures.value
     (prefer_lower a.params c.args.env.now.table.now a.state c.args.id.now p found (subst (λ (q : ℕ). height a.state.blocks p < height a.state.blocks q) c.requires.follows.active_is low))
 
 pub call-requires : goal.call-requires
@@ -68,16 +68,16 @@ settle-requires-clause-best g c =
     let r = regtest a.params c.args.env.now.table.now in
     let p = c.in-Some.place in
     let found : place_of names a.state.blocks c.args.id.now ≡ Some p = subst (λ (x : CoreState). place_of names x.state.blocks c.args.id.now ≡ Some p) c.self.view_is (sym c.find.ensures ∙ c.in-Some.is) in
-    let one = c.height.ensures in
+    let one = c.height.ensures.value in
     let two = c.height-2.ensures in
     let less = c.if-height.false in
     let inside : height c.self.inside.tree.blocks c.self.inside.active ≤ height c.self.inside.tree.blocks p = omega arith in
     let high : height a.state.blocks a.active ≤ height a.state.blocks p = subst (λ (x : CoreState). height x.state.blocks x.active ≤ height x.state.blocks p) c.self.view_is inside in
-    let first : c.best_of_two-first.result ≡ (if usable a.state p then p else a.active) =
+    let first : c.best_of_two-first.result ≡ (if has_no_mark a.state p then p else a.active) =
     c.best_of_two-first.ensures
-    ∙ ap (λ (x : CoreState). if usable x.state p then p else x.active) c.in_ok-call.ensures.ok
+    ∙ ap (λ (x : CoreState). if has_no_mark x.state p then p else x.active) c.in_ok-call.ensures.ok
     ∙ ap (λ (b : Bool). if b then p else a.active) (usable-called r a.state p p) in
-    subst (λ (x : CoreState). IsBest x.state (usable x.state) (length x.state.blocks) c.best_of_two-first.result) (sym c.in_ok-call.ensures.ok)
+    subst (λ (x : CoreState). IsBest x.state (has_no_mark x.state) (length x.state.blocks) c.best_of_two-first.result) (sym c.in_ok-call.ensures.ok)
     (best-called r a c.requires.follows.sound c.requires.follows.active_is p (place-bound names a.state.blocks c.args.id.now p found) high c.best_of_two-first.result first)
 
 pub returns-in-Ok-clause-prepared : goal.returns-in-Ok-clause-prepared
@@ -85,10 +85,10 @@ returns-in-Ok-clause-prepared g c =
     let a : CoreState = c.args.self.now in
     let r = regtest a.params c.args.env.now.table.now in
     let p = c.in-Some.place in
-    let b : CoreState = record a { state = called a.state p } in
+    let b : CoreState = record a { state = with_call a.state p } in
     let s = c.in-Ok.settled in
     let found : place_of names a.state.blocks c.args.id.now ≡ Some p = subst (λ (x : CoreState). place_of names x.state.blocks c.args.id.now ≡ Some p) c.self.view_is (sym c.find.ensures ∙ c.in-Some.is) in
-    let one = c.height.ensures in
+    let one = c.height.ensures.value in
     let two = c.height-2.ensures in
     let less = c.if-height.false in
     let inside : height c.self.inside.tree.blocks c.self.inside.active ≤ height c.self.inside.tree.blocks p = omega arith in
