@@ -82,7 +82,8 @@ fn connect_next<B: Base, C: Crew>(
     requires above { 0 < place }
     requires place { place ≤ length tree.now.blocks }
     requires kept { AllKept (regtest params.now env.now.table.now) tree.now.blocks }
-    requires coins { layer.old.coins ≡ coins_after tree.now.blocks (parent_at tree.now.blocks place) }
+    requires coins { layer.old.coins ≡ coins_after tree.now.blocks
+        (parent_at tree.now.blocks place) }
     requires medians { medians.old.items
         ≡ reverse
         (medians_of

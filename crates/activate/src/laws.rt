@@ -20,7 +20,8 @@ pub fn the_coins_of_a_chainstate_are_worth_at_most_the_subsidies()
 
 /// None of them is worth less than nothing.
 pub fn no_coin_of_a_chainstate_is_worth_less_than_nothing()
-    ensures { (c : WithCoins) (triples : Triples) → IsChainstate c triples → AreNotNegative c.coins }
+    ensures { (c : WithCoins) (triples : Triples) → IsChainstate c triples
+        → AreNotNegative c.coins }
 {}
 
 /// The coins that a core asks of who lends them are those of the definition.

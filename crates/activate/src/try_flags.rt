@@ -39,7 +39,10 @@ fn see_all(tree: &mut Tree, found: &[usize])
     requires kept { (x : ℕ) → has found.now x ≡ true → x ≤ length tree.old.blocks }
     requires order { InOrder (length tree.old.blocks) tree.old.seen }
     ensures { tree.new
-        ≡ record tree.old { seen = union_where (places tree.old.blocks) tree.old.seen (λ x. has found.now x) } }
+        ≡ record tree.old {
+          seen = union_where (places tree.old.blocks) tree.old.seen
+              (λ x. has found.now x);
+        } }
 {
     for place in found {
         tree.see(*place);

@@ -57,7 +57,8 @@ pub fn settling_marks_the_first_fault<B, I>()
 /// marked.
 pub fn the_active_block_is_the_best_that_can_be_active<B, I>()
     ensures { (r : Rules B I) (s : State B) → has_no_mark s 0 ≡ true
-        → IsBest s (λ p. has_no_mark s p && branch_connects r s.blocks p) (length s.blocks) (active r s) }
+        → IsBest s (λ p. has_no_mark s p && branch_connects r s.blocks p) (length s.blocks)
+        (active r s) }
 {}
 
 /// A try of a candidate leaves what settling gives, and which block is active.
@@ -71,7 +72,8 @@ pub fn a_try_leaves_what_settling_gives<B, I>()
 /// A try of a usable block that isn't valid marks one, so tries end.
 pub fn a_try_that_fails_marks_a_block<B, I>()
     ensures { (r : Rules B I) (s : State B) (c : ℕ) → c ≤ length s.blocks → has_no_mark s c ≡ true
-        → branch_connects r s.blocks c ≡ false → count_without_mark (state_after_try r s c) < count_without_mark s }
+        → branch_connects r s.blocks c ≡ false
+        → count_without_mark (state_after_try r s c) < count_without_mark s }
 {}
 
 /// Where the branch of the best usable block is valid, that block is active, and its try settles the state.
@@ -83,7 +85,8 @@ pub fn a_valid_best_block_settles_by_its_try<B, I>()
 
 /// What is settled stays.
 pub fn what_is_settled_stays<B, I>()
-    ensures { (r : Rules B I) (s : State B) → has_no_mark s 0 ≡ true → settle r (settle r s) ≡ settle r s }
+    ensures { (r : Rules B I) (s : State B) → has_no_mark s 0 ≡ true
+        → settle r (settle r s) ≡ settle r s }
 {}
 
 /// A settled state has one candidate, the active block, and it is the best of all usable blocks.
@@ -125,7 +128,8 @@ pub fn a_refused_block_leaves_the_state<B, I>()
 /// The parent of a block without one is kept and usable.
 pub fn the_parent_of_a_faultless_block_is_usable<B, I>()
     ensures { (r : Rules B I) (s : State B) (now : ℕ) (b : B) → first_fault r s now b ≡ None
-        → IsSomeAnd (place_of r.names s.blocks (r.names.parent_of b)) (λ p. has_no_mark s p ≡ true) }
+        → IsSomeAnd (place_of r.names s.blocks (r.names.parent_of b))
+        (λ p. has_no_mark s p ≡ true) }
 {}
 
 /// A block on the active one that connects is active and seen, and nothing else changes.
@@ -167,7 +171,8 @@ pub fn the_active_block_may_be_called_precious<B, I>()
 /// Another block that is usable, valid and not lower becomes active by a call.
 pub fn a_precious_block_becomes_active<B, I>()
     ensures { (r : Rules B I) (s : State B) (i : I) (p : ℕ) → IsSettled r s
-        → place_of r.names s.blocks i ≡ Some p → has_no_mark s p ≡ true → branch_connects r s.blocks p ≡ true
+        → place_of r.names s.blocks i ≡ Some p → has_no_mark s p ≡ true
+        → branch_connects r s.blocks p ≡ true
         → height s.blocks (active r s) ≤ height s.blocks p
         → active r (step r s (Precious i)).0 ≡ p }
 {}

@@ -99,7 +99,8 @@ impl<'a, B: Base> Cache<'a, B> {
         ensures differences { IfOk result (λ changes.
             AreChanges self.now.base self.now.coins changes.items) }
         // Laid over the base, they give the coins of this layer.
-        ensures laid { IfOk result (λ changes. after_changes self.now.base changes.items ≡ self.now.coins) }
+        ensures laid { IfOk result (λ changes.
+            after_changes self.now.base changes.items ≡ self.now.coins) }
     {
         list(alloc, &self.entries, self.base)
     }

@@ -138,7 +138,8 @@ fn find_coins<'l, B: Base>(
 ) -> Result<Found<'l>, Stop>
     requires { counted ≤ max_block_sigops }
     ensures fault { (s : Setting)
-        → IfErr result (IsReason (first_broken (turn_rules s (turn tx.now layer.now.coins counted)))) }
+        → IfErr result (IsReason (first_broken
+        (turn_rules s (turn tx.now layer.now.coins counted)))) }
     ensures found { (s : Setting) → IfOk result (λ found.
         HasFound s tx.now layer.now.coins counted (coins_of found.coins.items)) }
     ensures plain { IfOk result (λ found.
@@ -198,7 +199,8 @@ fn test_locks(
     ensures fault { (m : Coins) (n : ℕ)
         → HasFound (setting context.now) tx.now m n (coins_of coins.now)
         → UpToAmount (setting context.now) (turn tx.now m n) → plain ≡ plain_count (turn tx.now m n)
-        → IfErr result (IsReason (first_broken (turn_rules (setting context.now) (turn tx.now m n)))) }
+        → IfErr result (IsReason (first_broken
+        (turn_rules (setting context.now) (turn tx.now m n)))) }
     ensures count { (m : Coins) (n : ℕ)
         → HasFound (setting context.now) tx.now m n (coins_of coins.now)
         → UpToAmount (setting context.now) (turn tx.now m n) → plain ≡ plain_count (turn tx.now m n)

@@ -56,7 +56,8 @@ fn judge(alloc: Global, chain: &Chain, old: &Replayed, place: usize) -> Result<J
 
 /// Whether no block of a branch is marked.
 pub(crate) fn is_usable(alloc: Global, old: &Replayed, place: usize) -> Result<bool, Memory>
-    requires right { (params : Params) × (triples : Triples) × IsRight (regtest params triples) old.now }
+    requires right { (params : Params) × (triples : Triples)
+        × IsRight (regtest params triples) old.now }
     requires kept { place < length old.now.held.items }
     ensures { IfOk result (λ found. found ≡ has_no_mark (state_of_replayed old.now) place) }
 {
@@ -112,7 +113,8 @@ fn beats(judged: &[Judgement], place: usize, other: usize) -> bool
     requires place { place < length judged.now }
     requires other { other < length judged.now }
     ensures { let one = judgement_in judged.now place in
-        result ≡ ((one.usable && is_valid one.trial) && above one place (judgement_in judged.now other) other) }
+        result ≡ ((one.usable && is_valid one.trial) && above one place
+        (judgement_in judged.now other) other) }
 {
     can_be_active(&judged[place]) && is_above(&judged[place], place, &judged[other], other)
 }

@@ -50,7 +50,8 @@ impl Replayed {
 
     /// Keeps a block that was made of this id, on this parent.
     pub(crate) fn add(&mut self, block: Block, id: Id, parent: usize) -> Result<(), Memory>
-        requires right { (params : Params) × (triples : Triples) × IsRight (regtest params triples) self.old }
+        requires right { (params : Params) × (triples : Triples)
+            × IsRight (regtest params triples) self.old }
         requires room { length self.old.held.items < max_blocks }
         requires id { id ≡ id_of block.header }
         requires new { place_of names (state_of_replayed self.old).blocks id ≡ None }
@@ -60,7 +61,8 @@ impl Replayed {
         ensures state { OnOk result
             (state_of_replayed self.new
             ≡ with_block (state_of_replayed self.old) block parent) }
-        ensures right { (params : Params) (triples : Triples) → IsRight (regtest params triples) self.old
+        ensures right { (params : Params) (triples : Triples)
+            → IsRight (regtest params triples) self.old
             → OnOk result (IsRight (regtest params triples) self.new) }
     {
         self.held.push(KeptBlock { block, id, parent })?;
@@ -71,11 +73,13 @@ impl Replayed {
 
     /// Marks a block as invalid.
     pub(crate) fn mark(&mut self, place: usize)
-        requires right { (params : Params) × (triples : Triples) × IsRight (regtest params triples) self.old }
+        requires right { (params : Params) × (triples : Triples)
+            × IsRight (regtest params triples) self.old }
         requires not_genesis { 0 < place }
         requires kept { place < length self.old.held.items }
         ensures state { state_of_replayed self.new ≡ with_mark (state_of_replayed self.old) place }
-        ensures right { (params : Params) (triples : Triples) → IsRight (regtest params triples) self.old
+        ensures right { (params : Params) (triples : Triples)
+            → IsRight (regtest params triples) self.old
             → IsRight (regtest params triples) self.new }
     {
         self.bad[place] = true;
@@ -83,12 +87,14 @@ impl Replayed {
 
     /// Takes the marks from a block, its ancestors and its descendants.
     pub(crate) fn clear(&mut self, alloc: Global, place: usize) -> Result<(), Memory>
-        requires right { (params : Params) × (triples : Triples) × IsRight (regtest params triples) self.old }
+        requires right { (params : Params) × (triples : Triples)
+            × IsRight (regtest params triples) self.old }
         requires kept { place < length self.old.held.items }
         ensures state { OnOk result
             (state_of_replayed self.new
             ≡ without_marks (state_of_replayed self.old) place) }
-        ensures right { (params : Params) (triples : Triples) → IsRight (regtest params triples) self.old
+        ensures right { (params : Params) (triples : Triples)
+            → IsRight (regtest params triples) self.old
             → OnOk result (IsRight (regtest params triples) self.new) }
     {
         for other in 0..self.held.len() {
@@ -101,10 +107,12 @@ impl Replayed {
 
     /// Calls a block precious.
     pub(crate) fn call(&mut self, place: usize) -> Result<(), Memory>
-        requires { (params : Params) × (triples : Triples) × IsRight (regtest params triples) self.old }
+        requires { (params : Params) × (triples : Triples)
+            × IsRight (regtest params triples) self.old }
         ensures state { OnOk result
             (state_of_replayed self.new ≡ with_call (state_of_replayed self.old) place) }
-        ensures right { (params : Params) (triples : Triples) → IsRight (regtest params triples) self.old
+        ensures right { (params : Params) (triples : Triples)
+            → IsRight (regtest params triples) self.old
             → OnOk result (IsRight (regtest params triples) self.new) }
     {
         self.calls.push(place)?;

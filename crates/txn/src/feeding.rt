@@ -19,7 +19,8 @@ use wire::CompactSize;
 
 /// Feeds a count, in the shortest of its forms.
 pub fn feed_count(hasher: &mut Sha256, n: u128)
-    ensures { (fed : List ℕ) → Holds256 hasher.old fed → Holds256 hasher.new (fed ++ compact_size n) }
+    ensures { (fed : List ℕ) → Holds256 hasher.old fed
+        → Holds256 hasher.new (fed ++ compact_size n) }
 {
     hasher.update(CompactSize::of(n).as_slice());
 }

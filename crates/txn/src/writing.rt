@@ -72,7 +72,8 @@ fn put_inputs(out: &mut Vec<u8>, inputs: &Inputs) -> Result<(), Memory>
     ensures written { OnOk result (out.new.items
         ≡ out.old.items ++ (counted_list input).spell inputs.now) }
     ensures extends { Extends out.old.items out.new.items }
-    ensures lawful { OnOk result (AreInputsWithin inputs.now → (counted_list input).Lawful inputs.now) }
+    ensures lawful { OnOk result (AreInputsWithin inputs.now
+        → (counted_list input).Lawful inputs.now) }
 {
     put_compact(out, inputs.len() as u64)?;
     for i in inputs.as_slice() {

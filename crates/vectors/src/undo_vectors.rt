@@ -12,7 +12,8 @@ use wire::Memory;
 
 /// A transaction of one input, with an output of 50 that can be a coin and one that can't.
 fn spending(alloc: Global, prev: OutPoint) -> Result<Tx, Memory>
-    ensures input { IfOk result (λ tx. tx.inputs ≡ record { prev = prev; script = []; sequence = 0 } ∷ []) }
+    ensures input { IfOk result (λ tx. tx.inputs
+        ≡ record { prev = prev; script = []; sequence = 0 } ∷ []) }
     ensures outputs { IfOk result (λ tx. length tx.outputs ≡ 2) }
 {
     let input = TxIn {

@@ -155,12 +155,14 @@ impl Core {
     ) -> Result<Prepared, Memory>
         requires follows { Follows self.old env.now.table.now }
         requires new { (now : ℕ)
-            × IsNew (regtest self.old.params env.now.table.now) self.old.state now block self.old.active }
+            × IsNew (regtest self.old.params env.now.table.now) self.old.state now block
+            self.old.active }
         requires id { id ≡ id_of block.header }
         requires ids { ids.now ≡ ids_of block.txs }
         requires coins { B.coins base.now ≡ coins_of self.old }
         ensures prepared { (now : ℕ)
-            → IsNew (regtest self.old.params env.now.table.now) self.old.state now block self.old.active
+            → IsNew (regtest self.old.params env.now.table.now) self.old.state now block
+            self.old.active
             → IfOk result (λ prepared.
             IsPreparationFor (regtest self.old.params env.now.table.now) self.old
             (step (regtest self.old.params env.now.table.now)
