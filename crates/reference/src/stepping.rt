@@ -203,7 +203,8 @@ fn fault_by_place(
     requires kept { parent < length old.now.held.items }
     ensures { let t = (state_of_replayed old.now).blocks in
         let fault_on = (chain_rules chain.now).context_fault in
-        IfOk result (λ fault. fault ≡ fault_on (blocks_at names t (branch t parent)) now block.now) }
+        let older = blocks_at names t (branch t parent) in
+        IfOk result (λ fault. fault ≡ fault_on older now block.now) }
 {
     let branch = branch_of(alloc, &old.held, parent)?;
     let medians = medians_by_height(alloc, &old.held, &branch)?;

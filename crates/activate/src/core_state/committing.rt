@@ -36,10 +36,12 @@ impl Core {
         requires kept { place ≤ length self.old.state.blocks }
         requires path { IsPath self.old.state.blocks self.old.active place path.now }
         requires undo { undo.items ≡ reverse (map (undo_at self.old.state.blocks) path.now.up.items) }
-        ensures { self.new ≡ record self.old {
-          active = place;
-          undo_kept = undo_after self.old.state.blocks self.old.active self.old.undo_kept path.now;
-        } }
+        ensures { let old = self.old in
+            self.new
+            ≡ record old {
+              active = place;
+              undo_kept = undo_after old.state.blocks old.active old.undo_kept path.now;
+            } }
     {
         let gone = self.tree.height(self.active) - path.height;
         let left = self.undo.len().saturating_sub(gone);
