@@ -35,7 +35,8 @@ impl Core {
     fn turn(&mut self, place: usize, path: &BranchPath, undo: Vec<BlockUndo>)
         requires kept { place ≤ length self.old.state.blocks }
         requires path { IsPath self.old.state.blocks self.old.active place path.now }
-        requires undo { undo.items ≡ reverse (map (undo_at self.old.state.blocks) path.now.up.items) }
+        requires undo { let t = self.old.state.blocks in
+            undo.items ≡ reverse (map (undo_at t) path.now.up.items) }
         ensures { let old = self.old in
             self.new
             ≡ record old {
