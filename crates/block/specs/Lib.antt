@@ -9,6 +9,7 @@ pub mod Merkle
 pub mod Progress
 pub mod Reward
 pub mod Sizes
+pub mod Stored
 pub mod Target
 pub mod Whole
 pub mod inside

@@ -14,13 +14,13 @@ ghost use Rattle.tree.specs.inside.Slots.{AreInOrder, is_leaf, slot_of, slots, l
 
 use crate::node::Node;
 use crate::past::median_on;
-use block::Block;
+use block::StoredBlock;
 use hash::Id;
 use std::collections::BTreeMap;
 use wire::Memory;
 
 /// The node of a new block on this parent.
-pub(crate) fn node_on(nodes: &[Node], leaves: &[usize], block: Block, id: Id, parent: usize) -> Node
+pub(crate) fn node_on(nodes: &[Node], leaves: &[usize], block: StoredBlock, id: Id, parent: usize) -> Node
     requires nodes { AreNodes (blocks_of nodes.now) nodes.now }
     requires order { AreInOrder (blocks_of nodes.now) }
     requires leaves { leaves.now ≡ leaves_of (blocks_of nodes.now) }
@@ -32,7 +32,7 @@ pub(crate) fn node_on(nodes: &[Node], leaves: &[usize], block: Block, id: Id, pa
         IsNode (kept_of result ∷ t) (length nodes.now) result }
 {
     let height = nodes[parent].height + 1;
-    let median = median_on(nodes, parent, block.header.time);
+    let median = median_on(nodes, parent, block.header().time);
     let slot = slot_on(nodes, leaves, parent);
     Node {
         block,

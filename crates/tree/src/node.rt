@@ -1,12 +1,12 @@
 //! What the tree keeps of a block.
 
-use block::Block;
+use block::StoredBlock;
 use hash::Id;
 
 /// What is kept of a block and never changes (Bitcoin Core's `CBlockIndex`).
 #[derive(Debug, Drop)]
 pub(crate) struct Node {
-    pub(crate) block: Block,
+    pub(crate) block: StoredBlock,
     pub(crate) id: Id,
     /// The place of the block that it stands on; 0 for genesis.
     pub(crate) parent: usize,

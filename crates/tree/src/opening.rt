@@ -5,33 +5,28 @@ ghost use Rattle.tree.specs.Names.{genesis};
 ghost use Rattle.tree.specs.inside.Nodes.{first_node};
 
 use crate::node::Node;
-use block::{Block, GENESIS_ID, GENESIS_ROOT, GENESIS_TIME, Header, Txs};
+use block::{GENESIS_ID, GENESIS_ROOT, GENESIS_TIME, Header, StoredBlock};
 use hash::Id;
-use std::alloc::Global;
 
 /// Its header without its transaction, which makes no coin.
-fn genesis_block(alloc: Global) -> Block
+fn genesis_block() -> StoredBlock
     ensures { result ≡ genesis }
 {
-    let header = Header {
+    StoredBlock::header_alone(Header {
         version: 1,
         prev: Id([0; 32]),
         root: GENESIS_ROOT,
         time: GENESIS_TIME,
         bits: 0x207f_ffff,
         nonce: 2,
-    };
-    Block {
-        header,
-        txs: Txs::from_vec(Vec::new(alloc)),
-    }
+    })
 }
 
-pub(crate) fn genesis_node(alloc: Global) -> Node
+pub(crate) fn genesis_node() -> Node
     ensures { result ≡ first_node }
 {
     Node {
-        block: genesis_block(alloc),
+        block: genesis_block(),
         id: GENESIS_ID,
         parent: 0,
         height: 0,
