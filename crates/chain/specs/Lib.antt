@@ -3,6 +3,7 @@ pub mod Commands
 pub mod Context
 pub mod History
 pub mod Machine
+pub mod Prepared
 pub mod Regtest
 pub mod Replay
 pub mod Rules

@@ -1,72 +1,11 @@
 //! What is asked of the chainstate.
 
-ghost use Rattle.std.specs.Prelude.{◌≡◌, IfOk, IsTrue, ◌↔◌, [], length};
+ghost use Rattle.std.specs.Prelude.{◌≡◌, IfOk};
 
+use block::Bytes;
 use hash::Id;
-use std::alloc::{AllocError, Global};
-use std::marker::Model;
+use std::alloc::AllocError;
 use wire::Memory;
-
-/// The bytes of a submission. A clause sees their list.
-#[derive(Clone, Debug, Drop)]
-pub struct Bytes {
-    bytes: Vec<u8>,
-}
-
-impl Model for Bytes {
-    ghost use Rattle.std.specs.Prelude.{List, ℕ};
-
-    ghost Value = { List ℕ };
-
-    ghost view = { λ s. s.bytes.items };
-}
-
-impl Bytes {
-    /// These bytes, taken over.
-    pub fn from_vec(bytes: Vec<u8>) -> Bytes
-        ensures { result ≡ bytes.items }
-    {
-        Bytes { bytes }
-    }
-
-    /// These bytes, copied.
-    pub fn from_slice(alloc: Global, bytes: &[u8]) -> Result<Bytes, Memory>
-        ensures { IfOk result (λ copy. copy ≡ bytes.now) }
-    {
-        Ok(Bytes {
-            bytes: Vec::from_slice(alloc, bytes)?,
-        })
-    }
-
-    /// The bytes, given back.
-    pub fn into_vec(self) -> Vec<u8>
-        ensures { result.items ≡ self }
-    {
-        let Bytes { bytes } = self;
-        bytes
-    }
-
-    /// The bytes, lent.
-    pub fn as_slice(&self) -> &[u8]
-        ensures { result.now ≡ self.now }
-    {
-        self.bytes.as_slice()
-    }
-
-    /// How many there are.
-    pub fn len(&self) -> usize
-        ensures { result ≡ length self.now }
-    {
-        self.bytes.len()
-    }
-
-    /// Whether there is none.
-    pub fn is_empty(&self) -> bool
-        ensures { IsTrue result ↔ (self.now ≡ []) }
-    {
-        self.bytes.is_empty()
-    }
-}
 
 /// What is asked of the chainstate, as a history keeps it.
 #[derive(Debug, Drop)]
@@ -96,7 +35,7 @@ impl Clone for Command {
 }
 
 impl Command {
-    /// An equal command.
+    /// An equal command, which shares the bytes.
     pub fn copy(&self) -> Result<Command, Memory>
         ensures { IfOk result (λ command. command ≡ self.now) }
     {

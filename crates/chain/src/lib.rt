@@ -6,7 +6,10 @@ mod command;
 mod entry;
 pub mod laws;
 mod reply;
+mod submission;
 
-pub use command::{Bytes, Command};
+pub use block::Bytes;
+pub use command::Command;
 pub use entry::Entry;
 pub use reply::{MarkReply, Reply, SubmitReply};
+pub use submission::{PreparedCommand, Submission, SubmittedBlock};

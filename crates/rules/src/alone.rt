@@ -6,6 +6,7 @@ ghost use Rattle.txn.specs.Check.{is_coinbase, tx_rules};
 ghost use Rattle.txn.specs.First.{first_broken};
 ghost use Rattle.txn.specs.Identity.{ids_of};
 ghost use Rattle.txn.specs.declared.reason.Reason.TheVariants as reason;
+ghost use Rattle.block.specs.Identity.{id_of};
 ghost use Rattle.block.specs.Sizes.{size_of};
 ghost use Rattle.rules.specs.Alone.{max_block_size, max_block_sigops, begins_with_coinbase, tx_sigops, alone_rules};
 
@@ -28,21 +29,27 @@ pub fn block_alone(alloc: Global, block: &Block) -> Result<Option<Reason>, Memor
     ensures { IfOk result (λ found. found ≡ first_broken (alone_rules block.now)) }
 {
     // Of a block without work no transaction is hashed.
-    let has_work = meets_target(&block.id());
-    if !has_work {
+    let id = block.id();
+    if !meets_target(&id) {
         return Ok(Some(Reason::HighHash));
     }
     let ids = ids(alloc, block.txs.as_slice())?;
-    block_alone_with(alloc, block, &ids)
+    block_alone_with(alloc, block, &id, &ids)
 }
 
-/// The same with the ids of its transactions, got before by [`txn::ids`], so that each is hashed once.
+/// The same with the block's id and those of its transactions, got before, so that each is hashed once.
 #[tactic(auto, unfolding(crate::specs::Alone::alone_rules))]
-pub fn block_alone_with(alloc: Global, block: &Block, ids: &[Id]) -> Result<Option<Reason>, Memory>
-    requires { ids.now ≡ ids_of block.now.txs }
+pub fn block_alone_with(
+    alloc: Global,
+    block: &Block,
+    id: &Id,
+    ids: &[Id],
+) -> Result<Option<Reason>, Memory>
+    requires id { id.now ≡ id_of block.now.header }
+    requires ids { ids.now ≡ ids_of block.now.txs }
     ensures { IfOk result (λ found. found ≡ first_broken (alone_rules block.now)) }
 {
-    if !meets_target(&block.id()) {
+    if !meets_target(id) {
         return Ok(Some(Reason::HighHash));
     }
     let txs = block.txs.as_slice();

@@ -20,7 +20,13 @@ use std::collections::BTreeMap;
 use wire::Memory;
 
 /// The node of a new block on this parent.
-pub(crate) fn node_on(nodes: &[Node], leaves: &[usize], block: StoredBlock, id: Id, parent: usize) -> Node
+pub(crate) fn node_on(
+    nodes: &[Node],
+    leaves: &[usize],
+    block: StoredBlock,
+    id: Id,
+    parent: usize,
+) -> Node
     requires nodes { AreNodes (blocks_of nodes.now) nodes.now }
     requires order { AreInOrder (blocks_of nodes.now) }
     requires leaves { leaves.now ≡ leaves_of (blocks_of nodes.now) }

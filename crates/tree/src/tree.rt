@@ -25,7 +25,7 @@ use crate::standing::Standing;
 use crate::tip::Tip;
 use crate::tips::{tip_at, tops};
 use crate::walk::branch_of;
-use block::{Block, GENESIS_ID};
+use block::{GENESIS_ID, StoredBlock};
 use hash::Id;
 use std::alloc::Global;
 use std::collections::BTreeMap;
@@ -68,7 +68,7 @@ impl Tree {
         ensures { IfOk result (λ tree. tree ≡ opening) }
     {
         let mut nodes = Vec::new(alloc);
-        nodes.push(genesis_node(alloc))?;
+        nodes.push(genesis_node())?;
         let mut marks = Vec::new(alloc);
         marks.push(Mark {
             bad: false,
@@ -105,7 +105,7 @@ impl Tree {
     }
 
     /// The block at a place. Genesis has no transactions here.
-    pub fn block(&self, place: usize) -> &Block
+    pub fn block(&self, place: usize) -> &StoredBlock
         requires { place ≤ length self.now.blocks }
         ensures { result.now ≡ block_at names self.now.blocks place }
     {
@@ -312,7 +312,7 @@ impl Tree {
     }
 
     /// Keeps a block that was made of this id, on this parent, and gives its place.
-    pub fn add(&mut self, block: Block, id: Id, parent: usize) -> Result<usize, AddFault>
+    pub fn add(&mut self, block: StoredBlock, id: Id, parent: usize) -> Result<usize, AddFault>
         requires parent { parent ≤ length self.old.blocks }
         requires id { id ≡ id_of block.header }
         ensures place { IfOk result (λ place. place ≡ suc (length self.old.blocks)) }
@@ -332,7 +332,7 @@ impl Tree {
     }
 
     /// The same where there is room.
-    fn keep(&mut self, block: Block, id: Id, parent: usize) -> Result<usize, Memory>
+    fn keep(&mut self, block: StoredBlock, id: Id, parent: usize) -> Result<usize, Memory>
         requires room { suc (length self.old.blocks) < max_blocks }
         requires parent { parent ≤ length self.old.blocks }
         requires id { id ≡ id_of block.header }

@@ -1,4 +1,4 @@
-use Rattle.std.proofs.Common.{◌≡◌, ℕ, List, ◌∷◌, ◌++◌, take, get_or, sym, ap, ◌∙◌, arith}
+use Rattle.std.proofs.Common.{◌≡◌, ℕ, List, ◌∷◌, ◌++◌, ◌+◌, take, set, get_or, sym, ap, ◌∙◌, arith}
 use Rattle.std.proofs.lemmas.List.{length-set, get_or_default}
 use Rattle.locks.specs.MedianTime.{median_of}
 use Rattle.tree.specs.MedianTime.{time_of}
@@ -17,8 +17,10 @@ returns-then-next-eq0 c =
     let is = get_or_default ns p c.index-nodes-next.result n i.0 in
     let l = i.1 in
     let h = c.loop-count-test.true in
+    let v : c.header.result.now.time ≡ time_of n.block = ap (λ x. x.time) c.header.ensures in
     c.median.ensures.value
-    ∙ ap median_of (all_put c.loop-count.times (c.args.time ∷ times_on t c.args.parent) c.loop-count.count (time_of n.block) (omega arith) l
+    ∙ ap median_of (ap (λ (x : ℕ). take (c.loop-count.count + 1) (set c.loop-count.times c.loop-count.count x)) v
+    ∙ all_put c.loop-count.times (c.args.time ∷ times_on t c.args.parent) c.loop-count.count (time_of n.block) (omega arith) l
     (ap (λ (x : List ℕ). take c.loop-count.count c.loop-count.times ++ x) (sym (times_end ns p n c.requires.nodes c.if-next-eq0.true i.0 is)) ∙ i.2))
 
 pub loop-count-preserved : goal.loop-count-preserved
@@ -35,10 +37,12 @@ loop-count-preserved c =
     let h = c.loop-count-test.true in
     let same : (get_or ns p c.index-nodes-next-in-loop-count.result).parent ≡ n.parent = ap (λ x. x.parent) (get_or_default ns p c.index-nodes-next-in-loop-count.result c.index-nodes-next.result g) in
     let b = parent_before ns p n c.requires.nodes (omega arith) g is in
-    let low = b.1 in (
+    let low = b.1 in
+    let v : c.header.result.now.time ≡ time_of n.block = ap (λ x. x.time) c.header.ensures in (
       omega arith,
-      length-set c.loop-count.times c.loop-count.count (time_of n.block) ∙ l,
-      put_next c.loop-count.times (times_on t (get_or ns p c.index-nodes-next-in-loop-count.result).parent) (c.args.time ∷ times_on t c.args.parent) c.loop-count.count (time_of n.block) (omega arith)
+      length-set c.loop-count.times c.loop-count.count c.header.result.now.time ∙ l,
+      ap (λ (x : ℕ). take (c.loop-count.count + 1) (set c.loop-count.times c.loop-count.count x) ++ times_on t (get_or ns p c.index-nodes-next-in-loop-count.result).parent) v
+      ∙ put_next c.loop-count.times (times_on t (get_or ns p c.index-nodes-next-in-loop-count.result).parent) (c.args.time ∷ times_on t c.args.parent) c.loop-count.count (time_of n.block) (omega arith)
           (ap (λ (x : List ℕ). take c.loop-count.count c.loop-count.times ++ x) (ap (λ (q : ℕ). time_of n.block ∷ times_on t q) same ∙ sym (times_down ns p n c.requires.nodes (omega arith) g is)) ∙ i.2),
     )
 
