@@ -101,7 +101,7 @@ fn connect_next<B: Base, C: Crew>(
         ≡ reverse (medians_of (branch_blocks tree.now.blocks place)))) }
     ensures base { layer.new.base ≡ layer.old.base }
 {
-    let block = tree.block(place);
+    let block = tree.block(place).read(alloc)?;
     let ids = ids(alloc, block.txs.as_slice())?;
     let below = medians.as_slice();
     let context = Context {
@@ -110,7 +110,7 @@ fn connect_next<B: Base, C: Crew>(
         medians: below,
         params,
     };
-    match connect(alloc, layer, &context, block, &ids, env, gate)? {
+    match connect(alloc, layer, &context, &block, &ids, env, gate)? {
         Ok(undo) => {
             medians.push(tree.median(place))?;
             Ok(Ok(undo))

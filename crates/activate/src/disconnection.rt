@@ -75,9 +75,9 @@ fn disconnect_blocks<B: Base>(
 {
     for done in 0..low + undo.len() - down_to {
         let index = undo.len() - 1 - done;
-        let block = tree.block(places[low + 1 + index]);
+        let block = tree.block(places[low + 1 + index]).read(alloc)?;
         let ids = ids(alloc, block.txs.as_slice())?;
-        disconnect(alloc, layer, block, &ids, &undo[index])?;
+        disconnect(alloc, layer, &block, &ids, &undo[index])?;
     }
     Ok(())
 }
@@ -101,9 +101,9 @@ fn replayed_undo(
     let mut coins = Cache::over(alloc, &base);
     let mut undo = VecDeque::new(alloc);
     for height in 1..high + 1 {
-        let block = tree.block(places[height]);
+        let block = tree.block(places[height]).read(alloc)?;
         let ids = ids(alloc, block.txs.as_slice())?;
-        let spent = apply(alloc, &mut coins, height as u32, block, &ids)?;
+        let spent = apply(alloc, &mut coins, height as u32, &block, &ids)?;
         if height > low {
             undo.push_back(spent)?;
         }
