@@ -1,8 +1,9 @@
 use Rattle.std.proofs.Common.{◌≡◌, ℕ, suc, ◌+◌, ◌<◌, List, ◌∷◌, length, map, take, get_or, sym, ap, ◌∙◌, subst, arith}
 use Rattle.block.specs.declared.block.Block.{Block}
+use Rattle.block.specs.declared.header.Header.{Header}
 use Rattle.locks.specs.MedianTime.{median_of}
 use Rattle.tree.specs.declared.node.Node.{Node}
-use Rattle.tree.specs.Branches.{Blocks, height}
+use Rattle.tree.specs.Branches.{Blocks, blocks_at, branch, height}
 use Rattle.tree.specs.MedianTime.{time_of, median_time_past}
 use Rattle.tree.specs.Names.{names}
 use Rattle.tree.specs.Nodes.{blocks_of, kept_of}
@@ -29,8 +30,8 @@ overflow_add-height c =
     let r = c.requires.room in
     omega arith
 
-median_new : (t : Blocks Block) (n : Node) (m : ℕ) → m ≡ median_of (take 11 (n.block.header.time ∷ map time_of (Rattle.tree.specs.Branches.blocks_at names t (Rattle.tree.specs.Branches.branch t n.parent))))
-    → m ≡ median_time_past (Rattle.tree.specs.Branches.blocks_at names (kept_of n ∷ t) (Rattle.tree.specs.Branches.branch (kept_of n ∷ t) (suc (length t))))
+median_new : (t : Blocks Block) (n : Node) (m : ℕ) → m ≡ median_of (take 11 (n.block.header.time ∷ map time_of (blocks_at names t (branch t n.parent))))
+    → m ≡ median_time_past (blocks_at names (kept_of n ∷ t) (branch (kept_of n ∷ t) (suc (length t))))
 unfolding median_time_past
 median_new t n m e = e ∙ ap (λ (l : List Block). median_of (take 11 (map time_of l))) (sym (blocks-new names (kept_of n) t))
 
@@ -49,6 +50,6 @@ returns-clause-node c =
       id = c.requires.id ∙ sym (id_here names (kept_of n) t);
       parent = sym (parent_here (kept_of n) t (omega arith));
       height = omega arith;
-      median = median_new t n c.median_on-median.result c.median_on-median.ensures;
+      median = median_new t n c.median_on-median.result (subst (λ (h : Header). c.median_on-median.result ≡ median_of (take 11 (h.time ∷ map time_of (blocks_at names t (branch t p))))) c.header.ensures c.median_on-median.ensures);
       slot = c.slot_on-slot.ensures ∙ sym (slot_here (kept_of n) t);
     })

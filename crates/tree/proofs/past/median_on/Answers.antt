@@ -42,7 +42,7 @@ loop-count-preserved c =
       omega arith,
       length-set c.loop-count.times c.loop-count.count c.header.result.now.time ∙ l,
       ap (λ (x : ℕ). take (c.loop-count.count + 1) (set c.loop-count.times c.loop-count.count x) ++ times_on t (get_or ns p c.index-nodes-next-in-loop-count.result).parent) v
-      ∙ put_next c.loop-count.times (times_on t (get_or ns p c.index-nodes-next-in-loop-count.result).parent) (c.args.time ∷ times_on t c.args.parent) c.loop-count.count (time_of n.block) (omega arith)
+          ∙ put_next c.loop-count.times (times_on t (get_or ns p c.index-nodes-next-in-loop-count.result).parent) (c.args.time ∷ times_on t c.args.parent) c.loop-count.count (time_of n.block) (omega arith)
           (ap (λ (x : List ℕ). take c.loop-count.count c.loop-count.times ++ x) (ap (λ (q : ℕ). time_of n.block ∷ times_on t q) same ∙ sym (times_down ns p n c.requires.nodes (omega arith) g is)) ∙ i.2),
     )
 
