@@ -16,5 +16,5 @@ returns-clause-few c =
     let k = kept c.self.invariant c.self.view_is in
     let r = c.self.invariant.room in
     let v = (node_at c.self.invariant c.self.view_is c.args.place c.requires c.index.result.now c.index.ensures).height in
-    let h = height-place c.self.now.blocks c.args.place c.args.place (omega arith) c.requires in
+    let h = height-place c.args.self.now.blocks c.args.place c.args.place (omega arith) c.requires in
     omega arith
