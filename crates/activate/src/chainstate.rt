@@ -7,6 +7,7 @@ ghost use Rattle.rules.specs.Params.{regtest as regtest_params};
 ghost use Rattle.tree.specs.Branches.{height};
 ghost use Rattle.tree.specs.Tips.{tip_of_id};
 ghost use Rattle.chain.specs.Commands.{outcome, replies_of, state_after_commands};
+ghost use Rattle.chain.specs.Prepared.{command_of};
 ghost use Rattle.chain.specs.Regtest.{ledger, regtest};
 ghost use Rattle.chain.specs.Replay.{coins};
 ghost use Rattle.chain.specs.Settle.{active, best, tips};
@@ -14,7 +15,7 @@ ghost use Rattle.activate.specs.CoreState.{HasOneMore, IsChainstate, genesis_alo
 
 use crate::core_state::Core;
 use crate::prepared::Prepared;
-use chain::{Command, Reply};
+use chain::{Command, PreparedCommand, Reply};
 use coins::CoinMap;
 use connect::Env;
 use hash::Id;
@@ -82,6 +83,28 @@ impl Chainstate {
             (self.new.core.state, reply)
             ≡ outcome (regtest self.old.core.params env.now.table.now)
             self.old.core.state command.now) }
+        ensures params { self.new.core.params ≡ self.old.core.params }
+        ensures is_chainstate { IsChainstate self.new env.now.table.now }
+        ensures undo { OnOk result (HasOneMore self.old.core self.new.core) }
+        ensures err { OnErr result (self.new ≡ self.old) }
+    {
+        let prepared = PreparedCommand::of(alloc, command)?;
+        self.step_prepared(alloc, &prepared, env, gate)
+    }
+
+    /// Takes a command that was prepared before, without looking at its bytes again.
+    pub fn step_prepared<C: Crew>(
+        &mut self,
+        alloc: Global,
+        command: &PreparedCommand,
+        env: &Env<'_, C>,
+        gate: &(dyn Gate + Sync),
+    ) -> Result<Reply, Memory>
+        requires is_chainstate { IsChainstate self.old env.now.table.now }
+        ensures outcome { IfOk result (λ reply.
+            (self.new.core.state, reply)
+            ≡ outcome (regtest self.old.core.params env.now.table.now)
+            self.old.core.state (command_of command.now)) }
         ensures params { self.new.core.params ≡ self.old.core.params }
         ensures is_chainstate { IsChainstate self.new env.now.table.now }
         ensures undo { OnOk result (HasOneMore self.old.core self.new.core) }

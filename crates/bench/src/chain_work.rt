@@ -65,7 +65,7 @@ impl Branch {
         let txs = Txs::from_vec(txs);
         let mut bytes = Vec::new(alloc);
         block::write(&Block { header, txs }, &mut bytes)?;
-        Ok(Command::Submit(Bytes::from_vec(bytes), NOW))
+        Ok(Command::Submit(Bytes::from_vec(alloc, bytes)?, NOW))
     }
 
     /// A coinbase that pushes the height (BIP 34) and the branch's number.

@@ -114,7 +114,7 @@ fn command_of(
                 Err(ReadFault::Memory) => return Err(Fault::Memory),
                 _ => return Err(Fault::JournalLine(step.number)),
             }
-            Command::Submit(Bytes::from_vec(record), now)
+            Command::Submit(Bytes::from_vec(alloc, record)?, now)
         }
     })
 }

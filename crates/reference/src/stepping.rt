@@ -25,10 +25,10 @@ use crate::settling::settle;
 use block::{Block, ReadFault};
 use chain::{Command, MarkReply, Reply, SubmitReply};
 use hash::Id;
-use rules::{block_alone_with, context_fault};
+use rules::{block_alone, context_fault};
 use std::alloc::Global;
 use tree::MAX_BLOCKS;
-use txn::{Reason, ids};
+use txn::Reason;
 use wire::Memory;
 
 pub(crate) fn step(
@@ -174,8 +174,7 @@ fn judge(
         place_of names (state_of_replayed old.now).blocks block.now.header.prev
         ≡ Some parent)) }
 {
-    let ids = ids(alloc, block.txs.as_slice())?;
-    if let Some(reason) = block_alone_with(alloc, block, &ids)? {
+    if let Some(reason) = block_alone(alloc, block)? {
         return Ok(Err(reason));
     }
     let Some(parent) = find(&old.held, &block.header.prev) else {

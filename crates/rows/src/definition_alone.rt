@@ -62,7 +62,8 @@ fn block(alloc: Global, prev: Id, seconds: u32, value: i64) -> Result<Block, Mem
 fn submission(alloc: Global, block: &Block) -> Result<Command, Memory> {
     let mut bytes = Vec::new(alloc);
     write(block, &mut bytes)?;
-    Ok(Command::Submit(Bytes::from_vec(bytes), u64::from(GENESIS_TIME)))
+    let bytes = Bytes::from_vec(alloc, bytes)?;
+    Ok(Command::Submit(bytes, u64::from(GENESIS_TIME)))
 }
 
 fn answers(alloc: Global, commands: &[Command]) -> Result<Vec<Reply>, Memory> {

@@ -163,7 +163,7 @@ fn judged<B: Base, C: Crew>(
         crew,
     };
     let ids = ids(alloc, block.txs.as_slice())?;
-    if let Some(reason) = block_alone_with(alloc, block, &ids)? {
+    if let Some(reason) = block_alone_with(alloc, block, &block.id(), &ids)? {
         return Ok(Some(reason));
     }
     match connect(alloc, cache, context, block, &ids, &env, &Open)? {
@@ -509,7 +509,7 @@ fn is_moved<B: Base>(
         crew: &Alone,
     };
     let ids = ids(alloc, block.txs.as_slice())?;
-    if block_alone_with(alloc, block, &ids)?.is_some() {
+    if block_alone_with(alloc, block, &block.id(), &ids)?.is_some() {
         return Ok(false);
     }
     let Ok(undo) = connect(alloc, cache, context, block, &ids, &env, &Open)? else {
@@ -559,7 +559,7 @@ fn is_repeated<B: Base>(
         crew: &Alone,
     };
     let ids = ids(alloc, block.txs.as_slice())?;
-    if block_alone_with(alloc, block, &ids)?.is_some() {
+    if block_alone_with(alloc, block, &block.id(), &ids)?.is_some() {
         return Ok(false);
     }
     let Ok(undo) = connect(alloc, cache, context, block, &ids, &env, &Open)? else {
@@ -589,7 +589,7 @@ fn is_connected_with<'a, B: Base>(
         crew: &Alone,
     };
     let ids = ids(alloc, block.txs.as_slice())?;
-    if block_alone_with(alloc, block, &ids)?.is_some() {
+    if block_alone_with(alloc, block, &block.id(), &ids)?.is_some() {
         return Ok(false);
     }
     Ok(connect(alloc, cache, context, block, &ids, &env, gate)?.is_ok())

@@ -4,7 +4,7 @@ ghost use Rattle.std.specs.Prelude.{◌≡◌, ◌≤◌, ◌<◌, suc, length, 
 ghost use Rattle.block.specs.Identity.{id_of};
 ghost use Rattle.tree.specs.Limits.{max_blocks};
 
-use block::{Block, GENESIS_ID, GENESIS_TIME, Header, Txs};
+use block::{GENESIS_ID, GENESIS_TIME, Header, StoredBlock};
 use hash::Id;
 use std::alloc::Global;
 use std::test::*;
@@ -12,28 +12,24 @@ use tree::{AddFault, Status, Tip, Tree};
 use wire::Memory;
 
 /// A block on the one of this id.
-fn block(alloc: Global, prev: Id, time: u32) -> Block {
-    let header = Header {
+fn block(prev: Id, time: u32) -> StoredBlock {
+    StoredBlock::header_alone(Header {
         version: 4,
         prev,
         root: Id([0; 32]),
         time,
         bits: 0x207f_ffff,
         nonce: 0,
-    };
-    Block {
-        header,
-        txs: Txs::from_vec(Vec::new(alloc)),
-    }
+    })
 }
 
 /// Adds a block so many seconds after genesis; a parent that isn't kept is answered like a full tree.
-fn grow(tree: &mut Tree, alloc: Global, parent: usize, seconds: u32) -> Result<usize, AddFault> {
+fn grow(tree: &mut Tree, parent: usize, seconds: u32) -> Result<usize, AddFault> {
     if parent >= tree.len() {
         return Err(AddFault::Full);
     }
-    let block = block(alloc, tree.id(parent), GENESIS_TIME.wrapping_add(seconds));
-    let id = block.id();
+    let block = block(tree.id(parent), GENESIS_TIME.wrapping_add(seconds));
+    let id = block.header().id();
     tree.add(block, id, parent)
 }
 
@@ -83,16 +79,16 @@ fn genesis_alone(rt: HostRuntime) -> Result<(), Fail> {
 #[test]
 fn marks_and_ranks(rt: HostRuntime) -> Result<(), Fail> {
     let mut tree = Tree::new(rt.alloc())?;
-    let b1 = grow(&mut tree, rt.alloc(), 0, 1)?;
-    let p2 = grow(&mut tree, rt.alloc(), b1, 2)?;
-    let q2 = grow(&mut tree, rt.alloc(), b1, 3)?;
+    let b1 = grow(&mut tree, 0, 1)?;
+    let p2 = grow(&mut tree, b1, 2)?;
+    let q2 = grow(&mut tree, b1, 3)?;
     assert!(rt; is_better(&tree, p2, q2));
     assert!(rt; !is_better(&tree, q2, p2));
     if q2 < tree.len() {
         tree.precious(q2)?;
     }
     assert!(rt; is_better(&tree, q2, p2));
-    let p3 = grow(&mut tree, rt.alloc(), p2, 4)?;
+    let p3 = grow(&mut tree, p2, 4)?;
     assert!(rt; is_better(&tree, p3, q2));
     mark(&mut tree, p2);
     assert!(rt; !is_usable(&tree, p3));
@@ -110,9 +106,9 @@ fn marks_and_ranks(rt: HostRuntime) -> Result<(), Fail> {
 #[test]
 fn a_branch(rt: HostRuntime) -> Result<(), Fail> {
     let mut tree = Tree::new(rt.alloc())?;
-    let one = grow(&mut tree, rt.alloc(), 0, 1)?;
-    grow(&mut tree, rt.alloc(), 0, 2)?;
-    let three = grow(&mut tree, rt.alloc(), one, 3)?;
+    let one = grow(&mut tree, 0, 1)?;
+    grow(&mut tree, 0, 2)?;
+    let three = grow(&mut tree, one, 3)?;
     assert!(rt; three < tree.len());
     if three < tree.len() {
         let branch = tree.branch(rt.alloc(), three)?;
@@ -120,7 +116,7 @@ fn a_branch(rt: HostRuntime) -> Result<(), Fail> {
         assert_eq!(rt; tree.parent(three), 1);
         assert_eq!(rt; tree.height(three), 2);
         assert_eq!(rt; tree.find(&tree.id(three)), Some(3));
-        assert_eq!(rt; Some(tree.block(three).header.prev), id(&tree, 1));
+        assert_eq!(rt; Some(tree.block(three).header().prev), id(&tree, 1));
     }
     Ok(())
 }
@@ -147,9 +143,9 @@ fn mark_and_put_back(
 #[test]
 fn flags_put_back(rt: HostRuntime) -> Result<(), Fail> {
     let mut tree = Tree::new(rt.alloc())?;
-    let b1 = grow(&mut tree, rt.alloc(), 0, 1)?;
-    let p2 = grow(&mut tree, rt.alloc(), b1, 2)?;
-    let q2 = grow(&mut tree, rt.alloc(), b1, 3)?;
+    let b1 = grow(&mut tree, 0, 1)?;
+    let p2 = grow(&mut tree, b1, 2)?;
+    let q2 = grow(&mut tree, b1, 3)?;
     mark(&mut tree, q2);
     see(&mut tree, b1);
     assert!(rt; mark_and_put_back(&mut tree, rt.alloc(), b1, p2)?);
@@ -173,8 +169,8 @@ fn call_and_take_back(tree: &mut Tree, place: usize) -> Result<(), Memory> {
 #[test]
 fn a_call_taken_back(rt: HostRuntime) -> Result<(), Fail> {
     let mut tree = Tree::new(rt.alloc())?;
-    let one = grow(&mut tree, rt.alloc(), 0, 1)?;
-    let two = grow(&mut tree, rt.alloc(), 0, 2)?;
+    let one = grow(&mut tree, 0, 1)?;
+    let two = grow(&mut tree, 0, 2)?;
     if two < tree.len() {
         tree.precious(two)?;
     }
@@ -189,9 +185,9 @@ fn a_call_taken_back(rt: HostRuntime) -> Result<(), Fail> {
 fn the_best_usable_block(rt: HostRuntime) -> Result<(), Fail> {
     let mut tree = Tree::new(rt.alloc())?;
     assert_eq!(rt; tree.best_usable(), 0);
-    let b1 = grow(&mut tree, rt.alloc(), 0, 1)?;
-    let p2 = grow(&mut tree, rt.alloc(), b1, 2)?;
-    let q2 = grow(&mut tree, rt.alloc(), b1, 3)?;
+    let b1 = grow(&mut tree, 0, 1)?;
+    let p2 = grow(&mut tree, b1, 2)?;
+    let q2 = grow(&mut tree, b1, 3)?;
     assert_eq!(rt; tree.best_usable(), p2);
     mark(&mut tree, p2);
     assert_eq!(rt; tree.best_usable(), q2);
@@ -226,15 +222,15 @@ fn is_tip(tip: Option<&Tip>, id: Option<Id>, height: usize, length: usize, statu
 #[test]
 fn tips_of_a_fork(rt: HostRuntime) -> Result<(), Fail> {
     let mut tree = Tree::new(rt.alloc())?;
-    let b1 = grow(&mut tree, rt.alloc(), 0, 1)?;
-    let p2 = grow(&mut tree, rt.alloc(), b1, 2)?;
-    let q2 = grow(&mut tree, rt.alloc(), b1, 3)?;
+    let b1 = grow(&mut tree, 0, 1)?;
+    let p2 = grow(&mut tree, b1, 2)?;
+    let q2 = grow(&mut tree, b1, 3)?;
     see(&mut tree, p2);
     let list = tips(&tree, rt.alloc(), p2)?;
     assert_eq!(rt; list.len(), 2);
     assert!(rt; is_tip(list.get(0), id(&tree, p2), 2, 0, Status::Active));
     assert!(rt; is_tip(list.get(1), id(&tree, q2), 2, 1, Status::ValidHeaders));
-    let q3 = grow(&mut tree, rt.alloc(), q2, 4)?;
+    let q3 = grow(&mut tree, q2, 4)?;
     let list = tips(&tree, rt.alloc(), q3)?;
     assert_eq!(rt; list.len(), 2);
     assert!(rt; is_tip(list.get(0), id(&tree, q3), 3, 0, Status::Active));
@@ -246,11 +242,11 @@ fn tips_of_a_fork(rt: HostRuntime) -> Result<(), Fail> {
 #[test]
 fn tips_above_marks(rt: HostRuntime) -> Result<(), Fail> {
     let mut tree = Tree::new(rt.alloc())?;
-    let b1 = grow(&mut tree, rt.alloc(), 0, 1)?;
-    let b2 = grow(&mut tree, rt.alloc(), b1, 2)?;
-    let x1 = grow(&mut tree, rt.alloc(), 0, 3)?;
-    let x2 = grow(&mut tree, rt.alloc(), x1, 4)?;
-    let x3 = grow(&mut tree, rt.alloc(), x2, 5)?;
+    let b1 = grow(&mut tree, 0, 1)?;
+    let b2 = grow(&mut tree, b1, 2)?;
+    let x1 = grow(&mut tree, 0, 3)?;
+    let x2 = grow(&mut tree, x1, 4)?;
+    let x3 = grow(&mut tree, x2, 5)?;
     mark(&mut tree, x2);
     let list = tips(&tree, rt.alloc(), b2)?;
     assert_eq!(rt; list.len(), 2);
@@ -265,17 +261,12 @@ fn tips_above_marks(rt: HostRuntime) -> Result<(), Fail> {
 }
 
 /// Adds a block and takes it back, and gives its id.
-fn add_and_take_back(
-    tree: &mut Tree,
-    alloc: Global,
-    parent: usize,
-    seconds: u32,
-) -> Result<Id, AddFault> {
+fn add_and_take_back(tree: &mut Tree, parent: usize, seconds: u32) -> Result<Id, AddFault> {
     if parent >= tree.len() {
         return Err(AddFault::Full);
     }
-    let block = block(alloc, tree.id(parent), GENESIS_TIME.wrapping_add(seconds));
-    let id = block.id();
+    let block = block(tree.id(parent), GENESIS_TIME.wrapping_add(seconds));
+    let id = block.header().id();
     if tree.find(&id).is_some() {
         return Err(AddFault::Full);
     }
@@ -288,9 +279,9 @@ fn add_and_take_back(
 #[test]
 fn a_block_taken_back(rt: HostRuntime) -> Result<(), Fail> {
     let mut tree = Tree::new(rt.alloc())?;
-    let b1 = grow(&mut tree, rt.alloc(), 0, 1)?;
+    let b1 = grow(&mut tree, 0, 1)?;
     for parent in 0..2 {
-        let gone = add_and_take_back(&mut tree, rt.alloc(), parent, 2)?;
+        let gone = add_and_take_back(&mut tree, parent, 2)?;
         assert_eq!(rt; tree.len(), 2);
         assert_eq!(rt; tree.find(&gone), None);
         let list = tips(&tree, rt.alloc(), b1)?;
@@ -306,7 +297,7 @@ fn median_time_past(rt: HostRuntime) -> Result<(), Fail> {
     let mut tree = Tree::new(rt.alloc())?;
     let mut tip = 0;
     for seconds in 1..13 {
-        tip = grow(&mut tree, rt.alloc(), tip, seconds)?;
+        tip = grow(&mut tree, tip, seconds)?;
     }
     assert!(rt; tip < tree.len());
     if tip < tree.len() {
@@ -320,7 +311,7 @@ fn median_time_past(rt: HostRuntime) -> Result<(), Fail> {
 fn more_tips_than_a_hundred(rt: HostRuntime) -> Result<(), Fail> {
     let mut tree = Tree::new(rt.alloc())?;
     for seconds in 1..131 {
-        grow(&mut tree, rt.alloc(), 0, seconds)?;
+        grow(&mut tree, 0, seconds)?;
     }
     let list = tips(&tree, rt.alloc(), 1)?;
     assert_eq!(rt; list.len(), 130);
@@ -337,7 +328,12 @@ fn why_a_block_is_not_added(rt: HostRuntime) -> Result<(), Fail> {
 }
 
 /// Adds a block where there is room, so that no other fault than want of memory is left.
-fn add_within_room(tree: &mut Tree, block: Block, id: Id, parent: usize) -> Result<usize, Memory>
+fn add_within_room(
+    tree: &mut Tree,
+    block: StoredBlock,
+    id: Id,
+    parent: usize,
+) -> Result<usize, Memory>
     requires parent { parent ≤ length tree.old.blocks }
     requires room { suc (length tree.old.blocks) < max_blocks }
     requires id { id ≡ id_of block.header }
@@ -353,8 +349,8 @@ fn add_within_room(tree: &mut Tree, block: Block, id: Id, parent: usize) -> Resu
 #[test]
 fn a_block_where_there_is_room(rt: HostRuntime) -> Result<(), Fail> {
     let mut tree = Tree::new(rt.alloc())?;
-    let block = block(rt.alloc(), GENESIS_ID, GENESIS_TIME);
-    let id = block.id();
+    let block = block(GENESIS_ID, GENESIS_TIME);
+    let id = block.header().id();
     assert_eq!(rt; add_within_room(&mut tree, block, id, 0)?, 1);
     Ok(())
 }

@@ -1,16 +1,14 @@
 //! What a command comes to.
 
-ghost use Rattle.std.specs.Prelude.{◌≡◌, ℕ, ◌×◌, ◌≤◌, ◌<◌, IfOk, None, OnOk, OnErr, suc, length};
-ghost use Rattle.block.specs.declared.fault.ReadFault.TheVariants as faults;
-ghost use Rattle.block.specs.Identity.{id_of};
+ghost use Rattle.std.specs.Prelude.{◌≡◌, ℕ, ◌×◌, ◌≤◌, ◌<◌, IfOk, None, Some, OnOk, OnErr, suc, length};
 ghost use Rattle.hash.specs.declared.id.Id.{Id};
 ghost use Rattle.block.specs.declared.block.Block.{Block};
-ghost use Rattle.txn.specs.Identity.{ids_of};
 ghost use Rattle.tree.specs.Branches.{place_of};
 ghost use Rattle.tree.specs.Limits.{max_blocks};
 ghost use Rattle.tree.specs.Names.{names};
 ghost use Rattle.tree.specs.Sound.{IsFresh};
 ghost use Rattle.tree.specs.State.{with_block};
+ghost use Rattle.chain.specs.Prepared.{IsSubmission, command_of};
 ghost use Rattle.chain.specs.Regtest.{regtest};
 ghost use Rattle.chain.specs.Rules.{Rules};
 ghost use Rattle.chain.specs.inside.Faults.{IsNew};
@@ -24,15 +22,13 @@ use crate::core_state::Core;
 use crate::path::BranchPath;
 use crate::prepared::{Completion, Prepared, Rollback, TreeChange};
 use crate::tip_connection::connect_tip;
-use block::{Block, ReadFault};
-use chain::{Command, MarkReply, Reply, SubmitReply};
+use block::{Bytes, StoredBlock};
+use chain::{PreparedCommand, Reply, SubmitReply, SubmittedBlock};
 use coins::{Base, Changes};
 use connect::{Context, Env};
-use hash::Id;
 use queue::{Crew, Gate};
 use std::alloc::Global;
 use tree::{AddFault, MAX_BLOCKS};
-use txn::ids;
 use wire::Memory;
 
 /// What is prepared for a command that changes nothing.
@@ -50,16 +46,6 @@ pub(crate) fn still(alloc: Global, reply: Reply) -> Prepared
     }
 }
 
-/// Refuses where the fault is want of memory, and not of the bytes.
-fn undecodable(fault: ReadFault) -> Result<(), Memory>
-    ensures { IfOk result (λ _. ¬ (fault ≡ faults.Memory)) }
-{
-    match fault {
-        ReadFault::Memory => Err(Memory),
-        _ => Ok(()),
-    }
-}
-
 impl Core {
     /// Looks at everything that a command comes to, and gets all memory for it. Where it refuses nothing has changed;
     /// else the tree is as the rollback tells how to take back.
@@ -67,7 +53,7 @@ impl Core {
         &mut self,
         alloc: Global,
         base: &B,
-        command: &Command,
+        command: &PreparedCommand,
         env: &Env<'_, C>,
         gate: &(dyn Gate + Sync),
     ) -> Result<Prepared, Memory>
@@ -75,20 +61,23 @@ impl Core {
         requires coins { B.coins base.now ≡ coins_of self.old }
         ensures prepared { IfOk result (λ prepared.
             IsPreparation (regtest self.old.params env.now.table.now) self.old
-            command.now self.new prepared) }
+            (command_of command.now) self.new prepared) }
         ensures err { OnErr result (self.new ≡ self.old) }
     {
         match command {
-            Command::Submit(bytes, now) => match block::read(alloc, bytes.as_slice()) {
-                Ok(block) => self.prepare_block(alloc, base, block, *now, env, gate),
-                Err(fault) => {
-                    undecodable(fault)?;
-                    Ok(still(alloc, Reply::Submit(SubmitReply::DecodeFailed)))
+            PreparedCommand::Submit(submission, now) => match submission.block() {
+                Some(submitted) => {
+                    self.prepare_block(alloc, base, submission.bytes(), submitted, *now, env, gate)
                 }
+                None => Ok(still(alloc, Reply::Submit(SubmitReply::DecodeFailed))),
             },
-            Command::Invalidate(id) => self.prepare_invalidate(alloc, base, id, env, gate),
-            Command::Reconsider(id) => self.prepare_reconsider(alloc, base, id, env, gate),
-            Command::Precious(id) => self.prepare_precious(alloc, base, id, env, gate),
+            PreparedCommand::Invalidate(id) => {
+                self.prepare_invalidate(alloc, base, id, env, gate)
+            }
+            PreparedCommand::Reconsider(id) => {
+                self.prepare_reconsider(alloc, base, id, env, gate)
+            }
+            PreparedCommand::Precious(id) => self.prepare_precious(alloc, base, id, env, gate),
         }
     }
 
@@ -97,34 +86,34 @@ impl Core {
         &mut self,
         alloc: Global,
         base: &B,
-        block: Block,
+        bytes: &Bytes,
+        submitted: &SubmittedBlock,
         now: u64,
         env: &Env<'_, C>,
         gate: &(dyn Gate + Sync),
     ) -> Result<Prepared, Memory>
         requires follows { Follows self.old env.now.table.now }
+        requires submission { IsSubmission bytes.now (Some submitted.now) }
         requires coins { B.coins base.now ≡ coins_of self.old }
         ensures prepared { IfOk result (λ prepared.
             IsPreparationFor (regtest self.old.params env.now.table.now) self.old
             (step (regtest self.old.params env.now.table.now)
-            self.old.state (Submit now block))
+            self.old.state (Submit now submitted.now.block))
             self.new prepared) }
         ensures err { OnErr result (self.new ≡ self.old) }
     {
-        let id = block.id();
-        if let Some(place) = self.tree.find(&id) {
+        if let Some(place) = self.tree.find(&submitted.id) {
             return Ok(still(alloc, Reply::Submit(self.known(place))));
         }
         if self.tree.len() >= MAX_BLOCKS {
             return Ok(still(alloc, Reply::Submit(SubmitReply::TreeFull)));
         }
-        let ids = ids(alloc, block.txs.as_slice())?;
-        match fault_or_parent(alloc, &self.tree, &self.params, &block, &ids, now)? {
+        match fault_or_parent(&self.tree, &self.params, submitted, now) {
             Err(reason) => Ok(still(alloc, Reply::Submit(SubmitReply::Rejected(reason)))),
             Ok(parent) if parent == self.active => {
-                self.prepare_on_tip(alloc, base, block, id, &ids, env, gate)
+                self.prepare_on_tip(alloc, base, bytes, submitted, env, gate)
             }
-            Ok(parent) => self.prepare_beside(alloc, base, block, id, parent, env, gate),
+            Ok(parent) => self.prepare_beside(alloc, base, bytes, submitted, parent, env, gate),
         }
     }
 
@@ -147,26 +136,24 @@ impl Core {
         &mut self,
         alloc: Global,
         base: &B,
-        block: Block,
-        id: Id,
-        ids: &[Id],
+        bytes: &Bytes,
+        submitted: &SubmittedBlock,
         env: &Env<'_, C>,
         gate: &(dyn Gate + Sync),
     ) -> Result<Prepared, Memory>
         requires follows { Follows self.old env.now.table.now }
         requires new { (now : ℕ)
-            × IsNew (regtest self.old.params env.now.table.now) self.old.state now block
-            self.old.active }
-        requires id { id ≡ id_of block.header }
-        requires ids { ids.now ≡ ids_of block.txs }
+            × IsNew (regtest self.old.params env.now.table.now) self.old.state now
+            submitted.now.block self.old.active }
+        requires submission { IsSubmission bytes.now (Some submitted.now) }
         requires coins { B.coins base.now ≡ coins_of self.old }
         ensures prepared { (now : ℕ)
-            → IsNew (regtest self.old.params env.now.table.now) self.old.state now block
-            self.old.active
+            → IsNew (regtest self.old.params env.now.table.now) self.old.state now
+            submitted.now.block self.old.active
             → IfOk result (λ prepared.
             IsPreparationFor (regtest self.old.params env.now.table.now) self.old
             (step (regtest self.old.params env.now.table.now)
-            self.old.state (Submit now block))
+            self.old.state (Submit now submitted.now.block))
             self.new prepared) }
         ensures err { OnErr result (self.new ≡ self.old) }
     {
@@ -177,11 +164,13 @@ impl Core {
             medians: self.medians.as_slice(),
             params: &self.params,
         };
-        let connected = connect_tip(alloc, base, &context, &block, ids, env, gate)?;
+        let block = &submitted.block;
+        let ids = submitted.ids.as_slice();
+        let connected = connect_tip(alloc, base, &context, block, ids, env, gate)?;
         let mut up = Vec::with_capacity(alloc, 1)?;
         let mut undo = Vec::with_capacity(alloc, 1)?;
         let fork = self.active;
-        let place = self.add(block, id, fork)?;
+        let place = self.add(bytes, submitted, fork)?;
         let rollback = Rollback {
             first: TreeChange::BlockAdded,
             flags: None,
@@ -212,27 +201,29 @@ impl Core {
         &mut self,
         alloc: Global,
         base: &B,
-        block: Block,
-        id: Id,
+        bytes: &Bytes,
+        submitted: &SubmittedBlock,
         parent: usize,
         env: &Env<'_, C>,
         gate: &(dyn Gate + Sync),
     ) -> Result<Prepared, Memory>
         requires follows { Follows self.old env.now.table.now }
         requires new { (now : ℕ)
-            × IsNew (regtest self.old.params env.now.table.now) self.old.state now block parent }
-        requires id { id ≡ id_of block.header }
+            × IsNew (regtest self.old.params env.now.table.now) self.old.state now
+            submitted.now.block parent }
+        requires submission { IsSubmission bytes.now (Some submitted.now) }
         requires coins { B.coins base.now ≡ coins_of self.old }
         ensures prepared { (now : ℕ)
-            → IsNew (regtest self.old.params env.now.table.now) self.old.state now block parent
+            → IsNew (regtest self.old.params env.now.table.now) self.old.state now
+            submitted.now.block parent
             → IfOk result (λ prepared.
             IsPreparationFor (regtest self.old.params env.now.table.now) self.old
             (step (regtest self.old.params env.now.table.now)
-            self.old.state (Submit now block))
+            self.old.state (Submit now submitted.now.block))
             self.new prepared) }
         ensures err { OnErr result (self.new ≡ self.old) }
     {
-        let place = self.add(block, id, parent)?;
+        let place = self.add(bytes, submitted, parent)?;
         if !self.tree.better(place, self.active) {
             return Ok(Prepared {
                 reply: Reply::Submit(SubmitReply::Inconclusive),
@@ -265,22 +256,28 @@ impl Core {
     }
 
     /// Keeps a new block, with room for it on the active branch.
-    fn add(&mut self, block: Block, id: Id, parent: usize) -> Result<usize, Memory>
+    fn add(
+        &mut self,
+        bytes: &Bytes,
+        submitted: &SubmittedBlock,
+        parent: usize,
+    ) -> Result<usize, Memory>
         requires parent { parent ≤ length self.old.state.blocks }
         requires room { suc (length self.old.state.blocks) < max_blocks }
-        requires id { id ≡ id_of block.header }
-        requires new { place_of names self.old.state.blocks id ≡ None }
+        requires submission { IsSubmission bytes.now (Some submitted.now) }
+        requires new { place_of names self.old.state.blocks submitted.now.id ≡ None }
         ensures place { IfOk result (λ place. place ≡ suc (length self.old.state.blocks)) }
         ensures ok { OnOk result
             (self.new
-            ≡ record self.old { state = with_block self.old.state block parent }) }
+            ≡ record self.old { state = with_block self.old.state submitted.now.block parent }) }
         ensures fresh { OnOk result (IsFresh names self.new.state) }
         ensures err { OnErr result (self.new ≡ self.old) }
     {
+        let block = StoredBlock::of(bytes.copy()?, &submitted.block);
         let more = self.tree.len() + 1 - self.branch.len();
         self.branch.reserve(more)?;
         self.medians.reserve(more)?;
-        match self.tree.add(block, id, parent) {
+        match self.tree.add(block, submitted.id, parent) {
             Ok(place) => Ok(place),
             Err(AddFault::Full) => unreachable!(),
             Err(AddFault::Memory) => Err(Memory),

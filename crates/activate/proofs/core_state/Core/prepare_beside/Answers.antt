@@ -20,13 +20,13 @@ use Rattle.activate.proofs.Planned.{best-added, can-added, coins-added, fresh-ba
 use Rattle.activate.proofs.core_state.Core.prepare_beside.Goals as goal
 
 pub add-requires-clause-parent : goal.add-requires-clause-parent
-add-requires-clause-parent g c = place-bound names c.args.self.now.state.blocks c.args.block.header.prev c.args.parent c.requires.new.1.parent
+add-requires-clause-parent g c = place-bound names c.args.self.now.state.blocks c.args.submitted.now.block.header.prev c.args.parent c.requires.new.1.parent
 
 pub returns-then-not-better-clause-prepared : goal.returns-then-not-better-clause-prepared
 returns-then-not-better-clause-prepared g c now is =
     let a : CoreState = c.args.self.now in
     let r = regtest a.params c.args.env.now.table.now in
-    let b = c.args.block in
+    let b = c.args.submitted.now.block in
     let p = c.args.parent in
     let n : ℕ = suc (length a.state.blocks) in
     let A : CoreState = record a { state = with_block a.state b p } in
@@ -46,7 +46,7 @@ pub settle-requires-clause-can : goal.settle-requires-clause-can
 settle-requires-clause-can g c =
     let a : CoreState = c.args.self.now in
     let r = regtest a.params c.args.env.now.table.now in
-    let b = c.args.block in
+    let b = c.args.submitted.now.block in
     let p = c.args.parent in
     let can = can-follows r a c.requires.follows.sound c.requires.follows.kept c.requires.follows.active_is in
     subst (λ (x : CoreState). CanTry (regtest x.params c.args.env.now.table.now) x) (sym c.in_ok-place.ensures.ok)
@@ -56,7 +56,7 @@ pub settle-requires-clause-best : goal.settle-requires-clause-best
 settle-requires-clause-best g c =
     let a : CoreState = c.args.self.now in
     let r = regtest a.params c.args.env.now.table.now in
-    let b = c.args.block in
+    let b = c.args.submitted.now.block in
     let p = c.args.parent in
     let n : ℕ = suc (length a.state.blocks) in
     let A : CoreState = record a { state = with_block a.state b p } in
@@ -76,7 +76,7 @@ pub settle-requires-clause-coins : goal.settle-requires-clause-coins
 settle-requires-clause-coins g c =
     let a : CoreState = c.args.self.now in
     let r = regtest a.params c.args.env.now.table.now in
-    let b = c.args.block in
+    let b = c.args.submitted.now.block in
     let p = c.args.parent in
     let can = can-follows r a c.requires.follows.sound c.requires.follows.kept c.requires.follows.active_is in
     c.requires.coins
@@ -86,7 +86,7 @@ pub roll_back-requires : goal.roll_back-requires
 roll_back-requires g c =
     let a : CoreState = c.args.self.now in
     let r = regtest a.params c.args.env.now.table.now in
-    let b = c.args.block in
+    let b = c.args.submitted.now.block in
     let p = c.args.parent in
     let can = can-follows r a c.requires.follows.sound c.requires.follows.kept c.requires.follows.active_is in
     let fresh : IsFresh names (with_block a.state b p) = subst (λ (x : CoreState). IsFresh names x.state) c.in_ok-place.ensures.ok c.in_ok-place.ensures.fresh in
@@ -97,7 +97,7 @@ pub returns-in-Ok-clause-prepared : goal.returns-in-Ok-clause-prepared
 returns-in-Ok-clause-prepared g c now is =
     let a : CoreState = c.args.self.now in
     let r = regtest a.params c.args.env.now.table.now in
-    let b = c.args.block in
+    let b = c.args.submitted.now.block in
     let p = c.args.parent in
     let n : ℕ = suc (length a.state.blocks) in
     let A : CoreState = record a { state = with_block a.state b p } in

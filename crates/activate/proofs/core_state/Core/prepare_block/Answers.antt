@@ -19,42 +19,42 @@ use Rattle.activate.proofs.core_state.Core.prepare_block.Goals as goal
 pub known-requires : goal.known-requires
 known-requires g c =
     let a : CoreState = c.args.self.now in
-    let found : place_of names a.state.blocks (id_of c.args.block.header) ≡ Some c.in-Some.place = subst (λ (x : CoreState). place_of names x.state.blocks (id_of c.args.block.header) ≡ Some c.in-Some.place) c.self.view_is
-    (ap (place_of names c.self.inside.tree.blocks) (sym c.id-id.ensures) ∙ sym c.find.ensures ∙ c.in-Some.is) in
-    place-bound names a.state.blocks (id_of c.args.block.header) c.in-Some.place found
+    let found : place_of names a.state.blocks (id_of c.args.submitted.now.block.header) ≡ Some c.in-Some.place = subst (λ (x : CoreState). place_of names x.state.blocks (id_of c.args.submitted.now.block.header) ≡ Some c.in-Some.place) c.self.view_is
+    (ap (place_of names c.self.inside.tree.blocks) (sym c.requires.submission.1.id) ∙ sym c.find.ensures ∙ c.in-Some.is) in
+    place-bound names a.state.blocks (id_of c.args.submitted.now.block.header) c.in-Some.place found
 
 pub returns-in-Some-clause-prepared : goal.returns-in-Some-clause-prepared
 returns-in-Some-clause-prepared g c =
     let a : CoreState = c.args.self.now in
     let r = regtest a.params c.args.env.now.table.now in
-    let found : place_of names a.state.blocks (id_of c.args.block.header) ≡ Some c.in-Some.place = subst (λ (x : CoreState). place_of names x.state.blocks (id_of c.args.block.header) ≡ Some c.in-Some.place) c.self.view_is
-    (ap (place_of names c.self.inside.tree.blocks) (sym c.id-id.ensures) ∙ sym c.find.ensures ∙ c.in-Some.is) in
-    plan-still r a (reply.Submit c.known.result) c.still.result (step r a.state (Submit c.args.now c.args.block)) c.requires.follows.active_is c.still.ensures
-    (ap (submit_says a.state) (c.known.ensures r) ∙ sym (step-known r a.state c.args.now c.args.block c.in-Some.place found))
+    let found : place_of names a.state.blocks (id_of c.args.submitted.now.block.header) ≡ Some c.in-Some.place = subst (λ (x : CoreState). place_of names x.state.blocks (id_of c.args.submitted.now.block.header) ≡ Some c.in-Some.place) c.self.view_is
+    (ap (place_of names c.self.inside.tree.blocks) (sym c.requires.submission.1.id) ∙ sym c.find.ensures ∙ c.in-Some.is) in
+    plan-still r a (reply.Submit c.known.result) c.still.result (step r a.state (Submit c.args.now c.args.submitted.now.block)) c.requires.follows.active_is c.still.ensures
+    (ap (submit_says a.state) (c.known.ensures r) ∙ sym (step-known r a.state c.args.now c.args.submitted.now.block c.in-Some.place found))
 
 pub returns-then-len-ge-MAX_BLOCKS-clause-prepared : goal.returns-then-len-ge-MAX_BLOCKS-clause-prepared
 returns-then-len-ge-MAX_BLOCKS-clause-prepared g c =
     let a : CoreState = c.args.self.now in
     let r = regtest a.params c.args.env.now.table.now in
-    let none : place_of names a.state.blocks (id_of c.args.block.header) ≡ None = subst (λ (x : CoreState). place_of names x.state.blocks (id_of c.args.block.header) ≡ None) c.self.view_is
-    (ap (place_of names c.self.inside.tree.blocks) (sym c.id-id.ensures) ∙ sym c.find.ensures ∙ c.in_default.is) in
+    let none : place_of names a.state.blocks (id_of c.args.submitted.now.block.header) ≡ None = subst (λ (x : CoreState). place_of names x.state.blocks (id_of c.args.submitted.now.block.header) ≡ None) c.self.view_is
+    (ap (place_of names c.self.inside.tree.blocks) (sym c.requires.submission.1.id) ∙ sym c.find.ensures ∙ c.in_default.is) in
     let t = c.if-len-ge-MAX_BLOCKS.true in
     let e = c.len.ensures.count in
     let full : max_blocks ≤ suc (length c.self.inside.tree.blocks) = omega arith in
-    plan-still r a (reply.Submit TreeFull) c.still-then-len-ge-MAX_BLOCKS.result (step r a.state (Submit c.args.now c.args.block)) c.requires.follows.active_is c.still-then-len-ge-MAX_BLOCKS.ensures
-    (sym (step-full r a.state c.args.now c.args.block none (subst (λ (x : CoreState). max_blocks ≤ suc (length x.state.blocks)) c.self.view_is full)))
+    plan-still r a (reply.Submit TreeFull) c.still-then-len-ge-MAX_BLOCKS.result (step r a.state (Submit c.args.now c.args.submitted.now.block)) c.requires.follows.active_is c.still-then-len-ge-MAX_BLOCKS.ensures
+    (sym (step-full r a.state c.args.now c.args.submitted.now.block none (subst (λ (x : CoreState). max_blocks ≤ suc (length x.state.blocks)) c.self.view_is full)))
 
 pub returns-in-Err-clause-prepared : goal.returns-in-Err-clause-prepared
 returns-in-Err-clause-prepared g c =
     let a : CoreState = c.args.self.now in
     let r = regtest a.params c.args.env.now.table.now in
-    let none : place_of names a.state.blocks (id_of c.args.block.header) ≡ None = subst (λ (x : CoreState). place_of names x.state.blocks (id_of c.args.block.header) ≡ None) c.self.view_is
-    (ap (place_of names c.self.inside.tree.blocks) (sym c.id-id.ensures) ∙ sym c.find.ensures ∙ c.in_default.is) in
+    let none : place_of names a.state.blocks (id_of c.args.submitted.now.block.header) ≡ None = subst (λ (x : CoreState). place_of names x.state.blocks (id_of c.args.submitted.now.block.header) ≡ None) c.self.view_is
+    (ap (place_of names c.self.inside.tree.blocks) (sym c.requires.submission.1.id) ∙ sym c.find.ensures ∙ c.in_default.is) in
     let t = c.if-len-ge-MAX_BLOCKS.false in
     let e = c.len.ensures.count in
     let room : suc (length c.self.inside.tree.blocks) < max_blocks = omega arith in
-    let inside : first_fault (regtest c.self.inside.params c.args.env.now.table.now) c.self.inside.tree c.args.now c.args.block ≡ Some c.in-Err.reason =
-    sym (subst (λ o. result_err o ≡ first_fault (regtest c.self.inside.params c.args.env.now.table.now) c.self.inside.tree c.args.now c.args.block) c.in-Err.is (c.in_ok-reason.ensures.fault c.args.env.now.table.now)) in
-    let fault : first_fault r a.state c.args.now c.args.block ≡ Some c.in-Err.reason = subst (λ (x : CoreState). first_fault (regtest x.params c.args.env.now.table.now) x.state c.args.now c.args.block ≡ Some c.in-Err.reason) c.self.view_is inside in
-    plan-still r a (reply.Submit (Rejected c.in-Err.reason)) c.still-in-Err.result (step r a.state (Submit c.args.now c.args.block)) c.requires.follows.active_is c.still-in-Err.ensures
-    (sym (step-faulty r a.state c.args.now c.args.block c.in-Err.reason none (subst (λ (x : CoreState). suc (length x.state.blocks) < max_blocks) c.self.view_is room) fault))
+    let inside : first_fault (regtest c.self.inside.params c.args.env.now.table.now) c.self.inside.tree c.args.now c.args.submitted.now.block ≡ Some c.in-Err.reason =
+    sym (subst (λ o. result_err o ≡ first_fault (regtest c.self.inside.params c.args.env.now.table.now) c.self.inside.tree c.args.now c.args.submitted.now.block) c.in-Err.is (c.fault_or_parent.ensures.fault c.args.env.now.table.now)) in
+    let fault : first_fault r a.state c.args.now c.args.submitted.now.block ≡ Some c.in-Err.reason = subst (λ (x : CoreState). first_fault (regtest x.params c.args.env.now.table.now) x.state c.args.now c.args.submitted.now.block ≡ Some c.in-Err.reason) c.self.view_is inside in
+    plan-still r a (reply.Submit (Rejected c.in-Err.reason)) c.still-in-Err.result (step r a.state (Submit c.args.now c.args.submitted.now.block)) c.requires.follows.active_is c.still-in-Err.ensures
+    (sym (step-faulty r a.state c.args.now c.args.submitted.now.block c.in-Err.reason none (subst (λ (x : CoreState). suc (length x.state.blocks) < max_blocks) c.self.view_is room) fault))

@@ -45,7 +45,7 @@ overflow_cast-context g c =
     omega arith
 
 pub connect_tip-requires-clause-alone : goal.connect_tip-requires-clause-alone
-connect_tip-requires-clause-alone g c = faultless-alone (regtest c.args.self.now.params c.args.env.now.table.now) c.args.self.now.state c.requires.new.0 c.args.block c.requires.new.1.faultless
+connect_tip-requires-clause-alone g c = faultless-alone (regtest c.args.self.now.params c.args.env.now.table.now) c.args.self.now.state c.requires.new.0 c.args.submitted.now.block c.requires.new.1.faultless
 
 pub returns-in-Err-clause-prepared : goal.returns-in-Err-clause-prepared
 returns-in-Err-clause-prepared g c now is =
@@ -54,18 +54,18 @@ returns-in-Err-clause-prepared g c now is =
     let t = c.self.inside.tree.blocks in
     let p = c.self.inside.active in
     let found : Option Reason = result_err c.in_ok-connected.connected in
-    let inside : (regtest c.self.inside.params c.args.env.now.table.now).connect_fault (branch_blocks t p) c.args.block ≡ found =
-    fault-tip c.self.inside.params c.args.env.now.table.now t p c.args.block (g.B.Base.coins c.args.base.now) found _ c.in_ok-connected.ensures.fault (c.requires.coins ∙ sym (ap coins_of c.self.view_is))
+    let inside : (regtest c.self.inside.params c.args.env.now.table.now).connect_fault (branch_blocks t p) c.args.submitted.now.block ≡ found =
+    fault-tip c.self.inside.params c.args.env.now.table.now t p c.args.submitted.now.block (g.B.Base.coins c.args.base.now) found _ c.in_ok-connected.ensures.fault (c.requires.coins ∙ sym (ap coins_of c.self.view_is))
     (setting-tip c.self.inside.params t p _ c.self.invariant.0 (ap (λ (n : ℕ). n + 1) c.height-height.ensures.value) c.median.ensures (c.as_slice.ensures.value ∙ c.self.invariant.1.medians_are) refl) in
-    let own : r.connect_fault (branch_blocks a.state.blocks a.active) c.args.block ≡ found =
-    subst (λ (x : CoreState). (regtest x.params c.args.env.now.table.now).connect_fault (branch_blocks x.state.blocks x.active) c.args.block ≡ found) c.self.view_is inside in
+    let own : r.connect_fault (branch_blocks a.state.blocks a.active) c.args.submitted.now.block ≡ found =
+    subst (λ (x : CoreState). (regtest x.params c.args.env.now.table.now).connect_fault (branch_blocks x.state.blocks x.active) c.args.submitted.now.block ≡ found) c.self.view_is inside in
     let fork : p ≡ a.active = ap (λ (x : CoreState). x.active) c.self.view_is in
-    let ok : c.add.new.self ≡ record a { state = with_block a.state c.args.block a.active } = c.in_ok-place.ensures.ok ∙ ap (λ (q : ℕ). record a { state = with_block a.state c.args.block q }) fork in
-    let fresh : IsFresh names (with_block a.state c.args.block a.active) = subst (λ (x : CoreState). IsFresh names x.state) ok c.in_ok-place.ensures.fresh in
+    let ok : c.add.new.self ≡ record a { state = with_block a.state c.args.submitted.now.block a.active } = c.in_ok-place.ensures.ok ∙ ap (λ (q : ℕ). record a { state = with_block a.state c.args.submitted.now.block q }) fork in
+    let fresh : IsFresh names (with_block a.state c.args.submitted.now.block a.active) = subst (λ (x : CoreState). IsFresh names x.state) ok c.in_ok-place.ensures.fresh in
     let can = can-follows r a c.requires.follows.sound c.requires.follows.kept c.requires.follows.active_is in
-    let bad : r.connect_fault (branch_blocks a.state.blocks a.active) c.args.block ≡ Some c.in-Err.reason = own ∙ ap (λ o. result_err o) c.in-Err.is in
-    subst (λ (x : CoreState). IsPreparationFor r a (step r a.state (Submit now c.args.block)) x (record { reply = reply.Submit (Rejected c.in-Err.reason); rollback = record { first = BlockAdded; flags = None }; rest = Mark c.in_ok-place.place; changes = c.new.result })) (sym ok)
-    (plan-fails a.params c.args.env.now.table.now a c.requires.follows.sound c.requires.follows.active_is can c.args.block now is fresh c.in-Err.reason bad _ c.in_ok-place.place c.in_ok-place.ensures.place refl refl refl c.new.ensures refl)
+    let bad : r.connect_fault (branch_blocks a.state.blocks a.active) c.args.submitted.now.block ≡ Some c.in-Err.reason = own ∙ ap (λ o. result_err o) c.in-Err.is in
+    subst (λ (x : CoreState). IsPreparationFor r a (step r a.state (Submit now c.args.submitted.now.block)) x (record { reply = reply.Submit (Rejected c.in-Err.reason); rollback = record { first = BlockAdded; flags = None }; rest = Mark c.in_ok-place.place; changes = c.new.result })) (sym ok)
+    (plan-fails a.params c.args.env.now.table.now a c.requires.follows.sound c.requires.follows.active_is can c.args.submitted.now.block now is fresh c.in-Err.reason bad _ c.in_ok-place.place c.in_ok-place.ensures.place refl refl refl c.new.ensures refl)
 
 pub returns-in-Ok-clause-prepared : goal.returns-in-Ok-clause-prepared
 returns-in-Ok-clause-prepared g c now is =
@@ -74,31 +74,31 @@ returns-in-Ok-clause-prepared g c now is =
     let t = c.self.inside.tree.blocks in
     let p = c.self.inside.active in
     let found : Option Reason = result_err c.in_ok-connected.connected in
-    let inside : (regtest c.self.inside.params c.args.env.now.table.now).connect_fault (branch_blocks t p) c.args.block ≡ found =
-    fault-tip c.self.inside.params c.args.env.now.table.now t p c.args.block (g.B.Base.coins c.args.base.now) found _ c.in_ok-connected.ensures.fault (c.requires.coins ∙ sym (ap coins_of c.self.view_is))
+    let inside : (regtest c.self.inside.params c.args.env.now.table.now).connect_fault (branch_blocks t p) c.args.submitted.now.block ≡ found =
+    fault-tip c.self.inside.params c.args.env.now.table.now t p c.args.submitted.now.block (g.B.Base.coins c.args.base.now) found _ c.in_ok-connected.ensures.fault (c.requires.coins ∙ sym (ap coins_of c.self.view_is))
     (setting-tip c.self.inside.params t p _ c.self.invariant.0 (ap (λ (n : ℕ). n + 1) c.height-height.ensures.value) c.median.ensures (c.as_slice.ensures.value ∙ c.self.invariant.1.medians_are) refl) in
-    let own : r.connect_fault (branch_blocks a.state.blocks a.active) c.args.block ≡ found =
-    subst (λ (x : CoreState). (regtest x.params c.args.env.now.table.now).connect_fault (branch_blocks x.state.blocks x.active) c.args.block ≡ found) c.self.view_is inside in
+    let own : r.connect_fault (branch_blocks a.state.blocks a.active) c.args.submitted.now.block ≡ found =
+    subst (λ (x : CoreState). (regtest x.params c.args.env.now.table.now).connect_fault (branch_blocks x.state.blocks x.active) c.args.submitted.now.block ≡ found) c.self.view_is inside in
     let fork : p ≡ a.active = ap (λ (x : CoreState). x.active) c.self.view_is in
-    let ok : c.add.new.self ≡ record a { state = with_block a.state c.args.block a.active } = c.in_ok-place.ensures.ok ∙ ap (λ (q : ℕ). record a { state = with_block a.state c.args.block q }) fork in
-    let fresh : IsFresh names (with_block a.state c.args.block a.active) = subst (λ (x : CoreState). IsFresh names x.state) ok c.in_ok-place.ensures.fresh in
+    let ok : c.add.new.self ≡ record a { state = with_block a.state c.args.submitted.now.block a.active } = c.in_ok-place.ensures.ok ∙ ap (λ (q : ℕ). record a { state = with_block a.state c.args.submitted.now.block q }) fork in
+    let fresh : IsFresh names (with_block a.state c.args.submitted.now.block a.active) = subst (λ (x : CoreState). IsFresh names x.state) ok c.in_ok-place.ensures.fresh in
     let can = can-follows r a c.requires.follows.sound c.requires.follows.kept c.requires.follows.active_is in
     let connected = c.in-Ok.connected in
-    let good : r.connect_fault (branch_blocks a.state.blocks a.active) c.args.block ≡ None = own ∙ ap (λ o. result_err o) c.in-Ok.is in
+    let good : r.connect_fault (branch_blocks a.state.blocks a.active) c.args.submitted.now.block ≡ None = own ∙ ap (λ o. result_err o) c.in-Ok.is in
     let high : c.height-height.result ≡ height a.state.blocks a.active = c.height-height.ensures.value ∙ ap (λ (x : CoreState). height x.state.blocks x.active) c.self.view_is in
     let tall : c.height-height.result + 1 ≡ height a.state.blocks a.active + 1 = ap (λ (n : ℕ). n + 1) high in
     let path : BranchPath = record { fork = p; height = c.height-height.result; up = c.push_reserved.new.self } in
     let undo : Vec BlockUndo Global = c.push_reserved-in-Ok.new.self in
-    let taken : connected.undo ≡ undo_of (height a.state.blocks a.active + 1) (coins_of a) c.args.block.txs =
-    subst (λ o. IfOk o (λ l. l.undo ≡ undo_of (c.height-height.result + 1) (g.B.Base.coins c.args.base.now) c.args.block.txs)) c.in-Ok.is c.in_ok-connected.ensures.undo
-    ∙ ap (λ (n : ℕ). undo_of n (g.B.Base.coins c.args.base.now) c.args.block.txs) tall ∙ ap (λ (m : Coins). undo_of (height a.state.blocks a.active + 1) m c.args.block.txs) c.requires.coins in
-    let listed : AreChanges (g.B.Base.coins c.args.base.now) (effect (c.height-height.result + 1) (g.B.Base.coins c.args.base.now) c.args.block.txs) connected.changes =
-    subst (λ o. IfOk o (λ l. AreChanges (g.B.Base.coins c.args.base.now) (effect (c.height-height.result + 1) (g.B.Base.coins c.args.base.now) c.args.block.txs) l.changes)) c.in-Ok.is c.in_ok-connected.ensures.changes in
-    let changes : AreChanges (coins_of a) (effect (height a.state.blocks a.active + 1) (coins_of a) c.args.block.txs) connected.changes =
-    subst (λ (m : Coins). AreChanges m (effect (height a.state.blocks a.active + 1) m c.args.block.txs) connected.changes) c.requires.coins
-    (subst (λ (n : ℕ). AreChanges (g.B.Base.coins c.args.base.now) (effect n (g.B.Base.coins c.args.base.now) c.args.block.txs) connected.changes) tall listed) in
+    let taken : connected.undo ≡ undo_of (height a.state.blocks a.active + 1) (coins_of a) c.args.submitted.now.block.txs =
+    subst (λ o. IfOk o (λ l. l.undo ≡ undo_of (c.height-height.result + 1) (g.B.Base.coins c.args.base.now) c.args.submitted.now.block.txs)) c.in-Ok.is c.in_ok-connected.ensures.undo
+    ∙ ap (λ (n : ℕ). undo_of n (g.B.Base.coins c.args.base.now) c.args.submitted.now.block.txs) tall ∙ ap (λ (m : Coins). undo_of (height a.state.blocks a.active + 1) m c.args.submitted.now.block.txs) c.requires.coins in
+    let listed : AreChanges (g.B.Base.coins c.args.base.now) (effect (c.height-height.result + 1) (g.B.Base.coins c.args.base.now) c.args.submitted.now.block.txs) connected.changes =
+    subst (λ o. IfOk o (λ l. AreChanges (g.B.Base.coins c.args.base.now) (effect (c.height-height.result + 1) (g.B.Base.coins c.args.base.now) c.args.submitted.now.block.txs) l.changes)) c.in-Ok.is c.in_ok-connected.ensures.changes in
+    let changes : AreChanges (coins_of a) (effect (height a.state.blocks a.active + 1) (coins_of a) c.args.submitted.now.block.txs) connected.changes =
+    subst (λ (m : Coins). AreChanges m (effect (height a.state.blocks a.active + 1) m c.args.submitted.now.block.txs) connected.changes) c.requires.coins
+    (subst (λ (n : ℕ). AreChanges (g.B.Base.coins c.args.base.now) (effect n (g.B.Base.coins c.args.base.now) c.args.submitted.now.block.txs) connected.changes) tall listed) in
     let one : path.up.items ≡ c.in_ok-place.place ∷ [] = c.push_reserved.ensures.items ∙ ap (λ (l : List ℕ). l ++ (c.in_ok-place.place ∷ [])) c.in_ok-up.ensures.items in
     let two : undo.items ≡ connected.undo ∷ [] = c.push_reserved-in-Ok.ensures.items ∙ ap (λ (l : List (List (List Coin))). l ++ (connected.undo ∷ [])) c.in_ok-undo.ensures.items in
-    subst (λ (x : CoreState). IsPreparationFor r a (step r a.state (Submit now c.args.block)) x (record { reply = reply.Submit Accepted; rollback = record { first = BlockAdded; flags = None }; rest = Activate c.in_ok-place.place path undo; changes = connected.changes })) (sym ok)
-    (plan-moves a.params c.args.env.now.table.now a c.requires.follows.sound c.requires.follows.active_is can c.args.block now is fresh good _ c.in_ok-place.place path undo connected.undo c.in_ok-place.ensures.place refl refl refl
+    subst (λ (x : CoreState). IsPreparationFor r a (step r a.state (Submit now c.args.submitted.now.block)) x (record { reply = reply.Submit Accepted; rollback = record { first = BlockAdded; flags = None }; rest = Activate c.in_ok-place.place path undo; changes = connected.changes })) (sym ok)
+    (plan-moves a.params c.args.env.now.table.now a c.requires.follows.sound c.requires.follows.active_is can c.args.submitted.now.block now is fresh good _ c.in_ok-place.place path undo connected.undo c.in_ok-place.ensures.place refl refl refl
     fork high one two taken changes refl)

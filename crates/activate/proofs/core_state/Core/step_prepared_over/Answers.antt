@@ -1,12 +1,13 @@
 use Rattle.std.proofs.Common.{◌≡◌, ap, ◌∙◌, sym, subst}
 use Rattle.rules.specs.declared.params.Params.{Params}
 use Rattle.coins.specs.laws.Changing.{laid-changes}
+use Rattle.chain.specs.Prepared.{command_of}
 use Rattle.chain.specs.Regtest.{regtest}
 use Rattle.activate.specs.inside.Preparation.{IsReady, core_after_commit}
 use Rattle.activate.specs.CoreState.{Follows, HasOneMore, CoreState, coins_of}
 use Rattle.activate.proofs.Undo.{more-undo}
 use Rattle.activate.proofs.Outcomes.{follows-plan}
-use Rattle.activate.proofs.core_state.Core.step_over.Goals as goal
+use Rattle.activate.proofs.core_state.Core.step_prepared_over.Goals as goal
 
 pub returns-clause-laid : goal.returns-clause-laid
 returns-clause-laid g c =
@@ -22,7 +23,7 @@ returns-clause-follows g c =
     let b : CoreState = c.prepare.new.self in
     let prepared = c.in_ok-prepared.prepared in
     let done : c.commit.new.self ≡ core_after_commit (regtest a.params c.args.env.now.table.now) b prepared.rest = c.commit.ensures c.args.env.now.table.now (subst (λ (q : Params). IsReady (regtest q c.args.env.now.table.now) b c.in_ok-prepared.prepared.rest) (sym c.in_ok-prepared.ensures.prepared.params_are) c.in_ok-prepared.ensures.prepared.ready) ∙ ap (λ (q : Params). core_after_commit (regtest q c.args.env.now.table.now) b prepared.rest) c.in_ok-prepared.ensures.prepared.params_are in
-    subst (λ (x : CoreState). Follows x c.args.env.now.table.now) (sym done) (follows-plan a b c.args.env.now.table.now c.args.command.now prepared c.requires.follows c.in_ok-prepared.ensures.prepared).1
+    subst (λ (x : CoreState). Follows x c.args.env.now.table.now) (sym done) (follows-plan a b c.args.env.now.table.now (command_of c.args.command.now) prepared c.requires.follows c.in_ok-prepared.ensures.prepared).1
 
 pub returns-clause-undo : goal.returns-clause-undo
 returns-clause-undo g c =

@@ -4,12 +4,13 @@ use Rattle.coins.specs.Coins.{Coins}
 use Rattle.coins.specs.Changes.{after_changes}
 use Rattle.coins.specs.laws.Changing.{laid-changes}
 use Rattle.activate.specs.inside.Preparation.{IsReady, core_after_commit}
+use Rattle.chain.specs.Prepared.{command_of}
 use Rattle.chain.specs.Regtest.{regtest}
 use Rattle.activate.specs.CoreState.{HasOneMore, Follows, IsChainstate, CoreState, WithCoins, coins_of}
 use Rattle.activate.proofs.Outcomes.{follows-plan}
 use Rattle.activate.proofs.Undo.{more-undo}
-use Rattle.activate.proofs.chainstate.Chainstate.step.Goals.{in-Some-1, in-None-1}
-use Rattle.activate.proofs.chainstate.Chainstate.step.Goals as goal
+use Rattle.activate.proofs.chainstate.Chainstate.step_prepared.Goals.{in-Some-1, in-None-1}
+use Rattle.activate.proofs.chainstate.Chainstate.step_prepared.Goals as goal
 
 pub returns-in-Ok-clause-is_chainstate : goal.returns-in-Ok-clause-is_chainstate
 returns-in-Ok-clause-is_chainstate g c =
@@ -20,7 +21,7 @@ returns-in-Ok-clause-is_chainstate g c =
     let end : CoreState = core_after_commit (regtest a.params c.args.env.now.table.now) b prepared.rest in
     let done : c.commit.new.self ≡ end = c.commit.ensures c.args.env.now.table.now (subst (λ (q : Params). IsReady (regtest q c.args.env.now.table.now) b prepared.rest) (sym c.in_ok-reply.ensures.prepared.params_are) c.in_ok-reply.ensures.prepared.ready) ∙ ap (λ (q : Params). core_after_commit (regtest q c.args.env.now.table.now) b prepared.rest) c.in_ok-reply.ensures.prepared.params_are in
     let follows : Follows c.commit.new.self c.args.env.now.table.now =
-    subst (λ (x : CoreState). Follows x c.args.env.now.table.now) (sym done) (follows-plan a b c.args.env.now.table.now c.args.command.now prepared was.follows c.in_ok-reply.ensures.prepared).1 in
+    subst (λ (x : CoreState). Follows x c.args.env.now.table.now) (sym done) (follows-plan a b c.args.env.now.table.now (command_of c.args.command.now) prepared was.follows c.in_ok-reply.ensures.prepared).1 in
     let coins : c.lay_taken.new.self ≡ coins_of c.commit.new.self =
     c.in-Ok.ensures.ok ∙ ap (λ (m : Coins). after_changes m prepared.changes) was.coins_are ∙ laid-changes (coins_of a) (coins_of end) prepared.changes c.in_ok-reply.ensures.prepared.changes_are ∙ sym (ap coins_of done) in
     let whole : IsChainstate (record { core = c.commit.new.self; coins = c.lay_taken.new.self }) c.args.env.now.table.now = record { follows = follows; coins_are = coins } in
