@@ -3,7 +3,7 @@ use Rattle.std.proofs.Common.{◌≡◌, ℕ, zero, suc, ◌+◌, ◌<◌, List,
 use Rattle.std.specs.Option.{unwrap_or}
 use Rattle.hash.specs.declared.id.Id.{Id}
 use Rattle.block.specs.declared.block.Block.{Block}
-use Rattle.block.specs.Decoding.{decoded}
+use Rattle.block.specs.Decoding.{block_of_bytes}
 use Rattle.curve.specs.Triple.{Triples}
 use Rattle.rules.specs.declared.params.Params.{Params}
 use Rattle.tree.specs.State.{State}

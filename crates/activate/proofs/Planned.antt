@@ -9,7 +9,7 @@ use Rattle.block.specs.declared.block.Block.{Block}
 use Rattle.coins.specs.Coins.{Coins}
 use Rattle.coins.specs.Changes.{Changes, AreChanges}
 use Rattle.tree.specs.Branches.{Kept as KeptBlock, Blocks, has, height, on, place_of, down_from}
-use Rattle.tree.specs.State.{State, usable, better, with_block, marked, cleared, called, joined}
+use Rattle.tree.specs.State.{State, has_no_mark, beats, with_block, with_mark, without_marks, with_call, union_where}
 use Rattle.tree.specs.Flags.{FlagsOf, flags_of}
 use Rattle.tree.specs.Names.{names}
 use Rattle.tree.specs.Sound.{IsBest, IsFresh}
@@ -66,7 +66,7 @@ or_none false = refl
 
 -- what passes of a set in order is in order
 in_order-filter : (n : ℕ) (set : List ℕ) (f : ℕ → Bool) → InOrder n set → InOrder n (filter f set)
-unfolding joined
+unfolding union_where
 in_order-filter n set f order =
     let g : ℕ → Bool = λ x. (has set x || false) && f x in
     let e : ◌≡◌ {A = List ℕ} (filter f set) (filter g (down_from n)) = ap (filter f) (sym order) ∙ filter_twice f (λ x. has set x || false) (down_from n) in
@@ -93,7 +93,7 @@ module _ (r : Rules Block Id) where
       }
 
   -- the state is settled after something was first done to the tree: a is before it, b after it, and c has other flags
-  module _ (a b c : CoreState) (flags : Option FlagsOf) (rest : Completion) (changes : Changes) (settled : Settles r b c flags rest changes) (genesis : usable b.state 0 ≡ true)
+  module _ (a b c : CoreState) (flags : Option FlagsOf) (rest : Completion) (changes : Changes) (settled : Settles r b c flags rest changes) (genesis : has_no_mark b.state 0 ≡ true)
       (prepared : Prepared) (rest_is : prepared.rest ≡ rest) (changes_is : prepared.changes.items ≡ changes) (flags_is : prepared.rollback.flags ≡ flags) where
     pub plan-settled : (after : Outcome Block) (first : TreeChange) → prepared.rollback.first ≡ first → b.params ≡ a.params → coins_of b ≡ coins_of a → record b { state = state_before_change first b.state } ≡ a
         → CanBeTakenBack first b.active b.state → (settle r b.state, prepared.reply) ≡ after → IsPreparationFor r a after c prepared
@@ -154,9 +154,9 @@ module _ (r : Rules Block Id) where
 
   -- ---- what is right after something was first done to the tree
 
-  pub can-marked : (a : CoreState) (p : ℕ) → 0 < p → CanTry r a → CanTry r (record a { state = marked a.state p })
+  pub can-marked : (a : CoreState) (p : ℕ) → 0 < p → CanTry r a → CanTry r (record a { state = with_mark a.state p })
   can-marked a p z can = record {
-    genesis = usable_from (marked a.state p) 0 (λ x o.
+    genesis = usable_from (with_mark a.state p) 0 (λ x o.
         let l = (on-bounds a.state.blocks 0 x o).0 in
         has-joined (length a.state.blocks) a.state.bad (λ y. eqb y p) x (omega arith) ∙ neither (has a.state.bad x) (eqb x p) (usable_gives a.state 0 x can.genesis o) (not_same x p (omega arith)));
     kept = can.kept;
@@ -175,10 +175,10 @@ module _ (r : Rules Block Id) where
       not_same : (x y : ℕ) → x < y → eqb x y ≡ false
       not_same x y l = ne_eqb x y (λ e. omega arith)
 
-  pub can-cleared : (a : CoreState) (p : ℕ) → CanTry r a → CanTry r (record a { state = cleared a.state p })
-  unfolding cleared
+  pub can-cleared : (a : CoreState) (p : ℕ) → CanTry r a → CanTry r (record a { state = without_marks a.state p })
+  unfolding without_marks
   can-cleared a p can = record {
-    genesis = (unfold cleared in usable-cleared a.state p 0 can.genesis);
+    genesis = (unfold without_marks in usable-cleared a.state p 0 can.genesis);
     kept = can.kept;
     all = can.all;
     good = can.good;
@@ -187,7 +187,7 @@ module _ (r : Rules Block Id) where
     seen_in_order = can.seen_in_order;
   }
 
-  pub can-called : (a : CoreState) (p : ℕ) → CanTry r a → CanTry r (record a { state = called a.state p })
+  pub can-called : (a : CoreState) (p : ℕ) → CanTry r a → CanTry r (record a { state = with_call a.state p })
   can-called a p can = record {
     genesis = usable-called r a.state p 0 ∙ can.genesis;
     kept = can.kept;
@@ -213,8 +213,8 @@ module _ (r : Rules Block Id) where
     }
 
     -- it is the best usable one where it is better than the active one
-    pub best-added : a.active ≡ active r a.state → usable a.state p ≡ true → better (with_block a.state b p) (suc (length a.state.blocks)) a.active ≡ true
-        → IsBest (with_block a.state b p) (usable (with_block a.state b p)) (length (with_block a.state b p).blocks) (suc (length a.state.blocks))
+    pub best-added : a.active ≡ active r a.state → has_no_mark a.state p ≡ true → beats (with_block a.state b p) (suc (length a.state.blocks)) a.active ≡ true
+        → IsBest (with_block a.state b p) (has_no_mark (with_block a.state b p)) (length (with_block a.state b p).blocks) (suc (length a.state.blocks))
     best-added act u above =
         let k : KeptBlock Block = record { block = b; parent = p } in
         let n : ℕ = length a.state.blocks in
@@ -227,8 +227,8 @@ module _ (r : Rules Block Id) where
             | inr e ↦
                 let m : d ≤ n = omega arith in
                 inr (elim ((best_usable r a.state sound).tops d m (sym (usable_there a.state k d m) ∙ v)) [
-                  | inl w ↦ subst (λ (z : ℕ). better t (suc n) z ≡ true) (act ∙ sym w) above
-                  | inr w ↦ better_trans t (suc n) a.active d above (better_there a.state k a.active d can.kept m ∙ subst (λ (z : ℕ). better a.state z d ≡ true) (sym act) w)
+                  | inl w ↦ subst (λ (z : ℕ). beats t (suc n) z ≡ true) (act ∙ sym w) above
+                  | inr w ↦ better_trans t (suc n) a.active d above (better_there a.state k a.active d can.kept m ∙ subst (λ (z : ℕ). beats a.state z d ≡ true) (sym act) w)
                 ])
           ];
         }
@@ -270,7 +270,7 @@ module _ (r : Rules Block Id) where
               ∙ ap (λ (o : Option FlagsOf). record A { state = state_before_change BlockAdded (with_flags o A.state) }) flags_is;
         }
 
-    pub plan-beside : (act : a.active ≡ active r a.state) → IsFresh names (with_block a.state b p) → better (with_block a.state b p) (suc (length a.state.blocks)) (active r a.state) ≡ false
+    pub plan-beside : (act : a.active ≡ active r a.state) → IsFresh names (with_block a.state b p) → beats (with_block a.state b p) (suc (length a.state.blocks)) (active r a.state) ≡ false
         → (prepared : Prepared) → prepared.rollback.first ≡ BlockAdded → prepared.rollback.flags ≡ None → prepared.rest ≡ Nothing → prepared.changes.items ≡ []
         → (after : Outcome Block) → (with_block a.state b p, prepared.reply) ≡ after → IsPreparationFor r a after (record a { state = with_block a.state b p }) prepared
     plan-beside act fresh lower prepared first_is flags_is rest_is changes_is after out =
@@ -302,9 +302,9 @@ if_ok (Err e) f p = tt
 
 module _ (r : Rules Block Id) (a : CoreState) (sound : IsSettled r a.state) (act : a.active ≡ active r a.state) (p : ℕ) (kept : p ≤ length a.state.blocks) (high : height a.state.blocks a.active ≤ height a.state.blocks p) where
   abbrev t : State Block
-  t = called a.state p
+  t = with_call a.state p
 
-  not_above : (d : ℕ) → d ≤ length a.state.blocks → usable a.state d ≡ true → height a.state.blocks d ≤ height a.state.blocks p
+  not_above : (d : ℕ) → d ≤ length a.state.blocks → has_no_mark a.state d ≡ true → height a.state.blocks d ≤ height a.state.blocks p
   not_above d l u =
       let e = ap (height a.state.blocks) act in
       elim ((best_usable r a.state sound).tops d l u) [
@@ -312,7 +312,7 @@ module _ (r : Rules Block Id) (a : CoreState) (sound : IsSettled r a.state) (act
         | inr w ↦ let f = better-height a.state (active r a.state) d w in omega arith
       ]
 
-  called-usable : usable a.state p ≡ true → IsBest t (usable t) (length t.blocks) p
+  called-usable : has_no_mark a.state p ≡ true → IsBest t (has_no_mark t) (length t.blocks) p
   called-usable u = record {
     kept = kept;
     can = usable-called r a.state p p ∙ u;
@@ -322,26 +322,26 @@ module _ (r : Rules Block Id) (a : CoreState) (sound : IsSettled r a.state) (act
     ];
   }
 
-  called-other : usable a.state p ≡ false → IsBest t (usable t) (length t.blocks) a.active
+  called-other : has_no_mark a.state p ≡ false → IsBest t (has_no_mark t) (length t.blocks) a.active
   called-other u = record {
     kept = subst (λ (z : ℕ). z ≤ length a.state.blocks) (sym act) (active_kept r a.state sound.genesis);
     can = usable-called r a.state p a.active ∙ usable_here;
     tops = λ d l v.
-        let w : usable a.state d ≡ true = sym (usable-called r a.state p d) ∙ v in
+        let w : has_no_mark a.state d ≡ true = sym (usable-called r a.state p d) ∙ v in
         elim ((best_usable r a.state sound).tops d l w) [
           | inl e ↦ inl (e ∙ sym act)
-          | inr e ↦ inr (better-others a.state p a.active d (λ z. clash (usable a.state p) (subst (λ (y : ℕ). usable a.state y ≡ true) (sym z) usable_here) u) (λ z. clash (usable a.state p) (subst (λ (y : ℕ). usable a.state y ≡ true) (sym z) w) u)
-              ∙ subst (λ (y : ℕ). better a.state y d ≡ true) (sym act) e)
+          | inr e ↦ inr (better-others a.state p a.active d (λ z. clash (has_no_mark a.state p) (subst (λ (y : ℕ). has_no_mark a.state y ≡ true) (sym z) usable_here) u) (λ z. clash (has_no_mark a.state p) (subst (λ (y : ℕ). has_no_mark a.state y ≡ true) (sym z) w) u)
+              ∙ subst (λ (y : ℕ). beats a.state y d ≡ true) (sym act) e)
         ];
   }
     where
-      usable_here : usable a.state a.active ≡ true
-      usable_here = subst (λ (z : ℕ). usable a.state z ≡ true) (sym act) (active_usable r a.state sound.genesis)
+      usable_here : has_no_mark a.state a.active ≡ true
+      usable_here = subst (λ (z : ℕ). has_no_mark a.state z ≡ true) (sym act) (active_usable r a.state sound.genesis)
 
   -- the block, or the active one where it can't be
-  pub best-called : (first : ℕ) → first ≡ (if usable a.state p then p else a.active) → IsBest t (usable t) (length t.blocks) first
-  best-called first e = subst (λ (x : ℕ). IsBest t (usable t) (length t.blocks) x) (sym e) (either (usable a.state p) refl)
+  pub best-called : (first : ℕ) → first ≡ (if has_no_mark a.state p then p else a.active) → IsBest t (has_no_mark t) (length t.blocks) first
+  best-called first e = subst (λ (x : ℕ). IsBest t (has_no_mark t) (length t.blocks) x) (sym e) (either (has_no_mark a.state p) refl)
     where
-      either : (b : Bool) → usable a.state p ≡ b → IsBest t (usable t) (length t.blocks) (if b then p else a.active)
+      either : (b : Bool) → has_no_mark a.state p ≡ b → IsBest t (has_no_mark t) (length t.blocks) (if b then p else a.active)
       either true u = called-usable u
       either false u = called-other u

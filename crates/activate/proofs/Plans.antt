@@ -7,7 +7,7 @@ use Rattle.block.specs.declared.block.Block.{Block}
 use Rattle.coins.specs.Coins.{Coins}
 use Rattle.coins.specs.Changes.{AreChanges}
 use Rattle.tree.specs.Branches.{Blocks, first_of, rest_of, has, on, parent_at}
-use Rattle.tree.specs.State.{State, usable}
+use Rattle.tree.specs.State.{State, has_no_mark}
 use Rattle.tree.specs.Flags.{FlagsOf, flags_of}
 use Rattle.tree.specs.Sound.{IsBest}
 use Rattle.tree.specs.laws.Branches.{on-bounds, on-itself, on-genesis}
@@ -21,7 +21,7 @@ use Rattle.chain.specs.declared.reply.SubmitReply.TheVariants.{Accepted, Inconcl
 use Rattle.activate.specs.declared.path.FailedTry.{FailedTry}
 use Rattle.activate.specs.declared.path.Reorganisation.{Reorganisation}
 use Rattle.chain.specs.Rules.{Rules}
-use Rattle.chain.specs.Valid.{fault, valid, first_to_fail}
+use Rattle.chain.specs.Valid.{fault, branch_connects, first_to_fail}
 use Rattle.chain.specs.Settle.{active, settle, on_candidate, becomes_bad, becomes_seen}
 use Rattle.chain.specs.Submission.{answer_added, reply_by_reason}
 use Rattle.chain.specs.inside.Try.{fails_on, passes_on, state_after_try}
@@ -33,7 +33,7 @@ use Rattle.chain.specs.laws.Actives.{active_kept, active_valid}
 use Rattle.chain.specs.laws.Candidates.{never_fails, same_first, on_candidate_from}
 use Rattle.activate.specs.laws.Noting.{above-on}
 use Rattle.chain.specs.laws.Settled.{active-settle, settle-blocks, active_seen, bad_in-order, seen_in-order}
-use Rattle.chain.specs.laws.Tries.{tried-blocks, tried-precious, genesis-tried, active-tried, settle-tried, best-candidate, active-best, settle-best, unmarked, unmarked-tried}
+use Rattle.chain.specs.laws.Tries.{tried-blocks, tried-precious, genesis-tried, active-tried, settle-tried, best-candidate, active-best, settle-best, count_without_mark, unmarked-tried}
 
 module _ (r : Rules Block Id) where
   -- a followed chainstate can be tried
@@ -42,7 +42,7 @@ module _ (r : Rules Block Id) where
     genesis = sound.genesis;
     kept = subst (λ (p : ℕ). p ≤ length c.state.blocks) (sym e) (active_kept r c.state sound.genesis);
     all = all;
-    good = subst (λ (p : ℕ). valid r c.state.blocks p ≡ true) (sym e) (active_valid r c.state sound.genesis);
+    good = subst (λ (p : ℕ). branch_connects r c.state.blocks p ≡ true) (sym e) (active_valid r c.state sound.genesis);
     seen = λ x o. active_seen r c.state sound x (subst (λ (p : ℕ). on c.state.blocks p x ≡ true) e o);
     bad_in_order = bad_in-order r c.state sound;
     seen_in_order = seen_in-order r c.state sound;
@@ -112,7 +112,7 @@ module _ (r : Rules Block Id) where
   between_none a can = record { flags = other_none a; can = can; settles = refl; active_is = refl }
 
   -- a try that failed keeps what settling gives
-  pub between-tried : (a b : CoreState) (p : ℕ) → TriesLead r a b → IsBest b.state (usable b.state) (length b.state.blocks) p → TriesLead r a (record b { state = state_after_try r b.state p })
+  pub between-tried : (a b : CoreState) (p : ℕ) → TriesLead r a b → IsBest b.state (has_no_mark b.state) (length b.state.blocks) p → TriesLead r a (record b { state = state_after_try r b.state p })
   between-tried a b p is best = record {
     flags = other-tried r a b p is.flags;
     can = can-tried r b p is.can;
@@ -121,14 +121,14 @@ module _ (r : Rules Block Id) where
   }
 
   -- and leaves fewer blocks unmarked
-  pub fewer-unmarked : (b : CoreState) (p : ℕ) (failed : FailedTry) → IsBest b.state (usable b.state) (length b.state.blocks) p → FailsAt r b.state.blocks b.active p failed → unmarked (state_after_try r b.state p) < unmarked b.state
+  pub fewer-unmarked : (b : CoreState) (p : ℕ) (failed : FailedTry) → IsBest b.state (has_no_mark b.state) (length b.state.blocks) p → FailsAt r b.state.blocks b.active p failed → count_without_mark (state_after_try r b.state p) < count_without_mark b.state
   fewer-unmarked b p failed best fails =
       unmarked-tried r b.state p best.kept best.can
-      (false_from_ne_true (valid r b.state.blocks p) (λ v. never_fails r b.state.blocks p fails.stop.place v fails.stop.first.on fails.stop.first.first))
+      (false_from_ne_true (branch_connects r b.state.blocks p) (λ v. never_fails r b.state.blocks p fails.stop.place v fails.stop.first.on fails.stop.first.first))
 
 module _ (r : Rules Block Id) (a b : CoreState) (p : ℕ) (move : Reorganisation) where
   -- the last try, of the best block that is left
-  pub leads-last : TriesLead r a b → IsBest b.state (usable b.state) (length b.state.blocks) p → LeadsTo r b.state.blocks b.active p move → TryLeads r a b p move
+  pub leads-last : TriesLead r a b → IsBest b.state (has_no_mark b.state) (length b.state.blocks) p → LeadsTo r b.state.blocks b.active p move → TryLeads r a b p move
   leads-last is best moves = record {
     can = is.can;
     kept = best.kept;
@@ -158,7 +158,7 @@ module _ (r : Rules Block Id) (a b : CoreState) (p : ℕ) (move : Reorganisation
   })
 
 -- the first try, where it is the last one too
-pub settles-once : (r : Rules Block Id) (a : CoreState) (p : ℕ) (move : Reorganisation) → CanTry r a → IsBest a.state (usable a.state) (length a.state.blocks) p → LeadsTo r a.state.blocks a.active p move → (rest : Completion) → rest ≡ Activate p move.path move.undo → Settles r a a None rest move.changes.items
+pub settles-once : (r : Rules Block Id) (a : CoreState) (p : ℕ) (move : Reorganisation) → CanTry r a → IsBest a.state (has_no_mark a.state) (length a.state.blocks) p → LeadsTo r a.state.blocks a.active p move → (rest : Completion) → rest ≡ Activate p move.path move.undo → Settles r a a None rest move.changes.items
 settles-once r a p move can best moves rest go =
     let l = leads-last r a a p move (between_none r a can) best moves in
     subst (λ (x : Completion). Settles r a a None x move.changes.items) (sym go) (record {
@@ -172,7 +172,7 @@ settles-once r a p move can best moves rest go =
     })
 
 -- after a first try that failed
-pub leads-after : (r : Rules Block Id) (a b : CoreState) (p q : ℕ) (move : Reorganisation) → CanTry r a → IsBest a.state (usable a.state) (length a.state.blocks) p
+pub leads-after : (r : Rules Block Id) (a b : CoreState) (p q : ℕ) (move : Reorganisation) → CanTry r a → IsBest a.state (has_no_mark a.state) (length a.state.blocks) p
     → TryLeads r (record a { state = state_after_try r a.state p }) b q move → TryLeads r a b q move
 leads-after r a b p q move can best l = record {
   can = l.can;
@@ -184,25 +184,25 @@ leads-after r a b p q move can best l = record {
 
 -- ---- what is said of the block that was tried first
 
-module _ (r : Rules Block Id) (a : CoreState) (can : CanTry r a) (p : ℕ) (best : IsBest a.state (usable a.state) (length a.state.blocks) p) where
+module _ (r : Rules Block Id) (a : CoreState) (can : CanTry r a) (p : ℕ) (best : IsBest a.state (has_no_mark a.state) (length a.state.blocks) p) where
   abbrev after : State Block
   after = settle r a.state
 
   active_after : active r after ≡ active r a.state
   active_after = active-settle r a.state can.genesis
 
-  pub said-once : valid r a.state.blocks p ≡ true → Accepted ≡ answer_added r after p
+  pub said-once : branch_connects r a.state.blocks p ≡ true → Accepted ≡ answer_added r after p
   unfolding answer_added
   said-once v =
       sym (ap (λ (b : Bool). cond b Accepted (cond (has after.bad p) (reply_by_reason (fault r after.blocks p)) Inconclusive))
       (eq-eqb p (active r after) (sym (active_after ∙ active-best r a.state p can.genesis best v))))
 
   module _ (failed : FailedTry) (fails : FailsAt r a.state.blocks a.active p failed) where
-    not_valid : valid r a.state.blocks p ≡ true → ⊥
+    not_valid : branch_connects r a.state.blocks p ≡ true → ⊥
     not_valid v = never_fails r a.state.blocks p fails.stop.place v fails.stop.first.on fails.stop.first.first
 
     other : p ≡ active r after → ⊥
-    other e = not_valid (subst (λ (x : ℕ). valid r a.state.blocks x ≡ true) (sym (e ∙ active_after)) (active_valid r a.state can.genesis))
+    other e = not_valid (subst (λ (x : ℕ). branch_connects r a.state.blocks x ≡ true) (sym (e ∙ active_after)) (active_valid r a.state can.genesis))
 
     bad_now : has after.bad p ≡ first_to_fail r a.state.blocks p
     unfolding settle becomes_bad

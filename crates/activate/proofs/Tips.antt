@@ -20,7 +20,7 @@ use Rattle.tree.specs.Branches.{Kept as KeptBlock, Blocks, branch, height, on, p
 use Rattle.tree.specs.MedianTime.{median_time_past}
 use Rattle.tree.specs.Names.{names}
 use Rattle.tree.specs.Sound.{IsFresh}
-use Rattle.tree.specs.State.{State, with_block, marked}
+use Rattle.tree.specs.State.{State, with_block, with_mark}
 use Rattle.tree.specs.laws.Above.{IsShared, above, above-end, above-step}
 use Rattle.tree.specs.laws.Added.{blocks-new}
 use Rattle.tree.specs.laws.Branches.{height_there, on-itself, parent_here}
@@ -36,7 +36,7 @@ use Rattle.chain.specs.declared.reply.SubmitReply.TheVariants.{Accepted, Rejecte
 use Rattle.activate.specs.declared.path.BranchPath.{BranchPath}
 use Rattle.chain.specs.Rules.{Rules}
 use Rattle.chain.specs.Replay.{replay}
-use Rattle.chain.specs.Valid.{valid}
+use Rattle.chain.specs.Valid.{branch_connects}
 use Rattle.chain.specs.Regtest.{medians_of, setting_on, ledger, regtest}
 use Rattle.chain.specs.Settle.{active, settle}
 use Rattle.chain.specs.Settled.{IsSettled}
@@ -112,12 +112,12 @@ module _ (params : Params) (triples : Triples) (a : CoreState) (sound : IsSettle
     own_bad : r.connect_fault (branch_blocks a.state.blocks (active r a.state)) b ≡ Some reason
     own_bad = subst (λ (q : ℕ). r.connect_fault (branch_blocks a.state.blocks q) b ≡ Some reason) act bad
 
-    marked-is : marked t n ≡ record t { bad = n ∷ a.state.bad }
+    marked-is : with_mark t n ≡ record t { bad = n ∷ a.state.bad }
     marked-is =
         ap (λ (l : List ℕ). record t { bad = l })
         (joined_new (length a.state.blocks) a.state.bad can.bad_in_order (λ x. eqb x n) (eq-eqb n n refl) (λ p l e. let q = eqb-true p n e in absurd (omega arith)))
 
-    still : a.active ≡ active r (marked t n)
+    still : a.active ≡ active r (with_mark t n)
     still =
         act ∙ sym (active_tip-fails r a.state sound b a.active act reason own_bad) ∙ sym (active-settle r t next.genesis)
         ∙ ap (active r) (settle_tip-fails r a.state sound b a.active act reason own_bad ∙ sym marked-is)
@@ -126,9 +126,9 @@ module _ (params : Params) (triples : Triples) (a : CoreState) (sound : IsSettle
         → IsPreparationFor r a (step r a.state (Submit now b)) A prepared
     plan-fails prepared place here first_is flags_is rest_is changes_is reply_is =
         let rest : prepared.rest ≡ Mark n = rest_is ∙ ap Mark here in
-        let done : core_after_commit r A prepared.rest ≡ record A { state = marked t n } = ap (core_after_commit r A) rest in
+        let done : core_after_commit r A prepared.rest ≡ record A { state = with_mark t n } = ap (core_after_commit r A) rest in
         plan-added r a sound b a.active can alone can.kept is.unknown is.parent act fresh prepared first_is flags_is (step r a.state (Submit now b))
-        (ap (λ (x : CoreState). (x.state, prepared.reply)) done ∙ ap (λ (x : Reply). (marked t n, x)) reply_is ∙ ap (λ (s : State Block). submit_says s (Rejected reason)) marked-is
+        (ap (λ (x : CoreState). (x.state, prepared.reply)) done ∙ ap (λ (x : Reply). (with_mark t n, x)) reply_is ∙ ap (λ (s : State Block). submit_says s (Rejected reason)) marked-is
         ∙ sym (step_tip-fails r a.state sound now b a.active is act reason own_bad))
         (ap (λ (x : CoreState). x.active) done ∙ still ∙ sym (ap (λ (x : CoreState). active r x.state) done))
         (subst (λ (x : CoreState). AreChanges (coins_of a) (coins_of x) prepared.changes.items) (sym done)
@@ -144,11 +144,11 @@ module _ (params : Params) (triples : Triples) (a : CoreState) (sound : IsSettle
     settled : settle r t ≡ state_after_try r t n
     settled = settle-best r t n next.genesis (best-tip r a.state sound b a.active act) valid_here
       where
-        valid_here : valid r t.blocks n ≡ true
-        valid_here = subst (λ (q : ℕ). valid r t.blocks q ≡ true) is_active (active_valid r t next.genesis)
+        valid_here : branch_connects r t.blocks n ≡ true
+        valid_here = subst (λ (q : ℕ). branch_connects r t.blocks q ≡ true) is_active (active_valid r t next.genesis)
 
-    valid_new : valid r t.blocks n ≡ true
-    valid_new = subst (λ (q : ℕ). valid r t.blocks q ≡ true) is_active (active_valid r t next.genesis)
+    valid_new : branch_connects r t.blocks n ≡ true
+    valid_new = subst (λ (q : ℕ). branch_connects r t.blocks q ≡ true) is_active (active_valid r t next.genesis)
 
     -- its coins
     coins-new : coins_after t.blocks n ≡ effect (height a.state.blocks a.active + 1) (coins_of a) b.txs

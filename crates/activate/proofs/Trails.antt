@@ -2,8 +2,8 @@
 use Rattle.std.proofs.Common.{◌≡◌, ℕ, zero, suc, ◌+◌, ◌-◌, ◌<◌, ◌≤◌, List, [], ◌∷◌, ◌++◌, length, map, reverse, drop, get_or, Bool, cond, inl, inr, sym, refl, ap, ◌∙◌, arith}
 use Rattle.std.proofs.lemmas.List.{append_assoc, reverse-append, length-append, length-drop}
 use Rattle.std.proofs.lemmas.Bool.Decides.{leb_tells}
-use Rattle.activate.specs.CoreState.{least}
-use Rattle.activate.specs.inside.ActiveBranch.{newest}
+use Rattle.activate.specs.CoreState.{lesser_of}
+use Rattle.activate.specs.inside.ActiveBranch.{last_of}
 
 module _ {A : Type 0} where
   drop-none : (i : ℕ) → ◌≡◌ {A = List A} (drop i []) []
@@ -21,8 +21,8 @@ module _ {A : Type 0} where
   drop_front (suc j) (x ∷ k) l h = drop_front j k l (omega arith)
 
   -- what is let go first isn't among the last
-  pub newest-less : (m n : ℕ) (k l : List A) → m ≤ n + length l → newest m (newest n k ++ l) ≡ newest m (k ++ l)
-  unfolding newest
+  pub newest-less : (m n : ℕ) (k l : List A) → m ≤ n + length l → last_of m (last_of n k ++ l) ≡ last_of m (k ++ l)
+  unfolding last_of
   newest-less m n k l h =
       let j : ℕ = length k - n in
       let front = drop_front j k l (omega arith) in
@@ -33,18 +33,18 @@ module _ {A : Type 0} where
       ∙ drop_both (length (drop j k ++ l) - m) j (k ++ l)
       ∙ ap (λ i. drop i (k ++ l)) (omega arith)
 
-  pub newest-all : (m : ℕ) (l : List A) → length l ≤ m → newest m l ≡ l
-  unfolding newest
+  pub newest-all : (m : ℕ) (l : List A) → length l ≤ m → last_of m l ≡ l
+  unfolding last_of
   newest-all m l h = ap (λ i. drop i l) {x = length l - m} {y = 0} (omega arith)
 
-  pub newest-long : (m : ℕ) (l : List A) → length (newest m l) ≤ m
-  unfolding newest
+  pub newest-long : (m : ℕ) (l : List A) → length (last_of m l) ≤ m
+  unfolding last_of
   newest-long m l = let e = length-drop (length l - m) l in omega arith
 
   -- the last but one, and one more
-  pub newest-more : (m : ℕ) (k l : List A) (x : A) → 0 < m → newest m ((newest (m - 1) k ++ (x ∷ [])) ++ l) ≡ newest m (k ++ (x ∷ l))
+  pub newest-more : (m : ℕ) (k l : List A) (x : A) → 0 < m → last_of m ((last_of (m - 1) k ++ (x ∷ [])) ++ l) ≡ last_of m (k ++ (x ∷ l))
   newest-more m k l x z =
-      ap (newest m) (append_assoc (newest (m - 1) k) (x ∷ []) l) ∙ newest-less m (m - 1) k (x ∷ l) (omega arith)
+      ap (last_of m) (append_assoc (last_of (m - 1) k) (x ∷ []) l) ∙ newest-less m (m - 1) k (x ∷ l) (omega arith)
 
   pub drop-all : (l : List A) → drop (length l) l ≡ []
   drop-all [] = refl
@@ -60,8 +60,8 @@ turned_more f l n x d h e = ap (λ k. reverse (map f k)) (drop_next l n x d h e)
     drop_next (y ∷ l) (suc n) x d h e = drop_next l n x d (omega arith) e
 
 -- how many they are
-pub length-newest : {A : Type 0} (m : ℕ) (l : List A) → length (newest m l) ≡ least m (length l)
-unfolding newest
+pub length-newest : {A : Type 0} (m : ℕ) (l : List A) → length (last_of m l) ≡ lesser_of m (length l)
+unfolding last_of
 length-newest m l =
     let e = length-drop (length l - m) l in
     elim (leb_tells m (length l)) [

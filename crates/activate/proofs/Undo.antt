@@ -5,7 +5,7 @@ use Rattle.std.proofs.lemmas.Bool.Decides.{leb_tells}
 use Rattle.hash.specs.declared.id.Id.{Id}
 use Rattle.block.specs.declared.block.Block.{Block}
 use Rattle.tree.specs.Branches.{Blocks, first_of, rest_of, branch, before, height, on, parent_at}
-use Rattle.tree.specs.State.{State, marked}
+use Rattle.tree.specs.State.{State, with_mark}
 use Rattle.tree.specs.laws.Above.{above, above-end, above-step, IsShared}
 use Rattle.tree.specs.laws.Branches.{on-bounds, on-itself}
 use Rattle.tree.specs.laws.Parents.{on-parent, parent-below}
@@ -16,7 +16,7 @@ use Rattle.activate.specs.declared.prepared.Completion.TheVariants.{Nothing, Mar
 use Rattle.chain.specs.Rules.{Rules}
 use Rattle.chain.specs.Submission.{Outcome}
 use Rattle.chain.specs.laws.Tries.{tried-blocks}
-use Rattle.activate.specs.CoreState.{CoreState, HasOneMore, least, most_undo}
+use Rattle.activate.specs.CoreState.{CoreState, HasOneMore, lesser_of, most_undo}
 use Rattle.activate.specs.inside.Paths.{IsPath}
 use Rattle.activate.specs.inside.Preparation.{IsPreparationFor, IsReady, core_after_commit, undo_after}
 
@@ -40,11 +40,11 @@ module _ (t : Blocks Block) (a p : ℕ) (path : BranchPath) (is : IsPath t a p p
       ap (λ (l : List ℕ). length l) (is.up ∙ ap (above t p) fork_is ∙ above-step t p a below kept ∙ ap (λ (q : ℕ). p ∷ above t q a) parent
       ∙ ap (λ (l : List ℕ). p ∷ l) (above-end t a (omega (arith, below))))
 
-  pub one-more : (kept_undo : ℕ) → undo_after t a kept_undo path ≡ least most_undo (suc kept_undo)
+  pub one-more : (kept_undo : ℕ) → undo_after t a kept_undo path ≡ lesser_of most_undo (suc kept_undo)
   one-more n =
       let e = is.high ∙ ap (height t) fork_is in
       let f = one_up in
-      ap (least most_undo) {x = (n - (height t a - path.height)) + length path.up.items} {y = suc n} (omega arith)
+      ap (lesser_of most_undo) {x = (n - (height t a - path.height)) + length path.up.items} {y = suc n} (omega arith)
 
 -- what isn't kept has no branch but genesis
 no-branch : (t : Blocks Block) (p : ℕ) → length t < p → ◌≡◌ {A = List ℕ} (branch t p) (0 ∷ [])
@@ -71,7 +71,7 @@ after-commit r a b (Mark p) ready same kept z h = absurd (own_parent b.state.blo
 after-commit r a b (Activate p path undo) ready same kept z h =
     let t = b.state.blocks in
     let parent : parent_at t p ≡ b.active = ap (λ (u : Blocks Block). parent_at u p) (sym (tried-blocks r b.state p)) ∙ h ∙ sym same in
-    one-more t b.active p path ready.is_way ready.kept z parent b.undo_kept ∙ ap (λ (n : ℕ). least most_undo (suc n)) kept
+    one-more t b.active p path ready.is_way ready.kept z parent b.undo_kept ∙ ap (λ (n : ℕ). lesser_of most_undo (suc n)) kept
 
 pub more-undo : (r : Rules Block Id) (a b : CoreState) (after : Outcome Block) (prepared : Prepared) → IsPreparationFor r a after b prepared → HasOneMore a (core_after_commit r b prepared.rest)
 more-undo r a b after prepared is =

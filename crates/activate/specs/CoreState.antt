@@ -60,10 +60,10 @@ abbrev pub most_undo : ℕ
 most_undo = 288
 
 -- the lesser of two numbers
-abbrev pub least : ℕ → ℕ → ℕ
-least a b = if nat_le a b then a else b
+abbrev pub lesser_of : ℕ → ℕ → ℕ
+lesser_of a b = if nat_le a b then a else b
 
 -- where the active block of b stands on that of a, undo is kept of one block more, up to that many
 abbrev pub HasOneMore : CoreState → CoreState → Type 0
 HasOneMore a b =
-    0 < b.active → parent_at b.state.blocks b.active ≡ a.active → b.undo_kept ≡ least most_undo (suc a.undo_kept)
+    0 < b.active → parent_at b.state.blocks b.active ≡ a.active → b.undo_kept ≡ lesser_of most_undo (suc a.undo_kept)

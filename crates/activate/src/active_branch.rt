@@ -2,7 +2,7 @@
 
 ghost use Rattle.std.specs.Prelude.{◌≡◌, ◌≤◌, ◌+◌, ◌-◌, ◌++◌, All, length, map, reverse, vec_capacity};
 ghost use Rattle.std.specs.VecDeque.{deque_capacity};
-ghost use Rattle.activate.specs.inside.ActiveBranch.{median_at, newest};
+ghost use Rattle.activate.specs.inside.ActiveBranch.{median_at, last_of};
 ghost use Rattle.activate.specs.CoreState.{most_undo};
 
 use std::collections::VecDeque;
@@ -39,7 +39,7 @@ pub(crate) fn append_places(
 pub(crate) fn keep_undo(kept: &mut VecDeque<BlockUndo>, more: Vec<BlockUndo>)
     requires few { length kept.old.items ≤ most_undo }
     requires room { most_undo ≤ deque_capacity kept.old }
-    ensures kept { kept.new.items ≡ newest most_undo (kept.old.items ++ more.items) }
+    ensures kept { kept.new.items ≡ last_of most_undo (kept.old.items ++ more.items) }
     ensures room { deque_capacity kept.new ≡ deque_capacity kept.old }
 {
     for undo in more {
@@ -51,7 +51,7 @@ pub(crate) fn keep_undo(kept: &mut VecDeque<BlockUndo>, more: Vec<BlockUndo>)
 /// Lets the lowest go where no more can be kept.
 fn drop_oldest(kept: &mut VecDeque<BlockUndo>)
     requires { length kept.old.items ≤ most_undo }
-    ensures kept { kept.new.items ≡ newest (most_undo - 1) kept.old.items }
+    ensures kept { kept.new.items ≡ last_of (most_undo - 1) kept.old.items }
     ensures room { deque_capacity kept.new ≡ deque_capacity kept.old }
 {
     if kept.len() >= MOST_UNDO {

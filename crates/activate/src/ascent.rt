@@ -3,7 +3,7 @@
 ghost use Rattle.std.specs.Prelude.{◌≡◌, ◌≤◌, ◌<◌, true, length, reverse, IfOk, OnOk};
 ghost use Rattle.std.specs.Result.{result_err};
 ghost use Rattle.tree.specs.Branches.{parent_at, height};
-ghost use Rattle.chain.specs.Valid.{fault, valid};
+ghost use Rattle.chain.specs.Valid.{fault, branch_connects};
 ghost use Rattle.chain.specs.Regtest.{medians_of, regtest};
 ghost use Rattle.chain.specs.Settled.{AllKept};
 ghost use Rattle.activate.specs.CoreState.{branch_blocks, coins_after};
@@ -44,7 +44,7 @@ pub(crate) fn connect_up<B: Base, C: Crew>(
 ) -> Result<Ascent, Memory>
     requires path { LeadsUp tree.now.blocks path.now.fork path.now.up.items }
     requires kept { AllKept (regtest params.now env.now.table.now) tree.now.blocks }
-    requires good { valid (regtest params.now env.now.table.now) tree.now.blocks path.now.fork
+    requires good { branch_connects (regtest params.now env.now.table.now) tree.now.blocks path.now.fork
         ≡ true }
     requires coins { layer.old.coins ≡ coins_after tree.now.blocks path.now.fork }
     requires medians { medians.items

@@ -1,7 +1,7 @@
 //! A try of a block: whether its branch connects.
 
 ghost use Rattle.std.specs.Prelude.{◌≡◌, ◌≤◌, true, length, IfOk};
-ghost use Rattle.chain.specs.Valid.{valid};
+ghost use Rattle.chain.specs.Valid.{branch_connects};
 ghost use Rattle.chain.specs.Regtest.{regtest};
 ghost use Rattle.chain.specs.Settled.{AllKept};
 ghost use Rattle.activate.specs.CoreState.{coins_after};
@@ -53,7 +53,7 @@ pub(crate) fn try_branch<B: Base, C: Crew>(
     requires kept { AllKept (regtest active_branch.now.params.now env.now.table.now)
         active_branch.now.tree.now.blocks }
     requires good { let b = active_branch.now in
-        valid (regtest b.params.now env.now.table.now) b.tree.now.blocks b.active ≡ true }
+        branch_connects (regtest b.params.now env.now.table.now) b.tree.now.blocks b.active ≡ true }
     requires coins { B.coins base.now
         ≡ coins_after active_branch.now.tree.now.blocks active_branch.now.active }
     ensures { let b = active_branch.now in

@@ -5,7 +5,7 @@ ghost use Rattle.std.specs.FinMap as coin_map;
 ghost use Rattle.curve.specs.Triple.{Triples};
 ghost use Rattle.rules.specs.Params.{regtest as regtest_params};
 ghost use Rattle.tree.specs.Branches.{height};
-ghost use Rattle.tree.specs.Tips.{shown};
+ghost use Rattle.tree.specs.Tips.{tip_of_id};
 ghost use Rattle.chain.specs.Commands.{outcome, replies_of, state_after_commands};
 ghost use Rattle.chain.specs.Regtest.{ledger, regtest};
 ghost use Rattle.chain.specs.Replay.{coins};
@@ -182,7 +182,7 @@ impl Chainstate {
         ensures { (triples : Triples) → IsChainstate self.now triples
             → IfOk result (λ list.
             list.items
-            ≡ map shown (tips (regtest self.now.core.params triples) self.now.core.state)) }
+            ≡ map tip_of_id (tips (regtest self.now.core.params triples) self.now.core.state)) }
     {
         self.core.tips(alloc)
     }

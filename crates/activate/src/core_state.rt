@@ -7,7 +7,7 @@ ghost use Rattle.rules.specs.Params.{regtest as regtest_params};
 ghost use Rattle.chain.specs.Regtest.{regtest};
 ghost use Rattle.chain.specs.Settle.{active, best, tips};
 ghost use Rattle.tree.specs.Branches.{height};
-ghost use Rattle.tree.specs.Tips.{shown};
+ghost use Rattle.tree.specs.Tips.{tip_of_id};
 ghost use Rattle.activate.specs.CoreState.{Follows, coins_of, genesis_alone, most_undo};
 
 mod committing;
@@ -116,7 +116,7 @@ impl Core {
     pub fn tips(&self, alloc: Global) -> Result<Vec<Tip>, Memory>
         ensures { (triples : Triples) → Follows self.now triples
             → let r = regtest self.now.params triples in
-            IfOk result (λ list. list.items ≡ map shown (tips r self.now.state)) }
+            IfOk result (λ list. list.items ≡ map tip_of_id (tips r self.now.state)) }
     {
         self.tree.tips(alloc, self.active, self.branch.as_slice())
     }

@@ -4,7 +4,7 @@ ghost use Rattle.std.specs.Prelude.{◌≡◌, IfOk, None};
 ghost use Rattle.std.specs.Result.{result_err};
 ghost use Rattle.txn.specs.First.{first_broken};
 ghost use Rattle.txn.specs.Identity.{ids_of};
-ghost use Rattle.coins.specs.Changes.{AreChanges, laid};
+ghost use Rattle.coins.specs.Changes.{AreChanges, after_changes};
 ghost use Rattle.rules.specs.Alone.{alone_rules};
 ghost use Rattle.connect.specs.Setting.{setting};
 ghost use Rattle.connect.specs.Turns.{effect, undo_of};
@@ -55,7 +55,7 @@ pub(crate) fn connect_tip<B: Base, C: Crew>(
         connected.changes.items)) }
     ensures laid { IfOk result (λ answer.
         IfOk answer (λ connected.
-        laid (B.coins base.now) connected.changes.items
+        after_changes (B.coins base.now) connected.changes.items
         ≡ effect context.now.height (B.coins base.now) block.now.txs)) }
 {
     let mut layer = Cache::over(alloc, base);

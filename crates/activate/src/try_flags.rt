@@ -4,7 +4,7 @@ ghost use Rattle.std.specs.Prelude.{◌≡◌, ◌≤◌, ℕ, true, length};
 ghost use Rattle.hash.specs.declared.id.Id.{Id};
 ghost use Rattle.block.specs.declared.block.Block.{Block};
 ghost use Rattle.tree.specs.Branches.{has, places};
-ghost use Rattle.tree.specs.State.{joined};
+ghost use Rattle.tree.specs.State.{union_where};
 ghost use Rattle.tree.specs.laws.Sets.{InOrder};
 ghost use Rattle.chain.specs.Rules.{Rules};
 ghost use Rattle.chain.specs.inside.Try.{state_after_try};
@@ -39,7 +39,7 @@ fn see_all(tree: &mut Tree, found: &[usize])
     requires kept { (x : ℕ) → has found.now x ≡ true → x ≤ length tree.old.blocks }
     requires order { InOrder (length tree.old.blocks) tree.old.seen }
     ensures { tree.new
-        ≡ record tree.old { seen = joined (places tree.old.blocks) tree.old.seen (λ x. has found.now x) } }
+        ≡ record tree.old { seen = union_where (places tree.old.blocks) tree.old.seen (λ x. has found.now x) } }
 {
     for place in found {
         tree.see(*place);

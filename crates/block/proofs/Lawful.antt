@@ -4,7 +4,7 @@ use Rattle.std.specs.List.{All}
 use Rattle.std.proofs.lemmas.Grind.{take_at_read}
 use Rattle.std.proofs.lemmas.List.{take_all}
 use Rattle.std.proofs.lemmas.List.Elements.{All-push, recursion_from_All}
-use Rattle.wire.specs.Grammar.{counted}
+use Rattle.wire.specs.Grammar.{counted_list}
 use Rattle.txn.specs.declared.tx.Tx.{Tx}
 use Rattle.txn.specs.Grammar.{transaction}
 use Rattle.txn.specs.Limits as txn
@@ -21,7 +21,7 @@ one_more txs k tx lt is before this =
     subst (All IfWithin) (sym next) (All-push IfWithin (take k txs) tx before this)
 
 -- all of them
-pub all_lawful : (txs ys : List Tx) (k : ℕ) → length ys ≤ k → txs ≡ ys → All IfWithin (take k ys) → AreWithin txs → (counted transaction).Lawful txs
+pub all_lawful : (txs ys : List Tx) (k : ℕ) → length ys ≤ k → txs ≡ ys → All IfWithin (take k ys) → AreWithin txs → (counted_list transaction).Lawful txs
 all_lawful txs ys k whole same each (count, within) =
     let every : All IfWithin txs = subst (All IfWithin) (take_all k ys whole ∙ sym same) each in
     (count, (refl, recursion_from_All transaction.Lawful txs (λ k d lt. every k d lt (within k d lt))))

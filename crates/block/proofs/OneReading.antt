@@ -7,7 +7,7 @@ use Rattle.byteorder.specs.Numbers.{little_number-reads_back}
 use Rattle.wire.specs.Spelling.{limit}
 use Rattle.block.specs.declared.blk_fault.BlkFault.{BlkFault}
 use Rattle.block.specs.declared.blk_fault.BlkFault.TheVariants.{Foreign, Cut, TooLong, Read, Memory, Stopped}
-use Rattle.block.specs.Blk.{magic, head, spelled, IsRecord, IsEnd, IsCut, IsTooLong, IsFault, IsOutside}
+use Rattle.block.specs.Blk.{magic, head, record_bytes, IsRecord, IsEnd, IsCut, IsTooLong, IsFault, IsOutside}
 use Rattle.block.specs.laws.Files.{Splits, Gave, IsLast}
 
 -- no head is another
@@ -73,17 +73,17 @@ told_record items place rest new (Ok None) found refused block after is = record
 told_record items place rest new (Err e) found refused block after is = record_fault place rest block after e is refused
 
 -- the record of the first block stands at the front of a file of one block more
-first : (block : List ℕ) (blocks : List (List ℕ)) (rest : List ℕ) → flat_map spelled (block ∷ blocks) ++ rest ≡ spelled block ++ (flat_map spelled blocks ++ rest)
-first block blocks rest = append_assoc (spelled block) (flat_map spelled blocks) rest
+first : (block : List ℕ) (blocks : List (List ℕ)) (rest : List ℕ) → flat_map record_bytes (block ∷ blocks) ++ rest ≡ record_bytes block ++ (flat_map record_bytes blocks ++ rest)
+first block blocks rest = append_assoc (record_bytes block) (flat_map record_bytes blocks) rest
 
-one_split_of : (blocks others : List (List ℕ)) (rest last : List ℕ) → flat_map spelled blocks ++ rest ≡ flat_map spelled others ++ last
+one_split_of : (blocks others : List (List ℕ)) (rest last : List ℕ) → flat_map record_bytes blocks ++ rest ≡ flat_map record_bytes others ++ last
     → AllByRecursion (λ block. length block ≤ limit) blocks → AllByRecursion (λ block. length block ≤ limit) others
     → ((block after : List ℕ) → IsRecord block rest after → ⊥) → ((block after : List ℕ) → IsRecord block last after → ⊥) → (blocks ≡ others) × (rest ≡ last)
 one_split_of [] [] rest last e p q nop noq = (refl, e)
 one_split_of [] (b ∷ others) rest last e p q nop noq = absurd (nop b _ (q.0, e ∙ first b others last))
 one_split_of (a ∷ blocks) [] rest last e p q nop noq = absurd (noq a _ (p.0, sym e ∙ first a blocks rest))
 one_split_of (a ∷ blocks) (b ∷ others) rest last e p q nop noq =
-    let k = record_record (flat_map spelled (a ∷ blocks) ++ rest) a b _ _ (p.0, first a blocks rest) (q.0, e ∙ first b others last) in
+    let k = record_record (flat_map record_bytes (a ∷ blocks) ++ rest) a b _ _ (p.0, first a blocks rest) (q.0, e ∙ first b others last) in
     let more = one_split_of blocks others rest last k.1 p.1 q.1 nop noq in
     (ap₂ (λ (x : List ℕ) (xs : List (List ℕ)). x ∷ xs) k.0 more.0, more.1)
 
@@ -97,9 +97,9 @@ no_record rest (inr (inl f)) block after p = f.1 _ (after_head block rest after 
 no_record rest (inr (inr (inl c))) block after p = record_cut rest block after p c
 no_record rest (inr (inr (inr c))) block after p = record_long rest block after p c
 
-gave_whole : (file : List ℕ) (blocks : List (List ℕ)) (rest : List ℕ) → Gave file blocks rest → file ≡ flat_map spelled blocks ++ rest
+gave_whole : (file : List ℕ) (blocks : List (List ℕ)) (rest : List ℕ) → Gave file blocks rest → file ≡ flat_map record_bytes blocks ++ rest
 gave_whole file [] rest h = h
-gave_whole file (block ∷ blocks) rest h = h.1.1 ∙ ap (λ (t : List ℕ). spelled block ++ t) (gave_whole h.0 blocks rest h.2) ∙ sym (first block blocks rest)
+gave_whole file (block ∷ blocks) rest h = h.1.1 ∙ ap (λ (t : List ℕ). record_bytes block ++ t) (gave_whole h.0 blocks rest h.2) ∙ sym (first block blocks rest)
 
 gave_each : (file : List ℕ) (blocks : List (List ℕ)) (rest : List ℕ) → Gave file blocks rest → AllByRecursion (λ block. length block ≤ limit) blocks
 gave_each file [] rest h = tt

@@ -17,7 +17,7 @@ use Rattle.block.specs.Grammar.{block}
 use Rattle.block.specs.Whole.{Faulty, HasExtra}
 use Rattle.block.specs.computed.Reading.{block_at}
 use Rattle.block.specs.laws.Reading.{block_decides}
-use Rattle.block.specs.Decoding.{decoded}
+use Rattle.block.specs.Decoding.{block_of_bytes}
 use Rattle.block.specs.laws.Decoding.{read_again, read_faulty, read_extra, decoded-faulty}
 
 abbrev pub told_wire : WireFault → ReadFault
@@ -84,6 +84,6 @@ pub as_refusal : (f e : ReadFault) → (f ≡ faults.Memory) ⊎ (f ≡ e) → (
 as_refusal f e (inl h) = inl (ap refusal h)
 as_refusal f e (inr h) = inr (ap refusal h)
 
-pub decodes_or_not : (bytes : List ℕ) (e : ReadFault) → (e ≡ faults.Memory) ⊎ Faulty e bytes → (e ≡ faults.Memory) ⊎ (decoded bytes ≡ None)
+pub decodes_or_not : (bytes : List ℕ) (e : ReadFault) → (e ≡ faults.Memory) ⊎ Faulty e bytes → (e ≡ faults.Memory) ⊎ (block_of_bytes bytes ≡ None)
 decodes_or_not bytes e (inl h) = inl h
 decodes_or_not bytes e (inr h) = inr (decoded-faulty bytes e h)

@@ -15,12 +15,12 @@ abbrev pub head : ℕ → List ℕ
 head len = magic ++ little_bytes 4 len
 
 -- the record of a block
-abbrev pub spelled : List ℕ → List ℕ
-spelled block = head (length block) ++ block
+abbrev pub record_bytes : List ℕ → List ℕ
+record_bytes block = head (length block) ++ block
 
 -- the record of a block stands at the front, and these bytes after it
 abbrev pub IsRecord : List ℕ → List ℕ → List ℕ → Type 0
-IsRecord block rest after = (length block ≤ limit) × (rest ≡ spelled block ++ after)
+IsRecord block rest after = (length block ≤ limit) × (rest ≡ record_bytes block ++ after)
 
 -- the end of a file: zero bytes alone, or nothing
 abbrev pub IsEnd : List ℕ → Type 0

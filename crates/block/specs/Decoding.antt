@@ -16,8 +16,8 @@ whole_block (Ok x) = block_alone x.0 x.1
 whole_block (Err fault) = None
 
 -- the block that the bytes spell, all of them
-abbrev pub decoded : List ℕ → Option Block
-decoded bytes = whole_block (block_at bytes)
+abbrev pub block_of_bytes : List ℕ → Option Block
+block_of_bytes bytes = whole_block (block_at bytes)
 
 -- a call's answer is that block, or says that there is none, or that memory ran out
 abbrev pub Decodes : Result Block ReadFault → Option Block → Type 0

@@ -1,5 +1,5 @@
 -- A block and its parts, in order.
-use Rattle.wire.specs.Grammar.{Grammar, piece, number, signed32, pair, counted, fields}
+use Rattle.wire.specs.Grammar.{Grammar, piece, number, signed32, pair, counted_list, fields}
 use Rattle.txn.specs.Grammar.{transaction}
 use Rattle.hash.specs.declared.id.Id.{Id}
 use Rattle.block.specs.declared.header.Header.{Header}
@@ -12,4 +12,4 @@ abbrev pub header : Grammar Header
 header = fields (λ h. (h.version, (h.prev, (h.root, (h.time, (h.bits, h.nonce)))))) (pair signed32 (pair id (pair id (pair (number 4) (pair (number 4) (number 4))))))
 
 abbrev pub block : Grammar Block
-block = fields (λ b. (b.header, b.txs)) (pair header (counted transaction))
+block = fields (λ b. (b.header, b.txs)) (pair header (counted_list transaction))

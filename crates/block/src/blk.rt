@@ -5,7 +5,7 @@ ghost use Rattle.wire.specs.Spelling.{limit};
 ghost use Rattle.block.specs.declared.blk_fault.BlkFault.{BlkFault};
 ghost use Rattle.block.specs.declared.blk_fault.BlkFault.TheVariants as faults;
 ghost use Rattle.block.specs.declared.blk.Stage.TheVariants as stages;
-ghost use Rattle.block.specs.Blk.{magic, head, spelled, IsRecord, IsEnd, IsFault, IsOutside, failures, CountsFailures, Remain};
+ghost use Rattle.block.specs.Blk.{magic, head, record_bytes, IsRecord, IsEnd, IsFault, IsOutside, failures, CountsFailures, Remain};
 
 use crate::blk_fault::BlkFault;
 use crate::pieces::{ends, fill, take};
@@ -156,7 +156,7 @@ impl<R: Source> BlkReader<R> {
         // A block: its record was next, and comes no more.
         ensures block { IfOk result (λ found. IfSome found
             (λ block. IsRecord block.items self.old.to_come self.new.to_come
-            × (self.new.offset ≡ self.old.offset + length (spelled block.items))
+            × (self.new.offset ≡ self.old.offset + length (record_bytes block.items))
             × (self.new.stage ≡ stages.Reading))) }
         // None: nothing or zero bytes alone were left.
         ensures none { IfOk result (λ found. IfNone found

@@ -5,7 +5,7 @@ ghost use Rattle.hash.specs.declared.id.Id.{Id};
 ghost use Rattle.txn.specs.Identity as txn;
 ghost use Rattle.block.specs.declared.block.Block.{Block};
 ghost use Rattle.block.specs.Grammar.{block};
-ghost use Rattle.block.specs.Decoding.{decoded};
+ghost use Rattle.block.specs.Decoding.{block_of_bytes};
 ghost use Rattle.block.specs.laws.Files.{Splits, Gave, IsLast};
 ghost use Rattle.block.specs.Identity.{id_of};
 ghost use Rattle.block.specs.Merkle.{root, twin, has_twin, next};
@@ -35,7 +35,7 @@ pub fn a_run_gives_the_records()
 /// What is spelled of a lawful block is read again. What `write` has written is lawful where no list and no script
 /// is too long.
 pub fn what_is_spelled_is_read()
-    ensures { (b : Block) → block.Lawful b → decoded (block.spell b) ≡ Some b }
+    ensures { (b : Block) → block.Lawful b → block_of_bytes (block.spell b) ≡ Some b }
 {}
 
 /// Two ids or more have the root of the level above.

@@ -6,7 +6,7 @@ ghost use Rattle.txn.specs.computed.Reading.{tx_at};
 ghost use Rattle.txn.specs.Fault.{wire_fault_of};
 ghost use Rattle.block.specs.Grammar.{block};
 ghost use Rattle.block.specs.Whole.{Faulty};
-ghost use Rattle.block.specs.Decoding.{decoded, Decodes};
+ghost use Rattle.block.specs.Decoding.{block_of_bytes, Decodes};
 ghost use Rattle.block.specs.declared.block.Block.{Block};
 ghost use Rattle.block.specs.declared.fault.ReadFault.{ReadFault};
 ghost use Rattle.block.specs.declared.fault.ReadFault.TheVariants.{Memory};
@@ -101,7 +101,7 @@ pub fn read(alloc: Global, bytes: &[u8]) -> Result<Block, ReadFault>
     ensures refuses { (e : ReadFault) → Faulty e bytes.now
         → (result ≡ Err Memory) ⊎ (result ≡ Err e) }
     // The same, as a function of the bytes.
-    ensures exact { Decodes result (decoded bytes.now) }
+    ensures exact { Decodes result (block_of_bytes bytes.now) }
 {
     let mut cursor = Cursor::new(bytes);
     let block = front(alloc, &mut cursor)?;

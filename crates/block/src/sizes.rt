@@ -1,8 +1,8 @@
 //! How many bytes a block has. A sum stops at the highest `u64`, far above what any block has.
 
 ghost use Rattle.std.specs.Prelude.{◌≡◌, ◌-◌, ◌^◌, ◌≤◌, length, min, sum_by};
-ghost use Rattle.wire.specs.Spelling.{compact};
-ghost use Rattle.wire.specs.Grammar.{sized};
+ghost use Rattle.wire.specs.Spelling.{compact_size};
+ghost use Rattle.wire.specs.Grammar.{sized_bytes};
 ghost use Rattle.txn.specs.Grammar as grammar;
 ghost use Rattle.block.specs.Sizes.{size_of};
 
@@ -86,7 +86,7 @@ fn output_size(output: &TxOut) -> u64
 
 #[tactic(auto, using(crate::proofs::Lengths::of_script))]
 fn script_size(script: &Script) -> u64
-    ensures { result ≡ min (length (sized.spell script.now)) (2 ^ 64 - 1) }
+    ensures { result ≡ min (length (sized_bytes.spell script.now)) (2 ^ 64 - 1) }
 {
     (script.len() as u64).saturating_add(count_size(script.len()))
 }
@@ -100,9 +100,9 @@ fn id_size(id: &Id) -> u64
 }
 
 /// The bytes of a count, in the shortest of its forms.
-#[tactic(auto, unfolding(wire::specs::Spelling::compact))]
+#[tactic(auto, unfolding(wire::specs::Spelling::compact_size))]
 fn count_size(n: usize) -> u64
-    ensures value { result ≡ length (compact n) }
+    ensures value { result ≡ length (compact_size n) }
     ensures small { result ≤ 9 }
 {
     match n {

@@ -1,7 +1,7 @@
 //! Blocks written as bytes.
 
 ghost use Rattle.std.specs.Prelude.{◌≡◌, ◌++◌, OnOk, OnErr};
-ghost use Rattle.wire.specs.Grammar.{counted};
+ghost use Rattle.wire.specs.Grammar.{counted_list};
 ghost use Rattle.wire.specs.inside.Writing.{Extends};
 ghost use Rattle.txn.specs.Grammar.{transaction};
 ghost use Rattle.block.specs.Grammar as grammar;
@@ -39,9 +39,9 @@ fn knows_header(h: Header)
 #[tactic(auto, using(wire::specs::laws::Writing::extending))]
 fn put_txs(out: &mut Vec<u8>, txs: &Txs) -> Result<(), Memory>
     ensures written { OnOk result (out.new.items
-        ≡ out.old.items ++ (counted transaction).spell txs.now) }
+        ≡ out.old.items ++ (counted_list transaction).spell txs.now) }
     ensures extends { Extends out.old.items out.new.items }
-    ensures lawful { OnOk result (AreWithin txs.now → (counted transaction).Lawful txs.now) }
+    ensures lawful { OnOk result (AreWithin txs.now → (counted_list transaction).Lawful txs.now) }
 {
     put_compact(out, txs.len() as u64)?;
     for tx in txs.as_slice() {

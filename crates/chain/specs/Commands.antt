@@ -2,7 +2,7 @@
 use Rattle.std.specs.Prelude.{ℕ, List, [], ◌∷◌, Option, Some, None, unwrap_or}
 use Rattle.hash.specs.declared.id.Id.{Id}
 use Rattle.block.specs.declared.block.Block.{Block}
-use Rattle.block.specs.Decoding.{decoded}
+use Rattle.block.specs.Decoding.{block_of_bytes}
 use Rattle.tree.specs.State.{State}
 use Rattle.chain.specs.declared.command.Command.{Command}
 use Rattle.chain.specs.declared.command.Command.TheVariants as command
@@ -20,7 +20,7 @@ module _ (r : Rules Block Id) where
 
   -- the state after a command and the reply, where the command takes a step
   unfoldable pub command_step : State Block → Command → Option (Outcome Block)
-  command_step s (command.Submit bytes now) = submit_step s now (decoded bytes)
+  command_step s (command.Submit bytes now) = submit_step s now (block_of_bytes bytes)
   command_step s (command.Invalidate id) = Some (step r s (Invalidate id))
   command_step s (command.Reconsider id) = Some (step r s (Reconsider id))
   command_step s (command.Precious id) = Some (step r s (Precious id))

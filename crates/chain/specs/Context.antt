@@ -4,7 +4,7 @@ use Rattle.std.specs.Option.{option_or}
 use Rattle.txn.specs.declared.reason.Reason.{Reason}
 use Rattle.txn.specs.declared.reason.Reason.TheVariants.{ParentNotFound, ParentInvalid}
 use Rattle.tree.specs.Branches.{branch, blocks_at, place_of}
-use Rattle.tree.specs.State.{State, usable}
+use Rattle.tree.specs.State.{State, has_no_mark}
 use Rattle.chain.specs.Rules.{Rules}
 
 module _ {B I : Type 0} (r : Rules B I) where
@@ -12,7 +12,7 @@ module _ {B I : Type 0} (r : Rules B I) where
   unfoldable pub fault_on : State B → ℕ → B → Option ℕ → Option Reason
   fault_on s now b None = Some ParentNotFound
   fault_on s now b (Some p) =
-      if not (usable s p) then Some ParentInvalid else r.context_fault (blocks_at r.names s.blocks (branch s.blocks p)) now b
+      if not (has_no_mark s p) then Some ParentInvalid else r.context_fault (blocks_at r.names s.blocks (branch s.blocks p)) now b
 
   -- by itself, and then on its parent
   unfoldable pub first_fault : State B → ℕ → B → Option Reason

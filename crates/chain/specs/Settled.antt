@@ -1,13 +1,13 @@
 -- What holds of each state that commands reach.
 use Rattle.std.specs.Prelude.{◌≡◌, true, [], ◌∷◌, None, Some, ⊤}
 use Rattle.tree.specs.Branches.{Kept, Blocks, place_of}
-use Rattle.tree.specs.State.{State, usable}
+use Rattle.tree.specs.State.{State, has_no_mark}
 use Rattle.chain.specs.Rules.{Rules}
 use Rattle.chain.specs.Settle.{settle}
 
 -- what each state is that commands reach: genesis isn't marked, and settling changes nothing
 pub record IsSettled {B I : Type 0} (r : Rules B I) (s : State B) : Type 0 where
-  pub genesis : usable s 0 ≡ true
+  pub genesis : has_no_mark s 0 ≡ true
   pub settled : settle r s ≡ s
 
 -- what a kept block was when it came: it had no fault by itself, its id was new, and it stands on the block that its

@@ -1,7 +1,7 @@
 -- One command and its reply.
 use Rattle.std.specs.Prelude.{ℕ, zero, suc, nat_lt, if◌then◌else◌, List, [], ◌∷◌, Option, Some, None}
 use Rattle.tree.specs.Branches.{height, place_of}
-use Rattle.tree.specs.State.{State, marked, cleared, called}
+use Rattle.tree.specs.State.{State, with_mark, without_marks, with_call}
 use Rattle.chain.specs.declared.reply.Reply.{Reply}
 use Rattle.chain.specs.declared.reply.Reply.TheVariants as reply
 use Rattle.chain.specs.declared.reply.MarkReply.{MarkReply}
@@ -26,17 +26,17 @@ module _ {B I : Type 0} (r : Rules B I) where
   unfoldable pub outcome_of_invalidate : State B → Option ℕ → Outcome B
   outcome_of_invalidate s None = mark_says s NotFound
   outcome_of_invalidate s (Some zero) = mark_says s Genesis
-  outcome_of_invalidate s (Some (suc p)) = mark_says (settle r (marked s (suc p))) Done
+  outcome_of_invalidate s (Some (suc p)) = mark_says (settle r (with_mark s (suc p))) Done
 
   unfoldable pub outcome_of_reconsider : State B → Option ℕ → Outcome B
   outcome_of_reconsider s None = mark_says s NotFound
-  outcome_of_reconsider s (Some p) = mark_says (settle r (cleared s p)) Done
+  outcome_of_reconsider s (Some p) = mark_says (settle r (without_marks s p)) Done
 
   -- a call for a block that is lower than the active one changes nothing
   unfoldable pub outcome_of_precious : State B → Option ℕ → Outcome B
   outcome_of_precious s None = mark_says s NotFound
   outcome_of_precious s (Some p) =
-      if nat_lt (height s.blocks p) (height s.blocks (active r s)) then mark_says s Done else mark_says (settle r (called s p)) Done
+      if nat_lt (height s.blocks p) (height s.blocks (active r s)) then mark_says s Done else mark_says (settle r (with_call s p)) Done
 
   unfoldable pub step : State B → Request B I → Outcome B
   step s (Submit now b) = outcome_of_submission r s now b (place_of r.names s.blocks (r.names.id_of b))

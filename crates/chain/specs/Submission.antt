@@ -2,7 +2,7 @@
 use Rattle.std.specs.Prelude.{ℕ, suc, ◌==◌, nat_le, not, if◌then◌else◌, length, Option, Some, None, unwrap_or}
 use Rattle.txn.specs.declared.reason.Reason.{Reason}
 use Rattle.tree.specs.Branches.{has, place_of}
-use Rattle.tree.specs.State.{State, usable, with_block}
+use Rattle.tree.specs.State.{State, has_no_mark, with_block}
 use Rattle.tree.specs.Limits.{max_blocks}
 use Rattle.chain.specs.declared.reply.Reply.{Reply}
 use Rattle.chain.specs.declared.reply.Reply.TheVariants as reply
@@ -32,7 +32,7 @@ kept_blocks s = suc (length s.blocks)
 module _ {B I : Type 0} (r : Rules B I) where
   -- of a block that was kept before
   unfoldable pub answer_known : State B → ℕ → SubmitReply
-  answer_known s p = if not (usable s p) then DuplicateInvalid else if has s.seen p then Duplicate else DuplicateInconclusive
+  answer_known s p = if not (has_no_mark s p) then DuplicateInvalid else if has s.seen p then Duplicate else DuplicateInconclusive
 
   -- of a block that was added
   unfoldable pub answer_added : State B → ℕ → SubmitReply

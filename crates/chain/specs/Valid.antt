@@ -18,8 +18,8 @@ module _ {B I : Type 0} (r : Rules B I) where
   connects t p = is_none (fault t p)
 
   -- each block of the branch connects
-  unfoldable pub valid : Blocks B → ℕ → Bool
-  valid t c = list_all (connects t) (branch t c)
+  unfoldable pub branch_connects : Blocks B → ℕ → Bool
+  branch_connects t c = list_all (connects t) (branch t c)
 
   -- the first block of its branch that doesn't connect
   unfoldable pub first_to_fail : Blocks B → ℕ → Bool

@@ -10,12 +10,12 @@ ghost use Rattle.coins.specs.Total.{total};
 ghost use Rattle.rules.specs.declared.params.Params.{Params};
 ghost use Rattle.connect.specs.Scripts.{IsConnectFault};
 ghost use Rattle.tree.specs.Branches.{branch, blocks_at, height, place_of};
-ghost use Rattle.tree.specs.State.{State, usable, better, opening, with_block, called};
+ghost use Rattle.tree.specs.State.{State, has_no_mark, beats, opening, with_block, with_call};
 ghost use Rattle.tree.specs.Sound.{IsBest};
 ghost use Rattle.chain.specs.declared.reply.SubmitReply.TheVariants.{Accepted, Inconclusive, Rejected};
 ghost use Rattle.chain.specs.declared.reply.MarkReply.TheVariants.{Done};
 ghost use Rattle.chain.specs.Rules.{Rules};
-ghost use Rattle.chain.specs.Valid.{valid};
+ghost use Rattle.chain.specs.Valid.{branch_connects};
 ghost use Rattle.chain.specs.Settle.{active, is_candidate, becomes_seen, becomes_bad, settle};
 ghost use Rattle.chain.specs.Context.{first_fault};
 ghost use Rattle.chain.specs.Submission.{submit_says, kept_blocks};
@@ -28,9 +28,9 @@ ghost use Rattle.chain.specs.inside.Try.{state_after_try};
 ghost use Rattle.chain.specs.Settled.{IsSettled, AllKept};
 ghost use Rattle.chain.specs.inside.Faults.{IsNew, IsFirstFault, Passes, OfCandidate, IdsAreKeptOnce};
 ghost use Rattle.tree.specs.Limits.{max_blocks};
-ghost use Rattle.chain.specs.laws.Tries.{unmarked};
+ghost use Rattle.chain.specs.laws.Tries.{count_without_mark};
 ghost use mathlib.Core.List.{IsPrefix};
-ghost use Rattle.block.specs.Decoding.{decoded};
+ghost use Rattle.block.specs.Decoding.{block_of_bytes};
 ghost use Rattle.chain.specs.declared.command.Command.{Command};
 ghost use Rattle.chain.specs.declared.command.Command.TheVariants as command;
 ghost use Rattle.chain.specs.declared.entry.Entry.{Entry};
@@ -56,13 +56,13 @@ pub fn settling_marks_the_first_fault<B, I>()
 /// The active block is the best of those that are usable and have a valid branch, in any state in which genesis isn't
 /// marked.
 pub fn the_active_block_is_the_best_that_can_be_active<B, I>()
-    ensures { (r : Rules B I) (s : State B) → usable s 0 ≡ true
-        → IsBest s (λ p. usable s p && valid r s.blocks p) (length s.blocks) (active r s) }
+    ensures { (r : Rules B I) (s : State B) → has_no_mark s 0 ≡ true
+        → IsBest s (λ p. has_no_mark s p && branch_connects r s.blocks p) (length s.blocks) (active r s) }
 {}
 
 /// A try of a candidate leaves what settling gives, and which block is active.
 pub fn a_try_leaves_what_settling_gives<B, I>()
-    ensures { (r : Rules B I) (s : State B) (c : ℕ) → usable s 0 ≡ true → c ≤ length s.blocks
+    ensures { (r : Rules B I) (s : State B) (c : ℕ) → has_no_mark s 0 ≡ true → c ≤ length s.blocks
         → is_candidate r s c ≡ true
         → (settle r (state_after_try r s c) ≡ settle r s) ×
         (active r (state_after_try r s c) ≡ active r s) }
@@ -70,20 +70,20 @@ pub fn a_try_leaves_what_settling_gives<B, I>()
 
 /// A try of a usable block that isn't valid marks one, so tries end.
 pub fn a_try_that_fails_marks_a_block<B, I>()
-    ensures { (r : Rules B I) (s : State B) (c : ℕ) → c ≤ length s.blocks → usable s c ≡ true
-        → valid r s.blocks c ≡ false → unmarked (state_after_try r s c) < unmarked s }
+    ensures { (r : Rules B I) (s : State B) (c : ℕ) → c ≤ length s.blocks → has_no_mark s c ≡ true
+        → branch_connects r s.blocks c ≡ false → count_without_mark (state_after_try r s c) < count_without_mark s }
 {}
 
 /// Where the branch of the best usable block is valid, that block is active, and its try settles the state.
 pub fn a_valid_best_block_settles_by_its_try<B, I>()
-    ensures { (r : Rules B I) (s : State B) (c : ℕ) → usable s 0 ≡ true
-        → IsBest s (usable s) (length s.blocks) c → valid r s.blocks c ≡ true
+    ensures { (r : Rules B I) (s : State B) (c : ℕ) → has_no_mark s 0 ≡ true
+        → IsBest s (has_no_mark s) (length s.blocks) c → branch_connects r s.blocks c ≡ true
         → (active r s ≡ c) × (settle r s ≡ state_after_try r s c) }
 {}
 
 /// What is settled stays.
 pub fn what_is_settled_stays<B, I>()
-    ensures { (r : Rules B I) (s : State B) → usable s 0 ≡ true → settle r (settle r s) ≡ settle r s }
+    ensures { (r : Rules B I) (s : State B) → has_no_mark s 0 ≡ true → settle r (settle r s) ≡ settle r s }
 {}
 
 /// A settled state has one candidate, the active block, and it is the best of all usable blocks.
@@ -91,7 +91,7 @@ pub fn a_settled_state_has_one_candidate<B, I>()
     ensures only { (r : Rules B I) (s : State B) (d : ℕ) → IsSettled r s → d ≤ length s.blocks
         → is_candidate r s d ≡ true → d ≡ active r s }
     ensures best { (r : Rules B I) (s : State B) → IsSettled r s
-        → IsBest s (usable s) (length s.blocks) (active r s) }
+        → IsBest s (has_no_mark s) (length s.blocks) (active r s) }
 {}
 
 // ---- steps
@@ -125,7 +125,7 @@ pub fn a_refused_block_leaves_the_state<B, I>()
 /// The parent of a block without one is kept and usable.
 pub fn the_parent_of_a_faultless_block_is_usable<B, I>()
     ensures { (r : Rules B I) (s : State B) (now : ℕ) (b : B) → first_fault r s now b ≡ None
-        → IsSomeAnd (place_of r.names s.blocks (r.names.parent_of b)) (λ p. usable s p ≡ true) }
+        → IsSomeAnd (place_of r.names s.blocks (r.names.parent_of b)) (λ p. has_no_mark s p ≡ true) }
 {}
 
 /// A block on the active one that connects is active and seen, and nothing else changes.
@@ -153,7 +153,7 @@ pub fn a_faulty_block_on_the_tip_is_marked<B, I>()
 pub fn a_block_beside_changes_nothing<B, I>()
     ensures { (r : Rules B I) (s : State B) (now : ℕ) (b : B) (p : ℕ) → IsSettled r s
         → IsNew r s now b p
-        → better (with_block s b p) (suc (length s.blocks)) (active r s) ≡ false
+        → beats (with_block s b p) (suc (length s.blocks)) (active r s) ≡ false
         → step r s (Submit now b) ≡ submit_says (with_block s b p) Inconclusive }
 {}
 
@@ -161,13 +161,13 @@ pub fn a_block_beside_changes_nothing<B, I>()
 pub fn the_active_block_may_be_called_precious<B, I>()
     ensures { (r : Rules B I) (s : State B) (i : I) → IsSettled r s
         → place_of r.names s.blocks i ≡ Some (active r s)
-        → step r s (Precious i) ≡ mark_says (called s (active r s)) Done }
+        → step r s (Precious i) ≡ mark_says (with_call s (active r s)) Done }
 {}
 
 /// Another block that is usable, valid and not lower becomes active by a call.
 pub fn a_precious_block_becomes_active<B, I>()
     ensures { (r : Rules B I) (s : State B) (i : I) (p : ℕ) → IsSettled r s
-        → place_of r.names s.blocks i ≡ Some p → usable s p ≡ true → valid r s.blocks p ≡ true
+        → place_of r.names s.blocks i ≡ Some p → has_no_mark s p ≡ true → branch_connects r s.blocks p ≡ true
         → height s.blocks (active r s) ≤ height s.blocks p
         → active r (step r s (Precious i)).0 ≡ p }
 {}
@@ -258,5 +258,5 @@ pub fn undecodable_bytes_stand_nowhere()
     ensures { (params : Params) (triples : Triples) (seats : ℕ) (front rest : List Entry)
         (e : Entry) (bytes : List ℕ) (now : ℕ)
         → Legal (chainstate params triples) seats (front ++ e ∷ rest)
-        → e.command ≡ command.Submit bytes now → decoded bytes ≡ None → ⊥ }
+        → e.command ≡ command.Submit bytes now → block_of_bytes bytes ≡ None → ⊥ }
 {}

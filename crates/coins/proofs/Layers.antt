@@ -9,7 +9,7 @@ use Rattle.coins.specs.declared.entry.CacheEntry.{CacheEntry}
 use Rattle.coins.specs.declared.entry.CacheEntry.TheVariants.{Clean, Dirty, Fresh}
 use Rattle.coins.specs.Coins.{Coin, Coins, Layer, same, put}
 use Rattle.coins.specs.Entries.{Entries, stands, over, entry_at, MarkHolds, IsSound}
-use Rattle.coins.specs.inside.Entries.{Written, added_entry, is_fresh, own_coin, emptied}
+use Rattle.coins.specs.inside.Entries.{Written, added_entry, is_fresh, own_coin, entry_without_coin}
 use Rattle.coins.specs.laws.Lookups.{same_coins, same-true, same-sym, get-put}
 
 -- what stands under an entry, if there is one
@@ -88,13 +88,13 @@ below_stands (Some (Dirty (Some d))) below h s = cc
 below_stands (Some (Fresh d)) below h s = cc
 
 -- once it is taken, nothing stands there
-pub emptied_stands : (o : Option CacheEntry) (below : Option Coin) (c : Coin) → own_coin o ≡ Some c → MarkHolds o below → stands_at (emptied o) below ≡ None
+pub emptied_stands : (o : Option CacheEntry) (below : Option Coin) (c : Coin) → own_coin o ≡ Some c → MarkHolds o below → stands_at (entry_without_coin o) below ≡ None
 emptied_stands None below c h mark = cc
 emptied_stands (Some Clean) below c h mark = cc
 emptied_stands (Some (Dirty w)) below c h mark = refl
 emptied_stands (Some (Fresh d)) below c h mark = mark
 
-pub emptied_mark : (o : Option CacheEntry) (below : Option Coin) → MarkHolds o below → MarkHolds (emptied o) below
+pub emptied_mark : (o : Option CacheEntry) (below : Option Coin) → MarkHolds o below → MarkHolds (entry_without_coin o) below
 emptied_mark None below mark = tt
 emptied_mark (Some Clean) below mark = tt
 emptied_mark (Some (Dirty w)) below mark = tt

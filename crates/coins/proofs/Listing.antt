@@ -10,7 +10,7 @@ use Rattle.txn.specs.declared.outpoint.OutPoint.{OutPoint}
 use Rattle.coins.specs.declared.entry.CacheEntry.{CacheEntry}
 use Rattle.coins.specs.Coins.{Coin, Coins, outpoint_cmp, same}
 use Rattle.coins.specs.Entries.{Entries, stands, over, entry_at, MarkHolds, IsSound}
-use Rattle.coins.specs.Changes.{Changes, named, AreChanges}
+use Rattle.coins.specs.Changes.{Changes, change_at, AreChanges}
 use Rattle.coins.specs.inside.Changes.{Lists}
 use Rattle.coins.specs.laws.Lookups.{same-true, same-self}
 use Rattle.coins.proofs.Layers.{stands_at, get-over}
@@ -92,13 +92,13 @@ push_here true m k q e o p h differs right =
 push_here false m k q e o p h differs right = right
 
 names_right : (m : Coins) (es : Entries) (cs : Changes) (q : OutPoint) → IsDistinct same (keys_of es) → Lists m es cs
-    → NamesRight (map.get m q) (stands_at (entry_at es q) (map.get m q)) (named cs q)
+    → NamesRight (map.get m q) (stands_at (entry_at es q) (map.get m q)) (change_at cs q)
 unfolding Lists IsDistinct
-names_right m [] cs q d l = subst (λ (x : Changes). NamesRight (map.get m q) (map.get m q) (named x q)) (sym l) refl
+names_right m [] cs q d l = subst (λ (x : Changes). NamesRight (map.get m q) (map.get m q) (change_at x q)) (sym l) refl
 names_right m (e ∷ es) cs q d l = elim l [
-  | inl h ↦ skip_here (same q e.0) m e.0 q e.1 es (named cs q) refl (absent e.0 es d.0) h.0 (names_right m es cs q d.1 h.1)
-  | inr h ↦ subst (λ (x : Changes). NamesRight (map.get m q) (stands_at (entry_at (e ∷ es) q) (map.get m q)) (named x q)) (sym h.1)
-      (push_here (same q e.0) m e.0 q e.1 (entry_at es q) (named h.0 q) refl h.2 (names_right m es h.0 q d.1 h.3))
+  | inl h ↦ skip_here (same q e.0) m e.0 q e.1 es (change_at cs q) refl (absent e.0 es d.0) h.0 (names_right m es cs q d.1 h.1)
+  | inr h ↦ subst (λ (x : Changes). NamesRight (map.get m q) (stands_at (entry_at (e ∷ es) q) (map.get m q)) (change_at x q)) (sym h.1)
+      (push_here (same q e.0) m e.0 q e.1 (entry_at es q) (change_at h.0 q) refl h.2 (names_right m es h.0 q d.1 h.3))
 ]
 
 all_listed : (P : OutPoint → Type 0) (m : Coins) (es : Entries) (cs : Changes) → Lists m es cs → AllByRecursion P (keys_of es) → AllByRecursion P (keys_of cs)
@@ -131,10 +131,10 @@ others_from (Some v) below now h e = cc
 
 pub are_changes : (m : Coins) (es : Entries) (cs : Changes) → IsStrictlySortedBy outpoint_cmp (keys_of es) → Lists m es cs → AreChanges m (over m es) cs
 are_changes m es cs s l =
-    let right : (q : OutPoint) → NamesRight (map.get m q) (map.get (over m es) q) (named cs q)
-    = λ q. subst (λ (x : Option Coin). NamesRight (map.get m q) x (named cs q)) (sym (get-over m es q)) (names_right m es cs q (IsDistinct-from_sorted outpoint_cmp (keys_of es) s) l) in
+    let right : (q : OutPoint) → NamesRight (map.get m q) (map.get (over m es) q) (change_at cs q)
+    = λ q. subst (λ (x : Option Coin). NamesRight (map.get m q) x (change_at cs q)) (sym (get-over m es q)) (names_right m es cs q (IsDistinct-from_sorted outpoint_cmp (keys_of es) s) l) in
     record {
       in_order = in_order m es cs l s;
-      differ = λ q w e. differ_from (named cs q) (map.get m q) (map.get (over m es) q) w (right q) e;
-      others = λ q e. others_from (named cs q) (map.get m q) (map.get (over m es) q) (right q) e;
+      differ = λ q w e. differ_from (change_at cs q) (map.get m q) (map.get (over m es) q) w (right q) e;
+      others = λ q e. others_from (change_at cs q) (map.get m q) (map.get (over m es) q) (right q) e;
     }

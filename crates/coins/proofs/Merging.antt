@@ -9,7 +9,7 @@ use Rattle.coins.specs.declared.entry.CacheEntry.{CacheEntry}
 use Rattle.coins.specs.declared.entry.CacheEntry.TheVariants.{Clean, Dirty, Fresh}
 use Rattle.coins.specs.Coins.{Coin, Coins, same}
 use Rattle.coins.specs.Entries.{Entries, stands, over, entry_at, MarkHolds, IsSound}
-use Rattle.coins.specs.inside.Entries.{Written, AreReadied, Readied, HasRoom, added_entry, is_fresh, merged, merged_at}
+use Rattle.coins.specs.inside.Entries.{Written, AreReadied, Readied, HasRoom, added_entry, is_fresh, merge_entry, merge_entry_at}
 use Rattle.coins.specs.laws.Lookups.{same_coins, same-true, same-sym}
 use Rattle.coins.proofs.Layers.{fresh_none, get-over, stands_at}
 
@@ -94,18 +94,18 @@ pub lay_rest : (ws : Entries) (k : OutPoint) (e : CacheEntry) → IsDistinct sam
 unfolding IsDistinct
 lay_rest ws k e d = d.1
 
-lay_here : (b : Bool) (es ws : Entries) (k q : OutPoint) (e : CacheEntry) → same k q ≡ b → entry_at ws k ≡ None → merged_at (cond b (merged (entry_at es k) e) (entry_at es q)) (entry_at ws q) ≡ merged_at (entry_at es q) (cond b (Some e) (entry_at ws q))
+lay_here : (b : Bool) (es ws : Entries) (k q : OutPoint) (e : CacheEntry) → same k q ≡ b → entry_at ws k ≡ None → merge_entry_at (cond b (merge_entry (entry_at es k) e) (entry_at es q)) (entry_at ws q) ≡ merge_entry_at (entry_at es q) (cond b (Some e) (entry_at ws q))
 lay_here true es ws k q e h n =
-    ap (merged_at (merged (entry_at es k) e)) (ap (entry_at ws) (sym (same-true k q h)) ∙ n)
-    ∙ ap (λ x. merged (entry_at es x) e) (same-true k q h)
+    ap (merge_entry_at (merge_entry (entry_at es k) e)) (ap (entry_at ws) (sym (same-true k q h)) ∙ n)
+    ∙ ap (λ x. merge_entry (entry_at es x) e) (same-true k q h)
 lay_here false es ws k q e h n = refl
 
-pub lay_step : (es fs ws : Entries) (k : OutPoint) (e : CacheEntry) (q : OutPoint) → Written es fs k (merged (entry_at es k) e) → IsDistinct same (keys_of ((k, e) ∷ ws)) → merged_at (entry_at fs q) (entry_at ws q) ≡ merged_at (entry_at es q) (entry_at ((k, e) ∷ ws) q)
+pub lay_step : (es fs ws : Entries) (k : OutPoint) (e : CacheEntry) (q : OutPoint) → Written es fs k (merge_entry (entry_at es k) e) → IsDistinct same (keys_of ((k, e) ∷ ws)) → merge_entry_at (entry_at fs q) (entry_at ws q) ≡ merge_entry_at (entry_at es q) (entry_at ((k, e) ∷ ws) q)
 unfolding IsDistinct
 lay_step es fs ws k e q h d =
-    ap (λ o. merged_at o (entry_at ws q)) (h.at q)
+    ap (λ o. merge_entry_at o (entry_at ws q)) (h.at q)
     ∙ lay_here (same k q) es ws k q e refl (apart k ws d.0)
-    ∙ ap (λ b. merged_at (entry_at es q) (cond b (Some e) (entry_at ws q))) (same-sym k q)
+    ∙ ap (λ b. merge_entry_at (entry_at es q) (cond b (Some e) (entry_at ws q))) (same-sym k q)
 
 -- what all means over the coins
 pad_mark : (o p : Option CacheEntry) (b : Option Coin) → Readied o p → MarkHolds o b → MarkHolds p b
@@ -142,7 +142,7 @@ add_stands (Some Clean) c b = refl
 add_stands (Some (Dirty w)) c b = refl
 add_stands (Some (Fresh d)) c b = refl
 
-merged_stands : (o p : Option CacheEntry) (b : Option Coin) → MarkHolds o b → stands_at (merged_at o p) b ≡ stands_at p (stands_at o b)
+merged_stands : (o p : Option CacheEntry) (b : Option Coin) → MarkHolds o b → stands_at (merge_entry_at o p) b ≡ stands_at p (stands_at o b)
 merged_stands o None b m = refl
 merged_stands o (Some Clean) b m = refl
 merged_stands o (Some (Dirty None)) b m = drop_stands (is_fresh o) o b refl m
@@ -163,7 +163,7 @@ add_mark (Some Clean) d b m n = n
 add_mark (Some (Dirty w)) d b m n = tt
 add_mark (Some (Fresh c)) d b m n = m
 
-merged_mark : (o p : Option CacheEntry) (b : Option Coin) → MarkHolds o b → MarkHolds p (stands_at o b) → MarkHolds (merged_at o p) b
+merged_mark : (o p : Option CacheEntry) (b : Option Coin) → MarkHolds o b → MarkHolds p (stands_at o b) → MarkHolds (merge_entry_at o p) b
 merged_mark o None b m n = m
 merged_mark o (Some Clean) b m n = m
 merged_mark o (Some (Dirty None)) b m n = drop_mark (is_fresh o) b
@@ -172,7 +172,7 @@ merged_mark o (Some (Fresh d)) b m n = add_mark o d b m n
 
 -- the entries fs are those of es with ws laid over them
 pub record Merged (es ws fs : Entries) : Type 0 where
-  pub at : (q : OutPoint) → entry_at fs q ≡ merged_at (entry_at es q) (entry_at ws q)
+  pub at : (q : OutPoint) → entry_at fs q ≡ merge_entry_at (entry_at es q) (entry_at ws q)
 
 pub merged_over : (m : Coins) (es ws fs : Entries) → Merged es ws fs → IsSound m es → over m fs ≡ over (over m es) ws
 merged_over m es ws fs h s = same_coins _ _ (λ q.

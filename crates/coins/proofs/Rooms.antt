@@ -9,29 +9,29 @@ use Rattle.std.specs.FinMap.{get-insert, get-remove}
 use Rattle.txn.specs.declared.outpoint.OutPoint.{OutPoint}
 use Rattle.coins.specs.declared.coin.Coin.{Coin}
 use Rattle.coins.specs.Coins.{Coins, outpoint_cmp, same, put}
-use Rattle.coins.specs.laws.Lookups.{total_order, same_coins, same-true, same-self, same-sym, get-put, found}
-use Rattle.coins.specs.Changes.{Changes, laid}
+use Rattle.coins.specs.laws.Lookups.{total_order, same_coins, same-true, same-self, same-sym, get-put, entry_for}
+use Rattle.coins.specs.Changes.{Changes, after_changes}
 use Rattle.coins.specs.inside.Changes.{Opened, Covered, HasRoomFor, Changed}
 use Rattle.coins.specs.laws.Changing.{get-laid, written_at}
 use Rattle.coins.specs.laws.Lookups.{get-entries}
 use Rattle.std.specs.FinMap.{from_entries}
 
 -- a write at a place that none of the rest has can come first
-apart : (k : OutPoint) (ws : Changes) → AllByRecursion (λ y. same k y ≡ false) (keys_of ws) → found ws k ≡ None
+apart : (k : OutPoint) (ws : Changes) → AllByRecursion (λ y. same k y ≡ false) (keys_of ws) → entry_for ws k ≡ None
 apart k [] a = refl
-apart k (e ∷ ws) a = ap (λ b. cond b (Some e.1) (found ws k)) a.0 ∙ apart k ws a.1
+apart k (e ∷ ws) a = ap (λ b. cond b (Some e.1) (entry_for ws k)) a.0 ∙ apart k ws a.1
 
-swap_here : (b : Bool) (k q : OutPoint) (m : Coins) (w : Option Coin) (ws : Changes) → same q k ≡ b → found ws k ≡ None → written_at (found ws q) (cond b w (map.get m q)) ≡ cond b w (written_at (found ws q) (map.get m q))
-swap_here true k q m w ws h n = ap (λ o. written_at o w) (ap (found ws) (same-true q k h) ∙ n)
+swap_here : (b : Bool) (k q : OutPoint) (m : Coins) (w : Option Coin) (ws : Changes) → same q k ≡ b → entry_for ws k ≡ None → written_at (entry_for ws q) (cond b w (map.get m q)) ≡ cond b w (written_at (entry_for ws q) (map.get m q))
+swap_here true k q m w ws h n = ap (λ o. written_at o w) (ap (entry_for ws) (same-true q k h) ∙ n)
 swap_here false k q m w ws h n = refl
 
-pub laid_first : (m : Coins) (k : OutPoint) (w : Option Coin) (ws : Changes) → IsDistinct same (keys_of ((k, w) ∷ ws)) → laid (put m k w) ws ≡ laid m ((k, w) ∷ ws)
-unfolding IsDistinct laid
+pub laid_first : (m : Coins) (k : OutPoint) (w : Option Coin) (ws : Changes) → IsDistinct same (keys_of ((k, w) ∷ ws)) → after_changes (put m k w) ws ≡ after_changes m ((k, w) ∷ ws)
+unfolding IsDistinct after_changes
 laid_first m k w ws d = same_coins _ _ (λ q.
     get-laid (put m k w) ws q
-    ∙ ap (written_at (found ws q)) (get-put m k w q)
+    ∙ ap (written_at (entry_for ws q)) (get-put m k w q)
     ∙ swap_here (same q k) k q m w ws refl (apart k ws d.0)
-    ∙ sym (get-put (laid m ws) k w q ∙ ap (cond (same q k) w) (get-laid m ws q)))
+    ∙ sym (get-put (after_changes m ws) k w q ∙ ap (cond (same q k) w) (get-laid m ws q)))
 
 pub rest_distinct : (k : OutPoint) (w : Option Coin) (ws : Changes) → IsDistinct same (keys_of ((k, w) ∷ ws)) → IsDistinct same (keys_of ws)
 unfolding IsDistinct
@@ -53,8 +53,8 @@ cover_here : (o : Option (Option Coin)) (a b : Option Coin) → (o ≡ None → 
 cover_here None a b h = h refl
 cover_here (Some w) a b h = refl
 
-pub covered_laid : (m n : Coins) (ws : Changes) → Covered m n ws → laid n ws ≡ laid m ws
-covered_laid m n ws c = same_coins _ _ (λ q. get-laid n ws q ∙ cover_here (found ws q) (map.get n q) (map.get m q) (c.at q) ∙ sym (get-laid m ws q))
+pub covered_laid : (m n : Coins) (ws : Changes) → Covered m n ws → after_changes n ws ≡ after_changes m ws
+covered_laid m n ws c = same_coins _ _ (λ q. get-laid n ws q ∙ cover_here (entry_for ws q) (map.get n q) (map.get m q) (c.at q) ∙ sym (get-laid m ws q))
 
 -- making room
 pub opened_none : (m : Coins) → Opened m m []
@@ -111,7 +111,7 @@ opened_back n m x added o p = same_coins _ _ (λ q. p.at q ∙ sym (o.at q))
 pub changed_put : (es fs : List (OutPoint × Coin)) (k : OutPoint) (w : Option Coin) → Changed es fs k w → from_entries {R = outpoint_cmp} fs ≡ put (from_entries es) k w
 changed_put es fs k w h = same_coins _ _ (λ q.
     get-entries fs q ∙ h.at q
-    ∙ ap (λ b. cond b w (found es q)) (same-sym k q)
+    ∙ ap (λ b. cond b w (entry_for es q)) (same-sym k q)
     ∙ sym (get-put (from_entries es) k w q ∙ ap (cond (same q k) w) (get-entries es q)))
 
 covered_here : (b : Bool) (f : Option (Option Coin)) (a c : Option Coin) → a ≡ cond b None c → (b ≡ true → is_some f ≡ true) → f ≡ None → c ≡ a
@@ -119,8 +119,8 @@ covered_here true f a c e h n = let x : is_some f ≡ true = h refl in let y : i
 covered_here false f a c e h n = sym e
 
 -- the outpoints that have been made ready are among the changes
-pub covered_from : (n m : Coins) (added : List OutPoint) (ws : Changes) → Opened n m added → ((q : OutPoint) → list_any (same q) added ≡ true → is_some (found ws q) ≡ true) → Covered m n ws
-covered_from n m added ws o h = record { at = λ q none. covered_here (list_any (same q) added) (found ws q) (map.get m q) (map.get n q) (o.at q) (h q) none }
+pub covered_from : (n m : Coins) (added : List OutPoint) (ws : Changes) → Opened n m added → ((q : OutPoint) → list_any (same q) added ≡ true → is_some (entry_for ws q) ≡ true) → Covered m n ws
+covered_from n m added ws o h = record { at = λ q none. covered_here (list_any (same q) added) (entry_for ws q) (map.get m q) (map.get n q) (o.at q) (h q) none }
 
 both_here : (a b : Bool) (n : Option Coin) → cond b None (cond a None n) ≡ cond (a || (b || false)) None n
 both_here true true n = refl
@@ -176,13 +176,13 @@ named_on : (b : Bool) (w : Option Coin) (o : Option (Option Coin)) → is_some o
 named_on true w o h = refl
 named_on false w o h = h
 
-pub named_at : (cs : Changes) (i : ℕ) (d : OutPoint × Option Coin) → i < length cs → is_some (found cs (get_or cs i d).0) ≡ true
+pub named_at : (cs : Changes) (i : ℕ) (d : OutPoint × Option Coin) → i < length cs → is_some (entry_for cs (get_or cs i d).0) ≡ true
 named_at [] i d h = absurd (omega arith)
-named_at (c ∷ cs) zero d h = ap (λ b. is_some (cond b (Some c.1) (found cs c.0))) (same-self c.0)
-named_at (c ∷ cs) (suc i) d h = named_on (same (get_or cs i d).0 c.0) c.1 (found cs (get_or cs i d).0) (named_at cs i d (omega arith))
+named_at (c ∷ cs) zero d h = ap (λ b. is_some (cond b (Some c.1) (entry_for cs c.0))) (same-self c.0)
+named_at (c ∷ cs) (suc i) d h = named_on (same (get_or cs i d).0 c.0) c.1 (entry_for cs (get_or cs i d).0) (named_at cs i d (omega arith))
 
-named_tied : (b : Bool) (cs : Changes) (k q : OutPoint) → same q k ≡ b → is_some (found cs k) ≡ true → b ≡ true → is_some (found cs q) ≡ true
-named_tied true cs k q h n t = ap (λ x. is_some (found cs x)) (same-true q k h) ∙ n
+named_tied : (b : Bool) (cs : Changes) (k q : OutPoint) → same q k ≡ b → is_some (entry_for cs k) ≡ true → b ≡ true → is_some (entry_for cs q) ≡ true
+named_tied true cs k q h n t = ap (λ x. is_some (entry_for cs x)) (same-true q k h) ∙ n
 named_tied false cs k q h n t = cc
 
 or_split : (a b : Bool) (P : Type 0) → (a ≡ true → P) → (b ≡ true → P) → (a || (b || false)) ≡ true → P
@@ -190,17 +190,17 @@ or_split true b P f g h = f refl
 or_split false true P f g h = g refl
 or_split false false P f g h = cc
 
-pub named_more : (cs : Changes) (added more : List OutPoint) (k : OutPoint) → (more ≡ added) ⊎ (more ≡ added ++ k ∷ []) → is_some (found cs k) ≡ true
-    → ((q : OutPoint) → list_any (same q) added ≡ true → is_some (found cs q) ≡ true)
-    → (q : OutPoint) → list_any (same q) more ≡ true → is_some (found cs q) ≡ true
+pub named_more : (cs : Changes) (added more : List OutPoint) (k : OutPoint) → (more ≡ added) ⊎ (more ≡ added ++ k ∷ []) → is_some (entry_for cs k) ≡ true
+    → ((q : OutPoint) → list_any (same q) added ≡ true → is_some (entry_for cs q) ≡ true)
+    → (q : OutPoint) → list_any (same q) more ≡ true → is_some (entry_for cs q) ≡ true
 named_more cs added more k e n h q t = elim e [
   | inl f ↦ h q (ap (list_any (same q)) (sym f) ∙ t)
-  | inr f ↦ or_split (list_any (same q) added) (same q k) (is_some (found cs q) ≡ true) (h q) (named_tied (same q k) cs k q refl n)
+  | inr f ↦ or_split (list_any (same q) added) (same q k) (is_some (entry_for cs q) ≡ true) (h q) (named_tied (same q k) cs k q refl n)
       (sym (any_push q k added) ∙ sym (ap (list_any (same q)) f) ∙ t)
 ]
 
-pub laid_nothing : (m : Coins) → laid m [] ≡ m
-unfolding laid
+pub laid_nothing : (m : Coins) → after_changes m [] ≡ m
+unfolding after_changes
 laid_nothing m = refl
 
 pub no_length : {A : Type 0} (xs : List A) → length xs ≡ 0 → xs ≡ []

@@ -11,8 +11,8 @@ abbrev pub Changes : Type 0
 Changes = List (OutPoint × Option Coin)
 
 -- what a list names at an outpoint, if it names that
-abbrev pub named : Changes → OutPoint → Option (Option Coin)
-named cs q = lookup (is_at (outpoint_cmp q)) cs
+abbrev pub change_at : Changes → OutPoint → Option (Option Coin)
+change_at cs q = lookup (is_at (outpoint_cmp q)) cs
 
 -- by rising outpoints, so that none stands twice
 abbrev pub IsInOrder : Changes → Type 0
@@ -22,10 +22,10 @@ IsInOrder cs = IsStrictlySortedBy outpoint_cmp (keys_of cs)
 -- there in n, and no other outpoint
 pub record AreChanges (m n : Coins) (cs : Changes) : Type 0 where
   pub in_order : IsInOrder cs
-  pub differ : (q : OutPoint) (w : Option Coin) → named cs q ≡ Some w → (w ≡ map.get n q) × ¬ (map.get n q ≡ map.get m q)
-  pub others : (q : OutPoint) → named cs q ≡ None → map.get n q ≡ map.get m q
+  pub differ : (q : OutPoint) (w : Option Coin) → change_at cs q ≡ Some w → (w ≡ map.get n q) × ¬ (map.get n q ≡ map.get m q)
+  pub others : (q : OutPoint) → change_at cs q ≡ None → map.get n q ≡ map.get m q
 
 -- the coins with a list of changes laid over them
-unfoldable pub laid : Coins → Changes → Coins
-laid m [] = m
-laid m (c ∷ cs) = put (laid m cs) c.0 c.1
+unfoldable pub after_changes : Coins → Changes → Coins
+after_changes m [] = m
+after_changes m (c ∷ cs) = put (after_changes m cs) c.0 c.1

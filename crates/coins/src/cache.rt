@@ -3,7 +3,7 @@
 ghost use Rattle.std.specs.Prelude.{◌≡◌, IfOk, OnOk, OnErr, None, Some, IsSome};
 ghost use Rattle.std.specs.Option.{option_copied};
 ghost use Rattle.std.specs.FinMap as map;
-ghost use Rattle.coins.specs.Changes.{AreChanges, laid};
+ghost use Rattle.coins.specs.Changes.{AreChanges, after_changes};
 ghost use Rattle.coins.specs.Entries.{over, IsSound};
 
 use crate::base::Base;
@@ -99,7 +99,7 @@ impl<'a, B: Base> Cache<'a, B> {
         ensures differences { IfOk result (λ changes.
             AreChanges self.now.base self.now.coins changes.items) }
         // Laid over the base, they give the coins of this layer.
-        ensures laid { IfOk result (λ changes. laid self.now.base changes.items ≡ self.now.coins) }
+        ensures laid { IfOk result (λ changes. after_changes self.now.base changes.items ≡ self.now.coins) }
     {
         list(alloc, &self.entries, self.base)
     }

@@ -4,7 +4,7 @@ ghost use Rattle.std.specs.Prelude.{◌≡◌, OnOk, OnErr, None, Some, true, is
 ghost use Rattle.std.specs.FinMap as map;
 ghost use Rattle.coins.specs.Coins.{put};
 ghost use Rattle.coins.specs.inside.Changes.{Changed};
-ghost use Rattle.coins.specs.laws.Lookups.{found};
+ghost use Rattle.coins.specs.laws.Lookups.{entry_for};
 
 use crate::base::Base;
 use crate::coin::Coin;
@@ -76,7 +76,7 @@ impl CoinMap {
 }
 
 fn replace(entries: &mut BTreeMap<OutPoint, Coin>, at: OutPoint, coin: Coin)
-    requires { IsSome (found entries.old.entries at) }
+    requires { IsSome (entry_for entries.old.entries at) }
     ensures { Changed entries.old.entries entries.new.entries at (Some coin) }
 {
     let _ = entries.insert(at, coin);

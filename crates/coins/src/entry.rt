@@ -4,7 +4,7 @@ ghost use Rattle.std.specs.Prelude.{◌≡◌, OnOk, OnErr, IsOk, IfNone, None, 
 ghost use Rattle.std.specs.Option.{option_copied};
 ghost use Rattle.txn.specs.declared.outpoint.OutPoint.{OutPoint};
 ghost use Rattle.coins.specs.Entries.{entry_at};
-ghost use Rattle.coins.specs.inside.Entries.{added_entry, is_fresh, own_coin, emptied, Written, AreReadied, HasRoom, merged, merged_at};
+ghost use Rattle.coins.specs.inside.Entries.{added_entry, is_fresh, own_coin, entry_without_coin, Written, AreReadied, HasRoom, merge_entry, merge_entry_at};
 
 use crate::coin::Coin;
 use std::collections::BTreeMap;
@@ -98,7 +98,7 @@ pub(crate) fn take(entries: &mut BTreeMap<OutPoint, CacheEntry>, at: &OutPoint) 
     ensures coin { result ≡ own_coin (entry_at entries.old.entries at.now) }
     ensures taken { IsSome result →
         Written entries.old.entries entries.new.entries at.now
-        (emptied (entry_at entries.old.entries at.now)) }
+        (entry_without_coin (entry_at entries.old.entries at.now)) }
     ensures none { IfNone result (entries.new.entries ≡ entries.old.entries) }
 {
     if !holds_coin(entries.get(at)) {
@@ -130,7 +130,7 @@ pub(crate) fn make_room(
 fn lay_one(entries: &mut BTreeMap<OutPoint, CacheEntry>, at: OutPoint, entry: CacheEntry)
     requires { IsSome (entry_at entries.old.entries at) }
     ensures { Written entries.old.entries entries.new.entries at
-        (merged (entry_at entries.old.entries at) entry) }
+        (merge_entry (entry_at entries.old.entries at) entry) }
 {
     match entry {
         CacheEntry::Clean => {}
@@ -162,7 +162,7 @@ pub(crate) fn lay_all(
 )
     requires { HasRoom entries.old.entries writes.entries }
     ensures { (q : OutPoint) → entry_at entries.new.entries q ≡
-        merged_at (entry_at entries.old.entries q) (entry_at writes.entries q) }
+        merge_entry_at (entry_at entries.old.entries q) (entry_at writes.entries q) }
 {
     for (at, entry) in writes {
         lay_one(entries, at, entry);

@@ -5,13 +5,13 @@ ghost use Rattle.std.specs.FinMap as map;
 ghost use Rattle.txn.specs.declared.outpoint.OutPoint.{OutPoint};
 ghost use Rattle.coins.specs.declared.coin.Coin.{Coin};
 ghost use Rattle.coins.specs.Coins.{Coins};
-ghost use Rattle.coins.specs.Changes.{Changes, AreChanges, laid};
+ghost use Rattle.coins.specs.Changes.{Changes, AreChanges, after_changes};
 ghost use Rattle.coins.specs.Total.{total};
 
 /// The changes from some coins to others, laid over the first, give the others.
 pub fn changes_lead_to_the_coins()
     ensures { (before after : Coins) (changes : Changes) → AreChanges before after changes →
-        laid before changes ≡ after }
+        after_changes before changes ≡ after }
 {}
 
 /// Between two maps of coins there is one list of changes alone.

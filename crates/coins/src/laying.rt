@@ -4,7 +4,7 @@ ghost use Rattle.std.specs.Prelude.{◌≡◌, ◌⊎◌, ◌∷◌, [], ◌++�
 ghost use Rattle.std.specs.FinMap as map;
 ghost use Rattle.txn.specs.declared.outpoint.OutPoint.{OutPoint};
 ghost use Rattle.coins.specs.Coins.{Coins};
-ghost use Rattle.coins.specs.Changes.{IsInOrder, laid};
+ghost use Rattle.coins.specs.Changes.{IsInOrder, after_changes};
 ghost use Rattle.coins.specs.inside.Changes.{Opened, Covered, HasRoomFor};
 
 use crate::coin::Coin;
@@ -21,7 +21,7 @@ impl CoinMap {
         changes: Vec<(OutPoint, Option<Coin>)>,
     ) -> Result<(), Memory>
         requires { IsInOrder changes.items }
-        ensures ok { OnOk result (self.new ≡ laid self.old changes.items) }
+        ensures ok { OnOk result (self.new ≡ after_changes self.old changes.items) }
         ensures err { OnErr result (self.new ≡ self.old) }
     {
         make_room(alloc, self, changes.as_slice())?;
@@ -100,7 +100,7 @@ fn close_all(coins: &mut CoinMap, added: &[OutPoint])
 fn set_all(coins: &mut CoinMap, changes: Vec<(OutPoint, Option<Coin>)>)
     requires in_order { IsInOrder changes.items }
     requires room { HasRoomFor coins.old changes.items }
-    ensures { coins.new ≡ laid coins.old changes.items }
+    ensures { coins.new ≡ after_changes coins.old changes.items }
 {
     for (at, coin) in changes {
         coins.set(at, coin);

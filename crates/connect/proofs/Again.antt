@@ -6,7 +6,7 @@ use Rattle.txn.specs.declared.tx.Tx.{Tx}
 use Rattle.txn.specs.Identity.{id_of, ids_of}
 use Rattle.coins.specs.declared.coin.Coin.{Coin}
 use Rattle.coins.specs.Coins.{Coins}
-use Rattle.undo.specs.Effect.{after, spent, IsApplicable}
+use Rattle.undo.specs.Effect.{after, spent_coins, IsApplicable}
 use Rattle.connect.specs.Turns.{Turn, turn, turns, spent_in, left_by, full_count}
 use Rattle.connect.specs.inside.Applied.{AreApplied, IsBlockApplied}
 use Rattle.connect.specs.laws.Folding.{can_next, turns_none, turns_next, effect_none, effect_next}
@@ -17,7 +17,7 @@ use Rattle.connect.proofs.Back.{id_at, others_back}
 pub record First (h : ℕ) (m : Coins) (x : Tx) (rest : List Tx) (n : Coins) (taken : List (List Coin)) : Type 0 where
   pub can : IsApplicable m x (id_of x)
   pub later : List (List Coin)
-  pub spends : taken ≡ spent m x ∷ later
+  pub spends : taken ≡ spent_coins m x ∷ later
   pub others : AreApplied h (after m x (id_of x) h) rest n later
 
 first_applied : (h : ℕ) (m : Coins) (x : Tx) (rest : List Tx) (n : Coins) (taken : List (List Coin)) → AreApplied h m (x ∷ rest) n taken → First h m x rest n taken
@@ -47,7 +47,7 @@ module _ (h : ℕ) (m : Coins) (txs : List Tx) (ids : List Id) (same : ids ≡ i
   pub can_go : IsApplicable m x (get_or ids i d)
   can_go = subst (λ (z : Id). IsApplicable m x z) (sym (id_at txs ids i x d same below is)) here.can
 
-  pub goes_on : (k : Coins) (new : List (List Coin)) (s : List Coin) → k ≡ after m x (get_or ids i d) h → s ≡ spent m x → new ≡ so_far ++ s ∷ [] → Going h k (drop (i + 1) txs) n taken new
+  pub goes_on : (k : Coins) (new : List (List Coin)) (s : List Coin) → k ≡ after m x (get_or ids i d) h → s ≡ spent_coins m x → new ≡ so_far ++ s ∷ [] → Going h k (drop (i + 1) txs) n taken new
   goes_on k new s e f p =
       let id = id_at txs ids i x d same below is in
       record {
@@ -55,7 +55,7 @@ module _ (h : ℕ) (m : Coins) (txs : List Tx) (ids : List Id) (same : ids ≡ i
         applied = subst (λ (c : Coins). AreApplied h c (drop (i + 1) txs) n here.later) (sym (e ∙ ap (λ (z : Id). after m x z h) id)) here.others;
         sum =
             ap (λ (l : List (List Coin)). l ++ here.later) (p ∙ ap (λ (y : List Coin). so_far ++ y ∷ []) f)
-            ∙ append_assoc so_far (spent m x ∷ []) here.later
+            ∙ append_assoc so_far (spent_coins m x ∷ []) here.later
             ∙ ap (λ (l : List (List Coin)). so_far ++ l) (sym here.spends) ∙ g.sum;
       }
 

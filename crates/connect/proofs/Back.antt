@@ -6,7 +6,7 @@ use Rattle.txn.specs.Check.{is_coinbase, prevs}
 use Rattle.txn.specs.Identity.{id_of, ids_of}
 use Rattle.coins.specs.declared.coin.Coin.{Coin}
 use Rattle.coins.specs.Coins.{Coins}
-use Rattle.undo.specs.Effect.{after, coins_at, spent, IsApplied}
+use Rattle.undo.specs.Effect.{after, coins_at, spent_coins, IsApplied}
 use Rattle.connect.specs.Turns.{Turn, turn, turns, effect, spent_in, left_by, full_count}
 use Rattle.connect.specs.inside.Applied.{AreApplied, IsBlockApplied}
 use Rattle.connect.proofs.Steps.{tail_of}
@@ -45,8 +45,8 @@ others_back h m txs n undo slice b e =
     let coins = after m b.coinbase (id_of b.coinbase) h in
     subst (λ (l : List Tx). AreApplied h coins l n slice) (sym (tail_of txs ∙ ap (drop 1) b.parts)) (subst (λ (l : List (List Coin)). AreApplied h coins b.others n l) (sym e) b.applied)
 
-coinbase_spent : (m : Coins) (x : Tx) → is_coinbase x ≡ true → spent m x ≡ []
-unfolding spent
+coinbase_spent : (m : Coins) (x : Tx) → is_coinbase x ≡ true → spent_coins m x ≡ []
+unfolding spent_coins
 coinbase_spent m x h = ap (λ b. coins_at m (cond b [] (prevs x.inputs))) h
 
 pub first_back : (h : ℕ) (m : Coins) (txs : List Tx) (n : Coins) (undo : List (List Coin)) → (b : IsBlockApplied h m txs n undo) → (ids : List Id) → ids ≡ ids_of txs

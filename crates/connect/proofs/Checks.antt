@@ -8,7 +8,7 @@ use Rattle.coins.specs.declared.coin.Coin.{Coin}
 use Rattle.interp.specs.declared.flags.Flags.{Flags}
 use Rattle.curve.specs.Triple.{Triples}
 use Rattle.interp.specs.declared.job.Job.{Job}
-use Rattle.queue.specs.Jobs.{question, asked, IsAccepted, AcceptsAt, FailsAt}
+use Rattle.queue.specs.Jobs.{question, question_of, IsAccepted, AcceptsAt, FailsAt}
 use Rattle.connect.specs.Scripts.{Check, input_checks, IsFirstRefused}
 use Rattle.connect.specs.inside.Listing.{checks_from}
 
@@ -27,18 +27,18 @@ enumerate_push n (y ∷ xs) x = ap (λ l. (n, y) ∷ l) (enumerate_push (n + 1) 
 some_is : {A : Type 0} (x y : A) → ◌≡◌ {A = Option A} (Some x) (Some y) → x ≡ y
 some_is x y h = cc
 
-pub none_refused : (triples : Triples) (places : List ℕ) (jobs : List Job) → ((k : ℕ) → AcceptsAt triples jobs k) → IsFirstRefused triples (zip places (map asked jobs)) None
+pub none_refused : (triples : Triples) (places : List ℕ) (jobs : List Job) → ((k : ℕ) → AcceptsAt triples jobs k) → IsFirstRefused triples (zip places (map question_of jobs)) None
 none_refused triples [] jobs h = refl
 none_refused triples (p ∷ places) [] h = refl
 none_refused triples (p ∷ places) (job ∷ jobs) h = inr (h 0 job refl, none_refused triples places jobs (λ k other e. h (suc k) other e))
 
 pub first_refused_is : (triples : Triples) (places : List ℕ) (jobs : List Job) (least t : ℕ) (job : Job) → length places ≡ length jobs → least < length places
     → t ≡ get_or places least t → job ≡ get_or jobs least job → FailsAt triples jobs least → ((k : ℕ) → k < least → AcceptsAt triples jobs k)
-    → IsFirstRefused triples (zip places (map asked jobs)) (Some (ScriptRefused t job.input))
+    → IsFirstRefused triples (zip places (map question_of jobs)) (Some (ScriptRefused t job.input))
 first_refused_is triples [] jobs least t job alike h et ej fails others = absurd (omega arith)
 first_refused_is triples (p ∷ places) [] least t job alike h et ej fails others = absurd (omega arith)
 first_refused_is triples (p ∷ places) (j ∷ jobs) zero t job alike h et ej fails others =
-    inl (subst (λ (x : Job). ¬ IsAccepted (asked x) triples) (sym (some_is j fails.0 fails.1)) fails.2, ap₂ (λ x (y : Job). Some (ScriptRefused x y.input)) et ej)
+    inl (subst (λ (x : Job). ¬ IsAccepted (question_of x) triples) (sym (some_is j fails.0 fails.1)) fails.2, ap₂ (λ x (y : Job). Some (ScriptRefused x y.input)) et ej)
 first_refused_is triples (p ∷ places) (j ∷ jobs) (suc least) t job alike h et ej fails others =
     inr (others 0 (omega arith) j refl, first_refused_is triples places jobs least t job (omega arith) (omega arith) et ej fails (λ k lt other e. others (suc k) (omega arith) other e))
 
@@ -56,9 +56,9 @@ input_push flags place tx coins x =
     ∙ map-append check (enumerate_from 0 coins) ((0 + length coins, x) ∷ [])
     ∙ ap (λ n. map check (enumerate_from 0 coins) ++ check (n, x) ∷ []) (omega arith)
 
-pub checks_push : (places : List ℕ) (jobs : List Job) (place : ℕ) (job : Job) → length places ≡ length jobs → zip (places ++ place ∷ []) (map asked (jobs ++ job ∷ [])) ≡ zip places (map asked jobs) ++ (place, asked job) ∷ []
+pub checks_push : (places : List ℕ) (jobs : List Job) (place : ℕ) (job : Job) → length places ≡ length jobs → zip (places ++ place ∷ []) (map question_of (jobs ++ job ∷ [])) ≡ zip places (map question_of jobs) ++ (place, question_of job) ∷ []
 checks_push places jobs place job even =
-    ap (zip (places ++ place ∷ [])) (map-append asked jobs (job ∷ [])) ∙ zip_push places (map asked jobs) place (asked job) (even ∙ sym (length-map jobs asked))
+    ap (zip (places ++ place ∷ [])) (map-append question_of jobs (job ∷ [])) ∙ zip_push places (map question_of jobs) place (question_of job) (even ∙ sym (length-map jobs question_of))
 
 pub listed_next : (flags : Flags) (place : ℕ) (tx : Tx) (txs : List Tx) (coins : List Coin) (undo : List (List Coin)) → checks_from flags place (tx ∷ txs) (coins ∷ undo) ≡ input_checks flags place tx coins ++ checks_from flags (place + 1) txs undo
 unfolding checks_from

@@ -10,7 +10,7 @@ use Rattle.locks.specs.Relative.{are_met}
 use Rattle.coins.specs.declared.coin.Coin.{Coin}
 use Rattle.coins.specs.Coins.{Coins}
 use Rattle.coins.specs.Total.{sum_of_values}
-use Rattle.undo.specs.Effect.{spends, coins_at, spent}
+use Rattle.undo.specs.Effect.{spends, coins_at, spent_coins}
 use Rattle.rules.specs.Alone.{max_block_sigops, tx_sigops}
 use Rattle.connect.specs.Setting.{Setting}
 use Rattle.connect.specs.Turns.{Turn, turn, inner_sigops, spent_in, plain_count}
@@ -35,7 +35,7 @@ list_any-map p h (y ∷ ys) = ap (λ b. p (h y) || b) (list_any-map p h ys)
 -- ---- what the tests say, one after the other
 
 pub lent_coins : {V : Type 0} (f : V → List (Bor Coin)) (tx : Tx) (m : Coins) (n : ℕ) (o : Option V) (v : V) (w : List (Bor Coin)) → o ≡ Some v → IfSome o (λ coins. coins_of (f coins) ≡ coins_at m (spends tx)) → w ≡ f v → coins_of w ≡ spent_in (turn tx m n)
-unfolding spent
+unfolding spent_coins
 lent_coins f tx m n o v w e h same = ap (λ l. coins_of l) same ∙ subst (λ x. IfSome x (λ coins. coins_of (f coins) ≡ coins_at m (spends tx))) e h
 
 module _ (s : Setting) (tx : Tx) (m : Coins) (n : ℕ) (few : n ≤ max_block_sigops) where

@@ -17,7 +17,7 @@ use Rattle.txn.specs.Check.{is_coinbase, prevs}
 use Rattle.interp.specs.declared.flags.Flags.{Flags}
 use Rattle.coins.specs.declared.coin.Coin.{Coin}
 use Rattle.coins.specs.Coins.{Coins}
-use Rattle.undo.specs.Effect.{spends, coins_at, spent}
+use Rattle.undo.specs.Effect.{spends, coins_at, spent_coins}
 use Rattle.connect.specs.Setting.{Setting}
 use Rattle.connect.specs.Turns.{Turn, turn, turns, spent_in, undo_of, left_by, full_count}
 use Rattle.connect.specs.Faults.{connect_rules}
@@ -45,7 +45,7 @@ abbrev pub Fits : Tx → List Coin → Type 0
 Fits tx coins = length coins ≤ length tx.inputs
 
 fits : (m : Coins) (tx : Tx) (n : ℕ) → length (spent_in (turn tx m n)) ≤ length tx.inputs
-unfolding spent
+unfolding spent_coins
 fits m tx n = omega (arith, coins_at_most m (spends tx), spends_at_most (is_coinbase tx) tx.inputs)
 
 pub all_fit : (h : ℕ) (m : Coins) (n : ℕ) (txs : List Tx) → AllZip Fits txs (map spent_in (turns h m n txs))
@@ -86,7 +86,7 @@ listed_turns flags place h m n (tx ∷ txs) =
     ∙ sym (ap (λ (l : List Turn). flat_map (checks_of flags) (enumerate_from place l)) (turns_next h m n tx txs))
 
 coinbase_spends : (m : Coins) (tx : Tx) (n : ℕ) → is_coinbase tx ≡ true → spent_in (turn tx m n) ≡ []
-unfolding spent
+unfolding spent_coins
 coinbase_spends m tx n h = ap (λ b. coins_at m (cond b [] (prevs tx.inputs))) h
 
 pub listed_is : (s : Setting) (m : Coins) (x : Tx) (rest : List Tx) → is_coinbase x ≡ true → checks_from (flags_of s.rules) 1 rest (undo_of s.height m (x ∷ rest)) ≡ script_checks s m (x ∷ rest)

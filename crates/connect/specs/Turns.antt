@@ -6,7 +6,7 @@ use Rattle.txn.specs.Identity.{id_of}
 use Rattle.script.specs.Signatures.{p2sh_sigops}
 use Rattle.coins.specs.declared.coin.Coin.{Coin}
 use Rattle.coins.specs.Coins.{Coins}
-use Rattle.undo.specs.Effect.{after, spent}
+use Rattle.undo.specs.Effect.{after, spent_coins}
 use Rattle.rules.specs.Alone.{tx_sigops}
 
 -- BIP 16: the signature operations of the inner scripts, by the coins that a transaction spends, so none of a coinbase
@@ -22,7 +22,7 @@ pub record Turn : Type 0 where
 
 -- the coins that it spends, in the order of its inputs
 abbrev pub spent_in : Turn → List Coin
-spent_in turn = spent turn.coins turn.tx
+spent_in turn = spent_coins turn.coins turn.tx
 
 -- the signature operations of its scripts and of those before it, without and with those of inner scripts
 abbrev pub plain_count : Turn → ℕ

@@ -12,5 +12,5 @@ abbrev pub same_id : Id → Id → Bool
 same_id a b = pointwise ◌==◌ a.0 b.0
 
 -- as it is printed: the reversed bytes in lower-case hexadecimal
-abbrev pub shown : Id → List ℕ
-shown id = encode_lower (reverse id.0)
+abbrev pub hex_of_id : Id → List ℕ
+hex_of_id id = encode_lower (reverse id.0)

@@ -12,11 +12,11 @@ use std::fmt;
 pub struct Id(pub [u8; 32]);
 
 impl Id {
-    ghost use Rattle.hash.specs.Id.{shown, IsWhole};
+    ghost use Rattle.hash.specs.Id.{hex_of_id, IsWhole};
 
     /// The id as it is printed: lower-case hexadecimal digits, the last byte's first.
     pub fn show(&self) -> [u8; 64]
-        ensures { result ≡ shown self.now }
+        ensures { result ≡ hex_of_id self.now }
     {
         let mut bytes = self.0;
         bytes.reverse();
@@ -32,7 +32,7 @@ impl Id {
         // All else than 64 digits is refused.
         ensures reads { IsSome result ↔ ((length text.now ≡ 64) × AllPass is_hex_digit text.now) }
         // What was shown is read again.
-        ensures shown { (id : Id) → IsWhole id → text.now ≡ shown id → result ≡ Some id }
+        ensures shown { (id : Id) → IsWhole id → text.now ≡ hex_of_id id → result ≡ Some id }
     {
         let mut bytes = <[u8; 32] as FromHex>::from_hex(text).ok()?;
         bytes.reverse();

@@ -7,7 +7,7 @@ use Rattle.sha2.specs.Sha256.{sha256}
 use Rattle.ripemd.specs.Ripemd160.{ripemd160}
 use Rattle.hash.specs.Double.{double_sha}
 use Rattle.hash.specs.KeyHash.{hash160}
-use Rattle.script.specs.Num.{spelled}
+use Rattle.script.specs.Num.{shortest_bytes}
 use Rattle.script.specs.Op.{pushed_of}
 use Rattle.interp.specs.Limits.{max_element_size}
 use Rattle.interp.specs.Stack.{Bytes}
@@ -104,7 +104,7 @@ if_dup = One (λ x. Some (if truth x then x ∷ x ∷ [] else x ∷ []))
 
 -- `a -> a length(a)`
 abbrev pub size : Effect
-size = One (λ x. Some (x ∷ spelled (pos (length x)) ∷ []))
+size = One (λ x. Some (x ∷ shortest_bytes (pos (length x)) ∷ []))
 
 -- by the opcode's number; the elements that a row moves are named from the lowest
 abbrev pub rows : List (ℕ × Row)

@@ -3,7 +3,7 @@ use Rattle.std.specs.Prelude.{◌≡◌, ◌⊎◌, ℕ, ◌+◌, ◌<◌, ◌�
 use Rattle.std.specs.List.{concat}
 use Rattle.script.specs.Ops.{ops, rest}
 use Rattle.script.specs.Kinds.{is_push_only, is_p2sh, max_script_size}
-use Rattle.script.specs.Num.{num_value, spelled}
+use Rattle.script.specs.Num.{num_value, shortest_bytes}
 use Rattle.txn.specs.declared.tx.Tx.{Tx}
 use Rattle.txn.specs.declared.input.TxIn.{TxIn}
 use Rattle.curve.specs.Triple.{Triples}
@@ -31,17 +31,17 @@ MapsTwo f old new =
 
 abbrev pub MapsNumber : (ℤ → ℤ) → Stack → Stack → Type 0
 MapsNumber f old new =
-    (a : Bytes) × (rest : Stack) × (x : ℤ) × (old ≡ a ∷ rest) × IsNumber max_number_size a x × (new ≡ spelled (f x) ∷ rest)
+    (a : Bytes) × (rest : Stack) × (x : ℤ) × (old ≡ a ∷ rest) × IsNumber max_number_size a x × (new ≡ shortest_bytes (f x) ∷ rest)
 
 abbrev pub JoinsNumbers : (ℤ → ℤ → ℤ) → Stack → Stack → Type 0
 JoinsNumbers f old new =
     (a b : Bytes) × (rest : Stack) × (x y : ℤ) × (old ≡ b ∷ a ∷ rest) × IsNumber max_number_size a x × IsNumber max_number_size b y
-    × (new ≡ spelled (f x y) ∷ rest)
+    × (new ≡ shortest_bytes (f x y) ∷ rest)
 
 abbrev pub JoinsThree : (ℤ → ℤ → ℤ → ℤ) → Stack → Stack → Type 0
 JoinsThree f old new =
     (a b c : Bytes) × (rest : Stack) × (x y z : ℤ) × (old ≡ c ∷ b ∷ a ∷ rest) × IsNumber max_number_size a x × IsNumber max_number_size b y × IsNumber max_number_size c z
-    × (new ≡ spelled (f x y z) ∷ rest)
+    × (new ≡ shortest_bytes (f x y z) ∷ rest)
 
 -- the number on top is that of a place among the others, from 0 below it
 abbrev pub Placing : (Stack → ℕ → Stack) → Stack → Stack → Type 0
@@ -56,7 +56,7 @@ Affects (Two f) old new = MapsTwo f old new
 Affects (OneNumber f) old new = MapsNumber f old new
 Affects (TwoNumbers f) old new = JoinsNumbers f old new
 Affects (ThreeNumbers f) old new = JoinsThree f old new
-Affects Depth old new = new ≡ spelled (pos (length old)) ∷ old
+Affects Depth old new = new ≡ shortest_bytes (pos (length old)) ∷ old
 Affects Picks old new = Placing (λ rest n. nth rest n ∷ rest) old new
 Affects Rolls old new = Placing (λ rest n. nth rest n ∷ remove rest n) old new
 

@@ -1,7 +1,7 @@
 //! The elements of the stacks.
 
 ghost use Rattle.std.specs.Prelude.{◌≡◌, ℕ, List, min, IfOk};
-ghost use Rattle.script.specs.Num.{spelled};
+ghost use Rattle.script.specs.Num.{shortest_bytes};
 ghost use Rattle.interp.specs.Elements.{truth, truth_bytes};
 ghost use Rattle.interp.specs.computed.Elements.{natural_of};
 
@@ -39,7 +39,7 @@ impl Element {
 
     /// The shortest spelling of a number.
     pub fn from_number(alloc: Global, z: i64) -> Result<Element, Memory>
-        ensures { IfOk result (λ e. e ≡ spelled z) }
+        ensures { IfOk result (λ e. e ≡ shortest_bytes z) }
     {
         Ok(Element {
             bytes: Num(z).spell(alloc)?,

@@ -1,7 +1,7 @@
 //! Opcodes that compute with numbers.
 
 ghost use Rattle.std.specs.Prelude.{◌≡◌, ◌^◌, ◌∷◌, pos, negsuc, ◌<ℤ◌, IfOk, OnOk, MatchOption, IfSome, Some, None};
-ghost use Rattle.script.specs.Num.{operand, spelled};
+ghost use Rattle.script.specs.Num.{operand, shortest_bytes};
 ghost use Rattle.interp.specs.computed.Stack.{Gives};
 ghost use Rattle.interp.specs.computed.Step.{top_number, on_number, on_two_numbers, on_three_numbers};
 ghost use Rattle.interp.specs.computed.Groups.{unary_of, binary_of, within_of};
@@ -70,7 +70,7 @@ fn pop_number(stack: &mut Pile<Element>) -> Option<i64>
 
 /// Pushes the shortest spelling of a number.
 pub fn push_number(alloc: Global, stack: &mut Pile<Element>, z: i64) -> Result<(), Memory>
-    ensures { OnOk result (stack.new ≡ spelled z ∷ stack.old) }
+    ensures { OnOk result (stack.new ≡ shortest_bytes z ∷ stack.old) }
 {
     stack.push(Element::from_number(alloc, z)?)
 }

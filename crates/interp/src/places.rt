@@ -1,7 +1,7 @@
 //! Opcodes that reach into the stack by a number.
 
 ghost use Rattle.std.specs.Prelude.{◌≡◌, ◌<◌, ◌∷◌, length, remove, IfOk, IfSome, MatchOption, pos, None, Some};
-ghost use Rattle.script.specs.Num.{spelled};
+ghost use Rattle.script.specs.Num.{shortest_bytes};
 ghost use Rattle.interp.specs.computed.Stack.{Gives};
 ghost use Rattle.interp.specs.computed.Step.{after_pick, after_roll, top_place};
 
@@ -15,7 +15,7 @@ use wire::Memory;
 #[inline(never)]
 pub fn push_depth(alloc: Global, stack: &mut Pile<Element>) -> Result<bool, Memory>
     ensures { IfOk result (λ there. Gives there
-        (Some (spelled (pos (length stack.old)) ∷ stack.old)) stack.new) }
+        (Some (shortest_bytes (pos (length stack.old)) ∷ stack.old)) stack.new) }
 {
     push_number(alloc, stack, stack.depth())?;
     Ok(true)

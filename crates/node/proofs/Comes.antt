@@ -4,9 +4,9 @@ use Rattle.std.specs.Option.{unwrap_or}
 use Rattle.hash.specs.declared.id.Id.{Id}
 use Rattle.txn.specs.declared.reason.Reason.{Reason}
 use Rattle.block.specs.declared.block.Block.{Block}
-use Rattle.block.specs.Decoding.{decoded}
+use Rattle.block.specs.Decoding.{block_of_bytes}
 use Rattle.tree.specs.Branches.{has, place_of}
-use Rattle.tree.specs.State.{State, usable, with_block, called}
+use Rattle.tree.specs.State.{State, has_no_mark, with_block, with_call}
 use Rattle.chain.specs.declared.command.Command.{Command}
 use Rattle.chain.specs.declared.command.Command.TheVariants as command
 use Rattle.chain.specs.declared.reply.Reply.{Reply}
@@ -53,7 +53,7 @@ module _ (r : Rules Block Id) (s : State Block) where
   of_known : (p : ℕ) → IsJudgement (answer_known r s p)
   unfolding answer_known
   of_known p =
-      by_test IsJudgement (not (usable s p)) DuplicateInvalid _ tt
+      by_test IsJudgement (not (has_no_mark s p)) DuplicateInvalid _ tt
       (by_test IsJudgement (has s.seen p) Duplicate DuplicateInconclusive tt tt)
 
   of_added : (p : ℕ) → IsJudgement (answer_added r s p)
@@ -93,7 +93,7 @@ module _ (r : Rules Block Id) (s : State Block) where
   of_preferred : (o : Option ℕ) → IsMarking (outcome_of_precious r s o).1
   unfolding outcome_of_precious
   of_preferred None = tt
-  of_preferred (Some p) = by_outcome IsMarking _ (mark_says s Done) (mark_says (settle r (called s p)) Done) tt tt
+  of_preferred (Some p) = by_outcome IsMarking _ (mark_says s Done) (mark_says (settle r (with_call s p)) Done) tt tt
 
 -- what a command comes to
 abbrev pub Comes : Rules Block Id → State Block → Command → Outcome Block → Type 0
@@ -117,16 +117,16 @@ module _ (r : Rules Block Id) (s : State Block) where
   marking-steps c (reply.Submit value) k h = absurd h
   marking-steps c (reply.Mark value) k h = (refl, k value)
 
-  of_decoded : (bytes : List ℕ) (now : ℕ) (o : Option Block) → decoded bytes ≡ o
+  of_decoded : (bytes : List ℕ) (now : ℕ) (o : Option Block) → block_of_bytes bytes ≡ o
       → (let x = unwrap_or (submit_step r s now o) (submit_says s DecodeFailed) in
-      ((submit_step r s now o ≡ Some x) × (is_step x.1 ≡ true) × IsReplyTo (command.Submit bytes now) x.1) ⊎ ((x ≡ submit_says s DecodeFailed) × (decoded bytes ≡ None)))
+      ((submit_step r s now o ≡ Some x) × (is_step x.1 ≡ true) × IsReplyTo (command.Submit bytes now) x.1) ⊎ ((x ≡ submit_says s DecodeFailed) × (block_of_bytes bytes ≡ None)))
   unfolding submit_step
   of_decoded bytes now None e = inr (refl, e)
   of_decoded bytes now (Some b) e = let w = submission-steps bytes now (step r s (Submit now b)).1 (of_submit r s now b) in inl (refl, w.0, w.1)
 
   pub comes : (c : Command) → Comes r s c (outcome r s c)
   unfolding command_step step
-  comes (command.Submit bytes now) = of_decoded bytes now (decoded bytes) refl
+  comes (command.Submit bytes now) = of_decoded bytes now (block_of_bytes bytes) refl
   comes (command.Invalidate id) = let w = marking-steps (command.Invalidate id) (step r s (Invalidate id)).1 (λ v. tt) (of_invalidated r s (place_of r.names s.blocks id)) in inl (refl, w.0, w.1)
   comes (command.Reconsider id) = let w = marking-steps (command.Reconsider id) (step r s (Reconsider id)).1 (λ v. tt) (of_reconsidered r s (place_of r.names s.blocks id)) in inl (refl, w.0, w.1)
   comes (command.Precious id) = let w = marking-steps (command.Precious id) (step r s (Precious id)).1 (λ v. tt) (of_preferred r s (place_of r.names s.blocks id)) in inl (refl, w.0, w.1)

@@ -5,9 +5,9 @@ use Rattle.std.specs.Option.{unwrap_or}
 use Rattle.hash.specs.declared.id.Id.{Id}
 use Rattle.txn.specs.declared.reason.Reason.{Reason}
 use Rattle.block.specs.declared.block.Block.{Block}
-use Rattle.block.specs.Decoding.{decoded}
+use Rattle.block.specs.Decoding.{block_of_bytes}
 use Rattle.tree.specs.Branches.{height, place_of}
-use Rattle.tree.specs.State.{State, cleared, called}
+use Rattle.tree.specs.State.{State, without_marks, with_call}
 use Rattle.tree.specs.Limits.{max_blocks}
 use Rattle.tree.specs.laws.Parents.{height-place}
 use Rattle.chain.specs.declared.command.Command.{Command}
@@ -49,7 +49,7 @@ module _ (r : Rules Block Id) (s : State Block) (few : AreFew s) where
   few-invalidated (Some (suc p)) = few
 
   few-reconsidered : (o : Option ℕ) → AreFew (outcome_of_reconsider r s o).0
-  unfolding outcome_of_reconsider cleared settle
+  unfolding outcome_of_reconsider without_marks settle
   few-reconsidered None = few
   few-reconsidered (Some p) = few
 
@@ -57,7 +57,7 @@ module _ (r : Rules Block Id) (s : State Block) (few : AreFew s) where
   unfolding outcome_of_precious settle
   few-preferred None = few
   few-preferred (Some p) =
-      elim (ltb (height s.blocks p) (height s.blocks (active r s))) as (λ (v : Bool). AreFew (cond v (mark_says s Done) (mark_says (settle r (called s p)) Done)).0) [
+      elim (ltb (height s.blocks p) (height s.blocks (active r s))) as (λ (v : Bool). AreFew (cond v (mark_says s Done) (mark_says (settle r (with_call s p)) Done)).0) [
         | true ↦ few
         | false ↦ few
       ]
@@ -69,7 +69,7 @@ module _ (r : Rules Block Id) (s : State Block) (few : AreFew s) where
 
   pub few-outcome : (c : Command) → AreFew (outcome r s c).0
   unfolding command_step step
-  few-outcome (command.Submit bytes now) = few-decoded now (decoded bytes)
+  few-outcome (command.Submit bytes now) = few-decoded now (block_of_bytes bytes)
   few-outcome (command.Invalidate id) = few-invalidated (place_of r.names s.blocks id)
   few-outcome (command.Reconsider id) = few-reconsidered (place_of r.names s.blocks id)
   few-outcome (command.Precious id) = few-preferred (place_of r.names s.blocks id)

@@ -1,6 +1,6 @@
 -- What the calls of a seat answer.
 use Rattle.std.specs.Prelude.{◌≡◌, ℕ, true, List, ◌∷◌, [], ◌++◌, None}
-use Rattle.block.specs.Decoding.{decoded}
+use Rattle.block.specs.Decoding.{block_of_bytes}
 use Rattle.chain.specs.declared.command.Command.{Command}
 use Rattle.chain.specs.declared.command.Command.TheVariants as command
 use Rattle.chain.specs.declared.reply.Reply.TheVariants as reply
@@ -13,7 +13,7 @@ use Rattle.node.specs.Pass.{Pass, IsWrite, IsNoStep}
 
 -- the reply of a step stands in the history; bytes that are no block stand nowhere
 abbrev pub IsSubmitAnswer : Pass → Pass → List ℕ → ℕ → ℕ → SubmitReply → Type 0
-IsSubmitAnswer p q bytes now at DecodeFailed = (decoded bytes ≡ None) × IsNoStep p q at
+IsSubmitAnswer p q bytes now at DecodeFailed = (block_of_bytes bytes ≡ None) × IsNoStep p q at
 IsSubmitAnswer p q bytes now at value = IsWrite p q (command.Submit bytes now) at (reply.Submit value)
 
 -- the pass stays; of a node of one seat it is that of a finished node

@@ -4,7 +4,7 @@ use Rattle.txn.specs.declared.outpoint.OutPoint.{OutPoint}
 use Rattle.curve.specs.Triple.{Triples}
 use Rattle.coins.specs.declared.coin.Coin.{Coin}
 use Rattle.tree.specs.declared.tip.Tip.{Tip}
-use Rattle.tree.specs.Tips.{shown}
+use Rattle.tree.specs.Tips.{tip_of_id}
 use Rattle.rules.specs.declared.params.Params.{Params}
 use Rattle.chain.specs.Machine.{Machine}
 use Rattle.chain.specs.Chainstate.{chainstate}
@@ -40,4 +40,4 @@ output_at o at s = option_map unspent_output ((machine o).coin s at)
 
 -- the tips, as a seat tells them
 abbrev pub shown_tips : (o : Origin) → (machine o).State → List Tip
-shown_tips o s = map shown ((machine o).tips s)
+shown_tips o s = map tip_of_id ((machine o).tips s)

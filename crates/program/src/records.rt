@@ -2,7 +2,7 @@
 
 ghost use Rattle.std.specs.Prelude.{◌≡◌, ◌++◌, IfOk, OnOk};
 ghost use Rattle.std.specs.List.{flat_map};
-ghost use Rattle.block.specs.Blk.{spelled};
+ghost use Rattle.block.specs.Blk.{record_bytes};
 ghost use Rattle.program.specs.inside.Saved.{record_of};
 
 use crate::fault::Fault;
@@ -49,7 +49,7 @@ fn put_submission(out: &mut Vec<u8>, entry: &Entry) -> Result<(), RecordFault>
 }
 
 fn put_record(out: &mut Vec<u8>, block: &[u8]) -> Result<(), RecordFault>
-    ensures { OnOk result (out.new.items ≡ out.old.items ++ spelled block.now) }
+    ensures { OnOk result (out.new.items ≡ out.old.items ++ record_bytes block.now) }
 {
     if block.len() as u64 > wire::LIMIT {
         return Err(RecordFault::TooLong);

@@ -16,8 +16,8 @@ pub record Question : Type 0 where
 abbrev pub question : Tx → ℕ → List ℕ → Flags → Question
 question tx input spent flags = record { tx = tx; input = input; spent = spent; flags = flags }
 
-abbrev pub asked : Job → Question
-asked job = question job.tx.now job.input job.spent.now job.flags
+abbrev pub question_of : Job → Question
+question_of job = question job.tx.now job.input job.spent.now job.flags
 
 -- the job's input is one of its transaction's
 abbrev pub HasInput : Job → Type 0
@@ -40,11 +40,11 @@ pub record Answered : Type 0 where
 
 -- the job at this place, if there is one, is accepted
 abbrev pub AcceptsAt : Triples → List Job → ℕ → Type 0
-AcceptsAt triples jobs place = (job : Job) → slice_get jobs place ≡ Some job → IsAccepted (asked job) triples
+AcceptsAt triples jobs place = (job : Job) → slice_get jobs place ≡ Some job → IsAccepted (question_of job) triples
 
 -- there is a job at this place, and it isn't accepted
 abbrev pub FailsAt : Triples → List Job → ℕ → Type 0
-FailsAt triples jobs place = (job : Job) × (slice_get jobs place ≡ Some job) × ¬ IsAccepted (asked job) triples
+FailsAt triples jobs place = (job : Job) × (slice_get jobs place ≡ Some job) × ¬ IsAccepted (question_of job) triples
 
 -- none where every job is accepted, and else the least place whose job isn't
 abbrev pub IsFirstFailure : Triples → List Job → Option ℕ → Type 0

@@ -1,7 +1,7 @@
 //! Answers that are got before they are asked for.
 
 ghost use Rattle.std.specs.Prelude.{◌≡◌, ℕ, Bool, ◌<◌, ◌≤◌, ◌^◌, IfOk, IfSome, MatchBool, All, Some, length, map, slice_get, vec_len};
-ghost use Rattle.queue.specs.Jobs.{HasInput, asked};
+ghost use Rattle.queue.specs.Jobs.{HasInput, question_of};
 
 use crate::gate::Gate;
 use crate::index::Index;
@@ -27,7 +27,7 @@ pub fn check_early<'t, R: Threads + Sync, G: Gate + Sync>(
     requires workers { (1 ≤ workers) × (workers ≤ 16) }
     requires inputs { All HasInput jobs.now }
     ensures each { IfOk result (λ verdicts. map (λ v. v.asked) verdicts.items ≡
-        map asked jobs.now) }
+        map question_of jobs.now) }
     ensures table { IfOk result (λ verdicts. All (λ v. v.triples ≡
         table.entry.now) verdicts.items) }
 {

@@ -2,7 +2,7 @@
 
 ghost use Rattle.std.specs.Prelude.{◌≡◌, IfOk, IfSome, All};
 ghost use Rattle.std.proofs.Props.{props};
-ghost use Rattle.queue.specs.Jobs.{IsAnswer, asked};
+ghost use Rattle.queue.specs.Jobs.{IsAnswer, question_of};
 
 use crate::verdict::{Verdict, spent_outpoint};
 use curve::Table;
@@ -41,7 +41,7 @@ impl<'a> Index<'a> {
 
     /// The answer of a verdict that fits the job, if there is one.
     pub fn answer(&self, job: &Job) -> Option<bool>
-        ensures { IfSome result (λ yes. IsAnswer (asked job.now) self.now.table.now yes) }
+        ensures { IfSome result (λ yes. IsAnswer (question_of job.now) self.now.table.now yes) }
     {
         let outpoint = spent_outpoint(job.tx, job.input)?;
         let first = self.places.partition_point(|place| place.0 < outpoint);

@@ -44,7 +44,7 @@ impl<'t> Model for Verdict<'t> {
 }
 
 impl<'t> Verdict<'t> {
-    ghost use Rattle.queue.specs.Jobs.{IsAnswer, asked};
+    ghost use Rattle.queue.specs.Jobs.{IsAnswer, question_of};
 
     /// The verdict of an answer.
     pub(crate) fn of(
@@ -53,9 +53,9 @@ impl<'t> Verdict<'t> {
         table: &'t Table,
         answer: bool,
     ) -> Result<Verdict<'t>, Memory>
-        requires { IsAnswer (asked job.now) table.now answer }
+        requires { IsAnswer (question_of job.now) table.now answer }
         ensures { IfOk result (λ v. v ≡ record {
-          asked = asked job.now;
+          asked = question_of job.now;
           triples = table.entry.now;
           answer = answer;
         }) }
@@ -73,7 +73,7 @@ impl<'t> Verdict<'t> {
 
     /// Whether it is of an equal job: the same transaction, input, spent script and flags. It takes no memory.
     pub fn fits(&self, job: &Job) -> bool
-        ensures { IsTrue result ↔ (self.now.asked ≡ asked job.now) }
+        ensures { IsTrue result ↔ (self.now.asked ≡ question_of job.now) }
     {
         self.input == job.input
             && self.flags == job.flags

@@ -21,7 +21,7 @@ use Rattle.tree.specs.laws.Parents.{parent-below, before-parent, branch-parent}
 use Rattle.reference.specs.declared.branch_replay.Trial.{Trial}
 use Rattle.reference.specs.declared.branch_replay.Trial.TheVariants.{Valid, Fails, Below}
 use Rattle.chain.specs.Rules.{Rules}
-use Rattle.chain.specs.Valid.{fault_over, fault, connects, valid, first_to_fail}
+use Rattle.chain.specs.Valid.{fault_over, fault, connects, branch_connects, first_to_fail}
 use Rattle.chain.specs.Replay.{replay}
 use Rattle.chain.specs.Regtest.{medians_of, setting_on, ledger, regtest}
 use Rattle.chain.specs.laws.Medians.{length-medians}
@@ -165,18 +165,18 @@ module _ (params : Params) (triples : Triples) (t : Blocks Block) where
         ap (λ (l : List ℕ). trial_on (regtest params triples) (blocks_at names t l)) (branch-parent t p z h)
         ∙ ap (λ (l : List ℕ). trial_after (trial_at (parent_at t p)) (fault_over (regtest params triples) (blocks_at names t l) (block_at names t p))) (sym (before-parent t p z h))
 
-    valid-parent : valid (regtest params triples) t p ≡ (is_none (fault (regtest params triples) t p) && valid (regtest params triples) t (parent_at t p))
-    unfolding valid connects
+    valid-parent : branch_connects (regtest params triples) t p ≡ (is_none (fault (regtest params triples) t p) && branch_connects (regtest params triples) t (parent_at t p))
+    unfolding branch_connects connects
     valid-parent = ap (λ (l : List ℕ). list_all (connects (regtest params triples) t) l) (branch-parent t p z h)
 
-    first-parent : first_to_fail (regtest params triples) t p ≡ (not (is_none (fault (regtest params triples) t p)) && valid (regtest params triples) t (parent_at t p))
-    unfolding valid first_to_fail connects
+    first-parent : first_to_fail (regtest params triples) t p ≡ (not (is_none (fault (regtest params triples) t p)) && branch_connects (regtest params triples) t (parent_at t p))
+    unfolding branch_connects first_to_fail connects
     first-parent = ap (λ (l : List ℕ). not (is_none (fault (regtest params triples) t p)) && list_all (connects (regtest params triples) t) l) (before-parent t p z h)
 
-  valid-zero : (p : ℕ) → 0 ≡ p → is_valid (trial_at p) ≡ valid (regtest params triples) t p
-  valid-zero p e = ap (λ (q : ℕ). is_valid (trial_at q)) (sym e) ∙ ap is_valid trial-zero ∙ sym (Rattle.chain.specs.laws.Actives.valid-genesis (regtest params triples) t) ∙ ap (valid (regtest params triples) t) e
+  valid-zero : (p : ℕ) → 0 ≡ p → is_valid (trial_at p) ≡ branch_connects (regtest params triples) t p
+  valid-zero p e = ap (λ (q : ℕ). is_valid (trial_at q)) (sym e) ∙ ap is_valid trial-zero ∙ sym (Rattle.chain.specs.laws.Actives.valid-genesis (regtest params triples) t) ∙ ap (branch_connects (regtest params triples) t) e
 
-  valid-to : (n p : ℕ) → p ≤ n → p ≤ length t → is_valid (trial_at p) ≡ valid (regtest params triples) t p
+  valid-to : (n p : ℕ) → p ≤ n → p ≤ length t → is_valid (trial_at p) ≡ branch_connects (regtest params triples) t p
   valid-to zero p m h = valid-zero p (omega arith)
   valid-to (suc n) p m h =
       elim (cases_eq 0 p) [
@@ -188,7 +188,7 @@ module _ (params : Params) (triples : Triples) (t : Blocks Block) where
             ∙ sym (valid-parent p (omega arith) h)
       ]
 
-  pub trial-valid : (p : ℕ) → p ≤ length t → is_valid (trial_at p) ≡ valid (regtest params triples) t p
+  pub trial-valid : (p : ℕ) → p ≤ length t → is_valid (trial_at p) ≡ branch_connects (regtest params triples) t p
   trial-valid p h = valid-to p p (omega arith) h
 
   fault-zero : fault (regtest params triples) t 0 ≡ None
@@ -239,12 +239,12 @@ module _ (params : Params) (triples : Triples) (bs : List Block) (h : ℕ) (some
       ap (λ (l : List Block). replay ledger l) next ∙ replay_more b (drop (length bs - h) bs) (omega arith)
       ∙ ap (λ (k : ℕ). effect k (replay ledger (drop (length bs - h) bs)) b.txs) n
 
-  module _ (cutoff : ℕ) (medians : List ℕ) (c : cutoff ≡ get_or (reverse (medians_of bs)) (h - 1) 0) (m : medians ≡ take h (reverse (medians_of bs))) (valid : trial_on (regtest params triples) (drop (length bs - h) bs) ≡ Valid) where
+  module _ (cutoff : ℕ) (medians : List ℕ) (c : cutoff ≡ get_or (reverse (medians_of bs)) (h - 1) 0) (m : medians ≡ take h (reverse (medians_of bs))) (branch_connects : trial_on (regtest params triples) (drop (length bs - h) bs) ≡ Valid) where
     pub next_trial : trial_on (regtest params triples) (drop (length bs - (h + 1)) bs)
         ≡ trial_after Valid (connect_fault (record { height = h; cutoff = cutoff; medians = medians; rules = at params h }) (replay ledger (drop (length bs - h) bs)) b.txs triples)
     next_trial =
         let n = rest_long in
-        ap (λ (l : List Block). trial_on (regtest params triples) l) next ∙ trial_more (regtest params triples) b (drop (length bs - h) bs) valid
+        ap (λ (l : List Block). trial_on (regtest params triples) l) next ∙ trial_more (regtest params triples) b (drop (length bs - h) bs) branch_connects
         ∙ ap (λ o. trial_after Valid o) (fault_more params triples b (drop (length bs - h) bs) (omega arith))
         ∙ ap (λ (s : Setting). trial_after Valid (connect_fault s (replay ledger (drop (length bs - h) bs)) b.txs triples)) (sym (setting-is params bs h (length bs - h) (omega arith) some cutoff medians c m))
 

@@ -11,7 +11,7 @@ use Rattle.rules.specs.declared.params.Params.{Params}
 use Rattle.rules.specs.Alone.{alone_rules}
 use Rattle.txn.specs.First.{first_broken}
 use Rattle.tree.specs.Branches.{Kept, Blocks, down_from, on, before, branch, place_of, parent_at, block_at, id_at}
-use Rattle.tree.specs.State.{opening, marked, cleared, called, with_block}
+use Rattle.tree.specs.State.{opening, with_mark, without_marks, with_call, with_block}
 use Rattle.tree.specs.Names.{names}
 use Rattle.tree.specs.Limits.{max_blocks}
 use Rattle.tree.specs.laws.Added.{place-bound, id_there, id_here, block_there, block_here}
@@ -20,7 +20,7 @@ use Rattle.reference.specs.declared.kept_block.KeptBlock.{KeptBlock}
 use Rattle.reference.specs.declared.judgement.Judgement.{Judgement}
 use Rattle.reference.specs.declared.replayed.Replayed.{Replayed}
 use Rattle.chain.specs.Settle.{active, on_candidate, becomes_seen, becomes_bad, settle}
-use Rattle.chain.specs.Valid.{valid, first_to_fail}
+use Rattle.chain.specs.Valid.{branch_connects, first_to_fail}
 use Rattle.chain.specs.Regtest.{regtest}
 use Rattle.chain.specs.Settled.{AllKept}
 use Rattle.reference.specs.inside.Replayed.{IsRight, IsKeptBlock, AreKeptBlocks, AreJudgements, kept_of, blocks_of, first_kept, state_of_replayed, is_flagged, places_of, judgement_in, no_judgement, is_near, is_valid, is_first, any_below}
@@ -71,7 +71,7 @@ module _ (params : Params) (triples : Triples) (old new : Replayed) (right : IsR
         ∙ ap (λ v. is_flagged old.bad.items p || (first_to_fail (regtest params triples) (state_of_replayed old).blocks p && v)) (near_on p (omega arith))))
         (places-joined (length (blocks_of old.held.items)) old.seen.items new.seen.items (becomes_seen (regtest params triples) (state_of_replayed old)) (omega arith) (omega arith)
         (λ p h. seen p (omega arith) ∙ ap (λ v. is_flagged old.seen.items p || (v && is_flagged near p)) (valid-is params triples (state_of_replayed old) judged are p no_judgement (omega arith))
-        ∙ ap (λ v. is_flagged old.seen.items p || (valid (regtest params triples) (state_of_replayed old).blocks p && v)) (near_on p (omega arith))))
+        ∙ ap (λ v. is_flagged old.seen.items p || (branch_connects (regtest params triples) (state_of_replayed old).blocks p && v)) (near_on p (omega arith))))
         (ap (λ v. reverse v.items) calls)
 
     pub settle_right : IsRight (regtest params triples) new
@@ -90,7 +90,7 @@ eqb-sym p q =
     ]
 
 module _ (params : Params) (triples : Triples) (old new : Replayed) (right : IsRight (regtest params triples) old) (p : ℕ) where
-  pub mark_state : p < length old.held.items → new.held ≡ old.held → new.seen ≡ old.seen → new.calls ≡ old.calls → ◌≡◌ {A = List Bool} new.bad.items (set old.bad.items p true) → state_of_replayed new ≡ marked (state_of_replayed old) p
+  pub mark_state : p < length old.held.items → new.held ≡ old.held → new.seen ≡ old.seen → new.calls ≡ old.calls → ◌≡◌ {A = List Bool} new.bad.items (set old.bad.items p true) → state_of_replayed new ≡ with_mark (state_of_replayed old) p
   unfolding state_of_replayed
   mark_state h held seen calls e =
       let l = length-blocks old.held.items right.some in
@@ -111,8 +111,8 @@ module _ (params : Params) (triples : Triples) (old new : Replayed) (right : IsR
       (ap (λ (k : List Bool). is_flagged k 0) e ∙ flag_set old.bad.items p 0 (omega arith) ∙ ap (λ v. is_flagged old.bad.items 0 || v) (ne_eqb p 0 (omega arith)) ∙ ap (λ v. v || false) right.genesis)
 
   pub clear_state : new.held ≡ old.held → new.seen ≡ old.seen → new.calls ≡ old.calls → length new.bad.items ≡ length old.bad.items
-      → ((x : ℕ) → x < length old.held.items → is_flagged new.bad.items x ≡ (is_flagged old.bad.items x && not (on (blocks_of old.held.items) p x || on (blocks_of old.held.items) x p))) → state_of_replayed new ≡ cleared (state_of_replayed old) p
-  unfolding state_of_replayed cleared
+      → ((x : ℕ) → x < length old.held.items → is_flagged new.bad.items x ≡ (is_flagged old.bad.items x && not (on (blocks_of old.held.items) p x || on (blocks_of old.held.items) x p))) → state_of_replayed new ≡ without_marks (state_of_replayed old) p
+  unfolding state_of_replayed without_marks
   clear_state held seen calls same taken =
       let l = length-blocks old.held.items right.some in
       let b = right.bad in
@@ -127,7 +127,7 @@ module _ (params : Params) (triples : Triples) (old new : Replayed) (right : IsR
       still_right params triples old new right held (same ∙ right.bad) (ap (λ v. length v.items) seen ∙ right.seen)
       (taken 0 (omega arith) ∙ ap (λ v. v && not (on (blocks_of old.held.items) p 0 || on (blocks_of old.held.items) 0 p)) right.genesis)
 
-  pub call_state : new.held ≡ old.held → new.seen ≡ old.seen → new.bad ≡ old.bad → ◌≡◌ {A = List ℕ} new.calls.items (old.calls.items ++ p ∷ []) → state_of_replayed new ≡ called (state_of_replayed old) p
+  pub call_state : new.held ≡ old.held → new.seen ≡ old.seen → new.bad ≡ old.bad → ◌≡◌ {A = List ℕ} new.calls.items (old.calls.items ++ p ∷ []) → state_of_replayed new ≡ with_call (state_of_replayed old) p
   unfolding state_of_replayed
   call_state held seen bad e =
       made new (ap (λ v. blocks_of v.items) held) (ap (λ v. places_of v.items) bad) (ap (λ v. places_of v.items) seen)

@@ -6,7 +6,7 @@ use Rattle.std.proofs.lemmas.Bool.{cases_eq, eq-eqb, ne_eqb}
 use Rattle.std.proofs.lemmas.List.{get_or-set_same, get_or-set_other, length-append}
 use Rattle.std.specs.List.{filter, list_any}
 use Rattle.tree.specs.Branches.{has, down_from}
-use Rattle.tree.specs.State.{joined}
+use Rattle.tree.specs.State.{union_where}
 use Rattle.tree.specs.laws.Sets.{filter_agree, has-filter}
 use Rattle.reference.specs.inside.Replayed.{is_flagged, places_of, any_below}
 
@@ -53,8 +53,8 @@ unfolding places_of
 places_up flags n e = ap (λ (m : ℕ). filter (is_flagged flags) (down_from m)) (omega arith)
 
 -- flags that join
-pub places-joined : (n : ℕ) (old new : List Bool) (f : ℕ → Bool) → length old ≡ suc n → length new ≡ suc n → ((p : ℕ) → p < suc n → is_flagged new p ≡ (is_flagged old p || f p)) → places_of new ≡ joined (down_from n) (places_of old) f
-unfolding joined
+pub places-joined : (n : ℕ) (old new : List Bool) (f : ℕ → Bool) → length old ≡ suc n → length new ≡ suc n → ((p : ℕ) → p < suc n → is_flagged new p ≡ (is_flagged old p || f p)) → places_of new ≡ union_where (down_from n) (places_of old) f
+unfolding union_where
 places-joined n old new f a b h = places_up new n b ∙ filter_agree (is_flagged new) (λ p. has (places_of old) p || f p) n (λ p l. h p (omega arith) ∙ ap (λ v. v || f p) (sym (has-places old p (omega arith))))
 
 filter_twice : (f g : ℕ → Bool) (l : List ℕ) → filter f (filter g l) ≡ filter (λ x. g x && f x) l

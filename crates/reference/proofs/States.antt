@@ -6,7 +6,7 @@ use Rattle.block.specs.declared.block.Block.{Block}
 use Rattle.curve.specs.Triple.{Triples}
 use Rattle.rules.specs.declared.params.Params.{Params}
 use Rattle.tree.specs.Branches.{Blocks, has, branch, on, height, blocks_at}
-use Rattle.tree.specs.State.{State, usable, better}
+use Rattle.tree.specs.State.{State, has_no_mark, beats}
 use Rattle.txn.specs.First.{first_broken}
 use Rattle.rules.specs.Alone.{alone_rules}
 use Rattle.tree.specs.Names.{names}
@@ -17,7 +17,7 @@ use Rattle.tree.specs.laws.Branches.{on-bounds}
 use Rattle.reference.specs.declared.judgement.Judgement.{Judgement}
 use Rattle.reference.specs.declared.replayed.Replayed.{Replayed}
 use Rattle.chain.specs.Rules.{Rules}
-use Rattle.chain.specs.Valid.{valid, first_to_fail}
+use Rattle.chain.specs.Valid.{branch_connects, first_to_fail}
 use Rattle.chain.specs.Settle.{can_be_active, active, is_candidate, on_candidate}
 use Rattle.chain.specs.Regtest.{regtest}
 use Rattle.reference.specs.inside.Replayed.{IsRight, AreAlone, AreJudgements, blocks_of, blocks_in, state_of_replayed, is_flagged, places_of, judgement_at, judgement_in, no_judgement, above, is_near, is_valid, is_first, any_below}
@@ -64,7 +64,7 @@ module _ (r : Rules Block Id) (old : Replayed) (right : IsRight r old) where
   count = length-blocks old.held.items right.some
 
   -- genesis isn't marked
-  pub genesis-usable : usable (state_of_replayed old) 0 ≡ true
+  pub genesis-usable : has_no_mark (state_of_replayed old) 0 ≡ true
   genesis-usable =
       let z = right.some in
       let l = right.bad in
@@ -118,8 +118,8 @@ module _ (params : Params) (triples : Triples) (old : Replayed) (right : IsRight
   branch_blocks = blocks-held old.held.items right.held (branch (blocks_of old.held.items) p) branch_within
 
   -- whether none of it is marked
-  pub branch_usable : list_all (λ x. not (is_flagged old.bad.items x)) (branch (blocks_of old.held.items) p) ≡ usable (state_of_replayed old) p
-  unfolding usable state_of_replayed
+  pub branch_usable : list_all (λ x. not (is_flagged old.bad.items x)) (branch (blocks_of old.held.items) p) ≡ has_no_mark (state_of_replayed old) p
+  unfolding has_no_mark state_of_replayed
   branch_usable =
       all_agree (λ x. not (is_flagged old.bad.items x)) (λ x. not (has (places_of old.bad.items) x)) (branch (blocks_of old.held.items) p)
       (λ x o.
@@ -137,7 +137,7 @@ module _ (params : Params) (triples : Triples) (s : State Block) (judged : List 
   judged-is : (p : ℕ) (d : Judgement) → p ≤ length s.blocks → get_or judged p d ≡ judgement_at (regtest params triples) s p
   judged-is p d h = are.each p d h
 
-  pub usable-is : (p : ℕ) (d : Judgement) → p ≤ length s.blocks → (get_or judged p d).usable ≡ usable s p
+  pub usable-is : (p : ℕ) (d : Judgement) → p ≤ length s.blocks → (get_or judged p d).usable ≡ has_no_mark s p
   unfolding judgement_at
   usable-is p d h = ap (λ (j : Judgement). j.usable) (judged-is p d h)
 
@@ -145,7 +145,7 @@ module _ (params : Params) (triples : Triples) (s : State Block) (judged : List 
   unfolding judgement_at
   height-is p d h = ap (λ (j : Judgement). j.height) (judged-is p d h)
 
-  pub valid-is : (p : ℕ) (d : Judgement) → p ≤ length s.blocks → is_valid (get_or judged p d).trial ≡ valid (regtest params triples) s.blocks p
+  pub valid-is : (p : ℕ) (d : Judgement) → p ≤ length s.blocks → is_valid (get_or judged p d).trial ≡ branch_connects (regtest params triples) s.blocks p
   unfolding judgement_at
   valid-is p d h = ap (λ (j : Judgement). is_valid j.trial) (judged-is p d h) ∙ trial-valid params triples s.blocks p h
 
@@ -153,13 +153,13 @@ module _ (params : Params) (triples : Triples) (s : State Block) (judged : List 
   unfolding judgement_at
   first-is p d h = ap (λ (j : Judgement). is_first j.trial) (judged-is p d h) ∙ trial-first params triples s.blocks p h
 
-  pub above-is : (p q : ℕ) (d e : Judgement) → p ≤ length s.blocks → q ≤ length s.blocks → above (get_or judged p d) p (get_or judged q e) q ≡ better s p q
-  unfolding judgement_at better
+  pub above-is : (p q : ℕ) (d e : Judgement) → p ≤ length s.blocks → q ≤ length s.blocks → above (get_or judged p d) p (get_or judged q e) q ≡ beats s p q
+  unfolding judgement_at beats
   above-is p q d e h g = ap (λ (j : Judgement). above j p (get_or judged q e) q) (judged-is p d h) ∙ ap (λ (j : Judgement). above (judgement_at (regtest params triples) s p) p j q) (judged-is q e g)
 
   pub can-is : (p : ℕ) (d : Judgement) → p ≤ length s.blocks → ((get_or judged p d).usable && is_valid (get_or judged p d).trial) ≡ can_be_active (regtest params triples) s p
   unfolding can_be_active
-  can-is p d h = ap (λ b. b && is_valid (get_or judged p d).trial) (usable-is p d h) ∙ ap (λ b. usable s p && b) (valid-is p d h)
+  can-is p d h = ap (λ b. b && is_valid (get_or judged p d).trial) (usable-is p d h) ∙ ap (λ b. has_no_mark s p && b) (valid-is p d h)
 
   -- the blocks that are near are those on a candidate's branch
   module _ (a : ℕ) (is : a ≡ active (regtest params triples) s) (kept : a ≤ length s.blocks) where
@@ -167,8 +167,8 @@ module _ (params : Params) (triples : Triples) (s : State Block) (judged : List 
     unfolding is_candidate
     near-is c h =
         ap (λ b. b && (eqb c a || above (judgement_in judged c) c (judgement_in judged a) a)) (usable-is c no_judgement h)
-        ∙ ap (λ b. usable s c && (eqb c a || b)) (above-is c a no_judgement no_judgement h kept)
-        ∙ ap (λ (q : ℕ). usable s c && (eqb c q || better s c q)) is
+        ∙ ap (λ b. has_no_mark s c && (eqb c a || b)) (above-is c a no_judgement no_judgement h kept)
+        ∙ ap (λ (q : ℕ). has_no_mark s c && (eqb c q || beats s c q)) is
 
     pub on_near : (x : ℕ) → any_below (λ c. is_near judged a c && on s.blocks c x) (suc (length s.blocks)) ≡ on_candidate (regtest params triples) s x
     unfolding on_candidate

@@ -9,7 +9,7 @@ use Rattle.block.specs.declared.block.Block.{Block}
 use Rattle.curve.specs.Triple.{Triples}
 use Rattle.rules.specs.declared.params.Params.{Params}
 use Rattle.tree.specs.Branches.{Blocks, has, branch, height, blocks_at, place_of}
-use Rattle.tree.specs.State.{State, usable, marked, cleared, called}
+use Rattle.tree.specs.State.{State, has_no_mark, with_mark, without_marks, with_call}
 use Rattle.tree.specs.Names.{names}
 use Rattle.tree.specs.laws.Added.{place-bound}
 use Rattle.tree.specs.laws.Marks.{bad-flagged}
@@ -51,7 +51,7 @@ rejected-not Valid = refl
 rejected-not (Fails reason) = refl
 rejected-not Below = refl
 
-module _ (params : Params) (triples : Triples) (t u : State Block) (genesis : usable t 0 ≡ true) (settled : u ≡ settle (regtest params triples) t) (n : ℕ) (last : n ≡ length t.blocks) where
+module _ (params : Params) (triples : Triples) (t u : State Block) (genesis : has_no_mark t 0 ≡ true) (settled : u ≡ settle (regtest params triples) t) (n : ℕ) (last : n ≡ length t.blocks) where
   long : length u.blocks ≡ n
   long = ap (λ (w : State Block). length w.blocks) settled ∙ ap (λ (k : Blocks Block). length k) (settle-blocks (regtest params triples) t) ∙ sym last
 

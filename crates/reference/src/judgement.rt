@@ -5,7 +5,7 @@ ghost use Rattle.std.specs.List.{list_all};
 ghost use Rattle.block.specs.declared.block.Block.{Block};
 ghost use Rattle.curve.specs.Triple.{Triples};
 ghost use Rattle.rules.specs.declared.params.Params.{Params};
-ghost use Rattle.tree.specs.State.{State, rank_in, usable};
+ghost use Rattle.tree.specs.State.{State, rank_in, has_no_mark};
 ghost use Rattle.chain.specs.Regtest.{regtest};
 ghost use Rattle.chain.specs.Settle.{active};
 ghost use Rattle.reference.specs.inside.Replayed.{IsRight, AreJudgements, above, chain_rules, is_flagged, is_valid, judgement_at, judgement_in, state_of_replayed};
@@ -58,7 +58,7 @@ fn judge(alloc: Global, chain: &Chain, old: &Replayed, place: usize) -> Result<J
 pub(crate) fn is_usable(alloc: Global, old: &Replayed, place: usize) -> Result<bool, Memory>
     requires right { (params : Params) × (triples : Triples) × IsRight (regtest params triples) old.now }
     requires kept { place < length old.now.held.items }
-    ensures { IfOk result (λ found. found ≡ usable (state_of_replayed old.now) place) }
+    ensures { IfOk result (λ found. found ≡ has_no_mark (state_of_replayed old.now) place) }
 {
     let branch = branch_of(alloc, &old.held, place)?;
     Ok(has_none(&old.bad, &branch))
@@ -95,7 +95,7 @@ pub(crate) fn best_of(judged: &[Judgement]) -> usize
     requires { 0 < length judged.now }
     ensures kept { result < length judged.now }
     ensures active { (params : Params) (triples : Triples) (s : State Block)
-        → AreJudgements (regtest params triples) s judged.now → usable s 0 ≡ true
+        → AreJudgements (regtest params triples) s judged.now → has_no_mark s 0 ≡ true
         → result ≡ active (regtest params triples) s }
 {
     let mut best = 0;

@@ -5,7 +5,7 @@ ghost use Rattle.block.specs.Identity.{id_of};
 ghost use Rattle.tree.specs.Branches.{has, on, place_of};
 ghost use Rattle.tree.specs.Names.{names};
 ghost use Rattle.tree.specs.Limits.{max_blocks};
-ghost use Rattle.tree.specs.State.{opening, with_block, marked, cleared, called};
+ghost use Rattle.tree.specs.State.{opening, with_block, with_mark, without_marks, with_call};
 ghost use Rattle.txn.specs.First.{first_broken};
 ghost use Rattle.rules.specs.Alone.{alone_rules};
 ghost use Rattle.curve.specs.Triple.{Triples};
@@ -74,7 +74,7 @@ impl Replayed {
         requires right { (params : Params) × (triples : Triples) × IsRight (regtest params triples) self.old }
         requires not_genesis { 0 < place }
         requires kept { place < length self.old.held.items }
-        ensures state { state_of_replayed self.new ≡ marked (state_of_replayed self.old) place }
+        ensures state { state_of_replayed self.new ≡ with_mark (state_of_replayed self.old) place }
         ensures right { (params : Params) (triples : Triples) → IsRight (regtest params triples) self.old
             → IsRight (regtest params triples) self.new }
     {
@@ -87,7 +87,7 @@ impl Replayed {
         requires kept { place < length self.old.held.items }
         ensures state { OnOk result
             (state_of_replayed self.new
-            ≡ cleared (state_of_replayed self.old) place) }
+            ≡ without_marks (state_of_replayed self.old) place) }
         ensures right { (params : Params) (triples : Triples) → IsRight (regtest params triples) self.old
             → OnOk result (IsRight (regtest params triples) self.new) }
     {
@@ -103,7 +103,7 @@ impl Replayed {
     pub(crate) fn call(&mut self, place: usize) -> Result<(), Memory>
         requires { (params : Params) × (triples : Triples) × IsRight (regtest params triples) self.old }
         ensures state { OnOk result
-            (state_of_replayed self.new ≡ called (state_of_replayed self.old) place) }
+            (state_of_replayed self.new ≡ with_call (state_of_replayed self.old) place) }
         ensures right { (params : Params) (triples : Triples) → IsRight (regtest params triples) self.old
             → OnOk result (IsRight (regtest params triples) self.new) }
     {

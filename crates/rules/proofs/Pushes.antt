@@ -1,34 +1,34 @@
 -- The push of a height, by the number of its bytes.
 use Rattle.std.proofs.Common.{◌≡◌, ℕ, zero, suc, ◌+◌, ◌/◌, ◌%◌, ◌<◌, ◌≤◌, List, [], ◌∷◌, length, nat_le, pos, refl, sym, ap, ◌∙◌, arith}
 use Rattle.std.proofs.lemmas.Bool.{lt-ltb, le-ltb, le-leb, lt-leb, and_from, and_right}
-use Rattle.script.specs.Num.{spelled, spelled_with}
+use Rattle.script.specs.Num.{shortest_bytes, shortest_bytes_with}
 use Rattle.rules.specs.Height.{height_push}
 
 same : (x y : ℕ) (xs ys : List ℕ) → x ≡ y → xs ≡ ys → (x ∷ xs) ≡ (y ∷ ys)
 same x y xs ys p q = cc
 
 -- a byte, and the others
-byte : (f n a : ℕ) (others : List ℕ) → 128 ≤ n → a ≡ n % 256 → spelled_with f 0 (n / 256) ≡ others → spelled_with (suc f) 0 n ≡ a ∷ others
-unfolding spelled_with
-byte f n a others past p q = rw (le-ltb n 128 past) (same (n % 256) a (spelled_with f 0 (n / 256)) others (sym p) q)
+byte : (f n a : ℕ) (others : List ℕ) → 128 ≤ n → a ≡ n % 256 → shortest_bytes_with f 0 (n / 256) ≡ others → shortest_bytes_with (suc f) 0 n ≡ a ∷ others
+unfolding shortest_bytes_with
+byte f n a others past p q = rw (le-ltb n 128 past) (same (n % 256) a (shortest_bytes_with f 0 (n / 256)) others (sym p) q)
 
-last : (f n a : ℕ) → n < 128 → a ≡ n → spelled_with (suc f) 0 n ≡ a ∷ []
-unfolding spelled_with
+last : (f n a : ℕ) → n < 128 → a ≡ n → shortest_bytes_with (suc f) 0 n ≡ a ∷ []
+unfolding shortest_bytes_with
 last f n a below p = rw (lt-ltb n 128 below) (same (n + 0) a [] [] (omega arith) refl)
 
-positive : (n : ℕ) → 0 < n → spelled (pos n) ≡ spelled_with 9 0 n
-unfolding spelled
+positive : (n : ℕ) → 0 < n → shortest_bytes (pos n) ≡ shortest_bytes_with 9 0 n
+unfolding shortest_bytes
 positive zero h = absurd (omega arith)
 positive (suc n) h = refl
 
 -- a height above 16 is pushed as a number
-as_number : (height : ℕ) (bytes : List ℕ) → 16 < height → spelled_with 9 0 height ≡ bytes → height_push height ≡ length bytes ∷ bytes
+as_number : (height : ℕ) (bytes : List ℕ) → 16 < height → shortest_bytes_with 9 0 height ≡ bytes → height_push height ≡ length bytes ∷ bytes
 unfolding height_push
 as_number height bytes h e =
     rw (and_right (nat_le 1 height) (nat_le height 16) (lt-leb height 16 h)) (ap (λ b. length b ∷ b) (positive height (omega arith) ∙ e))
 
 pub none : height_push 0 ≡ 0 ∷ []
-unfolding height_push spelled
+unfolding height_push shortest_bytes
 none = refl
 
 pub opcode : (height a : ℕ) → 1 ≤ height → height ≤ 16 → a ≡ height → height_push height ≡ (80 + a) ∷ []

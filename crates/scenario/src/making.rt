@@ -4,7 +4,7 @@ ghost use Rattle.std.specs.Prelude.{◌≡◌, ◌+◌, ◌<◌, ◌≤◌, ◌^
 ghost use Rattle.txn.specs.Identity as identity;
 ghost use Rattle.block.specs.Merkle as tree;
 ghost use Rattle.scenario.specs.inside.Making.{IsMined, IsBarren, IsSealed, IsMade};
-ghost use Rattle.scenario.specs.inside.Making.{coinbase_said, with_first, unsealed};
+ghost use Rattle.scenario.specs.inside.Making.{coinbase_said, with_first, header_to_seal};
 
 use crate::coinbase::coinbase;
 use crate::fault::LineFault;
@@ -122,7 +122,7 @@ fn unsealed(
     parent: &Named,
     txs: &[Tx],
 ) -> Result<Header, LineFault>
-    ensures { IfOk result (λ header. header ≡ unsealed recipe parent.now txs.now) }
+    ensures { IfOk result (λ header. header ≡ header_to_seal recipe parent.now txs.now) }
 {
     let time = match recipe.time {
         Some(time) => time,

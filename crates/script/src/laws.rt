@@ -4,7 +4,7 @@ ghost use Rattle.std.specs.Prelude.{◌≡◌, ◌<◌, ◌≤◌, ◌^◌, unsi
 ghost use Rattle.wire.specs.Grammar.{IsBytes};
 ghost use Rattle.script.specs.Kinds.{is_p2sh};
 ghost use Rattle.script.specs.laws.Grammar.{IsP2sh};
-ghost use Rattle.script.specs.Num.{num_value, spelled};
+ghost use Rattle.script.specs.Num.{num_value, shortest_bytes};
 ghost use Rattle.script.specs.Op.{number_of, pushed_of};
 ghost use Rattle.script.specs.laws.Grammar.{IsCutShort, Spells};
 ghost use Rattle.script.specs.Ops.{ops, rest};
@@ -30,9 +30,9 @@ pub fn one_meaning()
 
 /// The spelling of a number, of any `i64` at least, is read as that number, and nothing shorter is.
 pub fn one_number()
-    ensures reads { (z : ℤ) → unsigned_abs z < 2 ^ 64 → num_value (spelled z) ≡ z }
+    ensures reads { (z : ℤ) → unsigned_abs z < 2 ^ 64 → num_value (shortest_bytes z) ≡ z }
     ensures shortest { (z : ℤ) (bytes : List ℕ) → IsBytes bytes → num_value bytes ≡ z
-        → length (spelled z) ≤ length bytes }
+        → length (shortest_bytes z) ≤ length bytes }
 {}
 
 /// What pays to a script hash is the 23 bytes of BIP 16.

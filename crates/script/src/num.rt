@@ -2,7 +2,7 @@
 
 ghost use Rattle.std.specs.Prelude.{◌≡◌, ◌<◌, ◌≤◌, ◌^◌, ◌+◌, ◌*◌, ◌++◌, ◌%◌, ◌/◌, List, ℕ, ℤ, length, min, nat_le, option_map, IfOk, OnOk};
 ghost use Rattle.wire.specs.Grammar.{IsBytes};
-ghost use Rattle.script.specs.Num.{magnitude, with_sign, num_value, operand, spelled, spelled_with};
+ghost use Rattle.script.specs.Num.{magnitude, with_sign, num_value, operand, shortest_bytes, shortest_bytes_with};
 
 use std::alloc::Global;
 use wire::Memory;
@@ -27,9 +27,9 @@ impl Num {
     }
 
     /// Its shortest spelling.
-    #[tactic(auto, unfolding(crate::specs::Num::spelled))]
+    #[tactic(auto, unfolding(crate::specs::Num::shortest_bytes))]
     pub fn spell(self, alloc: Global) -> Result<Vec<u8>, Memory>
-        ensures { IfOk result (λ bytes. bytes.items ≡ spelled self.0) }
+        ensures { IfOk result (λ bytes. bytes.items ≡ shortest_bytes self.0) }
     {
         let mut bytes = Vec::new(alloc);
         if self.0 < 0 {
@@ -72,7 +72,7 @@ fn magnitude(bytes: &[u8]) -> u64
 /// Spells a number, with `sign` added to its last byte.
 fn spell(bytes: &mut Vec<u8>, n: u64, sign: u8) -> Result<(), Memory>
     requires { sign ≤ 128 }
-    ensures { OnOk result (bytes.new.items ≡ bytes.old.items ++ spelled_with 9 sign n) }
+    ensures { OnOk result (bytes.new.items ≡ bytes.old.items ++ shortest_bytes_with 9 sign n) }
 {
     let mut left = n;
     while left >= 128 {

@@ -3,7 +3,7 @@ use Rattle.std.proofs.Common.{◌≡◌, ℕ, ◌+◌, true, false, List, [], �
 use Rattle.std.specs.List.{flat_map}
 use Rattle.std.proofs.lemmas.Grind.{flat_map-append}
 use Rattle.std.proofs.lemmas.List.{append-nil, length-append, length-map, length-take, length-drop, drop-drop}
-use Rattle.wire.specs.Spelling.{compact}
+use Rattle.wire.specs.Spelling.{compact_size}
 use Rattle.txn.specs.declared.input.TxIn.{TxIn}
 use Rattle.txn.specs.Grammar.{input}
 use Rattle.sighash.specs.Kind.{is_alone}
@@ -30,10 +30,10 @@ behind : (n : ℕ) (inputs before rest signed after : List TxIn) (x : TxIn) → 
 behind n inputs before rest signed after x c = sym (c.others ∙ ap (drop 1) c.back ∙ drop-drop 1 n inputs)
 
 pub fed_alone : (kind n : ℕ) (code fed : List ℕ) (inputs before rest signed after : List TxIn) (x : TxIn) → Cut n inputs before rest signed after x → is_alone kind ≡ true
-    → (fed ++ compact 1) ++ input.spell (own_input code x) ≡ fed ++ (compact (length (signed_inputs kind n code inputs)) ++ flat_map input.spell (signed_inputs kind n code inputs))
+    → (fed ++ compact_size 1) ++ input.spell (own_input code x) ≡ fed ++ (compact_size (length (signed_inputs kind n code inputs)) ++ flat_map input.spell (signed_inputs kind n code inputs))
 fed_alone kind n code fed inputs before rest signed after x c alone =
     let list : signed_inputs kind n code inputs ≡ own_input code x ∷ [] = rw alone (ap (map (own_input code)) (middle n inputs before rest signed after x c)) in
-    rw list (append_assoc fed (compact 1) (input.spell (own_input code x)) ∙ ap (λ (t : List ℕ). fed ++ (compact 1 ++ t)) (sym (append-nil (input.spell (own_input code x)))))
+    rw list (append_assoc fed (compact_size 1) (input.spell (own_input code x)) ∙ ap (λ (t : List ℕ). fed ++ (compact_size 1 ++ t)) (sym (append-nil (input.spell (own_input code x)))))
 
 same_length : (kind n : ℕ) (code : List ℕ) (inputs before rest signed after : List TxIn) (x : TxIn) → Cut n inputs before rest signed after x
     → length ((map (other_input kind) before ++ own_input code x ∷ []) ++ map (other_input kind) after) ≡ length inputs
@@ -67,14 +67,14 @@ regroup : (fed n a o b : List ℕ) → (((fed ++ n) ++ a) ++ o) ++ b ≡ fed ++ 
 regroup fed n a o b = simp append_assoc
 
 pub fed_among : (kind n : ℕ) (code fed : List ℕ) (inputs before rest signed after : List TxIn) (x : TxIn) → Cut n inputs before rest signed after x → is_alone kind ≡ false
-    → (((fed ++ compact (length inputs)) ++ flat_map input.spell (map (other_input kind) before)) ++ input.spell (own_input code x)) ++ flat_map input.spell (map (other_input kind) after)
-    ≡ fed ++ (compact (length (signed_inputs kind n code inputs)) ++ flat_map input.spell (signed_inputs kind n code inputs))
+    → (((fed ++ compact_size (length inputs)) ++ flat_map input.spell (map (other_input kind) before)) ++ input.spell (own_input code x)) ++ flat_map input.spell (map (other_input kind) after)
+    ≡ fed ++ (compact_size (length (signed_inputs kind n code inputs)) ++ flat_map input.spell (signed_inputs kind n code inputs))
 fed_among kind n code fed inputs before rest signed after x c among =
     let a : List TxIn = map (other_input kind) before in
     let o : TxIn = own_input code x in
     let b : List TxIn = map (other_input kind) after in
     let list : signed_inputs kind n code inputs ≡ (a ++ o ∷ []) ++ b = rw (among, ← c.front, middle n inputs before rest signed after x c, behind n inputs before rest signed after x c) refl in
-    regroup fed (compact (length inputs)) (flat_map input.spell a) (input.spell o) (flat_map input.spell b)
-    ∙ ap (λ (t : List ℕ). fed ++ (compact (length inputs) ++ t)) (sym (three_spelled a b o))
-    ∙ ap (λ (k : ℕ). fed ++ (compact k ++ flat_map input.spell ((a ++ o ∷ []) ++ b))) (sym (same_length kind n code inputs before rest signed after x c))
-    ∙ ap (λ (l : List TxIn). fed ++ (compact (length l) ++ flat_map input.spell l)) (sym list)
+    regroup fed (compact_size (length inputs)) (flat_map input.spell a) (input.spell o) (flat_map input.spell b)
+    ∙ ap (λ (t : List ℕ). fed ++ (compact_size (length inputs) ++ t)) (sym (three_spelled a b o))
+    ∙ ap (λ (k : ℕ). fed ++ (compact_size k ++ flat_map input.spell ((a ++ o ∷ []) ++ b))) (sym (same_length kind n code inputs before rest signed after x c))
+    ∙ ap (λ (l : List TxIn). fed ++ (compact_size (length l) ++ flat_map input.spell l)) (sym list)

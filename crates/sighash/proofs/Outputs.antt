@@ -2,13 +2,13 @@
 use Rattle.std.proofs.Common.{◌≡◌, ℕ, ◌+◌, ◌<◌, List, [], ◌∷◌, ◌++◌, length, map, take, get_or, refl, sym, ap, ◌∙◌}
 use Rattle.std.specs.List.{flat_map}
 use Rattle.txn.specs.declared.output.TxOut.{TxOut}
-use Rattle.wire.specs.Spelling.{compact}
+use Rattle.wire.specs.Spelling.{compact_size}
 use Rattle.txn.specs.Grammar.{output}
 use Rattle.sighash.specs.Copy.{blank_output}
 use Rattle.sighash.proofs.Lists.{flat-next}
 
 blank_bytes : output.spell blank_output ≡ 255 ∷ 255 ∷ 255 ∷ 255 ∷ 255 ∷ 255 ∷ 255 ∷ 255 ∷ 0 ∷ []
-unfolding compact
+unfolding compact_size
 blank_bytes = refl
 
 pub blank-next : (fed : List ℕ) (xs : List TxOut) (k : ℕ) (x : TxOut) → k < length xs → x ≡ get_or xs k x

@@ -3,7 +3,7 @@
 ghost use Rattle.std.specs.Prelude.{◌≡◌, ◌<◌, ℕ, List, ◌++◌, length, map, true};
 ghost use Rattle.std.specs.List.{concat, flat_map};
 ghost use Rattle.sha2.specs.Hashers.{Holds256};
-ghost use Rattle.wire.specs.Grammar.{sized, counted};
+ghost use Rattle.wire.specs.Grammar.{sized_bytes, counted_list};
 ghost use Rattle.txn.specs.Grammar as grammar;
 ghost use Rattle.script.specs.Removal.{bytes_of};
 ghost use Rattle.sighash.specs.Copy.{other_input, blank_output, signed_inputs, signed_outputs};
@@ -34,7 +34,7 @@ fn len(piece: &[u8]) -> u64
 /// Feeds a script that is the pieces joined, after its length.
 fn feed_script(hasher: &mut Sha256, pieces: &[&[u8]])
     ensures { (fed : List ℕ) → Holds256 hasher.old fed
-        → Holds256 hasher.new (fed ++ sized.spell (concat (bytes_of pieces.now))) }
+        → Holds256 hasher.new (fed ++ sized_bytes.spell (concat (bytes_of pieces.now))) }
 {
     feed_count(hasher, joined_len(pieces));
     for piece in pieces {
@@ -86,7 +86,7 @@ pub fn feed_signed_inputs(hasher: &mut Sha256, inputs: &[TxIn], n: usize, code: 
     requires { n < length inputs.now }
     ensures { (fed : List ℕ) → Holds256 hasher.old fed
         → let signed = signed_inputs kind n (concat (bytes_of code.now)) inputs.now in
-        Holds256 hasher.new (fed ++ (counted grammar.input).spell signed) }
+        Holds256 hasher.new (fed ++ (counted_list grammar.input).spell signed) }
 {
     let (before, rest) = inputs.split_at(n);
     let (signed, after) = rest.split_at(1);
@@ -118,7 +118,7 @@ pub fn feed_signed_outputs(hasher: &mut Sha256, outputs: &[TxOut], n: usize, kin
     requires { kinds.is_single kind ≡ true → n < length outputs.now }
     ensures { (fed : List ℕ) → Holds256 hasher.old fed
         → let signed = signed_outputs kind n outputs.now in
-        Holds256 hasher.new (fed ++ (counted grammar.output).spell signed) }
+        Holds256 hasher.new (fed ++ (counted_list grammar.output).spell signed) }
 {
     if is_none(kind) {
         feed_count(hasher, 0);

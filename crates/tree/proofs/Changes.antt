@@ -9,7 +9,7 @@ use Rattle.block.specs.declared.block.Block.{Block}
 use Rattle.tree.specs.declared.node.Node.{Node}
 use Rattle.tree.specs.declared.node.Mark.{Mark}
 use Rattle.tree.specs.Branches.{Blocks, has, branch, on, parent_at}
-use Rattle.tree.specs.State.{State, usable, rank, rank_in}
+use Rattle.tree.specs.State.{State, has_no_mark, rank, rank_in}
 use Rattle.tree.specs.Nodes.{blocks_of, blank, mark_at, places_where, state_of}
 use Rattle.tree.specs.inside.Nodes.{IsNode, IsRight, AreNodes, AreUsable}
 use Rattle.tree.specs.laws.Sets.{all_agree}
@@ -77,15 +77,15 @@ made ns ms cs {t} {bad} {seen} {precious} a b c d =
     parts_4 w x y z = record { blocks = w; bad = x; seen = y; precious = z }
 
 -- branches are usable alike where their blocks are marked alike
-pub usable_alike : (s t : State Block) (p : ℕ) → ◌≡◌ {A = Blocks Block} s.blocks t.blocks → ((x : ℕ) → on s.blocks p x ≡ true → has s.bad x ≡ has t.bad x) → usable s p ≡ usable t p
-unfolding usable on
+pub usable_alike : (s t : State Block) (p : ℕ) → ◌≡◌ {A = Blocks Block} s.blocks t.blocks → ((x : ℕ) → on s.blocks p x ≡ true → has s.bad x ≡ has t.bad x) → has_no_mark s p ≡ has_no_mark t p
+unfolding has_no_mark on
 usable_alike s t p e f =
     all_agree (λ x. not (has s.bad x)) (λ x. not (has t.bad x)) (branch s.blocks p) (λ x h. ap not (f x h))
     ∙ ap (λ (l : List ℕ). Rattle.std.specs.List.list_all (λ x. not (has t.bad x)) l) (ap (λ (u : Blocks Block). branch u p) e)
 
 -- neither the sights nor the calls matter
-pub usable_bare : (ns : List Node) (ms : List Mark) (cs ds : List ℕ) (p : ℕ) → usable (state_of ns ms cs) p ≡ usable (state_of ns ms ds) p
-unfolding usable state_of
+pub usable_bare : (ns : List Node) (ms : List Mark) (cs ds : List ℕ) (p : ℕ) → has_no_mark (state_of ns ms cs) p ≡ has_no_mark (state_of ns ms ds) p
+unfolding has_no_mark state_of
 usable_bare ns ms cs ds p = refl
 
 module _ (ns : List Node) (ms ls : List Mark) (some : 0 < length ns) (same : length ms ≡ length ns) (also : length ls ≡ length ns) where
@@ -93,7 +93,7 @@ module _ (ns : List Node) (ms ls : List Mark) (some : 0 < length ns) (same : len
   kept = length-blocks ns some
 
   -- in two states in which a branch is marked alike
-  pub usable_marked : (p : ℕ) → ((x : ℕ) → x ≤ p → x < length ns → (mark_at ls x).bad ≡ (mark_at ms x).bad) → usable (state_of ns ls []) p ≡ usable (state_of ns ms []) p
+  pub usable_marked : (p : ℕ) → ((x : ℕ) → x ≤ p → x < length ns → (mark_at ls x).bad ≡ (mark_at ms x).bad) → has_no_mark (state_of ns ls []) p ≡ has_no_mark (state_of ns ms []) p
   usable_marked p f =
       usable_alike (state_of ns ls []) (state_of ns ms []) p (blocks_same ls ms) (λ x o.
       let k = kept in
@@ -111,15 +111,15 @@ module _ (ns : List Node) (ms ls : List Mark) (some : 0 < length ns) (same : len
       bad_is xs l x g = unfold state_of in has-where (λ m. m.bad) xs x (omega arith)
 
   -- from the parent's
-  pub usable_step : (p : ℕ) → 0 < p → p < length ns → usable (state_of ns ms []) p ≡ (not (mark_at ms p).bad && usable (state_of ns ms []) (parent_at (blocks_of ns) p))
+  pub usable_step : (p : ℕ) → 0 < p → p < length ns → has_no_mark (state_of ns ms []) p ≡ (not (mark_at ms p).bad && has_no_mark (state_of ns ms []) (parent_at (blocks_of ns) p))
   unfolding state_of
   usable_step p z h =
       let k = kept in
       usable-parent (state_of ns ms []) p z (omega arith)
-      ∙ ap (λ b. not b && usable (state_of ns ms []) (parent_at (blocks_of ns) p)) (has-where (λ m. m.bad) ms p (omega arith))
+      ∙ ap (λ b. not b && has_no_mark (state_of ns ms []) (parent_at (blocks_of ns) p)) (has-where (λ m. m.bad) ms p (omega arith))
 
 -- genesis is usable where it isn't marked
-pub usable_zero : (ns : List Node) (ms : List Mark) → 0 < length ms → (mark_at ms 0).bad ≡ false → usable (state_of ns ms []) 0 ≡ true
+pub usable_zero : (ns : List Node) (ms : List Mark) → 0 < length ms → (mark_at ms 0).bad ≡ false → has_no_mark (state_of ns ms []) 0 ≡ true
 unfolding state_of
 usable_zero ns ms h e = usable-genesis (state_of ns ms []) ∙ ap (λ b. not b && true) (has-where (λ m. m.bad) ms 0 h ∙ e)
 

@@ -15,7 +15,7 @@ use Rattle.tree.specs.declared.node.Node.{Node}
 use Rattle.tree.specs.declared.node.Mark.{Mark}
 use Rattle.tree.specs.Branches.{Kept, Blocks, has, place_of, down_from}
 use Rattle.tree.specs.Sound.{IsFresh}
-use Rattle.tree.specs.State.{State, usable, rank, with_block}
+use Rattle.tree.specs.State.{State, has_no_mark, rank, with_block}
 use Rattle.tree.specs.Limits.{max_blocks}
 use Rattle.tree.specs.MedianTime.{median_time_past}
 use Rattle.tree.specs.Names.{names, id_cmp}
@@ -85,7 +85,7 @@ module _ {ns : List Node} {ms : List Mark} {cs : List ℕ} {is : List (Id × ℕ
   state_grown b g = state_pushed ns ms cs n m right.some right.same b g
 
   module _ (node : IsNode (kept_of n ∷ blocks_of ns) (length ns) n) (room : length ns < max_blocks) (parent : n.parent < length ns)
-      (bad : m.bad ≡ false) (seen : m.seen ≡ false) (rank0 : m.rank ≡ 0) (usage : m.usable ≡ usable (state_of ns ms cs) n.parent) where
+      (bad : m.bad ≡ false) (seen : m.seen ≡ false) (rank0 : m.rank ≡ 0) (usage : m.usable ≡ has_no_mark (state_of ns ms cs) n.parent) where
     nodes_grown : AreNodes (k ∷ t) (ns ++ n ∷ [])
     nodes_grown p d h =
         let e = length-append ns (n ∷ []) in
@@ -112,7 +112,7 @@ module _ {ns : List Node} {ms : List Mark} {cs : List ℕ} {is : List (Id × ℕ
               let new : p ≡ suc (length t) = omega arith in
               record {
                 usable = ap (λ x. x.usable) here ∙ usage
-                    ∙ sym (ap (usable (with_block old n.block n.parent)) new ∙ usable_new old k (has_where-above (λ x. x.bad) ms (suc (length t)) (omega arith) (omega arith)));
+                    ∙ sym (ap (has_no_mark (with_block old n.block n.parent)) new ∙ usable_new old k (has_where-above (λ x. x.bad) ms (suc (length t)) (omega arith) (omega arith)));
                 rank = ap (λ x. x.rank) here ∙ rank0 ∙ sym (rank-none (reverse cs) p (right.are_calls p (omega arith)));
               }
           | inr w ↦

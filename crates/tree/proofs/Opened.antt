@@ -8,7 +8,7 @@ use Rattle.hash.specs.declared.id.Id.{Id}
 use Rattle.tree.specs.declared.node.Node.{Node}
 use Rattle.tree.specs.declared.node.Mark.{Mark}
 use Rattle.tree.specs.Branches.{down_from, branch, before, height, parent_at, block_at, id_at, place_of}
-use Rattle.tree.specs.State.{opening, usable, rank, rank_in}
+use Rattle.tree.specs.State.{opening, has_no_mark, rank, rank_in}
 use Rattle.tree.specs.MedianTime.{median_time_past}
 use Rattle.tree.specs.Names.{names, id_cmp}
 use Rattle.tree.specs.Nodes.{blocks_of, mark_at, places_where, state_of}
@@ -30,7 +30,7 @@ unfolding branch before height parent_at block_at id_at median_time_past median_
 node_zero = record { block = refl; id = refl; parent = refl; height = refl; median = refl; slot = refl }
 
 mark_zero : IsMark opening 0 first_mark
-unfolding usable branch rank rank_in
+unfolding has_no_mark branch rank rank_in
 mark_zero = record { usable = refl; rank = refl }
 
 blocks_none : ◌≡◌ (blocks_of nodes) []

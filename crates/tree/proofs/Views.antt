@@ -8,7 +8,7 @@ use Rattle.block.specs.declared.block.Block.{Block}
 use Rattle.tree.specs.declared.node.Node.{Node}
 use Rattle.tree.specs.declared.node.Mark.{Mark}
 use Rattle.tree.specs.Branches.{Blocks, has, down_from}
-use Rattle.tree.specs.State.{State, usable, rank, joined}
+use Rattle.tree.specs.State.{State, has_no_mark, rank, union_where}
 use Rattle.tree.specs.Nodes.{kept_of, blocks_of, blank, mark_at, places_where, state_of}
 use Rattle.tree.specs.inside.Nodes.{IsNode, IsRight, AreIds}
 use Rattle.tree.specs.inside.Slots.{AreInOrder, leaves_of}
@@ -46,8 +46,8 @@ module _ (f : Mark → Bool) where
       ∙ filter_agree (λ q. f (mark_at ls q)) (λ q. f (mark_at ms q)) (length ms - 1) (λ q l. h q (omega arith))
 
   -- and where more pass, those join
-  pub where_joined : (n : ℕ) (ms ls : List Mark) (g : ℕ → Bool) → length ms ≡ suc n → length ls ≡ length ms → ((p : ℕ) → p < length ms → f (mark_at ls p) ≡ Rattle.std.specs.Prelude.◌||◌ (f (mark_at ms p)) (g p)) → places_where f ls ≡ joined (down_from n) (places_where f ms) g
-  unfolding places_where joined
+  pub where_joined : (n : ℕ) (ms ls : List Mark) (g : ℕ → Bool) → length ms ≡ suc n → length ls ≡ length ms → ((p : ℕ) → p < length ms → f (mark_at ls p) ≡ Rattle.std.specs.Prelude.◌||◌ (f (mark_at ms p)) (g p)) → places_where f ls ≡ union_where (down_from n) (places_where f ms) g
+  unfolding places_where union_where
   where_joined n ms ls g e d h =
       let k : length ls - 1 ≡ n = omega arith in
       ap (λ (m : ℕ). Rattle.std.specs.List.filter (λ q. f (mark_at ls q)) (down_from m)) k
@@ -70,10 +70,10 @@ module _ {ns : List Node} {ms : List Mark} {cs : List ℕ} {is : List (Id × ℕ
   mark_is : (p : ℕ) → p ≤ length s.blocks → (m : Mark) → m ≡ get_or ms p m → m ≡ mark_at ms p
   mark_is p h m e = let k = kept in let l = right.same in e ∙ get_or_default ms p m blank (omega arith)
 
-  pub usable_at : (p : ℕ) → p ≤ length s.blocks → (m : Mark) → m ≡ get_or ms p m → m.usable ≡ usable s p
+  pub usable_at : (p : ℕ) → p ≤ length s.blocks → (m : Mark) → m ≡ get_or ms p m → m.usable ≡ has_no_mark s p
   usable_at p h m e =
       let k = kept in
-      ap (λ (x : Mark). x.usable) (mark_is p h m e) ∙ (right.are_marks p (omega arith)).usable ∙ ap (λ (t : State Block). usable t p) view
+      ap (λ (x : Mark). x.usable) (mark_is p h m e) ∙ (right.are_marks p (omega arith)).usable ∙ ap (λ (t : State Block). has_no_mark t p) view
 
   pub rank_at : (p : ℕ) → p ≤ length s.blocks → (m : Mark) → m ≡ get_or ms p m → m.rank ≡ rank s p
   rank_at p h m e =

@@ -2,13 +2,13 @@
 use Rattle.std.specs.Prelude.{◌≡◌, ℕ, ◌<◌, ◌≤◌, Bool, true, false, ◌⊎◌, length, None}
 use Rattle.tree.specs.Naming.{Naming}
 use Rattle.tree.specs.Branches.{has, height, older_of, id_at, place_of}
-use Rattle.tree.specs.State.{State, rank, better}
+use Rattle.tree.specs.State.{State, rank, beats}
 
 -- of the places up to n, a passes, and it is better than all others that pass
 pub record IsBest {B : Type 0} (s : State B) (passes : ℕ → Bool) (n a : ℕ) : Type 0 where
   pub kept : a ≤ n
   pub can : passes a ≡ true
-  pub tops : (b : ℕ) → b ≤ n → passes b ≡ true → (b ≡ a) ⊎ (better s a b ≡ true)
+  pub tops : (b : ℕ) → b ≤ n → passes b ≡ true → (b ≡ a) ⊎ (beats s a b ≡ true)
 
 -- a is higher; or as high, and precious where b isn't, or both are and a was called later; or as high,
 -- neither is, and a came earlier

@@ -17,8 +17,8 @@ abbrev pub opening : {B : Type 0} → State B
 opening = record { blocks = []; bad = []; seen = 0 ∷ []; precious = [] }
 
 -- the set with all places that pass
-unfoldable pub joined : List ℕ → List ℕ → (ℕ → Bool) → List ℕ
-joined all set passes = filter (λ p. has set p || passes p) all
+unfoldable pub union_where : List ℕ → List ℕ → (ℕ → Bool) → List ℕ
+union_where all set passes = filter (λ p. has set p || passes p) all
 
 -- the number of the last call for p, counted from 1; 0 where none was
 unfoldable pub rank_in : List ℕ → ℕ → ℕ
@@ -27,15 +27,15 @@ rank_in (x ∷ earlier) p = if x == p then suc (length earlier) else rank_in ear
 
 module _ {B : Type 0} where
   -- no block of the branch is marked
-  unfoldable pub usable : State B → ℕ → Bool
-  usable s c = list_all (λ x. not (has s.bad x)) (branch s.blocks c)
+  unfoldable pub has_no_mark : State B → ℕ → Bool
+  has_no_mark s c = list_all (λ x. not (has s.bad x)) (branch s.blocks c)
 
   unfoldable pub rank : State B → ℕ → ℕ
   rank s p = rank_in s.precious p
 
   -- higher; or as high and called precious later; or as high, both never called, and came earlier
-  unfoldable pub better : State B → ℕ → ℕ → Bool
-  better s a b =
+  unfoldable pub beats : State B → ℕ → ℕ → Bool
+  beats s a b =
       nat_lt (height s.blocks b) (height s.blocks a)
       || ((height s.blocks a == height s.blocks b) && (nat_lt (rank s b) (rank s a) || ((rank s a == rank s b) && nat_lt a b)))
 
@@ -50,19 +50,19 @@ module _ {B : Type 0} where
   without_last s = record s { blocks = older_of s.blocks }
 
   -- these blocks are marked too, and those seen
-  abbrev pub flagged : State B → (ℕ → Bool) → (ℕ → Bool) → State B
-  flagged s bad seen = record s { bad = joined (places s.blocks) s.bad bad; seen = joined (places s.blocks) s.seen seen }
+  abbrev pub with_new_flags : State B → (ℕ → Bool) → (ℕ → Bool) → State B
+  with_new_flags s bad seen = record s { bad = union_where (places s.blocks) s.bad bad; seen = union_where (places s.blocks) s.seen seen }
 
-  abbrev pub marked : State B → ℕ → State B
-  marked s p = record s { bad = joined (places s.blocks) s.bad (λ x. x == p) }
+  abbrev pub with_mark : State B → ℕ → State B
+  with_mark s p = record s { bad = union_where (places s.blocks) s.bad (λ x. x == p) }
 
-  abbrev pub saw : State B → ℕ → State B
-  saw s p = record s { seen = joined (places s.blocks) s.seen (λ x. x == p) }
+  abbrev pub with_seen : State B → ℕ → State B
+  with_seen s p = record s { seen = union_where (places s.blocks) s.seen (λ x. x == p) }
 
   -- the marks are taken from the block, its ancestors and its descendants
-  unfoldable pub cleared : State B → ℕ → State B
-  cleared s p = record s { bad = filter (λ x. not (on s.blocks p x || on s.blocks x p)) s.bad }
+  unfoldable pub without_marks : State B → ℕ → State B
+  without_marks s p = record s { bad = filter (λ x. not (on s.blocks p x || on s.blocks x p)) s.bad }
 
   -- the block is called precious
-  abbrev pub called : State B → ℕ → State B
-  called s p = record s { precious = p ∷ s.precious }
+  abbrev pub with_call : State B → ℕ → State B
+  with_call s p = record s { precious = p ∷ s.precious }

@@ -7,7 +7,7 @@ use Rattle.tree.specs.declared.tip.Tip.{Tip}
 use Rattle.tree.specs.declared.tip.Status.TheVariants.{Active, Invalid, ValidFork, ValidHeaders}
 use Rattle.tree.specs.Naming.{Naming}
 use Rattle.tree.specs.Branches.{Blocks, has, places, branch, on, height, id_at}
-use Rattle.tree.specs.State.{State, usable}
+use Rattle.tree.specs.State.{State, has_no_mark}
 
 pub record TipOf (I : Type 0) : Type 0 where
   pub id : I
@@ -21,9 +21,9 @@ unfoldable pub put_in : (ℕ → ℕ → Bool) → ℕ → List ℕ → List ℕ
 put_in first p [] = p ∷ []
 put_in first p (q ∷ rest) = if first p q then p ∷ q ∷ rest else q ∷ put_in first p rest
 
-unfoldable pub ordered : (ℕ → ℕ → Bool) → List ℕ → List ℕ
-ordered first [] = []
-ordered first (p ∷ ps) = put_in first p (ordered first ps)
+unfoldable pub sort_places : (ℕ → ℕ → Bool) → List ℕ → List ℕ
+sort_places first [] = []
+sort_places first (p ∷ ps) = put_in first p (sort_places first ps)
 
 module _ {B : Type 0} where
   -- the active block, or one on which no other stands
@@ -40,7 +40,7 @@ module _ {B : Type 0} where
 
   unfoldable pub status : State B → ℕ → ℕ → Status
   status s a p =
-      if p == a then Active else if not (usable s p) then Invalid else if has s.seen p then ValidFork else ValidHeaders
+      if p == a then Active else if not (has_no_mark s p) then Invalid else if has s.seen p then ValidFork else ValidHeaders
 
 module _ {B I : Type 0} (names : Naming B I) where
   unfoldable pub tip : State B → ℕ → ℕ → TipOf I
@@ -52,8 +52,8 @@ module _ {B I : Type 0} (names : Naming B I) where
   }
 
   unfoldable pub tips : State B → ℕ → List (TipOf I)
-  tips s a = map (tip s a) (ordered (goes_first s.blocks) (filter (is_tip s.blocks a) (places s.blocks)))
+  tips s a = map (tip s a) (sort_places (goes_first s.blocks) (filter (is_tip s.blocks a) (places s.blocks)))
 
 -- as the program tells it
-abbrev pub shown : TipOf Id → Tip
-shown t = record { id = t.id; height = t.height; length = t.length; status = t.status }
+abbrev pub tip_of_id : TipOf Id → Tip
+tip_of_id t = record { id = t.id; height = t.height; length = t.length; status = t.status }

@@ -3,7 +3,7 @@
 ghost use Rattle.std.specs.Prelude.{◌≡◌, ℕ, ◌≤◌, ◌<◌, ◌↔◌, ◌⊎◌, suc, true, length, List, Some};
 ghost use Rattle.block.specs.Identity.{id_of};
 ghost use Rattle.tree.specs.Branches.{Blocks, has, on, height, parent_at};
-ghost use Rattle.tree.specs.State.{State, rank_in, better, called, with_block, without_last};
+ghost use Rattle.tree.specs.State.{State, rank_in, beats, with_call, with_block, without_last};
 ghost use Rattle.tree.specs.Names.{names, genesis};
 ghost use Rattle.tree.specs.Sound.{Precedes};
 ghost use Rattle.tree.specs.laws.Calls.{first_called};
@@ -12,24 +12,24 @@ use block::laws::genesis_is_its_parts;
 
 /// A block is better where it is higher; as high and called precious later; or as high, neither called, and earlier.
 pub fn better_is_by_height_rank_and_arrival<B>()
-    ensures { (s : State B) (a b : ℕ) → (better s a b ≡ true) ↔ Precedes s a b }
+    ensures { (s : State B) (a b : ℕ) → (beats s a b ≡ true) ↔ Precedes s a b }
 {}
 
 /// Of two blocks one is better, and not the other.
 pub fn of_two_blocks_one_is_better<B>()
-    ensures one { (s : State B) (a b : ℕ) → (a ≡ b → ⊥) → (better s a b ≡ true) ⊎
-        (better s b a ≡ true) }
-    ensures not_both { (s : State B) (a b : ℕ) → better s a b ≡ true → better s b a ≡ true → ⊥ }
-    ensures through { (s : State B) (a b c : ℕ) → better s a b ≡ true → better s b c ≡ true →
-        better s a c ≡ true }
+    ensures one { (s : State B) (a b : ℕ) → (a ≡ b → ⊥) → (beats s a b ≡ true) ⊎
+        (beats s b a ≡ true) }
+    ensures not_both { (s : State B) (a b : ℕ) → beats s a b ≡ true → beats s b a ≡ true → ⊥ }
+    ensures through { (s : State B) (a b c : ℕ) → beats s a b ≡ true → beats s b c ≡ true →
+        beats s a c ≡ true }
 {}
 
 /// A block that is called precious is better than all that aren't higher, and between two others nothing changes.
 pub fn a_call_raises_one_block<B>()
     ensures raised { (s : State B) (p d : ℕ) → (p ≡ d → ⊥) → height s.blocks d ≤ height s.blocks p →
-        better (called s p) p d ≡ true }
+        beats (with_call s p) p d ≡ true }
     ensures others { (s : State B) (p a b : ℕ) → (p ≡ a → ⊥) → (p ≡ b → ⊥) →
-        better (called s p) a b ≡ better s a b }
+        beats (with_call s p) a b ≡ beats s a b }
 {}
 
 /// Of two blocks that were called, the one called later has the higher rank: it stands first in the list in which

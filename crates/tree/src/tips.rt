@@ -5,7 +5,7 @@ ghost use Rattle.tree.specs.Branches.{places, branch};
 ghost use Rattle.tree.specs.Names.{names};
 ghost use Rattle.tree.specs.inside.Tops.{top_at};
 ghost use Rattle.tree.specs.inside.Slots.{is_leaf, leaves_of};
-ghost use Rattle.tree.specs.Tips.{goes_first, is_tip, ordered, shown, status, tip};
+ghost use Rattle.tree.specs.Tips.{goes_first, is_tip, sort_places, tip_of_id, status, tip};
 
 use crate::tip::{Status, Tip};
 use crate::top::Top;
@@ -18,7 +18,7 @@ pub(crate) fn tops(alloc: Global, tree: &Tree, best: usize) -> Result<Vec<Top>, 
     requires { best ≤ length tree.now.blocks }
     ensures { let t = tree.now.blocks in
         IfOk result (λ tops. tops.items ≡
-        map (top_at t) (ordered (goes_first t) (filter (is_tip t best) (places t)))) }
+        map (top_at t) (sort_places (goes_first t) (filter (is_tip t best) (places t)))) }
 {
     let mut tops = all_tops(alloc, tree, tree.leaves(), best)?;
     tops.sort_unstable();
@@ -58,7 +58,7 @@ pub(crate) fn tip_at(tree: &Tree, best: usize, active: &[usize], place: usize) -
     requires best { best ≤ length tree.now.blocks }
     requires active { active.now ≡ reverse (branch tree.now.blocks best) }
     requires kept { place ≤ length tree.now.blocks }
-    ensures { result ≡ shown (tip names tree.now best place) }
+    ensures { result ≡ tip_of_id (tip names tree.now best place) }
 {
     let mut shared = place;
     'down: loop {

@@ -6,10 +6,10 @@ ghost use Rattle.tree.specs.declared.fault.AddFault.TheVariants.{Full};
 ghost use Rattle.tree.specs.Limits.{max_blocks};
 ghost use Rattle.tree.specs.Flags.{flags_of};
 ghost use Rattle.tree.specs.Branches.{has, rest_of, height, parent_at, place_of, block_at, id_at, blocks_at, branch};
-ghost use Rattle.tree.specs.State.{opening, usable, rank, better, with_block, without_last, marked, cleared, saw, called};
+ghost use Rattle.tree.specs.State.{opening, has_no_mark, rank, beats, with_block, without_last, with_mark, without_marks, with_seen, with_call};
 ghost use Rattle.tree.specs.inside.Slots.{AreInOrder, is_leaf, leaves_of};
 ghost use Rattle.tree.specs.Sound.{IsBest, IsFresh};
-ghost use Rattle.tree.specs.Tips.{shown, tips};
+ghost use Rattle.tree.specs.Tips.{tip_of_id, tips};
 ghost use Rattle.tree.specs.MedianTime.{median_time_past};
 ghost use Rattle.tree.specs.Names.{names};
 
@@ -139,7 +139,7 @@ impl Tree {
     /// Whether no block of its branch is marked.
     pub fn usable(&self, place: usize) -> bool
         requires { place ≤ length self.now.blocks }
-        ensures { result ≡ usable self.now place }
+        ensures { result ≡ has_no_mark self.now place }
     {
         self.marks[place].usable
     }
@@ -157,14 +157,14 @@ impl Tree {
     pub fn better(&self, one: usize, other: usize) -> bool
         requires one { one ≤ length self.now.blocks }
         requires other { other ≤ length self.now.blocks }
-        ensures { result ≡ better self.now one other }
+        ensures { result ≡ beats self.now one other }
     {
         self.standing(one).is_above(&self.standing(other))
     }
 
     /// The best of the blocks whose branch has no mark. It looks at all blocks.
     pub fn best_usable(&self) -> usize
-        ensures { IsBest self.now (usable self.now) (length self.now.blocks) result }
+        ensures { IsBest self.now (has_no_mark self.now) (length self.now.blocks) result }
     {
         let mut best = 0;
         for place in 1..self.nodes.len() {
@@ -229,7 +229,7 @@ impl Tree {
     pub fn tips(&self, alloc: Global, best: usize, active: &[usize]) -> Result<Vec<Tip>, Memory>
         requires best { best ≤ length self.now.blocks }
         requires active { active.now ≡ reverse (branch self.now.blocks best) }
-        ensures { IfOk result (λ list. list.items ≡ map shown (tips names self.now best)) }
+        ensures { IfOk result (λ list. list.items ≡ map tip_of_id (tips names self.now best)) }
     {
         let tops = tops(alloc, self, best)?;
         let mut list = Vec::new(alloc);
@@ -243,7 +243,7 @@ impl Tree {
     pub fn mark(&mut self, place: usize)
         requires not_genesis { 0 < place }
         requires kept { place ≤ length self.old.blocks }
-        ensures { self.new ≡ marked self.old place }
+        ensures { self.new ≡ with_mark self.old place }
     {
         self.marks[place].bad = true;
         spoil(self.nodes.as_slice(), self.marks.as_mut_slice(), place);
@@ -252,7 +252,7 @@ impl Tree {
     /// Takes the marks from a block, its ancestors and its descendants. It walks all blocks.
     pub fn clear(&mut self, alloc: Global, place: usize) -> Result<(), Memory>
         requires { place ≤ length self.old.blocks }
-        ensures ok { OnOk result (self.new ≡ cleared self.old place) }
+        ensures ok { OnOk result (self.new ≡ without_marks self.old place) }
         ensures err { OnErr result (self.new ≡ self.old) }
     {
         let related = related(alloc, self.nodes.as_slice(), place)?;
@@ -267,7 +267,7 @@ impl Tree {
     /// Notes that a block was found valid.
     pub fn see(&mut self, place: usize)
         requires { place ≤ length self.old.blocks }
-        ensures { self.new ≡ saw self.old place }
+        ensures { self.new ≡ with_seen self.old place }
     {
         self.marks[place].seen = true;
     }
@@ -291,7 +291,7 @@ impl Tree {
     /// Calls a block precious: it is better than all that are as high.
     pub fn precious(&mut self, place: usize) -> Result<(), Memory>
         requires { place ≤ length self.old.blocks }
-        ensures ok { OnOk result (self.new ≡ called self.old place) }
+        ensures ok { OnOk result (self.new ≡ with_call self.old place) }
         ensures err { OnErr result (self.new ≡ self.old) }
     {
         self.calls.push(place)?;

@@ -5,7 +5,7 @@ use Rattle.std.proofs.lemmas.Grind.{take_at_read}
 use Rattle.std.proofs.lemmas.List.{take_all}
 use Rattle.std.proofs.lemmas.List.Elements.{All-push, recursion_from_All}
 use Rattle.wire.specs.Spelling.{limit}
-use Rattle.wire.specs.Grammar.{Grammar, counted}
+use Rattle.wire.specs.Grammar.{Grammar, counted_list}
 
 module _ {A : Type 0} (part : Grammar A) (script : A → List ℕ) where
   -- lawful where its script isn't too long
@@ -19,7 +19,7 @@ module _ {A : Type 0} (part : Grammar A) (script : A → List ℕ) where
       subst (All IfShort) (sym next) (All-push IfShort (take k xs) x before this)
 
   -- all of them
-  pub all_lawful : (xs ys : List A) (k : ℕ) → length ys ≤ k → xs ≡ ys → All IfShort (take k ys) → (length xs ≤ limit) × All (λ x. length (script x) ≤ limit) xs → (counted part).Lawful xs
+  pub all_lawful : (xs ys : List A) (k : ℕ) → length ys ≤ k → xs ≡ ys → All IfShort (take k ys) → (length xs ≤ limit) × All (λ x. length (script x) ≤ limit) xs → (counted_list part).Lawful xs
   all_lawful xs ys k whole same each (count, short) =
       let every : All IfShort xs = subst (All IfShort) (take_all k ys whole ∙ sym same) each in
       (count, (refl, recursion_from_All part.Lawful xs (λ k d lt. every k d lt (short k d lt))))

@@ -5,8 +5,8 @@
 ghost use Rattle.std.specs.Prelude.{ℕ, List, ◌++◌};
 ghost use Rattle.std.specs.List.{flat_map};
 ghost use Rattle.sha2.specs.Hashers.{Holds256};
-ghost use Rattle.wire.specs.Spelling.{compact};
-ghost use Rattle.wire.specs.Grammar.{sized, counted};
+ghost use Rattle.wire.specs.Spelling.{compact_size};
+ghost use Rattle.wire.specs.Grammar.{sized_bytes, counted_list};
 ghost use Rattle.txn.specs.Grammar.{outpoint, input, output, transaction};
 
 use crate::input::TxIn;
@@ -19,7 +19,7 @@ use wire::CompactSize;
 
 /// Feeds a count, in the shortest of its forms.
 pub fn feed_count(hasher: &mut Sha256, n: u128)
-    ensures { (fed : List ℕ) → Holds256 hasher.old fed → Holds256 hasher.new (fed ++ compact n) }
+    ensures { (fed : List ℕ) → Holds256 hasher.old fed → Holds256 hasher.new (fed ++ compact_size n) }
 {
     hasher.update(CompactSize::of(n).as_slice());
 }
@@ -36,7 +36,7 @@ pub fn feed_outpoint(hasher: &mut Sha256, p: &OutPoint)
 /// Feeds a script after its length.
 pub fn feed_script(hasher: &mut Sha256, script: &Script)
     ensures { (fed : List ℕ) → Holds256 hasher.old fed
-        → Holds256 hasher.new (fed ++ sized.spell script.now) }
+        → Holds256 hasher.new (fed ++ sized_bytes.spell script.now) }
 {
     feed_count(hasher, script.len() as u128);
     hasher.update(script.as_slice());
@@ -65,7 +65,7 @@ fn feed_each_input(hasher: &mut Sha256, inputs: &[TxIn])
 /// Feeds inputs after their count.
 pub fn feed_inputs(hasher: &mut Sha256, inputs: &[TxIn])
     ensures { (fed : List ℕ) → Holds256 hasher.old fed
-        → Holds256 hasher.new (fed ++ (counted input).spell inputs.now) }
+        → Holds256 hasher.new (fed ++ (counted_list input).spell inputs.now) }
 {
     feed_count(hasher, inputs.len() as u128);
     feed_each_input(hasher, inputs);
@@ -93,7 +93,7 @@ pub fn feed_each_output(hasher: &mut Sha256, outputs: &[TxOut])
 /// Feeds outputs after their count.
 pub fn feed_outputs(hasher: &mut Sha256, outputs: &[TxOut])
     ensures { (fed : List ℕ) → Holds256 hasher.old fed
-        → Holds256 hasher.new (fed ++ (counted output).spell outputs.now) }
+        → Holds256 hasher.new (fed ++ (counted_list output).spell outputs.now) }
 {
     feed_count(hasher, outputs.len() as u128);
     feed_each_output(hasher, outputs);

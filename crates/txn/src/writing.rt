@@ -1,7 +1,7 @@
 //! Transactions written as bytes.
 
 ghost use Rattle.std.specs.Prelude.{◌≡◌, ◌≤◌, ◌++◌, length, OnOk, OnErr};
-ghost use Rattle.wire.specs.Grammar.{sized, counted};
+ghost use Rattle.wire.specs.Grammar.{sized_bytes, counted_list};
 ghost use Rattle.wire.specs.Spelling.{limit};
 ghost use Rattle.wire.specs.inside.Writing.{Extends};
 ghost use Rattle.txn.specs.Grammar.{outpoint, input, output, transaction};
@@ -35,9 +35,9 @@ fn knows_outpoint(p: OutPoint)
 
 #[tactic(auto, using(wire::specs::laws::Writing::extending))]
 fn put_script(out: &mut Vec<u8>, s: &Script) -> Result<(), Memory>
-    ensures written { OnOk result (out.new.items ≡ out.old.items ++ sized.spell s.now) }
+    ensures written { OnOk result (out.new.items ≡ out.old.items ++ sized_bytes.spell s.now) }
     ensures extends { Extends out.old.items out.new.items }
-    ensures lawful { length s.now ≤ limit → sized.Lawful s.now }
+    ensures lawful { length s.now ≤ limit → sized_bytes.Lawful s.now }
 {
     let bytes = s.as_slice();
     put_compact(out, bytes.len() as u64)?;
@@ -70,9 +70,9 @@ fn put_tx_out(out: &mut Vec<u8>, o: &TxOut) -> Result<(), Memory>
 #[tactic(auto, using(wire::specs::laws::Writing::extending))]
 fn put_inputs(out: &mut Vec<u8>, inputs: &Inputs) -> Result<(), Memory>
     ensures written { OnOk result (out.new.items
-        ≡ out.old.items ++ (counted input).spell inputs.now) }
+        ≡ out.old.items ++ (counted_list input).spell inputs.now) }
     ensures extends { Extends out.old.items out.new.items }
-    ensures lawful { OnOk result (AreInputsWithin inputs.now → (counted input).Lawful inputs.now) }
+    ensures lawful { OnOk result (AreInputsWithin inputs.now → (counted_list input).Lawful inputs.now) }
 {
     put_compact(out, inputs.len() as u64)?;
     for i in inputs.as_slice() {
@@ -84,10 +84,10 @@ fn put_inputs(out: &mut Vec<u8>, inputs: &Inputs) -> Result<(), Memory>
 #[tactic(auto, using(wire::specs::laws::Writing::extending))]
 fn put_outputs(out: &mut Vec<u8>, outputs: &Outputs) -> Result<(), Memory>
     ensures written { OnOk result (out.new.items
-        ≡ out.old.items ++ (counted output).spell outputs.now) }
+        ≡ out.old.items ++ (counted_list output).spell outputs.now) }
     ensures extends { Extends out.old.items out.new.items }
     ensures lawful { OnOk result (AreOutputsWithin outputs.now
-        → (counted output).Lawful outputs.now) }
+        → (counted_list output).Lawful outputs.now) }
 {
     put_compact(out, outputs.len() as u64)?;
     for o in outputs.as_slice() {

@@ -52,8 +52,8 @@ coins_at m [] = []
 coins_at m (outpoint ∷ outpoints) = option_to_list (coin_map.get m outpoint) ++ coins_at m outpoints
 
 -- the coins that a transaction spends, in the order of its inputs
-unfoldable pub spent : Coins → Tx → List Coin
-spent m tx = coins_at m (spends tx)
+unfoldable pub spent_coins : Coins → Tx → List Coin
+spent_coins m tx = coins_at m (spends tx)
 
 -- a transaction can be applied: what it spends are coins, each once, and no output is a coin
 pub record IsApplicable (m : Coins) (tx : Tx) (id : Id) : Type 0 where
@@ -67,4 +67,4 @@ pub record IsApplicable (m : Coins) (tx : Tx) (id : Id) : Type 0 where
 pub record IsApplied (m : Coins) (tx : Tx) (id : Id) (height : ℕ) (n : Coins) (taken : List Coin) : Type 0 where
   pub applicable : IsApplicable m tx id
   pub after : n ≡ after m tx id height
-  pub spent : taken ≡ spent m tx
+  pub spent : taken ≡ spent_coins m tx

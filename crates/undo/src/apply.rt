@@ -6,7 +6,7 @@ ghost use Rattle.hash.specs.declared.id.Id.{Id};
 ghost use Rattle.txn.specs.Check.{prevs};
 ghost use Rattle.script.specs.Kinds.{is_unspendable};
 ghost use Rattle.coins.specs.Entries.{over, IsSound};
-ghost use Rattle.undo.specs.Effect.{spends, spendable, coin_of, makes, without, with_coins, after, coins_at, spent, IsApplicable};
+ghost use Rattle.undo.specs.Effect.{spends, spendable, coin_of, makes, without, with_coins, after, coins_at, spent_coins, IsApplicable};
 ghost use Rattle.undo.specs.inside.Reverting.{AreCoins, AreNew};
 
 use crate::block_undo::Spent;
@@ -27,7 +27,7 @@ pub fn apply_tx<B: Base>(
     height: u32,
 ) -> Result<Spent, Memory>
     requires { IsApplicable cache.old.coins tx.now id }
-    ensures spent { IfOk result (λ taken. taken ≡ spent cache.old.coins tx.now) }
+    ensures spent { IfOk result (λ taken. taken ≡ spent_coins cache.old.coins tx.now) }
     ensures ok { OnOk result (cache.new ≡
         record cache.old { coins = after cache.old.coins tx.now id height }) }
     ensures err { OnErr result (cache.new ≡ cache.old) }
@@ -46,7 +46,7 @@ fn applied<B: Base>(
     height: u32,
 ) -> Result<(Spent, Writes), Memory>
     requires { IsApplicable (B.coins base.now) tx.now id }
-    ensures spent { IfOk result (λ applied. applied.0 ≡ spent (B.coins base.now) tx.now) }
+    ensures spent { IfOk result (λ applied. applied.0 ≡ spent_coins (B.coins base.now) tx.now) }
     ensures sound { IfOk result (λ applied. IsSound (B.coins base.now) applied.1) }
     ensures over { IfOk result (λ applied. over (B.coins base.now) applied.1 ≡
         after (B.coins base.now) tx.now id height) }
@@ -67,7 +67,7 @@ pub fn apply_in_layer<'b, B: Base>(
     requires { IsApplicable layer.coins tx.now id }
     ensures layer { IfOk result (λ done.
         done.0 ≡ record layer.entry { coins = after layer.entry.coins tx.now id height }) }
-    ensures spent { IfOk result (λ done. done.1 ≡ spent layer.entry.coins tx.now) }
+    ensures spent { IfOk result (λ done. done.1 ≡ spent_coins layer.entry.coins tx.now) }
 {
     let spent = spend_inputs(alloc, &mut layer, tx)?;
     add_all(

@@ -11,8 +11,8 @@ ghost use Rattle.txn.specs.declared.tx.Tx.{Tx};
 ghost use Rattle.txn.specs.Check.{is_coinbase};
 ghost use Rattle.script.specs.Kinds.{is_unspendable};
 ghost use Rattle.coins.specs.Coins.{Coins, same};
-ghost use Rattle.undo.specs.Effect.{spends, place, coin_of, after, spent, IsApplicable};
-ghost use Rattle.undo.specs.inside.Reverting.{reverted};
+ghost use Rattle.undo.specs.Effect.{spends, place, coin_of, after, spent_coins, IsApplicable};
+ghost use Rattle.undo.specs.inside.Reverting.{coins_before};
 
 /// What a transaction spends is gone after it.
 pub fn what_is_spent_is_gone()
@@ -42,5 +42,5 @@ pub fn all_other_coins_stay()
 /// A transaction that is taken back leaves the coins of before.
 pub fn taking_back_leaves_the_coins_of_before()
     ensures { (coins : Coins) (tx : Tx) (id : Id) (height : ℕ) → IsApplicable coins tx id →
-        reverted (after coins tx id height) tx id (spent coins tx) ≡ coins }
+        coins_before (after coins tx id height) tx id (spent_coins coins tx) ≡ coins }
 {}

@@ -9,7 +9,7 @@ ghost use Rattle.script.specs.Kinds.{is_unspendable};
 ghost use Rattle.coins.specs.Coins.{Coins};
 ghost use Rattle.coins.specs.Entries.{over, IsSound};
 ghost use Rattle.undo.specs.Effect.{spends, spendable, without, with_coins, IsApplied};
-ghost use Rattle.undo.specs.inside.Reverting.{reverted, IsRevertible, AreCoins, AreNew};
+ghost use Rattle.undo.specs.inside.Reverting.{coins_before, IsRevertible, AreCoins, AreNew};
 
 use crate::block_undo::Spent;
 use coins::{Base, Cache, Coin, Writes};
@@ -50,7 +50,7 @@ fn undone<B: Base>(
     requires { IsRevertible (B.coins base.now) tx.now id spent.now }
     ensures sound { IfOk result (λ writes. IsSound (B.coins base.now) writes) }
     ensures over { IfOk result (λ writes. over (B.coins base.now) writes ≡
-        reverted (B.coins base.now) tx.now id spent.now) }
+        coins_before (B.coins base.now) tx.now id spent.now) }
 {
     let layer = revert(Cache::over(alloc, base), tx, id, spent)?;
     Ok(layer.into_writes())
@@ -81,7 +81,7 @@ fn revert<'b, B: Base>(
 ) -> Result<Cache<'b, B>, Memory>
     requires { IsRevertible layer.coins tx.now id spent.now }
     ensures { IfOk result (λ left.
-        left ≡ record layer.entry { coins = reverted layer.entry.coins tx.now id spent.now }) }
+        left ≡ record layer.entry { coins = coins_before layer.entry.coins tx.now id spent.now }) }
 {
     take_all(&mut layer, id, tx.outputs.as_slice())?;
     return_inputs(&mut layer, tx, spent)?;

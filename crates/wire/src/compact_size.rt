@@ -1,7 +1,7 @@
 //! The spelling of counts.
 
 ghost use Rattle.std.specs.Prelude.{◌≡◌};
-ghost use Rattle.wire.specs.Spelling.{compact};
+ghost use Rattle.wire.specs.Spelling.{compact_size};
 
 use std::marker::Model;
 
@@ -25,9 +25,9 @@ impl Model for CompactSize {
 
 impl CompactSize {
     /// The spelling of this count, of which the longest form has the lowest 64 bits.
-    #[tactic(auto, unfolding(crate::specs::Spelling::compact))]
+    #[tactic(auto, unfolding(crate::specs::Spelling::compact_size))]
     pub fn of(n: u128) -> CompactSize
-        ensures { result ≡ compact n }
+        ensures { result ≡ compact_size n }
     {
         if n < 253 {
             return CompactSize {

@@ -6,8 +6,8 @@ use Rattle.tree.specs.MedianTime.{median_time_past}
 use Rattle.tree.specs.Names.{names}
 
 -- the last n of a list, or all where it has fewer
-unfoldable pub newest : {A : Type 0} → ℕ → List A → List A
-newest n l = drop (length l - n) l
+unfoldable pub last_of : {A : Type 0} → ℕ → List A → List A
+last_of n l = drop (length l - n) l
 
 -- the median time past of the block at a place
 abbrev pub median_at : Blocks Block → ℕ → ℕ

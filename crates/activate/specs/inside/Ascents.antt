@@ -9,7 +9,7 @@ use Rattle.tree.specs.laws.Above.{above}
 use Rattle.activate.specs.declared.ascent.Ascent.{Ascent}
 use Rattle.activate.specs.declared.ascent.Ascent.TheVariants.{Top, Stops}
 use Rattle.chain.specs.Rules.{Rules}
-use Rattle.chain.specs.Valid.{valid}
+use Rattle.chain.specs.Valid.{branch_connects}
 use Rattle.activate.specs.CoreState.{coins_after}
 use Rattle.activate.specs.inside.Keeping.{undo_at}
 use Rattle.activate.specs.inside.Paths.{IsStop}
@@ -27,7 +27,7 @@ pub record LeadsUp (t : Blocks Block) (f : ℕ) (up : List ℕ) : Type 0 where
 
 -- each of these blocks, the highest first, connects: what they spend, the lowest first, and which coins they leave
 pub record IsTop (r : Rules Block Id) (t : Blocks Block) (f : ℕ) (up : List ℕ) (undo : List (List (List Coin))) (coins : Coins) : Type 0 where
-  pub good : valid r t (top_of f up) ≡ true
+  pub good : branch_connects r t (top_of f up) ≡ true
   pub spent : undo ≡ reverse (map (undo_at t) up)
   pub left : coins ≡ coins_after t (top_of f up)
 

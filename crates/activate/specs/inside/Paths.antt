@@ -3,7 +3,7 @@ use Rattle.std.specs.Prelude.{◌≡◌, ℕ, ◌<◌, true, List, ◌∷◌, �
 use Rattle.txn.specs.declared.reason.Reason.{Reason}
 use Rattle.hash.specs.declared.id.Id.{Id}
 use Rattle.block.specs.declared.block.Block.{Block}
-use Rattle.coins.specs.Changes.{AreChanges, laid}
+use Rattle.coins.specs.Changes.{AreChanges, after_changes}
 use Rattle.connect.specs.Setting.{Setting}
 use Rattle.connect.specs.Connecting.{IsConnected}
 use Rattle.tree.specs.Branches.{Blocks, on, height, parent_at, block_at}
@@ -15,7 +15,7 @@ use Rattle.activate.specs.declared.path.FailedTry.{FailedTry}
 use Rattle.activate.specs.declared.path.Attempt.{Attempt}
 use Rattle.activate.specs.declared.path.Attempt.TheVariants.{Succeeds, Fails}
 use Rattle.chain.specs.Rules.{Rules}
-use Rattle.chain.specs.Valid.{fault, valid}
+use Rattle.chain.specs.Valid.{fault, branch_connects}
 use Rattle.chain.specs.inside.Faults.{IsFirstFault}
 use Rattle.activate.specs.CoreState.{coins_after}
 use Rattle.activate.specs.inside.Keeping.{undo_at}
@@ -40,10 +40,10 @@ pub record IsPath (t : Blocks Block) (a p : ℕ) (path : BranchPath) : Type 0 wh
 -- of its branch differ from the active ones
 pub record LeadsTo (r : Rules Block Id) (t : Blocks Block) (a p : ℕ) (move : Reorganisation) : Type 0 where
   pub path : IsPath t a p move.path
-  pub good : valid r t p ≡ true
+  pub good : branch_connects r t p ≡ true
   pub undo : move.undo.items ≡ reverse (map (undo_at t) move.path.up.items)
   pub changes : AreChanges (coins_after t a) (coins_after t p) move.changes.items
-  pub laid : laid (coins_after t a) move.changes.items ≡ coins_after t p
+  pub laid : after_changes (coins_after t a) move.changes.items ≡ coins_after t p
 
 -- of the branch of p so many of the blocks above a fork connect, the highest of which comes first, and the next one
 -- doesn't

@@ -5,7 +5,7 @@ use Rattle.block.specs.declared.block.Block.{Block}
 use Rattle.coins.specs.declared.coin.Coin.{Coin}
 use Rattle.coins.specs.Changes.{Changes, AreChanges}
 use Rattle.tree.specs.Branches.{Blocks, has, height, rest_of, on}
-use Rattle.tree.specs.State.{State, usable, without_last, marked}
+use Rattle.tree.specs.State.{State, has_no_mark, without_last, with_mark}
 use Rattle.tree.specs.Flags.{FlagsOf}
 use Rattle.tree.specs.Names.{names}
 use Rattle.tree.specs.Sound.{IsFresh}
@@ -24,22 +24,22 @@ use Rattle.activate.specs.declared.path.FailedTry.{FailedTry}
 use Rattle.activate.specs.declared.path.Reorganisation.{Reorganisation}
 use Rattle.activate.specs.declared.path.BranchPath.{BranchPath}
 use Rattle.chain.specs.Rules.{Rules}
-use Rattle.chain.specs.Valid.{valid}
+use Rattle.chain.specs.Valid.{branch_connects}
 use Rattle.chain.specs.Settle.{active, settle}
 use Rattle.chain.specs.inside.Try.{state_after_try}
 use Rattle.chain.specs.Settled.{AllKept}
 use Rattle.chain.specs.Commands.{outcome}
 use Rattle.chain.specs.Submission.{Outcome}
-use Rattle.activate.specs.CoreState.{CoreState, coins_of, least, most_undo}
+use Rattle.activate.specs.CoreState.{CoreState, coins_of, lesser_of, most_undo}
 use Rattle.activate.specs.inside.Keeping.{undo_at}
 use Rattle.activate.specs.inside.Paths.{FailsAt, IsPath, LeadsTo}
 
 -- what is always right of the flags between two tries: the active branch is valid and was seen
 pub record CanTry (r : Rules Block Id) (c : CoreState) : Type 0 where
-  pub genesis : usable c.state 0 ≡ true
+  pub genesis : has_no_mark c.state 0 ≡ true
   pub kept : c.active ≤ length c.state.blocks
   pub all : AllKept r c.state.blocks
-  pub good : valid r c.state.blocks c.active ≡ true
+  pub good : branch_connects r c.state.blocks c.active ≡ true
   pub seen : (x : ℕ) → on c.state.blocks c.active x ≡ true → has c.state.seen x ≡ true
   pub bad_in_order : InOrder (length c.state.blocks) c.state.bad
   pub seen_in_order : InOrder (length c.state.blocks) c.state.seen
@@ -54,7 +54,7 @@ pub record HasFlags (s : State Block) (a : ℕ) : Type 0 where
 pub record IsValidPath (r : Rules Block Id) (s : State Block) (a p : ℕ) (path : BranchPath) : Type 0 where
   pub kept : p ≤ length s.blocks
   pub leads : IsPath s.blocks a p path
-  pub good : valid r s.blocks p ≡ true
+  pub good : branch_connects r s.blocks p ≡ true
   pub flags : HasFlags s a
 
 -- a try of a block that failed
@@ -76,7 +76,7 @@ pub record CanActivate (r : Rules Block Id) (c : CoreState) (p : ℕ) (path : Br
   pub can : CanTry r c
   pub kept : p ≤ length c.state.blocks
   pub is_way : IsPath c.state.blocks c.active p path
-  pub good : valid r c.state.blocks p ≡ true
+  pub good : branch_connects r c.state.blocks p ≡ true
   pub undo_is : undo ≡ reverse (map (undo_at c.state.blocks) path.up.items)
 
 abbrev pub IsReady : Rules Block Id → CoreState → Completion → Type 0
@@ -86,11 +86,11 @@ IsReady r c (Activate p path undo) = CanActivate r c p path undo.items
 
 -- of so many blocks undo is kept after a path was gone: not of those that were taken back, and at most of the highest
 abbrev pub undo_after : Blocks Block → ℕ → ℕ → BranchPath → ℕ
-undo_after t a kept path = least most_undo ((kept - (height t a - path.height)) + length path.up.items)
+undo_after t a kept path = lesser_of most_undo ((kept - (height t a - path.height)) + length path.up.items)
 
 abbrev pub core_after_commit : Rules Block Id → CoreState → Completion → CoreState
 core_after_commit r c Nothing = c
-core_after_commit r c (Mark p) = record c { state = marked c.state p }
+core_after_commit r c (Mark p) = record c { state = with_mark c.state p }
 core_after_commit r c (Activate p path undo) = record c {
   state = state_after_try r c.state p;
   active = p;

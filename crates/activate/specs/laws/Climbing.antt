@@ -23,7 +23,7 @@ use Rattle.tree.specs.laws.Parents.{parent-kept, before-parent, branch-parent, h
 use Rattle.tree.specs.laws.Walks.{has_at}
 use Rattle.tree.specs.laws.Above.{above, above-end, above-step, above-rest, above-part, OnWay}
 use Rattle.chain.specs.Rules.{Rules}
-use Rattle.chain.specs.Valid.{fault, connects, valid, first_to_fail}
+use Rattle.chain.specs.Valid.{fault, connects, branch_connects, first_to_fail}
 use Rattle.chain.specs.Settled.{AllKept}
 use Rattle.chain.specs.laws.Medians.{length-medians}
 use Rattle.chain.specs.Regtest.{medians_of, setting_on, ledger, regtest}
@@ -104,17 +104,17 @@ module _ (params : Params) (triples : Triples) (t : Blocks Block) where
           ∙ sym (step-up r ledger t p z h)
 
     -- where it connects on a valid branch, its own is valid
-    pub valid-next : valid r t (parent_at t p) ≡ true → fault r t p ≡ None → valid r t p ≡ true
-    unfolding valid connects
+    pub valid-next : branch_connects r t (parent_at t p) ≡ true → fault r t p ≡ None → branch_connects r t p ≡ true
+    unfolding branch_connects connects
     valid-next v e = ap (λ (l : List ℕ). list_all (connects r t) l) (branch-parent t p z h) ∙ and_from _ _ (ap is_none e) v
 
     -- and where it doesn't, it is the first of its branch
-    pub first-next : (reason : Reason) → valid r t (parent_at t p) ≡ true → fault r t p ≡ Some reason → first_to_fail r t p ≡ true
-    unfolding valid first_to_fail connects
+    pub first-next : (reason : Reason) → branch_connects r t (parent_at t p) ≡ true → fault r t p ≡ Some reason → first_to_fail r t p ≡ true
+    unfolding branch_connects first_to_fail connects
     first-next reason v e = and_from _ _ (ap (λ (o : Option Reason). not (is_none o)) e) (ap (λ (l : List ℕ). list_all (connects r t) l) (before-parent t p z h) ∙ v)
 
   -- each block of a valid branch was connected to the coins of its parent's
-  pub were-connected : (p : ℕ) → p ≤ length t → AllKept r t → valid r t p ≡ true → AreConnected t p
+  pub were-connected : (p : ℕ) → p ≤ length t → AllKept r t → branch_connects r t p ≡ true → AreConnected t p
   unfolding undo_at
   were-connected p h all v x z o =
       let k = (on-bounds t p x o).1 in

@@ -3,13 +3,13 @@ use Rattle.std.proofs.Common.{◌≡◌, ℕ, ◌+◌, ◌<◌, ◌≤◌, Bool,
 use Rattle.std.proofs.lemmas.Bool.{eqb-true, eq-eqb, and_parts, and_from, or_cases, or_left, or_right, false_from_ne_true}
 use Rattle.std.proofs.lemmas.List.Folds.{list_any-append, list_any_more}
 use Rattle.tree.specs.Branches.{Blocks, has, branch, on, parent_at, places, down_from}
-use Rattle.tree.specs.State.{State, joined}
+use Rattle.tree.specs.State.{State, union_where}
 use Rattle.tree.specs.laws.Sets.{InOrder, same_tests, filter_agree, joined_agree, joined_twice}
 use Rattle.tree.specs.laws.Branches.{on-bounds, on-itself, on_trans, on_chain}
 use Rattle.tree.specs.laws.Parents.{parent-kept, on-parent, on-rest}
 use Rattle.tree.specs.laws.Above.{above, above-rest, OnWay, IsShared}
 use Rattle.chain.specs.Rules.{Rules}
-use Rattle.chain.specs.Valid.{valid, first_to_fail}
+use Rattle.chain.specs.Valid.{branch_connects, first_to_fail}
 use Rattle.chain.specs.inside.Faults.{IsFirstFault}
 use Rattle.chain.specs.inside.Try.{fails_on, passes_on, state_after_try}
 use Rattle.chain.specs.laws.Candidates.{valid_from, valid_below, never_fails, below_first, same_first}
@@ -19,8 +19,8 @@ use Rattle.chain.specs.laws.Candidates.{valid_from, valid_below, never_fails, be
 module _ (n : ℕ) (set : List ℕ) where
   -- tests that differ only on what is in the set give the same
   same_joined : (f g : ℕ → Bool) → ((x : ℕ) → x ≤ n → f x ≡ true → (has set x ≡ true) ⊎ (g x ≡ true)) → ((x : ℕ) → x ≤ n → g x ≡ true → (has set x ≡ true) ⊎ (f x ≡ true))
-      → joined (down_from n) set f ≡ joined (down_from n) set g
-  unfolding joined
+      → union_where (down_from n) set f ≡ union_where (down_from n) set g
+  unfolding union_where
   same_joined f g there rollback =
       filter_agree (λ x. has set x || f x) (λ x. has set x || g x) n (λ x l. same_tests (has set x || f x) (has set x || g x) (one f g x (there x l)) (one g f x (rollback x l)))
     where
@@ -32,12 +32,12 @@ module _ (n : ℕ) (set : List ℕ) where
           ]
 
   -- nothing more
-  pub joined_none : InOrder n set → joined (down_from n) set (λ x. has [] x) ≡ set
+  pub joined_none : InOrder n set → union_where (down_from n) set (λ x. has [] x) ≡ set
   joined_none order = order
 
   -- the places of a list, and the next one
   pub joined_next : (l : List ℕ) (i d : ℕ) → i < length l
-      → joined (down_from n) (joined (down_from n) set (λ x. has (take i l) x)) (λ x. eqb x (get_or l i d)) ≡ joined (down_from n) set (λ x. has (take (i + 1) l) x)
+      → union_where (down_from n) (union_where (down_from n) set (λ x. has (take i l) x)) (λ x. eqb x (get_or l i d)) ≡ union_where (down_from n) set (λ x. has (take (i + 1) l) x)
   joined_next l i d h =
       joined_twice n set (λ x. has (take i l) x) (λ x. eqb x (get_or l i d))
       ∙ joined_agree n set (λ x. has (take i l) x || eqb x (get_or l i d)) (λ x. has (take (i + 1) l) x)
@@ -69,16 +69,16 @@ module _ {B I : Type 0} (r : Rules B I) (s : State B) (a p f : ℕ) (l : p ≤ l
   was x o = seen x (on_trans t a f x shared.here o)
 
   -- a path whose blocks all connect
-  pub way_noted : valid r t p ≡ true → InOrder (length t) s.bad → record s { seen = joined (places t) s.seen (λ x. has (above t p f) x) } ≡ state_after_try r s p
+  pub way_noted : branch_connects r t p ≡ true → InOrder (length t) s.bad → record s { seen = union_where (places t) s.seen (λ x. has (above t p f) x) } ≡ state_after_try r s p
   unfolding state_after_try fails_on passes_on
   way_noted v order =
-      ap (λ (b : List ℕ). record s { bad = b; seen = joined (places t) s.seen (λ x. has (above t p f) x) })
+      ap (λ (b : List ℕ). record s { bad = b; seen = union_where (places t) s.seen (λ x. has (above t p f) x) })
       (sym order ∙ joined_agree (length t) s.bad (λ x. false) (λ x. first_to_fail r t x && on t p x)
       (λ x k. sym (false_from_ne_true _ (λ e. let b = and_parts (first_to_fail r t x) (on t p x) e in never_fails r t p x v b.1 b.0))))
-      ∙ ap (λ (b : List ℕ). record s { bad = joined (places t) s.bad (λ x. first_to_fail r t x && on t p x); seen = b })
-      (same_joined (length t) s.seen (λ x. has (above t p f) x) (λ x. valid r t x && on t p x)
-      (λ x k h. let o = above-on t f p x l shared.there h in inr (and_from (valid r t x) (on t p x) (valid_below r t p x v o) o))
-      (λ x k h. elim (on-above t f p x l shared.there (and_parts (valid r t x) (on t p x) h).1) [ inl o ↦ inl (was x o) | inr o ↦ inr o ]))
+      ∙ ap (λ (b : List ℕ). record s { bad = union_where (places t) s.bad (λ x. first_to_fail r t x && on t p x); seen = b })
+      (same_joined (length t) s.seen (λ x. has (above t p f) x) (λ x. branch_connects r t x && on t p x)
+      (λ x k h. let o = above-on t f p x l shared.there h in inr (and_from (branch_connects r t x) (on t p x) (valid_below r t p x v o) o))
+      (λ x k h. elim (on-above t f p x l shared.there (and_parts (branch_connects r t x) (on t p x) h).1) [ inl o ↦ inl (was x o) | inr o ↦ inr o ]))
 
   -- a path with a block that is the first that doesn't connect: those below it, and itself
   module _ (c : ℕ) (rest : List ℕ) (first : IsFirstFault r t p c) (on_way : OnWay t f c rest) where
@@ -93,7 +93,7 @@ module _ {B I : Type 0} (r : Rules B I) (s : State B) (a p f : ℕ) (l : p ≤ l
         (on_trans t c down x (on-parent t c z on_way.kept) o, omega arith)
 
     -- each block under it has a valid branch
-    good : (x : ℕ) → on t down x ≡ true → valid r t x ≡ true
+    good : (x : ℕ) → on t down x ≡ true → branch_connects r t x ≡ true
     good x o = valid_from r t x (λ y h.
         let u = under x o in
         let b = (on-bounds t x y h).0 in
@@ -101,7 +101,7 @@ module _ {B I : Type 0} (r : Rules B I) (s : State B) (a p f : ℕ) (l : p ≤ l
         elim (below_first r t c y on_way.kept first.first (on_trans t c x y u.0 h)) [ inl e ↦ absurd (let g : c ≡ y = e in omega arith) | inr e ↦ e ])
 
     -- and a valid branch ends under it
-    ends : (x : ℕ) → valid r t x ≡ true → on t p x ≡ true → on t down x ≡ true
+    ends : (x : ℕ) → branch_connects r t x ≡ true → on t p x ≡ true → on t down x ≡ true
     ends x v o =
         let z : 0 < c = let g = on_way.above_f in omega arith in
         elim (on_chain t p c x first.on o) [
@@ -109,19 +109,19 @@ module _ {B I : Type 0} (r : Rules B I) (s : State B) (a p f : ℕ) (l : p ≤ l
           | inr h ↦ absurd (never_fails r t x c v h first.first)
         ]
 
-    pub flaw_noted : record s { bad = joined (places t) s.bad (λ x. eqb x c); seen = joined (places t) s.seen (λ x. has rest x) } ≡ state_after_try r s p
+    pub flaw_noted : record s { bad = union_where (places t) s.bad (λ x. eqb x c); seen = union_where (places t) s.seen (λ x. has rest x) } ≡ state_after_try r s p
     unfolding state_after_try fails_on passes_on
     flaw_noted =
-        ap (λ (b : List ℕ). record s { bad = b; seen = joined (places t) s.seen (λ x. has rest x) })
+        ap (λ (b : List ℕ). record s { bad = b; seen = union_where (places t) s.seen (λ x. has rest x) })
         (joined_agree (length t) s.bad (λ x. eqb x c) (λ x. first_to_fail r t x && on t p x)
         (λ x k. same_tests (eqb x c) (first_to_fail r t x && on t p x)
         (λ e. subst (λ (y : ℕ). (first_to_fail r t y && on t p y) ≡ true) (sym (eqb-true x c e)) (and_from (first_to_fail r t c) (on t p c) first.first first.on))
         (λ e. let b = and_parts (first_to_fail r t x) (on t p x) e in eq-eqb x c (same_first r t p x c b.1 first.on b.0 first.first))))
-        ∙ ap (λ (b : List ℕ). record s { bad = joined (places t) s.bad (λ x. first_to_fail r t x && on t p x); seen = b })
-        (same_joined (length t) s.seen (λ x. has rest x) (λ x. valid r t x && on t p x)
-        (λ x k h. let o = on_down x h in inr (and_from (valid r t x) (on t p x) (good x o) (on_trans t p c x first.on (under x o).0)))
+        ∙ ap (λ (b : List ℕ). record s { bad = union_where (places t) s.bad (λ x. first_to_fail r t x && on t p x); seen = b })
+        (same_joined (length t) s.seen (λ x. has rest x) (λ x. branch_connects r t x && on t p x)
+        (λ x k h. let o = on_down x h in inr (and_from (branch_connects r t x) (on t p x) (good x o) (on_trans t p c x first.on (under x o).0)))
         (λ x k h.
-        let b = and_parts (valid r t x) (on t p x) h in
+        let b = and_parts (branch_connects r t x) (on t p x) h in
         elim (on-above t f down x down-kept down_f (ends x b.0 b.1)) [
           | inl o ↦ inl (was x o)
           | inr o ↦ inr (ap (λ (m : List ℕ). has m x) rest-is ∙ o)

@@ -15,7 +15,7 @@ use Rattle.activate.specs.declared.path.BranchPath.{BranchPath}
 use Rattle.chain.specs.Regtest.{medians_of}
 use Rattle.activate.specs.CoreState.{branch_blocks, most_undo}
 use Rattle.activate.specs.inside.Keeping.{undo_at, highest_undo, IsBranch}
-use Rattle.activate.specs.inside.ActiveBranch.{median_at, newest}
+use Rattle.activate.specs.inside.ActiveBranch.{median_at, last_of}
 use Rattle.activate.specs.inside.Paths.{IsPath}
 
 -- ---- lists
@@ -182,8 +182,8 @@ module _ (t : Blocks Block) (a p : ℕ) (h : a ≤ length t) (k : p ≤ length t
     abbrev count : ℕ
     count = min most_undo most
 
-    undo_kept : newest most_undo (highest_undo t p most) ≡ highest_undo t p count
-    unfolding newest
+    undo_kept : last_of most_undo (highest_undo t p most) ≡ highest_undo t p count
+    unfolding last_of
     undo_kept =
         let size = undo_long in
         ap (λ i. drop i (highest_undo t p most)) {x = length (highest_undo t p most) - most_undo} {y = most - count} (omega arith) ∙ undo_newest count (omega arith)
@@ -211,7 +211,7 @@ highest-long t p n k l =
 -- what is kept of a branch, led over to another one
 pub turned_branch : (t : Blocks Block) (a p : ℕ) (h : a ≤ length t) (k : p ≤ length t) (path : BranchPath) (is : IsPath t a p path)
     (places medians : List ℕ) (undo more : List (List (List Coin))) → IsBranch t a places medians undo → more ≡ reverse (map (undo_at t) path.up.items)
-    → IsBranch t p (take (suc path.height) places ++ reverse path.up.items) (take (suc path.height) medians ++ reverse (map (median_at t) path.up.items)) (newest most_undo (take (length undo - (height t a - path.height)) undo ++ more))
+    → IsBranch t p (take (suc path.height) places ++ reverse path.up.items) (take (suc path.height) medians ++ reverse (map (median_at t) path.up.items)) (last_of most_undo (take (length undo - (height t a - path.height)) undo ++ more))
 turned_branch t a p h k path is places medians undo more kept new =
     let n : ℕ = length undo in
     let few = kept.undo_above in
@@ -219,15 +219,15 @@ turned_branch t a p h k path is places medians undo more kept new =
     let higher = come t a p h k path is in
     let left : ℕ = n - length (above t a path.fork) in
     let most : ℕ = length path.up.items + left in
-    let whole : newest most_undo (take (n - (height t a - path.height)) undo ++ more) ≡ highest_undo t p (min most_undo most) =
-    ap (λ i. newest most_undo (take i undo ++ more)) {x = n - (height t a - path.height)} {y = left} (omega arith)
-    ∙ ap (λ (l : List (List (List Coin))). newest most_undo (take left l ++ more)) kept.undo_is
-    ∙ ap (λ (l : List (List (List Coin))). newest most_undo (l ++ more)) (undo_below t a p h k path is n few)
-    ∙ ap (λ (l : List (List (List Coin))). newest most_undo (highest_undo t path.fork left ++ l)) new
-    ∙ ap (newest most_undo) (undo_whole t a p h k path is n few)
+    let whole : last_of most_undo (take (n - (height t a - path.height)) undo ++ more) ≡ highest_undo t p (min most_undo most) =
+    ap (λ i. last_of most_undo (take i undo ++ more)) {x = n - (height t a - path.height)} {y = left} (omega arith)
+    ∙ ap (λ (l : List (List (List Coin))). last_of most_undo (take left l ++ more)) kept.undo_is
+    ∙ ap (λ (l : List (List (List Coin))). last_of most_undo (l ++ more)) (undo_below t a p h k path is n few)
+    ∙ ap (λ (l : List (List (List Coin))). last_of most_undo (highest_undo t path.fork left ++ l)) new
+    ∙ ap (last_of most_undo) (undo_whole t a p h k path is n few)
     ∙ undo_kept t a p h k path is n few in
     let size : length (highest_undo t p (min most_undo most)) ≡ min most_undo most = highest-long t p (min most_undo most) k (omega arith) in
-    let long : length (newest most_undo (take (n - (height t a - path.height)) undo ++ more)) ≡ min most_undo most = ap (λ (l : List (List (List Coin))). length l) whole ∙ size in
+    let long : length (last_of most_undo (take (n - (height t a - path.height)) undo ++ more)) ≡ min most_undo most = ap (λ (l : List (List (List Coin))). length l) whole ∙ size in
     record {
       places_are =
           ap (λ (l : List ℕ). take (suc path.height) l ++ reverse path.up.items) (kept.places_are ∙ ap (λ (l : List ℕ). reverse l) (sym (map-id (branch t a))))

@@ -1,7 +1,7 @@
 //! What `invalidate`, `reconsider` and `precious` come to.
 
 ghost use Rattle.std.specs.Prelude.{◌≡◌, ◌<◌, ◌≤◌, IfOk, OnErr, OnOk, Some, length, if◌then◌else◌};
-ghost use Rattle.tree.specs.State.{called, cleared, marked, usable};
+ghost use Rattle.tree.specs.State.{with_call, without_marks, with_mark, has_no_mark};
 ghost use Rattle.chain.specs.Regtest.{regtest};
 ghost use Rattle.chain.specs.Settle.{settle};
 ghost use Rattle.chain.specs.Step.{Invalidate, Reconsider, Precious, mark_says, step};
@@ -80,7 +80,7 @@ impl Core {
     fn mark(&mut self, place: usize)
         requires not_genesis { 0 < place }
         requires kept { place ≤ length self.old.state.blocks }
-        ensures { self.new ≡ record self.old { state = marked self.old.state place } }
+        ensures { self.new ≡ record self.old { state = with_mark self.old.state place } }
     {
         self.tree.mark(place);
     }
@@ -89,7 +89,7 @@ impl Core {
     fn clear(&mut self, alloc: Global, place: usize) -> Result<(), Memory>
         requires { place ≤ length self.old.state.blocks }
         ensures ok { OnOk result
-            (self.new ≡ record self.old { state = cleared self.old.state place }) }
+            (self.new ≡ record self.old { state = without_marks self.old.state place }) }
         ensures err { OnErr result (self.new ≡ self.old) }
     {
         self.tree.clear(alloc, place)
@@ -99,7 +99,7 @@ impl Core {
     fn call(&mut self, place: usize) -> Result<(), Memory>
         requires { place ≤ length self.old.state.blocks }
         ensures ok { OnOk result
-            (self.new ≡ record self.old { state = called self.old.state place }) }
+            (self.new ≡ record self.old { state = with_call self.old.state place }) }
         ensures err { OnErr result (self.new ≡ self.old) }
     {
         self.tree.precious(place)
@@ -194,7 +194,7 @@ impl Core {
     /// The block that was called precious, if no block of its branch is marked, or else the active one.
     fn best_of_two(&self, place: usize) -> usize
         requires { place ≤ length self.now.state.blocks }
-        ensures { result ≡ (if usable self.now.state place then place else self.now.active) }
+        ensures { result ≡ (if has_no_mark self.now.state place then place else self.now.active) }
     {
         if self.tree.usable(place) {
             place

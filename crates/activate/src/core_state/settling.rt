@@ -2,7 +2,7 @@
 
 ghost use Rattle.std.specs.Prelude.{ℕ, ◌≡◌, ◌≤◌, ◌<◌, length, IfOk, OnErr};
 ghost use Rattle.tree.specs.Sound.{IsBest};
-ghost use Rattle.tree.specs.State.{usable};
+ghost use Rattle.tree.specs.State.{has_no_mark};
 ghost use Rattle.hash.specs.declared.id.Id.{Id};
 ghost use Rattle.block.specs.declared.block.Block.{Block};
 ghost use Rattle.chain.specs.Rules.{Rules};
@@ -50,7 +50,7 @@ impl Core {
         gate: &(dyn Gate + Sync),
     ) -> Result<Settled, Memory>
         requires can { CanTry (regtest self.old.params env.now.table.now) self.old }
-        requires best { IsBest self.old.state (usable self.old.state) (length self.old.state.blocks)
+        requires best { IsBest self.old.state (has_no_mark self.old.state) (length self.old.state.blocks)
             place }
         requires coins { B.coins base.now ≡ coins_of self.old }
         ensures settled { IfOk result (λ s.
@@ -85,7 +85,7 @@ impl Core {
         gate: &(dyn Gate + Sync),
     ) -> Result<Settled, Memory>
         requires can { CanTry (regtest self.old.params env.now.table.now) self.old }
-        requires best { IsBest self.old.state (usable self.old.state) (length self.old.state.blocks)
+        requires best { IsBest self.old.state (has_no_mark self.old.state) (length self.old.state.blocks)
             place }
         requires fails { FailsAt (regtest self.old.params env.now.table.now) self.old.state.blocks
             self.old.active place failed }

@@ -1,7 +1,7 @@
 //! A command over lent coins.
 
 ghost use Rattle.std.specs.Prelude.{OnOk, ◌≡◌, IfOk, OnErr};
-ghost use Rattle.coins.specs.Changes.{AreChanges, laid};
+ghost use Rattle.coins.specs.Changes.{AreChanges, after_changes};
 ghost use Rattle.chain.specs.Commands.{outcome};
 ghost use Rattle.chain.specs.Regtest.{regtest};
 ghost use Rattle.activate.specs.CoreState.{HasOneMore, Follows, coins_of};
@@ -37,7 +37,7 @@ impl Core {
             AreChanges (coins_of self.old) (coins_of self.new) done.1.items) }
         // The list is the one such list, and the coins of before with it laid over them are the coins after.
         ensures laid { IfOk result (λ done.
-            laid (coins_of self.old) done.1.items ≡ coins_of self.new) }
+            after_changes (coins_of self.old) done.1.items ≡ coins_of self.new) }
         ensures params { self.new.params ≡ self.old.params }
         // A block on the active one, if it becomes active, has its undo kept beside that of the highest before.
         ensures undo { OnOk result (HasOneMore self.old self.new) }

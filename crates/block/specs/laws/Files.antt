@@ -2,11 +2,11 @@
 use Rattle.std.specs.Prelude.{◌≡◌, ◌⊎◌, ℕ, ◌≤◌, List, [], ◌∷◌, ◌++◌, length}
 use Rattle.std.specs.List.{AllByRecursion, flat_map}
 use Rattle.wire.specs.Spelling.{limit}
-use Rattle.block.specs.Blk.{spelled, IsRecord, IsEnd, IsForeign, IsCut, IsTooLong}
+use Rattle.block.specs.Blk.{record_bytes, IsRecord, IsEnd, IsForeign, IsCut, IsTooLong}
 
 -- a file: the records of these blocks, in order, and then a rest at whose front no record stands
 pub record Splits (file : List ℕ) (blocks : List (List ℕ)) (rest : List ℕ) : Type 0 where
-  pub whole : file ≡ flat_map spelled blocks ++ rest
+  pub whole : file ≡ flat_map record_bytes blocks ++ rest
   pub each : AllByRecursion (λ block. length block ≤ limit) blocks
   pub last : (block after : List ℕ) → IsRecord block rest after → ⊥
 

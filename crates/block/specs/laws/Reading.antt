@@ -1,7 +1,7 @@
 -- Reading decides the grammar of blocks.
 use Rattle.std.proofs.Common.{ℕ, List, refl}
 use Rattle.std.specs.Prelude.{ℤ}
-use Rattle.wire.specs.Grammar.{piece, number, signed32, pair, counted}
+use Rattle.wire.specs.Grammar.{piece, number, signed32, pair, counted_list}
 use Rattle.wire.specs.computed.Reading.{Part, piece_at, number_at, i32_at, counted_at}
 use Rattle.wire.specs.laws.Reading.{Decides, both, made, wide4, piece_decides, number_decides, signed32_decides, pair_decides, fields_decides, along, bind_assoc}
 use Rattle.wire.specs.laws.Counts.{counted_decides}
@@ -42,7 +42,7 @@ block_decides =
     let to : Header × List Tx → Block = λ p. record { header = p.0; txs = p.1 } in
     let parts : Part (Header × List Tx) = both header_at (counted_at tx_at) in
     along block (made to parts) block_at
-    (fields_decides (pair header (counted transaction)) parts to (λ b. (b.header, b.txs))
-    (pair_decides header (counted transaction) header_at (counted_at tx_at) header_decides (counted_decides transaction tx_at transaction_decides))
+    (fields_decides (pair header (counted_list transaction)) parts to (λ b. (b.header, b.txs))
+    (pair_decides header (counted_list transaction) header_at (counted_at tx_at) header_decides (counted_decides transaction tx_at transaction_decides))
     (λ y. refl) (λ x. refl))
     (λ bytes. simp bind_assoc)

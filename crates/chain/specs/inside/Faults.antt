@@ -4,7 +4,7 @@ use Rattle.tree.specs.Branches.{Blocks, has, before, on, id_at, place_of}
 use Rattle.tree.specs.State.{State}
 use Rattle.tree.specs.Limits.{max_blocks}
 use Rattle.chain.specs.Rules.{Rules}
-use Rattle.chain.specs.Valid.{valid, first_to_fail}
+use Rattle.chain.specs.Valid.{branch_connects, first_to_fail}
 use Rattle.chain.specs.Settle.{is_candidate}
 use Rattle.chain.specs.Context.{first_fault}
 use Rattle.chain.specs.Submission.{kept_blocks}
@@ -23,7 +23,7 @@ pub record IsFirstFault {B I : Type 0} (r : Rules B I) (t : Blocks B) (c f : ℕ
 
 -- x is on the branch of c before that one, or anywhere, if there is none
 abbrev pub Passes : {B I : Type 0} → Rules B I → Blocks B → ℕ → ℕ → Type 0
-Passes r t c x = ((valid r t c ≡ true) × (on t c x ≡ true)) ⊎ ((f : ℕ) × IsFirstFault r t c f × (has (before t f) x ≡ true))
+Passes r t c x = ((branch_connects r t c ≡ true) × (on t c x ≡ true)) ⊎ ((f : ℕ) × IsFirstFault r t c f × (has (before t f) x ≡ true))
 
 -- this holds of a candidate's branch
 abbrev pub OfCandidate : {B I : Type 0} → Rules B I → State B → (ℕ → Type 0) → Type 0

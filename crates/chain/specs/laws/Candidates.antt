@@ -3,25 +3,25 @@ use Rattle.std.proofs.Common.{◌≡◌, ℕ, zero, suc, ◌≤◌, true, false,
 use Rattle.std.specs.List.{list_all}
 use Rattle.std.proofs.lemmas.Bool.{eqb-true, eq-eqb, cases_Bool, or_cases, and_parts, and_from, and_cases, or_left, or_right, not-true, not_from_false, false_from_ne_true}
 use Rattle.tree.specs.Branches.{Blocks, has, branch, before, on}
-use Rattle.tree.specs.State.{State, usable, better}
+use Rattle.tree.specs.State.{State, has_no_mark, beats}
 use Rattle.tree.specs.laws.Sets.{clash, any_from, any_gives, all_gives, all_from, all_fails}
 use Rattle.tree.specs.laws.Branches.{on-before, on-bounds, on-itself, on_trans, on_chain, branch_head, before-below}
 use Rattle.chain.specs.Rules.{Rules}
-use Rattle.chain.specs.Valid.{connects, valid, first_to_fail}
+use Rattle.chain.specs.Valid.{connects, branch_connects, first_to_fail}
 use Rattle.chain.specs.Settle.{active, is_candidate, on_candidate}
 use Rattle.chain.specs.laws.Actives.{valid-genesis}
 
 module _ {B I : Type 0} (r : Rules B I) (t : Blocks B) where
-  pub valid_gives : (c x : ℕ) → valid r t c ≡ true → on t c x ≡ true → connects r t x ≡ true
-  unfolding valid on
+  pub valid_gives : (c x : ℕ) → branch_connects r t c ≡ true → on t c x ≡ true → connects r t x ≡ true
+  unfolding branch_connects on
   valid_gives c x v o = all_gives (connects r t) (branch t c) v x o
 
-  pub valid_from : (c : ℕ) → ((x : ℕ) → on t c x ≡ true → connects r t x ≡ true) → valid r t c ≡ true
-  unfolding valid on
+  pub valid_from : (c : ℕ) → ((x : ℕ) → on t c x ≡ true → connects r t x ≡ true) → branch_connects r t c ≡ true
+  unfolding branch_connects on
   valid_from c f = all_from (connects r t) (branch t c) f
 
   -- the blocks of a valid branch have valid branches
-  pub valid_below : (c x : ℕ) → valid r t c ≡ true → on t c x ≡ true → valid r t x ≡ true
+  pub valid_below : (c x : ℕ) → branch_connects r t c ≡ true → on t c x ≡ true → branch_connects r t x ≡ true
   valid_below c x v o = valid_from x (λ y p. valid_gives c y v (on_trans t c x y o p))
 
   pub fails : (x : ℕ) → first_to_fail r t x ≡ true → connects r t x ≡ false
@@ -29,7 +29,7 @@ module _ {B I : Type 0} (r : Rules B I) (t : Blocks B) where
   fails x h = not-true (connects r t x) (and_parts (not (connects r t x)) (list_all (connects r t) (before t x)) h).0
 
   -- none of a valid branch is a first failure
-  pub never_fails : (c x : ℕ) → valid r t c ≡ true → on t c x ≡ true → first_to_fail r t x ≡ true → ⊥
+  pub never_fails : (c x : ℕ) → branch_connects r t c ≡ true → on t c x ≡ true → first_to_fail r t x ≡ true → ⊥
   never_fails c x v o f = clash (connects r t x) (valid_gives c x v o) (fails x f)
 
   -- below a first failure every block connects
@@ -49,8 +49,8 @@ module _ {B I : Type 0} (r : Rules B I) (t : Blocks B) where
         | inr o ↦ elim (below_first y x (on-bounds t d y g).1 e o) [ inl q ↦ sym q | inr q ↦ absurd (clash _ q (fails x f)) ]
       ]
 
-  head_fails : (d : ℕ) → d ≤ length t → valid r t d ≡ false → list_all (connects r t) (before t d) ≡ true → connects r t d ≡ false
-  unfolding valid
+  head_fails : (d : ℕ) → d ≤ length t → branch_connects r t d ≡ false → list_all (connects r t) (before t d) ≡ true → connects r t d ≡ false
+  unfolding branch_connects
   head_fails d h v a =
       elim (and_cases (connects r t d) (list_all (connects r t) (before t d)) (sym (ap (list_all (connects r t)) (branch_head t d h)) ∙ v)) [
         | inl e ↦ e
@@ -58,9 +58,9 @@ module _ {B I : Type 0} (r : Rules B I) (t : Blocks B) where
       ]
 
   -- a branch that isn't valid has a first failure
-  first_below : (n d : ℕ) → d ≤ n → d ≤ length t → valid r t d ≡ false → (x : ℕ) × (on t d x ≡ true) × (first_to_fail r t x ≡ true)
+  first_below : (n d : ℕ) → d ≤ n → d ≤ length t → branch_connects r t d ≡ false → (x : ℕ) × (on t d x ≡ true) × (first_to_fail r t x ≡ true)
   unfolding first_to_fail
-  first_below zero d l h v = absurd (clash (valid r t 0) (valid-genesis r t) (subst (λ (z : ℕ). valid r t z ≡ false) (omega arith) v))
+  first_below zero d l h v = absurd (clash (branch_connects r t 0) (valid-genesis r t) (subst (λ (z : ℕ). branch_connects r t z ≡ false) (omega arith) v))
   first_below (suc n) d l h v =
       elim (cases_Bool (list_all (connects r t) (before t d))) [
         | inl a ↦ (d, on-itself t d h, and_from (not (connects r t d)) (list_all (connects r t) (before t d)) (not_from_false (connects r t d) (head_fails d h v a)) a)
@@ -68,27 +68,27 @@ module _ {B I : Type 0} (r : Rules B I) (t : Blocks B) where
             let w = all_fails (connects r t) (before t d) b in
             let k = before-below t d w.0 h w.1 in
             let o : on t d w.0 ≡ true = on-before t d w.0 h ∙ or_right (eqb d w.0) (has (before t d) w.0) w.1 in
-            let u : valid r t w.0 ≡ false = false_from_ne_true (valid r t w.0) (λ u. clash (connects r t w.0) (valid_gives w.0 w.0 u (on-itself t w.0 (omega arith))) w.2) in
+            let u : branch_connects r t w.0 ≡ false = false_from_ne_true (branch_connects r t w.0) (λ u. clash (connects r t w.0) (valid_gives w.0 w.0 u (on-itself t w.0 (omega arith))) w.2) in
             let g = first_below n w.0 (omega arith) (omega arith) u in
             (g.0, on_trans t d w.0 g.0 o g.1, g.2)
       ]
 
-  pub first_failure : (d : ℕ) → d ≤ length t → valid r t d ≡ false → (x : ℕ) × (on t d x ≡ true) × (first_to_fail r t x ≡ true)
+  pub first_failure : (d : ℕ) → d ≤ length t → branch_connects r t d ≡ false → (x : ℕ) × (on t d x ≡ true) × (first_to_fail r t x ≡ true)
   first_failure d h v = first_below d d (omega arith) h v
 
 module _ {B I : Type 0} (r : Rules B I) (s : State B) where
-  pub candidate_gives : (c : ℕ) → is_candidate r s c ≡ true → (usable s c ≡ true) × ((c ≡ active r s) ⊎ (better s c (active r s) ≡ true))
+  pub candidate_gives : (c : ℕ) → is_candidate r s c ≡ true → (has_no_mark s c ≡ true) × ((c ≡ active r s) ⊎ (beats s c (active r s) ≡ true))
   unfolding is_candidate
   candidate_gives c h =
-      let b = and_parts (usable s c) (eqb c (active r s) || better s c (active r s)) h in
-      (b.0, elim (or_cases (eqb c (active r s)) (better s c (active r s)) b.1) [ inl e ↦ inl (eqb-true c (active r s) e) | inr e ↦ inr e ])
+      let b = and_parts (has_no_mark s c) (eqb c (active r s) || beats s c (active r s)) h in
+      (b.0, elim (or_cases (eqb c (active r s)) (beats s c (active r s)) b.1) [ inl e ↦ inl (eqb-true c (active r s) e) | inr e ↦ inr e ])
 
-  pub candidate_from : (c : ℕ) → usable s c ≡ true → (c ≡ active r s) ⊎ (better s c (active r s) ≡ true) → is_candidate r s c ≡ true
+  pub candidate_from : (c : ℕ) → has_no_mark s c ≡ true → (c ≡ active r s) ⊎ (beats s c (active r s) ≡ true) → is_candidate r s c ≡ true
   unfolding is_candidate
   candidate_from c u h =
       and_from _ _ u (elim h [
-        | inl e ↦ or_left (eqb c (active r s)) (better s c (active r s)) (eq-eqb c (active r s) e)
-        | inr e ↦ or_right (eqb c (active r s)) (better s c (active r s)) e
+        | inl e ↦ or_left (eqb c (active r s)) (beats s c (active r s)) (eq-eqb c (active r s) e)
+        | inr e ↦ or_right (eqb c (active r s)) (beats s c (active r s)) e
       ])
 
   pub on_candidate_gives : (x : ℕ) → on_candidate r s x ≡ true → (d : ℕ) × (d ≤ length s.blocks) × (is_candidate r s d ≡ true) × (on s.blocks d x ≡ true)

@@ -5,12 +5,12 @@ use Rattle.std.proofs.lemmas.Bool.{true≢false}
 use Rattle.std.proofs.lemmas.Int.{ints}
 use Rattle.txn.specs.declared.reason.Reason.{Reason}
 use Rattle.tree.specs.Branches.{Blocks, branch, before, height, parent_at, block_at, blocks_at}
-use Rattle.tree.specs.State.{State, opening, better, with_block}
+use Rattle.tree.specs.State.{State, opening, beats, with_block}
 use Rattle.tree.specs.laws.Branches.{branch_head, branch-genesis, on-genesis, on-itself}
 use Rattle.tree.specs.laws.Parents.{parent-kept, before-parent, branch-parent, height-parent, on-parent, climb}
 use Rattle.tree.specs.laws.Added.{blocks-new, blocks-old, usable_there}
 use Rattle.chain.specs.Rules.{Rules}
-use Rattle.chain.specs.Valid.{fault_over, fault, connects, valid}
+use Rattle.chain.specs.Valid.{fault_over, fault, connects, branch_connects}
 use Rattle.chain.specs.Settle.{active, settle}
 use Rattle.chain.specs.Replay.{Ledger, replay, coins_at, coins}
 use Rattle.chain.specs.Total.{subsidies, IsBounded}
@@ -103,7 +103,7 @@ module _ {B I C : Type 0} (r : Rules B I) (ledger : Ledger B C) (s : State B) (s
       ∙ replay-block r ledger s.blocks b (active r s) a_kept
 
   -- beside it: they stay
-  pub coins-beside : (p : ℕ) → better (with_block s b p) (suc (length s.blocks)) (active r s) ≡ false → coins r ledger (with_block s b p) ≡ coins r ledger s
+  pub coins-beside : (p : ℕ) → beats (with_block s b p) (suc (length s.blocks)) (active r s) ≡ false → coins r ledger (with_block s b p) ≡ coins r ledger s
   coins-beside p lower =
       ap (coins_at r ledger (with_block s b p).blocks) (active-beside r s sound b p lower)
       ∙ ap (replay ledger) (blocks-old r.names (record { block = b; parent = p }) s.blocks (active r s) a_kept)
@@ -112,10 +112,10 @@ module _ {B I C : Type 0} (r : Rules B I) (ledger : Ledger B C) (s : State B) (s
 
 module _ {B I C : Type 0} (r : Rules B I) (ledger : Ledger B C) (total : C → ℤ) (subsidy : ℕ → ℕ) (bounded : IsBounded r ledger total subsidy) where
   -- the coins that a valid branch leaves are worth at most the subsidies up to its height
-  pub total-valid : (t : Blocks B) (p : ℕ) → AllKept r t → p ≤ length t → valid r t p ≡ true → total (coins_at r ledger t p) ≤ℤ pos (subsidies subsidy (height t p))
+  pub total-valid : (t : Blocks B) (p : ℕ) → AllKept r t → p ≤ length t → branch_connects r t p ≡ true → total (coins_at r ledger t p) ≤ℤ pos (subsidies subsidy (height t p))
   unfolding subsidies
   total-valid t p all h =
-      climb t 0 (λ x. valid r t x ≡ true → total (coins_at r ledger t x) ≤ℤ pos (subsidies subsidy (height t x)))
+      climb t 0 (λ x. branch_connects r t x ≡ true → total (coins_at r ledger t x) ≤ℤ pos (subsidies subsidy (height t x)))
       (λ v. let e = ap total (coins-genesis r ledger t) ∙ bounded.opens in omega (arith, ints))
       (λ x z k o below v.
       let e = below (valid_below r t x (parent_at t x) v (on-parent t x z k)) in

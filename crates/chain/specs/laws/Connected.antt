@@ -8,7 +8,7 @@ use Rattle.tree.specs.laws.Sets.{all_agree}
 use Rattle.tree.specs.laws.Branches.{branch_there, branch_head, before_here, before_there, before-below}
 use Rattle.tree.specs.laws.Added.{branch_within, block_there, block_here, blocks_there}
 use Rattle.chain.specs.Rules.{Rules}
-use Rattle.chain.specs.Valid.{fault_over, fault, connects, valid, first_to_fail}
+use Rattle.chain.specs.Valid.{fault_over, fault, connects, branch_connects, first_to_fail}
 
 module _ {B I : Type 0} (r : Rules B I) (k : Kept B) (older : Blocks B) where
   abbrev new : ℕ
@@ -45,8 +45,8 @@ module _ {B I : Type 0} (r : Rules B I) (k : Kept B) (older : Blocks B) where
   unfolding connects
   connects_there q h = ap (λ (o : Option Reason). is_none o) (fault_there q h)
 
-  pub valid_there : (q : ℕ) → q ≤ length older → valid r more q ≡ valid r older q
-  unfolding valid
+  pub valid_there : (q : ℕ) → q ≤ length older → branch_connects r more q ≡ branch_connects r older q
+  unfolding branch_connects
   valid_there q h =
       ap (list_all (connects r more)) (branch_there k older q (omega arith))
       ∙ all_agree (connects r more) (connects r older) (branch older q) (λ x o. connects_there x (branch_within r.names k older q x o))

@@ -9,7 +9,7 @@ use Rattle.block.specs.declared.block.Block.{Block}
 use Rattle.curve.specs.Triple.{Triples}
 use Rattle.rules.specs.declared.params.Params.{Params}
 use Rattle.tree.specs.Branches.{Blocks, has, branch, height, blocks_at, place_of}
-use Rattle.tree.specs.State.{State, usable, marked, cleared, called}
+use Rattle.tree.specs.State.{State, has_no_mark, with_mark, without_marks, with_call}
 use Rattle.tree.specs.Names.{names}
 use Rattle.tree.specs.laws.Added.{place-bound}
 use Rattle.tree.specs.laws.Marks.{bad-flagged}
@@ -31,30 +31,30 @@ module _ (params : Params) (triples : Triples) (s : State Block) where
   -- ---- marks
 
   module _ (i : Id) (p : ℕ) (place : place_of names s.blocks i ≡ Some p) (t u : State Block) where
-    pub invalidate_done : 0 < p → t ≡ marked s p → u ≡ settle (regtest params triples) t → mark_says u Done ≡ step (regtest params triples) s (Invalidate i)
+    pub invalidate_done : 0 < p → t ≡ with_mark s p → u ≡ settle (regtest params triples) t → mark_says u Done ≡ step (regtest params triples) s (Invalidate i)
     unfolding step
     invalidate_done z e f =
         ap (λ (w : State Block). mark_says w Done) (f ∙ ap (settle (regtest params triples)) e) ∙ at p z ∙ sym (ap (outcome_of_invalidate (regtest params triples) s) place)
       where
-        at : (q : ℕ) → 0 < q → mark_says (settle (regtest params triples) (marked s q)) Done ≡ outcome_of_invalidate (regtest params triples) s (Some q)
+        at : (q : ℕ) → 0 < q → mark_says (settle (regtest params triples) (with_mark s q)) Done ≡ outcome_of_invalidate (regtest params triples) s (Some q)
         at zero z = absurd (omega arith)
         at (suc q) z = unfold outcome_of_invalidate in refl
 
-    pub reconsider_done : t ≡ cleared s p → u ≡ settle (regtest params triples) t → mark_says u Done ≡ step (regtest params triples) s (Reconsider i)
+    pub reconsider_done : t ≡ without_marks s p → u ≡ settle (regtest params triples) t → mark_says u Done ≡ step (regtest params triples) s (Reconsider i)
     unfolding step outcome_of_reconsider
     reconsider_done e f = ap (λ (w : State Block). mark_says w Done) (f ∙ ap (settle (regtest params triples)) e) ∙ sym (ap (outcome_of_reconsider (regtest params triples) s) place)
 
-    pub prefer_done : height s.blocks (active (regtest params triples) s) ≤ height s.blocks p → t ≡ called s p → u ≡ settle (regtest params triples) t → mark_says u Done ≡ step (regtest params triples) s (Precious i)
+    pub prefer_done : height s.blocks (active (regtest params triples) s) ≤ height s.blocks p → t ≡ with_call s p → u ≡ settle (regtest params triples) t → mark_says u Done ≡ step (regtest params triples) s (Precious i)
     unfolding step outcome_of_precious
     prefer_done l e f =
         ap (λ (w : State Block). mark_says w Done) (f ∙ ap (settle (regtest params triples)) e)
-        ∙ ap (λ (b : Bool). cond b (mark_says s Done) (mark_says (settle (regtest params triples) (called s p)) Done)) (sym (le-ltb (height s.blocks p) (height s.blocks (active (regtest params triples) s)) l))
+        ∙ ap (λ (b : Bool). cond b (mark_says s Done) (mark_says (settle (regtest params triples) (with_call s p)) Done)) (sym (le-ltb (height s.blocks p) (height s.blocks (active (regtest params triples) s)) l))
         ∙ sym (ap (outcome_of_precious (regtest params triples) s) place)
 
   pub prefer_lower : (i : Id) (p : ℕ) → place_of names s.blocks i ≡ Some p → height s.blocks p < height s.blocks (active (regtest params triples) s) → mark_says s Done ≡ step (regtest params triples) s (Precious i)
   unfolding step outcome_of_precious
   prefer_lower i p place l =
-      ap (λ (b : Bool). cond b (mark_says s Done) (mark_says (settle (regtest params triples) (called s p)) Done)) (sym (lt-ltb (height s.blocks p) (height s.blocks (active (regtest params triples) s)) l))
+      ap (λ (b : Bool). cond b (mark_says s Done) (mark_says (settle (regtest params triples) (with_call s p)) Done)) (sym (lt-ltb (height s.blocks p) (height s.blocks (active (regtest params triples) s)) l))
       ∙ sym (ap (outcome_of_precious (regtest params triples) s) place)
 
   -- ---- faults before connection
@@ -73,13 +73,13 @@ module _ (params : Params) (triples : Triples) (s : State Block) where
       unfolding fault_on
       fault_orphan e = sym (ap (fault_on (regtest params triples) s now b) e) ∙ fault_next
 
-      pub fault_invalid : (p : ℕ) → place_of names s.blocks b.header.prev ≡ Some p → usable s p ≡ false → Some ParentInvalid ≡ first_fault (regtest params triples) s now b
+      pub fault_invalid : (p : ℕ) → place_of names s.blocks b.header.prev ≡ Some p → has_no_mark s p ≡ false → Some ParentInvalid ≡ first_fault (regtest params triples) s now b
       unfolding fault_on
       fault_invalid p e u =
           ap (λ v. cond (not v) (Some ParentInvalid) ((regtest params triples).context_fault (blocks_at names s.blocks (branch s.blocks p)) now b)) (sym u)
           ∙ sym (ap (fault_on (regtest params triples) s now b) e) ∙ fault_next
 
-      pub fault_context : (p : ℕ) (o : Option Reason) → place_of names s.blocks b.header.prev ≡ Some p → usable s p ≡ true → o ≡ (regtest params triples).context_fault (blocks_at names s.blocks (branch s.blocks p)) now b → o ≡ first_fault (regtest params triples) s now b
+      pub fault_context : (p : ℕ) (o : Option Reason) → place_of names s.blocks b.header.prev ≡ Some p → has_no_mark s p ≡ true → o ≡ (regtest params triples).context_fault (blocks_at names s.blocks (branch s.blocks p)) now b → o ≡ first_fault (regtest params triples) s now b
       unfolding fault_on
       fault_context p o e u f =
           f ∙ ap (λ v. cond (not v) (Some ParentInvalid) ((regtest params triples).context_fault (blocks_at names s.blocks (branch s.blocks p)) now b)) (sym u)

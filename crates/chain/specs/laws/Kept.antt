@@ -4,7 +4,7 @@ use Rattle.std.specs.Option.{unwrap_or}
 use Rattle.std.proofs.lemmas.Bool.{cases_eq, cases_order, eq-eqb, ne_eqb}
 use Rattle.txn.specs.declared.reason.Reason.{Reason}
 use Rattle.tree.specs.Branches.{Blocks, height, block_at, id_at, place_of}
-use Rattle.tree.specs.State.{State, cleared, called}
+use Rattle.tree.specs.State.{State, without_marks, with_call}
 use Rattle.tree.specs.Limits.{max_blocks}
 use Rattle.tree.specs.laws.Sets.{clash}
 use Rattle.tree.specs.laws.Added.{id_here, id_there}
@@ -65,7 +65,7 @@ module _ {B I : Type 0} (r : Rules B I) where
     invalidated_kept (Some (suc p)) = all
 
     reconsidered_kept : (o : Option ℕ) → AllKept r (outcome_of_reconsider r s o).0.blocks
-    unfolding outcome_of_reconsider cleared settle
+    unfolding outcome_of_reconsider without_marks settle
     reconsidered_kept None = all
     reconsidered_kept (Some p) = all
 
@@ -73,7 +73,7 @@ module _ {B I : Type 0} (r : Rules B I) where
     unfolding outcome_of_precious settle
     preferred_kept None = all
     preferred_kept (Some p) =
-        elim (ltb (height s.blocks p) (height s.blocks (active r s))) as (λ (v : Bool). AllKept r (cond v (mark_says s Done) (mark_says (settle r (called s p)) Done)).0.blocks) [
+        elim (ltb (height s.blocks p) (height s.blocks (active r s))) as (λ (v : Bool). AllKept r (cond v (mark_says s Done) (mark_says (settle r (with_call s p)) Done)).0.blocks) [
           | true ↦ all
           | false ↦ all
         ]

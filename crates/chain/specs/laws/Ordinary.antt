@@ -5,14 +5,14 @@ use Rattle.std.specs.List.{list_all}
 use Rattle.std.proofs.lemmas.Bool.{eqb-true, cases_eq, and_parts, and_from, or_cases, or_right, not_from_false, false_from_ne_true}
 use Rattle.txn.specs.declared.reason.Reason.{Reason}
 use Rattle.tree.specs.Branches.{Kept, branch, places, on, height, blocks_at}
-use Rattle.tree.specs.State.{State, usable, better, with_block, joined}
+use Rattle.tree.specs.State.{State, has_no_mark, beats, with_block, union_where}
 use Rattle.tree.specs.Sound.{IsBest}
 use Rattle.tree.specs.laws.Sets.{clash, all_from, none_above, joined_agree, joined_more, joined_new, joined_within}
 use Rattle.tree.specs.laws.Branches.{on-bounds, on-itself, on_there, on_here, before_here, height_there, height_here}
 use Rattle.tree.specs.laws.Ranks.{better_or, better_from, better-height}
 use Rattle.tree.specs.laws.Added.{better_there, usable_there, usable_new}
 use Rattle.chain.specs.Rules.{Rules}
-use Rattle.chain.specs.Valid.{fault, connects, valid, first_to_fail}
+use Rattle.chain.specs.Valid.{fault, connects, branch_connects, first_to_fail}
 use Rattle.chain.specs.Settle.{active, is_candidate, settle}
 use Rattle.chain.specs.inside.Try.{fails_on, passes_on, state_after_try}
 use Rattle.chain.specs.Settled.{IsSettled}
@@ -41,13 +41,13 @@ module _ {B I : Type 0} (r : Rules B I) (s : State B) (sound : IsSettled r s) (b
   a_kept : a ≤ n
   a_kept = active_kept r s sound.genesis
 
-  a_valid : valid r t.blocks a ≡ true
+  a_valid : branch_connects r t.blocks a ≡ true
   a_valid = valid_there r k s.blocks a a_kept ∙ active_valid r s sound.genesis
 
-  genesis_there : usable t 0 ≡ true
+  genesis_there : has_no_mark t 0 ≡ true
   genesis_there = usable_there s k 0 (omega arith) ∙ sound.genesis
 
-  can_there : (d : ℕ) → d ≤ n → usable t d ≡ true → valid r t.blocks d ≡ true → (d ≡ a) ⊎ (better t a d ≡ true)
+  can_there : (d : ℕ) → d ≤ n → has_no_mark t d ≡ true → branch_connects r t.blocks d ≡ true → (d ≡ a) ⊎ (beats t a d ≡ true)
   can_there d l u v =
       elim ((active_is r s sound.genesis).tops d l (can_from r s d (sym (usable_there s k d l) ∙ u) (sym (valid_there r k s.blocks d l) ∙ v))) [
         | inl e ↦ inl e
@@ -55,7 +55,7 @@ module _ {B I : Type 0} (r : Rules B I) (s : State B) (sound : IsSettled r s) (b
       ]
 
   -- the active block stays, if the new one isn't both valid and better
-  stays : (usable t new ≡ true → valid r t.blocks new ≡ true → better t a new ≡ true) → active r t ≡ a
+  stays : (has_no_mark t new ≡ true → branch_connects r t.blocks new ≡ true → beats t a new ≡ true) → active r t ≡ a
   stays f =
       active_only r t a (record {
         kept = (let l = a_kept in omega arith);
@@ -63,7 +63,7 @@ module _ {B I : Type 0} (r : Rules B I) (s : State B) (sound : IsSettled r s) (b
         tops = λ d l e.
             let q = can_gives r t d e in
             elim (cases_eq d new) [
-              | inl w ↦ inr (subst (λ (z : ℕ). better t a z ≡ true) (sym w) (f (subst (λ (z : ℕ). usable t z ≡ true) w q.0) (subst (λ (z : ℕ). valid r t.blocks z ≡ true) w q.1)))
+              | inl w ↦ inr (subst (λ (z : ℕ). beats t a z ≡ true) (sym w) (f (subst (λ (z : ℕ). has_no_mark t z ≡ true) w q.0) (subst (λ (z : ℕ). branch_connects r t.blocks z ≡ true) w q.1)))
               | inr w ↦ can_there d (omega arith) q.0 q.1
             ];
       })
@@ -74,15 +74,15 @@ module _ {B I : Type 0} (r : Rules B I) (s : State B) (sound : IsSettled r s) (b
       let q = candidate_gives r t d h in
       one_candidate r s sound d l (candidate_from r s d (sym (usable_there s k d l) ∙ q.0) (elim q.1 [
         | inl w ↦ inl (w ∙ e)
-        | inr w ↦ inr (sym (better_there s k d a l a_kept) ∙ subst (λ (z : ℕ). better t d z ≡ true) e w)
+        | inr w ↦ inr (sym (better_there s k d a l a_kept) ∙ subst (λ (z : ℕ). beats t d z ≡ true) e w)
       ]))
 
   on_old : (d x : ℕ) → d ≤ n → on t.blocks d x ≡ on s.blocks d x
   on_old d x l = on_there k s.blocks d x (omega arith)
 
   -- a block that isn't better than the active one changes nothing but that it is there
-  module _ (lower : better t new a ≡ false) where
-    beside_better : better t a new ≡ true
+  module _ (lower : beats t new a ≡ false) where
+    beside_better : beats t a new ≡ true
     beside_better = elim (better_or t new a (let l = a_kept in omega arith)) [ inl e ↦ absurd (clash _ e lower) | inr e ↦ e ]
 
     pub active-beside : active r t ≡ a
@@ -94,7 +94,7 @@ module _ {B I : Type 0} (r : Rules B I) (s : State B) (sound : IsSettled r s) (b
         (λ d l h. elim (cases_eq d new) [
           | inl e ↦ absurd (elim (candidate_gives r t d h).1 [
             | inl w ↦ let m = w ∙ active-beside in let g = a_kept in omega arith
-            | inr w ↦ clash _ (subst (λ (z : ℕ). better t z a ≡ true) e (subst (λ (z : ℕ). better t d z ≡ true) active-beside w)) lower
+            | inr w ↦ clash _ (subst (λ (z : ℕ). beats t z a ≡ true) e (subst (λ (z : ℕ). beats t d z ≡ true) active-beside w)) lower
           ])
           | inr e ↦ old_candidate active-beside d (omega arith) h
         ])
@@ -107,10 +107,10 @@ module _ {B I : Type 0} (r : Rules B I) (s : State B) (sound : IsSettled r s) (b
     p_kept : p ≤ n
     p_kept = let l = a_kept in omega arith
 
-    new_usable : usable t new ≡ true
-    new_usable = usable_new s k (none_above n s.bad (bad_in-order r s sound) new (omega arith)) ∙ subst (λ (z : ℕ). usable s z ≡ true) (sym tip) (active_usable r s sound.genesis)
+    new_usable : has_no_mark t new ≡ true
+    new_usable = usable_new s k (none_above n s.bad (bad_in-order r s sound) new (omega arith)) ∙ subst (λ (z : ℕ). has_no_mark s z ≡ true) (sym tip) (active_usable r s sound.genesis)
 
-    higher : (d : ℕ) → d ≤ n → (d ≡ a) ⊎ (better s a d ≡ true) → better t new d ≡ true
+    higher : (d : ℕ) → d ≤ n → (d ≡ a) ⊎ (beats s a d ≡ true) → beats t new d ≡ true
     higher d l h =
         let up = height_here k s.blocks p_kept in
         let same = height_there k s.blocks d l in
@@ -128,7 +128,7 @@ module _ {B I : Type 0} (r : Rules B I) (s : State B) (sound : IsSettled r s) (b
     on_cases x o = elim (or_cases (eqb new x) (on s.blocks a x) (sym (on_new x) ∙ o)) [ inl e ↦ inl (eqb-true new x e) | inr e ↦ inr e ]
 
     -- is the best usable one
-    pub best-tip : IsBest t (usable t) new new
+    pub best-tip : IsBest t (has_no_mark t) new new
     best-tip = record {
       kept = omega arith;
       can = new_usable;
@@ -153,7 +153,7 @@ module _ {B I : Type 0} (r : Rules B I) (s : State B) (sound : IsSettled r s) (b
 
     -- where it connects, it is active and seen, and nothing else changes
     module _ (good : own_fault ≡ None) where
-      new_valid : valid r t.blocks new ≡ true
+      new_valid : branch_connects r t.blocks new ≡ true
       new_valid = valid_from r t.blocks new (λ x o. elim (on_cases x o) [
         | inl e ↦ subst (λ (z : ℕ). connects r t.blocks z ≡ true) e (connects_own None good)
         | inr e ↦ old_connects x e
@@ -166,21 +166,21 @@ module _ {B I : Type 0} (r : Rules B I) (s : State B) (sound : IsSettled r s) (b
       unfolding state_after_try fails_on passes_on
       settle-tip =
           settle-best r t new genesis_there best-tip new_valid
-          ∙ ap (λ (l : List ℕ). record t { bad = l; seen = joined (places t.blocks) s.seen (passes_on r t.blocks new) })
+          ∙ ap (λ (l : List ℕ). record t { bad = l; seen = union_where (places t.blocks) s.seen (passes_on r t.blocks new) })
           (joined_agree new s.bad (fails_on r t.blocks new) (λ x. false) (λ x l. false_from_ne_true _ (λ h.
           let q = and_parts (first_to_fail r t.blocks x) (on t.blocks new x) h in never_fails r t.blocks new x new_valid q.1 q.0))
           ∙ joined_more n s.bad (bad_in-order r s sound))
           ∙ ap (λ (l : List ℕ). record t { seen = l })
           (joined_new n s.seen (seen_in-order r s sound) (passes_on r t.blocks new)
           (and_from _ _ new_valid (on-itself t.blocks new (omega arith)))
-          (λ x l h. elim (on_cases x (and_parts (valid r t.blocks x) (on t.blocks new x) h).1) [
+          (λ x l h. elim (on_cases x (and_parts (branch_connects r t.blocks x) (on t.blocks new x) h).1) [
             | inl e ↦ absurd (omega arith)
             | inr e ↦ active_seen r s sound x e
           ]))
 
     -- where it doesn't, it is marked, and nothing else changes
     module _ (reason : Reason) (bad : own_fault ≡ Some reason) where
-      not_valid : valid r t.blocks new ≡ true → ⊥
+      not_valid : branch_connects r t.blocks new ≡ true → ⊥
       not_valid v = clash _ (valid_gives r t.blocks new new v (on-itself t.blocks new (omega arith))) (connects_own (Some reason) bad)
 
       pub active_tip-fails : active r t ≡ a
@@ -204,7 +204,7 @@ module _ {B I : Type 0} (r : Rules B I) (s : State B) (sound : IsSettled r s) (b
                 on_new x ∙ or_right (eqb new x) (on s.blocks a x)
                 (subst (λ (z : ℕ). on s.blocks z x ≡ true) (old_candidate active_tip-fails d m h) (sym (on_old d x m) ∙ o))
           ])
-          ∙ ap (λ (l : List ℕ). record t { bad = l; seen = joined (places t.blocks) s.seen (passes_on r t.blocks new) })
+          ∙ ap (λ (l : List ℕ). record t { bad = l; seen = union_where (places t.blocks) s.seen (passes_on r t.blocks new) })
           (joined_new n s.bad (bad_in-order r s sound) (fails_on r t.blocks new)
           (and_from _ _ first_own (on-itself t.blocks new (omega arith)))
           (λ x l h.
@@ -215,9 +215,9 @@ module _ {B I : Type 0} (r : Rules B I) (s : State B) (sound : IsSettled r s) (b
           ]))
           ∙ ap (λ (l : List ℕ). record t { bad = new ∷ s.bad; seen = l })
           (joined_within new s.seen (passes_on r t.blocks new) (λ x l h.
-          let q = and_parts (valid r t.blocks x) (on t.blocks new x) h in
+          let q = and_parts (branch_connects r t.blocks x) (on t.blocks new x) h in
           elim (on_cases x q.1) [
-            | inl e ↦ absurd (not_valid (subst (λ (z : ℕ). valid r t.blocks z ≡ true) (sym e) q.0))
+            | inl e ↦ absurd (not_valid (subst (λ (z : ℕ). branch_connects r t.blocks z ≡ true) (sym e) q.0))
             | inr e ↦ active_seen r s sound x e
           ])
           ∙ joined_more n s.seen (seen_in-order r s sound))

@@ -3,7 +3,7 @@ use Rattle.std.proofs.Common.{◌≡◌, ℕ, zero, suc, ◌+◌, ◌<◌, List,
 use Rattle.std.specs.Option.{unwrap_or}
 use Rattle.hash.specs.declared.id.Id.{Id}
 use Rattle.block.specs.declared.block.Block.{Block}
-use Rattle.block.specs.Decoding.{decoded}
+use Rattle.block.specs.Decoding.{block_of_bytes}
 use Rattle.tree.specs.State.{State}
 use Rattle.chain.specs.declared.command.Command.{Command}
 use Rattle.chain.specs.declared.command.Command.TheVariants as command
@@ -17,11 +17,11 @@ use Rattle.chain.specs.laws.Steps.{step_sound}
 use Rattle.chain.specs.laws.Kept.{step_kept}
 
 module _ (r : Rules Block Id) (s : State Block) where
-  pub submitted : (bytes : List ℕ) (now : ℕ) (b : Block) → decoded bytes ≡ Some b → step r s (Submit now b) ≡ outcome r s (command.Submit bytes now)
+  pub submitted : (bytes : List ℕ) (now : ℕ) (b : Block) → block_of_bytes bytes ≡ Some b → step r s (Submit now b) ≡ outcome r s (command.Submit bytes now)
   unfolding command_step submit_step
   submitted bytes now b e = sym (ap (λ o. unwrap_or (submit_step r s now o) (submit_says s DecodeFailed)) e)
 
-  pub refused : (bytes : List ℕ) (now : ℕ) → decoded bytes ≡ None → submit_says s DecodeFailed ≡ outcome r s (command.Submit bytes now)
+  pub refused : (bytes : List ℕ) (now : ℕ) → block_of_bytes bytes ≡ None → submit_says s DecodeFailed ≡ outcome r s (command.Submit bytes now)
   unfolding command_step submit_step
   refused bytes now e = sym (ap (λ o. unwrap_or (submit_step r s now o) (submit_says s DecodeFailed)) e)
 
@@ -40,7 +40,7 @@ module _ (r : Rules Block Id) (s : State Block) where
   -- each is a step, or leaves the state
   pub each-outcome : (P : State Block → Type 0) → P s → ((c : Request Block Id) → P (step r s c).0) → (c : Command) → P (outcome r s c).0
   unfolding command_step
-  each-outcome P stays steps (command.Submit bytes now) = of (decoded bytes)
+  each-outcome P stays steps (command.Submit bytes now) = of (block_of_bytes bytes)
     where
       of : (o : Option Block) → P (unwrap_or (submit_step r s now o) (submit_says s DecodeFailed)).0
       of None = unfold submit_step in stays

@@ -2,14 +2,14 @@
 use Rattle.std.proofs.Common.{◌≡◌, ℕ, ◌≤◌, Bool, true, false, ◌&&◌, ◌||◌, List, length, sym, refl, ap, ◌∙◌, subst, inl, inr}
 use Rattle.std.proofs.lemmas.Bool.{cases_Bool, cases_eq, and_parts, and_from, or_right, false_from_ne_true}
 use Rattle.tree.specs.Branches.{has, places, on}
-use Rattle.tree.specs.State.{State, joined, flagged, usable}
+use Rattle.tree.specs.State.{State, union_where, with_new_flags, has_no_mark}
 use Rattle.tree.specs.Sound.{IsBest}
 use Rattle.tree.specs.laws.Sets.{InOrder, clash, in_order-joined, joined_agree, joined_within}
 use Rattle.tree.specs.laws.Branches.{on-bounds}
 use Rattle.tree.specs.laws.Ranks.{better_or, better_falls}
 use Rattle.tree.specs.laws.Marks.{bad-flagged, seen-flagged, usable_gives, usable-kept, flagged_twice, flagged_agree}
 use Rattle.chain.specs.Rules.{Rules}
-use Rattle.chain.specs.Valid.{valid, first_to_fail}
+use Rattle.chain.specs.Valid.{branch_connects, first_to_fail}
 use Rattle.chain.specs.Settle.{active, is_candidate, on_candidate, becomes_seen, becomes_bad, settle}
 use Rattle.chain.specs.Settled.{IsSettled}
 use Rattle.chain.specs.laws.Actives.{active_is, active_usable, active_valid, active_kept, can_from, valid-genesis}
@@ -27,12 +27,12 @@ module _ {B I : Type 0} (r : Rules B I) (s : State B) where
   settle-precious = refl
 
   -- it marks no block of a valid branch
-  spares : (c x : ℕ) → valid r s.blocks c ≡ true → on s.blocks c x ≡ true → becomes_bad r s x ≡ false
+  spares : (c x : ℕ) → branch_connects r s.blocks c ≡ true → on s.blocks c x ≡ true → becomes_bad r s x ≡ false
   unfolding becomes_bad
   spares c x v o = false_from_ne_true _ (λ h. never_fails r s.blocks c x v o (and_parts (first_to_fail r s.blocks x) (on_candidate r s x) h).0)
 
-  module _ (z : usable s 0 ≡ true) where
-    pub genesis-settle : usable (settle r s) 0 ≡ true
+  module _ (z : has_no_mark s 0 ≡ true) where
+    pub genesis-settle : has_no_mark (settle r s) 0 ≡ true
     unfolding settle
     genesis-settle = usable-kept s (becomes_bad r s) (becomes_seen r s) 0 z (λ x o. spares 0 x (valid-genesis r s.blocks) o)
 
@@ -44,12 +44,12 @@ module _ {B I : Type 0} (r : Rules B I) (s : State B) where
     pub settle_twice : settle r (settle r s) ≡ settle r s
     unfolding settle becomes_bad becomes_seen
     settle_twice =
-        let t = flagged s (becomes_bad r s) (becomes_seen r s) in
+        let t = with_new_flags s (becomes_bad r s) (becomes_seen r s) in
         let was = was_on_candidate r s (becomes_bad r s) (becomes_seen r s) z spares in
         flagged_twice s (becomes_bad r s) (becomes_seen r s) (becomes_bad r t) (becomes_seen r t)
         ∙ flagged_agree s _ _ _ _
         (λ x l. within (first_to_fail r s.blocks x) (on_candidate r s x) (on_candidate r t x) (was x))
-        (λ x l. within (valid r s.blocks x) (on_candidate r s x) (on_candidate r t x) (was x))
+        (λ x l. within (branch_connects r s.blocks x) (on_candidate r s x) (on_candidate r t x) (was x))
       where
         within : (a b c : Bool) → (c ≡ true → b ≡ true) → ((a && b) || (a && c)) ≡ (a && b)
         within false b c f = refl
@@ -87,7 +87,7 @@ module _ {B I : Type 0} (r : Rules B I) (s : State B) where
         let a = active_is r s sound.genesis in
         elim b.1 [
           | inl e ↦ e
-          | inr e ↦ elim (cases_Bool (valid r s.blocks d)) [
+          | inr e ↦ elim (cases_Bool (branch_connects r s.blocks d)) [
             | inl v ↦ elim (a.tops d l (can_from r s d b.0 v)) [ inl w ↦ w | inr w ↦ absurd (better_falls s d (active r s) e w) ]
             | inr v ↦
                 let x = first_failure r s.blocks d l v in
@@ -96,7 +96,7 @@ module _ {B I : Type 0} (r : Rules B I) (s : State B) where
         ]
 
     -- and the best of all usable blocks
-    pub best_usable : IsBest s (usable s) (length s.blocks) (active r s)
+    pub best_usable : IsBest s (has_no_mark s) (length s.blocks) (active r s)
     best_usable = record {
       kept = active_kept r s sound.genesis;
       can = active_usable r s sound.genesis;
@@ -118,19 +118,19 @@ module _ {B I : Type 0} (r : Rules B I) (s : State B) where
         (on_candidate_from r s (active r s) x k (candidate_from r s (active r s) (active_usable r s sound.genesis) (inl refl)) o))
 
 -- a state is settled where its one candidate has a valid branch that was seen
-pub settled_where : {B I : Type 0} (r : Rules B I) (t : State B) (a : ℕ) → valid r t.blocks a ≡ true → ((d : ℕ) → d ≤ length t.blocks → is_candidate r t d ≡ true → d ≡ a)
+pub settled_where : {B I : Type 0} (r : Rules B I) (t : State B) (a : ℕ) → branch_connects r t.blocks a ≡ true → ((d : ℕ) → d ≤ length t.blocks → is_candidate r t d ≡ true → d ≡ a)
     → ((x : ℕ) → on t.blocks a x ≡ true → has t.seen x ≡ true) → InOrder (length t.blocks) t.bad → InOrder (length t.blocks) t.seen → settle r t ≡ t
 unfolding settle becomes_bad becomes_seen
 settled_where r t a v only seen b g =
-    ap (λ (l : List ℕ). record t { bad = l; seen = joined (places t.blocks) t.seen (becomes_seen r t) }) (bads ∙ b)
+    ap (λ (l : List ℕ). record t { bad = l; seen = union_where (places t.blocks) t.seen (becomes_seen r t) }) (bads ∙ b)
     ∙ ap (λ (l : List ℕ). record t { seen = l }) (sights ∙ g)
   where
     there : (x : ℕ) → on_candidate r t x ≡ true → on t.blocks a x ≡ true
     there x h = let w = on_candidate_gives r t x h in subst (λ (z : ℕ). on t.blocks z x ≡ true) (only w.0 w.1 w.2) w.3
 
-    bads : joined (places t.blocks) t.bad (becomes_bad r t) ≡ joined (places t.blocks) t.bad (λ p. false)
+    bads : union_where (places t.blocks) t.bad (becomes_bad r t) ≡ union_where (places t.blocks) t.bad (λ p. false)
     bads = joined_agree (length t.blocks) t.bad (becomes_bad r t) (λ p. false) (λ x l. false_from_ne_true _ (λ h.
         let q = and_parts (first_to_fail r t.blocks x) (on_candidate r t x) h in never_fails r t.blocks a x v (there x q.1) q.0))
 
-    sights : joined (places t.blocks) t.seen (becomes_seen r t) ≡ joined (places t.blocks) t.seen (λ p. false)
-    sights = joined_within (length t.blocks) t.seen (becomes_seen r t) (λ x l h. seen x (there x (and_parts (valid r t.blocks x) (on_candidate r t x) h).1))
+    sights : union_where (places t.blocks) t.seen (becomes_seen r t) ≡ union_where (places t.blocks) t.seen (λ p. false)
+    sights = joined_within (length t.blocks) t.seen (becomes_seen r t) (λ x l h. seen x (there x (and_parts (branch_connects r t.blocks x) (on_candidate r t x) h).1))

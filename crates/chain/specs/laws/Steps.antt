@@ -5,7 +5,7 @@ use Rattle.std.proofs.lemmas.Bool.{eq-eqb, ne_eqb, or_left, le-leb, lt-leb, lt-l
 use Rattle.txn.specs.declared.reason.Reason.{Reason}
 use Rattle.txn.specs.declared.reason.Reason.TheVariants.{ParentInvalid}
 use Rattle.tree.specs.Branches.{has, branch, places, on, height, blocks_at, place_of}
-use Rattle.tree.specs.State.{State, opening, joined, usable, better, with_block, marked, cleared, called}
+use Rattle.tree.specs.State.{State, opening, union_where, has_no_mark, beats, with_block, with_mark, without_marks, with_call}
 use Rattle.tree.specs.Limits.{max_blocks}
 use Rattle.tree.specs.laws.Sets.{has_here, has-joined, none_above}
 use Rattle.tree.specs.laws.Branches.{on-bounds}
@@ -14,7 +14,7 @@ use Rattle.tree.specs.laws.Added.{usable_there, place-bound}
 use Rattle.chain.specs.declared.reply.SubmitReply.TheVariants.{Accepted, Inconclusive, Rejected, TreeFull}
 use Rattle.chain.specs.declared.reply.MarkReply.TheVariants.{Done, NotFound, Genesis}
 use Rattle.chain.specs.Rules.{Rules}
-use Rattle.chain.specs.Valid.{fault, valid}
+use Rattle.chain.specs.Valid.{fault, branch_connects}
 use Rattle.chain.specs.Settle.{active, settle}
 use Rattle.chain.specs.Context.{fault_on, first_fault}
 use Rattle.chain.specs.Submission.{Outcome, submit_says, reply_by_reason, kept_blocks, answer_known, answer_added, outcome_of_added, outcome_by_fault, outcome_of_submission}
@@ -62,16 +62,16 @@ module _ {B I : Type 0} (r : Rules B I) (s : State B) where
 
   -- ---- each step leaves a sound state
 
-  settled_sound : (t : State B) → usable t 0 ≡ true → IsSettled r (settle r t)
+  settled_sound : (t : State B) → has_no_mark t 0 ≡ true → IsSettled r (settle r t)
   settled_sound t z = record { genesis = genesis-settle r t z; settled = settle_twice r t z }
 
   module _ (sound : IsSettled r s) where
     only_genesis : (x : ℕ) → on s.blocks 0 x ≡ true → x ≡ 0
     only_genesis x o = let b = (on-bounds s.blocks 0 x o).0 in omega arith
 
-    marked_genesis : (p : ℕ) → usable (marked s (suc p)) 0 ≡ true
+    marked_genesis : (p : ℕ) → has_no_mark (with_mark s (suc p)) 0 ≡ true
     marked_genesis p =
-        usable_from (marked s (suc p)) 0 (λ x o.
+        usable_from (with_mark s (suc p)) 0 (λ x o.
         let e = only_genesis x o in
         has-joined (length s.blocks) s.bad (λ x. eqb x (suc p)) x (omega arith)
         ∙ ap (λ (b : Bool). b || eqb x (suc p)) (usable_gives s 0 x sound.genesis o) ∙ ne_eqb x (suc p) (omega arith))
@@ -96,20 +96,20 @@ module _ {B I : Type 0} (r : Rules B I) (s : State B) where
     unfolding outcome_of_invalidate
     invalidated_sound None = sound
     invalidated_sound (Some zero) = sound
-    invalidated_sound (Some (suc p)) = settled_sound (marked s (suc p)) (marked_genesis p)
+    invalidated_sound (Some (suc p)) = settled_sound (with_mark s (suc p)) (marked_genesis p)
 
     reconsidered_sound : (o : Option ℕ) → IsSettled r (outcome_of_reconsider r s o).0
     unfolding outcome_of_reconsider
     reconsidered_sound None = sound
-    reconsidered_sound (Some p) = settled_sound (cleared s p) (usable-cleared s p 0 sound.genesis)
+    reconsidered_sound (Some p) = settled_sound (without_marks s p) (usable-cleared s p 0 sound.genesis)
 
     preferred_sound : (o : Option ℕ) → IsSettled r (outcome_of_precious r s o).0
     unfolding outcome_of_precious
     preferred_sound None = sound
     preferred_sound (Some p) =
-        elim (ltb (height s.blocks p) (height s.blocks (active r s))) as (λ (v : Bool). IsSettled r (cond v (mark_says s Done) (mark_says (settle r (called s p)) Done)).0) [
+        elim (ltb (height s.blocks p) (height s.blocks (active r s))) as (λ (v : Bool). IsSettled r (cond v (mark_says s Done) (mark_says (settle r (with_call s p)) Done)).0) [
           | true ↦ sound
-          | false ↦ settled_sound (called s p) (usable-called r s p 0 ∙ sound.genesis)
+          | false ↦ settled_sound (with_call s p) (usable-called r s p 0 ∙ sound.genesis)
         ]
 
     pub step_sound : (c : Request B I) → IsSettled r (step r s c).0
@@ -125,11 +125,11 @@ module _ {B I : Type 0} (r : Rules B I) (s : State B) where
   both_none None q e = (refl, e)
   both_none (Some x) q e = absurd (cc)
 
-  on_parent : (now : ℕ) (b : B) (o : Option ℕ) → fault_on r s now b o ≡ None → (p : ℕ) × (o ≡ Some p) × (usable s p ≡ true) × (r.context_fault (blocks_at r.names s.blocks (branch s.blocks p)) now b ≡ None)
+  on_parent : (now : ℕ) (b : B) (o : Option ℕ) → fault_on r s now b o ≡ None → (p : ℕ) × (o ≡ Some p) × (has_no_mark s p ≡ true) × (r.context_fault (blocks_at r.names s.blocks (branch s.blocks p)) now b ≡ None)
   unfolding fault_on
   on_parent now b None e = absurd (cc)
   on_parent now b (Some p) e =
-      elim (usable s p) as (λ v. usable s p ≡ v → cond (not v) (Some ParentInvalid) (r.context_fault (blocks_at r.names s.blocks (branch s.blocks p)) now b) ≡ None → (q : ℕ) × (Some p ≡ Some q) × (usable s q ≡ true) × (r.context_fault (blocks_at r.names s.blocks (branch s.blocks q)) now b ≡ None)) [
+      elim (has_no_mark s p) as (λ v. has_no_mark s p ≡ v → cond (not v) (Some ParentInvalid) (r.context_fault (blocks_at r.names s.blocks (branch s.blocks p)) now b) ≡ None → (q : ℕ) × (Some p ≡ Some q) × (has_no_mark s q ≡ true) × (r.context_fault (blocks_at r.names s.blocks (branch s.blocks q)) now b ≡ None)) [
         | true ↦ λ u f. (p, refl, u, f)
         | false ↦ λ u f. absurd (cc)
       ] refl e
@@ -138,7 +138,7 @@ module _ {B I : Type 0} (r : Rules B I) (s : State B) where
   unfolding first_fault
   faultless-alone now b e = (both_none (r.alone_fault b) (fault_on r s now b (place_of r.names s.blocks (r.names.parent_of b))) e).0
 
-  pub faultless-parent : (now : ℕ) (b : B) → first_fault r s now b ≡ None → (p : ℕ) × (place_of r.names s.blocks (r.names.parent_of b) ≡ Some p) × (usable s p ≡ true) × (r.context_fault (blocks_at r.names s.blocks (branch s.blocks p)) now b ≡ None)
+  pub faultless-parent : (now : ℕ) (b : B) → first_fault r s now b ≡ None → (p : ℕ) × (place_of r.names s.blocks (r.names.parent_of b) ≡ Some p) × (has_no_mark s p ≡ true) × (r.context_fault (blocks_at r.names s.blocks (branch s.blocks p)) now b ≡ None)
   unfolding first_fault
   faultless-parent now b e =
       on_parent now b (place_of r.names s.blocks (r.names.parent_of b)) (both_none (r.alone_fault b) (fault_on r s now b (place_of r.names s.blocks (r.names.parent_of b))) e).1
@@ -169,7 +169,7 @@ module _ {B I : Type 0} (r : Rules B I) (s : State B) where
     abbrev t : State B
     t = with_block s b p
 
-    genesis_there : usable t 0 ≡ true
+    genesis_there : has_no_mark t 0 ≡ true
     genesis_there = usable_there s (record { block = b; parent = p }) 0 (omega arith) ∙ sound.genesis
 
     same_active : (q : State B) (a : ℕ) → settle r t ≡ q → active r t ≡ a → a ≡ active r q
@@ -201,7 +201,7 @@ module _ {B I : Type 0} (r : Rules B I) (s : State B) where
         ∙ ap reply_by_reason (fault_own r s sound b p tip ∙ bad))
 
     -- not better than the active block: it is there, and nothing else changes
-    pub step-beside : better t new (active r s) ≡ false → step r s (Submit now b) ≡ submit_says t Inconclusive
+    pub step-beside : beats t new (active r s) ≡ false → step r s (Submit now b) ≡ submit_says t Inconclusive
     step-beside lower =
         let e = settle-beside r s sound b p lower in
         step-added now b p is ∙ ap (outcome_of_added r) e
@@ -213,27 +213,27 @@ module _ {B I : Type 0} (r : Rules B I) (s : State B) where
     unfolding step outcome_of_precious
     step-precious_lower l = ap (outcome_of_precious r s) kept ∙ if_true (ltb (height s.blocks p) (height s.blocks (active r s))) _ _ (lt-ltb (height s.blocks p) (height s.blocks (active r s)) l)
 
-    step-called : height s.blocks (active r s) ≤ height s.blocks p → step r s (Precious i) ≡ mark_says (settle r (called s p)) Done
+    step-called : height s.blocks (active r s) ≤ height s.blocks p → step r s (Precious i) ≡ mark_says (settle r (with_call s p)) Done
     unfolding step outcome_of_precious
     step-called l = ap (outcome_of_precious r s) kept ∙ if_false (ltb (height s.blocks p) (height s.blocks (active r s))) _ _ (le-ltb (height s.blocks p) (height s.blocks (active r s)) l)
 
     module _ (sound : IsSettled r s) where
       -- for the active block: nothing changes but its rank
-      pub step_precious-active : p ≡ active r s → step r s (Precious i) ≡ mark_says (called s p) Done
+      pub step_precious-active : p ≡ active r s → step r s (Precious i) ≡ mark_says (with_call s p) Done
       step_precious-active is =
           step-called (let w = ap (height s.blocks) is in omega arith) ∙ ap (λ (q : State B). mark_says q Done) (settle-called_active r s p sound is)
 
       -- for another that is usable and valid, and not lower: it is active
-      pub active_precious : usable s p ≡ true → valid r s.blocks p ≡ true → height s.blocks (active r s) ≤ height s.blocks p → active r (step r s (Precious i)).0 ≡ p
+      pub active_precious : has_no_mark s p ≡ true → branch_connects r s.blocks p ≡ true → height s.blocks (active r s) ≤ height s.blocks p → active r (step r s (Precious i)).0 ≡ p
       active_precious u v l =
           ap (λ (q : Outcome B). active r q.0) (step-called l)
-          ∙ active-settle r (called s p) (usable-called r s p 0 ∙ sound.genesis)
+          ∙ active-settle r (with_call s p) (usable-called r s p 0 ∙ sound.genesis)
           ∙ active-called r s p sound (place-bound r.names s.blocks i p kept) u v l
 
 module _ {B I : Type 0} (r : Rules B I) where
   -- genesis alone is sound
   pub opening_sound : IsSettled r opening
-  unfolding usable branch joined Rattle.tree.specs.Branches.down_from
+  unfolding has_no_mark branch union_where Rattle.tree.specs.Branches.down_from
   opening_sound = record {
     genesis = refl;
     settled = settled_where r opening 0 (valid-genesis r []) (λ d l h. omega arith) (λ x o. seen x (on-bounds {B = B} [] 0 x o).0) refl refl;

@@ -1,18 +1,18 @@
 -- What all subsidies come to.
 use Rattle.std.proofs.Common.{◌≡◌, ℕ, zero, suc, ◌+◌, ◌-◌, ◌*◌, ◌/◌, ◌%◌, ◌<◌, ◌≤◌, Bool, true, false, if◌then◌else◌, nat_lt, ap, arith, suc-mul, inl, inr}
 use Rattle.std.proofs.lemmas.Bool.{cases_lt}
-use Rattle.block.specs.Reward.{halved, subsidy_of}
+use Rattle.block.specs.Reward.{halve, subsidy_of}
 use Rattle.chain.specs.Total.{subsidies}
 use Rattle.chain.specs.Regtest.{most_satoshis}
 
 -- one halving more is half of it at most
-halved-twice : (k x : ℕ) → halved (suc k) x + halved (suc k) x ≤ halved k x
+halved-twice : (k x : ℕ) → halve (suc k) x + halve (suc k) x ≤ halve k x
 halved-twice zero x = omega arith
 halved-twice (suc k) x = halved-twice k (x / 2)
 
 -- the subsidy of a height, if halving never ended
 abbrev share : ℕ → ℕ
-share height = halved (height / 150) (50 * 100000000)
+share height = halve (height / 150) (50 * 100000000)
 
 share-most : (height : ℕ) → subsidy_of height ≤ share height
 share-most height = at (nat_lt (height / 150) 64)
@@ -33,14 +33,14 @@ later-room (suc n) more h =
           let split : suc more * share n ≡ more * share n + share n = suc-mul more (share n) in
           let here = share-most (suc n) in
           let same_span : suc n / 150 ≡ n / 150 = omega arith in
-          let same : share (suc n) ≡ share n = ap (λ (k : ℕ). halved k (50 * 100000000)) same_span in
+          let same : share (suc n) ≡ share n = ap (λ (k : ℕ). halve k (50 * 100000000)) same_span in
           let others = ap (λ (x : ℕ). more * x) same in
           omega arith
       | inr at_end ↦
           let room = later-room n 150 (omega arith) in
           let here = share-most (suc n) in
           let next_span : suc n / 150 ≡ suc (n / 150) = omega arith in
-          let halving : share (suc n) ≡ halved (suc (n / 150)) (50 * 100000000) = ap (λ (k : ℕ). halved k (50 * 100000000)) next_span in
+          let halving : share (suc n) ≡ halve (suc (n / 150)) (50 * 100000000) = ap (λ (k : ℕ). halve k (50 * 100000000)) next_span in
           let half = halved-twice (n / 150) (50 * 100000000) in
           let whole : more ≡ 299 = omega arith in
           let others : more * share (suc n) ≡ 299 * share (suc n) = ap (λ (k : ℕ). k * share (suc n)) whole in

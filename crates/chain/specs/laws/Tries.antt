@@ -3,14 +3,14 @@ use Rattle.std.proofs.Common.{◌≡◌, ℕ, zero, suc, ◌<◌, ◌≤◌, Boo
 use Rattle.std.specs.List.{filter}
 use Rattle.std.proofs.lemmas.Bool.{cases_Bool, cases_eq, or_cases, or_parts, and_parts, and_from, or_left, or_right, not-true, not_from_true, not_from_false, true≢false, false_from_ne_true}
 use Rattle.tree.specs.Branches.{has, on, places, down_from}
-use Rattle.tree.specs.State.{State, usable, better, flagged}
+use Rattle.tree.specs.State.{State, has_no_mark, beats, with_new_flags}
 use Rattle.tree.specs.Sound.{IsBest}
 use Rattle.tree.specs.laws.Sets.{same_tests}
 use Rattle.tree.specs.laws.Branches.{on-bounds, on_trans, on_chain}
 use Rattle.tree.specs.laws.Ranks.{better_falls}
 use Rattle.tree.specs.laws.Marks.{usable_gives, bad-flagged, better-flagged, usable-weaker, usable-kept, spoiled-flagged, flagged_twice, flagged_agree}
 use Rattle.chain.specs.Rules.{Rules}
-use Rattle.chain.specs.Valid.{valid, first_to_fail}
+use Rattle.chain.specs.Valid.{branch_connects, first_to_fail}
 use Rattle.chain.specs.Settle.{active, is_candidate, on_candidate, becomes_seen, becomes_bad, settle}
 use Rattle.chain.specs.inside.Try.{fails_on, passes_on, state_after_try}
 use Rattle.chain.specs.laws.Actives.{active_is, active_only, can_from, can_gives, valid-genesis}
@@ -18,19 +18,19 @@ use Rattle.chain.specs.laws.Candidates.{same_first, never_fails, first_failure, 
 
 -- ---- marks on blocks that don't connect
 
-module _ {B I : Type 0} (r : Rules B I) (s : State B) (f g : ℕ → Bool) (z : usable s 0 ≡ true)
-    (spares : (c x : ℕ) → valid r s.blocks c ≡ true → on s.blocks c x ≡ true → f x ≡ false) where
+module _ {B I : Type 0} (r : Rules B I) (s : State B) (f g : ℕ → Bool) (z : has_no_mark s 0 ≡ true)
+    (spares : (c x : ℕ) → branch_connects r s.blocks c ≡ true → on s.blocks c x ≡ true → f x ≡ false) where
   -- leave the active block what it was
-  pub active-flagged : active r (flagged s f g) ≡ active r s
+  pub active-flagged : active r (with_new_flags s f g) ≡ active r s
   active-flagged =
       let a = active_is r s z in
       let p = active r s in
       let h = can_gives r s p a.can in
-      active_only r (flagged s f g) p (record {
+      active_only r (with_new_flags s f g) p (record {
         kept = a.kept;
-        can = can_from r (flagged s f g) p (usable-kept s f g p h.0 (λ x o. spares p x h.1 o)) h.1;
+        can = can_from r (with_new_flags s f g) p (usable-kept s f g p h.0 (λ x o. spares p x h.1 o)) h.1;
         tops = λ b l e.
-            let q = can_gives r (flagged s f g) b e in
+            let q = can_gives r (with_new_flags s f g) b e in
             elim (a.tops b l (can_from r s b (usable-weaker s f g b q.0) q.1)) [
               | inl w ↦ inl w
               | inr w ↦ inr (better-flagged s f g p b ∙ w)
@@ -38,17 +38,17 @@ module _ {B I : Type 0} (r : Rules B I) (s : State B) (f g : ℕ → Bool) (z : 
       })
 
   -- a candidate of the marked state was one before
-  pub was_candidate : (d : ℕ) → is_candidate r (flagged s f g) d ≡ true → is_candidate r s d ≡ true
+  pub was_candidate : (d : ℕ) → is_candidate r (with_new_flags s f g) d ≡ true → is_candidate r s d ≡ true
   was_candidate d h =
-      let b = candidate_gives r (flagged s f g) d h in
+      let b = candidate_gives r (with_new_flags s f g) d h in
       candidate_from r s d (usable-weaker s f g d b.0) (elim b.1 [
         | inl e ↦ inl (e ∙ active-flagged)
-        | inr e ↦ inr (subst (λ (a : ℕ). better s d a ≡ true) active-flagged (sym (better-flagged s f g d (active r (flagged s f g))) ∙ e))
+        | inr e ↦ inr (subst (λ (a : ℕ). beats s d a ≡ true) active-flagged (sym (better-flagged s f g d (active r (with_new_flags s f g))) ∙ e))
       ])
 
-  pub was_on_candidate : (x : ℕ) → on_candidate r (flagged s f g) x ≡ true → on_candidate r s x ≡ true
+  pub was_on_candidate : (x : ℕ) → on_candidate r (with_new_flags s f g) x ≡ true → on_candidate r s x ≡ true
   was_on_candidate x h =
-      let w = on_candidate_gives r (flagged s f g) x h in on_candidate_from r s w.0 x w.1 (was_candidate w.0 w.2) w.3
+      let w = on_candidate_gives r (with_new_flags s f g) x h in on_candidate_from r s w.0 x w.1 (was_candidate w.0 w.2) w.3
 
 -- ---- one try
 
@@ -62,7 +62,7 @@ module _ {B I : Type 0} (r : Rules B I) (s : State B) (c : ℕ) where
   unfolding state_after_try
   tried-precious = refl
 
-module _ {B I : Type 0} (r : Rules B I) (s : State B) (c : ℕ) (z : usable s 0 ≡ true) where
+module _ {B I : Type 0} (r : Rules B I) (s : State B) (c : ℕ) (z : has_no_mark s 0 ≡ true) where
   abbrev marks : ℕ → Bool
   marks x = fails_on r s.blocks c x
 
@@ -70,9 +70,9 @@ module _ {B I : Type 0} (r : Rules B I) (s : State B) (c : ℕ) (z : usable s 0 
   sees x = passes_on r s.blocks c x
 
   abbrev after : State B
-  after = flagged s marks sees
+  after = with_new_flags s marks sees
 
-  spares : (p x : ℕ) → valid r s.blocks p ≡ true → on s.blocks p x ≡ true → marks x ≡ false
+  spares : (p x : ℕ) → branch_connects r s.blocks p ≡ true → on s.blocks p x ≡ true → marks x ≡ false
   unfolding fails_on
   spares p x v o = false_from_ne_true _ (λ h. never_fails r s.blocks p x v o (and_parts (first_to_fail r s.blocks x) (on s.blocks c x) h).0)
 
@@ -80,7 +80,7 @@ module _ {B I : Type 0} (r : Rules B I) (s : State B) (c : ℕ) (z : usable s 0 
   after_active = active-flagged r s marks sees z spares
 
   -- never marks genesis
-  pub genesis-tried : usable (state_after_try r s c) 0 ≡ true
+  pub genesis-tried : has_no_mark (state_after_try r s c) 0 ≡ true
   unfolding state_after_try
   genesis-tried = usable-kept s marks sees 0 z (λ x o. spares 0 x (valid-genesis r s.blocks) o)
 
@@ -102,10 +102,10 @@ module _ {B I : Type 0} (r : Rules B I) (s : State B) (c : ℕ) (z : usable s 0 
         let g = on_candidate_gives r s x h in
         let d = g.0 in
         let b = candidate_gives r s d g.2 in
-        elim (cases_Bool (usable after d)) [
+        elim (cases_Bool (has_no_mark after d)) [
           | inl v ↦ inl (on_candidate_from r after d x g.1 (candidate_from r after d v (elim b.1 [
             | inl e ↦ inl (e ∙ sym after_active)
-            | inr e ↦ inr (subst (λ (a : ℕ). better after d a ≡ true) (sym after_active) (better-flagged s marks sees d (active r s) ∙ e))
+            | inr e ↦ inr (subst (λ (a : ℕ). beats after d a ≡ true) (sym after_active) (better-flagged s marks sees d (active r s) ∙ e))
           ])) g.3)
           | inr v ↦ let y = spoiled-flagged s marks sees d b.0 v in inr (d, y.0, g.3, y.1, y.2)
         ]
@@ -131,14 +131,14 @@ module _ {B I : Type 0} (r : Rules B I) (s : State B) (c : ℕ) (z : usable s 0 
     unfolding becomes_seen passes_on fails_on
     seen_same x =
         same_tests _ _
-        (λ h. elim (or_cases (valid r s.blocks x && on s.blocks c x) (valid r s.blocks x && on_candidate r after x) h) [
-          | inl p ↦ let b = and_parts (valid r s.blocks x) (on s.blocks c x) p in and_from _ _ b.0 (on_c x b.1)
-          | inr p ↦ let b = and_parts (valid r s.blocks x) (on_candidate r after x) p in and_from _ _ b.0 (still x b.1)
+        (λ h. elim (or_cases (branch_connects r s.blocks x && on s.blocks c x) (branch_connects r s.blocks x && on_candidate r after x) h) [
+          | inl p ↦ let b = and_parts (branch_connects r s.blocks x) (on s.blocks c x) p in and_from _ _ b.0 (on_c x b.1)
+          | inr p ↦ let b = and_parts (branch_connects r s.blocks x) (on_candidate r after x) p in and_from _ _ b.0 (still x b.1)
         ])
         (λ h.
-        let b = and_parts (valid r s.blocks x) (on_candidate r s x) h in
+        let b = and_parts (branch_connects r s.blocks x) (on_candidate r s x) h in
         elim (either x b.1) [
-          | inl o ↦ or_right (valid r s.blocks x && on s.blocks c x) (valid r s.blocks x && on_candidate r after x) (and_from _ _ b.0 o)
+          | inl o ↦ or_right (branch_connects r s.blocks x && on s.blocks c x) (branch_connects r s.blocks x && on_candidate r after x) (and_from _ _ b.0 o)
           | inr w ↦
               let f = and_parts (first_to_fail r s.blocks w.1) (on s.blocks c w.1) w.4 in
               or_left _ _ (and_from _ _ b.0 (elim (on_chain s.blocks w.0 x w.1 w.2 w.3) [
@@ -158,7 +158,7 @@ module _ {B I : Type 0} (r : Rules B I) (s : State B) (c : ℕ) (z : usable s 0 
   pub settle-one : is_candidate r s c ≡ true → c ≤ length s.blocks → ((d x : ℕ) → d ≤ length s.blocks → is_candidate r s d ≡ true → on s.blocks d x ≡ true → on s.blocks c x ≡ true) → settle r s ≡ state_after_try r s c
   unfolding settle state_after_try becomes_bad becomes_seen fails_on passes_on
   settle-one k l f =
-      flagged_agree s _ _ _ _ (λ x h. ap (λ b. first_to_fail r s.blocks x && b) (only x)) (λ x h. ap (λ b. valid r s.blocks x && b) (only x))
+      flagged_agree s _ _ _ _ (λ x h. ap (λ b. first_to_fail r s.blocks x && b) (only x)) (λ x h. ap (λ b. branch_connects r s.blocks x && b) (only x))
     where
       only : (x : ℕ) → on_candidate r s x ≡ on s.blocks c x
       only x =
@@ -166,7 +166,7 @@ module _ {B I : Type 0} (r : Rules B I) (s : State B) (c : ℕ) (z : usable s 0 
           (λ h. let g = on_candidate_gives r s x h in f g.0 x g.1 g.2 g.3)
           (λ h. on_candidate_from r s c x l k h)
 
-  module _ (best : IsBest s (usable s) (length s.blocks) c) where
+  module _ (best : IsBest s (has_no_mark s) (length s.blocks) c) where
     -- the best usable block is a candidate
     pub best-candidate : is_candidate r s c ≡ true
     best-candidate =
@@ -176,7 +176,7 @@ module _ {B I : Type 0} (r : Rules B I) (s : State B) (c : ℕ) (z : usable s 0 
           | inr e ↦ inr e
         ])
 
-    module _ (v : valid r s.blocks c ≡ true) where
+    module _ (v : branch_connects r s.blocks c ≡ true) where
       -- where its branch is valid it is the active one
       pub active-best : active r s ≡ c
       active-best = active_only r s c (record {
@@ -185,13 +185,13 @@ module _ {B I : Type 0} (r : Rules B I) (s : State B) (c : ℕ) (z : usable s 0 
         tops = λ b l e. best.tops b l (can_gives r s b e).0;
       })
 
-      one_only : (d : ℕ) → d ≤ length s.blocks → (usable s d ≡ true) × ((d ≡ active r s) ⊎ (better s d (active r s) ≡ true)) → d ≡ c
+      one_only : (d : ℕ) → d ≤ length s.blocks → (has_no_mark s d ≡ true) × ((d ≡ active r s) ⊎ (beats s d (active r s) ≡ true)) → d ≡ c
       one_only d l h =
           elim h.1 [
             | inl e ↦ e ∙ active-best
             | inr b ↦ elim (best.tops d l h.0) [
               | inl e ↦ e
-              | inr t ↦ absurd (better_falls s c d t (subst (λ (w : ℕ). better s d w ≡ true) active-best b))
+              | inr t ↦ absurd (better_falls s c d t (subst (λ (w : ℕ). beats s d w ≡ true) active-best b))
             ]
           ]
 
@@ -202,8 +202,8 @@ module _ {B I : Type 0} (r : Rules B I) (s : State B) (c : ℕ) (z : usable s 0 
 -- ---- tries end: one that fails marks a block
 
 -- how many kept blocks have no mark
-unfoldable pub unmarked : {B : Type 0} → State B → ℕ
-unmarked s = length (filter (λ p. not (has s.bad p)) (places s.blocks))
+unfoldable pub count_without_mark : {B : Type 0} → State B → ℕ
+count_without_mark s = length (filter (λ p. not (has s.bad p)) (places s.blocks))
 
 module _ (f g : ℕ → Bool) where
   one_place : (a b : Bool) (x : ℕ) (l m : List ℕ) → (b ≡ true → a ≡ true) → length m ≤ length l → length (cond b (x ∷ m) m) ≤ length (cond a (x ∷ l) l)
@@ -239,12 +239,12 @@ module _ (f g : ℕ → Bool) where
         | inr e ↦ less_there (f (suc n)) (g (suc n)) (suc n) (filter f (down_from n)) (filter g (down_from n)) (h (suc n) (omega arith)) (fewer n x (λ y m. h y (omega arith)) (omega arith) p q)
       ]
 
-pub unmarked-tried : {B I : Type 0} (r : Rules B I) (s : State B) (c : ℕ) → c ≤ length s.blocks → usable s c ≡ true → valid r s.blocks c ≡ false → unmarked (state_after_try r s c) < unmarked s
-unfolding unmarked state_after_try fails_on
+pub unmarked-tried : {B I : Type 0} (r : Rules B I) (s : State B) (c : ℕ) → c ≤ length s.blocks → has_no_mark s c ≡ true → branch_connects r s.blocks c ≡ false → count_without_mark (state_after_try r s c) < count_without_mark s
+unfolding count_without_mark state_after_try fails_on
 unmarked-tried r s c l u v =
     let x = first_failure r s.blocks c l v in
     let k = (on-bounds s.blocks c x.0 x.1).1 in
-    fewer (λ p. not (has s.bad p)) (λ p. not (has (flagged s (fails_on r s.blocks c) (passes_on r s.blocks c)).bad p)) (length s.blocks) x.0
+    fewer (λ p. not (has s.bad p)) (λ p. not (has (with_new_flags s (fails_on r s.blocks c) (passes_on r s.blocks c)).bad p)) (length s.blocks) x.0
     (λ p m h. not_from_false (has s.bad p) (or_parts (has s.bad p) (first_to_fail r s.blocks p && on s.blocks c p)
     (sym (bad-flagged s (fails_on r s.blocks c) (passes_on r s.blocks c) p m) ∙ not-true _ h)).0)
     k

@@ -15,7 +15,7 @@ use Rattle.curve.specs.Triple.{Triples}
 use Rattle.script.specs.Kinds.{is_unspendable}
 use Rattle.coins.specs.declared.coin.Coin.{Coin}
 use Rattle.coins.specs.Coins.{Coins, outpoint_cmp, same}
-use Rattle.coins.specs.laws.Lookups.{found}
+use Rattle.coins.specs.laws.Lookups.{entry_for}
 use Rattle.undo.specs.Effect.{place, spends, spendable, coin_of, makes, without, after}
 use Rattle.undo.specs.laws.Effects.{get-without, get-with_coins}
 use Rattle.undo.specs.laws.Undoing.{once-makes}
@@ -36,7 +36,7 @@ use Rattle.chain.specs.laws.Coins.{coins-genesis, step-up}
 use Rattle.chain.specs.laws.Kept.{alone-at}
 
 abbrev IsNotNegative : Option Coin → Type 0
-IsNotNegative found = IfSome found (λ coin. pos 0 ≤ℤ coin.value)
+IsNotNegative entry_for = IfSome entry_for (λ coin. pos 0 ≤ℤ coin.value)
 
 -- ---- one transaction
 
@@ -51,11 +51,11 @@ left false o h = h
 abbrev EachMade : List (OutPoint × Coin) → Type 0
 EachMade made = AllByRecursion (λ e. pos 0 ≤ℤ e.1.value) made
 
-among : (made : List (OutPoint × Coin)) (q : OutPoint) → EachMade made → IsNotNegative (found made q)
+among : (made : List (OutPoint × Coin)) (q : OutPoint) → EachMade made → IsNotNegative (entry_for made q)
 among [] q all = tt
 among (e ∷ made) q all = at (same q e.0) (among made q all.1)
   where
-    at : (here : Bool) → IsNotNegative (found made q) → IsNotNegative (cond here (Some e.1) (found made q))
+    at : (here : Bool) → IsNotNegative (entry_for made q) → IsNotNegative (cond here (Some e.1) (entry_for made q))
     at true h = all.0
     at false h = h
 
@@ -71,7 +71,7 @@ each_made height coinbase id k (o ∷ outputs) paid = at (is_unspendable o.scrip
 after-one : (m : Coins) (tx : Tx) (id : Id) (height : ℕ) → AreNotNegative m → AllByRecursion IsPaid tx.outputs → AreNotNegative (after m tx id height)
 unfolding after
 after-one m tx id height h paid q =
-    let made = found (makes tx id height) q in
+    let made = entry_for (makes tx id height) q in
     let taken = list_any (same q) (spends tx) in
     subst IsNotNegative
     (sym (get-with_coins (without m (spends tx)) (makes tx id height) q (once-makes tx id height) ∙ ap (option_or made) (get-without m (spends tx) q)))

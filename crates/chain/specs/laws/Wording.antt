@@ -7,7 +7,7 @@ use Rattle.tree.specs.State.{State}
 use Rattle.tree.specs.laws.Sets.{same_tests}
 use Rattle.tree.specs.laws.Branches.{on-bounds, on-itself, on_chain, on_trans, on-before, before-below}
 use Rattle.chain.specs.Rules.{Rules}
-use Rattle.chain.specs.Valid.{valid, first_to_fail}
+use Rattle.chain.specs.Valid.{branch_connects, first_to_fail}
 use Rattle.chain.specs.Settle.{on_candidate, becomes_seen, becomes_bad}
 use Rattle.chain.specs.inside.Try.{fails_on, passes_on}
 use Rattle.chain.specs.inside.Faults.{IsFirstFault, Passes, OfCandidate}
@@ -15,12 +15,12 @@ use Rattle.chain.specs.laws.Candidates.{below_first, same_first, first_failure, 
 
 module _ {B I : Type 0} (r : Rules B I) (t : Blocks B) (c : ℕ) where
   -- of a valid branch all are seen
-  pub sees-all : valid r t c ≡ true → (x : ℕ) → passes_on r t c x ≡ on t c x
+  pub sees-all : branch_connects r t c ≡ true → (x : ℕ) → passes_on r t c x ≡ on t c x
   unfolding passes_on
-  sees-all v x = same_tests _ _ (λ h. (and_parts (valid r t x) (on t c x) h).1) (λ o. and_from _ _ (valid_below r t c x v o) o)
+  sees-all v x = same_tests _ _ (λ h. (and_parts (branch_connects r t x) (on t c x) h).1) (λ o. and_from _ _ (valid_below r t c x v o) o)
 
   -- and none is marked
-  pub marks-none : valid r t c ≡ true → (x : ℕ) → fails_on r t c x ≡ false
+  pub marks-none : branch_connects r t c ≡ true → (x : ℕ) → fails_on r t c x ≡ false
   unfolding fails_on
   marks-none v x = Rattle.std.proofs.lemmas.Bool.false_from_ne_true _ (λ h. let b = and_parts (first_to_fail r t x) (on t c x) h in never_fails r t c x v b.1 b.0)
 
@@ -34,7 +34,7 @@ module _ {B I : Type 0} (r : Rules B I) (t : Blocks B) (c : ℕ) where
     sees-before x =
         same_tests _ _
         (λ h.
-        let b = and_parts (valid r t x) (on t c x) h in
+        let b = and_parts (branch_connects r t x) (on t c x) h in
         elim (on_chain t c x f b.1 is.on) [
           | inl p ↦ absurd (never_fails r t x f b.0 p is.first)
           | inr p ↦ elim (or_cases (eqb f x) (has (before t f) x) (sym (on-before t f x f_kept) ∙ p)) [
@@ -63,7 +63,7 @@ module _ {B I : Type 0} (r : Rules B I) (t : Blocks B) (c : ℕ) where
 module _ {B I : Type 0} (r : Rules B I) (s : State B) (x : ℕ) where
   passes-from : (c : ℕ) → c ≤ length s.blocks → passes_on r s.blocks c x ≡ true → Passes r s.blocks c x
   passes-from c l h =
-      elim (cases_Bool (valid r s.blocks c)) [
+      elim (cases_Bool (branch_connects r s.blocks c)) [
         | inl v ↦ inl (v, sym (sees-all r s.blocks c v x) ∙ h)
         | inr v ↦
             let w = first_failure r s.blocks c l v in
@@ -77,14 +77,14 @@ module _ {B I : Type 0} (r : Rules B I) (s : State B) (x : ℕ) where
   pub seen-words : becomes_seen r s x ≡ true → OfCandidate r s (λ c. Passes r s.blocks c x)
   unfolding becomes_seen passes_on
   seen-words h =
-      let b = and_parts (valid r s.blocks x) (on_candidate r s x) h in
+      let b = and_parts (branch_connects r s.blocks x) (on_candidate r s x) h in
       let g = on_candidate_gives r s x b.1 in
       (g.0, g.1, g.2, passes-from g.0 g.1 (and_from _ _ b.0 g.3))
 
   pub seen_where : OfCandidate r s (λ c. Passes r s.blocks c x) → becomes_seen r s x ≡ true
   unfolding becomes_seen passes_on
   seen_where h =
-      let b = and_parts (valid r s.blocks x) (on s.blocks h.0 x) (passes-to h.0 h.3) in
+      let b = and_parts (branch_connects r s.blocks x) (on s.blocks h.0 x) (passes-to h.0 h.3) in
       and_from _ _ b.0 (on_candidate_from r s h.0 x h.1 h.2 b.1)
 
   pub bad-words : becomes_bad r s x ≡ true → OfCandidate r s (λ c. IsFirstFault r s.blocks c x)

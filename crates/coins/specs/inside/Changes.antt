@@ -7,7 +7,7 @@ use Rattle.std.specs.FinMap as map
 use Rattle.txn.specs.declared.outpoint.OutPoint.{OutPoint}
 use Rattle.coins.specs.Coins.{Coin, Coins, outpoint_cmp, same}
 use Rattle.coins.specs.Entries.{Entries, stands}
-use Rattle.coins.specs.Changes.{Changes, named}
+use Rattle.coins.specs.Changes.{Changes, change_at}
 
 -- cs has, of these entries, those at which something else stands than below
 unfoldable pub Lists : Coins → Entries → Changes → Type 0
@@ -22,7 +22,7 @@ pub record Opened (n m : Coins) (added : List OutPoint) : Type 0 where
 
 -- n is m but for what is going to be written
 pub record Covered (m n : Coins) (cs : Changes) : Type 0 where
-  pub at : (q : OutPoint) → named cs q ≡ None → map.get n q ≡ map.get m q
+  pub at : (q : OutPoint) → change_at cs q ≡ None → map.get n q ≡ map.get m q
 
 -- a coin stands wherever one is going to be written
 pub record HasRoomFor (n : Coins) (cs : Changes) : Type 0 where

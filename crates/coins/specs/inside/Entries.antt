@@ -32,11 +32,11 @@ own_coin (Some (Dirty coin)) = coin
 own_coin (Some (Fresh coin)) = Some coin
 
 -- the entry after that coin is taken: a fresh one is dropped
-abbrev pub emptied : Option CacheEntry → Option CacheEntry
-emptied None = None
-emptied (Some Clean) = Some Clean
-emptied (Some (Dirty coin)) = Some (Dirty None)
-emptied (Some (Fresh coin)) = None
+abbrev pub entry_without_coin : Option CacheEntry → Option CacheEntry
+entry_without_coin None = None
+entry_without_coin (Some Clean) = Some Clean
+entry_without_coin (Some (Dirty coin)) = Some (Dirty None)
+entry_without_coin (Some (Fresh coin)) = None
 
 -- an entry stays, or is clean where there was none
 abbrev pub Readied : Option CacheEntry → Option CacheEntry → Type 0
@@ -54,12 +54,12 @@ pub record HasRoom (es ws : Entries) : Type 0 where
   pub all : AllByRecursion (λ e. IsSome (entry_at es e.0)) ws
 
 -- the entry after one of the layer above is laid over it
-abbrev pub merged : Option CacheEntry → CacheEntry → Option CacheEntry
-merged o Clean = o
-merged o (Dirty None) = if is_fresh o then None else Some (Dirty None)
-merged o (Dirty (Some coin)) = Some (if is_fresh o then Fresh coin else Dirty (Some coin))
-merged o (Fresh coin) = Some (added_entry o coin)
+abbrev pub merge_entry : Option CacheEntry → CacheEntry → Option CacheEntry
+merge_entry o Clean = o
+merge_entry o (Dirty None) = if is_fresh o then None else Some (Dirty None)
+merge_entry o (Dirty (Some coin)) = Some (if is_fresh o then Fresh coin else Dirty (Some coin))
+merge_entry o (Fresh coin) = Some (added_entry o coin)
 
-abbrev pub merged_at : Option CacheEntry → Option CacheEntry → Option CacheEntry
-merged_at o None = o
-merged_at o (Some e) = merged o e
+abbrev pub merge_entry_at : Option CacheEntry → Option CacheEntry → Option CacheEntry
+merge_entry_at o None = o
+merge_entry_at o (Some e) = merge_entry o e

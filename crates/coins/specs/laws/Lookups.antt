@@ -47,12 +47,12 @@ get-put m k None q = get-remove total_order m k q
 get-put m k (Some coin) q = get-insert total_order m k coin q
 
 -- what a list of entries has at an outpoint
-abbrev pub found : {V : Type 0} → List (OutPoint × V) → OutPoint → Option V
-found es q = lookup (is_at (outpoint_cmp q)) es
+abbrev pub entry_for : {V : Type 0} → List (OutPoint × V) → OutPoint → Option V
+entry_for es q = lookup (is_at (outpoint_cmp q)) es
 
-find_at : {V : Type 0} (es : List (OutPoint × V)) (q : OutPoint) → find outpoint_cmp q es ≡ found es q
+find_at : {V : Type 0} (es : List (OutPoint × V)) (q : OutPoint) → find outpoint_cmp q es ≡ entry_for es q
 find_at [] q = refl
 find_at (e ∷ es) q = ap (cond (is_at (outpoint_cmp q) e.0) (Some e.1)) (find_at es q)
 
-pub get-entries : {V : Type 0} (es : List (OutPoint × V)) (q : OutPoint) → map.get (map.from_entries {R = outpoint_cmp} es) q ≡ found es q
+pub get-entries : {V : Type 0} (es : List (OutPoint × V)) (q : OutPoint) → map.get (map.from_entries {R = outpoint_cmp} es) q ≡ entry_for es q
 get-entries es q = get-from_entries total_order es q ∙ find_at es q

@@ -4,7 +4,7 @@ use Rattle.std.specs.List.{zip}
 use Rattle.txn.specs.declared.tx.Tx.{Tx}
 use Rattle.coins.specs.declared.coin.Coin.{Coin}
 use Rattle.interp.specs.declared.flags.Flags.{Flags}
-use Rattle.queue.specs.Jobs.{asked}
+use Rattle.queue.specs.Jobs.{question_of}
 use Rattle.connect.specs.declared.scripts.Checks.{Checks}
 use Rattle.connect.specs.Scripts.{Check, input_checks}
 
@@ -16,7 +16,7 @@ checks_from flags place (tx ∷ txs) (coins ∷ undo) = input_checks flags place
 
 -- the checks that are listed
 abbrev pub checks_in : Checks → List Check
-checks_in checks = zip checks.places.items (map asked checks.jobs.items)
+checks_in checks = zip checks.places.items (map question_of checks.jobs.items)
 
 -- there is a place for each job
 abbrev pub IsEven : Checks → Type 0

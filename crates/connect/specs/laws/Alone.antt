@@ -25,7 +25,7 @@ use Rattle.block.specs.Merkle.{root, twin}
 use Rattle.block.specs.Sizes.{size_of}
 use Rattle.block.specs.Target.{meets_target}
 use Rattle.wire.specs.Grammar.{number}
-use Rattle.wire.specs.Spelling.{compact, i32le, i64le}
+use Rattle.wire.specs.Spelling.{compact_size, i32le, i64le}
 use Rattle.coins.specs.Coins.{same}
 use Rattle.coins.specs.laws.Lookups.{same-true}
 use Rattle.rules.specs.Alone.{max_block_size, max_block_sigops, begins_with_coinbase, tx_sigops, alone_rules}
@@ -41,24 +41,24 @@ flat_long f h (x ∷ xs) = omega (arith, h x, flat_long f h xs, length-append (f
 input_long : (i : TxIn) → 1 ≤ length (input.spell i)
 input_long i =
     let front = i.prev.id.0 ++ (number 4).spell i.prev.index in
-    let script = compact (length i.script) ++ i.script in
+    let script = compact_size (length i.script) ++ i.script in
     omega (arith, length-append front (script ++ (number 4).spell i.sequence), length-append script ((number 4).spell i.sequence))
 
 output_long : (o : TxOut) → 1 ≤ length (output.spell o)
-output_long o = omega (arith, length-append (i64le o.value) (compact (length o.script) ++ o.script))
+output_long o = omega (arith, length-append (i64le o.value) (compact_size (length o.script) ++ o.script))
 
 tx_long : (t : Tx) → length t.inputs + length t.outputs + 1 ≤ length (transaction.spell t)
 tx_long t =
-    let ins = compact (length t.inputs) ++ flat_map input.spell t.inputs in
-    let outs = compact (length t.outputs) ++ flat_map output.spell t.outputs in
+    let ins = compact_size (length t.inputs) ++ flat_map input.spell t.inputs in
+    let outs = compact_size (length t.outputs) ++ flat_map output.spell t.outputs in
     let last = (number 4).spell t.lock_time in
     omega (
       arith,
       length-append (i32le t.version) (ins ++ outs ++ last),
       length-append ins (outs ++ last),
       length-append outs last,
-      length-append (compact (length t.inputs)) (flat_map input.spell t.inputs),
-      length-append (compact (length t.outputs)) (flat_map output.spell t.outputs),
+      length-append (compact_size (length t.inputs)) (flat_map input.spell t.inputs),
+      length-append (compact_size (length t.outputs)) (flat_map output.spell t.outputs),
       flat_long input.spell input_long t.inputs,
       flat_long output.spell output_long t.outputs,
     )
@@ -79,7 +79,7 @@ each_short (t ∷ txs) n h =
 
 txs_short : (b : Block) → length (flat_map transaction.spell b.txs) ≤ size_of b
 unfolding size_of
-txs_short b = omega (arith, length-append (header.spell b.header) (compact (length b.txs) ++ flat_map transaction.spell b.txs), length-append (compact (length b.txs)) (flat_map transaction.spell b.txs))
+txs_short b = omega (arith, length-append (header.spell b.header) (compact_size (length b.txs) ++ flat_map transaction.spell b.txs), length-append (compact_size (length b.txs)) (flat_map transaction.spell b.txs))
 
 -- ---- rules of which none is broken
 

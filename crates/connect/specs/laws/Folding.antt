@@ -5,7 +5,7 @@ use Rattle.txn.specs.declared.tx.Tx.{Tx}
 use Rattle.txn.specs.Identity.{id_of}
 use Rattle.coins.specs.declared.coin.Coin.{Coin}
 use Rattle.coins.specs.Coins.{Coins}
-use Rattle.undo.specs.Effect.{after, spent, IsApplicable, IsApplied}
+use Rattle.undo.specs.Effect.{after, spent_coins, IsApplicable, IsApplied}
 use Rattle.connect.specs.Turns.{Turn, turn, turns, effect, spent_in, left_by, full_count}
 
 pub turns_none : (h : ℕ) (m : Coins) (n : ℕ) → turns h m n [] ≡ []
@@ -37,12 +37,12 @@ pub applied_at : (h : ℕ) (m : Coins) (n : ℕ) (txs : List Tx) (i : ℕ) (x : 
     → IsApplied (effect h m (take i txs)) x (id_of x) h (effect h m (take (suc i) txs)) y
 applied_at h m n [] i x y below ex ey can = absurd (omega arith)
 applied_at h m n (t ∷ txs) zero x y below ex ey can =
-    let here : IsApplied m t (id_of t) h (effect h m (t ∷ [])) (spent m t) = record { applicable = (can_next h m n t txs can).0; after = effect_next h m t [] ∙ effect_none h (after m t (id_of t) h); spent = refl } in
-    let taken : y ≡ spent m t = ey ∙ ap (λ (l : List Turn). get_or (map spent_in l) 0 y) (turns_next h m n t txs) in
+    let here : IsApplied m t (id_of t) h (effect h m (t ∷ [])) (spent_coins m t) = record { applicable = (can_next h m n t txs can).0; after = effect_next h m t [] ∙ effect_none h (after m t (id_of t) h); spent = refl } in
+    let taken : y ≡ spent_coins m t = ey ∙ ap (λ (l : List Turn). get_or (map spent_in l) 0 y) (turns_next h m n t txs) in
     let start : m ≡ effect h m [] = sym (effect_none h m) in
     subst (λ (k : Coins). IsApplied k x (id_of x) h (effect h m (t ∷ [])) y) start
     (subst (λ (l : List Coin). IsApplied m x (id_of x) h (effect h m (t ∷ [])) l) (sym taken)
-    (subst (λ (z : Tx). IsApplied m z (id_of z) h (effect h m (t ∷ [])) (spent m t)) (sym ex) here))
+    (subst (λ (z : Tx). IsApplied m z (id_of z) h (effect h m (t ∷ [])) (spent_coins m t)) (sym ex) here))
 applied_at h m n (t ∷ txs) (suc i) x y below ex ey can =
     let k = turn t m n in
     let rest = (can_next h m n t txs can).1 in

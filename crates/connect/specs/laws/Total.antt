@@ -22,7 +22,7 @@ use Rattle.coins.specs.declared.coin.Coin.{Coin}
 use Rattle.coins.specs.Coins.{Coins, same}
 use Rattle.coins.specs.Total.{sum_of_values, total}
 use Rattle.coins.specs.laws.Totals.{total-insert, total-remove}
-use Rattle.undo.specs.Effect.{place, spends, spendable, coin_of, makes, without, with_coins, after, coins_at, spent}
+use Rattle.undo.specs.Effect.{place, spends, spendable, coin_of, makes, without, with_coins, after, coins_at, spent_coins}
 use Rattle.undo.specs.inside.Reverting.{AreCoins, AreNew}
 use Rattle.undo.specs.laws.Effects.{other_kept, coins_next, new_next}
 use Rattle.undo.specs.laws.Undoing.{are_coins, are_new}
@@ -85,7 +85,7 @@ made_at_most height b id k (o ∷ os) h = at (is_unspendable o.script) (made_at_
 -- ---- a transaction and those after it
 
 pub total_turn : (h : ℕ) (t : Turn) → CanTurn t → AllByRecursion IsPaid t.tx.outputs → total (left_by h t) ≤ℤ (total t.coins -ℤ fee t)
-unfolding after spent
+unfolding after spent_coins
 total_turn h t can paid_all =
     let m = t.coins in
     let id = id_of t.tx in
@@ -144,7 +144,7 @@ all_paid [] h = tt
 all_paid (t ∷ txs) h = (each_paid t h.0, all_paid txs h.1)
 
 coinbase_fee : (x : Tx) (m : Coins) → is_coinbase x ≡ true → fee (turn x m 0) ≡ pos 0 -ℤ paid x.outputs
-unfolding spent
+unfolding spent_coins
 coinbase_fee x m h = ap (λ b. sum_of_values (coins_at m (cond b [] (prevs x.inputs))) -ℤ paid x.outputs) h
 
 not_overpaid : (s : Setting) (m : Coins) (txs : List Tx) → first_broken (connect_rules s m txs) ≡ None → int_lt (pos (subsidy_of s.height) +ℤ fees (drop 1 (turns s.height m 0 txs))) (reward_of txs) ≡ false

@@ -2,7 +2,7 @@
 use Rattle.std.specs.Prelude.{◌≡◌, [], ◌∷◌, Some, None, true, false, refl}
 use Rattle.script.specs.Op.{pushed_of}
 use Rattle.script.specs.Ops.{ops, operand_len, rest}
-use Rattle.script.specs.Num.{operand, num_value, spelled, spelled_with}
+use Rattle.script.specs.Num.{operand, num_value, shortest_bytes, shortest_bytes_with}
 use Rattle.interp.specs.Elements.{truth}
 use Rattle.interp.specs.Spending.{Spending}
 use Rattle.interp.specs.computed.Signatures.{pairs_verdict}
@@ -16,12 +16,12 @@ rot p = refl
 
 -- 2 5 SUB
 sub : (p : Spending) → outcome p (0x52 ∷ 0x55 ∷ 0x94 ∷ []) [] ≡ Some ((0x83 ∷ []) ∷ [])
-unfolding operand_len ops rest row_at row_of after_acting with_count within_bounds step_at step run outcome operand num_value spelled spelled_with top_number on_two_numbers
+unfolding operand_len ops rest row_at row_of after_acting with_count within_bounds step_at step run outcome operand num_value shortest_bytes shortest_bytes_with top_number on_two_numbers
 sub p = refl
 
 -- 2 1 2 WITHIN: the end isn't within
 within : (p : Spending) → outcome p (0x52 ∷ 0x51 ∷ 0x52 ∷ 0xa5 ∷ []) [] ≡ Some ([] ∷ [])
-unfolding operand_len ops rest row_at row_of after_acting with_count within_bounds step_at step run outcome operand num_value spelled spelled_with top_number on_three_numbers
+unfolding operand_len ops rest row_at row_of after_acting with_count within_bounds step_at step run outcome operand num_value shortest_bytes shortest_bytes_with top_number on_three_numbers
 within p = refl
 
 -- 7 8 9 and 2 ROLL
@@ -41,7 +41,7 @@ verif p = refl
 
 -- 2147483647 1ADD leaves five bytes, which aren't an operand
 five_bytes : (p : Spending) → outcome p (0x04 ∷ 0xff ∷ 0xff ∷ 0xff ∷ 0x7f ∷ 0x8b ∷ 0x8b ∷ []) [] ≡ None
-unfolding pushed_of operand_len ops rest row_at row_of after_acting with_count within_bounds step_at step run outcome operand num_value spelled spelled_with top_number on_number
+unfolding pushed_of operand_len ops rest row_at row_of after_acting with_count within_bounds step_at step run outcome operand num_value shortest_bytes shortest_bytes_with top_number on_number
 five_bytes p = refl
 
 -- no signature of no key, with the element more that CHECKMULTISIG takes

@@ -4,7 +4,7 @@ use Rattle.std.specs.Option.{option_map, option_map_or}
 use Rattle.std.specs.List.{concat}
 use Rattle.script.specs.Ops.{ops, rest, is_whole}
 use Rattle.script.specs.Kinds.{is_push_only, is_p2sh, max_script_size}
-use Rattle.script.specs.Num.{operand, spelled}
+use Rattle.script.specs.Num.{operand, shortest_bytes}
 use Rattle.interp.specs.Limits.{max_ops, max_keys, max_elements, max_number_size}
 use Rattle.interp.specs.Stack.{Stack, Bytes, stack_with, nth}
 use Rattle.interp.specs.computed.Stack.{rearrangement}
@@ -40,20 +40,20 @@ top_number (a ∷ rest) = option_map (λ z. (z, rest)) (operand max_number_size 
 unfoldable pub on_number : (ℤ → ℤ) → Stack → Option Stack
 on_number f s = do
   a ← top_number s
-  Some (spelled (f a.0) ∷ a.1)
+  Some (shortest_bytes (f a.0) ∷ a.1)
 
 unfoldable pub on_two_numbers : (ℤ → ℤ → ℤ) → Stack → Option Stack
 on_two_numbers f s = do
   b ← top_number s
   a ← top_number b.1
-  Some (spelled (f a.0 b.0) ∷ a.1)
+  Some (shortest_bytes (f a.0 b.0) ∷ a.1)
 
 unfoldable pub on_three_numbers : (ℤ → ℤ → ℤ → ℤ) → Stack → Option Stack
 on_three_numbers f s = do
   c ← top_number s
   b ← top_number c.1
   a ← top_number b.1
-  Some (spelled (f a.0 b.0 c.0) ∷ a.1)
+  Some (shortest_bytes (f a.0 b.0 c.0) ∷ a.1)
 
 -- a place among the others, by the number on top, and the others
 abbrev pub place_among : Stack → ℕ → Option (ℕ × Stack)
@@ -77,7 +77,7 @@ effect (Two f) s = on_two f s
 effect (OneNumber f) s = on_number f s
 effect (TwoNumbers f) s = on_two_numbers f s
 effect (ThreeNumbers f) s = on_three_numbers f s
-effect Depth s = Some (spelled (pos (length s)) ∷ s)
+effect Depth s = Some (shortest_bytes (pos (length s)) ∷ s)
 effect Picks s = after_pick s
 effect Rolls s = after_roll s
 

@@ -3,7 +3,7 @@ use Rattle.std.proofs.Common.{◌≡◌, ℕ, zero, suc, ◌+◌, ◌<◌, List,
 use Rattle.std.proofs.lemmas.Bool.{cases_lt}
 use borrow.Author.Tests.{lt-ltb, le-ltb}
 use Rattle.std.specs.Option.{option_map, option_and_then}
-use Rattle.script.specs.Num.{operand, spelled}
+use Rattle.script.specs.Num.{operand, shortest_bytes}
 use Rattle.interp.specs.Stack.{Stack, Bytes, Rearranges, stack_with, nth}
 use Rattle.interp.specs.computed.Stack.{rearrangement, put_back, take_off}
 use Rattle.interp.specs.computed.Elements.{natural, natural_of}
@@ -90,7 +90,7 @@ top_number-again a rest z h = ap (option_map (λ x. (x, rest))) (number-again 4 
 number_row-sound : (f : ℤ → ℤ) (old new : Stack) → on_number f old ≡ Some new → MapsNumber f old new
 unfolding on_number
 number_row-sound f old new e =
-    let h = then-some (top_number old) (λ x. Some (spelled (f x.0) ∷ x.1)) new e in
+    let h = then-some (top_number old) (λ x. Some (shortest_bytes (f x.0) ∷ x.1)) new e in
     let a = top_number-sound old h.0.0 h.0.1 h.1 in
     (a.0, h.0.1, h.0.0, a.1, a.2, cc)
 
@@ -101,9 +101,9 @@ number_row-again f old new (a, rest, x, is, a_is, after) = rw (is, top_number-ag
 two_row-sound : (f : ℤ → ℤ → ℤ) (old new : Stack) → on_two_numbers f old ≡ Some new → JoinsNumbers f old new
 unfolding on_two_numbers
 two_row-sound f old new e =
-    let h = then-some (top_number old) (λ y. option_and_then (λ x. Some (spelled (f x.0 y.0) ∷ x.1)) (top_number y.1)) new e in
+    let h = then-some (top_number old) (λ y. option_and_then (λ x. Some (shortest_bytes (f x.0 y.0) ∷ x.1)) (top_number y.1)) new e in
     let b = top_number-sound old h.0.0 h.0.1 h.1 in
-    let g = then-some (top_number h.0.1) (λ x. Some (spelled (f x.0 h.0.0) ∷ x.1)) new h.2 in
+    let g = then-some (top_number h.0.1) (λ x. Some (shortest_bytes (f x.0 h.0.0) ∷ x.1)) new h.2 in
     let a = top_number-sound h.0.1 g.0.0 g.0.1 g.1 in
     (a.0, b.0, g.0.1, g.0.0, h.0.0, b.1 ∙ ap (λ s. b.0 ∷ s) a.1, a.2, b.2, cc)
 
@@ -115,11 +115,11 @@ two_row-again f old new (a, b, rest, x, y, is, a_is, b_is, after) =
 three_row-sound : (f : ℤ → ℤ → ℤ → ℤ) (old new : Stack) → on_three_numbers f old ≡ Some new → JoinsThree f old new
 unfolding on_three_numbers
 three_row-sound f old new e =
-    let k = then-some (top_number old) (λ z. option_and_then (λ y. option_and_then (λ x. Some (spelled (f x.0 y.0 z.0) ∷ x.1)) (top_number y.1)) (top_number z.1)) new e in
+    let k = then-some (top_number old) (λ z. option_and_then (λ y. option_and_then (λ x. Some (shortest_bytes (f x.0 y.0 z.0) ∷ x.1)) (top_number y.1)) (top_number z.1)) new e in
     let c = top_number-sound old k.0.0 k.0.1 k.1 in
-    let h = then-some (top_number k.0.1) (λ y. option_and_then (λ x. Some (spelled (f x.0 y.0 k.0.0) ∷ x.1)) (top_number y.1)) new k.2 in
+    let h = then-some (top_number k.0.1) (λ y. option_and_then (λ x. Some (shortest_bytes (f x.0 y.0 k.0.0) ∷ x.1)) (top_number y.1)) new k.2 in
     let b = top_number-sound k.0.1 h.0.0 h.0.1 h.1 in
-    let g = then-some (top_number h.0.1) (λ x. Some (spelled (f x.0 h.0.0 k.0.0) ∷ x.1)) new h.2 in
+    let g = then-some (top_number h.0.1) (λ x. Some (shortest_bytes (f x.0 h.0.0 k.0.0) ∷ x.1)) new h.2 in
     let a = top_number-sound h.0.1 g.0.0 g.0.1 g.1 in
     (a.0, b.0, c.0, g.0.1, g.0.0, h.0.0, k.0.0, c.1 ∙ ap (λ s. c.0 ∷ s) (b.1 ∙ ap (λ s. b.0 ∷ s) a.1), a.2, b.2, c.2, cc)
 

@@ -1,7 +1,7 @@
 -- The history as it is kept, with the chainstate after it.
 use Rattle.std.specs.Prelude.{◌≡◌, ◌⊎◌, ◌≤◌, ℕ, Bool, true, false, List, [], ◌∷◌, ◌++◌, Some, None}
 use Rattle.block.specs.declared.block.Block.{Block}
-use Rattle.block.specs.Decoding.{decoded}
+use Rattle.block.specs.Decoding.{block_of_bytes}
 use Rattle.tree.specs.State.{State}
 use Rattle.tree.specs.Limits.{max_blocks}
 use Rattle.chain.specs.declared.command.Command.{Command}
@@ -46,7 +46,7 @@ IsReplyTo c (reply.Mark value) = Unit {0}
 
 -- the command is a submission of bytes that are no block
 abbrev pub IsUndecodable : Command → Type 0
-IsUndecodable (command.Submit bytes now) = decoded bytes ≡ None
+IsUndecodable (command.Submit bytes now) = block_of_bytes bytes ≡ None
 IsUndecodable c = ⊥
 
 -- the history with one entry more

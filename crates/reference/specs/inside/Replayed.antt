@@ -9,7 +9,7 @@ use Rattle.block.specs.declared.genesis.TheConstants.{GENESIS_ID}
 use Rattle.locks.specs.MedianTime.{median_of}
 use Rattle.rules.specs.Alone.{alone_rules}
 use Rattle.tree.specs.Branches.{Kept, Blocks, down_from, branch, height, parent_at, block_at, id_at, blocks_at}
-use Rattle.tree.specs.State.{State, usable, rank}
+use Rattle.tree.specs.State.{State, has_no_mark, rank}
 use Rattle.tree.specs.Names.{names, genesis}
 use Rattle.tree.specs.Limits.{max_blocks}
 use Rattle.reference.specs.declared.kept_block.KeptBlock.{KeptBlock}
@@ -123,7 +123,7 @@ pub record IsRight (r : Rules Block Id) (old : Replayed) : Type 0 where
 unfoldable pub judgement_at : Rules Block Id → State Block → ℕ → Judgement
 judgement_at r s p = record {
   trial = trial_on r (blocks_at names s.blocks (branch s.blocks p));
-  usable = usable s p;
+  usable = has_no_mark s p;
   height = height s.blocks p;
   rank = rank s p;
 }

@@ -36,8 +36,8 @@ IsSealed (Some nonce) h made = made ≡ with_nonce h nonce
 
 -- the header of these transactions on a parent, before its nonce: by default one second younger, with the
 -- true root
-abbrev pub unsealed : HeaderRecipe → Named → List Tx → Header
-unsealed recipe parent txs = record {
+abbrev pub header_to_seal : HeaderRecipe → Named → List Tx → Header
+header_to_seal recipe parent txs = record {
   version = said_or (pos 4) recipe.version;
   prev = parent.id;
   root = said_or (root (txn.ids_of txs)) recipe.root;
@@ -66,7 +66,7 @@ txs_of recipe name height =
 pub record IsMade (recipe : Recipe) (name : List ℕ) (parent made : Named) : Type 0 where
   pub whole : Block
   pub txs : whole.txs ≡ txs_of recipe name (parent.height + 1)
-  pub header : IsSealed recipe.header.nonce (unsealed recipe.header parent whole.txs) whole.header
+  pub header : IsSealed recipe.header.nonce (header_to_seal recipe.header parent whole.txs) whole.header
   pub named : string_bytes made.name ≡ name
   pub id : made.id ≡ id_of whole.header
   pub height : made.height ≡ parent.height + 1

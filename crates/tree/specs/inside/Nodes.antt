@@ -8,7 +8,7 @@ use Rattle.tree.specs.declared.node.Node.{Node}
 use Rattle.tree.specs.declared.node.Mark.{Mark}
 use Rattle.tree.specs.Branches.{Blocks, has, branch, height, parent_at, block_at, id_at, blocks_at, place_of}
 use Rattle.tree.specs.inside.Slots.{AreInOrder, slot_of, leaves_of}
-use Rattle.tree.specs.State.{State, usable, rank}
+use Rattle.tree.specs.State.{State, has_no_mark, rank}
 use Rattle.tree.specs.Limits.{max_blocks}
 use Rattle.tree.specs.MedianTime.{median_time_past}
 use Rattle.tree.specs.Names.{names, genesis, id_cmp}
@@ -25,7 +25,7 @@ pub record IsNode (t : Blocks Block) (p : ℕ) (n : Node) : Type 0 where
 
 -- of what follows from the marks of all blocks
 pub record IsMark (s : State Block) (p : ℕ) (m : Mark) : Type 0 where
-  pub usable : m.usable ≡ usable s p
+  pub usable : m.usable ≡ has_no_mark s p
   pub rank : m.rank ≡ rank s p
 
 -- of all nodes, by their places
@@ -62,7 +62,7 @@ pub record MarksTaken (m n : Mark) (told : Bool) : Type 0 where
   pub rank : m.rank ≡ n.rank
 
 abbrev pub AreUsable : State Block → List Mark → ℕ → Type 0
-AreUsable s marks n = (p : ℕ) → p < n → (mark_at marks p).usable ≡ usable s p
+AreUsable s marks n = (p : ℕ) → p < n → (mark_at marks p).usable ≡ has_no_mark s p
 
 abbrev pub first_node : Node
 first_node = record { block = genesis; id = names.genesis_id; parent = 0; height = 0; median = genesis.header.time; slot = 0 }

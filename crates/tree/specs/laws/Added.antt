@@ -4,7 +4,7 @@ use Rattle.std.specs.List.{list_all}
 use Rattle.std.proofs.lemmas.Bool.{eq-eqb, ne_eqb}
 use Rattle.tree.specs.Naming.{Naming}
 use Rattle.tree.specs.Branches.{Kept, Blocks, has, branch, on, height, block_at, id_at, blocks_at, place_of}
-use Rattle.tree.specs.State.{State, usable, rank, better}
+use Rattle.tree.specs.State.{State, has_no_mark, rank, beats}
 use Rattle.tree.specs.laws.Sets.{has_here, has_there}
 use Rattle.tree.specs.laws.Branches.{branch_there, branch_here, on-bounds, height_there}
 
@@ -57,18 +57,18 @@ module _ {B : Type 0} (s : State B) (k : Kept B) where
   abbrev larger : State B
   larger = record s { blocks = k ∷ s.blocks }
 
-  pub better_there : (a c : ℕ) → a ≤ length s.blocks → c ≤ length s.blocks → better larger a c ≡ better s a c
-  unfolding better rank
+  pub better_there : (a c : ℕ) → a ≤ length s.blocks → c ≤ length s.blocks → beats larger a c ≡ beats s a c
+  unfolding beats rank
   better_there a c h g =
       ap (λ n. ltb (height (k ∷ s.blocks) c) n || (eqb n (height (k ∷ s.blocks) c) && (ltb (rank s c) (rank s a) || (eqb (rank s a) (rank s c) && ltb a c)))) (height_there k s.blocks a h)
       ∙ ap (λ n. ltb n (height s.blocks a) || (eqb (height s.blocks a) n && (ltb (rank s c) (rank s a) || (eqb (rank s a) (rank s c) && ltb a c)))) (height_there k s.blocks c g)
 
-  pub usable_there : (q : ℕ) → q ≤ length s.blocks → usable larger q ≡ usable s q
-  unfolding usable
+  pub usable_there : (q : ℕ) → q ≤ length s.blocks → has_no_mark larger q ≡ has_no_mark s q
+  unfolding has_no_mark
   usable_there q h = ap (list_all (λ x. not (has s.bad x))) (branch_there k s.blocks q (omega arith))
 
-  pub usable_new : has s.bad (suc (length s.blocks)) ≡ false → usable larger (suc (length s.blocks)) ≡ usable s k.parent
-  unfolding usable
+  pub usable_new : has s.bad (suc (length s.blocks)) ≡ false → has_no_mark larger (suc (length s.blocks)) ≡ has_no_mark s k.parent
+  unfolding has_no_mark
   usable_new e =
       ap (list_all (λ x. not (has s.bad x))) (branch_here k s.blocks (suc (length s.blocks)) refl)
       ∙ ap (λ b. not b && list_all (λ x. not (has s.bad x)) (branch s.blocks k.parent)) e

@@ -4,7 +4,7 @@ use Rattle.std.specs.List.{sum_by, filter}
 use Rattle.std.proofs.lemmas.Bool.{cases_Bool, cases_eq, eqb-true, eq-eqb, ne_eqb, or_cases, false_from_ne_true, true≢false}
 use Rattle.std.proofs.lemmas.List.Sums.{sum_by-cons}
 use Rattle.tree.specs.Branches.{has, down_from}
-use Rattle.tree.specs.Tips.{put_in, ordered}
+use Rattle.tree.specs.Tips.{put_in, sort_places}
 use Rattle.tree.specs.laws.Sets.{clash, has_here, has_there}
 
 -- ---- how often a place stands in a list
@@ -137,11 +137,11 @@ module _ (first : ℕ → ℕ → Bool) where
             omega arith
       ]
 
-  pub times-ordered : (x : ℕ) (l : List ℕ) → times x (ordered first l) ≡ times x l
-  unfolding ordered
+  pub times-ordered : (x : ℕ) (l : List ℕ) → times x (sort_places first l) ≡ times x l
+  unfolding sort_places
   times-ordered x [] = refl
   times-ordered x (p ∷ l) =
-      let a = times-put x p (ordered first l) in
+      let a = times-put x p (sort_places first l) in
       let b = times-ordered x l in
       let c = sum_by-cons (one x) p l in
       omega arith
@@ -180,7 +180,7 @@ module _ (first : ℕ → ℕ → Bool) where
           )
         ]
 
-    pub order-ordered : (l : List ℕ) → IsOrdered first (ordered first l)
-    unfolding ordered
+    pub order-ordered : (l : List ℕ) → IsOrdered first (sort_places first l)
+    unfolding sort_places
     order-ordered [] = tt
-    order-ordered (p ∷ l) = order-put p (ordered first l) (order-ordered l)
+    order-ordered (p ∷ l) = order-put p (sort_places first l) (order-ordered l)

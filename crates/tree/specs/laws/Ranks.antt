@@ -1,9 +1,9 @@
--- `better` is a strict order of all places, and what calls of `preciousblock` do to it.
+-- `beats` is a strict order of all places, and what calls of `preciousblock` do to it.
 use Rattle.std.proofs.Common.{◌≡◌, ℕ, suc, ◌<◌, ◌≤◌, Bool, true, false, cond, ◌&&◌, ◌||◌, eqb, ltb, List, [], ◌∷◌, ◌++◌, length, reverse, sym, ap, ◌∙◌, subst, inl, inr, ◌⊎◌, arith}
 use Rattle.std.proofs.lemmas.Bool.{eqb-true, eq-eqb, ne_eqb, cases_Bool, cases_eq, cases_lt, or_cases, or_parts, and_parts, and_from, or_left, or_right, cases_order, ltb-true, lt-ltb, true≢false}
 use Rattle.std.proofs.lemmas.List.{length-reverse, reverse-append}
 use Rattle.tree.specs.Branches.{has, height}
-use Rattle.tree.specs.State.{State, rank_in, rank, better, called}
+use Rattle.tree.specs.State.{State, rank_in, rank, beats, with_call}
 use Rattle.tree.specs.Sound.{Precedes}
 
 -- by three numbers, one after the other, and the last the other way round
@@ -80,27 +80,27 @@ module _ {B : Type 0} (s : State B) where
   abbrev pub IsAbove : ℕ → ℕ → Type 0
   IsAbove a b = Above (height s.blocks a) (height s.blocks b) (rank s a) (rank s b) a b
 
-  pub better-above : (a b : ℕ) → better s a b ≡ true → IsAbove a b
-  unfolding better
+  pub better-above : (a b : ℕ) → beats s a b ≡ true → IsAbove a b
+  unfolding beats
   better-above a b h = gives _ _ _ _ a b h
 
-  pub better_from : (a b : ℕ) → IsAbove a b → better s a b ≡ true
-  unfolding better
+  pub better_from : (a b : ℕ) → IsAbove a b → beats s a b ≡ true
+  unfolding beats
   better_from a b h = from _ _ _ _ a b h
 
-  pub better_falls : (a b : ℕ) → better s a b ≡ true → better s b a ≡ true → ⊥
+  pub better_falls : (a b : ℕ) → beats s a b ≡ true → beats s b a ≡ true → ⊥
   better_falls a b h g = falls _ _ _ _ a b (better-above a b h) (better-above b a g)
 
-  pub better_trans : (a b c : ℕ) → better s a b ≡ true → better s b c ≡ true → better s a c ≡ true
+  pub better_trans : (a b c : ℕ) → beats s a b ≡ true → beats s b c ≡ true → beats s a c ≡ true
   better_trans a b c h g = better_from a c (trans _ _ _ _ _ _ a b c (better-above a b h) (better-above b c g))
 
   -- of two blocks one is better
-  pub better_or : (a b : ℕ) → (a ≡ b → ⊥) → (better s a b ≡ true) ⊎ (better s b a ≡ true)
+  pub better_or : (a b : ℕ) → (a ≡ b → ⊥) → (beats s a b ≡ true) ⊎ (beats s b a ≡ true)
   better_or a b n =
       elim (total (height s.blocks a) (height s.blocks b) (rank s a) (rank s b) a b n) [ inl h ↦ inl (better_from a b h) | inr h ↦ inr (better_from b a h) ]
 
   -- a better block isn't lower
-  pub better-height : (a b : ℕ) → better s a b ≡ true → height s.blocks b ≤ height s.blocks a
+  pub better-height : (a b : ℕ) → beats s a b ≡ true → height s.blocks b ≤ height s.blocks a
   better-height a b h = elim (better-above a b h) [ inl l ↦ omega arith | inr l ↦ let e = l.0 in omega arith ]
 
 -- ---- the number of the last call
@@ -177,7 +177,7 @@ rank-same (z ∷ l) x y h e =
 -- ---- the rule in other words
 
 module _ {B : Type 0} (s : State B) (a b : ℕ) where
-  pub better-precedes : better s a b ≡ true → Precedes s a b
+  pub better-precedes : beats s a b ≡ true → Precedes s a b
   unfolding rank
   better-precedes h =
       elim (better-above s a b h) [
@@ -199,7 +199,7 @@ module _ {B : Type 0} (s : State B) (a b : ℕ) where
         )
       ]
 
-  pub better_where : Precedes s a b → better s a b ≡ true
+  pub better_where : Precedes s a b → beats s a b ≡ true
   unfolding rank
   better_where (inl l) = better_from s a b (inl l)
   better_where (inr q) =
@@ -218,20 +218,20 @@ module _ {B : Type 0} (s : State B) (a b : ℕ) where
 
 module _ {B : Type 0} (s : State B) (p : ℕ) where
   -- the block is better than all that aren't higher
-  pub better-called : (d : ℕ) → (p ≡ d → ⊥) → height s.blocks d ≤ height s.blocks p → better (called s p) p d ≡ true
+  pub better-called : (d : ℕ) → (p ≡ d → ⊥) → height s.blocks d ≤ height s.blocks p → beats (with_call s p) p d ≡ true
   unfolding rank
   better-called d n h =
-      let a : rank (called s p) p ≡ suc (length s.precious) = rank_last s.precious p in
-      let b : rank (called s p) d ≡ rank_in s.precious d = rank_other s.precious p d n in
+      let a : rank (with_call s p) p ≡ suc (length s.precious) = rank_last s.precious p in
+      let b : rank (with_call s p) d ≡ rank_in s.precious d = rank_other s.precious p d n in
       let c = rank-bound s.precious d in
-      better_from (called s p) p d (elim (cases_lt (height s.blocks d) (height s.blocks p)) [
+      better_from (with_call s p) p d (elim (cases_lt (height s.blocks d) (height s.blocks p)) [
         | inl l ↦ inl l
         | inr l ↦ inr (omega arith, inl (omega arith))
       ])
 
   -- between two others nothing changes
-  pub better-others : (a b : ℕ) → (p ≡ a → ⊥) → (p ≡ b → ⊥) → better (called s p) a b ≡ better s a b
-  unfolding better rank
+  pub better-others : (a b : ℕ) → (p ≡ a → ⊥) → (p ≡ b → ⊥) → beats (with_call s p) a b ≡ beats s a b
+  unfolding beats rank
   better-others a b n m =
       ap (λ x. above (height s.blocks a) (height s.blocks b) x (rank_in (p ∷ s.precious) b) a b) (rank_other s.precious p a n)
       ∙ ap (λ x. above (height s.blocks a) (height s.blocks b) (rank_in s.precious a) x a b) (rank_other s.precious p b m)

@@ -4,7 +4,7 @@ use Rattle.std.specs.List.{list_any, list_all, filter, find}
 use Rattle.std.specs.Option.{unwrap_or}
 use Rattle.std.proofs.lemmas.Bool.{eqb-true, eq-eqb, ne_eqb, cases_Bool, cases_eq, or_cases, or_right, or_left, and_parts, and_from, and_cases, true≢false}
 use Rattle.tree.specs.Branches.{down_from, has}
-use Rattle.tree.specs.State.{joined}
+use Rattle.tree.specs.State.{union_where}
 
 -- no test answers both
 pub clash : (b : Bool) → b ≡ true → b ≡ false → ⊥
@@ -156,26 +156,26 @@ pub has-places : (n x : ℕ) → x ≤ n → has (down_from n) x ≡ true
 has-places n x l = any_from (λ y. eqb y x) n x l (eq-eqb x x refl)
 
 module _ (n : ℕ) (set : List ℕ) where
-  pub has-joined : (f : ℕ → Bool) (x : ℕ) → x ≤ n → has (joined (down_from n) set f) x ≡ (has set x || f x)
-  unfolding joined
+  pub has-joined : (f : ℕ → Bool) (x : ℕ) → x ≤ n → has (union_where (down_from n) set f) x ≡ (has set x || f x)
+  unfolding union_where
   has-joined f x h = filter_one (λ p. has set p || f p) n x h
 
   -- nothing else is in
-  pub has_joined-above : (f : ℕ → Bool) (x : ℕ) → n < x → has (joined (down_from n) set f) x ≡ false
-  unfolding joined
+  pub has_joined-above : (f : ℕ → Bool) (x : ℕ) → n < x → has (union_where (down_from n) set f) x ≡ false
+  unfolding union_where
   has_joined-above f x h = filter_none (λ p. has set p || f p) n x h
 
-  pub joined_agree : (f g : ℕ → Bool) → ((p : ℕ) → p ≤ n → f p ≡ g p) → joined (down_from n) set f ≡ joined (down_from n) set g
-  unfolding joined
+  pub joined_agree : (f g : ℕ → Bool) → ((p : ℕ) → p ≤ n → f p ≡ g p) → union_where (down_from n) set f ≡ union_where (down_from n) set g
+  unfolding union_where
   joined_agree f g e = filter_agree _ _ n (λ p h. ap (λ b. has set p || b) (e p h))
 
-  pub joined_twice : (f g : ℕ → Bool) → joined (down_from n) (joined (down_from n) set f) g ≡ joined (down_from n) set (λ p. f p || g p)
-  unfolding joined
+  pub joined_twice : (f g : ℕ → Bool) → union_where (down_from n) (union_where (down_from n) set f) g ≡ union_where (down_from n) set (λ p. f p || g p)
+  unfolding union_where
   joined_twice f g = filter_agree _ _ n (λ p h. ap (λ b. b || g p) (filter_one (λ q. has set q || f q) n p h) ∙ or_assoc (has set p) (f p) (g p))
 
   -- what is in the set already adds nothing
-  pub joined_within : (f : ℕ → Bool) → ((p : ℕ) → p ≤ n → f p ≡ true → has set p ≡ true) → joined (down_from n) set f ≡ joined (down_from n) set (λ p. false)
-  unfolding joined
+  pub joined_within : (f : ℕ → Bool) → ((p : ℕ) → p ≤ n → f p ≡ true → has set p ≡ true) → union_where (down_from n) set f ≡ union_where (down_from n) set (λ p. false)
+  unfolding union_where
   joined_within f h =
       filter_agree _ _ n (λ p l. same_tests _ _
       (λ e. or_left (has set p) false (elim (or_cases (has set p) (f p) e) [ inl a ↦ a | inr a ↦ h p l a ]))
@@ -183,9 +183,9 @@ module _ (n : ℕ) (set : List ℕ) where
 
 -- a set of kept places, each once, the newest first
 abbrev pub InOrder : ℕ → List ℕ → Type 0
-InOrder n set = joined (down_from n) set (λ p. false) ≡ set
+InOrder n set = union_where (down_from n) set (λ p. false) ≡ set
 
-pub in_order-joined : (n : ℕ) (set : List ℕ) (f : ℕ → Bool) → InOrder n (joined (down_from n) set f)
+pub in_order-joined : (n : ℕ) (set : List ℕ) (f : ℕ → Bool) → InOrder n (union_where (down_from n) set f)
 in_order-joined n set f = joined_twice n set f (λ p. false) ∙ joined_agree n set (λ p. f p || false) f (λ p l. or_false (f p))
 
 -- one place more
@@ -194,12 +194,12 @@ module _ (n : ℕ) (set : List ℕ) (order : InOrder n set) where
   none_above x h = ap (λ (l : List ℕ). has l x) (sym order) ∙ has_joined-above n set (λ p. false) x h
 
   pub joined_more : InOrder (suc n) set
-  unfolding joined down_from
+  unfolding union_where down_from
   joined_more = ap (λ b. cond (b || false) (suc n ∷ filter (λ p. has set p || false) (down_from n)) (filter (λ p. has set p || false) (down_from n))) (none_above (suc n) (omega arith)) ∙ order
 
   -- which alone joins
-  pub joined_new : (f : ℕ → Bool) → f (suc n) ≡ true → ((p : ℕ) → p ≤ n → f p ≡ true → has set p ≡ true) → joined (down_from (suc n)) set f ≡ suc n ∷ set
-  unfolding joined down_from
+  pub joined_new : (f : ℕ → Bool) → f (suc n) ≡ true → ((p : ℕ) → p ≤ n → f p ≡ true → has set p ≡ true) → union_where (down_from (suc n)) set f ≡ suc n ∷ set
+  unfolding union_where down_from
   joined_new f e h =
       ap (λ b. cond b (suc n ∷ filter (λ p. has set p || f p) (down_from n)) (filter (λ p. has set p || f p) (down_from n))) (or_right (has set (suc n)) (f (suc n)) e)
       ∙ ap (λ (l : List ℕ). suc n ∷ l) (joined_within n set f h ∙ order)

@@ -6,7 +6,7 @@ use Rattle.std.proofs.lemmas.Bool.{cases_Bool, cases_eq, eqb-true, eq-eqb, ne_eq
 use Rattle.std.proofs.lemmas.List.Sums.{sum_by-cons, sum_by-set, sum_by_push, sum_by-append}
 use Rattle.tree.specs.Branches.{Kept, Blocks, has, places, height}
 use Rattle.tree.specs.inside.Slots.{AreInOrder, is_leaf, slot_of, leaves_of}
-use Rattle.tree.specs.Tips.{is_tip, goes_first, ordered}
+use Rattle.tree.specs.Tips.{is_tip, goes_first, sort_places}
 use Rattle.tree.specs.laws.Orders.{one, times, one_same, one_other, times-filter, times_filter-above, IsOrdered, same_order, times-ordered, order-ordered}
 use Rattle.tree.specs.laws.Slots.{length-leaves, slot-below, leaf_slot, leaf_above, leaf_same, leaf_lost, on_other, leaves_taken, leaves_new}
 
@@ -196,8 +196,8 @@ module _ {B : Type 0} where
 
     -- places in order that are the tips, each once, are the tips in their order
     pub tips_in_order : (a : ℕ) (l : List ℕ) → AreInOrder t → a ≤ length t → ((q : ℕ) → has l q ≡ true → q ≤ length t) → IsOrdered (goes_first t) l → ((x : ℕ) → times x l ≡ times x (all_tips t a))
-        → l ≡ ordered (goes_first t) (filter (is_tip t a) (places t))
+        → l ≡ sort_places (goes_first t) (filter (is_tip t a) (places t))
     tips_in_order a l o k b up f =
-        same_order (goes_first t) (length t) (λ p q h g. first_tie p q) l (ordered (goes_first t) (filter (is_tip t a) (places t))) b up
+        same_order (goes_first t) (length t) (λ p q h g. first_tie p q) l (sort_places (goes_first t) (filter (is_tip t a) (places t))) b up
         (order-ordered (goes_first t) first-asym first_trans (filter (is_tip t a) (places t)))
         (λ x. f x ∙ once-tip t a x o k ∙ sym (times-ordered (goes_first t) x (filter (is_tip t a) (places t))))

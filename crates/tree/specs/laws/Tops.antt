@@ -16,7 +16,7 @@ use Rattle.tree.specs.Branches.{Blocks, has, places, height}
 use Rattle.tree.specs.Limits.{max_blocks}
 use Rattle.tree.specs.inside.Tops.{top_at, top_cmp}
 use Rattle.tree.specs.inside.Slots.{AreInOrder}
-use Rattle.tree.specs.Tips.{is_tip, goes_first, ordered}
+use Rattle.tree.specs.Tips.{is_tip, goes_first, sort_places}
 use Rattle.tree.specs.laws.Sets.{has_here, has_there}
 use Rattle.tree.specs.laws.Parents.{height-place}
 use Rattle.tree.specs.laws.Orders.{one, times, has-times, times_filter-above, times-ordered, IsOrdered}
@@ -112,7 +112,7 @@ module _ (t : Blocks Block) (room : suc (length t) ≤ max_blocks) where
 
   -- the tips, sorted as tops, are the tips in their order
   pub sorted_tips : (a : ℕ) (l : List Top) → AreInOrder t → a ≤ length t → IsPermutation (map (top_at t) (all_tips t a)) l → IsSorted top_cmp l
-      → l ≡ map (top_at t) (ordered (goes_first t) (filter (is_tip t a) (places t)))
+      → l ≡ map (top_at t) (sort_places (goes_first t) (filter (is_tip t a) (places t)))
   sorted_tips a l o k moved up = whole ∙ ap (map (top_at t)) (tips_in_order t a (map place_in l) o k kept (places_in_order (map place_in l) kept (subst (IsSortedBy below) whole up)) same)
     where
       whole : l ≡ map (top_at t) (map place_in l)
@@ -134,19 +134,19 @@ module _ (t : Blocks Block) (room : suc (length t) ≤ max_blocks) where
           ]
 
 -- each tip is kept
-pub tip_kept : (t : Blocks Block) (a : ℕ) (l : List Top) (i : ℕ) (d : Top) → l ≡ map (top_at t) (ordered (goes_first t) (filter (is_tip t a) (places t))) → i < length l → (get_or l i d).place ≤ length t
+pub tip_kept : (t : Blocks Block) (a : ℕ) (l : List Top) (i : ℕ) (d : Top) → l ≡ map (top_at t) (sort_places (goes_first t) (filter (is_tip t a) (places t))) → i < length l → (get_or l i d).place ≤ length t
 tip_kept t a l i d e h =
-    let n : i < length (ordered (goes_first t) (filter (is_tip t a) (places t))) =
-    let v = ap (λ (x : List Top). length x) e in let m = length-map (ordered (goes_first t) (filter (is_tip t a) (places t))) (top_at t) in omega arith
+    let n : i < length (sort_places (goes_first t) (filter (is_tip t a) (places t))) =
+    let v = ap (λ (x : List Top). length x) e in let m = length-map (sort_places (goes_first t) (filter (is_tip t a) (places t))) (top_at t) in omega arith
     in
-    let at : (get_or l i d).place ≡ get_or (ordered (goes_first t) (filter (is_tip t a) (places t))) i 0 =
-    ap (λ (x : List Top). (get_or x i d).place) e ∙ ap place_in (get_or-map (top_at t) (ordered (goes_first t) (filter (is_tip t a) (places t))) i 0 d n)
+    let at : (get_or l i d).place ≡ get_or (sort_places (goes_first t) (filter (is_tip t a) (places t))) i 0 =
+    ap (λ (x : List Top). (get_or x i d).place) e ∙ ap place_in (get_or-map (top_at t) (sort_places (goes_first t) (filter (is_tip t a) (places t))) i 0 d n)
     in
     elim (cases_lt (length t) (get_or l i d).place) [
       | inl g ↦
-          let has = has-times (get_or (ordered (goes_first t) (filter (is_tip t a) (places t))) i 0) (ordered (goes_first t) (filter (is_tip t a) (places t))) (has_at (ordered (goes_first t) (filter (is_tip t a) (places t))) i 0 n) in
-          let w = times-ordered (goes_first t) (get_or (ordered (goes_first t) (filter (is_tip t a) (places t))) i 0) (filter (is_tip t a) (places t)) in
-          let z = times_filter-above (is_tip t a) (length t) (get_or (ordered (goes_first t) (filter (is_tip t a) (places t))) i 0) (omega arith) in
+          let has = has-times (get_or (sort_places (goes_first t) (filter (is_tip t a) (places t))) i 0) (sort_places (goes_first t) (filter (is_tip t a) (places t))) (has_at (sort_places (goes_first t) (filter (is_tip t a) (places t))) i 0 n) in
+          let w = times-ordered (goes_first t) (get_or (sort_places (goes_first t) (filter (is_tip t a) (places t))) i 0) (filter (is_tip t a) (places t)) in
+          let z = times_filter-above (is_tip t a) (length t) (get_or (sort_places (goes_first t) (filter (is_tip t a) (places t))) i 0) (omega arith) in
           absurd (omega arith)
       | inr g ↦ g
     ]

@@ -1,7 +1,7 @@
 -- Reading decides the grammar of transactions.
 use Rattle.std.proofs.Common.{ℕ, List, refl}
 use Rattle.std.specs.Prelude.{ℤ}
-use Rattle.wire.specs.Grammar.{piece, number, signed32, signed64, pair, counted, sized}
+use Rattle.wire.specs.Grammar.{piece, number, signed32, signed64, pair, counted_list, sized_bytes}
 use Rattle.wire.specs.computed.Reading.{Part, piece_at, number_at, i32_at, i64_at, counted_at, sized_at}
 use Rattle.wire.specs.laws.Reading.{Decides, both, made, wide4, piece_decides, number_decides, signed32_decides, signed64_decides, pair_decides, fields_decides, along, bind_assoc}
 use Rattle.wire.specs.laws.Counts.{counted_decides, sized_decides}
@@ -30,9 +30,9 @@ input_decides =
     let last : Part (List ℕ × ℕ) = both sized_at (number_at 4) in
     let parts : Part (OutPoint × (List ℕ × ℕ)) = both outpoint_at last in
     along input (made to parts) tx_in_at
-    (fields_decides (pair outpoint (pair sized (number 4))) parts to (λ i. (i.prev, (i.script, i.sequence)))
-    (pair_decides outpoint (pair sized (number 4)) outpoint_at last outpoint_decides
-    (pair_decides sized (number 4) sized_at (number_at 4) sized_decides (number_decides 4 wide4)))
+    (fields_decides (pair outpoint (pair sized_bytes (number 4))) parts to (λ i. (i.prev, (i.script, i.sequence)))
+    (pair_decides outpoint (pair sized_bytes (number 4)) outpoint_at last outpoint_decides
+    (pair_decides sized_bytes (number 4) sized_at (number_at 4) sized_decides (number_decides 4 wide4)))
     (λ y. refl) (λ x. refl))
     (λ bytes. simp bind_assoc)
 
@@ -42,8 +42,8 @@ output_decides =
     let to : ℤ × List ℕ → TxOut = λ p. record { value = p.0; script = p.1 } in
     let parts : Part (ℤ × List ℕ) = both i64_at sized_at in
     along output (made to parts) tx_out_at
-    (fields_decides (pair signed64 sized) parts to (λ o. (o.value, o.script))
-    (pair_decides signed64 sized i64_at sized_at signed64_decides sized_decides)
+    (fields_decides (pair signed64 sized_bytes) parts to (λ o. (o.value, o.script))
+    (pair_decides signed64 sized_bytes i64_at sized_at signed64_decides sized_decides)
     (λ y. refl) (λ x. refl))
     (λ bytes. simp bind_assoc)
 
@@ -55,9 +55,9 @@ transaction_decides =
     let second : Part (List TxIn × (List TxOut × ℕ)) = both (counted_at tx_in_at) third in
     let parts : Part (ℤ × (List TxIn × (List TxOut × ℕ))) = both i32_at second in
     along transaction (made to parts) tx_at
-    (fields_decides (pair signed32 (pair (counted input) (pair (counted output) (number 4)))) parts to (λ t. (t.version, (t.inputs, (t.outputs, t.lock_time))))
-    (pair_decides signed32 (pair (counted input) (pair (counted output) (number 4))) i32_at second signed32_decides
-    (pair_decides (counted input) (pair (counted output) (number 4)) (counted_at tx_in_at) third (counted_decides input tx_in_at input_decides)
-    (pair_decides (counted output) (number 4) (counted_at tx_out_at) (number_at 4) (counted_decides output tx_out_at output_decides) (number_decides 4 wide4))))
+    (fields_decides (pair signed32 (pair (counted_list input) (pair (counted_list output) (number 4)))) parts to (λ t. (t.version, (t.inputs, (t.outputs, t.lock_time))))
+    (pair_decides signed32 (pair (counted_list input) (pair (counted_list output) (number 4))) i32_at second signed32_decides
+    (pair_decides (counted_list input) (pair (counted_list output) (number 4)) (counted_at tx_in_at) third (counted_decides input tx_in_at input_decides)
+    (pair_decides (counted_list output) (number 4) (counted_at tx_out_at) (number_at 4) (counted_decides output tx_out_at output_decides) (number_decides 4 wide4))))
     (λ y. refl) (λ x. refl))
     (λ bytes. simp bind_assoc)

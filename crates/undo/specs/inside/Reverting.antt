@@ -21,8 +21,8 @@ pub record AreNew (m : Coins) (made : List (OutPoint × Coin)) : Type 0 where
   pub once : IsDistinct same (keys_of made)
 
 -- the coins before a transaction that spent these
-unfoldable pub reverted : Coins → Tx → Id → List Coin → Coins
-reverted n tx id taken = with_coins (without n (keys_of (spendable id 0 tx.outputs))) (zip (spends tx) taken)
+unfoldable pub coins_before : Coins → Tx → Id → List Coin → Coins
+coins_before n tx id taken = with_coins (without n (keys_of (spendable id 0 tx.outputs))) (zip (spends tx) taken)
 
 -- a transaction that spent these can be taken back
 pub record IsRevertible (n : Coins) (tx : Tx) (id : Id) (taken : List Coin) : Type 0 where

@@ -9,7 +9,7 @@ use Rattle.std.specs.FinMap.{get-insert, get-remove}
 use Rattle.txn.specs.declared.outpoint.OutPoint.{OutPoint}
 use Rattle.coins.specs.declared.coin.Coin.{Coin}
 use Rattle.coins.specs.Coins.{Coins, same}
-use Rattle.coins.specs.laws.Lookups.{total_order, same-true, same-self, same-sym, found}
+use Rattle.coins.specs.laws.Lookups.{total_order, same-true, same-self, same-sym, entry_for}
 use Rattle.undo.specs.Effect.{without, with_coins}
 use Rattle.undo.specs.inside.Reverting.{AreCoins, AreNew}
 
@@ -26,21 +26,21 @@ get-without m (p ∷ ps) q =
     ∙ ap (cond (list_any (same q) ps) None) (get-remove total_order m p q)
     ∙ gone (same q p) (list_any (same q) ps) (coin_map.get m q)
 
-apart : {V : Type 0} (k : OutPoint) (es : List (OutPoint × V)) → AllByRecursion (λ y. same k y ≡ false) (keys_of es) → found es k ≡ None
+apart : {V : Type 0} (k : OutPoint) (es : List (OutPoint × V)) → AllByRecursion (λ y. same k y ≡ false) (keys_of es) → entry_for es k ≡ None
 apart k [] a = refl
-apart k (e ∷ es) a = ap (λ b. cond b (Some e.1) (found es k)) a.0 ∙ apart k es a.1
+apart k (e ∷ es) a = ap (λ b. cond b (Some e.1) (entry_for es k)) a.0 ∙ apart k es a.1
 
-put_here : (b : Bool) (k q : OutPoint) (c : Coin) (es : List (OutPoint × Coin)) (o : Option Coin) → same q k ≡ b → found es k ≡ None
-    → option_or (found es q) (cond b (Some c) o) ≡ option_or (cond b (Some c) (found es q)) o
-put_here true k q c es o h none = ap (λ x. option_or x (Some c)) (ap (found es) (same-true q k h) ∙ none)
+put_here : (b : Bool) (k q : OutPoint) (c : Coin) (es : List (OutPoint × Coin)) (o : Option Coin) → same q k ≡ b → entry_for es k ≡ None
+    → option_or (entry_for es q) (cond b (Some c) o) ≡ option_or (cond b (Some c) (entry_for es q)) o
+put_here true k q c es o h none = ap (λ x. option_or x (Some c)) (ap (entry_for es) (same-true q k h) ∙ none)
 put_here false k q c es o h none = refl
 
-pub get-with_coins : (m : Coins) (es : List (OutPoint × Coin)) (q : OutPoint) → IsDistinct same (keys_of es) → coin_map.get (with_coins m es) q ≡ option_or (found es q) (coin_map.get m q)
+pub get-with_coins : (m : Coins) (es : List (OutPoint × Coin)) (q : OutPoint) → IsDistinct same (keys_of es) → coin_map.get (with_coins m es) q ≡ option_or (entry_for es q) (coin_map.get m q)
 unfolding IsDistinct
 get-with_coins m [] q d = refl
 get-with_coins m (e ∷ es) q d =
     get-with_coins (coin_map.insert m e.0 e.1) es q d.1
-    ∙ ap (option_or (found es q)) (get-insert total_order m e.0 e.1 q)
+    ∙ ap (option_or (entry_for es q)) (get-insert total_order m e.0 e.1 q)
     ∙ put_here (same q e.0) e.0 q e.1 es (coin_map.get m q) refl (apart e.0 es d.0)
 
 -- ---- one after the other
@@ -92,10 +92,10 @@ pub all_at : (P : OutPoint → Type 0) (ps : List OutPoint) → AllByRecursion P
 all_at P [] a q h = cc
 all_at P (p ∷ ps) a q h = one_of (same q p) (list_any (same q) ps) (P q) (λ t. subst P (sym (same-true q p t)) a.0) (all_at P ps a.1 q) h
 
-pub found_key : {V : Type 0} (es : List (OutPoint × V)) (q : OutPoint) → list_any (same q) (keys_of es) ≡ is_some (found es q)
+pub found_key : {V : Type 0} (es : List (OutPoint × V)) (q : OutPoint) → list_any (same q) (keys_of es) ≡ is_some (entry_for es q)
 found_key [] q = refl
 found_key (e ∷ es) q = at (same q e.0) (found_key es q)
   where
-    at : (b : Bool) → list_any (same q) (keys_of es) ≡ is_some (found es q) → (b || list_any (same q) (keys_of es)) ≡ is_some (cond b (Some e.1) (found es q))
+    at : (b : Bool) → list_any (same q) (keys_of es) ≡ is_some (entry_for es q) → (b || list_any (same q) (keys_of es)) ≡ is_some (cond b (Some e.1) (entry_for es q))
     at true h = refl
     at false h = h

@@ -13,9 +13,9 @@ use Rattle.txn.specs.Check.{is_coinbase}
 use Rattle.script.specs.Kinds.{is_unspendable}
 use Rattle.coins.specs.declared.coin.Coin.{Coin}
 use Rattle.coins.specs.Coins.{Coins, same}
-use Rattle.coins.specs.laws.Lookups.{same_coins, same-true, same-self, same-sym, found}
-use Rattle.undo.specs.Effect.{spends, place, spendable, coin_of, makes, without, with_coins, after, coins_at, spent, IsApplicable, IsApplied}
-use Rattle.undo.specs.inside.Reverting.{reverted, IsRevertible, AreCoins, AreNew}
+use Rattle.coins.specs.laws.Lookups.{same_coins, same-true, same-self, same-sym, entry_for}
+use Rattle.undo.specs.Effect.{spends, place, spendable, coin_of, makes, without, with_coins, after, coins_at, spent_coins, IsApplicable, IsApplied}
+use Rattle.undo.specs.inside.Reverting.{coins_before, IsRevertible, AreCoins, AreNew}
 use Rattle.undo.specs.laws.Effects.{get-without, get-with_coins, all_from, all_at, found_key}
 
 -- ---- the outpoints of outputs
@@ -102,7 +102,7 @@ unmade : (m : Coins) (ps ks : List OutPoint) (es : List (OutPoint × Coin)) → 
 unmade m ps ks es keys once none = same_coins _ _ (λ q.
     get-without (with_coins (without m ps) es) ks q
     ∙ ap (cond (list_any (same q) ks) None) (get-with_coins (without m ps) es q once)
-    ∙ strip (list_any (same q) ks) (found es q) (coin_map.get (without m ps) q) (ap (list_any (same q)) (sym keys) ∙ found_key es q)
+    ∙ strip (list_any (same q) ks) (entry_for es q) (coin_map.get (without m ps) q) (ap (list_any (same q)) (sym keys) ∙ found_key es q)
     ∙ ap (cond (list_any (same q) ks) None) (get-without m ps q)
     ∙ unmade_here (list_any (same q) ks) (list_any (same q) ps) (coin_map.get m q) (all_at (λ x. coin_map.get m x ≡ None) ks none q)
     ∙ sym (get-without m ps q))
@@ -122,11 +122,11 @@ back_here : (b d : Bool) (m : Coins) (p q : OutPoint) (c : Coin) → same q p �
 back_here true d m p q c h e = sym (ap (coin_map.get m) (same-true q p h) ∙ e)
 back_here false d m p q c h e = refl
 
-found-zip : (m : Coins) (ps : List OutPoint) (q : OutPoint) → AllByRecursion (λ x. IsSome (coin_map.get m x)) ps → found (zip ps (coins_at m ps)) q ≡ cond (list_any (same q) ps) (coin_map.get m q) None
+found-zip : (m : Coins) (ps : List OutPoint) (q : OutPoint) → AllByRecursion (λ x. IsSome (coin_map.get m x)) ps → entry_for (zip ps (coins_at m ps)) q ≡ cond (list_any (same q) ps) (coin_map.get m q) None
 found-zip m [] q a = refl
 found-zip m (p ∷ ps) q a =
     let c = one_coin m (coin_map.get m p) a.0 in
-    ap (λ (o : Option Coin). found (zip (p ∷ ps) (option_to_list o ++ coins_at m ps)) q) c.1
+    ap (λ (o : Option Coin). entry_for (zip (p ∷ ps) (option_to_list o ++ coins_at m ps)) q) c.1
     ∙ ap (cond (same q p) (Some c.0)) (found-zip m ps q a.1)
     ∙ back_here (same q p) (list_any (same q) ps) m p q c.0 refl c.1
 
@@ -149,8 +149,8 @@ length-coins_at m (p ∷ ps) a =
     ap (λ (o : Option Coin). length (option_to_list o ++ coins_at m ps)) c.1 ∙ ap suc (length-coins_at m ps a.1)
 
 -- reverting what was applied leaves the coins of before
-pub reverted_after : (m : Coins) (tx : Tx) (id : Id) (height : ℕ) → IsApplicable m tx id → reverted (after m tx id height) tx id (spent m tx) ≡ m
-unfolding reverted after spent
+pub reverted_after : (m : Coins) (tx : Tx) (id : Id) (height : ℕ) → IsApplicable m tx id → coins_before (after m tx id height) tx id (spent_coins m tx) ≡ m
+unfolding coins_before after spent_coins
 reverted_after m tx id height h =
     ap (λ (x : Coins). with_coins x (zip (spends tx) (coins_at m (spends tx))))
     (unmade m (spends tx) (keys_of (spendable id 0 tx.outputs)) (makes tx id height) (keys-made (coin_of height (is_coinbase tx)) (spendable id 0 tx.outputs)) (once-makes tx id height) (none_at m tx id h))
@@ -160,8 +160,8 @@ there_here : (b : Bool) (o r : Option Coin) → b ≡ is_some o → b ≡ true �
 there_here b None r h t = let x : true ≡ false = sym t ∙ h in cc
 there_here b (Some c) r h t = refl
 
-pub revertible_after : (m : Coins) (tx : Tx) (id : Id) (height : ℕ) → IsApplicable m tx id → IsRevertible (after m tx id height) tx id (spent m tx)
-unfolding after spent
+pub revertible_after : (m : Coins) (tx : Tx) (id : Id) (height : ℕ) → IsApplicable m tx id → IsRevertible (after m tx id height) tx id (spent_coins m tx)
+unfolding after spent_coins
 revertible_after m tx id height h =
     let ps = spends tx in
     let ks = keys_of (spendable id 0 tx.outputs) in
@@ -172,7 +172,7 @@ revertible_after m tx id height h =
     record {
       outputs = record {
         coins = all_from (λ q. IsSome (coin_map.get (with_coins (without m ps) es) q)) ks
-            (λ q t. subst IsSome (sym (get-with_coins (without m ps) es q once)) (there_here (list_any (same q) ks) (found es q) (coin_map.get (without m ps) q) (ap (list_any (same q)) (sym keys) ∙ found_key es q) t));
+            (λ q t. subst IsSome (sym (get-with_coins (without m ps) es q once)) (there_here (list_any (same q) ks) (entry_for es q) (coin_map.get (without m ps) q) (ap (list_any (same q)) (sym keys) ∙ found_key es q) t));
         once = once_spendable id 0 tx.outputs;
       };
       inputs = record {
@@ -189,57 +189,57 @@ revertible_after m tx id height h =
 pub revertible : (m : Coins) (tx : Tx) (id : Id) (height : ℕ) (n : Coins) (cs : List Coin) → IsApplied m tx id height n cs → IsRevertible n tx id cs
 revertible m tx id height n cs h =
     subst (λ (x : List Coin). IsRevertible n tx id x) (sym h.spent)
-    (subst (λ (x : Coins). IsRevertible x tx id (spent m tx)) (sym h.after) (revertible_after m tx id height h.applicable))
+    (subst (λ (x : Coins). IsRevertible x tx id (spent_coins m tx)) (sym h.after) (revertible_after m tx id height h.applicable))
 
-pub reverted_is : (m : Coins) (tx : Tx) (id : Id) (height : ℕ) (n : Coins) (cs : List Coin) → IsApplied m tx id height n cs → reverted n tx id cs ≡ m
+pub reverted_is : (m : Coins) (tx : Tx) (id : Id) (height : ℕ) (n : Coins) (cs : List Coin) → IsApplied m tx id height n cs → coins_before n tx id cs ≡ m
 reverted_is m tx id height n cs h =
-    ap (λ (x : Coins). reverted x tx id cs) h.after
-    ∙ ap (λ (x : List Coin). reverted (after m tx id height) tx id x) h.spent
+    ap (λ (x : Coins). coins_before x tx id cs) h.after
+    ∙ ap (λ (x : List Coin). coins_before (after m tx id height) tx id x) h.spent
     ∙ reverted_after m tx id height h.applicable
 
 -- ---- what stands at each outpoint after a transaction
 
-apart_from : {V : Type 0} (q : OutPoint) (es : List (OutPoint × V)) → AllByRecursion (λ y. same q y ≡ false) (keys_of es) → found es q ≡ None
+apart_from : {V : Type 0} (q : OutPoint) (es : List (OutPoint × V)) → AllByRecursion (λ y. same q y ≡ false) (keys_of es) → entry_for es q ≡ None
 apart_from q [] a = refl
-apart_from q (e ∷ es) a = ap (λ b. cond b (Some e.1) (found es q)) a.0 ∙ apart_from q es a.1
+apart_from q (e ∷ es) a = ap (λ b. cond b (Some e.1) (entry_for es q)) a.0 ∙ apart_from q es a.1
 
 abbrev with_first : (TxOut → Coin) → Bool → OutPoint → TxOut → List (OutPoint × TxOut) → List (OutPoint × Coin)
 with_first f b p o es = map (λ x. (x.0, f x.1)) (cond b [] ((p, o) ∷ []) ++ es)
 
-found_first : (f : TxOut → Coin) (b : Bool) (p : OutPoint) (o : TxOut) (es : List (OutPoint × TxOut)) → found (map (λ x. (x.0, f x.1)) es) p ≡ None
-    → found (with_first f b p o es) p ≡ cond b None (Some (f o))
+found_first : (f : TxOut → Coin) (b : Bool) (p : OutPoint) (o : TxOut) (es : List (OutPoint × TxOut)) → entry_for (map (λ x. (x.0, f x.1)) es) p ≡ None
+    → entry_for (with_first f b p o es) p ≡ cond b None (Some (f o))
 found_first f true p o es h = h
-found_first f false p o es h = ap (λ b. cond b (Some (f o)) (found (map (λ x. (x.0, f x.1)) es) p)) (same-self p)
+found_first f false p o es h = ap (λ b. cond b (Some (f o)) (entry_for (map (λ x. (x.0, f x.1)) es) p)) (same-self p)
 
 found_next : (f : TxOut → Coin) (b : Bool) (p q : OutPoint) (o : TxOut) (es : List (OutPoint × TxOut)) → same q p ≡ false
-    → found (with_first f b p o es) q ≡ found (map (λ x. (x.0, f x.1)) es) q
+    → entry_for (with_first f b p o es) q ≡ entry_for (map (λ x. (x.0, f x.1)) es) q
 found_next f true p q o es h = refl
-found_next f false p q o es h = ap (λ b. cond b (Some (f o)) (found (map (λ x. (x.0, f x.1)) es) q)) h
+found_next f false p q o es h = ap (λ b. cond b (Some (f o)) (entry_for (map (λ x. (x.0, f x.1)) es) q)) h
 
 other_way : (id : Id) (j k : ℕ) → j < k → same (place id k) (place id j) ≡ false
 other_way id j k l = same-sym (place id k) (place id j) ∙ other_place (same (place id j) (place id k)) id j k l refl
 
-none_later : (f : TxOut → Coin) (id : Id) (k : ℕ) (os : List TxOut) → found (map (λ x. (x.0, f x.1)) (spendable id (k + 1) os)) (place id k) ≡ None
+none_later : (f : TxOut → Coin) (id : Id) (k : ℕ) (os : List TxOut) → entry_for (map (λ x. (x.0, f x.1)) (spendable id (k + 1) os)) (place id k) ≡ None
 none_later f id k os = apart_from (place id k) (map (λ x. (x.0, f x.1)) (spendable id (k + 1) os))
     (subst (AllByRecursion (λ y. same (place id k) y ≡ false)) (sym (keys-made f (spendable id (k + 1) os)))
     (later (λ y. same (place id k) y ≡ false) id (k + 1) os (λ q g. ap (same (place id k)) g.3 ∙ other_place (same (place id k) (place id g.0)) id k g.0 (omega (arith, g.1)) refl)))
 
 found-makes : (f : TxOut → Coin) (id : Id) (k : ℕ) (os : List TxOut) (i : ℕ) (d : TxOut) → i < length os
-    → found (map (λ x. (x.0, f x.1)) (spendable id k os)) (place id (k + i)) ≡ cond (is_unspendable (get_or os i d).script) None (Some (f (get_or os i d)))
+    → entry_for (map (λ x. (x.0, f x.1)) (spendable id k os)) (place id (k + i)) ≡ cond (is_unspendable (get_or os i d).script) None (Some (f (get_or os i d)))
 found-makes f id k [] i d h = absurd (omega arith)
 found-makes f id k (o ∷ os) zero d h =
-    ap (λ j. found (with_first f (is_unspendable o.script) (place id k) o (spendable id (k + 1) os)) (place id j)) (omega arith)
+    ap (λ j. entry_for (with_first f (is_unspendable o.script) (place id k) o (spendable id (k + 1) os)) (place id j)) (omega arith)
     ∙ found_first f (is_unspendable o.script) (place id k) o (spendable id (k + 1) os) (none_later f id k os)
 found-makes f id k (o ∷ os) (suc i) d h =
     found_next f (is_unspendable o.script) (place id k) (place id (k + suc i)) o (spendable id (k + 1) os) (other_way id k (k + suc i) (omega arith))
-    ∙ ap (λ j. found (map (λ x. (x.0, f x.1)) (spendable id (k + 1) os)) (place id j)) (omega arith)
+    ∙ ap (λ j. entry_for (map (λ x. (x.0, f x.1)) (spendable id (k + 1) os)) (place id j)) (omega arith)
     ∙ found-makes f id (k + 1) os i d (omega arith)
 
-pub get-after : (m : Coins) (tx : Tx) (id : Id) (height : ℕ) (q : OutPoint) → coin_map.get (after m tx id height) q ≡ option_or (found (makes tx id height) q) (cond (list_any (same q) (spends tx)) None (coin_map.get m q))
+pub get-after : (m : Coins) (tx : Tx) (id : Id) (height : ℕ) (q : OutPoint) → coin_map.get (after m tx id height) q ≡ option_or (entry_for (makes tx id height) q) (cond (list_any (same q) (spends tx)) None (coin_map.get m q))
 unfolding after
 get-after m tx id height q =
     get-with_coins (without m (spends tx)) (makes tx id height) q (once-makes tx id height)
-    ∙ ap (option_or (found (makes tx id height) q)) (get-without m (spends tx) q)
+    ∙ ap (option_or (entry_for (makes tx id height) q)) (get-without m (spends tx) q)
 
 output_here : (b d : Bool) (c : Coin) (o : Option Coin) → o ≡ None → option_or (cond b None (Some c)) (cond d None o) ≡ cond b None (Some c)
 output_here true d c o h = no_coin d o h
@@ -252,13 +252,13 @@ output-after m tx id height h i d l =
     let f = coin_of height (is_coinbase tx) in
     get-after m tx id height (place id i)
     ∙ ap (λ (o : Option Coin). option_or o (cond (list_any (same (place id i)) (spends tx)) None (coin_map.get m (place id i))))
-    (ap (λ j. found (makes tx id height) (place id j)) (omega arith) ∙ found-makes f id 0 tx.outputs i d l)
+    (ap (λ j. entry_for (makes tx id height) (place id j)) (omega arith) ∙ found-makes f id 0 tx.outputs i d l)
     ∙ output_here (is_unspendable (get_or tx.outputs i d).script) (list_any (same (place id i)) (spends tx)) (f (get_or tx.outputs i d)) (coin_map.get m (place id i)) (h.new i l)
 
-none_made : (m : Coins) (tx : Tx) (id : Id) (height : ℕ) → IsApplicable m tx id → (q : OutPoint) → IsSome (coin_map.get m q) → found (makes tx id height) q ≡ None
-none_made m tx id height h q some = at (found (makes tx id height) q) refl
+none_made : (m : Coins) (tx : Tx) (id : Id) (height : ℕ) → IsApplicable m tx id → (q : OutPoint) → IsSome (coin_map.get m q) → entry_for (makes tx id height) q ≡ None
+none_made m tx id height h q some = at (entry_for (makes tx id height) q) refl
   where
-    at : (o : Option Coin) → found (makes tx id height) q ≡ o → o ≡ None
+    at : (o : Option Coin) → entry_for (makes tx id height) q ≡ o → o ≡ None
     at None e = refl
     at (Some c) e =
         let ks = keys_of (spendable id 0 tx.outputs) in

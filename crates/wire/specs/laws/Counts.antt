@@ -6,29 +6,29 @@ use Rattle.byteorder.specs.Endian.{little_number, little_bytes}
 use Rattle.byteorder.specs.Numbers.{length-bytes_low_first, little_from-lt}
 use Rattle.wire.specs.declared.fault.WireFault.{WireFault}
 use Rattle.wire.specs.declared.fault.WireFault.TheVariants.{Short, LongForm, TooLarge}
-use Rattle.wire.specs.Spelling.{limit, IsForm, compact}
-use Rattle.wire.specs.Grammar.{IsBytes, Grammar, CountFaulty, count, piece, times, counted, sized}
+use Rattle.wire.specs.Spelling.{limit, IsForm, compact_size}
+use Rattle.wire.specs.Grammar.{IsBytes, Grammar, CountFaulty, count, piece, times, counted_list, sized_bytes}
 use Rattle.wire.specs.computed.Reading.{Part, piece_at, long_at, compact_at, many_at, counted_at, sized_at}
 use Rattle.wire.specs.laws.Reading.{Decides, Found, Refused, IsWide, wide2, wide4, wide8, number_decides, piece_decides, times_decides, after_decides}
 
 -- ---- the shortest form, by the size of the number
 
-pub compact1 : (n : ℕ) → n < 253 → compact n ≡ n ∷ []
-unfolding compact
+pub compact1 : (n : ℕ) → n < 253 → compact_size n ≡ n ∷ []
+unfolding compact_size
 compact1 n lt = rw (lt-ltb n 253 lt) refl
 
-pub compact3 : (n : ℕ) → 253 ≤ n → n < 256 ^ 2 → compact n ≡ 253 ∷ little_bytes 2 n
-unfolding compact
+pub compact3 : (n : ℕ) → 253 ≤ n → n < 256 ^ 2 → compact_size n ≡ 253 ∷ little_bytes 2 n
+unfolding compact_size
 compact3 n le lt = rw (le-ltb n 253 le, lt-ltb n (256 ^ 2) lt) refl
 
-pub compact5 : (n : ℕ) → 256 ^ 2 ≤ n → n < 256 ^ 4 → compact n ≡ 254 ∷ little_bytes 4 n
-unfolding compact
+pub compact5 : (n : ℕ) → 256 ^ 2 ≤ n → n < 256 ^ 4 → compact_size n ≡ 254 ∷ little_bytes 4 n
+unfolding compact_size
 compact5 n le lt =
     let a : 253 ≤ n = omega arith in
     rw (le-ltb n 253 a, le-ltb n (256 ^ 2) le, lt-ltb n (256 ^ 4) lt) refl
 
-pub compact9 : (n : ℕ) → 256 ^ 4 ≤ n → compact n ≡ 255 ∷ little_bytes 8 n
-unfolding compact
+pub compact9 : (n : ℕ) → 256 ^ 4 ≤ n → compact_size n ≡ 255 ∷ little_bytes 8 n
+unfolding compact_size
 compact9 n le =
     let a : 253 ≤ n = omega arith in
     let b : 256 ^ 2 ≤ n = omega arith in
@@ -38,9 +38,9 @@ compact9 n le =
 pub record OfSize (n : ℕ) (lead width least past : ℕ) : Type 0 where
   pub from : least ≤ n
   pub below : n < past
-  pub is : compact n ≡ lead ∷ little_bytes width n
+  pub is : compact_size n ≡ lead ∷ little_bytes width n
 
-pub sizes : (n : ℕ) → ((n < 253) × (compact n ≡ n ∷ [])) ⊎ OfSize n 253 2 253 (256 ^ 2) ⊎ OfSize n 254 4 (256 ^ 2) (256 ^ 4) ⊎ ((256 ^ 4 ≤ n) × (compact n ≡ 255 ∷ little_bytes 8 n))
+pub sizes : (n : ℕ) → ((n < 253) × (compact_size n ≡ n ∷ [])) ⊎ OfSize n 253 2 253 (256 ^ 2) ⊎ OfSize n 254 4 (256 ^ 2) (256 ^ 4) ⊎ ((256 ^ 4 ≤ n) × (compact_size n ≡ 255 ∷ little_bytes 8 n))
 sizes n =
     elim (cases_lt n 253) [
       | inl a ↦ inl (a, compact1 n a)
@@ -53,7 +53,7 @@ sizes n =
       ]
     ]
 
-pub is_form : (n : ℕ) → n < 256 ^ 8 → IsForm (compact n) n
+pub is_form : (n : ℕ) → n < 256 ^ 8 → IsForm (compact_size n) n
 is_form n lt =
     elim (sizes n) [
       | inl a ↦ inl a
@@ -65,13 +65,13 @@ is_form n lt =
 form_length : (lead n width : ℕ) (form : List ℕ) → form ≡ lead ∷ little_bytes width n → length form ≡ width + 1
 form_length lead n width form e = ap length e ∙ omega (arith, length-bytes_low_first 0 width n)
 
-pub least : (n : ℕ) (form : List ℕ) → IsForm form n → length (compact n) ≤ length form
+pub least : (n : ℕ) (form : List ℕ) → IsForm form n → length (compact_size n) ≤ length form
 least n form (inl h) = rw (h.1, compact1 n h.0) (omega arith)
 least n form (inr (inl h)) =
     let f = form_length 253 n 2 form h.1 in
     elim (sizes n) [
       | inl a ↦ rw a.1 (omega arith)
-      | inr (inl a) ↦ let k = form_length 253 n 2 (compact n) a.is in omega arith
+      | inr (inl a) ↦ let k = form_length 253 n 2 (compact_size n) a.is in omega arith
       | inr (inr (inl a)) ↦ absurd (omega (arith, a.from, h.0))
       | inr (inr (inr a)) ↦ absurd (omega (arith, a.0, h.0))
     ]
@@ -79,17 +79,17 @@ least n form (inr (inr (inl h))) =
     let f = form_length 254 n 4 form h.1 in
     elim (sizes n) [
       | inl a ↦ rw a.1 (omega arith)
-      | inr (inl a) ↦ let k = form_length 253 n 2 (compact n) a.is in omega arith
-      | inr (inr (inl a)) ↦ let k = form_length 254 n 4 (compact n) a.is in omega arith
+      | inr (inl a) ↦ let k = form_length 253 n 2 (compact_size n) a.is in omega arith
+      | inr (inr (inl a)) ↦ let k = form_length 254 n 4 (compact_size n) a.is in omega arith
       | inr (inr (inr a)) ↦ absurd (omega (arith, a.0, h.0))
     ]
 least n form (inr (inr (inr h))) =
     let f = form_length 255 n 8 form h.1 in
     elim (sizes n) [
       | inl a ↦ rw a.1 (omega arith)
-      | inr (inl a) ↦ let k = form_length 253 n 2 (compact n) a.is in omega arith
-      | inr (inr (inl a)) ↦ let k = form_length 254 n 4 (compact n) a.is in omega arith
-      | inr (inr (inr a)) ↦ let k = form_length 255 n 8 (compact n) a.1 in omega arith
+      | inr (inl a) ↦ let k = form_length 253 n 2 (compact_size n) a.is in omega arith
+      | inr (inr (inl a)) ↦ let k = form_length 254 n 4 (compact_size n) a.is in omega arith
+      | inr (inr (inr a)) ↦ let k = form_length 255 n 8 (compact_size n) a.1 in omega arith
     ]
 
 -- ---- the long forms
@@ -136,23 +136,23 @@ record Long (lead w least : ℕ) : Type 0 where
   at : (bytes : List ℕ) → compact_at (lead ∷ bytes) ≡ long_at least w bytes
   form : (x : ℕ) → x < 256 ^ w → IsForm (lead ∷ little_bytes w x) x
   within : (x : ℕ) → x < 256 ^ w → x < 256 ^ 8
-  is : (x : ℕ) → least ≤ x → x < 256 ^ w → compact x ≡ lead ∷ little_bytes w x
-  shorter : (x : ℕ) → x < least → length (compact x) < w + 1
-  longest : (x : ℕ) → length (compact x) < w + 1 → x < 256 ^ w → x < least
+  is : (x : ℕ) → least ≤ x → x < 256 ^ w → compact_size x ≡ lead ∷ little_bytes w x
+  shorter : (x : ℕ) → x < least → length (compact_size x) < w + 1
+  longest : (x : ℕ) → length (compact_size x) < w + 1 → x < 256 ^ w → x < least
 
-shorter3 : (x : ℕ) → x < 253 → length (compact x) < 3
+shorter3 : (x : ℕ) → x < 253 → length (compact_size x) < 3
 shorter3 x lt = rw (compact1 x lt) (omega arith)
 
-shorter5 : (x : ℕ) → x < 256 ^ 2 → length (compact x) < 5
+shorter5 : (x : ℕ) → x < 256 ^ 2 → length (compact_size x) < 5
 shorter5 x lt = elim (cases_lt x 253) [
   | inl a ↦ rw (compact1 x a) (omega arith)
-  | inr a ↦ let k = form_length 253 x 2 (compact x) (compact3 x a lt) in omega arith
+  | inr a ↦ let k = form_length 253 x 2 (compact_size x) (compact3 x a lt) in omega arith
 ]
 
-shorter9 : (x : ℕ) → x < 256 ^ 4 → length (compact x) < 9
+shorter9 : (x : ℕ) → x < 256 ^ 4 → length (compact_size x) < 9
 shorter9 x lt = elim (cases_lt x (256 ^ 2)) [
   | inl a ↦ let k = shorter5 x a in omega arith
-  | inr a ↦ let k = form_length 254 x 4 (compact x) (compact5 x a lt) in omega arith
+  | inr a ↦ let k = form_length 254 x 4 (compact_size x) (compact5 x a lt) in omega arith
 ]
 
 long3 : Long 253 2 253
@@ -165,7 +165,7 @@ long3 = record {
   shorter = shorter3;
   longest = λ x short lt. elim (cases_lt x 253) [
     | inl a ↦ a
-    | inr a ↦ absurd (let k = form_length 253 x 2 (compact x) (compact3 x a lt) in omega (arith, short))
+    | inr a ↦ absurd (let k = form_length 253 x 2 (compact_size x) (compact3 x a lt) in omega (arith, short))
   ];
 }
 
@@ -179,7 +179,7 @@ long5 = record {
   shorter = shorter5;
   longest = λ x short lt. elim (cases_lt x (256 ^ 2)) [
     | inl a ↦ a
-    | inr a ↦ absurd (let k = form_length 254 x 4 (compact x) (compact5 x a lt) in omega (arith, short))
+    | inr a ↦ absurd (let k = form_length 254 x 4 (compact_size x) (compact5 x a lt) in omega (arith, short))
   ];
 }
 
@@ -193,20 +193,20 @@ long9 = record {
   shorter = shorter9;
   longest = λ x short lt. elim (cases_lt x (256 ^ 4)) [
     | inl a ↦ a
-    | inr a ↦ absurd (let k = form_length 255 x 8 (compact x) (compact9 x a) in omega (arith, short))
+    | inr a ↦ absurd (let k = form_length 255 x 8 (compact_size x) (compact9 x a) in omega (arith, short))
   ];
 }
 
 -- what a long form reads as
-long_reads : (lead w least x : ℕ) (rest : List ℕ) → Long lead w least → least ≤ x → x ≤ limit → x < 256 ^ w → compact_at (compact x ++ rest) ≡ Ok (x, rest)
+long_reads : (lead w least x : ℕ) (rest : List ℕ) → Long lead w least → least ≤ x → x ≤ limit → x < 256 ^ w → compact_at (compact_size x ++ rest) ≡ Ok (x, rest)
 long_reads lead w least x rest l from le lt =
     ap (λ (t : List ℕ). compact_at (t ++ rest)) (l.is x from lt) ∙ l.at (little_bytes w x ++ rest) ∙ long_again least w x rest l.wide from le lt
 
-long_is_large : (lead w least x : ℕ) (rest : List ℕ) → Long lead w least → least ≤ x → limit < x → x < 256 ^ w → compact_at (compact x ++ rest) ≡ Err TooLarge
+long_is_large : (lead w least x : ℕ) (rest : List ℕ) → Long lead w least → least ≤ x → limit < x → x < 256 ^ w → compact_at (compact_size x ++ rest) ≡ Err TooLarge
 long_is_large lead w least x rest l from gt lt =
     ap (λ (t : List ℕ). compact_at (t ++ rest)) (l.is x from lt) ∙ l.at (little_bytes w x ++ rest) ∙ long_large least w x rest l.wide from gt lt
 
-long_is_long : (lead w least x : ℕ) (form rest bytes : List ℕ) → Long lead w least → form ≡ lead ∷ little_bytes w x → x < 256 ^ w → length (compact x) < length form → bytes ≡ form ++ rest → compact_at bytes ≡ Err LongForm
+long_is_long : (lead w least x : ℕ) (form rest bytes : List ℕ) → Long lead w least → form ≡ lead ∷ little_bytes w x → x < 256 ^ w → length (compact_size x) < length form → bytes ≡ form ++ rest → compact_at bytes ≡ Err LongForm
 long_is_long lead w least x form rest bytes l is lt short e =
     let k : length form ≡ w + 1 = form_length lead x w form is in
     let below : x < least = l.longest x (omega arith) lt in
@@ -251,7 +251,7 @@ long_total lead w least bs l fits =
                 let s = l.shorter x below in
                 inr (record { fault = LongForm; faulty = (x, lead ∷ little_bytes w x, f.rest, l.form x f.lawful, omega (arith, s, k), e) })
             | inr from ↦
-                let c : lead ∷ bs ≡ compact x ++ f.rest = e ∙ ap (λ (t : List ℕ). t ++ f.rest) (sym (l.is x from f.lawful)) in
+                let c : lead ∷ bs ≡ compact_size x ++ f.rest = e ∙ ap (λ (t : List ℕ). t ++ f.rest) (sym (l.is x from f.lawful)) in
                 elim (cases_lt limit x) [
                   | inl gt ↦ inr (record { fault = TooLarge; faulty = (x, f.rest, gt, l.within x f.lawful, c) })
                   | inr le ↦ inl (record { value = x; rest = f.rest; lawful = le; parts = c })
@@ -270,7 +270,7 @@ long_total lead w least bs l fits =
 
 -- ---- counts
 
-count_again : (n : ℕ) (rest : List ℕ) → n ≤ limit → compact_at (compact n ++ rest) ≡ Ok (n, rest)
+count_again : (n : ℕ) (rest : List ℕ) → n ≤ limit → compact_at (compact_size n ++ rest) ≡ Ok (n, rest)
 count_again n rest le =
     elim (sizes n) [
       | inl a ↦ ap (λ (t : List ℕ). compact_at (t ++ rest)) a.1 ∙ at1 n rest a.0
@@ -293,7 +293,7 @@ count_refuses Short bytes h =
     ]
 count_refuses LongForm bytes h =
     elim h.3 [
-      | inl a ↦ absurd (let k : length (compact h.0) ≡ 1 = ap length (compact1 h.0 a.0) in let m : length h.1 ≡ 1 = ap length a.1 in omega (arith, h.4))
+      | inl a ↦ absurd (let k : length (compact_size h.0) ≡ 1 = ap length (compact1 h.0 a.0) in let m : length h.1 ≡ 1 = ap length a.1 in omega (arith, h.4))
       | inr (inl a) ↦ long_is_long 253 2 253 h.0 h.1 h.2 bytes long3 a.1 a.0 h.4 h.5
       | inr (inr (inl a)) ↦ long_is_long 254 4 (256 ^ 2) h.0 h.1 h.2 bytes long5 a.1 a.0 h.4 h.5
       | inr (inr (inr a)) ↦ long_is_long 255 8 (256 ^ 4) h.0 h.1 h.2 bytes long9 a.1 a.0 h.4 h.5
@@ -327,10 +327,10 @@ count_decides = record { again = count_again; refuses = count_refuses; total = c
 
 -- ---- a count and so many parts, a length and so many bytes
 
-pub counted_decides : {A : Type 0} (g : Grammar A) (part : Part A) → Decides g part → Decides (counted g) (counted_at part)
+pub counted_decides : {A : Type 0} (g : Grammar A) (part : Part A) → Decides g part → Decides (counted_list g) (counted_at part)
 unfolding counted_at
 counted_decides g part d = after_decides count length (times g) compact_at (many_at part) count_decides (times_decides g part d) (λ n xs h. h.0)
 
-pub sized_decides : Decides sized sized_at
+pub sized_decides : Decides sized_bytes sized_at
 unfolding sized_at
 sized_decides = after_decides count length piece compact_at piece_at count_decides piece_decides (λ n bytes h. h.0)

@@ -2,7 +2,7 @@ use Rattle.std.proofs.Common.{◌≡◌, ℕ, ◌+◌, ◌-◌, List, [], ◌∷
 use Rattle.std.proofs.lemmas.List.{reverse-append}
 use Rattle.std.specs.Result.{result_err}
 use Rattle.coins.specs.declared.coin.Coin.{Coin}
-use Rattle.chain.specs.Valid.{fault, valid}
+use Rattle.chain.specs.Valid.{fault, branch_connects}
 use Rattle.chain.specs.Regtest.{medians_of, regtest}
 use Rattle.activate.specs.CoreState.{branch_blocks, coins_after}
 use Rattle.activate.specs.inside.Keeping.{undo_at}
@@ -51,7 +51,7 @@ returns-in-Err-clause-climb g c =
     let x = get_or up (length up - 1 - passed) 0 in
     let w = subst (LeadsUp t f) (sym c.as_slice-up.ensures.value) c.requires.path in
     let n = is-next t f up w passed c.loop-passed-test.true x refl in
-    let v = ap (valid (regtest params triples) t) n.parent ∙ c.loop-passed.invariant.good in
+    let v = ap (branch_connects (regtest params triples) t) n.parent ∙ c.loop-passed.invariant.good in
     let e : fault (regtest params triples) t x ≡ Some c.in-Err.reason = sym c.in_ok-spent.ensures.fault ∙ ap result_err c.in-Err.is in
     record {
       front = reverse (drop (length up - passed) up);
@@ -83,14 +83,14 @@ loop-passed-preserved g c =
     let spent = subst (λ a. IfOk a (λ undo. undo ≡ undo_at t x)) c.in-Ok.is c.in_ok-spent.ensures.undo in
     let coins = subst (λ a. OnOk a (c.connect_next.new.layer.coins ≡ coins_after t x)) c.in-Ok.is c.in_ok-spent.ensures.coins in
     let medians = subst (λ a. OnOk a (c.connect_next.new.medians.items ≡ reverse (medians_of (branch_blocks t x)))) c.in-Ok.is c.in_ok-spent.ensures.medians in
-    let good = valid-next params triples t x n.above_genesis n.kept (ap (valid (regtest params triples) t) n.parent ∙ i.good) (sym c.in_ok-spent.ensures.fault ∙ ap result_err c.in-Ok.is) in
+    let good = valid-next params triples t x n.above_genesis n.kept (ap (branch_connects (regtest params triples) t) n.parent ∙ i.good) (sym c.in_ok-spent.ensures.fault ∙ ap result_err c.in-Ok.is) in
     record {
       spent = c.in_ok-push-in-Ok.ensures.items
           ∙ ap (λ (l : List (List (List Coin))). l ++ c.in-Ok.spent ∷ []) i.spent
           ∙ ap (λ (u : List (List Coin)). reverse (map (undo_at t) (drop (length up - passed) up)) ++ u ∷ []) spent
           ∙ sym (reverse-append (undo_at t x ∷ []) (map (undo_at t) (drop (length up - passed) up)))
           ∙ ap (λ (l : List ℕ). reverse (map (undo_at t) l)) (sym more);
-      good = ap (valid (regtest params triples) t) top ∙ good;
+      good = ap (branch_connects (regtest params triples) t) top ∙ good;
       coins = coins ∙ ap (coins_after t) (sym top);
       medians = medians ∙ ap (λ (p : ℕ). reverse (medians_of (branch_blocks t p))) (sym top);
       base = c.in_ok-spent.ensures.base ∙ i.base;

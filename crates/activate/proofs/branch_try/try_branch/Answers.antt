@@ -6,11 +6,11 @@ use Rattle.tree.specs.laws.Above.{above}
 use Rattle.tree.specs.laws.Branches.{on-bounds}
 use Rattle.tree.specs.laws.Parents.{height-place}
 use Rattle.activate.specs.declared.path.BranchPath.{BranchPath}
-use Rattle.chain.specs.Valid.{valid}
+use Rattle.chain.specs.Valid.{branch_connects}
 use Rattle.chain.specs.Regtest.{medians_of, regtest}
 use Rattle.chain.specs.laws.Candidates.{valid_below}
 use Rattle.coins.specs.Coins.{Coins}
-use Rattle.coins.specs.Changes.{AreChanges, laid}
+use Rattle.coins.specs.Changes.{AreChanges, after_changes}
 use Rattle.activate.specs.CoreState.{branch_blocks, coins_after}
 use Rattle.activate.specs.inside.Paths.{IsPath, IsStop}
 use Rattle.activate.specs.declared.ascent.Ascent.{Ascent}
@@ -103,12 +103,12 @@ returns-in-Top g c =
     let below : c.connect_up.new.layer.base ≡ coins_after t a = c.in_ok-undo.ensures.base ∙ c.in_ok-disconnect_to_fork.ensures.base ∙ c.over-layer.ensures.below ∙ c.requires.coins in
     record {
       path = w;
-      good = ap (valid r t) (sym e) ∙ top.good;
+      good = ap (branch_connects r t) (sym e) ∙ top.good;
       undo = top.spent;
       changes =
           subst (λ (x : Coins). AreChanges x (coins_after t c.args.place) c.in_ok-changes-in-Top.changes.items) below
           (subst (λ (x : Coins). AreChanges c.connect_up.new.layer.base x c.in_ok-changes-in-Top.changes.items) after c.in_ok-changes-in-Top.ensures.differences);
-      laid = ap (λ (x : Coins). laid x c.in_ok-changes-in-Top.changes.items) (sym below) ∙ c.in_ok-changes-in-Top.ensures.laid ∙ after;
+      laid = ap (λ (x : Coins). after_changes x c.in_ok-changes-in-Top.changes.items) (sym below) ∙ c.in_ok-changes-in-Top.ensures.laid ∙ after;
     }
 
 pub returns : goal.returns

@@ -4,7 +4,7 @@ use Rattle.std.proofs.lemmas.List.{reverse-reverse, reverse-append, append_assoc
 use Rattle.block.specs.declared.block.Block.{Block}
 use Rattle.hash.specs.declared.id.Id.{Id}
 use Rattle.tree.specs.Branches.{Blocks, has, parent_at, places}
-use Rattle.tree.specs.State.{State, joined, marked}
+use Rattle.tree.specs.State.{State, union_where, with_mark}
 use Rattle.tree.specs.laws.Branches.{on-bounds}
 use Rattle.tree.specs.laws.Parents.{parent-kept}
 use Rattle.tree.specs.laws.Above.{OnWay, above-part}
@@ -95,10 +95,10 @@ module _ (c : After-index) (r : Rules Block Id) (a p : ℕ) (is : IsFailedTry r 
   marks = c.index.ensures ∙ fails-is r c.args.tree.now.blocks a p c.args.failed.now is.kept is.fails k k-is c.index.result.now
 
   -- and those that are seen
-  sees : c.see_all.new.tree ≡ record c.args.tree.now { seen = joined (places c.args.tree.now.blocks) c.args.tree.now.seen (λ x. has (reverse is.fails.stop.front) x) }
+  sees : c.see_all.new.tree ≡ record c.args.tree.now { seen = union_where (places c.args.tree.now.blocks) c.args.tree.now.seen (λ x. has (reverse is.fails.stop.front) x) }
   sees =
       c.see_all.ensures
-      ∙ ap (λ (l : List ℕ). record c.args.tree.now { seen = joined (places c.args.tree.now.blocks) c.args.tree.now.seen (λ x. has l x) })
+      ∙ ap (λ (l : List ℕ). record c.args.tree.now { seen = union_where (places c.args.tree.now.blocks) c.args.tree.now.seen (λ x. has l x) })
       (passed-are r c.args.tree.now.blocks a p c.args.failed.now is.kept is.fails k k-is c.deref.result.now c.deref.ensures.value)
 
 pub mark-requires-clause-not_genesis : goal.mark-requires-clause-not_genesis
@@ -118,6 +118,6 @@ mark-requires-clause-kept c =
 pub returns : goal.returns
 returns c r a p is =
     let at = (goal.at.returns c).After-index in
-    c.mark.ensures ∙ ap (λ (x : ℕ). marked c.see_all.new.tree x) (marks at r a p is) ∙ ap (λ (s : State Block). marked s is.fails.stop.place) (sees at r a p is)
+    c.mark.ensures ∙ ap (λ (x : ℕ). with_mark c.see_all.new.tree x) (marks at r a p is) ∙ ap (λ (s : State Block). with_mark s is.fails.stop.place) (sees at r a p is)
     ∙ flaw_noted r c.args.tree.now a p c.args.failed.now.path.fork is.kept is.fails.path.shared is.flags.seen
     is.fails.stop.place (reverse is.fails.stop.front) is.fails.stop.first (went at r a p is)

@@ -1,6 +1,6 @@
 use Rattle.std.proofs.Common.{ℕ, List, sym, ap, ◌∙◌}
 use Rattle.tree.specs.Branches.{has, places}
-use Rattle.tree.specs.State.{joined}
+use Rattle.tree.specs.State.{union_where}
 use Rattle.tree.specs.laws.Branches.{on-bounds}
 use Rattle.activate.specs.laws.Noting.{above-on, way_noted}
 use Rattle.activate.proofs.try_flags.flag_valid_path.Goals as goal
@@ -19,5 +19,5 @@ see_all-requires-clause-order c = c.requires.3.flags.seen_in_order
 pub returns : goal.returns
 returns c r a p is =
     let s = c.args.tree.now in
-    c.see_all.ensures ∙ ap (λ (l : List ℕ). record s { seen = joined (places s.blocks) s.seen (λ x. has l x) }) (c.as_slice.ensures.value ∙ is.leads.up)
+    c.see_all.ensures ∙ ap (λ (l : List ℕ). record s { seen = union_where (places s.blocks) s.seen (λ x. has l x) }) (c.as_slice.ensures.value ∙ is.leads.up)
     ∙ way_noted r s a p c.args.path.now.fork is.kept is.leads.shared is.flags.seen is.good is.flags.bad_in_order

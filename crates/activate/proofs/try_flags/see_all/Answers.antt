@@ -1,7 +1,7 @@
 use Rattle.std.proofs.Common.{ℕ, ◌≤◌, List, length, get_or, sym, ap, ◌∙◌, subst}
 use Rattle.block.specs.declared.block.Block.{Block}
 use Rattle.tree.specs.Branches.{Blocks}
-use Rattle.tree.specs.State.{State, saw}
+use Rattle.tree.specs.State.{State, with_seen}
 use Rattle.tree.specs.laws.Walks.{has_at}
 use Rattle.activate.specs.laws.Noting.{joined_next}
 use Rattle.activate.proofs.try_flags.see_all.Goals as goal
@@ -18,5 +18,5 @@ loop-place-preserved c =
     let s = c.args.tree.now in
     let l = c.args.found.now in
     let i = c.loop-place.place-index in
-    c.see.ensures ∙ ap (λ (x : State Block). saw x (get_or l i 0)) c.loop-place.invariant
+    c.see.ensures ∙ ap (λ (x : State Block). with_seen x (get_or l i 0)) c.loop-place.invariant
     ∙ ap (λ (x : List ℕ). record s { seen = x }) (joined_next (length s.blocks) s.seen l i 0 c.loop-place-test.true)

@@ -7,7 +7,7 @@ use Rattle.txn.specs.declared.outpoint.OutPoint.{OutPoint}
 use Rattle.coins.specs.declared.entry.CacheEntry.{CacheEntry}
 use Rattle.coins.specs.Coins.{same, outpoint_cmp}
 use Rattle.coins.specs.Entries.{Entries, entry_at}
-use Rattle.coins.specs.inside.Entries.{HasRoom, merged_at}
+use Rattle.coins.specs.inside.Entries.{HasRoom, merge_entry_at}
 use Rattle.coins.proofs.Merging.{lay_room, lay_rest, lay_step}
 use Rattle.coins.proofs.entry.lay_all.Goals as goal
 
@@ -18,7 +18,7 @@ loop-at-init c =
     record {
       room = subst (λ (ws : Entries). HasRoom es ws) (sym gives.0) c.requires;
       distinct = subst (λ (ws : Entries). IsDistinct same (keys_of ws)) (sym gives.0) (IsDistinct-from_sorted outpoint_cmp _ gives.5);
-      same = λ q. ap (λ (ws : Entries). merged_at (entry_at es q) (entry_at ws q)) gives.0;
+      same = λ q. ap (λ (ws : Entries). merge_entry_at (entry_at es q) (entry_at ws q)) gives.0;
     }
 
 pub loop-at-preserved : goal.loop-at-preserved
@@ -33,7 +33,7 @@ loop-at-preserved c =
     record {
       room = lay_room es fs ws k e _ c.lay_one.ensures distinct (subst (λ (xs : Entries). HasRoom es xs) more c.loop-at.invariant.room);
       distinct = lay_rest ws k e distinct;
-      same = λ q. lay_step es fs ws k e q c.lay_one.ensures distinct ∙ sym (ap (λ (xs : Entries). merged_at (entry_at es q) (entry_at xs q)) more) ∙ c.loop-at.invariant.same q;
+      same = λ q. lay_step es fs ws k e q c.lay_one.ensures distinct ∙ sym (ap (λ (xs : Entries). merge_entry_at (entry_at es q) (entry_at xs q)) more) ∙ c.loop-at.invariant.same q;
     }
 
 pub lay_one-requires : goal.lay_one-requires

@@ -3,7 +3,7 @@ use Rattle.std.specs.Prelude.{is_some}
 use Rattle.std.proofs.lemmas.List.{take_more}
 use Rattle.txn.specs.declared.outpoint.OutPoint.{OutPoint}
 use Rattle.coins.specs.Coins.{Coin}
-use Rattle.coins.specs.Changes.{Changes, named}
+use Rattle.coins.specs.Changes.{Changes, change_at}
 use Rattle.coins.specs.inside.Changes.{Opened, HasRoomFor}
 use Rattle.coins.proofs.Layers.{on_not_err}
 use Rattle.coins.proofs.Rooms.{opened_back, room_more, named_at, named_more}
@@ -25,7 +25,7 @@ loop-at-preserved c =
     record {
       opened = c.open.ensures.opened c.args.coins.now c.loop-at.invariant.opened;
       named = named_more cs c.loop-at.added.items c.open.new.added.items k c.open.ensures.added
-          (ap (λ (y : OutPoint × Option Coin). is_some (named cs y.0)) item ∙ named_at cs i x (omega arith)) c.loop-at.invariant.named;
+          (ap (λ (y : OutPoint × Option Coin). is_some (change_at cs y.0)) item ∙ named_at cs i x (omega arith)) c.loop-at.invariant.named;
       room = subst (λ (xs : Changes). HasRoomFor c.open.new.coins xs) (sym (take_more cs i x (omega arith) ∙ ap (λ (y : OutPoint × Option Coin). take i cs ++ y ∷ []) (sym item)))
           (room_more c.loop-at.coins c.open.new.coins (take i cs) x c.open.ensures.keeps (on_not_err c.open.result (sym c.if-is_err.ensures.value) c.open.ensures.ready) c.loop-at.invariant.room);
     }

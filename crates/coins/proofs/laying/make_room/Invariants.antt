@@ -3,13 +3,13 @@ use Rattle.std.specs.Prelude.{is_some}
 use Rattle.std.specs.List.{list_any}
 use Rattle.txn.specs.declared.outpoint.OutPoint.{OutPoint}
 use Rattle.coins.specs.Coins.{same}
-use Rattle.coins.specs.Changes.{named}
+use Rattle.coins.specs.Changes.{change_at}
 use Rattle.coins.specs.inside.Changes.{Opened, HasRoomFor}
 use Rattle.coins.proofs.laying.make_room.Given as goal
 
 abbrev pub invariant-loop-at : goal.invariant-loop-at
 invariant-loop-at l = record {
   opened : Opened l.coins l.initial.coins l.added.items;
-  named : (q : OutPoint) → list_any (same q) l.added.items ≡ true → is_some (named l.changes q) ≡ true;
+  named : (q : OutPoint) → list_any (same q) l.added.items ≡ true → is_some (change_at l.changes q) ≡ true;
   room : HasRoomFor l.coins (take l.at-index l.changes);
 }

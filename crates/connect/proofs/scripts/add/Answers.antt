@@ -3,7 +3,7 @@ use Rattle.std.specs.List.{zip}
 use Rattle.std.proofs.lemmas.List.{append_assoc, length_push, length-take-le}
 use Rattle.std.proofs.lemmas.List.Elements.{All-push}
 use Rattle.interp.specs.declared.job.Job.{Job}
-use Rattle.queue.specs.Jobs.{HasInput, asked, question}
+use Rattle.queue.specs.Jobs.{HasInput, question_of, question}
 use Rattle.connect.specs.Scripts.{Check, input_checks}
 use Rattle.connect.specs.inside.Listing.{checks_in}
 use Rattle.connect.proofs.Steps.{take_item}
@@ -25,11 +25,11 @@ loop-input-preserved c =
     let places : c.push-in-loop-input.new.self.items ≡ before.places.items ++ place ∷ [] = c.in_ok-push-2.ensures.items in
     let spent : c.as_slice.result.now ≡ x.script = search rules in
     let count : length (take i coins) ≡ i = length-take-le i coins (omega arith) in
-    let check : ◌≡◌ {A = Check} (place, asked job) (place, question tx (length (take i coins)) x.script flags) = ap₂ (λ n script. (place, question tx n script flags)) (sym count) spent in
+    let check : ◌≡◌ {A = Check} (place, question_of job) (place, question tx (length (take i coins)) x.script flags) = ap₂ (λ n script. (place, question tx n script flags)) (sym count) spent in
     record {
       even = ap length places ∙ length_push before.places.items place ∙ ap (λ n. n + 1) c.loop-input.invariant.even ∙ sym (ap length jobs ∙ length_push before.jobs.items job);
       inputs = subst (λ (l : List Job). All HasInput l) (sym jobs) (All-push HasInput before.jobs.items job c.loop-input.invariant.inputs (omega arith));
-      checks_from = ap₂ (λ (l : List ℕ) (k : List Job). zip l (map asked k)) places jobs
+      checks_from = ap₂ (λ (l : List ℕ) (k : List Job). zip l (map question_of k)) places jobs
           ∙ checks_push before.places.items before.jobs.items place job c.loop-input.invariant.even
           ∙ ap₂ (λ (l : List Check) y. l ++ y ∷ []) c.loop-input.invariant.checks_from check
           ∙ append_assoc start (input_checks flags place tx (take i coins)) ((place, question tx (length (take i coins)) x.script flags) ∷ [])

@@ -2,7 +2,7 @@ use Rattle.std.proofs.Common.{rules, ◌≡◌, ◌<◌, length, get_or, Some, s
 use Rattle.std.specs.Prelude.{slice_get}
 use Rattle.std.proofs.lemmas.Option.{slice_get_read, slice_get-get_or}
 use Rattle.interp.specs.declared.job.Job.{Job}
-use Rattle.queue.specs.Jobs.{asked}
+use Rattle.queue.specs.Jobs.{question_of}
 use Rattle.queue.proofs.Answering.{answer-of, verdicts-more}
 use Rattle.queue.proofs.early.check_early.Goals as goal
 
@@ -19,5 +19,5 @@ pub loop-place-preserved : goal.loop-place-preserved
 loop-place-preserved g c =
     let within : c.loop-place.place < length c.args.jobs.now = search rules in
     let job : Job = c.index-jobs-place.result in
-    let next = subst (λ (j : Job). c.in_ok-of.field-0 ≡ record { asked = asked j; triples = c.args.table.now; answer = c.in-Some.answer }) c.index-jobs-place.is c.in_ok-of.ensures in
+    let next = subst (λ (j : Job). c.in_ok-of.field-0 ≡ record { asked = question_of j; triples = c.args.table.now; answer = c.in-Some.answer }) c.index-jobs-place.is c.in_ok-of.ensures in
     rw c.in_ok-push.ensures.items (verdicts-more c.args.jobs.now c.args.table.now c.loop-place.verdicts.items c.in_ok-of.field-0 c.loop-place.place job c.in-Some.answer within c.loop-place.invariant.0 c.loop-place.invariant.1 next)

@@ -2,7 +2,7 @@ use Rattle.std.proofs.Common.{◌≡◌, ℕ, ◌-◌, true, false, ◌&&◌, le
 use Rattle.curve.specs.Triple.{Triples}
 use Rattle.rules.specs.declared.params.Params.{Params}
 use Rattle.block.specs.declared.block.Block.{Block}
-use Rattle.tree.specs.State.{State, better}
+use Rattle.tree.specs.State.{State, beats}
 use Rattle.tree.specs.Sound.{IsBest}
 use Rattle.tree.specs.laws.Best.{best_next}
 use Rattle.chain.specs.Settle.{can_be_active}
@@ -33,7 +33,7 @@ loop-place-preserved c =
     let t = c.loop-place-test.true in
     let k = c.loop-place.invariant.kept in
     let low = c.loop-place.invariant.before in
-    let test : (params : Params) (triples : Triples) (s : State Block) → AreJudgements (regtest params triples) s l → (can_be_active (regtest params triples) s p && better s p b) ≡ c.beats.result =
+    let test : (params : Params) (triples : Triples) (s : State Block) → AreJudgements (regtest params triples) s l → (can_be_active (regtest params triples) s p && beats s p b) ≡ c.beats.result =
     λ params triples s are.
     let n = are.same in
     sym (c.beats.ensures

@@ -1,5 +1,5 @@
 use Rattle.std.proofs.Common.{◌≡◌, Some, None, Err, sym, ap, ◌∙◌, subst, inl, inr}
-use Rattle.block.specs.Decoding.{decoded, Decodes}
+use Rattle.block.specs.Decoding.{block_of_bytes, Decodes}
 use Rattle.chain.specs.Commands.{outcome}
 use Rattle.reference.specs.inside.Replayed.{chain_rules, state_of_replayed}
 use Rattle.chain.specs.laws.Outcomes.{submitted, refused, invalidates, reconsiders, prefers}
@@ -9,16 +9,16 @@ pub returns-in_ok-submit-in-Ok-clause-state : goal.returns-in_ok-submit-in-Ok-cl
 returns-in_ok-submit-in-Ok-clause-state c =
     let r = chain_rules c.args.chain.now in
     let s = state_of_replayed c.args.old.now in
-    let e : decoded c.in-Submit.bytes ≡ Some c.in-Ok.block =
-    ap decoded (sym c.as_slice.ensures) ∙ subst (λ o. Decodes o (decoded c.as_slice.result.now)) c.in-Ok.is c.read.ensures.exact in
+    let e : block_of_bytes c.in-Submit.bytes ≡ Some c.in-Ok.block =
+    ap block_of_bytes (sym c.as_slice.ensures) ∙ subst (λ o. Decodes o (block_of_bytes c.as_slice.result.now)) c.in-Ok.is c.read.ensures.exact in
     c.in_ok-submit-in-Ok.ensures.state ∙ submitted r s c.in-Submit.bytes c.in-Submit.now c.in-Ok.block e ∙ ap (outcome r s) (sym c.in-Submit.is)
 
 pub returns-in_ok-undecodable-in-Err-clause-state : goal.returns-in_ok-undecodable-in-Err-clause-state
 returns-in_ok-undecodable-in-Err-clause-state c =
     let r = chain_rules c.args.chain.now in
     let s = state_of_replayed c.args.old.now in
-    let exact : Decodes (Err c.in-Err.fault) (decoded c.as_slice.result.now) = subst (λ o. Decodes o (decoded c.as_slice.result.now)) c.in-Err.is c.read.ensures.exact in
-    let e : decoded c.in-Submit.bytes ≡ None = ap decoded (sym c.as_slice.ensures) ∙ elim exact [ inl m ↦ absurd (c.in_ok-undecodable-in-Err.ensures m) | inr n ↦ n ] in
+    let exact : Decodes (Err c.in-Err.fault) (block_of_bytes c.as_slice.result.now) = subst (λ o. Decodes o (block_of_bytes c.as_slice.result.now)) c.in-Err.is c.read.ensures.exact in
+    let e : block_of_bytes c.in-Submit.bytes ≡ None = ap block_of_bytes (sym c.as_slice.ensures) ∙ elim exact [ inl m ↦ absurd (c.in_ok-undecodable-in-Err.ensures m) | inr n ↦ n ] in
     refused r s c.in-Submit.bytes c.in-Submit.now e ∙ ap (outcome r s) (sym c.in-Submit.is)
 
 pub returns-in_ok-invalidate-in-Invalidate-clause-state : goal.returns-in_ok-invalidate-in-Invalidate-clause-state

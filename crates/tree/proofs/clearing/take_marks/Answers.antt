@@ -1,6 +1,6 @@
 use Rattle.std.proofs.Common.{◌≡◌, ℕ, false, not, ◌&&◌, [], get_or, sym, ap, ◌∙◌, arith}
 use Rattle.tree.specs.declared.node.Mark.{Mark}
-use Rattle.tree.specs.State.{usable}
+use Rattle.tree.specs.State.{has_no_mark}
 use Rattle.tree.specs.Nodes.{mark_at, state_of}
 use Rattle.tree.proofs.Changes.{usable_zero, usable_marked}
 use Rattle.tree.proofs.clearing.take_marks.Goals as goal
@@ -14,7 +14,7 @@ spoil-requires-clause-before c = λ p h.
     let at = c.unmark.ensures.marks 0 (omega arith) in
     ap (λ (q : ℕ). (mark_at c.unmark.new.marks q).usable) z ∙ ap (λ (m : Mark). m.usable) at ∙ c.requires.usable
     ∙ sym (usable_zero c.args.nodes.now c.unmark.new.marks (omega arith) (ap (λ (m : Mark). m.bad) at ∙ ap (λ b. b && not (get_or c.args.related.now 0 false)) c.requires.genesis))
-    ∙ ap (usable (state_of c.args.nodes.now c.unmark.new.marks [])) (sym z)
+    ∙ ap (has_no_mark (state_of c.args.nodes.now c.unmark.new.marks [])) (sym z)
 
 pub returns-clause-usable : goal.returns-clause-usable
 returns-clause-usable c = λ p h.

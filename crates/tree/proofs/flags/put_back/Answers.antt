@@ -1,6 +1,6 @@
 use Rattle.std.proofs.Common.{◌≡◌, ℕ, [], sym, ap, ◌∙◌, arith}
 use Rattle.tree.specs.Branches.{has}
-use Rattle.tree.specs.State.{usable}
+use Rattle.tree.specs.State.{has_no_mark}
 use Rattle.tree.specs.Nodes.{mark_at, state_of}
 use Rattle.tree.proofs.Views.{has-where, where_agree}
 use Rattle.tree.proofs.Changes.{usable_zero, usable_marked}
@@ -16,7 +16,7 @@ spoil-requires-clause-before c = λ p h.
     let z : p ≡ 0 = omega arith in
     ap (λ (q : ℕ). (mark_at ms q).usable) z ∙ c.set_each.ensures.usable 0 (omega arith) ∙ c.requires.usable
     ∙ sym (usable_zero ns ms (omega arith) (sym (has-where (λ m. m.bad) ms 0 (omega arith)) ∙ ap (λ l. has l 0) c.set_each.ensures.bad ∙ c.requires.genesis))
-    ∙ ap (usable (state_of ns ms [])) (sym z)
+    ∙ ap (has_no_mark (state_of ns ms [])) (sym z)
 
 pub returns-clause-bad : goal.returns-clause-bad
 returns-clause-bad c =

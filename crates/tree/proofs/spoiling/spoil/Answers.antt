@@ -3,7 +3,7 @@ use Rattle.std.proofs.Math.ListN.{set}
 use Rattle.std.proofs.lemmas.Bool.{cases_eq}
 use Rattle.std.proofs.lemmas.List.{length-set, get_or_default}
 use Rattle.tree.specs.Branches.{parent_at}
-use Rattle.tree.specs.State.{usable}
+use Rattle.tree.specs.State.{has_no_mark}
 use Rattle.tree.specs.Nodes.{blank, blocks_of, mark_at, state_of}
 use Rattle.tree.proofs.Changes.{parent_before, set_here, set_there, set_kept, usable_step}
 use Rattle.tree.proofs.spoiling.spoil.Goals as goal
@@ -40,11 +40,11 @@ loop-place-preserved c =
     let new = record m { usable = c.is_usable-usable.result } in
     let is : m ≡ get_or ms p m = get_or_default ms p blank m (omega arith) in
     let h : p < length ms = omega arith in
-    let own : c.is_usable-usable.result ≡ usable (state_of ns old []) p =
+    let own : c.is_usable-usable.result ≡ has_no_mark (state_of ns old []) p =
     c.is_usable-usable.ensures
     ∙ ap (λ (q : ℕ). not (mark_at ms p).bad && (mark_at ms q).usable) (ap (λ x. x.parent) (sym c.index-nodes-place.is) ∙ b.0)
     ∙ ap (λ (v : Bool). not (mark_at ms p).bad && v) (i.2 (parent_at (blocks_of ns) p) (let e = b.0 in omega arith))
-    ∙ ap (λ (v : Bool). not v && usable (state_of ns old []) (parent_at (blocks_of ns) p)) (i.1 p).bad
+    ∙ ap (λ (v : Bool). not v && has_no_mark (state_of ns old []) (parent_at (blocks_of ns) p)) (i.1 p).bad
     ∙ sym (usable_step ns old old (omega arith) same same p (omega arith) t)
     in (
       length-set ms p new ∙ l,
@@ -54,7 +54,7 @@ loop-place-preserved c =
         rank = set_kept ms p m new h is (λ x. x.rank) refl q ∙ (i.1 q).rank;
       },
       λ q k. elim (cases_eq q p) [
-        | inl w ↦ ap (λ (x : ℕ). (mark_at (set ms p new) x).usable) w ∙ ap (λ x. x.usable) (set_here ms p m new h is) ∙ own ∙ ap (usable (state_of ns old [])) (sym w)
+        | inl w ↦ ap (λ (x : ℕ). (mark_at (set ms p new) x).usable) w ∙ ap (λ x. x.usable) (set_here ms p m new h is) ∙ own ∙ ap (has_no_mark (state_of ns old [])) (sym w)
         | inr w ↦ ap (λ x. x.usable) (set_there ms p m new h is q w) ∙ i.2 q (omega arith)
       ],
     )

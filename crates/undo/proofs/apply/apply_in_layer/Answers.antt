@@ -3,7 +3,7 @@ use Rattle.txn.specs.declared.output.TxOut.{TxOut}
 use Rattle.txn.specs.declared.outpoint.OutPoint.{OutPoint}
 use Rattle.coins.specs.declared.coin.Coin.{Coin}
 use Rattle.coins.specs.Coins.{Coins, Layer}
-use Rattle.undo.specs.Effect.{spends, spendable, coin_of, without, with_coins, after, spent}
+use Rattle.undo.specs.Effect.{spends, spendable, coin_of, without, with_coins, after, spent_coins}
 use Rattle.undo.specs.inside.Reverting.{AreNew}
 use Rattle.undo.specs.laws.Undoing.{are_new}
 use Rattle.undo.proofs.Steps.{two_steps, to_coins}
@@ -20,7 +20,7 @@ add_all-requires-clause-new g c =
     (are_new c.args.layer.coins tx c.args.id c.args.height c.requires)))
 
 pub returns-clause-spent : goal.returns-clause-spent
-unfolding spent
+unfolding spent_coins
 returns-clause-spent g c = c.in_ok-spent.ensures.spent
 
 pub returns-clause-layer : goal.returns-clause-layer

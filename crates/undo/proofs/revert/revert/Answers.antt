@@ -4,12 +4,12 @@ use Rattle.std.specs.Map.{keys_of}
 use Rattle.txn.specs.declared.output.TxOut.{TxOut}
 use Rattle.coins.specs.Coins.{Coins}
 use Rattle.undo.specs.Effect.{spends, spendable, without, with_coins}
-use Rattle.undo.specs.inside.Reverting.{reverted}
+use Rattle.undo.specs.inside.Reverting.{coins_before}
 use Rattle.undo.proofs.Steps.{two_steps, to_coins}
 use Rattle.undo.proofs.revert.revert.Goals as goal
 
 pub returns : goal.returns
-unfolding reverted
+unfolding coins_before
 returns g c =
     let l = c.args.layer in
     let left : List TxOut → Coins → Coins = λ os m. without m (keys_of (spendable c.args.id 0 os)) in

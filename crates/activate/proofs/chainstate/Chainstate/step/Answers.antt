@@ -1,7 +1,7 @@
 use Rattle.std.proofs.Common.{◌≡◌, ap, ◌∙◌, sym, subst}
 use Rattle.rules.specs.declared.params.Params.{Params}
 use Rattle.coins.specs.Coins.{Coins}
-use Rattle.coins.specs.Changes.{laid}
+use Rattle.coins.specs.Changes.{after_changes}
 use Rattle.coins.specs.laws.Changing.{laid-changes}
 use Rattle.activate.specs.inside.Preparation.{IsReady, core_after_commit}
 use Rattle.chain.specs.Regtest.{regtest}
@@ -22,7 +22,7 @@ returns-in-Ok-clause-is_chainstate g c =
     let follows : Follows c.commit.new.self c.args.env.now.table.now =
     subst (λ (x : CoreState). Follows x c.args.env.now.table.now) (sym done) (follows-plan a b c.args.env.now.table.now c.args.command.now prepared was.follows c.in_ok-reply.ensures.prepared).1 in
     let coins : c.lay.new.self ≡ coins_of c.commit.new.self =
-    c.in-Ok.ensures.ok ∙ ap (λ (m : Coins). laid m prepared.changes.items) was.coins_are ∙ laid-changes (coins_of a) (coins_of end) prepared.changes.items c.in_ok-reply.ensures.prepared.changes_are ∙ sym (ap coins_of done) in
+    c.in-Ok.ensures.ok ∙ ap (λ (m : Coins). after_changes m prepared.changes.items) was.coins_are ∙ laid-changes (coins_of a) (coins_of end) prepared.changes.items c.in_ok-reply.ensures.prepared.changes_are ∙ sym (ap coins_of done) in
     let whole : IsChainstate (record { core = c.commit.new.self; coins = c.lay.new.self }) c.args.env.now.table.now = record { follows = follows; coins_are = coins } in
     elim c.match-rollback.branch [
       | in-Some-1 w ↦ subst (λ (x : WithCoins). IsChainstate x c.args.env.now.table.now) (sym w.self-is) whole

@@ -1,12 +1,12 @@
 use Rattle.std.proofs.Common.{◌≡◌, ℕ, ◌≤◌, length, Result, Ok, Err, OnOk, OnErr, sym, ap, subst}
 use Rattle.block.specs.declared.block.Block.{Block}
 use Rattle.tree.specs.Branches.{Blocks}
-use Rattle.tree.specs.State.{State, cleared}
+use Rattle.tree.specs.State.{State, without_marks}
 use Rattle.activate.proofs.Cores.{branch_of_same, room_of_same}
 use Rattle.activate.proofs.core_state.Core.clear.Goals as goal
 
-blocks-cleared : {V E : Type 0} (o : Result V E) (new old : State Block) (p : ℕ) → OnOk o (new ≡ cleared old p) → OnErr o (new ≡ old) → ◌≡◌ {A = Blocks Block} new.blocks old.blocks
-unfolding cleared
+blocks-cleared : {V E : Type 0} (o : Result V E) (new old : State Block) (p : ℕ) → OnOk o (new ≡ without_marks old p) → OnErr o (new ≡ old) → ◌≡◌ {A = Blocks Block} new.blocks old.blocks
+unfolding without_marks
 blocks-cleared (Ok v) new old p e f = ap (λ (s : State Block). s.blocks) e
 blocks-cleared (Err x) new old p e f = ap (λ (s : State Block). s.blocks) f
 

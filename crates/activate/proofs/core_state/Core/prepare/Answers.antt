@@ -1,5 +1,5 @@
 use Rattle.std.proofs.Common.{◌≡◌, Some, None, Err, sym, ap, ◌∙◌, subst, inl, inr}
-use Rattle.block.specs.Decoding.{decoded, Decodes}
+use Rattle.block.specs.Decoding.{block_of_bytes, Decodes}
 use Rattle.activate.specs.declared.prepared.Prepared.{Prepared}
 use Rattle.chain.specs.declared.reply.Reply.TheVariants as reply
 use Rattle.chain.specs.declared.reply.SubmitReply.TheVariants.{DecodeFailed}
@@ -15,8 +15,8 @@ pub returns-in-Ok-clause-prepared : goal.returns-in-Ok-clause-prepared
 returns-in-Ok-clause-prepared g c =
     let a : CoreState = c.args.self.now in
     let r = regtest a.params c.args.env.now.table.now in
-    let e : decoded c.in-Submit.bytes ≡ Some c.in-Ok.block =
-    ap decoded (sym c.as_slice.ensures) ∙ c.in-Ok.ensures.exact in
+    let e : block_of_bytes c.in-Submit.bytes ≡ Some c.in-Ok.block =
+    ap block_of_bytes (sym c.as_slice.ensures) ∙ c.in-Ok.ensures.exact in
     if_ok c.prepare_block.result
     (λ (prepared : Prepared) x. subst (λ t. IsPreparationFor r a t c.prepare_block.new.self prepared) (submitted r a.state c.in-Submit.bytes c.in-Submit.now c.in-Ok.block e ∙ ap (outcome r a.state) (sym c.in-Submit.is)) x)
     c.prepare_block.ensures.prepared
@@ -25,8 +25,8 @@ pub returns-in_ok-undecodable-in-Err-clause-prepared : goal.returns-in_ok-undeco
 returns-in_ok-undecodable-in-Err-clause-prepared g c =
     let a : CoreState = c.args.self.now in
     let r = regtest a.params c.args.env.now.table.now in
-    let exact : Decodes (Err c.in-Err.fault) (decoded c.as_slice.result.now) = subst (λ o. Decodes o (decoded c.as_slice.result.now)) c.in-Err.is c.read.ensures.exact in
-    let e : decoded c.in-Submit.bytes ≡ None = ap decoded (sym c.as_slice.ensures) ∙ elim exact [ inl m ↦ absurd (c.in_ok-undecodable-in-Err.ensures m) | inr n ↦ n ] in
+    let exact : Decodes (Err c.in-Err.fault) (block_of_bytes c.as_slice.result.now) = subst (λ o. Decodes o (block_of_bytes c.as_slice.result.now)) c.in-Err.is c.read.ensures.exact in
+    let e : block_of_bytes c.in-Submit.bytes ≡ None = ap block_of_bytes (sym c.as_slice.ensures) ∙ elim exact [ inl m ↦ absurd (c.in_ok-undecodable-in-Err.ensures m) | inr n ↦ n ] in
     plan-still r a (reply.Submit DecodeFailed) c.still.result (outcome r a.state c.args.command.now) c.requires.follows.active_is c.still.ensures
     (refused r a.state c.in-Submit.bytes c.in-Submit.now e ∙ ap (outcome r a.state) (sym c.in-Submit.is))
 

@@ -2,7 +2,7 @@ use Rattle.std.proofs.Common.{◌≡◌, ℕ, suc, true, false, length, Option, 
 use Rattle.std.specs.Option.{unwrap_or}
 use Rattle.tree.specs.Names.{names}
 use Rattle.tree.specs.Sound.{IsBest, IsFresh}
-use Rattle.tree.specs.State.{better, usable, with_block}
+use Rattle.tree.specs.State.{beats, has_no_mark, with_block}
 use Rattle.tree.specs.laws.Added.{place-bound}
 use Rattle.activate.specs.declared.prepared.TreeChange.TheVariants.{BlockAdded}
 use Rattle.activate.specs.declared.prepared.Completion.TheVariants.{Nothing}
@@ -32,10 +32,10 @@ returns-then-not-better-clause-prepared g c =
     let A : CoreState = record a { state = with_block a.state b p } in
     let sound = c.requires.follows.sound in
     let can = can-follows r a sound c.requires.follows.kept c.requires.follows.active_is in
-    let inside : better c.add.new.self.state c.in_ok-place.place c.add.new.self.active ≡ false = subst (λ (x : CoreState). better x.state c.in_ok-place.place x.active ≡ false) c.self.view_is (sym c.better.ensures ∙ c.if-not-better.true) in
-    let here : better A.state n a.active ≡ false =
-    ap (λ (q : ℕ). better A.state q a.active) (sym c.in_ok-place.ensures.place) ∙ subst (λ (x : CoreState). better x.state c.in_ok-place.place x.active ≡ false) c.in_ok-place.ensures.ok inside in
-    let lower : better A.state n (active r a.state) ≡ false = subst (λ (q : ℕ). better A.state n q ≡ false) c.requires.follows.active_is here in
+    let inside : beats c.add.new.self.state c.in_ok-place.place c.add.new.self.active ≡ false = subst (λ (x : CoreState). beats x.state c.in_ok-place.place x.active ≡ false) c.self.view_is (sym c.better.ensures ∙ c.if-not-better.true) in
+    let here : beats A.state n a.active ≡ false =
+    ap (λ (q : ℕ). beats A.state q a.active) (sym c.in_ok-place.ensures.place) ∙ subst (λ (x : CoreState). beats x.state c.in_ok-place.place x.active ≡ false) c.in_ok-place.ensures.ok inside in
+    let lower : beats A.state n (active r a.state) ≡ false = subst (λ (q : ℕ). beats A.state n q ≡ false) c.requires.follows.active_is here in
     let fresh : IsFresh names A.state = subst (λ (x : CoreState). IsFresh names x.state) c.in_ok-place.ensures.ok c.in_ok-place.ensures.fresh in
     subst (λ (x : CoreState). IsPreparationFor r a (step r a.state (Submit c.args.now b)) x (record { reply = reply.Submit Inconclusive; rollback = record { first = BlockAdded; flags = None }; rest = Nothing; changes = c.new.result })) (sym c.in_ok-place.ensures.ok)
     (plan-beside r a sound b p can (faultless-alone r a.state c.args.now b c.requires.new.faultless) (place-bound names a.state.blocks b.header.prev p c.requires.new.parent) c.requires.new.unknown c.requires.new.parent
@@ -62,14 +62,14 @@ settle-requires-clause-best g c =
     let A : CoreState = record a { state = with_block a.state b p } in
     let sound = c.requires.follows.sound in
     let can = can-follows r a sound c.requires.follows.kept c.requires.follows.active_is in
-    let inside : better c.add.new.self.state c.in_ok-place.place c.add.new.self.active ≡ true = subst (λ (x : CoreState). better x.state c.in_ok-place.place x.active ≡ true) c.self.view_is (sym c.better.ensures ∙ c.if-not-better.false) in
-    let here : better A.state n a.active ≡ true =
-    ap (λ (q : ℕ). better A.state q a.active) (sym c.in_ok-place.ensures.place) ∙ subst (λ (x : CoreState). better x.state c.in_ok-place.place x.active ≡ true) c.in_ok-place.ensures.ok inside in
+    let inside : beats c.add.new.self.state c.in_ok-place.place c.add.new.self.active ≡ true = subst (λ (x : CoreState). beats x.state c.in_ok-place.place x.active ≡ true) c.self.view_is (sym c.better.ensures ∙ c.if-not-better.false) in
+    let here : beats A.state n a.active ≡ true =
+    ap (λ (q : ℕ). beats A.state q a.active) (sym c.in_ok-place.ensures.place) ∙ subst (λ (x : CoreState). beats x.state c.in_ok-place.place x.active ≡ true) c.in_ok-place.ensures.ok inside in
     let from = faultless-parent r a.state c.args.now b c.requires.new.faultless in
     let same : from.0 ≡ p = ap (λ (o : Option ℕ). unwrap_or o 0) (sym from.1 ∙ c.requires.new.parent) in
-    let u : usable a.state p ≡ true = subst (λ (q : ℕ). usable a.state q ≡ true) same from.2 in
-    subst (λ (x : CoreState). IsBest x.state (usable x.state) (length x.state.blocks) c.in_ok-place.place) (sym c.in_ok-place.ensures.ok)
-    (subst (λ (q : ℕ). IsBest A.state (usable A.state) (length A.state.blocks) q) (sym c.in_ok-place.ensures.place)
+    let u : has_no_mark a.state p ≡ true = subst (λ (q : ℕ). has_no_mark a.state q ≡ true) same from.2 in
+    subst (λ (x : CoreState). IsBest x.state (has_no_mark x.state) (length x.state.blocks) c.in_ok-place.place) (sym c.in_ok-place.ensures.ok)
+    (subst (λ (q : ℕ). IsBest A.state (has_no_mark A.state) (length A.state.blocks) q) (sym c.in_ok-place.ensures.place)
     (best-added r a sound b p can (faultless-alone r a.state c.args.now b c.requires.new.faultless) (place-bound names a.state.blocks b.header.prev p c.requires.new.parent) c.requires.new.unknown c.requires.new.parent c.requires.follows.active_is u here))
 
 pub settle-requires-clause-coins : goal.settle-requires-clause-coins

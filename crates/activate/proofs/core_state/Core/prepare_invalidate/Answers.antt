@@ -2,7 +2,7 @@ use Rattle.std.proofs.Common.{◌≡◌, ℕ, ◌<◌, Some, None, refl, sym, ap
 use Rattle.tree.specs.Branches.{place_of}
 use Rattle.tree.specs.Flags.{flags_of}
 use Rattle.tree.specs.Names.{names}
-use Rattle.tree.specs.State.{marked}
+use Rattle.tree.specs.State.{with_mark}
 use Rattle.tree.specs.laws.Added.{place-bound}
 use Rattle.activate.specs.declared.prepared.Prepared.{Prepared}
 use Rattle.chain.specs.declared.reply.MarkReply.TheVariants.{Done, Genesis, NotFound}
@@ -63,7 +63,7 @@ returns-clause-prepared g c =
     let found : place_of names a.state.blocks c.args.id.now ≡ Some p = subst (λ (x : CoreState). place_of names x.state.blocks c.args.id.now ≡ Some p) c.self.view_is (sym c.find.ensures ∙ c.in-Some.is) in
     let kept : c.in_ok-flags.flags ≡ flags_of a.state = c.in_ok-flags.ensures ∙ ap (λ (x : CoreState). flags_of x.state) c.self.view_is in
     let rollback : record m { state = with_flags (Some (flags_of a.state)) m.state } ≡ a = ap (λ (x : CoreState). record x { state = with_flags (Some (flags_of a.state)) x.state }) c.mark.ensures in
-    let state : m.state ≡ marked a.state p = ap (λ (x : CoreState). x.state) c.mark.ensures in
+    let state : m.state ≡ with_mark a.state p = ap (λ (x : CoreState). x.state) c.mark.ensures in
     let says : mark_says (settle r m.state) Done ≡ step r a.state (Invalidate c.args.id.now) = invalidate_done a.params c.args.env.now.table.now a.state c.args.id.now p found m.state (settle r m.state) z state refl in
     if_ok c.settle_marks.result
     (λ (prepared : Prepared) x. subst (λ t. IsPreparationFor r a t c.settle_marks.new.self prepared) says

@@ -2,7 +2,7 @@ use Rattle.std.proofs.Common.{◌≡◌, ℕ, ◌<◌, ◌≤◌, Bool, length, 
 use Rattle.std.specs.Prelude.{if◌then◌else◌}
 use Rattle.tree.specs.Branches.{height, place_of}
 use Rattle.tree.specs.Names.{names}
-use Rattle.tree.specs.State.{called, usable}
+use Rattle.tree.specs.State.{with_call, has_no_mark}
 use Rattle.tree.specs.Sound.{IsBest}
 use Rattle.tree.specs.laws.Added.{place-bound}
 use Rattle.activate.specs.declared.prepared.TreeChange.TheVariants.{CalledPrecious}
@@ -73,11 +73,11 @@ settle-requires-clause-best g c =
     let less = c.if-height.false in
     let inside : height c.self.inside.tree.blocks c.self.inside.active ≤ height c.self.inside.tree.blocks p = omega arith in
     let high : height a.state.blocks a.active ≤ height a.state.blocks p = subst (λ (x : CoreState). height x.state.blocks x.active ≤ height x.state.blocks p) c.self.view_is inside in
-    let first : c.best_of_two-first.result ≡ (if usable a.state p then p else a.active) =
+    let first : c.best_of_two-first.result ≡ (if has_no_mark a.state p then p else a.active) =
     c.best_of_two-first.ensures
-    ∙ ap (λ (x : CoreState). if usable x.state p then p else x.active) c.in_ok-call.ensures.ok
+    ∙ ap (λ (x : CoreState). if has_no_mark x.state p then p else x.active) c.in_ok-call.ensures.ok
     ∙ ap (λ (b : Bool). if b then p else a.active) (usable-called r a.state p p) in
-    subst (λ (x : CoreState). IsBest x.state (usable x.state) (length x.state.blocks) c.best_of_two-first.result) (sym c.in_ok-call.ensures.ok)
+    subst (λ (x : CoreState). IsBest x.state (has_no_mark x.state) (length x.state.blocks) c.best_of_two-first.result) (sym c.in_ok-call.ensures.ok)
     (best-called r a c.requires.follows.sound c.requires.follows.active_is p (place-bound names a.state.blocks c.args.id.now p found) high c.best_of_two-first.result first)
 
 pub returns-in-Ok-clause-prepared : goal.returns-in-Ok-clause-prepared
@@ -85,7 +85,7 @@ returns-in-Ok-clause-prepared g c =
     let a : CoreState = c.args.self.now in
     let r = regtest a.params c.args.env.now.table.now in
     let p = c.in-Some.place in
-    let b : CoreState = record a { state = called a.state p } in
+    let b : CoreState = record a { state = with_call a.state p } in
     let s = c.in-Ok.settled in
     let found : place_of names a.state.blocks c.args.id.now ≡ Some p = subst (λ (x : CoreState). place_of names x.state.blocks c.args.id.now ≡ Some p) c.self.view_is (sym c.find.ensures ∙ c.in-Some.is) in
     let one = c.height.ensures in

@@ -2,7 +2,7 @@ use Rattle.std.proofs.Common.{◌≡◌, ℕ, Some, None, Result, Ok, Err, OnErr
 use Rattle.tree.specs.Branches.{Blocks, place_of}
 use Rattle.tree.specs.Flags.{flags_of}
 use Rattle.tree.specs.Names.{names}
-use Rattle.tree.specs.State.{State, cleared}
+use Rattle.tree.specs.State.{State, without_marks}
 use Rattle.tree.specs.laws.Added.{place-bound}
 use Rattle.block.specs.declared.block.Block.{Block}
 use Rattle.activate.specs.declared.prepared.Prepared.{Prepared}
@@ -38,8 +38,8 @@ settle_marks-requires-clause-can g c =
     let r = regtest a.params c.args.env.now.table.now in
     subst (λ (x : CoreState). CanTry (regtest x.params c.args.env.now.table.now) x) (sym c.in_ok-clear.ensures.ok) (can-cleared r a c.in-Some.place (can-follows r a c.requires.follows.sound c.requires.follows.kept c.requires.follows.active_is))
 
-blocks_same : (s : State Block) (p : ℕ) → ◌≡◌ {A = Blocks Block} (cleared s p).blocks s.blocks
-unfolding cleared
+blocks_same : (s : State Block) (p : ℕ) → ◌≡◌ {A = Blocks Block} (without_marks s p).blocks s.blocks
+unfolding without_marks
 blocks_same s p = refl
 
 pub settle_marks-requires-clause-flags : goal.settle_marks-requires-clause-flags
@@ -55,8 +55,8 @@ settle_marks-requires-clause-coins g c =
     let a : CoreState = c.args.self.now in
     c.requires.coins ∙ sym (ap coins_of c.in_ok-clear.ensures.ok ∙ ap (λ (t : Blocks Block). coins_after t a.active) (blocks_same a.state c.in-Some.place))
 
-back_same : (a m : CoreState) (p : ℕ) → m ≡ record a { state = cleared a.state p } → record m { state = with_flags (Some (flags_of a.state)) m.state } ≡ a
-unfolding cleared
+back_same : (a m : CoreState) (p : ℕ) → m ≡ record a { state = without_marks a.state p } → record m { state = with_flags (Some (flags_of a.state)) m.state } ≡ a
+unfolding without_marks
 back_same a m p e = ap (λ (x : CoreState). record x { state = with_flags (Some (flags_of a.state)) x.state }) e
 
 pub returns-clause-prepared : goal.returns-clause-prepared
@@ -67,7 +67,7 @@ returns-clause-prepared g c =
     let p = c.in-Some.place in
     let found : place_of names a.state.blocks c.args.id.now ≡ Some p = subst (λ (x : CoreState). place_of names x.state.blocks c.args.id.now ≡ Some p) c.self.view_is (sym c.find.ensures ∙ c.in-Some.is) in
     let kept : c.in_ok-flags.flags ≡ flags_of a.state = c.in_ok-flags.ensures ∙ ap (λ (x : CoreState). flags_of x.state) c.self.view_is in
-    let state : m.state ≡ cleared a.state p = ap (λ (x : CoreState). x.state) c.in_ok-clear.ensures.ok in
+    let state : m.state ≡ without_marks a.state p = ap (λ (x : CoreState). x.state) c.in_ok-clear.ensures.ok in
     let says : mark_says (settle r m.state) Done ≡ step r a.state (Reconsider c.args.id.now) = reconsider_done a.params c.args.env.now.table.now a.state c.args.id.now p found m.state (settle r m.state) state refl in
     if_ok c.settle_marks.result
     (λ (prepared : Prepared) x. subst (λ t. IsPreparationFor r a t c.settle_marks.new.self prepared) says

@@ -1,6 +1,6 @@
 use Rattle.std.proofs.Common.{◌≡◌, ◌<◌, length, sym, ap, subst, ◌∙◌}
 use Rattle.rules.specs.declared.params.Params.{Params}
-use Rattle.tree.specs.State.{usable}
+use Rattle.tree.specs.State.{has_no_mark}
 use Rattle.tree.specs.Sound.{IsBest}
 use Rattle.activate.specs.declared.path.Attempt.{Attempt}
 use Rattle.activate.specs.inside.Preparation.{TriesLead, CanTry, HasOtherFlags, TryLeads}
@@ -8,7 +8,7 @@ use Rattle.chain.specs.Regtest.{regtest}
 use Rattle.activate.specs.CoreState.{CoreState}
 use Rattle.chain.specs.inside.Try.{state_after_try}
 use Rattle.activate.specs.inside.Paths.{FailsAt, LeadsTo, IsAttempt}
-use Rattle.chain.specs.laws.Tries.{unmarked}
+use Rattle.chain.specs.laws.Tries.{count_without_mark}
 use Rattle.activate.proofs.Plans.{between_none, between-tried, coins-other, fewer-unmarked, leads-last, params-other}
 use Rattle.activate.proofs.core_state.Core.settle_rest.Goals as goal
 
@@ -31,7 +31,7 @@ returns-in-Succeeds-clause-leads g c =
     let b : CoreState = c.tries.self in
     let p = c.best_usable-place.result in
     let r = regtest a.params c.args.env.now.table.now in
-    let best : IsBest b.state (usable b.state) (length b.state.blocks) p = subst (λ (s : CoreState). IsBest s.state (usable s.state) (length s.state.blocks) p) c.self.view_is c.best_usable-place.ensures in
+    let best : IsBest b.state (has_no_mark b.state) (length b.state.blocks) p = subst (λ (s : CoreState). IsBest s.state (has_no_mark s.state) (length s.state.blocks) p) c.self.view_is c.best_usable-place.ensures in
     let told : LeadsTo (regtest b.params c.args.env.now.table.now) b.state.blocks b.active p c.in-Succeeds.found = subst (λ (x : Attempt). IsAttempt (regtest b.params c.args.env.now.table.now) b.state.blocks b.active p x) c.in-Succeeds.is c.in_ok-found.ensures in
     let moves : LeadsTo r b.state.blocks b.active p c.in-Succeeds.found = subst (λ (q : Params). LeadsTo (regtest q c.args.env.now.table.now) b.state.blocks b.active p c.in-Succeeds.found) (params-other a b c.tries.invariant.flags) told in
     leads-last r a b p c.in-Succeeds.found c.tries.invariant best moves
@@ -45,12 +45,12 @@ tries-smaller g c =
     let b : CoreState = c.tries.self in
     let p = c.best_usable-place.result in
     let r = regtest a.params c.args.env.now.table.now in
-    let best : IsBest b.state (usable b.state) (length b.state.blocks) p = subst (λ (s : CoreState). IsBest s.state (usable s.state) (length s.state.blocks) p) c.self.view_is c.best_usable-place.ensures in
+    let best : IsBest b.state (has_no_mark b.state) (length b.state.blocks) p = subst (λ (s : CoreState). IsBest s.state (has_no_mark s.state) (length s.state.blocks) p) c.self.view_is c.best_usable-place.ensures in
     let told : FailsAt (regtest b.params c.args.env.now.table.now) b.state.blocks b.active p c.in-Fails.failed = subst (λ (x : Attempt). IsAttempt (regtest b.params c.args.env.now.table.now) b.state.blocks b.active p x) c.in-Fails.is c.in_ok-found.ensures in
     let fails : FailsAt r b.state.blocks b.active p c.in-Fails.failed = subst (λ (q : Params). FailsAt (regtest q c.args.env.now.table.now) b.state.blocks b.active p c.in-Fails.failed) (params-other a b c.tries.invariant.flags) told in
     let new : c.flag.new.self ≡ record b { state = state_after_try r b.state p } =
     c.flag.ensures r p (record { can = c.tries.invariant.can; kept = best.kept; fails = fails }) in
-    subst (λ (x : CoreState). unmarked x.state < unmarked b.state) (sym new) (fewer-unmarked r b p c.in-Fails.failed best fails)
+    subst (λ (x : CoreState). count_without_mark x.state < count_without_mark b.state) (sym new) (fewer-unmarked r b p c.in-Fails.failed best fails)
 
 pub tries-preserved : goal.tries-preserved
 tries-preserved g c =
@@ -58,7 +58,7 @@ tries-preserved g c =
     let b : CoreState = c.tries.self in
     let p = c.best_usable-place.result in
     let r = regtest a.params c.args.env.now.table.now in
-    let best : IsBest b.state (usable b.state) (length b.state.blocks) p = subst (λ (s : CoreState). IsBest s.state (usable s.state) (length s.state.blocks) p) c.self.view_is c.best_usable-place.ensures in
+    let best : IsBest b.state (has_no_mark b.state) (length b.state.blocks) p = subst (λ (s : CoreState). IsBest s.state (has_no_mark s.state) (length s.state.blocks) p) c.self.view_is c.best_usable-place.ensures in
     let told : FailsAt (regtest b.params c.args.env.now.table.now) b.state.blocks b.active p c.in-Fails.failed = subst (λ (x : Attempt). IsAttempt (regtest b.params c.args.env.now.table.now) b.state.blocks b.active p x) c.in-Fails.is c.in_ok-found.ensures in
     let fails : FailsAt r b.state.blocks b.active p c.in-Fails.failed = subst (λ (q : Params). FailsAt (regtest q c.args.env.now.table.now) b.state.blocks b.active p c.in-Fails.failed) (params-other a b c.tries.invariant.flags) told in
     let new : c.flag.new.self ≡ record b { state = state_after_try r b.state p } =
@@ -71,7 +71,7 @@ flag-requires g c =
     let b : CoreState = c.tries.self in
     let p = c.best_usable-place.result in
     let r = regtest a.params c.args.env.now.table.now in
-    let best : IsBest b.state (usable b.state) (length b.state.blocks) p = subst (λ (s : CoreState). IsBest s.state (usable s.state) (length s.state.blocks) p) c.self.view_is c.best_usable-place.ensures in
+    let best : IsBest b.state (has_no_mark b.state) (length b.state.blocks) p = subst (λ (s : CoreState). IsBest s.state (has_no_mark s.state) (length s.state.blocks) p) c.self.view_is c.best_usable-place.ensures in
     let told : FailsAt (regtest b.params c.args.env.now.table.now) b.state.blocks b.active p c.in-Fails.failed = subst (λ (x : Attempt). IsAttempt (regtest b.params c.args.env.now.table.now) b.state.blocks b.active p x) c.in-Fails.is c.in_ok-found.ensures in
     let fails : FailsAt r b.state.blocks b.active p c.in-Fails.failed = subst (λ (q : Params). FailsAt (regtest q c.args.env.now.table.now) b.state.blocks b.active p c.in-Fails.failed) (params-other a b c.tries.invariant.flags) told in
     (r, p, record { can = c.tries.invariant.can; kept = best.kept; fails = fails })

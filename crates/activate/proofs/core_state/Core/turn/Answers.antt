@@ -7,11 +7,11 @@ use Rattle.tree.specs.Branches.{has, height}
 use Rattle.tree.specs.laws.Walks.{has_at}
 use Rattle.tree.specs.laws.Parents.{height-place}
 use Rattle.coins.specs.declared.coin.Coin.{Coin}
-use Rattle.activate.specs.CoreState.{CoreState, least, most_undo}
+use Rattle.activate.specs.CoreState.{CoreState, lesser_of, most_undo}
 use Rattle.activate.specs.inside.Keeping.{undo_at}
 use Rattle.activate.specs.inside.Preparation.{undo_after}
 use Rattle.activate.proofs.Trails.{length-newest}
-use Rattle.activate.specs.inside.ActiveBranch.{median_at, newest}
+use Rattle.activate.specs.inside.ActiveBranch.{median_at, last_of}
 use Rattle.activate.specs.inside.Paths.{IsPath}
 use Rattle.activate.specs.laws.Turning.{gone, come, turned_branch, up_kept}
 use Rattle.activate.proofs.core_state.Core.turn.Goals as goal
@@ -104,8 +104,8 @@ invariant_of-self c =
     let high = c.height.ensures in
     let rest = c.saturating_sub-left.ensures in
     let left : c.saturating_sub-left.result ≡ length undos - (height t c.self.inside.active - h) = omega arith in
-    let undo : ◌≡◌ {A = List (List (List Coin))} c.keep_undo.new.kept.items (newest most_undo (take (length undos - (height t c.self.inside.active - h)) undos ++ c.args.undo.items)) =
-    c.keep_undo.ensures.kept ∙ ap (λ (q : List (List (List Coin))). newest most_undo (q ++ c.args.undo.items)) (c.truncate-3.ensures.items ∙ ap (λ n. take n undos) left) in
+    let undo : ◌≡◌ {A = List (List (List Coin))} c.keep_undo.new.kept.items (last_of most_undo (take (length undos - (height t c.self.inside.active - h)) undos ++ c.args.undo.items)) =
+    c.keep_undo.ensures.kept ∙ ap (λ (q : List (List (List Coin))). last_of most_undo (q ++ c.args.undo.items)) (c.truncate-3.ensures.items ∙ ap (λ n. take n undos) left) in
     let whole = turned_branch t c.self.inside.active c.args.place c.self.invariant.0 k c.args.path.now w c.self.inside.branch.items c.self.inside.medians.items undos c.args.undo.items c.self.invariant.1 more in
     let room = c.self.invariant.2 in (
       k,
@@ -134,7 +134,7 @@ returns c =
     let both = length-append c.truncate-3.new.self.items c.args.undo.items in
     let all : length (c.truncate-3.new.self.items ++ c.args.undo.items) ≡ (length undos - (height i.tree.blocks i.active - path.height)) + length path.up.items = omega arith in
     let kept : length c.keep_undo.new.kept.items ≡ undo_after i.tree.blocks i.active (length undos) path =
-    ap (λ (l : List (List (List Coin))). length l) c.keep_undo.ensures.kept ∙ length-newest most_undo (c.truncate-3.new.self.items ++ c.args.undo.items) ∙ ap (least most_undo) all in
+    ap (λ (l : List (List (List Coin))). length l) c.keep_undo.ensures.kept ∙ length-newest most_undo (c.truncate-3.new.self.items ++ c.args.undo.items) ∙ ap (lesser_of most_undo) all in
     ap (λ (n : ℕ). with_undo i.params i.tree c.args.place n) kept
     ∙ ap (λ (x : CoreState). record x { active = c.args.place; undo_kept = undo_after x.state.blocks x.active x.undo_kept path }) c.self.view_is
   where

@@ -4,7 +4,7 @@ use Rattle.std.specs.Option.{option_copied}
 use Rattle.std.specs.Prelude.{is_some}
 use Rattle.coins.specs.declared.entry.CacheEntry.TheVariants.{Dirty}
 use Rattle.coins.specs.Entries.{entry_at}
-use Rattle.coins.specs.inside.Entries.{emptied}
+use Rattle.coins.specs.inside.Entries.{entry_without_coin}
 use Rattle.coins.proofs.Layers.{layer_get, layer_write, layer_same, layer_below, own_stands, emptied_stands, copied_some}
 use Rattle.coins.proofs.cache.Cache.spend.Goals as goal
 
@@ -21,7 +21,7 @@ returns-in-Some-clause-ok g c =
     let m = g.B.Base.coins c.self.inside.base.now in
     let es = c.self.inside.entries.entries in
     let k = c.args.at.now in
-    layer_write c.args.self.now m es c.take.new.entries.entries k (emptied (entry_at es k)) None c.self.view_is
+    layer_write c.args.self.now m es c.take.new.entries.entries k (entry_without_coin (entry_at es k)) None c.self.view_is
     (c.take.ensures.taken (ap (λ o. is_some o) c.in-Some.is))
     (emptied_stands (entry_at es k) (map.get m k) c.in-Some.coin (sym c.take.ensures.coin ∙ c.in-Some.is) (c.self.invariant.marks k))
 

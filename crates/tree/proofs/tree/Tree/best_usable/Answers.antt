@@ -1,7 +1,7 @@
 use Rattle.std.proofs.Common.{◌≡◌, ℕ, ◌-◌, true, false, ◌&&◌, [], length, sym, ap, ◌∙◌, subst, arith}
 use Rattle.std.proofs.lemmas.Bool.{and_from}
 use Rattle.block.specs.declared.block.Block.{Block}
-use Rattle.tree.specs.State.{State, usable, better}
+use Rattle.tree.specs.State.{State, has_no_mark, beats}
 use Rattle.tree.specs.Sound.{IsBest}
 use Rattle.tree.specs.laws.Best.{best_first, best_next}
 use Rattle.tree.proofs.Views.{kept}
@@ -17,8 +17,8 @@ loop-place-init c =
     let z = right.some in
     let l = right.same in (
       omega arith,
-      best_first c.args.self.now (usable c.args.self.now)
-          (ap (λ (s : State Block). usable s 0) (sym c.self.view_is) ∙ usable_bare ns ms c.self.inside.calls.items [] 0 ∙ usable_zero ns ms (omega arith) right.genesis),
+      best_first c.args.self.now (has_no_mark c.args.self.now)
+          (ap (λ (s : State Block). has_no_mark s 0) (sym c.self.view_is) ∙ usable_bare ns ms c.self.inside.calls.items [] 0 ∙ usable_zero ns ms (omega arith) right.genesis),
     )
 
 pub usable-requires : goal.usable-requires
@@ -57,15 +57,15 @@ loop-place-preserved c =
       omega arith,
       elim c.if-usable.branch [
         | then-usable+then-better w ↦
-            best_next s (usable s) p b c.if-usable.best true z best
-            (and_from (usable s p) (better s p b) (sym c.usable.ensures ∙ w.if-usable.true) (sym w.better.ensures ∙ w.if-better.true))
+            best_next s (has_no_mark s) p b c.if-usable.best true z best
+            (and_from (has_no_mark s p) (beats s p b) (sym c.usable.ensures ∙ w.if-usable.true) (sym w.better.ensures ∙ w.if-better.true))
             w.best-is
         | else-usable w ↦
-            best_next s (usable s) p b c.if-usable.best false z best
+            best_next s (has_no_mark s) p b c.if-usable.best false z best
             (elim w.else-usable.branch [
               | else-usable-via-then-usable+else-better v ↦
-                  ap (λ x. x && better s p b) (sym c.usable.ensures ∙ v.if-usable.true) ∙ sym v.better.ensures ∙ v.if-better.false
-              | else-usable-via-else-usable v ↦ ap (λ x. x && better s p b) (sym c.usable.ensures ∙ v.if-usable.false)
+                  ap (λ x. x && beats s p b) (sym c.usable.ensures ∙ v.if-usable.true) ∙ sym v.better.ensures ∙ v.if-better.false
+              | else-usable-via-else-usable v ↦ ap (λ x. x && beats s p b) (sym c.usable.ensures ∙ v.if-usable.false)
             ])
             w.best-is
       ],
@@ -82,4 +82,4 @@ returns c =
     let some = c.self.invariant.some in
     let a = c.loop-place.auto.place-end (omega arith) in
     let last : c.loop-place.place - 1 ≡ length s.blocks = omega arith in
-    subst (λ (n : ℕ). IsBest s (usable s) n c.loop-place.best) last c.loop-place.invariant.1
+    subst (λ (n : ℕ). IsBest s (has_no_mark s) n c.loop-place.best) last c.loop-place.invariant.1

@@ -4,7 +4,7 @@ use Rattle.block.specs.declared.block.Block.{Block}
 use Rattle.tree.specs.declared.node.Node.{Node}
 use Rattle.tree.specs.declared.node.Mark.{Mark}
 use Rattle.tree.specs.Branches.{Blocks, on}
-use Rattle.tree.specs.State.{cleared}
+use Rattle.tree.specs.State.{without_marks}
 use Rattle.tree.specs.Nodes.{blocks_of, mark_at, state_of}
 use Rattle.tree.specs.inside.Nodes.{AreUsable, IsRight}
 use Rattle.tree.proofs.Views.{kept, where_agree}
@@ -53,7 +53,7 @@ invariant_of-self c =
     right.are_calls)
 
 pub returns-clause-ok : goal.returns-clause-ok
-unfolding cleared
+unfolding without_marks
 returns-clause-ok c =
     let right = c.self.invariant in
     let view = c.self.view_is in
@@ -78,7 +78,7 @@ returns-clause-ok c =
     ∙ ap (λ (y : List Node). on (blocks_of y) p x || on (blocks_of y) x p) c.as_slice.ensures.value
     ∙ ap (λ (t : Blocks Block). on t p x || on t x p) (blocks-view ns ms cs view)
     in
-    subst (λ (x : List Mark). state_of ns x cs ≡ cleared s p) (sym (whole new ms c.self.inside.marks.len (omega arith)))
+    subst (λ (x : List Mark). state_of ns x cs ≡ without_marks s p) (sym (whole new ms c.self.inside.marks.len (omega arith)))
     (made ns new cs (blocks-view ns ms cs view)
     (where_cleared f ms new long (omega arith)
     (λ q h. (c.take_marks.ensures.taken q (omega arith)).bad ∙ ap (λ (x : List Mark). (mark_at x q).bad && not (get_or c.as_slice-3.result.now q false)) lent

@@ -9,7 +9,7 @@ use Rattle.tree.specs.declared.node.Node.{Node}
 use Rattle.tree.specs.declared.node.Mark.{Mark}
 use Rattle.tree.specs.Branches.{Kept, place_of}
 use Rattle.tree.specs.Sound.{IsFresh}
-use Rattle.tree.specs.State.{State, usable, with_block}
+use Rattle.tree.specs.State.{State, has_no_mark, with_block}
 use Rattle.tree.specs.Names.{names, id_cmp}
 use Rattle.tree.specs.Nodes.{blocks_of, kept_of, state_of}
 use Rattle.tree.specs.inside.Nodes.{IsNode, IsRight}
@@ -66,8 +66,8 @@ invariant_of-self-2 c =
     let own : n.block ≡ c.args.block = ap (λ (x : Kept Block). x.block) c.node_on-node.ensures.kept in
     let node : IsNode (kept_of n ∷ t) (length ns) n = subst (λ (l : List Node). IsNode (kept_of n ∷ blocks_of l) (length l) n) lent c.node_on-node.ensures.node in
     let at : c.index.result.now ≡ get_or ms p c.index.result.now = c.index.ensures ∙ ap (λ (l : List Mark). get_or l p c.index.result.now) c.in_ok-reserve-2.ensures.items in
-    let usage : c.index.result.now.usable ≡ usable (state_of ns ms cs) n.parent =
-    usable_at right view p r c.index.result.now at ∙ ap (λ (s : State Block). usable s p) (sym view) ∙ ap (usable (state_of ns ms cs)) (sym up)
+    let usage : c.index.result.now.usable ≡ has_no_mark (state_of ns ms cs) n.parent =
+    usable_at right view p r c.index.result.now at ∙ ap (λ (s : State Block). has_no_mark s p) (sym view) ∙ ap (has_no_mark (state_of ns ms cs)) (sym up)
     in
     let place : c.len-place.result ≡ length ns = let e = c.len-place.ensures in let v = ap (λ (l : List Node). length l) c.in_ok-reserve.ensures.items in omega arith in
     subst (λ (l : List Node). IsRight l c.push-2.new.self.items cs c.enter.new.ids.entries c.enter.new.leaves.items) (sym (c.in_ok-push.ensures.items ∙ ap (λ (l : List Node). l ++ n ∷ []) c.in_ok-reserve.ensures.items))

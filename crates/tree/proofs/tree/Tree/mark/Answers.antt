@@ -4,7 +4,7 @@ use Rattle.std.proofs.lemmas.List.{length-set}
 use Rattle.tree.specs.declared.node.Node.{Node}
 use Rattle.tree.specs.declared.node.Mark.{Mark}
 use Rattle.tree.specs.Branches.{down_from}
-use Rattle.tree.specs.State.{joined, usable, marked}
+use Rattle.tree.specs.State.{union_where, has_no_mark, with_mark}
 use Rattle.tree.specs.Nodes.{mark_at, state_of}
 use Rattle.tree.specs.inside.Nodes.{AreUsable, IsRight}
 use Rattle.tree.proofs.Views.{kept, where_agree, where_joined}
@@ -57,7 +57,7 @@ invariant_of-self c =
     let right_new : IsRight ns new c.self.inside.calls.items c.self.inside.ids.entries c.self.inside.leaves.items =
     right_from right new c.self.inside.calls.items long
     (λ q g. c.spoil.ensures.usable q (let e = ap (λ (xs : List Node). length xs) ns-is in omega arith)
-    ∙ ap (λ (xs : List Node). usable (state_of xs c.as_mut_slice.result.now []) q) ns-is
+    ∙ ap (λ (xs : List Node). has_no_mark (state_of xs c.as_mut_slice.result.now []) q) ns-is
     ∙ sym (usable_marked ns c.as_mut_slice.result.now new (omega arith) (ap (λ (xs : List Mark). length xs) lent ∙ length-set ms p n ∙ l) long q (λ x a b. (c.spoil.ensures.flags x).bad)))
     (λ q g. (c.spoil.ensures.flags q).rank ∙ ap (λ (xs : List Mark). (mark_at xs q).rank) lent ∙ set_kept ms p m n h is (λ x. x.rank) refl q ∙ right-rank right q g)
     ((c.spoil.ensures.flags 0).bad ∙ ap (λ (xs : List Mark). (mark_at xs 0).bad) lent ∙ ap (λ x. x.bad) (set_there ms p m n h is 0 (omega arith)) ∙ right.genesis)
@@ -86,11 +86,11 @@ returns c =
     let lent = c.as_mut_slice.ensures.value in
     let ns-is = c.as_slice.ensures.value in
     let long : length new ≡ length ms = c.spoil.ensures.same ∙ ap (λ (xs : List Node). length xs) ns-is ∙ sym l in
-    subst (λ (xs : List Mark). state_of ns xs cs ≡ marked c.args.self.now p)
+    subst (λ (xs : List Mark). state_of ns xs cs ≡ with_mark c.args.self.now p)
     (sym (whole new (set ms p n) c.self.inside.marks.len (let v = c.as_mut_slice.ensures.len in let w = ap (λ (xs : List Mark). length xs) lent in let y = length-set ms p n in omega arith)))
     (made ns new cs (blocks-view ns ms cs view)
     (where_joined (λ x. x.bad) (length c.args.self.now.blocks) ms new (λ x. eqb x p) (l ∙ k) long
     (λ q g. (c.spoil.ensures.flags q).bad ∙ ap (λ (xs : List Mark). (mark_at xs q).bad) lent ∙ set_joined ms p m n h is (λ x. x.bad) refl q)
-    ∙ ap (λ (s : List ℕ). joined (down_from (length c.args.self.now.blocks)) s (λ x. eqb x p)) (bad-view ns ms cs view))
+    ∙ ap (λ (s : List ℕ). union_where (down_from (length c.args.self.now.blocks)) s (λ x. eqb x p)) (bad-view ns ms cs view))
     (where_agree (λ x. x.seen) ms new long (λ q g. (c.spoil.ensures.flags q).seen ∙ ap (λ (xs : List Mark). (mark_at xs q).seen) lent ∙ set_kept ms p m n h is (λ x. x.seen) refl q) (omega arith) ∙ seen-view ns ms cs view)
     (precious-view ns ms cs view))

@@ -2,7 +2,7 @@ use Rattle.std.proofs.Common.{ℕ, ◌<◌, true, eqb, List, length, refl, ap, �
 use Rattle.std.proofs.Math.ListN.{set}
 use Rattle.std.proofs.lemmas.List.{length-set}
 use Rattle.tree.specs.Branches.{down_from}
-use Rattle.tree.specs.State.{joined}
+use Rattle.tree.specs.State.{union_where}
 use Rattle.tree.proofs.Views.{kept, where_agree, where_joined}
 use Rattle.tree.proofs.Changes.{set_kept, set_joined, made, blocks-view, bad-view, seen-view, precious-view, right_flags, right-rank}
 use Rattle.tree.proofs.tree.Tree.see.Goals as goal
@@ -43,5 +43,5 @@ returns c =
     made ns (set ms p n) c.self.inside.calls.items (blocks-view ns ms c.self.inside.calls.items view)
     (where_agree (λ x. x.bad) ms (set ms p n) (length-set ms p n) (λ q g. set_kept ms p m n h is (λ x. x.bad) refl q) (omega arith) ∙ bad-view ns ms c.self.inside.calls.items view)
     (where_joined (λ x. x.seen) (length c.args.self.now.blocks) ms (set ms p n) (λ x. eqb x p) (l ∙ k) (length-set ms p n) (λ q g. set_joined ms p m n h is (λ x. x.seen) refl q)
-    ∙ ap (λ (s : List ℕ). joined (down_from (length c.args.self.now.blocks)) s (λ x. eqb x p)) (seen-view ns ms c.self.inside.calls.items view))
+    ∙ ap (λ (s : List ℕ). union_where (down_from (length c.args.self.now.blocks)) s (λ x. eqb x p)) (seen-view ns ms c.self.inside.calls.items view))
     (precious-view ns ms c.self.inside.calls.items view)
