@@ -81,7 +81,7 @@ module _ (r : Rules Block Id) where
         params_are = refl;
         outcome_is = ap (λ (x : CoreState). (x.state, prepared.reply)) rest ∙ ap (λ (x : Reply). (a.state, x)) still.reply_is ∙ e;
         active_is = ap (λ (x : CoreState). x.active) rest ∙ act ∙ sym (ap (λ (x : CoreState). active r x.state) rest);
-        changes_are = subst (λ (x : CoreState). AreChanges (coins_of a) (coins_of x) prepared.changes.items) (sym rest) (no_changes (coins_of a) prepared.changes.items still.changes_are);
+        changes_are = subst (λ (x : CoreState). AreChanges (coins_of a) (coins_of x) prepared.changes) (sym rest) (no_changes (coins_of a) prepared.changes still.changes_are);
         ready = subst (λ (x : Completion). IsReady r a x) (sym still.rest_is) tt;
         can_go_back = record {
           flags = subst (λ (f : Option FlagsOf). FlagsFit a.state f) (sym still.flags_are) tt;
@@ -94,7 +94,7 @@ module _ (r : Rules Block Id) where
 
   -- the state is settled after something was first done to the tree: a is before it, b after it, and c has other flags
   module _ (a b c : CoreState) (flags : Option FlagsOf) (rest : Completion) (changes : Changes) (settled : Settles r b c flags rest changes) (genesis : has_no_mark b.state 0 ≡ true)
-      (prepared : Prepared) (rest_is : prepared.rest ≡ rest) (changes_is : prepared.changes.items ≡ changes) (flags_is : prepared.rollback.flags ≡ flags) where
+      (prepared : Prepared) (rest_is : prepared.rest ≡ rest) (changes_is : prepared.changes ≡ changes) (flags_is : prepared.rollback.flags ≡ flags) where
     pub plan-settled : (after : Outcome Block) (first : TreeChange) → prepared.rollback.first ≡ first → b.params ≡ a.params → coins_of b ≡ coins_of a → record b { state = state_before_change first b.state } ≡ a
         → CanBeTakenBack first b.active b.state → (settle r b.state, prepared.reply) ≡ after → IsPreparationFor r a after c prepared
     plan-settled after first first_is params coins rollback can e =
@@ -129,7 +129,7 @@ module _ (r : Rules Block Id) where
         ∙ ap (λ (l : List ℕ). record b { state = record m.state { precious = l; bad = f.bad; seen = f.seen } }) flags.precious_is
         ∙ ap (λ (x : CoreState). record x { state = with_flags (Some f) m.state }) (sym flags.same) ∙ sym was
 
-    pub plan-marks : (prepared : Prepared) → prepared.rest ≡ Activate place found.path found.undo → prepared.changes.items ≡ found.changes.items → prepared.rollback.first ≡ Unchanged → prepared.rollback.flags ≡ Some f → prepared.reply ≡ reply.Mark Done
+    pub plan-marks : (prepared : Prepared) → prepared.rest ≡ Activate place found.path found.undo → prepared.changes ≡ found.changes → prepared.rollback.first ≡ Unchanged → prepared.rollback.flags ≡ Some f → prepared.reply ≡ reply.Mark Done
         → IsPreparationFor r a (mark_says (settle r m.state) Done) b prepared
     plan-marks prepared rest_is changes_is first_is flags_is reply_is =
         let done : core_after_commit r b prepared.rest ≡ record b { state = state_after_try r b.state place; active = place; undo_kept = undo_after b.state.blocks b.active b.undo_kept found.path } = ap (core_after_commit r b) rest_is in
@@ -140,8 +140,8 @@ module _ (r : Rules Block Id) where
           active_is = ap (λ (x : CoreState). x.active) done ∙ sym leads.active_is ∙ sym (active-settle r m.state can.genesis) ∙ sym (ap (active r) state);
           changes_are =
               subst (λ (l : Changes). AreChanges (coins_of a) (coins_of (core_after_commit r b prepared.rest)) l) (sym changes_is)
-              (subst (λ (x : CoreState). AreChanges (coins_of a) (coins_of x) found.changes.items) (sym done)
-              (subst (λ (x : CoreState). AreChanges (coins_of x) (coins_after (state_after_try r b.state place).blocks place) found.changes.items) (sym was) (changes-leads r m b place found flags leads)));
+              (subst (λ (x : CoreState). AreChanges (coins_of a) (coins_of x) found.changes) (sym done)
+              (subst (λ (x : CoreState). AreChanges (coins_of x) (coins_after (state_after_try r b.state place).blocks place) found.changes) (sym was) (changes-leads r m b place found flags leads)));
           ready = subst (λ (x : Completion). IsReady r b x) (sym rest_is) (can_go r m b place found leads);
           can_go_back = record {
             flags = subst (λ (o : Option FlagsOf). FlagsFit b.state o) (sym flags_is) (fit.0 ∙ ap (λ (t : Blocks Block). suc (length t)) (sym flags.blocks_are), fit.1);
@@ -249,7 +249,7 @@ module _ (r : Rules Block Id) where
     pub plan-added : (act : a.active ≡ active r a.state) → IsFresh names (with_block a.state b p) → (prepared : Prepared) → prepared.rollback.first ≡ BlockAdded → prepared.rollback.flags ≡ None
         → (after : Outcome Block) → ((core_after_commit r (record a { state = with_block a.state b p }) prepared.rest).state, prepared.reply) ≡ after
         → (core_after_commit r (record a { state = with_block a.state b p }) prepared.rest).active ≡ active r (core_after_commit r (record a { state = with_block a.state b p }) prepared.rest).state
-        → AreChanges (coins_of a) (coins_of (core_after_commit r (record a { state = with_block a.state b p }) prepared.rest)) prepared.changes.items
+        → AreChanges (coins_of a) (coins_of (core_after_commit r (record a { state = with_block a.state b p }) prepared.rest)) prepared.changes
         → IsReady r (record a { state = with_block a.state b p }) prepared.rest
         → IsPreparationFor r a after (record a { state = with_block a.state b p }) prepared
     plan-added act fresh prepared first_is flags_is after out still changes ready =
@@ -271,7 +271,7 @@ module _ (r : Rules Block Id) where
         }
 
     pub plan-beside : (act : a.active ≡ active r a.state) → IsFresh names (with_block a.state b p) → beats (with_block a.state b p) (suc (length a.state.blocks)) (active r a.state) ≡ false
-        → (prepared : Prepared) → prepared.rollback.first ≡ BlockAdded → prepared.rollback.flags ≡ None → prepared.rest ≡ Nothing → prepared.changes.items ≡ []
+        → (prepared : Prepared) → prepared.rollback.first ≡ BlockAdded → prepared.rollback.flags ≡ None → prepared.rest ≡ Nothing → prepared.changes ≡ []
         → (after : Outcome Block) → (with_block a.state b p, prepared.reply) ≡ after → IsPreparationFor r a after (record a { state = with_block a.state b p }) prepared
     plan-beside act fresh lower prepared first_is flags_is rest_is changes_is after out =
         let A : CoreState = record a { state = with_block a.state b p } in
@@ -279,8 +279,8 @@ module _ (r : Rules Block Id) where
         plan-added act fresh prepared first_is flags_is after
         (ap (λ (x : CoreState). (x.state, prepared.reply)) done ∙ out)
         (ap (λ (x : CoreState). x.active) done ∙ act ∙ sym (active-beside r a.state sound b p lower) ∙ sym (ap (λ (x : CoreState). active r x.state) done))
-        (subst (λ (x : CoreState). AreChanges (coins_of a) (coins_of x) prepared.changes.items) (sym done)
-        (subst (λ (m : Coins). AreChanges (coins_of a) m prepared.changes.items) (sym coins-added) (no_changes (coins_of a) prepared.changes.items changes_is)))
+        (subst (λ (x : CoreState). AreChanges (coins_of a) (coins_of x) prepared.changes) (sym done)
+        (subst (λ (m : Coins). AreChanges (coins_of a) m prepared.changes) (sym coins-added) (no_changes (coins_of a) prepared.changes changes_is)))
         (subst (λ (x : Completion). IsReady r A x) (sym rest_is) tt)
 
 -- ---- flags that are kept before marks are changed

@@ -141,13 +141,13 @@ module _ (r : Rules Block Id) (a b : CoreState) (p : ℕ) (move : Reorganisation
   can_go l = record { can = l.can; kept = l.kept; is_way = l.moves.path; good = l.moves.good; undo_is = l.moves.undo }
 
   -- the coins change as the last try tells
-  pub changes-leads : HasOtherFlags a b → TryLeads r a b p move → AreChanges (coins_of a) (coins_after (state_after_try r b.state p).blocks p) move.changes.items
+  pub changes-leads : HasOtherFlags a b → TryLeads r a b p move → AreChanges (coins_of a) (coins_after (state_after_try r b.state p).blocks p) move.changes
   changes-leads is l =
-      subst (λ (t : Blocks Block). AreChanges (coins_of a) (coins_after t p) move.changes.items) (sym (tried-blocks r b.state p))
-      (subst (λ (m : Coins). AreChanges m (coins_after b.state.blocks p) move.changes.items) (coins-other a b is) l.moves.changes)
+      subst (λ (t : Blocks Block). AreChanges (coins_of a) (coins_after t p) move.changes) (sym (tried-blocks r b.state p))
+      (subst (λ (m : Coins). AreChanges m (coins_after b.state.blocks p) move.changes) (coins-other a b is) l.moves.changes)
 
-  pub settles-leads : (f : FlagsOf) → CanTry r a → HasOtherFlags a b → f ≡ flags_of a.state → TryLeads r a b p move → (rest : Completion) → rest ≡ Activate p move.path move.undo → Settles r a b (Some f) rest move.changes.items
-  settles-leads f can is e l rest go = subst (λ (x : Completion). Settles r a b (Some f) x move.changes.items) (sym go) (record {
+  pub settles-leads : (f : FlagsOf) → CanTry r a → HasOtherFlags a b → f ≡ flags_of a.state → TryLeads r a b p move → (rest : Completion) → rest ≡ Activate p move.path move.undo → Settles r a b (Some f) rest move.changes
+  settles-leads f can is e l rest go = subst (λ (x : Completion). Settles r a b (Some f) x move.changes) (sym go) (record {
     other_flags = is;
     state_is = l.settles;
     active_is = sym l.active_is;
@@ -158,10 +158,10 @@ module _ (r : Rules Block Id) (a b : CoreState) (p : ℕ) (move : Reorganisation
   })
 
 -- the first try, where it is the last one too
-pub settles-once : (r : Rules Block Id) (a : CoreState) (p : ℕ) (move : Reorganisation) → CanTry r a → IsBest a.state (has_no_mark a.state) (length a.state.blocks) p → LeadsTo r a.state.blocks a.active p move → (rest : Completion) → rest ≡ Activate p move.path move.undo → Settles r a a None rest move.changes.items
+pub settles-once : (r : Rules Block Id) (a : CoreState) (p : ℕ) (move : Reorganisation) → CanTry r a → IsBest a.state (has_no_mark a.state) (length a.state.blocks) p → LeadsTo r a.state.blocks a.active p move → (rest : Completion) → rest ≡ Activate p move.path move.undo → Settles r a a None rest move.changes
 settles-once r a p move can best moves rest go =
     let l = leads-last r a a p move (between_none r a can) best moves in
-    subst (λ (x : Completion). Settles r a a None x move.changes.items) (sym go) (record {
+    subst (λ (x : Completion). Settles r a a None x move.changes) (sym go) (record {
       other_flags = other_none a;
       state_is = l.settles;
       active_is = sym l.active_is;

@@ -122,7 +122,7 @@ module _ (params : Params) (triples : Triples) (a : CoreState) (sound : IsSettle
         act ∙ sym (active_tip-fails r a.state sound b a.active act reason own_bad) ∙ sym (active-settle r t next.genesis)
         ∙ ap (active r) (settle_tip-fails r a.state sound b a.active act reason own_bad ∙ sym marked-is)
 
-    pub plan-fails : (prepared : Prepared) (place : ℕ) → place ≡ n → prepared.rollback.first ≡ BlockAdded → prepared.rollback.flags ≡ None → prepared.rest ≡ Mark place → prepared.changes.items ≡ [] → prepared.reply ≡ reply.Submit (Rejected reason)
+    pub plan-fails : (prepared : Prepared) (place : ℕ) → place ≡ n → prepared.rollback.first ≡ BlockAdded → prepared.rollback.flags ≡ None → prepared.rest ≡ Mark place → prepared.changes ≡ [] → prepared.reply ≡ reply.Submit (Rejected reason)
         → IsPreparationFor r a (step r a.state (Submit now b)) A prepared
     plan-fails prepared place here first_is flags_is rest_is changes_is reply_is =
         let rest : prepared.rest ≡ Mark n = rest_is ∙ ap Mark here in
@@ -131,8 +131,8 @@ module _ (params : Params) (triples : Triples) (a : CoreState) (sound : IsSettle
         (ap (λ (x : CoreState). (x.state, prepared.reply)) done ∙ ap (λ (x : Reply). (with_mark t n, x)) reply_is ∙ ap (λ (s : State Block). submit_says s (Rejected reason)) marked-is
         ∙ sym (step_tip-fails r a.state sound now b a.active is act reason own_bad))
         (ap (λ (x : CoreState). x.active) done ∙ still ∙ sym (ap (λ (x : CoreState). active r x.state) done))
-        (subst (λ (x : CoreState). AreChanges (coins_of a) (coins_of x) prepared.changes.items) (sym done)
-        (subst (λ (m : Coins). AreChanges (coins_of a) m prepared.changes.items) (sym (coins-added r a sound b a.active can alone can.kept is.unknown is.parent)) (no_changes (coins_of a) prepared.changes.items changes_is)))
+        (subst (λ (x : CoreState). AreChanges (coins_of a) (coins_of x) prepared.changes) (sym done)
+        (subst (λ (m : Coins). AreChanges (coins_of a) m prepared.changes) (sym (coins-added r a sound b a.active can alone can.kept is.unknown is.parent)) (no_changes (coins_of a) prepared.changes changes_is)))
         (subst (λ (x : Completion). IsReady r A x) (sym rest) (omega arith, omega arith))
 
   -- ---- it connects
@@ -174,7 +174,7 @@ module _ (params : Params) (triples : Triples) (a : CoreState) (sound : IsSettle
 
     pub plan-moves : (prepared : Prepared) (place : ℕ) (path : BranchPath) (undo : Vec BlockUndo Global) (taken : List (List Coin)) → place ≡ n → prepared.rollback.first ≡ BlockAdded → prepared.rollback.flags ≡ None → prepared.rest ≡ Activate place path undo
         → path.fork ≡ a.active → path.height ≡ height a.state.blocks a.active → path.up.items ≡ place ∷ [] → undo.items ≡ taken ∷ [] → taken ≡ undo_of (height a.state.blocks a.active + 1) (coins_of a) b.txs
-        → AreChanges (coins_of a) (effect (height a.state.blocks a.active + 1) (coins_of a) b.txs) prepared.changes.items → prepared.reply ≡ reply.Submit Accepted
+        → AreChanges (coins_of a) (effect (height a.state.blocks a.active + 1) (coins_of a) b.txs) prepared.changes → prepared.reply ≡ reply.Submit Accepted
         → IsPreparationFor r a (step r a.state (Submit now b)) A prepared
     plan-moves prepared place path undo taken here first_is flags_is rest_is fork high up undo_is taken_is changes reply_is =
         let rest : prepared.rest ≡ Activate n path undo = rest_is ∙ ap (λ (q : ℕ). Activate q path undo) here in
@@ -185,9 +185,9 @@ module _ (params : Params) (triples : Triples) (a : CoreState) (sound : IsSettle
         ∙ says-added r a sound b a.active can alone can.kept is.unknown is.parent Accepted (said-once r A next n (best-tip r a.state sound b a.active act) valid_new)
         ∙ sym (step-added r a.state now b a.active is))
         (ap (λ (x : CoreState). x.active) done ∙ sym is_active ∙ sym (active-settle r t next.genesis) ∙ ap (active r) settled ∙ sym (ap (λ (x : CoreState). active r x.state) done))
-        (subst (λ (x : CoreState). AreChanges (coins_of a) (coins_of x) prepared.changes.items) (sym done)
-        (subst (λ (u : Blocks Block). AreChanges (coins_of a) (coins_after u n) prepared.changes.items) (sym (tried-blocks r t n))
-        (subst (λ (m : Coins). AreChanges (coins_of a) m prepared.changes.items) (sym coins-new) changes)))
+        (subst (λ (x : CoreState). AreChanges (coins_of a) (coins_of x) prepared.changes) (sym done)
+        (subst (λ (u : Blocks Block). AreChanges (coins_of a) (coins_after u n) prepared.changes) (sym (tried-blocks r t n))
+        (subst (λ (m : Coins). AreChanges (coins_of a) m prepared.changes) (sym coins-new) changes)))
         (subst (λ (x : Completion). IsReady r A x) (sym rest) (record {
           can = next;
           kept = omega arith;

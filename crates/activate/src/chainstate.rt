@@ -93,12 +93,12 @@ impl Chainstate {
             rest,
             changes,
         } = self.core.prepare(alloc, &self.coins, command, env, gate)?;
-        match self.coins.lay(alloc, changes) {
+        match self.coins.lay_taken(alloc, changes) {
             Ok(()) => {
                 self.core.commit(rest);
                 Ok(reply)
             }
-            Err(Memory) => {
+            Err(_) => {
                 self.core.roll_back(rollback);
                 Err(Memory)
             }

@@ -1,7 +1,7 @@
 //! The path from the active block to another one, and what a try of it comes to.
 
-use coins::Coin;
-use txn::{OutPoint, Reason};
+use coins::Changes;
+use txn::Reason;
 use undo::BlockUndo;
 
 /// From the active branch up to a block.
@@ -22,7 +22,7 @@ pub(crate) struct Reorganisation {
     /// What the blocks above the fork spend, the lowest first.
     pub(crate) undo: Vec<BlockUndo>,
     /// The coins that change.
-    pub(crate) changes: Vec<(OutPoint, Option<Coin>)>,
+    pub(crate) changes: Changes,
 }
 
 /// A branch with a block that doesn't connect.

@@ -2,9 +2,8 @@
 
 use crate::path::BranchPath;
 use chain::Reply;
-use coins::Coin;
+use coins::Changes;
 use tree::Flags;
-use txn::OutPoint;
 use undo::BlockUndo;
 
 /// A command that was looked at whole. Nothing that is left to do takes memory.
@@ -14,7 +13,7 @@ pub(crate) struct Prepared {
     pub(crate) rollback: Rollback,
     pub(crate) rest: Completion,
     /// The coins that change.
-    pub(crate) changes: Vec<(OutPoint, Option<Coin>)>,
+    pub(crate) changes: Changes,
 }
 
 /// How the tree becomes what it was before the command.

@@ -11,12 +11,12 @@ ghost use Rattle.connect.specs.Turns.{effect, undo_of};
 ghost use Rattle.connect.specs.computed.Scripts.{connect_fault};
 
 use block::Block;
-use coins::{Base, Cache, Coin};
+use coins::{Base, Cache, Changes};
 use connect::{Context, Env, connect};
 use hash::Id;
 use queue::{Crew, Gate};
 use std::alloc::Global;
-use txn::{OutPoint, Reason};
+use txn::Reason;
 use undo::BlockUndo;
 use wire::Memory;
 
@@ -24,7 +24,7 @@ use wire::Memory;
 #[derive(Drop)]
 pub(crate) struct ConnectedTip {
     pub(crate) undo: BlockUndo,
-    pub(crate) changes: Vec<(OutPoint, Option<Coin>)>,
+    pub(crate) changes: Changes,
 }
 
 /// Connects a block to these coins, which stay: the first rule that it breaks over them, or what it does (Bitcoin
@@ -52,10 +52,10 @@ pub(crate) fn connect_tip<B: Base, C: Crew>(
         IfOk answer (λ connected.
         AreChanges (B.coins base.now)
         (effect context.now.height (B.coins base.now) block.now.txs)
-        connected.changes.items)) }
+        connected.changes)) }
     ensures laid { IfOk result (λ answer.
         IfOk answer (λ connected.
-        after_changes (B.coins base.now) connected.changes.items
+        after_changes (B.coins base.now) connected.changes
         ≡ effect context.now.height (B.coins base.now) block.now.txs)) }
 {
     let mut layer = Cache::over(alloc, base);

@@ -7,7 +7,7 @@ ghost use Rattle.coins.specs.Changes.{AreChanges, after_changes};
 ghost use Rattle.coins.specs.Entries.{over, IsSound};
 
 use crate::base::Base;
-use crate::changes::list;
+use crate::changes::{Changes, list};
 use crate::coin::Coin;
 use crate::entry::{CacheEntry, added, lay_all, make_room, take, write};
 use crate::writes::Writes;
@@ -95,13 +95,13 @@ impl<'a, B: Base> Cache<'a, B> {
 
     /// The outpoints at which the base and this layer differ, in order, each with the coin that stands
     /// there now, or None where it is gone.
-    pub fn changes(&self, alloc: Global) -> Result<Vec<(OutPoint, Option<Coin>)>, Memory>
+    pub fn changes(&self, alloc: Global) -> Result<Changes, Memory>
         ensures differences { IfOk result (λ changes.
-            AreChanges self.now.base self.now.coins changes.items) }
+            AreChanges self.now.base self.now.coins changes) }
         // Laid over the base, they give the coins of this layer.
-        ensures laid { IfOk result (λ changes. after_changes self.now.base changes.items ≡ self.now.coins) }
+        ensures laid { IfOk result (λ changes. after_changes self.now.base changes ≡ self.now.coins) }
     {
-        list(alloc, &self.entries, self.base)
+        Ok(Changes::from_vec(list(alloc, &self.entries, self.base)?))
     }
 
     /// What this layer wrote, without the base.

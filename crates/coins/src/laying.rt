@@ -1,12 +1,13 @@
 //! Lists of changes laid over a plain map.
 
-ghost use Rattle.std.specs.Prelude.{◌≡◌, ◌⊎◌, ◌∷◌, [], ◌++◌, OnOk, OnErr, true, is_some};
+ghost use Rattle.std.specs.Prelude.{◌≡◌, ◌⊎◌, ◌∷◌, [], ◌++◌, IfErr, OnOk, OnErr, true, is_some};
 ghost use Rattle.std.specs.FinMap as map;
 ghost use Rattle.txn.specs.declared.outpoint.OutPoint.{OutPoint};
 ghost use Rattle.coins.specs.Coins.{Coins};
 ghost use Rattle.coins.specs.Changes.{IsInOrder, after_changes};
 ghost use Rattle.coins.specs.inside.Changes.{Opened, Covered, HasRoomFor};
 
+use crate::changes::{Change, Changes};
 use crate::coin::Coin;
 use crate::coin_map::CoinMap;
 use std::alloc::Global;
@@ -14,18 +15,27 @@ use txn::{OutPoint, Script};
 use wire::Memory;
 
 impl CoinMap {
-    /// Lays changes over this map: all of them, or none.
-    pub fn lay(
-        &mut self,
-        alloc: Global,
-        changes: Vec<(OutPoint, Option<Coin>)>,
-    ) -> Result<(), Memory>
-        requires { IsInOrder changes.items }
-        ensures ok { OnOk result (self.new ≡ after_changes self.old changes.items) }
+    /// Lays changes over this map: all of them, or none. Their coins are copied.
+    pub fn lay(&mut self, alloc: Global, changes: &Changes) -> Result<(), Memory>
+        ensures ok { OnOk result (self.new ≡ after_changes self.old changes.now) }
         ensures err { OnErr result (self.new ≡ self.old) }
     {
-        make_room(alloc, self, changes.as_slice())?;
-        set_all(self, changes);
+        match self.lay_taken(alloc, changes.copy(alloc)?) {
+            Ok(()) => Ok(()),
+            Err(_) => Err(Memory),
+        }
+    }
+
+    /// Lays changes over this map: all of them, or none. Their coins are moved, and given back at want of memory.
+    pub fn lay_taken(&mut self, alloc: Global, changes: Changes) -> Result<(), Changes>
+        ensures ok { OnOk result (self.new ≡ after_changes self.old changes) }
+        ensures err { OnErr result (self.new ≡ self.old) }
+        ensures given_back { IfErr result (λ back. back ≡ changes) }
+    {
+        if make_room(alloc, self, changes.as_slice()).is_err() {
+            return Err(changes);
+        }
+        set_all(self, changes.into_vec());
         Ok(())
     }
 }
@@ -41,11 +51,7 @@ fn nothing(alloc: Global) -> Coin {
 }
 
 /// Has some coin wherever one is going to be written, or leaves the map as it was.
-fn make_room(
-    alloc: Global,
-    coins: &mut CoinMap,
-    changes: &[(OutPoint, Option<Coin>)],
-) -> Result<(), Memory>
+fn make_room(alloc: Global, coins: &mut CoinMap, changes: &[Change]) -> Result<(), Memory>
     ensures room { OnOk result (HasRoomFor coins.new changes.now) }
     ensures others { OnOk result (Covered coins.old coins.new changes.now) }
     ensures err { OnErr result (coins.new ≡ coins.old) }
@@ -97,7 +103,7 @@ fn close_all(coins: &mut CoinMap, added: &[OutPoint])
 }
 
 /// Writes all changes where there is room for them, which takes no memory.
-fn set_all(coins: &mut CoinMap, changes: Vec<(OutPoint, Option<Coin>)>)
+fn set_all(coins: &mut CoinMap, changes: Vec<Change>)
     requires in_order { IsInOrder changes.items }
     requires room { HasRoomFor coins.old changes.items }
     ensures { coins.new ≡ after_changes coins.old changes.items }

@@ -13,6 +13,7 @@ mod writes;
 
 pub use base::Base;
 pub use cache::Cache;
+pub use changes::{Change, Changes};
 pub use coin::Coin;
 pub use coin_map::CoinMap;
 pub use entry::CacheEntry;

@@ -1,14 +1,20 @@
 //! The ids of transactions and blocks.
 
-ghost use Rattle.std.specs.Prelude.{◌≡◌, ◌↔◌, length, reverse, Ok, Some, IsSome, IfSome};
+ghost use Rattle.std.specs.Prelude.{◌≡◌, ◌↔◌, length, reverse, refl, Ok, Some, IsSome, IfSome};
+ghost use Rattle.std.specs.Cmp.{on_po, on_total};
+ghost use Rattle.std.specs.Cmp.Lexicographic.{slice_cmp, nat_list_cmp_total, texts_po, texts_ties};
 ghost use Rattle.std.specs.List.{AllPass};
+ghost use Rattle.std.specs.Ordering.{nat_cmp, on};
 ghost use Rattle.hex.specs.Hex.{decode_of, is_hex_digit};
 
+use crate::order::order;
 use hex::FromHex;
+use std::cmp::Ordering;
 use std::fmt;
 
-/// The id of a block or a transaction: a double SHA-256, in the order in which it is hashed and sent.
-#[derive(Clone, Copy, Debug, PartialEq, Eq, PartialOrd, Ord, Hash)]
+/// The id of a block or a transaction: a double SHA-256, in the order in which it is hashed and sent. Ids are ordered
+/// by these bytes.
+#[derive(Clone, Copy, Debug, PartialEq, Eq, Hash)]
 pub struct Id(pub [u8; 32]);
 
 impl Id {
@@ -37,6 +43,30 @@ impl Id {
         let mut bytes = <[u8; 32] as FromHex>::from_hex(text).ok()?;
         bytes.reverse();
         Some(Id(bytes))
+    }
+}
+
+impl Ord for Id {
+    ghost cmp = { on (λ id. id.0) (slice_cmp nat_cmp) };
+
+    ghost total = { on_total (λ id. id.0) nat_list_cmp_total };
+
+    ghost matches_partial_cmp = { λ a b. refl };
+
+    ghost matches_eq = { λ a b. texts_ties a.0 b.0 };
+
+    fn cmp(&self, other: &Id) -> Ordering {
+        order(&self.0, &other.0)
+    }
+}
+
+impl PartialOrd for Id {
+    ghost partial_cmp = { λ a b. Some (slice_cmp nat_cmp a.0 b.0) };
+
+    ghost laws = { on_po (λ id. id.0) texts_po };
+
+    fn partial_cmp(&self, other: &Id) -> Option<Ordering> {
+        Some(self.cmp(other))
     }
 }
 

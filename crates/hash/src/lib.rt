@@ -4,6 +4,7 @@
 mod double;
 mod id;
 mod key_hash;
+mod order;
 
 pub use double::{double_sha, finish};
 pub use id::Id;

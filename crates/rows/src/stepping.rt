@@ -74,7 +74,7 @@ fn take_over(
     };
     let (reply, list) = core.step_over(alloc, &*coins, command, &env, &Open)?;
     let changes = list.len();
-    coins.lay(alloc, list)?;
+    coins.lay(alloc, &list)?;
     Ok(Lent { reply, changes })
 }
 

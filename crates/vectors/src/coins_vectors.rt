@@ -1,10 +1,9 @@
 //! What no clause says of coins: each call once.
 
 ghost use Rattle.std.specs.Prelude.{◌≡◌, ◌<◌, IfOk, IfSome};
-ghost use Rattle.coins.specs.Changes.{IsInOrder};
 ghost use Rattle.coins.specs.Entries.{IsSound};
 
-use coins::{Base, Cache, Coin, CoinMap, Writes};
+use coins::{Base, Cache, Change, Changes, Coin, CoinMap, Writes};
 use hash::Id;
 use std::alloc::Global;
 use std::test::*;
@@ -131,13 +130,7 @@ impl Trial {
         Ok(layer.into_writes())
     }
 
-    fn low<B: Base>(
-        &mut self,
-        alloc: Global,
-        base: &B,
-    ) -> Result<Vec<(OutPoint, Option<Coin>)>, Memory>
-        ensures { IfOk result (λ changes. IsInOrder changes.items) }
-    {
+    fn low<B: Base>(&mut self, alloc: Global, base: &B) -> Result<Changes, Memory> {
         let mut layer = Cache::over(alloc, base);
         self.turns(alloc, &mut layer)?;
         let writes = self.middle(alloc, &layer)?;
@@ -147,7 +140,7 @@ impl Trial {
     }
 
     /// Compares a list of changes with the values before and now, place by place, and their sums.
-    fn compare(&mut self, before: &Values, changes: &[(OutPoint, Option<Coin>)]) {
+    fn compare(&mut self, before: &Values, changes: &[Change]) {
         let mut next: usize = 0;
         let mut total = sum(before);
         for number in 0..24u8 {
@@ -170,7 +163,7 @@ impl Trial {
     }
 }
 
-fn is_change(change: Option<&(OutPoint, Option<Coin>)>, number: u8, value: Option<i64>) -> bool {
+fn is_change(change: Option<&Change>, number: u8, value: Option<i64>) -> bool {
     match change {
         Some((at, coin)) => *at == place(number) && coin.as_ref().map(|coin| coin.value) == value,
         None => false,
@@ -193,13 +186,31 @@ fn layers_over_layers_by_chance(rt: HostRuntime) -> Result<(), Fail> {
         values: [None; 24],
         holds: true,
     };
-    for _ in 0..40u8 {
+    for round in 0..40u8 {
         let before = trial.values;
         let changes = trial.low(rt.alloc(), &map)?;
         trial.compare(&before, changes.as_slice());
-        map.lay(rt.alloc(), changes)?;
+        let copy = changes.copy(rt.alloc())?;
+        trial.compare(&before, copy.as_slice());
+        assert!(rt; copy.len() == changes.len() && copy.is_empty() == changes.is_empty());
+        if round % 2 == 0 {
+            map.lay(rt.alloc(), &changes)?;
+        } else {
+            assert!(rt; map.lay_taken(rt.alloc(), copy).is_ok());
+        }
         trial.look(&map);
         assert!(rt; trial.holds);
     }
+    Ok(())
+}
+
+#[test]
+fn no_changes(rt: HostRuntime) -> Result<(), Fail> {
+    let alloc = rt.alloc();
+    let mut map = CoinMap::new(alloc);
+    let none = Changes::new(alloc);
+    assert!(rt; none.is_empty() && none.len() == 0);
+    map.lay(alloc, &none)?;
+    assert!(rt; map.lay_taken(alloc, none).is_ok());
     Ok(())
 }

@@ -50,3 +50,19 @@ fn address(rt: HostRuntime) -> Result<(), Fail> {
     assert_eq!(rt; hash160(&key), expected);
     Ok(())
 }
+
+/// Ids that differ in one byte are in its order, whatever the bytes after it.
+#[test]
+fn order(rt: HostRuntime) -> Result<(), Fail> {
+    for place in 0..32usize {
+        let mut low = Id([7; 32]);
+        let mut high = Id([7; 32]);
+        high.0[place] = 8;
+        if place < 31 {
+            low.0[place + 1] = 255;
+            high.0[place + 1] = 0;
+        }
+        assert!(rt; low < high && high > low && low == low);
+    }
+    Ok(())
+}

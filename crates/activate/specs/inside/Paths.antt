@@ -42,8 +42,8 @@ pub record LeadsTo (r : Rules Block Id) (t : Blocks Block) (a p : ℕ) (move : R
   pub path : IsPath t a p move.path
   pub good : branch_connects r t p ≡ true
   pub undo : move.undo.items ≡ reverse (map (undo_at t) move.path.up.items)
-  pub changes : AreChanges (coins_after t a) (coins_after t p) move.changes.items
-  pub laid : after_changes (coins_after t a) move.changes.items ≡ coins_after t p
+  pub changes : AreChanges (coins_after t a) (coins_after t p) move.changes
+  pub laid : after_changes (coins_after t a) move.changes ≡ coins_after t p
 
 -- of the branch of p so many of the blocks above a fork connect, the highest of which comes first, and the next one
 -- doesn't

@@ -160,7 +160,7 @@ pub record IsPreparationFor (r : Rules Block Id) (a : CoreState) (after : Outcom
   pub params_are : b.params ≡ a.params
   pub outcome_is : ((core_after_commit r b prepared.rest).state, prepared.reply) ≡ after
   pub active_is : (core_after_commit r b prepared.rest).active ≡ active r (core_after_commit r b prepared.rest).state
-  pub changes_are : AreChanges (coins_of a) (coins_of (core_after_commit r b prepared.rest)) prepared.changes.items
+  pub changes_are : AreChanges (coins_of a) (coins_of (core_after_commit r b prepared.rest)) prepared.changes
   pub ready : IsReady r b prepared.rest
   pub can_go_back : CanRollBack b prepared.rollback
   pub back_is : core_after_rollback b prepared.rollback ≡ a
@@ -174,7 +174,7 @@ pub record ChangesNothing (reply : Reply) (prepared : Prepared) : Type 0 where
   pub first_is : prepared.rollback.first ≡ Unchanged
   pub flags_are : prepared.rollback.flags ≡ None
   pub rest_is : prepared.rest ≡ Nothing
-  pub changes_are : prepared.changes.items ≡ []
+  pub changes_are : prepared.changes ≡ []
 
 -- the same of settling the state as it is
 pub record Settles (r : Rules Block Id) (a b : CoreState) (flags : Option FlagsOf) (rest : Completion) (changes : Changes) : Type 0 where

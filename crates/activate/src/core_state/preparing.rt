@@ -26,7 +26,7 @@ use crate::prepared::{Completion, Prepared, Rollback, TreeChange};
 use crate::tip_connection::connect_tip;
 use block::{Block, ReadFault};
 use chain::{Command, MarkReply, Reply, SubmitReply};
-use coins::Base;
+use coins::{Base, Changes};
 use connect::{Context, Env};
 use hash::Id;
 use queue::{Crew, Gate};
@@ -46,7 +46,7 @@ pub(crate) fn still(alloc: Global, reply: Reply) -> Prepared
             flags: None,
         },
         rest: Completion::Nothing,
-        changes: Vec::new(alloc),
+        changes: Changes::new(alloc),
     }
 }
 
@@ -188,7 +188,7 @@ impl Core {
                 reply: Reply::Submit(SubmitReply::Rejected(reason)),
                 rollback,
                 rest: Completion::Mark(place),
-                changes: Vec::new(alloc),
+                changes: Changes::new(alloc),
             }),
             Ok(connected) => {
                 up.push_reserved(place);
@@ -237,7 +237,7 @@ impl Core {
                     flags: None,
                 },
                 rest: Completion::Nothing,
-                changes: Vec::new(alloc),
+                changes: Changes::new(alloc),
             });
         }
         match self.settle(alloc, base, place, env, gate) {

@@ -20,12 +20,11 @@ use crate::path::{Attempt, FailedTry, Reorganisation};
 use crate::prepared::Completion;
 use crate::try_flags::flag_failed_try;
 use chain::SubmitReply;
-use coins::{Base, Coin};
+use coins::{Base, Changes};
 use connect::Env;
 use queue::{Crew, Gate};
 use std::alloc::Global;
 use tree::Flags;
-use txn::OutPoint;
 use wire::Memory;
 
 /// A settled state, before it is put in place.
@@ -34,7 +33,7 @@ pub(crate) struct Settled {
     /// The flags before it, where tries changed them.
     pub(crate) flags: Option<Flags>,
     pub(crate) rest: Completion,
-    pub(crate) changes: Vec<(OutPoint, Option<Coin>)>,
+    pub(crate) changes: Changes,
     /// What a submission of the block that was tried first comes to.
     pub(crate) said: SubmitReply,
 }
@@ -55,7 +54,7 @@ impl Core {
         requires coins { B.coins base.now ≡ coins_of self.old }
         ensures settled { IfOk result (λ s.
             Settles (regtest self.old.params env.now.table.now) self.old self.new
-            s.flags s.rest s.changes.items) }
+            s.flags s.rest s.changes) }
         ensures said { IfOk result (λ s.
             s.said
             ≡ answer_added (regtest self.old.params env.now.table.now)
@@ -92,7 +91,7 @@ impl Core {
         requires coins { B.coins base.now ≡ coins_of self.old }
         ensures settled { IfOk result (λ s.
             Settles (regtest self.old.params env.now.table.now) self.old self.new
-            s.flags s.rest s.changes.items) }
+            s.flags s.rest s.changes) }
         ensures said { IfOk result (λ s.
             s.said
             ≡ answer_added (regtest self.old.params env.now.table.now)

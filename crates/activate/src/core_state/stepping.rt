@@ -9,11 +9,10 @@ ghost use Rattle.activate.specs.CoreState.{HasOneMore, Follows, coins_of};
 use crate::core_state::Core;
 use crate::prepared::Prepared;
 use chain::{Command, Reply};
-use coins::{Base, Coin};
+use coins::{Base, Changes};
 use connect::Env;
 use queue::{Crew, Gate};
 use std::alloc::Global;
-use txn::OutPoint;
 use wire::Memory;
 
 impl Core {
@@ -26,7 +25,7 @@ impl Core {
         command: &Command,
         env: &Env<'_, C>,
         gate: &(dyn Gate + Sync),
-    ) -> Result<(Reply, Vec<(OutPoint, Option<Coin>)>), Memory>
+    ) -> Result<(Reply, Changes), Memory>
         requires follows { Follows self.old env.now.table.now }
         requires coins { B.coins base.now ≡ coins_of self.old }
         ensures outcome { IfOk result (λ done.
@@ -34,10 +33,10 @@ impl Core {
             ≡ outcome (regtest self.old.params env.now.table.now) self.old.state
             command.now) }
         ensures changes { IfOk result (λ done.
-            AreChanges (coins_of self.old) (coins_of self.new) done.1.items) }
+            AreChanges (coins_of self.old) (coins_of self.new) done.1) }
         // The list is the one such list, and the coins of before with it laid over them are the coins after.
         ensures laid { IfOk result (λ done.
-            after_changes (coins_of self.old) done.1.items ≡ coins_of self.new) }
+            after_changes (coins_of self.old) done.1 ≡ coins_of self.new) }
         ensures params { self.new.params ≡ self.old.params }
         // A block on the active one, if it becomes active, has its undo kept beside that of the highest before.
         ensures undo { OnOk result (HasOneMore self.old self.new) }

@@ -106,9 +106,9 @@ returns-in-Top g c =
       good = ap (branch_connects r t) (sym e) ∙ top.good;
       undo = top.spent;
       changes =
-          subst (λ (x : Coins). AreChanges x (coins_after t c.args.place) c.in_ok-changes-in-Top.changes.items) below
-          (subst (λ (x : Coins). AreChanges c.connect_up.new.layer.base x c.in_ok-changes-in-Top.changes.items) after c.in_ok-changes-in-Top.ensures.differences);
-      laid = ap (λ (x : Coins). after_changes x c.in_ok-changes-in-Top.changes.items) (sym below) ∙ c.in_ok-changes-in-Top.ensures.laid ∙ after;
+          subst (λ (x : Coins). AreChanges x (coins_after t c.args.place) c.in_ok-changes-in-Top.changes) below
+          (subst (λ (x : Coins). AreChanges c.connect_up.new.layer.base x c.in_ok-changes-in-Top.changes) after c.in_ok-changes-in-Top.ensures.differences);
+      laid = ap (λ (x : Coins). after_changes x c.in_ok-changes-in-Top.changes) (sym below) ∙ c.in_ok-changes-in-Top.ensures.laid ∙ after;
     }
 
 pub returns : goal.returns

@@ -21,9 +21,9 @@ returns-in-Ok-clause-is_chainstate g c =
     let done : c.commit.new.self ≡ end = c.commit.ensures c.args.env.now.table.now (subst (λ (q : Params). IsReady (regtest q c.args.env.now.table.now) b prepared.rest) (sym c.in_ok-reply.ensures.prepared.params_are) c.in_ok-reply.ensures.prepared.ready) ∙ ap (λ (q : Params). core_after_commit (regtest q c.args.env.now.table.now) b prepared.rest) c.in_ok-reply.ensures.prepared.params_are in
     let follows : Follows c.commit.new.self c.args.env.now.table.now =
     subst (λ (x : CoreState). Follows x c.args.env.now.table.now) (sym done) (follows-plan a b c.args.env.now.table.now c.args.command.now prepared was.follows c.in_ok-reply.ensures.prepared).1 in
-    let coins : c.lay.new.self ≡ coins_of c.commit.new.self =
-    c.in-Ok.ensures.ok ∙ ap (λ (m : Coins). after_changes m prepared.changes.items) was.coins_are ∙ laid-changes (coins_of a) (coins_of end) prepared.changes.items c.in_ok-reply.ensures.prepared.changes_are ∙ sym (ap coins_of done) in
-    let whole : IsChainstate (record { core = c.commit.new.self; coins = c.lay.new.self }) c.args.env.now.table.now = record { follows = follows; coins_are = coins } in
+    let coins : c.lay_taken.new.self ≡ coins_of c.commit.new.self =
+    c.in-Ok.ensures.ok ∙ ap (λ (m : Coins). after_changes m prepared.changes) was.coins_are ∙ laid-changes (coins_of a) (coins_of end) prepared.changes c.in_ok-reply.ensures.prepared.changes_are ∙ sym (ap coins_of done) in
+    let whole : IsChainstate (record { core = c.commit.new.self; coins = c.lay_taken.new.self }) c.args.env.now.table.now = record { follows = follows; coins_are = coins } in
     elim c.match-rollback.branch [
       | in-Some-1 w ↦ subst (λ (x : WithCoins). IsChainstate x c.args.env.now.table.now) (sym w.self-is) whole
       | in-None-1 w ↦ subst (λ (x : WithCoins). IsChainstate x c.args.env.now.table.now) (sym w.self-is) whole

@@ -39,7 +39,7 @@ returns-then-not-better-clause-prepared g c =
     let fresh : IsFresh names A.state = subst (λ (x : CoreState). IsFresh names x.state) c.in_ok-place.ensures.ok c.in_ok-place.ensures.fresh in
     subst (λ (x : CoreState). IsPreparationFor r a (step r a.state (Submit c.args.now b)) x (record { reply = reply.Submit Inconclusive; rollback = record { first = BlockAdded; flags = None }; rest = Nothing; changes = c.new.result })) (sym c.in_ok-place.ensures.ok)
     (plan-beside r a sound b p can (faultless-alone r a.state c.args.now b c.requires.new.faultless) (place-bound names a.state.blocks b.header.prev p c.requires.new.parent) c.requires.new.unknown c.requires.new.parent
-    c.requires.follows.active_is fresh lower (record { reply = reply.Submit Inconclusive; rollback = record { first = BlockAdded; flags = None }; rest = Nothing; changes = c.new.result }) refl refl refl c.new.ensures.items (step r a.state (Submit c.args.now b))
+    c.requires.follows.active_is fresh lower (record { reply = reply.Submit Inconclusive; rollback = record { first = BlockAdded; flags = None }; rest = Nothing; changes = c.new.result }) refl refl refl c.new.ensures (step r a.state (Submit c.args.now b))
     (sym (step-beside r a.state sound c.args.now b p c.requires.new lower)))
 
 pub settle-requires-clause-can : goal.settle-requires-clause-can
@@ -108,11 +108,11 @@ returns-in-Ok-clause-prepared g c =
     let kept = place-bound names a.state.blocks b.header.prev p c.requires.new.parent in
     let next = can-added r a sound b p can alone kept c.requires.new.unknown c.requires.new.parent in
     let fresh : IsFresh names A.state = subst (λ (x : CoreState). IsFresh names x.state) c.in_ok-place.ensures.ok c.in_ok-place.ensures.fresh in
-    let settled : Settles r A c.settle.new.self s.flags s.rest s.changes.items =
-    subst (λ (x : CoreState). Settles (regtest x.params c.args.env.now.table.now) x c.settle.new.self s.flags s.rest s.changes.items) c.in_ok-place.ensures.ok c.in-Ok.ensures.settled in
+    let settled : Settles r A c.settle.new.self s.flags s.rest s.changes =
+    subst (λ (x : CoreState). Settles (regtest x.params c.args.env.now.table.now) x c.settle.new.self s.flags s.rest s.changes) c.in_ok-place.ensures.ok c.in-Ok.ensures.settled in
     let said : s.said ≡ answer_added r (settle r A.state) n =
     subst (λ (x : CoreState). s.said ≡ answer_added (regtest x.params c.args.env.now.table.now) (settle (regtest x.params c.args.env.now.table.now) x.state) c.in_ok-place.place) c.in_ok-place.ensures.ok c.in-Ok.ensures.said
     ∙ ap (answer_added r (settle r A.state)) c.in_ok-place.ensures.place in
-    plan-settled r a A c.settle.new.self s.flags s.rest s.changes.items settled next.genesis _ refl refl refl (step r a.state (Submit c.args.now b)) BlockAdded refl refl
+    plan-settled r a A c.settle.new.self s.flags s.rest s.changes settled next.genesis _ refl refl refl (step r a.state (Submit c.args.now b)) BlockAdded refl refl
     (coins-added r a sound b p can alone kept c.requires.new.unknown c.requires.new.parent) refl (let k = can.kept in omega arith, fresh)
     (says-added r a sound b p can alone kept c.requires.new.unknown c.requires.new.parent s.said said ∙ sym (step-added r a.state c.args.now b p c.requires.new))

@@ -66,7 +66,7 @@ returns-in-Err-clause-prepared g c =
     let can = can-follows r a c.requires.follows.sound c.requires.follows.kept c.requires.follows.active_is in
     let bad : r.connect_fault (branch_blocks a.state.blocks a.active) c.args.block ≡ Some c.in-Err.reason = own ∙ ap (λ o. result_err o) c.in-Err.is in
     subst (λ (x : CoreState). IsPreparationFor r a (step r a.state (Submit c.args.now c.args.block)) x (record { reply = reply.Submit (Rejected c.in-Err.reason); rollback = record { first = BlockAdded; flags = None }; rest = Mark c.in_ok-place.place; changes = c.new.result })) (sym ok)
-    (plan-fails a.params c.args.env.now.table.now a c.requires.follows.sound c.requires.follows.active_is can c.args.block c.args.now is fresh c.in-Err.reason bad _ c.in_ok-place.place c.in_ok-place.ensures.place refl refl refl c.new.ensures.items refl)
+    (plan-fails a.params c.args.env.now.table.now a c.requires.follows.sound c.requires.follows.active_is can c.args.block c.args.now is fresh c.in-Err.reason bad _ c.in_ok-place.place c.in_ok-place.ensures.place refl refl refl c.new.ensures refl)
 
 pub returns-in-Ok-clause-prepared : goal.returns-in-Ok-clause-prepared
 returns-in-Ok-clause-prepared g c =
@@ -94,11 +94,11 @@ returns-in-Ok-clause-prepared g c =
     let taken : connected.undo ≡ undo_of (height a.state.blocks a.active + 1) (coins_of a) c.args.block.txs =
     subst (λ o. IfOk o (λ l. l.undo ≡ undo_of (c.height-height.result + 1) (g.B.Base.coins c.args.base.now) c.args.block.txs)) c.in-Ok.is c.in_ok-connected.ensures.undo
     ∙ ap (λ (n : ℕ). undo_of n (g.B.Base.coins c.args.base.now) c.args.block.txs) tall ∙ ap (λ (m : Coins). undo_of (height a.state.blocks a.active + 1) m c.args.block.txs) c.requires.coins in
-    let listed : AreChanges (g.B.Base.coins c.args.base.now) (effect (c.height-height.result + 1) (g.B.Base.coins c.args.base.now) c.args.block.txs) connected.changes.items =
-    subst (λ o. IfOk o (λ l. AreChanges (g.B.Base.coins c.args.base.now) (effect (c.height-height.result + 1) (g.B.Base.coins c.args.base.now) c.args.block.txs) l.changes.items)) c.in-Ok.is c.in_ok-connected.ensures.changes in
-    let changes : AreChanges (coins_of a) (effect (height a.state.blocks a.active + 1) (coins_of a) c.args.block.txs) connected.changes.items =
-    subst (λ (m : Coins). AreChanges m (effect (height a.state.blocks a.active + 1) m c.args.block.txs) connected.changes.items) c.requires.coins
-    (subst (λ (n : ℕ). AreChanges (g.B.Base.coins c.args.base.now) (effect n (g.B.Base.coins c.args.base.now) c.args.block.txs) connected.changes.items) tall listed) in
+    let listed : AreChanges (g.B.Base.coins c.args.base.now) (effect (c.height-height.result + 1) (g.B.Base.coins c.args.base.now) c.args.block.txs) connected.changes =
+    subst (λ o. IfOk o (λ l. AreChanges (g.B.Base.coins c.args.base.now) (effect (c.height-height.result + 1) (g.B.Base.coins c.args.base.now) c.args.block.txs) l.changes)) c.in-Ok.is c.in_ok-connected.ensures.changes in
+    let changes : AreChanges (coins_of a) (effect (height a.state.blocks a.active + 1) (coins_of a) c.args.block.txs) connected.changes =
+    subst (λ (m : Coins). AreChanges m (effect (height a.state.blocks a.active + 1) m c.args.block.txs) connected.changes) c.requires.coins
+    (subst (λ (n : ℕ). AreChanges (g.B.Base.coins c.args.base.now) (effect n (g.B.Base.coins c.args.base.now) c.args.block.txs) connected.changes) tall listed) in
     let one : path.up.items ≡ c.in_ok-place.place ∷ [] = c.push_reserved.ensures.items ∙ ap (λ (l : List ℕ). l ++ (c.in_ok-place.place ∷ [])) c.in_ok-up.ensures.items in
     let two : undo.items ≡ connected.undo ∷ [] = c.push_reserved-in-Ok.ensures.items ∙ ap (λ (l : List (List (List Coin))). l ++ (connected.undo ∷ [])) c.in_ok-undo.ensures.items in
     subst (λ (x : CoreState). IsPreparationFor r a (step r a.state (Submit c.args.now c.args.block)) x (record { reply = reply.Submit Accepted; rollback = record { first = BlockAdded; flags = None }; rest = Activate c.in_ok-place.place path undo; changes = connected.changes })) (sym ok)

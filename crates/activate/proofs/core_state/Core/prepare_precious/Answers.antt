@@ -93,8 +93,8 @@ returns-in-Ok-clause-prepared g c =
     let less = c.if-height.false in
     let inside : height c.self.inside.tree.blocks c.self.inside.active ≤ height c.self.inside.tree.blocks p = omega arith in
     let high : height a.state.blocks a.active ≤ height a.state.blocks p = subst (λ (x : CoreState). height x.state.blocks x.active ≤ height x.state.blocks p) c.self.view_is inside in
-    let settled : Settles r b c.settle.new.self s.flags s.rest s.changes.items =
-    subst (λ (x : CoreState). Settles (regtest x.params c.args.env.now.table.now) x c.settle.new.self s.flags s.rest s.changes.items) c.in_ok-call.ensures.ok c.in-Ok.ensures.settled in
+    let settled : Settles r b c.settle.new.self s.flags s.rest s.changes =
+    subst (λ (x : CoreState). Settles (regtest x.params c.args.env.now.table.now) x c.settle.new.self s.flags s.rest s.changes) c.in_ok-call.ensures.ok c.in-Ok.ensures.settled in
     let can = can-called r a p (can-follows r a c.requires.follows.sound c.requires.follows.kept c.requires.follows.active_is) in
-    plan-settled r a b c.settle.new.self s.flags s.rest s.changes.items settled can.genesis _ refl refl refl (step r a.state (Precious c.args.id.now)) CalledPrecious refl refl refl refl (omega arith)
+    plan-settled r a b c.settle.new.self s.flags s.rest s.changes settled can.genesis _ refl refl refl (step r a.state (Precious c.args.id.now)) CalledPrecious refl refl refl refl (omega arith)
     (prefer_done a.params c.args.env.now.table.now a.state c.args.id.now p found b.state (settle r b.state) (subst (λ (q : ℕ). height a.state.blocks q ≤ height a.state.blocks p) c.requires.follows.active_is high) refl refl)

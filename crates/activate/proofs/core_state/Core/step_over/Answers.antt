@@ -14,7 +14,7 @@ returns-clause-laid g c =
     let b : CoreState = c.prepare.new.self in
     let prepared = c.in_ok-prepared.prepared in
     let done : c.commit.new.self ≡ core_after_commit (regtest a.params c.args.env.now.table.now) b prepared.rest = c.commit.ensures c.args.env.now.table.now (subst (λ (q : Params). IsReady (regtest q c.args.env.now.table.now) b c.in_ok-prepared.prepared.rest) (sym c.in_ok-prepared.ensures.prepared.params_are) c.in_ok-prepared.ensures.prepared.ready) ∙ ap (λ (q : Params). core_after_commit (regtest q c.args.env.now.table.now) b prepared.rest) c.in_ok-prepared.ensures.prepared.params_are in
-    laid-changes (coins_of a) (coins_of (core_after_commit (regtest a.params c.args.env.now.table.now) b prepared.rest)) prepared.changes.items c.in_ok-prepared.ensures.prepared.changes_are ∙ sym (ap coins_of done)
+    laid-changes (coins_of a) (coins_of (core_after_commit (regtest a.params c.args.env.now.table.now) b prepared.rest)) prepared.changes c.in_ok-prepared.ensures.prepared.changes_are ∙ sym (ap coins_of done)
 
 pub returns-clause-follows : goal.returns-clause-follows
 returns-clause-follows g c =
