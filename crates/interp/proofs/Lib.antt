@@ -5,3 +5,5 @@ pub mod FirstFalse
 pub mod Counts
 pub mod Bounds
 pub mod Pairs
+pub mod Exchanges
+pub mod Opcodes

@@ -1,7 +1,9 @@
--- The numbers of no row.
-use Rattle.std.proofs.Common.{◌≡◌, ℕ, ◌≤◌, List, [], ◌∷◌, Bool, true, false, ◌&&◌, ◌||◌, nat_lt, nat_le, eqb, refl, sym, arith}
+-- The numbers of no row, and those whose rows do nothing in a branch that isn't taken.
+use Rattle.std.proofs.Common.{◌≡◌, ℕ, ◌≤◌, List, [], ◌∷◌, Bool, true, false, ◌&&◌, ◌||◌, nat_lt, nat_le, eqb, if◌then◌else◌, Some, refl, sym, arith}
 use Rattle.std.proofs.lemmas.Grind.{common_steps}
-use Rattle.interp.specs.Row.{Row, Fails, rows, row_among, row_at}
+use Rattle.interp.specs.Row.{Row, Disabled, Fails, Nothing, Changes, Tests, AndVerifies, Opens, Turns, Closes, ToAlt, FromAlt, Separates, Asks, rows, row_among, row_at}
+use Rattle.interp.specs.State.{State}
+use Rattle.interp.specs.computed.Step.{after_skipping}
 
 -- no row's number is from lo to hi
 abbrev pub none_from : List (ℕ × Row) → ℕ → ℕ → Bool
@@ -49,3 +51,79 @@ pub fails_ba : (b : ℕ) → 0xba ≤ b → b ≤ 0xff → Fails ≡ row_at b
 fails_ba b p q = row_at-gap 0xba 0xff b refl refl refl p q
 
 pub ruleset fails = (fails_0, fails_50, fails_62, fails_6a, fails_89, fails_ba)
+
+-- ---- rows that do nothing in a branch that isn't taken
+abbrev pub is_passed : Row → Bool
+is_passed Disabled = false
+is_passed (Opens at) = false
+is_passed Turns = false
+is_passed Closes = false
+is_passed Fails = true
+is_passed Nothing = true
+is_passed (Changes x) = true
+is_passed (Tests check) = true
+is_passed (AndVerifies check) = true
+is_passed ToAlt = true
+is_passed FromAlt = true
+is_passed Separates = true
+is_passed (Asks in_force test) = true
+
+passed : (row : Row) (s : State) → is_passed row ≡ true → after_skipping row s ≡ Some s
+passed Disabled s e = absurd (cc)
+passed (Opens at) s e = absurd (cc)
+passed Turns s e = absurd (cc)
+passed Closes s e = absurd (cc)
+passed Fails s e = refl
+passed Nothing s e = refl
+passed (Changes x) s e = refl
+passed (Tests check) s e = refl
+passed (AndVerifies check) s e = refl
+passed ToAlt s e = refl
+passed FromAlt s e = refl
+passed Separates s e = refl
+passed (Asks in_force test) s e = refl
+
+-- each row whose number is from lo to hi is one of these
+abbrev pub all_passed : List (ℕ × Row) → ℕ → ℕ → Bool
+all_passed [] lo hi = true
+all_passed (row ∷ others) lo hi = ((nat_lt row.0 lo || nat_lt hi row.0) || is_passed row.1) && all_passed others lo hi
+
+within : (n lo hi b : ℕ) (r : Bool) → ((nat_lt n lo || nat_lt hi n) || r) ≡ true → lo ≤ b → b ≤ hi → eqb b n ≡ true → r ≡ true
+within n lo hi b r e p q same = grind (arith, common_steps)
+
+one_of : (c : Bool) (x y : Row) → (c ≡ true → is_passed x ≡ true) → is_passed y ≡ true → is_passed (if c then x else y) ≡ true
+one_of true x y first second = first refl
+one_of false x y first second = second
+
+row_among-passed : (rs : List (ℕ × Row)) (lo hi b : ℕ) → all_passed rs lo hi ≡ true → lo ≤ b → b ≤ hi → is_passed (row_among rs b) ≡ true
+row_among-passed [] lo hi b e p q = refl
+row_among-passed (row ∷ others) lo hi b e p q =
+    let both = and_true ((nat_lt row.0 lo || nat_lt hi row.0) || is_passed row.1) (all_passed others lo hi) e in
+    one_of (eqb b row.0) row.1 (row_among others b) (λ same. within row.0 lo hi b (is_passed row.1) both.0 p q same)
+    (row_among-passed others lo hi b both.1 p q)
+
+row_at-passed : (lo hi b : ℕ) (s : State) → all_passed rows lo hi ≡ true → lo ≤ b → b ≤ hi → after_skipping (row_at b) s ≡ Some s
+unfolding row_at
+row_at-passed lo hi b s e p q =
+    passed (row_at b) s (one_of (nat_le 0x51 b && nat_le b 0x60) _ _ (λ _. refl)
+    (one_of (nat_le 0xb3 b && nat_le b 0xb9) Nothing (row_among rows b) (λ _. refl) (row_among-passed rows lo hi b e p q)))
+
+pub passed_0 : (b : ℕ) (s : State) → 0 ≤ b → b ≤ 0x62 → after_skipping (row_at b) s ≡ Some s
+passed_0 b s p q = row_at-passed 0 0x62 b s refl p q
+
+pub passed_69 : (b : ℕ) (s : State) → 0x69 ≤ b → b ≤ 0x7d → after_skipping (row_at b) s ≡ Some s
+passed_69 b s p q = row_at-passed 0x69 0x7d b s refl p q
+
+pub passed_82 : (b : ℕ) (s : State) → 0x82 ≤ b → b ≤ 0x82 → after_skipping (row_at b) s ≡ Some s
+passed_82 b s p q = row_at-passed 0x82 0x82 b s refl p q
+
+pub passed_87 : (b : ℕ) (s : State) → 0x87 ≤ b → b ≤ 0x8c → after_skipping (row_at b) s ≡ Some s
+passed_87 b s p q = row_at-passed 0x87 0x8c b s refl p q
+
+pub passed_8f : (b : ℕ) (s : State) → 0x8f ≤ b → b ≤ 0x94 → after_skipping (row_at b) s ≡ Some s
+passed_8f b s p q = row_at-passed 0x8f 0x94 b s refl p q
+
+pub passed_9a : (b : ℕ) (s : State) → 0x9a ≤ b → b ≤ 0xff → after_skipping (row_at b) s ≡ Some s
+passed_9a b s p q = row_at-passed 0x9a 0xff b s refl p q
+
+pub ruleset untaken = (passed_0, passed_69, passed_82, passed_87, passed_8f, passed_9a)

@@ -8,7 +8,7 @@ ghost use Rattle.interp.specs.State.{start, is_executing};
 ghost use Rattle.interp.specs.Timelocks.{locks_until, locks_for};
 ghost use Rattle.interp.specs.computed.Meaning.{meaning, check_of};
 ghost use Rattle.interp.specs.computed.Step.{after_executing, after_skipping, after_verify, with_main, after_open, after_turn, after_close, to_alt, from_alt, counts_of, after_sig, after_checking_multisig, after_asking, after_test, after_acting, with_count, within_bounds, step_at, step, stack_left};
-ghost use Rattle.interp.specs.Row.{push_row, row_of, AndVerifies};
+ghost use Rattle.interp.specs.Row.{push_row, row_at, row_of, AndVerifies};
 
 use crate::changes::{apply, compare, push, verify};
 use crate::conditions::Conditions;
@@ -21,7 +21,7 @@ use crate::pile::Pile;
 use crate::signatures::judge;
 use crate::timelocks::{meets_lock_time, meets_sequence};
 use curve::Table;
-use script::opcode::OP_16;
+use script::opcode::*;
 use script::pushed;
 use std::alloc::Global;
 use std::marker::Model;
@@ -302,22 +302,36 @@ impl<'a> Execution<'a> {
     }
 
     /// An opcode in a branch that isn't taken.
-    fn skip(&mut self, op: Op) -> Result<bool, Memory>
-        ensures { IfOk result (λ done. Gives done (after_skipping (meaning op) self.old) self.new) }
+    #[tactic(auto, using(crate::proofs::Table::untaken), unfolding(crate::specs::Row::row_at))]
+    fn skip(&mut self, number: u8) -> Result<bool, Memory>
+        ensures { IfOk result (λ done. Gives done
+            (after_skipping (row_at number) self.old) self.new) }
     {
-        match op {
-            Op::Disabled => Ok(false),
-            Op::If | Op::NotIf => {
+        if number < OP_IF {
+            return Ok(true);
+        }
+        match number {
+            OP_IF | OP_NOTIF => {
                 self.conditions.open(false)?;
                 Ok(true)
             }
-            Op::Else => self.turn(),
-            Op::EndIf => Ok(self.close()),
-            _ => Ok(true),
+            OP_VERIF | OP_VERNOTIF => Ok(false),
+            OP_ELSE => self.turn(),
+            OP_ENDIF => Ok(self.close()),
+            OP_CAT..=OP_RIGHT | OP_INVERT..=OP_XOR | OP_2MUL | OP_2DIV | OP_MUL..=OP_RSHIFT => Ok(
+                false,
+            ),
+            // What leaves it so, a gap between these at a time.
+            OP_0..=OP_VER => Ok(true),
+            OP_VERIFY..OP_CAT => Ok(true),
+            OP_SIZE => Ok(true),
+            OP_EQUAL..OP_2MUL => Ok(true),
+            OP_NEGATE..OP_MUL => Ok(true),
+            OP_BOOLAND..=OP_INVALIDOPCODE => Ok(true),
         }
     }
 
-    /// An opcode that is no push of bytes.
+    /// An opcode that is no push of bytes. Where its branch isn't taken, its row isn't looked for.
     #[tactic(auto, unfolding(crate::specs::computed::Step::after_acting))]
     fn act(
         &mut self,
@@ -325,17 +339,17 @@ impl<'a> Execution<'a> {
         job: &Job,
         table: &Table,
         after: &'a [u8],
-        op: Op,
+        number: u8,
     ) -> Result<bool, Memory>
         requires { job.now.input < length job.now.tx.now.inputs }
         ensures { IfOk result (λ done. Gives done
-            (after_acting (spending_for job.now table.now) after.now (meaning op) self.old)
+            (after_acting (spending_for job.now table.now) after.now (row_at number) self.old)
             self.new) }
     {
         if self.is_executing() {
-            self.execute(alloc, job, table, after, op)
+            self.execute(alloc, job, table, after, op_of(number))
         } else {
-            self.skip(op)
+            self.skip(number)
         }
     }
 
@@ -379,7 +393,7 @@ impl<'a> Execution<'a> {
     }
 
     /// One opcode with its bytes; `after` follows it in the script.
-    #[tactic(auto, unfolding(crate::specs::computed::Step::step, crate::specs::computed::Step::step_at, crate::specs::Row::row_of))]
+    #[tactic(auto, unfolding(crate::specs::computed::Step::step, crate::specs::computed::Step::step_at, crate::specs::computed::Step::with_count, crate::specs::Row::row_of))]
     pub fn step(
         &mut self,
         alloc: Global,
@@ -396,15 +410,13 @@ impl<'a> Execution<'a> {
             return Ok(false);
         };
         let number = *number;
+        if number <= OP_PUSHDATA4 {
+            return Ok(self.act_push(alloc, pushed(op))? && self.is_bounded());
+        }
         if !self.count_one(number) {
             return Ok(false);
         }
-        let done = if number < 0x4f {
-            self.act_push(alloc, pushed(op))?
-        } else {
-            self.act(alloc, job, table, after, op_of(number))?
-        };
-        Ok(done && self.is_bounded())
+        Ok(self.act(alloc, job, table, after, number)? && self.is_bounded())
     }
 
     /// The main stack, if no condition is open.

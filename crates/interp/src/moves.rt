@@ -1,6 +1,6 @@
 //! Rows of the stack: what is taken, and what is left in its place.
 
-ghost use Rattle.std.specs.Prelude.{IfOk};
+ghost use Rattle.std.specs.Prelude.{◌≡◌, IfOk};
 ghost use Rattle.interp.specs.computed.Stack.{Gives, rearrangement};
 ghost use Rattle.interp.specs.computed.Groups.{move_of};
 
@@ -27,64 +27,71 @@ pub enum Move {
     Tuck,
 }
 
-// Pops what these names stand for, the last of them first, and goes on.
-macro_rules! take {
-    ($stack:ident; ; $then:expr) => {
-        $then
-    };
-    ($stack:ident; $lowest:ident $($others:ident)*; $then:expr) => {
-        take!($stack; $($others)*; {
-            let $lowest = $stack.pop();
-            $then
-        })
-    };
+/// How many of the topmost elements it is about.
+fn reach(by: Move) -> usize
+    ensures { result ≡ (move_of by).0 }
+{
+    match by {
+        Move::Drop1 | Move::Dup => 1,
+        Move::Drop2 | Move::Dup2 | Move::Nip | Move::Over | Move::Swap | Move::Tuck => 2,
+        Move::Dup3 | Move::Rot => 3,
+        Move::Over2 | Move::Swap2 => 4,
+        Move::Rot2 => 6,
+    }
 }
 
-// Pushes one after the other, copies where a `+` stands.
-macro_rules! leave {
-    ($alloc:ident, $stack:ident; ) => {
-        Ok(true)
-    };
-    ($alloc:ident, $stack:ident; + $copied:ident $($others:tt)*) => {{
-        $stack.push($copied.copy($alloc)?)?;
-        leave!($alloc, $stack; $($others)*)
-    }};
-    ($alloc:ident, $stack:ident; $moved:ident $($others:tt)*) => {{
-        $stack.push($moved)?;
-        leave!($alloc, $stack; $($others)*)
-    }};
-}
-
-// A row: how many elements are taken, which, and which are left, the lowest first. What is used once is moved,
-// and a second use is a copy: `+`.
-macro_rules! row {
-    ($alloc:ident, $stack:ident, $many:literal; $($taken:ident)* -> $($left:tt)*) => {{
-        if $stack.len() < $many {
-            return Ok(false);
-        }
-        take!($stack; $($taken)*; leave!($alloc, $stack; $($left)*))
-    }};
-}
-
+// The elements stay where they are in the stack's vector and change places in pairs: a frame with a slot for each
+// of them would be cleared at each opcode, which costs more than the row.
 /// Whether the elements are there; if so, they are rearranged.
-#[inline(never)]
+#[tactic(auto, using(crate::proofs::Exchanges::moved))]
 pub fn rearrange(alloc: Global, stack: &mut Pile<Element>, by: Move) -> Result<bool, Memory>
     ensures { IfOk result (λ there. Gives there
         (rearrangement (move_of by).0 (move_of by).1 stack.old) stack.new) }
 {
-    match by {
-        Move::Drop2 => row!(alloc, stack, 2; a b -> ),
-        Move::Dup2 => row!(alloc, stack, 2; a b -> +a +b a b),
-        Move::Dup3 => row!(alloc, stack, 3; a b c -> +a +b +c a b c),
-        Move::Over2 => row!(alloc, stack, 4; a b c d -> +a +b c d a b),
-        Move::Rot2 => row!(alloc, stack, 6; a b c d e f -> c d e f a b),
-        Move::Swap2 => row!(alloc, stack, 4; a b c d -> c d a b),
-        Move::Drop1 => row!(alloc, stack, 1; a -> ),
-        Move::Dup => row!(alloc, stack, 1; a -> +a a),
-        Move::Nip => row!(alloc, stack, 2; a b -> b),
-        Move::Over => row!(alloc, stack, 2; a b -> +a b a),
-        Move::Rot => row!(alloc, stack, 3; a b c -> b c a),
-        Move::Swap => row!(alloc, stack, 2; a b -> b a),
-        Move::Tuck => row!(alloc, stack, 2; a b -> +b a b),
+    if stack.len() < reach(by) {
+        return Ok(false);
     }
+    match by {
+        Move::Drop2 => stack.drop_top(2),
+        Move::Dup2 => {
+            stack.push_copy(alloc, 1)?;
+            stack.push_copy(alloc, 1)?;
+        }
+        Move::Dup3 => {
+            stack.push_copy(alloc, 2)?;
+            stack.push_copy(alloc, 2)?;
+            stack.push_copy(alloc, 2)?;
+        }
+        Move::Over2 => {
+            stack.push_copy(alloc, 3)?;
+            stack.push_copy(alloc, 3)?;
+        }
+        Move::Rot2 => {
+            stack.swap(0, 2);
+            stack.swap(1, 3);
+            stack.swap(0, 4);
+            stack.swap(1, 5);
+        }
+        Move::Swap2 => {
+            stack.swap(0, 2);
+            stack.swap(1, 3);
+        }
+        Move::Drop1 => stack.drop_top(1),
+        Move::Dup => stack.push_copy(alloc, 0)?,
+        Move::Nip => {
+            stack.swap(0, 1);
+            stack.drop_top(1);
+        }
+        Move::Over => stack.push_copy(alloc, 1)?,
+        Move::Rot => {
+            stack.swap(0, 1);
+            stack.swap(0, 2);
+        }
+        Move::Swap => stack.swap(0, 1),
+        Move::Tuck => {
+            stack.swap(0, 1);
+            stack.push_copy(alloc, 1)?;
+        }
+    }
+    Ok(true)
 }

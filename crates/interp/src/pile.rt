@@ -1,6 +1,8 @@
 //! Stacks.
 
 ghost use Rattle.std.specs.Prelude.{◌≡◌, ◌+◌, ◌<◌, ◌≤◌, ℕ, List, [], ◌∷◌, length, reverse, remove, drop, slice_get, pos, OnOk, OnErr, IfOk, Some};
+ghost use Rattle.std.specs.List.{swap};
+ghost use Rattle.interp.specs.Stack.{nth};
 
 use crate::element::Element;
 use std::alloc::Global;
@@ -68,6 +70,16 @@ impl<T: Drop> Pile<T> {
         self.items.remove(self.items.len() - 1 - n)
     }
 
+    /// Puts the ones `m` and `n` places below the top in each other's place.
+    pub fn swap(&mut self, m: usize, n: usize)
+        requires one { m < length self.old }
+        requires other { n < length self.old }
+        ensures { self.new ≡ swap self.old m n }
+    {
+        let top = self.items.len() - 1;
+        self.items.swap(top - m, top - n);
+    }
+
     /// Drops `n` from the top.
     pub fn drop_top(&mut self, n: usize)
         requires { n ≤ length self.old }
@@ -83,6 +95,15 @@ impl Pile<Element> {
         ensures { result ≡ pos (length self.now) }
     {
         self.items.as_slice().len() as i64
+    }
+
+    /// Pushes a copy of the one `n` places below the top.
+    pub fn push_copy(&mut self, alloc: Global, n: usize) -> Result<(), Memory>
+        requires { n < length self.old }
+        ensures { OnOk result (self.new ≡ nth self.old n ∷ self.old) }
+    {
+        let copy = self.at(n).copy(alloc)?;
+        self.push(copy)
     }
 
     /// An equal pile.

@@ -47,8 +47,7 @@ pub fn pick(alloc: Global, stack: &mut Pile<Element>) -> Result<bool, Memory>
     let Some(n) = pop_place(stack) else {
         return Ok(false);
     };
-    let copy = stack.at(n).copy(alloc)?;
-    stack.push(copy)?;
+    stack.push_copy(alloc, n)?;
     Ok(true)
 }
 

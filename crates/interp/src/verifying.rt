@@ -11,6 +11,7 @@ use crate::execution::Execution;
 use crate::job::Job;
 use crate::pile::Pile;
 use curve::Table;
+use script::opcode::OP_PUSHDATA4;
 use script::{MAX_SCRIPT_SIZE, Ops, is_p2sh, push_only};
 use std::alloc::Global;
 use wire::Memory;
@@ -34,6 +35,11 @@ fn first_op(script: &[u8]) -> Option<(&[u8], &[u8])>
         (λ parts. (ops script.now ≡ parts.0.now ∷ ops parts.1.now)
         × (script.now ≡ parts.0.now ++ parts.1.now)) }
 {
+    let (number, after) = script.split_first()?;
+    // Above those of pushes a number stands alone, and nothing has to be measured.
+    if *number > OP_PUSHDATA4 {
+        return Some((&script[..1], after));
+    }
     let mut ops = Ops::new(script);
     let op = ops.next()?;
     Some((op, ops.rest()))
