@@ -1,7 +1,8 @@
 //! Where two branches part.
 
-ghost use Rattle.std.specs.Prelude.{◌≡◌, ◌≤◌, ◌==◌, ◌&&◌, nat_lt, length, slice_index, reverse, IfOk};
+ghost use Rattle.std.specs.Prelude.{◌≡◌, ◌≤◌, ◌<◌, ◌==◌, ◌&&◌, nat_lt, length, slice_index, reverse, IfOk};
 ghost use Rattle.tree.specs.Branches as branches;
+ghost use Rattle.tree.specs.Limits.{max_blocks};
 ghost use Rattle.activate.specs.inside.Paths.{IsPath};
 
 use crate::branch_try::ActiveBranch;
@@ -20,8 +21,9 @@ pub(crate) fn path_to(
     requires branch { let b = active_branch.now in
         b.branch.now ≡ reverse (branches.branch b.tree.now.blocks b.active) }
     requires place { place ≤ length active_branch.now.tree.now.blocks }
-    ensures { let b = active_branch.now in
+    ensures path { let b = active_branch.now in
         IfOk result (λ path. IsPath b.tree.now.blocks b.active place path) }
+    ensures few { IfOk result (λ path. path.height < max_blocks) }
 {
     let tree = active_branch.tree;
     let branch = active_branch.branch;

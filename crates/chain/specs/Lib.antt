@@ -11,6 +11,7 @@ pub mod Settle
 pub mod Settled
 pub mod Step
 pub mod Submission
+pub mod Submitted
 pub mod Total
 pub mod Valid
 pub mod computed

@@ -1,28 +1,10 @@
--- What is known of a submission before any chain is asked.
-use Rattle.std.specs.Prelude.{◌≡◌, ◌×◌, ℕ, List, Option, Some, None}
-use Rattle.txn.specs.First.{first_broken}
-use Rattle.txn.specs.Identity.{ids_of}
-use Rattle.block.specs.Decoding.{block_of_bytes}
-use Rattle.block.specs.Identity.{id_of}
-use Rattle.rules.specs.Alone.{alone_rules}
+-- The command that stands behind a prepared one.
 use Rattle.chain.specs.declared.command.Command.{Command}
 use Rattle.chain.specs.declared.command.Command.TheVariants as command
-use Rattle.chain.specs.declared.submission.SubmittedBlock.{SubmittedBlock}
 use Rattle.chain.specs.declared.submission.PreparedCommand.{PreparedCommand}
 use Rattle.chain.specs.declared.submission.PreparedCommand.TheVariants.{Submit, Invalidate, Reconsider, Precious}
 
--- with a block stand its id, its transactions' ids, and the first rule that it breaks by itself
-pub record IsJudged (b : SubmittedBlock) : Type 0 where
-  pub id : b.id ≡ id_of b.block.header
-  pub ids : b.ids.items ≡ ids_of b.block.txs
-  pub fault : b.fault ≡ first_broken (alone_rules b.block)
-
--- these bytes spell that block, or none
-abbrev pub IsSubmission : List ℕ → Option SubmittedBlock → Type 0
-IsSubmission bytes None = block_of_bytes bytes ≡ None
-IsSubmission bytes (Some b) = (block_of_bytes bytes ≡ Some b.block) × IsJudged b
-
--- the command that was prepared, as a history keeps it
+-- as a history keeps it
 abbrev pub command_of : PreparedCommand → Command
 command_of (Submit bytes now) = command.Submit bytes now
 command_of (Invalidate id) = command.Invalidate id

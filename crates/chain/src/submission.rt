@@ -1,8 +1,9 @@
 //! What is asked of the chainstate, prepared: all work that needs no chain is done.
 
 ghost use Rattle.std.specs.Option.{option_copied};
-ghost use Rattle.std.specs.Prelude.{◌≡◌, ◌×◌, IfOk};
-ghost use Rattle.chain.specs.Prepared.{IsJudged, IsSubmission, command_of};
+ghost use Rattle.std.specs.Prelude.{◌≡◌, IfOk};
+ghost use Rattle.chain.specs.Prepared.{command_of};
+ghost use Rattle.chain.specs.Submitted.{IsJudged, IsSubmission};
 
 use crate::command::Command;
 use block::{Block, Bytes, ReadFault};
@@ -33,7 +34,7 @@ pub struct Submission {
 }
 
 impl Model for Submission {
-    ghost use Rattle.chain.specs.Prepared.{IsSubmission};
+    ghost use Rattle.chain.specs.Submitted.{IsSubmission};
     ghost use Rattle.std.specs.Prelude.{List, ℕ};
 
     ghost Value = { List ℕ };

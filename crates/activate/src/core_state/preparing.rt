@@ -1,6 +1,6 @@
 //! What a command comes to.
 
-ghost use Rattle.std.specs.Prelude.{◌≡◌, ℕ, ◌×◌, ◌≤◌, ◌<◌, IfOk, None, Some, OnOk, OnErr, suc, length};
+ghost use Rattle.std.specs.Prelude.{◌≡◌, ℕ, ◌≤◌, ◌<◌, IfOk, None, Some, OnOk, OnErr, suc, length};
 ghost use Rattle.hash.specs.declared.id.Id.{Id};
 ghost use Rattle.block.specs.declared.block.Block.{Block};
 ghost use Rattle.tree.specs.Branches.{place_of};
@@ -8,7 +8,8 @@ ghost use Rattle.tree.specs.Limits.{max_blocks};
 ghost use Rattle.tree.specs.Names.{names};
 ghost use Rattle.tree.specs.Sound.{IsFresh};
 ghost use Rattle.tree.specs.State.{with_block};
-ghost use Rattle.chain.specs.Prepared.{IsSubmission, command_of};
+ghost use Rattle.chain.specs.Prepared.{command_of};
+ghost use Rattle.chain.specs.Submitted.{IsSubmission};
 ghost use Rattle.chain.specs.Regtest.{regtest};
 ghost use Rattle.chain.specs.Rules.{Rules};
 ghost use Rattle.chain.specs.inside.Faults.{IsNew};

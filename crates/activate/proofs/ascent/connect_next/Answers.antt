@@ -41,7 +41,7 @@ bounds-below-below g c =
 
 pub connect-requires-clause-alone : goal.connect-requires-clause-alone
 connect-requires-clause-alone g c =
-    ap (λ (b : Block). first_broken (alone_rules b)) (c.in_ok-block.ensures ∙ c.block-block.ensures)
+    ap (λ (b : Block). first_broken (alone_rules b)) (c.in_ok-block.ensures ∙ c.block.ensures)
     ∙ alone-at (regtest c.args.params.now c.args.env.now.table.now) c.args.tree.now.blocks c.args.place c.requires.kept c.requires.above c.requires.place
 
 pub returns-in-Ok-clause-fault : goal.returns-in-Ok-clause-fault
@@ -52,7 +52,7 @@ returns-in-Ok-clause-fault g c =
     let m = c.args.layer.now.coins in
     let txs = c.in_ok-block.block.txs in
     (fault-found s m txs triples None).0 (subst (λ a. IsConnectFault s m txs triples (result_err a)) c.in-Ok.is c.in_ok-undo.ensures.fault)
-    ∙ fault-next params triples c.args.tree.now.blocks c.args.place c.requires.above c.requires.place c.height_of.result m c.in_ok-block.block c.height_of.ensures c.requires.coins (c.in_ok-block.ensures ∙ c.block-block.ensures)
+    ∙ fault-next params triples c.args.tree.now.blocks c.args.place c.requires.above c.requires.place c.height_of.result m c.in_ok-block.block c.height_of.ensures c.requires.coins (c.in_ok-block.ensures ∙ c.block.ensures)
     c.as_slice-below.result.now (c.as_slice-below.ensures.value ∙ c.requires.medians)
 
 pub returns-in-Ok-clause-undo : goal.returns-in-Ok-clause-undo
@@ -63,7 +63,7 @@ returns-in-Ok-clause-undo g c =
     let m = c.args.layer.now.coins in
     let done = subst (λ a. IfOk a (λ undo. IsConnected s m c.in_ok-block.block c.connect.new.cache.coins undo)) c.in-Ok.is c.in_ok-undo.ensures.connected in
     done.spent
-    ∙ undo-next params triples c.args.tree.now.blocks c.args.place c.requires.above c.requires.place c.height_of.result m c.in_ok-block.block c.height_of.ensures c.requires.coins (c.in_ok-block.ensures ∙ c.block-block.ensures)
+    ∙ undo-next params triples c.args.tree.now.blocks c.args.place c.requires.above c.requires.place c.height_of.result m c.in_ok-block.block c.height_of.ensures c.requires.coins (c.in_ok-block.ensures ∙ c.block.ensures)
 
 pub returns-in-Ok-clause-coins : goal.returns-in-Ok-clause-coins
 returns-in-Ok-clause-coins g c =
@@ -73,7 +73,7 @@ returns-in-Ok-clause-coins g c =
     let m = c.args.layer.now.coins in
     let done = subst (λ a. IfOk a (λ undo. IsConnected s m c.in_ok-block.block c.connect.new.cache.coins undo)) c.in-Ok.is c.in_ok-undo.ensures.connected in
     done.after
-    ∙ coins-next params triples c.args.tree.now.blocks c.args.place c.requires.above c.requires.place c.height_of.result m c.in_ok-block.block c.height_of.ensures c.requires.coins (c.in_ok-block.ensures ∙ c.block-block.ensures)
+    ∙ coins-next params triples c.args.tree.now.blocks c.args.place c.requires.above c.requires.place c.height_of.result m c.in_ok-block.block c.height_of.ensures c.requires.coins (c.in_ok-block.ensures ∙ c.block.ensures)
 
 pub returns-in-Ok-clause-medians : goal.returns-in-Ok-clause-medians
 returns-in-Ok-clause-medians g c =
@@ -93,5 +93,5 @@ returns-clause-fault g c =
     let m = c.args.layer.now.coins in
     let txs = c.in_ok-block.block.txs in
     (fault-found s m txs triples (Some c.in-Err.reason)).0 (subst (λ a. IsConnectFault s m txs triples (result_err a)) c.in-Err.is c.in_ok-undo.ensures.fault)
-    ∙ fault-next params triples c.args.tree.now.blocks c.args.place c.requires.above c.requires.place c.height_of.result m c.in_ok-block.block c.height_of.ensures c.requires.coins (c.in_ok-block.ensures ∙ c.block-block.ensures)
+    ∙ fault-next params triples c.args.tree.now.blocks c.args.place c.requires.above c.requires.place c.height_of.result m c.in_ok-block.block c.height_of.ensures c.requires.coins (c.in_ok-block.ensures ∙ c.block.ensures)
     c.as_slice-below.result.now (c.as_slice-below.ensures.value ∙ c.requires.medians)

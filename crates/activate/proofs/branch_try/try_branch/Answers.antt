@@ -60,34 +60,28 @@ disconnect_to_fork-requires-clause-connected g c =
     c.requires.active c.requires.kept c.requires.good
 
 pub overflow_add-path : goal.overflow_add-path
-overflow_add-path g c =
-    let w = c.in_ok-path.ensures in
-    let e = w.high in
-    let h = height-place c.args.active_branch.now.tree.now.blocks c.in_ok-path.path.fork c.in_ok-path.path.fork (omega arith) (on-bounds c.args.active_branch.now.tree.now.blocks c.args.active_branch.now.active c.in_ok-path.path.fork w.shared.here).1 in
-    let k = (on-bounds c.args.active_branch.now.tree.now.blocks c.args.active_branch.now.active c.in_ok-path.path.fork w.shared.here).1 in
-    let few = c.len-few.ensures.room in
-    omega arith
+overflow_add-path g c = let few = c.in_ok-path.ensures.few in omega arith
 
 pub slice_bounds-from_slice-end : goal.slice_bounds-from_slice-end
 slice_bounds-from_slice-end g c =
     sym (length-take-le (c.in_ok-path.path.height + 1) c.args.active_branch.now.medians.now
-    (enough c.args.active_branch.now.tree.now.blocks c.args.active_branch.now.active c.args.place c.in_ok-path.path c.in_ok-path.ensures c.requires.active
+    (enough c.args.active_branch.now.tree.now.blocks c.args.active_branch.now.active c.args.place c.in_ok-path.path c.in_ok-path.ensures.path c.requires.active
     c.args.active_branch.now.medians.now c.requires.branch.medians_are))
 
 pub connect_up-requires-clause-path : goal.connect_up-requires-clause-path
 connect_up-requires-clause-path g c =
-    leads-up c.args.active_branch.now.tree.now.blocks c.args.active_branch.now.active c.args.place c.in_ok-path.path c.in_ok-path.ensures c.requires.place
+    leads-up c.args.active_branch.now.tree.now.blocks c.args.active_branch.now.active c.args.place c.in_ok-path.path c.in_ok-path.ensures.path c.requires.place
 
 pub connect_up-requires-clause-good : goal.connect_up-requires-clause-good
 connect_up-requires-clause-good g c =
     valid_below (regtest c.args.active_branch.now.params.now c.args.env.now.table.now) c.args.active_branch.now.tree.now.blocks c.args.active_branch.now.active
-    c.in_ok-path.path.fork c.requires.good c.in_ok-path.ensures.shared.here
+    c.in_ok-path.path.fork c.requires.good c.in_ok-path.ensures.path.shared.here
 
 pub connect_up-requires-clause-medians : goal.connect_up-requires-clause-medians
 connect_up-requires-clause-medians g c =
     c.in_ok-shared.ensures.items
     ∙ ap (take (c.in_ok-path.path.height + 1)) c.requires.branch.medians_are
-    ∙ shared c.args.active_branch.now.tree.now.blocks c.args.active_branch.now.active c.args.place c.in_ok-path.path c.in_ok-path.ensures c.requires.active
+    ∙ shared c.args.active_branch.now.tree.now.blocks c.args.active_branch.now.active c.args.place c.in_ok-path.path c.in_ok-path.ensures.path c.requires.active
 
 pub returns-in-Top : goal.returns-in-Top
 returns-in-Top g c =
@@ -95,7 +89,7 @@ returns-in-Top g c =
     let a = c.args.active_branch.now.active in
     let r = regtest c.args.active_branch.now.params.now c.args.env.now.table.now in
     let path = c.in_ok-path.path in
-    let w = c.in_ok-path.ensures in
+    let w = c.in_ok-path.ensures.path in
     let top : IsTop r t path.fork path.up.items c.in-Top.undo.items c.connect_up.new.layer.coins =
     subst (λ (x : Ascent). IsAscent r t path.fork path.up.items c.connect_up.new.layer.coins x) c.in-Top.is c.in_ok-undo.ensures.climb in
     let e = leads t a c.args.place path w c.requires.place in
@@ -116,7 +110,7 @@ returns g c =
     let t = c.args.active_branch.now.tree.now.blocks in
     let r = regtest c.args.active_branch.now.params.now c.args.env.now.table.now in
     let path = c.in_ok-path.path in
-    let w = c.in_ok-path.ensures in
+    let w = c.in_ok-path.ensures.path in
     let stop : IsStop r t (top_of path.fork path.up.items) path.up.items c.in-Stops.passed c.in-Stops.reason =
     subst (λ (x : Ascent). IsAscent r t path.fork path.up.items c.connect_up.new.layer.coins x) c.in-Stops.is c.in_ok-undo.ensures.climb in
     record {

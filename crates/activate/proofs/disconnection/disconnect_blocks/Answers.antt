@@ -39,7 +39,7 @@ disconnect-requires-clause-connected g c =
     let done = c.loop-done.done in
     let one = next_back t places c.requires.branch c.args.low undo c.requires.undo c.requires.inside done c.len-in-loop-done.result
     (omega (arith, c.len-in-loop-done.ensures, c.args.undo.now.ok)) (omega (arith, c.loop-done-test.true, c.len.ensures, c.len-in-loop-done.ensures, c.requires.from))
-    c.loop-done.layer.coins c.in_ok-block.block c.index.result.now c.loop-done.invariant.coins (c.in_ok-block.ensures ∙ c.block-block.ensures) c.index.ensures in
+    c.loop-done.layer.coins c.in_ok-block.block c.index.result.now c.loop-done.invariant.coins (c.in_ok-block.ensures ∙ c.block.ensures) c.index.ensures in
     (one.0, coins_after t (place_at places (c.args.low + length undo - (done + 1))), one.1)
 
 pub loop-done-preserved : goal.loop-done-preserved
@@ -50,7 +50,7 @@ loop-done-preserved g c =
     let done = c.loop-done.done in
     let one = next_back t places c.requires.branch c.args.low undo c.requires.undo c.requires.inside done c.len-in-loop-done.result
     (omega (arith, c.len-in-loop-done.ensures, c.args.undo.now.ok)) (omega (arith, c.loop-done-test.true, c.len.ensures, c.len-in-loop-done.ensures, c.requires.from))
-    c.loop-done.layer.coins c.in_ok-block.block c.index.result.now c.loop-done.invariant.coins (c.in_ok-block.ensures ∙ c.block-block.ensures) c.index.ensures in
+    c.loop-done.layer.coins c.in_ok-block.block c.index.result.now c.loop-done.invariant.coins (c.in_ok-block.ensures ∙ c.block.ensures) c.index.ensures in
     let rollback = c.in_ok-disconnect.ensures.ok one.0 (coins_after t (place_at places (c.args.low + length undo - (done + 1)))) one.1 in
     record {
       base = ap (λ (l : Layer). l.base) rollback ∙ c.loop-done.invariant.base;

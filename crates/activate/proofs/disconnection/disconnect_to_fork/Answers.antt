@@ -14,7 +14,7 @@ use Rattle.activate.proofs.disconnection.disconnect_to_fork.Goals as goal
 -- where the fork stands, and above which height there is undo
 record Stands (t : Blocks Block) (places : List ℕ) (undo : List (List (List Coin))) (a f low kept : ℕ) : Type 0 where
   pub branch_is : IsConnectedBranch t places
-  pub few : length places ≤ suc (length t)
+  pub long : length places ≡ suc (height t a)
   pub reach : low ≤ kept + length undo
   pub inside : kept + length undo < length places
   pub top : place_at places (kept + length undo) ≡ a
@@ -31,7 +31,7 @@ stands t places undo a f k o p u few connected low high size e g n =
     let below = fork.0 in
     record {
       branch_is = subst (λ (l : List ℕ). IsConnectedBranch t l) (sym p) (connected-branch t a k connected);
-      few = omega arith;
+      long = long;
       reach = omega arith;
       inside = omega arith;
       top = ap (λ (l : List ℕ). place_at l (high - size + length undo)) p ∙ ap (place_at (reverse (branch t a))) {x = high - size + length undo} {y = height t a} (omega arith) ∙ active.1;
@@ -116,7 +116,7 @@ pub replayed_undo-requires-clause-few : goal.replayed_undo-requires-clause-few
 replayed_undo-requires-clause-few g c =
     let s = stands c.args.tree.now.blocks c.args.places.now c.args.undo.now.items c.args.active c.args.fork c.requires.kept c.requires.on c.requires.branch c.requires.undo c.requires.above c.requires.connected
     c.height-low.result c.height.result c.len.result c.height-low.ensures.value c.height.ensures.value (omega (arith, c.len.ensures, c.args.undo.now.ok)) in
-    omega (arith, s.few, c.len-few.ensures.room)
+    omega (arith, s.long, c.height.ensures.value, c.height.ensures.few)
 
 pub replayed_undo-requires-clause-inside : goal.replayed_undo-requires-clause-inside
 replayed_undo-requires-clause-inside g c =

@@ -44,7 +44,7 @@ apply-requires-clause-connected c =
     let t = c.args.tree.now.blocks in
     let places = c.args.places.now in
     let height = c.loop-height.height in
-    let one = next_up t places c.requires.branch height c.loop-height.auto.height (omega (arith, c.requires.inside, c.loop-height-test.true)) c.loop-height.coins.coins c.in_ok-block.block c.loop-height.invariant.coins (c.in_ok-block.ensures ∙ c.block-block.ensures) in
+    let one = next_up t places c.requires.branch height c.loop-height.auto.height (omega (arith, c.requires.inside, c.loop-height-test.true)) c.loop-height.coins.coins c.in_ok-block.block c.loop-height.invariant.coins (c.in_ok-block.ensures ∙ c.block.ensures) in
     (one.0, coins_after t (place_at places height), undo_at t (place_at places height), one.1, one.2)
 
 pub loop-height-preserved : goal.loop-height-preserved
@@ -55,7 +55,7 @@ loop-height-preserved c =
     let height = c.loop-height.height in
     let m = c.loop-height.coins.coins in
     let b = c.in_ok-block.block in
-    let one = next_up t places c.requires.branch height c.loop-height.auto.height (omega (arith, c.requires.inside, c.loop-height-test.true)) m b c.loop-height.invariant.coins (c.in_ok-block.ensures ∙ c.block-block.ensures) in
+    let one = next_up t places c.requires.branch height c.loop-height.auto.height (omega (arith, c.requires.inside, c.loop-height-test.true)) m b c.loop-height.invariant.coins (c.in_ok-block.ensures ∙ c.block.ensures) in
     let next : height ≡ suc (height - 1) = omega (arith, c.loop-height.auto.height) in
     let spent : c.in_ok-spent.spent ≡ undo_at t (place_at places (suc (height - 1))) =
     c.in_ok-spent.ensures.undo ∙ ap (λ k. undo_of k m b.txs) (sym one.1) ∙ sym one.2.spent ∙ ap (λ k. undo_at t (place_at places k)) next in

@@ -31,8 +31,8 @@ module _ (t : Blocks Block) (a p x h : ℕ) (up : List ℕ) (kept : x ≤ length
       sym (append-nil up) ∙ ap (λ (l : List ℕ). up ++ l) (sym (above-end t x kept) ∙ ap (above t x) (sym (shared_here t a x kept o)))
       ∙ so_far ∙ ap (above t p) fork
 
-pub returns-then-stands_at : goal.returns-then-stands_at
-returns-then-stands_at c =
+pub returns-then-stands_at-clause-path : goal.returns-then-stands_at-clause-path
+returns-then-stands_at-clause-path c =
     let t = c.args.active_branch.now.tree.now.blocks in
     let a = c.args.active_branch.now.active in
     let x = c.down.next in

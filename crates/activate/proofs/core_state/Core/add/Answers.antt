@@ -64,4 +64,4 @@ invariant_of-self-2 c =
           (subst (λ (x : List ℕ). IsBranch t p c.self.inside.branch.items x c.self.inside.undo.items) (sym c.reserve-2.ensures.items) c.self.invariant.1),
       record { for_places = omega arith; for_medians = omega arith; for_undo = c.self.invariant.2.for_undo },
     ) in
-    either c.add.result c.self.inside.tree c.add.new.self c.of.result c.args.parent p _ _ _ _ _ _ beside same c.add.ensures.ok c.add.ensures.err
+    either c.add.result c.self.inside.tree c.add.new.self c.of-block.result c.args.parent p _ _ _ _ _ _ beside same c.add.ensures.ok c.add.ensures.err

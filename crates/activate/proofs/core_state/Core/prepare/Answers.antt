@@ -1,11 +1,13 @@
 use Rattle.std.proofs.Common.{◌≡◌, ℕ, List, Option, Some, None, sym, ap, ◌∙◌, subst}
+use Rattle.std.specs.Option.{option_copied}
 use Rattle.block.specs.Decoding.{block_of_bytes}
 use Rattle.activate.specs.declared.prepared.Prepared.{Prepared}
 use Rattle.chain.specs.declared.reply.Reply.TheVariants as reply
 use Rattle.chain.specs.declared.reply.SubmitReply.TheVariants.{DecodeFailed}
 use Rattle.chain.specs.declared.submission.SubmittedBlock.{SubmittedBlock}
 use Rattle.chain.specs.Commands.{outcome}
-use Rattle.chain.specs.Prepared.{IsSubmission, command_of}
+use Rattle.chain.specs.Prepared.{command_of}
+use Rattle.chain.specs.Submitted.{IsSubmission}
 use Rattle.activate.specs.inside.Preparation.{IsPreparationFor}
 use Rattle.chain.specs.Regtest.{regtest}
 use Rattle.activate.specs.CoreState.{CoreState}
@@ -21,16 +23,16 @@ pub returns-in-Some-clause-prepared : goal.returns-in-Some-clause-prepared
 returns-in-Some-clause-prepared g c =
     let a : CoreState = c.args.self.now in
     let r = regtest a.params c.args.env.now.table.now in
-    let e : block_of_bytes c.in-Submit.submission ≡ Some c.in-Some.submitted.block = (told c.in-Submit.submission _ _ c.block.ensures c.in-Some.is).0 in
+    let e : block_of_bytes c.in-Submit.submission ≡ Some c.in-Some.submitted.now.block = (told c.in-Submit.submission _ _ c.block.ensures (ap option_copied c.in-Some.is)).0 in
     if_ok c.prepare_block.result
-    (λ (prepared : Prepared) x. subst (λ t. IsPreparationFor r a t c.prepare_block.new.self prepared) (submitted r a.state c.in-Submit.submission c.in-Submit.now c.in-Some.submitted.block e ∙ ap (λ k. outcome r a.state (command_of k)) (sym c.in-Submit.is)) x)
+    (λ (prepared : Prepared) x. subst (λ t. IsPreparationFor r a t c.prepare_block.new.self prepared) (submitted r a.state c.in-Submit.submission c.in-Submit.now c.in-Some.submitted.now.block e ∙ ap (λ k. outcome r a.state (command_of k)) (sym c.in-Submit.is)) x)
     c.prepare_block.ensures.prepared
 
 pub returns-in-None-clause-prepared : goal.returns-in-None-clause-prepared
 returns-in-None-clause-prepared g c =
     let a : CoreState = c.args.self.now in
     let r = regtest a.params c.args.env.now.table.now in
-    let e : block_of_bytes c.in-Submit.submission ≡ None = told c.in-Submit.submission _ None c.block.ensures c.in-None.is in
+    let e : block_of_bytes c.in-Submit.submission ≡ None = told c.in-Submit.submission _ None c.block.ensures (ap option_copied c.in-None.is) in
     plan-still r a (reply.Submit DecodeFailed) c.still.result (outcome r a.state (command_of c.args.command.now)) c.requires.follows.active_is c.still.ensures
     (refused r a.state c.in-Submit.submission c.in-Submit.now e ∙ ap (λ k. outcome r a.state (command_of k)) (sym c.in-Submit.is))
 

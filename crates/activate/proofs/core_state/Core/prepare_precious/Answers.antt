@@ -41,7 +41,7 @@ returns-then-height-clause-prepared g c =
     let less = c.if-height.true in
     let inside : height c.self.inside.tree.blocks p < height c.self.inside.tree.blocks c.self.inside.active = omega arith in
     let low : height a.state.blocks p < height a.state.blocks a.active = subst (λ (x : CoreState). height x.state.blocks p < height x.state.blocks x.active) c.self.view_is inside in
-    plan-still r a (reply.Mark Done) c.still-then-height.result (step r a.state (Precious c.args.id.now)) c.requires.follows.active_is c.still-then-height.ensures.value
+    plan-still r a (reply.Mark Done) c.still-then-height.result (step r a.state (Precious c.args.id.now)) c.requires.follows.active_is c.still-then-height.ensures
     (prefer_lower a.params c.args.env.now.table.now a.state c.args.id.now p found (subst (λ (q : ℕ). height a.state.blocks p < height a.state.blocks q) c.requires.follows.active_is low))
 
 pub call-requires : goal.call-requires
