@@ -1,6 +1,9 @@
-use Rattle.std.proofs.Common.{◌≡◌, suc, ◌<◌, ◌≤◌, length, Some, None, sym, ap, subst, ◌∙◌, arith}
+use Rattle.std.proofs.Common.{◌≡◌, ℕ, suc, ◌<◌, ◌≤◌, length, Some, None, sym, ap, subst, ◌∙◌, arith}
 use Rattle.std.specs.Result.{result_err}
+use Rattle.block.specs.declared.block.Block.{Block}
 use Rattle.block.specs.Identity.{id_of}
+use Rattle.curve.specs.Triple.{Triples}
+use Rattle.chain.specs.inside.Faults.{IsNew}
 use Rattle.tree.specs.Branches.{place_of}
 use Rattle.tree.specs.Limits.{max_blocks}
 use Rattle.tree.specs.Names.{names}
@@ -58,3 +61,31 @@ returns-in-Err-clause-prepared g c =
     let fault : first_fault r a.state c.args.now c.args.submitted.now.block ≡ Some c.in-Err.reason = subst (λ (x : CoreState). first_fault (regtest x.params c.args.env.now.table.now) x.state c.args.now c.args.submitted.now.block ≡ Some c.in-Err.reason) c.self.view_is inside in
     plan-still r a (reply.Submit (Rejected c.in-Err.reason)) c.still-in-Err.result (step r a.state (Submit c.args.now c.args.submitted.now.block)) c.requires.follows.active_is c.still-in-Err.ensures
     (sym (step-faulty r a.state c.args.now c.args.submitted.now.block c.in-Err.reason none (subst (λ (x : CoreState). suc (length x.state.blocks) < max_blocks) c.self.view_is room) fault))
+
+-- a block is to be kept, if what was found inside says so
+new-inside : (inside outside : CoreState) (table : Triples) (now p : ℕ) (b : Block) → inside ≡ outside → place_of names inside.state.blocks (id_of b.header) ≡ None
+    → suc (length inside.state.blocks) < max_blocks → first_fault (regtest inside.params table) inside.state now b ≡ None → place_of names inside.state.blocks b.header.prev ≡ Some p
+    → IsNew (regtest outside.params table) outside.state now b p
+new-inside inside outside table now p b e none room faultless parent =
+    subst (λ (x : CoreState). IsNew (regtest x.params table) x.state now b p) e (record { unknown = none; room = room; faultless = faultless; parent = parent })
+
+pub prepare_beside-requires-clause-new : goal.prepare_beside-requires-clause-new
+prepare_beside-requires-clause-new g c =
+    let t = c.if-len-ge-MAX_BLOCKS.false in
+    let e = c.len.ensures.count in
+    let none : place_of names c.self.inside.tree.blocks (id_of c.args.submitted.now.block.header) ≡ None = ap (place_of names c.self.inside.tree.blocks) (sym c.requires.submission.1.id) ∙ sym c.find.ensures ∙ c.in_default.is in
+    let faultless : first_fault (regtest c.self.inside.params c.args.env.now.table.now) c.self.inside.tree c.args.now c.args.submitted.now.block ≡ None = sym (c.in-Ok.ensures.fault c.args.env.now.table.now) in
+    (c.args.now, new-inside _ _ c.args.env.now.table.now c.args.now c.in-Ok.parent c.args.submitted.now.block c.self.view_is none (omega arith) faultless c.in-Ok.ensures.parent)
+
+pub prepare_on_tip-requires-clause-new : goal.prepare_on_tip-requires-clause-new
+prepare_on_tip-requires-clause-new g c =
+    let t = c.if-len-ge-MAX_BLOCKS.false in
+    let e = c.len.ensures.count in
+    let none : place_of names c.self.inside.tree.blocks (id_of c.args.submitted.now.block.header) ≡ None = ap (place_of names c.self.inside.tree.blocks) (sym c.requires.submission.1.id) ∙ sym c.find.ensures ∙ c.in_default.is in
+    let faultless : first_fault (regtest c.self.inside.params c.args.env.now.table.now) c.self.inside.tree c.args.now c.args.submitted.now.block ≡ None = sym (c.in-Ok.ensures.fault c.args.env.now.table.now) in
+    let tip : c.in-Ok.parent ≡ c.args.self.now.active = c.if-parent-self.true ∙ ap (λ (x : CoreState). x.active) c.self.view_is in
+    (
+      c.args.now,
+      subst (λ (p : ℕ). IsNew (regtest c.args.self.now.params c.args.env.now.table.now) c.args.self.now.state c.args.now c.args.submitted.now.block p) tip
+          (new-inside _ _ c.args.env.now.table.now c.args.now c.in-Ok.parent c.args.submitted.now.block c.self.view_is none (omega arith) faultless c.in-Ok.ensures.parent),
+    )
