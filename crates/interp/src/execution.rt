@@ -34,7 +34,7 @@ const MAX_PUSH: usize = 520;
 const MAX_OPS: usize = 201;
 
 /// How many elements both stacks have at most (Bitcoin Core's `MAX_STACK_SIZE`).
-const MAX_ELEMENTS: usize = 1000;
+const MAX_ELEMENTS: i64 = 1000;
 
 /// How many keys CHECKMULTISIG has at most (Bitcoin Core's `MAX_PUBKEYS_PER_MULTISIG`).
 const MAX_KEYS: usize = 20;
@@ -388,8 +388,7 @@ impl<'a> Execution<'a> {
     fn is_bounded(&self) -> bool
         ensures { Gives result (within_bounds self.now) self.now }
     {
-        let main = self.main.len();
-        main <= MAX_ELEMENTS && self.alt.len() <= MAX_ELEMENTS - main
+        self.main.depth() <= MAX_ELEMENTS - self.alt.depth()
     }
 
     /// One opcode with its bytes; `after` follows it in the script.
