@@ -9,13 +9,9 @@ use Rattle.coins.specs.declared.entry.CacheEntry.{CacheEntry}
 use Rattle.coins.specs.declared.entry.CacheEntry.TheVariants.{Clean, Dirty, Fresh}
 use Rattle.coins.specs.Coins.{Coin, Coins, Layer, same, put}
 use Rattle.coins.specs.Entries.{Entries, stands, over, entry_at, MarkHolds, IsSound}
-use Rattle.coins.specs.inside.Entries.{Written, added_entry, is_fresh, own_coin, entry_without_coin}
+pub use Rattle.coins.specs.inside.Entries.{stands_at}
+use Rattle.coins.specs.inside.Entries.{Written, added_entry, is_fresh, entry_without_coin}
 use Rattle.coins.specs.laws.Lookups.{same_coins, same-true, same-sym, get-put}
-
--- what stands under an entry, if there is one
-abbrev pub stands_at : Option CacheEntry → Option Coin → Option Coin
-stands_at None below = below
-stands_at (Some e) below = stands e below
 
 over_here : (b : Bool) (k q : OutPoint) (m : Coins) (e : CacheEntry) (o : Option CacheEntry) → same q k ≡ b → cond b (stands e (map.get m k)) (stands_at o (map.get m q)) ≡ stands_at (cond b (Some e) o) (map.get m q)
 over_here true k q m e o h = ap (λ x. stands e (map.get m x)) (sym (same-true q k h))
@@ -72,31 +68,20 @@ fresh_none (Some Clean) below f h = cc
 fresh_none (Some (Dirty w)) below f h = cc
 fresh_none (Some (Fresh d)) below f h = h
 
--- the coin that an entry holds is what stands there
-pub own_stands : (o : Option CacheEntry) (below : Option Coin) (c : Coin) → own_coin o ≡ Some c → stands_at o below ≡ Some c
-own_stands None below c h = cc
-own_stands (Some Clean) below c h = cc
-own_stands (Some (Dirty w)) below c h = h
-own_stands (Some (Fresh d)) below c h = h
-
--- a coin that no entry holds stands below
-pub below_stands : (o : Option CacheEntry) (below : Option Coin) → own_coin o ≡ None → IsSome (stands_at o below) → stands_at o below ≡ below
-below_stands None below h s = refl
-below_stands (Some Clean) below h s = refl
-below_stands (Some (Dirty None)) below h s = cc
-below_stands (Some (Dirty (Some d))) below h s = cc
-below_stands (Some (Fresh d)) below h s = cc
-
 -- once it is taken, nothing stands there
-pub emptied_stands : (o : Option CacheEntry) (below : Option Coin) (c : Coin) → own_coin o ≡ Some c → MarkHolds o below → stands_at (entry_without_coin o) below ≡ None
-emptied_stands None below c h mark = cc
-emptied_stands (Some Clean) below c h mark = cc
-emptied_stands (Some (Dirty w)) below c h mark = refl
-emptied_stands (Some (Fresh d)) below c h mark = mark
+pub emptied_stands : (o : Option CacheEntry) (below : Option Coin) → MarkHolds o below → stands_at (entry_without_coin o below) below ≡ None
+emptied_stands None None mark = refl
+emptied_stands None (Some c) mark = refl
+emptied_stands (Some Clean) None mark = refl
+emptied_stands (Some Clean) (Some c) mark = refl
+emptied_stands (Some (Dirty w)) below mark = refl
+emptied_stands (Some (Fresh d)) below mark = mark
 
-pub emptied_mark : (o : Option CacheEntry) (below : Option Coin) → MarkHolds o below → MarkHolds (entry_without_coin o) below
-emptied_mark None below mark = tt
-emptied_mark (Some Clean) below mark = tt
+pub emptied_mark : (o : Option CacheEntry) (below : Option Coin) → MarkHolds o below → MarkHolds (entry_without_coin o below) below
+emptied_mark None None mark = tt
+emptied_mark None (Some c) mark = tt
+emptied_mark (Some Clean) None mark = tt
+emptied_mark (Some Clean) (Some c) mark = tt
 emptied_mark (Some (Dirty w)) below mark = tt
 emptied_mark (Some (Fresh d)) below mark = tt
 
@@ -106,12 +91,6 @@ layer m es = record { base = m; coins = over m es }
 -- what a cache's value has at an outpoint
 pub layer_get : (l : Layer) (m : Coins) (es : Entries) (q : OutPoint) → layer m es ≡ l → get l.coins q ≡ stands_at (entry_at es q) (get m q)
 layer_get l m es q v = sym (ap (λ (x : Layer). get x.coins q) v) ∙ get-over m es q
-
--- a coin that no entry of the layer holds stands below
-pub layer_below : (l : Layer) (m : Coins) (es : Entries) (q : OutPoint) → layer m es ≡ l → own_coin (entry_at es q) ≡ None → IsSome (get l.coins q) → get l.coins q ≡ get m q
-layer_below l m es q v none some =
-    let at = layer_get l m es q v in
-    at ∙ below_stands (entry_at es q) (get m q) none (subst IsSome at some)
 
 -- a cache's value after a write
 pub layer_write : (l : Layer) (m : Coins) (es fs : Entries) (k : OutPoint) (e : Option CacheEntry) (w : Option Coin) → layer m es ≡ l → Written es fs k e → stands_at e (get m k) ≡ w → ◌≡◌ {A = Layer} (layer m fs) (record { base = l.base; coins = put l.coins k w })
@@ -150,3 +129,26 @@ if_ok (Err x) h f = tt
 pub on_not_err : {T E : Type 0} {P : Type 0} (r : Result T E) → is_err r ≡ false → OnOk r P → P
 on_not_err (Ok x) h p = p
 on_not_err (Err x) h p = cc
+
+-- a write through a place in the map
+pub placed : (es fs gs : Entries) (k : OutPoint) (e f : Option CacheEntry) → fs ≡ gs → ((q : OutPoint) → entry_at gs q ≡ cond (same k q) e (entry_at es q)) → e ≡ f → Written es fs k f
+placed es fs gs k e f is at same_entry = record { at = λ q. ap (λ xs. entry_at xs q) is ∙ at q ∙ ap (λ x. cond (same k q) x (entry_at es q)) same_entry }
+
+kept_here : (b : Bool) (es : Entries) (k q : OutPoint) → same k q ≡ b → entry_at es q ≡ cond b (entry_at es k) (entry_at es q)
+kept_here true es k q h = ap (entry_at es) (sym (same-true k q h))
+kept_here false es k q h = refl
+
+-- no write
+pub kept : (es fs : Entries) (k : OutPoint) (o : Option CacheEntry) → fs ≡ es → entry_at es k ≡ o → Written es fs k o
+kept es fs k o is there = placed es fs es k (entry_at es k) o is (λ q. kept_here (same k q) es k q refl) there
+
+pub fresh_emptied : (o : Option CacheEntry) (below : Option Coin) → is_fresh o ≡ true → entry_without_coin o below ≡ None
+fresh_emptied None below h = cc
+fresh_emptied (Some Clean) below h = cc
+fresh_emptied (Some (Dirty w)) below h = cc
+fresh_emptied (Some (Fresh c)) below h = refl
+
+pub other_emptied : (e : CacheEntry) (below : Option Coin) → is_fresh (Some e) ≡ false → ¬ (e ≡ Clean) → entry_without_coin (Some e) below ≡ Some (Dirty None)
+other_emptied Clean below h n = absurd (n refl)
+other_emptied (Dirty w) below h n = refl
+other_emptied (Fresh c) below h n = cc

@@ -9,7 +9,7 @@ ghost use Rattle.coins.specs.Entries.{over, IsSound};
 use crate::base::Base;
 use crate::changes::{Changes, list};
 use crate::coin::Coin;
-use crate::entry::{CacheEntry, added, lay_all, make_room, take, write};
+use crate::entry::{CacheEntry, lay_all, make_room, put, take};
 use crate::writes::Writes;
 use std::alloc::Global;
 use std::collections::BTreeMap;
@@ -73,11 +73,20 @@ impl<'a, B: Base> Cache<'a, B> {
             record self.old { coins = map.insert self.old.coins at coin }) }
         ensures err { OnErr result (self.new ≡ self.old) }
     {
-        let entry = added(self.entries.get(&at), coin);
-        write(&mut self.entries, at, entry)
+        put(&mut self.entries, at, coin)
     }
 
-    /// Takes the coin that is there. It is copied only where it isn't this layer's own.
+    /// Takes the coin at an outpoint, if there is one. It is copied only where it isn't this layer's own.
+    pub fn take(&mut self, at: &OutPoint) -> Result<Option<Coin>, Memory>
+        ensures coin { IfOk result (λ coin. coin ≡ map.get self.old.coins at.now) }
+        ensures ok { OnOk result (self.new ≡
+            record self.old { coins = map.remove self.old.coins at.now }) }
+        ensures err { OnErr result (self.new ≡ self.old) }
+    {
+        take(&mut self.entries, self.base, at)
+    }
+
+    /// Takes the coin that is there.
     pub fn spend(&mut self, at: &OutPoint) -> Result<Coin, Memory>
         requires { IsSome (map.get self.old.coins at.now) }
         ensures coin { IfOk result (λ coin. map.get self.old.coins at.now ≡ Some coin) }
@@ -85,12 +94,7 @@ impl<'a, B: Base> Cache<'a, B> {
             record self.old { coins = map.remove self.old.coins at.now }) }
         ensures err { OnErr result (self.new ≡ self.old) }
     {
-        if let Some(coin) = take(&mut self.entries, at) {
-            return Ok(coin);
-        }
-        let coin = self.base.get(at).unwrap().copy()?;
-        write(&mut self.entries, *at, CacheEntry::Dirty(None))?;
-        Ok(coin)
+        Ok(self.take(at)?.unwrap())
     }
 
     /// The outpoints at which the base and this layer differ, in order, each with the coin that stands
@@ -120,6 +124,11 @@ impl<'a, B: Base> Cache<'a, B> {
             record self.old { coins = over self.old.coins writes }) }
         ensures err { OnErr result (self.new ≡ self.old) }
     {
+        // Over none of its own they are taken as they are.
+        if self.entries.is_empty() {
+            self.entries = writes.entries;
+            return Ok(());
+        }
         make_room(&mut self.entries, &writes.entries)?;
         lay_all(&mut self.entries, writes.entries);
         Ok(())

@@ -1,13 +1,17 @@
 //! The entries of a layer.
 
-ghost use Rattle.std.specs.Prelude.{◌≡◌, OnOk, OnErr, IsOk, IfNone, None, Some, IsSome, is_some};
+ghost use Rattle.std.specs.Prelude.{◌≡◌, ◌↔◌, IfOk, OnOk, OnErr, IsOk, IsTrue, None, Some, IsSome};
+ghost use Rattle.std.specs.FinMap as map;
 ghost use Rattle.std.specs.Option.{option_copied};
 ghost use Rattle.txn.specs.declared.outpoint.OutPoint.{OutPoint};
+ghost use Rattle.coins.specs.declared.entry.CacheEntry.TheVariants.{Clean};
 ghost use Rattle.coins.specs.Entries.{entry_at};
-ghost use Rattle.coins.specs.inside.Entries.{added_entry, is_fresh, own_coin, entry_without_coin, Written, AreReadied, HasRoom, merge_entry, merge_entry_at};
+ghost use Rattle.coins.specs.inside.Entries.{added_entry, is_fresh, own_coin, stands_at, entry_without_coin, Written, AreReadied, HasRoom, merge_entry, merge_entry_at};
 
+use crate::base::Base;
 use crate::coin::Coin;
 use std::collections::BTreeMap;
+use std::collections::btree_map::Entry;
 use txn::OutPoint;
 use wire::Memory;
 
@@ -38,13 +42,10 @@ fn is_fresh(entry: Option<&CacheEntry>) -> bool
     matches!(entry, Some(CacheEntry::Fresh(_)))
 }
 
-fn holds_coin(entry: Option<&CacheEntry>) -> bool
-    ensures { result ≡ is_some (own_coin (option_copied entry.entry)) }
+fn is_clean(entry: &CacheEntry) -> bool
+    ensures { IsTrue result ↔ (entry.now ≡ Clean) }
 {
-    matches!(
-        entry,
-        Some(CacheEntry::Dirty(Some(_))) | Some(CacheEntry::Fresh(_))
-    )
+    matches!(entry, CacheEntry::Clean)
 }
 
 fn coin_of(entry: Option<CacheEntry>) -> Option<Coin>
@@ -71,43 +72,70 @@ pub(crate) fn write(
     Ok(())
 }
 
-/// Puts an entry in another's place, which takes no memory.
-fn replace(
-    entries: &mut BTreeMap<OutPoint, CacheEntry>,
-    at: OutPoint,
-    entry: CacheEntry,
-) -> Option<CacheEntry>
-    requires { IsSome (entry_at entries.old.entries at) }
-    ensures before { result ≡ entry_at entries.old.entries at }
-    ensures written { Written entries.old.entries entries.new.entries at (Some entry) }
-{
-    match entries.insert(at, entry) {
-        Ok(before) => before,
-        Err(_) => None,
-    }
-}
-
 fn forget(entries: &mut BTreeMap<OutPoint, CacheEntry>, at: &OutPoint)
     ensures { Written entries.old.entries entries.new.entries at.now None }
 {
     entries.remove(at);
 }
 
-/// Takes out the coin that this layer holds, if it holds one, which takes no memory.
-pub(crate) fn take(entries: &mut BTreeMap<OutPoint, CacheEntry>, at: &OutPoint) -> Option<Coin>
-    ensures coin { result ≡ own_coin (entry_at entries.old.entries at.now) }
-    ensures taken { IsSome result →
-        Written entries.old.entries entries.new.entries at.now
-        (entry_without_coin (entry_at entries.old.entries at.now)) }
-    ensures none { IfNone result (entries.new.entries ≡ entries.old.entries) }
+/// Takes the coin that stands at an outpoint, if there is one. It is copied only where it isn't the layer's own.
+pub(crate) fn take<B: Base>(
+    entries: &mut BTreeMap<OutPoint, CacheEntry>,
+    base: &B,
+    at: &OutPoint,
+) -> Result<Option<Coin>, Memory>
+    ensures coin { IfOk result (λ coin. coin ≡
+        stands_at (entry_at entries.old.entries at.now) (map.get (B.coins base.now) at.now)) }
+    ensures taken { OnOk result (Written entries.old.entries entries.new.entries at.now
+        (entry_without_coin (entry_at entries.old.entries at.now) (map.get (B.coins base.now) at.now))) }
+    ensures err { OnErr result (entries.new.entries ≡ entries.old.entries) }
 {
-    if !holds_coin(entries.get(at)) {
-        return None;
+    match entries.entry(*at)? {
+        Entry::Vacant(place) => {
+            let Some(coin) = base.get(at) else {
+                return Ok(None);
+            };
+            let coin = coin.copy()?;
+            place.insert(CacheEntry::Dirty(None));
+            Ok(Some(coin))
+        }
+        Entry::Occupied(mut place) => {
+            if is_fresh(Some(place.get())) {
+                return Ok(coin_of(Some(place.remove())));
+            }
+            if is_clean(place.get()) {
+                let Some(coin) = base.get(at) else {
+                    return Ok(None);
+                };
+                let coin = coin.copy()?;
+                place.insert(CacheEntry::Dirty(None));
+                return Ok(Some(coin));
+            }
+            Ok(coin_of(Some(place.insert(CacheEntry::Dirty(None)))))
+        }
     }
-    if is_fresh(entries.get(at)) {
-        return coin_of(entries.remove(at));
+}
+
+/// Puts a coin at an outpoint, where it is fresh unless one was spent here.
+pub(crate) fn put(
+    entries: &mut BTreeMap<OutPoint, CacheEntry>,
+    at: OutPoint,
+    coin: Coin,
+) -> Result<(), Memory>
+    ensures ok { OnOk result (Written entries.old.entries entries.new.entries at
+        (Some (added_entry (entry_at entries.old.entries at) coin))) }
+    ensures err { OnErr result (entries.new.entries ≡ entries.old.entries) }
+{
+    match entries.entry(at)? {
+        Entry::Vacant(place) => {
+            place.insert(CacheEntry::Fresh(coin));
+        }
+        Entry::Occupied(mut place) => {
+            let entry = added(Some(place.get()), coin);
+            place.insert(entry);
+        }
     }
-    coin_of(replace(entries, *at, CacheEntry::Dirty(None)))
+    Ok(())
 }
 
 /// Has an entry at each outpoint that is going to be written, a clean one where there was none.

@@ -3,15 +3,14 @@
 ghost use Rattle.std.specs.Prelude.{◌≡◌, ◌≤◌, ◌^◌, ◌≤ℤ◌, neg_ℤ, pos, length};
 ghost use Rattle.txn.specs.Check.{total};
 ghost use Rattle.coins.specs.Total.{sum_of_values};
-ghost use Rattle.connect.specs.inside.Turns.{coins_of};
 
 use coins::Coin;
 use txn::TxOut;
 
 /// What coins are worth.
-pub(crate) fn worth(coins: &[&Coin]) -> i128
+pub(crate) fn worth(coins: &[Coin]) -> i128
     requires { length coins.now ≤ 1000000 }
-    ensures sum { result ≡ sum_of_values (coins_of coins.now) }
+    ensures sum { result ≡ sum_of_values coins.now }
     ensures low { neg_ℤ (pos (2 ^ 83)) ≤ℤ result }
     ensures high { result ≤ℤ pos (2 ^ 83) }
 {

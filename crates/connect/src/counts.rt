@@ -2,7 +2,6 @@
 
 ghost use Rattle.std.specs.Prelude.{◌≡◌, ◌≤◌, ◌-◌, ◌^◌, min, length};
 ghost use Rattle.connect.specs.Turns.{inner_sigops};
-ghost use Rattle.connect.specs.inside.Turns.{coins_of};
 
 use coins::Coin;
 use script::p2sh_sigops;
@@ -10,9 +9,9 @@ use txn::Tx;
 
 /// The signature operations of a transaction's inner scripts (BIP 16), by the coins that it spends. The sum
 /// stops at the highest `u128`, far above what a block may have.
-pub(crate) fn inner_sigops(coins: &[&Coin], tx: &Tx) -> u128
+pub(crate) fn inner_sigops(coins: &[Coin], tx: &Tx) -> u128
     requires { length coins.now ≤ length tx.now.inputs }
-    ensures { result ≡ min (inner_sigops (coins_of coins.now) tx.now) (2 ^ 128 - 1) }
+    ensures { result ≡ min (inner_sigops coins.now tx.now) (2 ^ 128 - 1) }
 {
     let mut sum = 0u128;
     for index in 0..coins.len() {

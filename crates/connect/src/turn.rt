@@ -1,24 +1,24 @@
 //! A transaction in its turn: tested over the coins that it finds, and applied.
 
 ghost use Rattle.std.specs.Prelude.{◌≡◌, ℕ, Some, ◌≤◌, ◌^◌, ◌≤ℤ◌, ◌&&◌, neg_ℤ, pos, int_lt, not, map, length, None, IfOk, IfErr, OnOk};
-ghost use Rattle.std.specs.List.{list_any};
+ghost use Rattle.std.specs.List.{IsDistinct, list_any};
 ghost use Rattle.txn.specs.Check.{is_coinbase};
 ghost use Rattle.txn.specs.First.{first_broken};
 ghost use Rattle.txn.specs.Identity.{id_of};
 ghost use Rattle.locks.specs.Relative.{are_met};
-ghost use Rattle.undo.specs.Effect.{spends};
+ghost use Rattle.undo.specs.Effect.{spends, without};
 ghost use Rattle.rules.specs.Alone.{max_block_sigops};
-ghost use Rattle.coins.specs.Coins.{Coins};
+ghost use Rattle.coins.specs.Coins.{Coins, same};
 ghost use Rattle.connect.specs.Setting.{Setting, setting, median_below};
 ghost use Rattle.connect.specs.Turns.{turn, left_by, spent_in, plain_count, full_count};
 ghost use Rattle.connect.specs.Faults.{is_immature, lock_start, fee, turn_rules};
-ghost use Rattle.connect.specs.inside.Turns.{HasFound, coins_of, IsReason, IsLawful};
+ghost use Rattle.connect.specs.inside.Turns.{HasFound, IsReason, IsLawful};
 ghost use Rattle.connect.specs.laws.Broken.{UpToAmount, UpToCount};
 
 use crate::amounts::{paid, worth};
 use crate::context::Context;
 use crate::counts::inner_sigops;
-use crate::lookups::{overwrites, spent_coins};
+use crate::lookups::overwrites;
 use crate::stop::Stop;
 use coins::{Base, Cache, Coin};
 use hash::Id;
@@ -26,7 +26,7 @@ use locks::{LockStart, relative_ok};
 use rules::{MAX_BLOCK_SIGOPS, tx_sigops};
 use std::alloc::Global;
 use txn::{Reason, Tx};
-use undo::{Spent, apply_in_layer};
+use undo::{Spent, add_outputs, take_inputs};
 use wire::Memory;
 
 /// So many blocks above a coinbase its coins may be spent (Bitcoin Core's `COINBASE_MATURITY`).
@@ -41,9 +41,12 @@ pub(crate) struct Passed {
     pub counted: u128,
 }
 
-/// What a transaction finds, and the signature operations of the block up to and with its own plain ones.
-struct Found<'l> {
-    coins: Vec<&'l Coin>,
+/// A layer without the coins that a transaction spends, these coins, and the signature operations of the block up to
+/// and with its own plain ones.
+#[derive(Drop)]
+struct Taken<'b, B: Base> {
+    layer: Cache<'b, B>,
+    spent: Spent,
     plain: u128,
 }
 
@@ -84,8 +87,24 @@ pub(crate) fn connect_tx<'b, B: Base>(
         IfOk result (λ done. done.passed.counted ≡ full_count t) }
     ensures few { IfOk result (λ done. done.passed.counted ≤ max_block_sigops) }
 {
-    let passed = test_tx(alloc, &layer, context, tx, id, counted)?;
-    let (layer, spent) = apply_in_layer(alloc, layer, tx, id, context.height)?;
+    // Asked before its inputs are taken: one may spend what stands where an output is to come.
+    let overwriting = overwrites(&layer, tx, id);
+    let Taken {
+        layer,
+        spent,
+        plain,
+    } = take_coins(alloc, layer, tx, counted)?;
+    let coins = spent.as_slice();
+    let fee = match test_amount(coins, context, tx) {
+        Ok(fee) => fee,
+        Err(reason) => return Err(Stop::Broken(reason)),
+    };
+    let counted = test_locks(alloc, coins, context, tx, plain)?;
+    if overwriting {
+        return Err(Stop::Broken(Reason::OverwritesCoin));
+    }
+    let layer = add_outputs(layer, tx, id, context.height)?;
+    let passed = Passed { fee, counted };
     Ok(Turned {
         layer,
         spent,
@@ -93,83 +112,54 @@ pub(crate) fn connect_tx<'b, B: Base>(
     })
 }
 
-/// The first rule that a transaction breaks over the coins that it finds, or what it gives.
-fn test_tx<B: Base>(
+/// Takes the coins that a transaction spends, where they are there and its own signature operations aren't too many.
+/// Each is looked up once: the layer is dropped where a rule is broken.
+fn take_coins<'b, B: Base>(
     alloc: Global,
-    layer: &Cache<'_, B>,
-    context: &Context,
-    tx: &Tx,
-    id: Id,
-    counted: u128,
-) -> Result<Passed, Stop>
-    requires lawful { IsLawful tx.now }
-    requires id { id ≡ id_of tx.now }
-    requires counted { counted ≤ max_block_sigops }
-    ensures fault { IfErr result (IsReason (first_broken
-        (turn_rules (setting context.now) (turn tx.now layer.now.coins counted)))) }
-    ensures none { OnOk result (first_broken
-        (turn_rules (setting context.now) (turn tx.now layer.now.coins counted)) ≡ None) }
-    ensures fee { IfOk result (λ passed. passed.fee ≡ fee (turn tx.now layer.now.coins counted)) }
-    ensures low { IfOk result (λ passed. neg_ℤ (pos (2 ^ 84)) ≤ℤ passed.fee) }
-    ensures high { IfOk result (λ passed. passed.fee ≤ℤ pos (2 ^ 84)) }
-    ensures counted { IfOk result (λ passed. passed.counted ≡
-        full_count (turn tx.now layer.now.coins counted)) }
-    ensures few { IfOk result (λ passed. passed.counted ≤ max_block_sigops) }
-{
-    let Found { coins, plain } = find_coins(alloc, layer, tx, counted)?;
-    let coins = coins.as_slice();
-    let fee = match test_amount(coins, context, tx) {
-        Ok(fee) => fee,
-        Err(reason) => return Err(Stop::Broken(reason)),
-    };
-    let counted = test_locks(alloc, coins, context, tx, plain)?;
-    if overwrites(layer, tx, id) {
-        return Err(Stop::Broken(Reason::OverwritesCoin));
-    }
-    Ok(Passed { fee, counted })
-}
-
-/// The coins that a transaction spends, where they are there and its own signature operations aren't too many.
-fn find_coins<'l, B: Base>(
-    alloc: Global,
-    layer: &'l Cache<'_, B>,
+    layer: Cache<'b, B>,
     tx: &Tx,
     counted: u128,
-) -> Result<Found<'l>, Stop>
-    requires { counted ≤ max_block_sigops }
-    ensures fault { (s : Setting)
-        → IfErr result (IsReason (first_broken
-        (turn_rules s (turn tx.now layer.now.coins counted)))) }
-    ensures found { (s : Setting) → IfOk result (λ found.
-        HasFound s tx.now layer.now.coins counted (coins_of found.coins.items)) }
-    ensures plain { IfOk result (λ found.
-        found.plain ≡ plain_count (turn tx.now layer.now.coins counted)) }
-    ensures few { IfOk result (λ found. found.plain ≤ max_block_sigops) }
-    ensures each { IfOk result (λ found. length found.coins.items ≡ length (spends tx.now)) }
+) -> Result<Taken<'b, B>, Stop>
+    requires once { IsDistinct same (spends tx.now) }
+    requires few { counted ≤ max_block_sigops }
+    ensures fault { (s : Setting) → IfErr result (IsReason (first_broken
+        (turn_rules s (turn tx.now layer.entry.coins counted)))) }
+    ensures found { (s : Setting) → IfOk result (λ taken.
+        HasFound s tx.now layer.entry.coins counted taken.spent) }
+    ensures layer { IfOk result (λ taken. taken.layer ≡
+        record layer.entry { coins = without layer.entry.coins (spends tx.now) }) }
+    ensures plain { IfOk result (λ taken.
+        taken.plain ≡ plain_count (turn tx.now layer.entry.coins counted)) }
+    ensures few { IfOk result (λ taken. taken.plain ≤ max_block_sigops) }
+    ensures each { IfOk result (λ taken. length taken.spent ≡ length (spends tx.now)) }
 {
     let plain = counted.saturating_add(tx_sigops(tx));
     if plain > u128::from(MAX_BLOCK_SIGOPS) {
         return Err(Stop::Broken(Reason::TooManySigops));
     }
-    let Some(coins) = spent_coins(alloc, layer, tx)? else {
+    let Some((layer, spent)) = take_inputs(alloc, layer, tx)? else {
         return Err(Stop::Broken(Reason::InputsMissingOrSpent));
     };
-    Ok(Found { coins, plain })
+    Ok(Taken {
+        layer,
+        spent,
+        plain,
+    })
 }
 
 /// The age and the worth of these coins: what the transaction spends without what it pays, in satoshis.
-fn test_amount(coins: &[&Coin], context: &Context, tx: &Tx) -> Result<i128, Reason>
+fn test_amount(coins: &[Coin], context: &Context, tx: &Tx) -> Result<i128, Reason>
     requires few { length coins.now ≤ 1000000 }
     requires outputs { length tx.now.outputs ≤ 1000000 }
     ensures fault { (m : Coins) (n : ℕ)
-        → HasFound (setting context.now) tx.now m n (coins_of coins.now)
+        → HasFound (setting context.now) tx.now m n coins.now
         → IfErr result (λ reason.
         first_broken (turn_rules (setting context.now) (turn tx.now m n)) ≡ Some reason) }
     ensures enough { (m : Coins) (n : ℕ)
-        → HasFound (setting context.now) tx.now m n (coins_of coins.now)
+        → HasFound (setting context.now) tx.now m n coins.now
         → OnOk result (UpToAmount (setting context.now) (turn tx.now m n)) }
     ensures fee { (m : Coins) (n : ℕ)
-        → HasFound (setting context.now) tx.now m n (coins_of coins.now)
+        → HasFound (setting context.now) tx.now m n coins.now
         → IfOk result (λ given. given ≡ fee (turn tx.now m n)) }
     ensures low { IfOk result (λ given. neg_ℤ (pos (2 ^ 84)) ≤ℤ given) }
     ensures high { IfOk result (λ given. given ≤ℤ pos (2 ^ 84)) }
@@ -188,7 +178,7 @@ fn test_amount(coins: &[&Coin], context: &Context, tx: &Tx) -> Result<i128, Reas
 /// The relative locks, and the signature operations with those of scripts that are paid to by their hash.
 fn test_locks(
     alloc: Global,
-    coins: &[&Coin],
+    coins: &[Coin],
     context: &Context,
     tx: &Tx,
     plain: u128,
@@ -197,16 +187,16 @@ fn test_locks(
     requires inputs { length coins.now ≤ length tx.now.inputs }
     requires few { plain ≤ max_block_sigops }
     ensures fault { (m : Coins) (n : ℕ)
-        → HasFound (setting context.now) tx.now m n (coins_of coins.now)
+        → HasFound (setting context.now) tx.now m n coins.now
         → UpToAmount (setting context.now) (turn tx.now m n) → plain ≡ plain_count (turn tx.now m n)
         → IfErr result (IsReason (first_broken
         (turn_rules (setting context.now) (turn tx.now m n)))) }
     ensures count { (m : Coins) (n : ℕ)
-        → HasFound (setting context.now) tx.now m n (coins_of coins.now)
+        → HasFound (setting context.now) tx.now m n coins.now
         → UpToAmount (setting context.now) (turn tx.now m n) → plain ≡ plain_count (turn tx.now m n)
         → OnOk result (UpToCount (setting context.now) (turn tx.now m n)) }
     ensures counted { (m : Coins) (n : ℕ)
-        → HasFound (setting context.now) tx.now m n (coins_of coins.now)
+        → HasFound (setting context.now) tx.now m n coins.now
         → plain ≡ plain_count (turn tx.now m n)
         → IfOk result (λ all. all ≡ full_count (turn tx.now m n)) }
     ensures bounded { IfOk result (λ all. all ≤ max_block_sigops) }
@@ -222,8 +212,8 @@ fn test_locks(
 }
 
 /// Whether a coinbase's coin is spent too early.
-fn has_immature(coins: &[&Coin], height: u32) -> bool
-    ensures { result ≡ list_any (λ coin. is_immature height coin.now) coins.now }
+fn has_immature(coins: &[Coin], height: u32) -> bool
+    ensures { result ≡ list_any (is_immature height) coins.now }
 {
     coins.iter().any(|coin| is_immature(coin, height))
 }
@@ -242,11 +232,11 @@ fn pays_too_much(tx: &Tx, worth: i128, paid: i128) -> bool
 }
 
 /// Whether a relative lock of a transaction isn't met, where such locks are in force. A coinbase has none.
-fn is_locked(alloc: Global, tx: &Tx, coins: &[&Coin], context: &Context) -> Result<bool, Memory>
+fn is_locked(alloc: Global, tx: &Tx, coins: &[Coin], context: &Context) -> Result<bool, Memory>
     requires { length coins.now ≡ length (spends tx.now) }
     ensures { IfOk result (λ yes. yes ≡
         ((setting context.now).rules.csv &&
-        not (are_met tx.now (map (lock_start context.now.medians.now) (coins_of coins.now))
+        not (are_met tx.now (map (lock_start context.now.medians.now) coins.now)
         context.now.height context.now.cutoff))) }
 {
     if tx.is_coinbase() || !context.params.at(context.height).csv {
@@ -257,9 +247,9 @@ fn is_locked(alloc: Global, tx: &Tx, coins: &[&Coin], context: &Context) -> Resu
 }
 
 /// From where the relative locks count of the inputs that spend these coins.
-fn lock_starts(alloc: Global, coins: &[&Coin], medians: &[u32]) -> Result<Vec<LockStart>, Memory>
+fn lock_starts(alloc: Global, coins: &[Coin], medians: &[u32]) -> Result<Vec<LockStart>, Memory>
     ensures { IfOk result (λ starts. starts.items ≡
-        map (lock_start medians.now) (coins_of coins.now)) }
+        map (lock_start medians.now) coins.now) }
 {
     let mut starts = Vec::with_capacity(alloc, coins.len())?;
     for coin in coins {

@@ -2,8 +2,9 @@
 use Rattle.std.proofs.Common.{◌≡◌, ℕ, suc, ◌+◌, ◌<◌, Bool, true, false, cond, List, [], ◌∷◌, ◌++◌, length, get_or, drop, map, Option, Some, None, IsSome, Result, Ok, Err, OnOk, IfOk, refl, sym, ap, ◌∙◌, add-one}
 use Rattle.std.proofs.Math.Seq.{drop-cons}
 pub use Rattle.std.proofs.Math.ListN.{drop_of_length-le}
+use Rattle.std.specs.Prelude.{is_some, ◌&&◌}
 use Rattle.std.specs.Option.{option_to_list}
-use Rattle.std.specs.List.{AllByRecursion, IsDistinct}
+use Rattle.std.specs.List.{AllByRecursion, IsDistinct, list_all}
 use Rattle.std.specs.Map.{keys_of}
 use Rattle.std.specs.FinMap as coin_map
 use Rattle.txn.specs.declared.outpoint.OutPoint.{OutPoint}
@@ -24,11 +25,35 @@ still_at m p (q ∷ ps) d =
     ap (λ (o : Option Coin). option_to_list o ++ coins_at m ps) (sym (other_kept m p q d.0))
     ∙ ap (λ cs. option_to_list (coin_map.get (coin_map.remove m p) q) ++ cs) (still_at m p ps d.1)
 
-pub coins_at-next : (m : Coins) (p : OutPoint) (ps : List OutPoint) (c : Coin) → AreCoins m (p ∷ ps) → coin_map.get m p ≡ Some c → coins_at m (p ∷ ps) ≡ c ∷ coins_at (coin_map.remove m p) ps
+-- a coin that is taken, before others
+pub taken-next : (m : Coins) (p : OutPoint) (ps : List OutPoint) (c : Coin) → IsDistinct same (p ∷ ps) → coin_map.get m p ≡ Some c → coins_at m (p ∷ ps) ≡ c ∷ coins_at (coin_map.remove m p) ps
 unfolding IsDistinct
-coins_at-next m p ps c h e =
+taken-next m p ps c once e =
     ap (λ (o : Option Coin). option_to_list o ++ coins_at m ps) e
-    ∙ ap (λ cs. c ∷ cs) (still_at m p ps h.once.0)
+    ∙ ap (λ cs. c ∷ cs) (still_at m p ps once.0)
+
+abbrev pub there : Coins → OutPoint → Bool
+there m p = is_some (coin_map.get m p)
+
+still_there : (m : Coins) (p : OutPoint) (ps : List OutPoint) → AllByRecursion (λ y. same p y ≡ false) ps → list_all (there m) ps ≡ list_all (there (coin_map.remove m p)) ps
+still_there m p [] d = refl
+still_there m p (q ∷ ps) d =
+    ap (λ (o : Option Coin). is_some o && list_all (there m) ps) (sym (other_kept m p q d.0))
+    ∙ ap (λ b. there (coin_map.remove m p) q && b) (still_there m p ps d.1)
+
+pub there-next : (m : Coins) (p : OutPoint) (ps : List OutPoint) (c : Coin) → IsDistinct same (p ∷ ps) → coin_map.get m p ≡ Some c → list_all (there m) (p ∷ ps) ≡ list_all (there (coin_map.remove m p)) ps
+unfolding IsDistinct
+there-next m p ps c once e =
+    ap (λ (o : Option Coin). is_some o && list_all (there m) ps) e
+    ∙ still_there m p ps once.0
+
+pub all-there : (m : Coins) (ps : List OutPoint) → AllByRecursion (λ p. IsSome (coin_map.get m p)) ps → list_all (there m) ps ≡ true
+all-there m [] a = refl
+all-there m (p ∷ ps) a = ap (λ b. b && list_all (there m) ps) a.0 ∙ all-there m ps a.1
+
+pub once-next : (p : OutPoint) (ps : List OutPoint) → IsDistinct same (p ∷ ps) → IsDistinct same ps
+unfolding IsDistinct
+once-next p ps once = once.1
 
 -- an output that is added, if it can be a coin
 abbrev pub first_and : Bool → OutPoint → TxOut → List (OutPoint × TxOut) → List (OutPoint × TxOut)

@@ -1,13 +1,15 @@
 //! A transaction applied to the coins.
 
-ghost use Rattle.std.specs.Prelude.{◌≡◌, ℕ, ◌^◌, ◌≤◌, Bool, IfOk, OnOk, OnErr, false, None, length, map, if◌then◌else◌};
+ghost use Rattle.std.specs.Prelude.{◌≡◌, ℕ, ◌^◌, ◌≤◌, Bool, IfOk, IfSome, OnOk, OnErr, false, None, is_some, length, map, if◌then◌else◌};
+ghost use Rattle.std.specs.List.{IsDistinct, list_all};
 ghost use Rattle.std.specs.FinMap as coin_map;
 ghost use Rattle.hash.specs.declared.id.Id.{Id};
 ghost use Rattle.txn.specs.Check.{prevs};
 ghost use Rattle.script.specs.Kinds.{is_unspendable};
+ghost use Rattle.coins.specs.Coins.{Coins, same};
 ghost use Rattle.coins.specs.Entries.{over, IsSound};
 ghost use Rattle.undo.specs.Effect.{spends, spendable, coin_of, makes, without, with_coins, after, coins_at, spent_coins, IsApplicable};
-ghost use Rattle.undo.specs.inside.Reverting.{AreCoins, AreNew};
+ghost use Rattle.undo.specs.inside.Reverting.{AreNew};
 
 use crate::block_undo::Spent;
 use coins::{Base, Cache, Coin, Writes};
@@ -59,7 +61,7 @@ fn applied<B: Base>(
 /// refusal, when part of it may be, it is dropped. It does half the work.
 pub fn apply_in_layer<'b, B: Base>(
     alloc: Global,
-    mut layer: Cache<'b, B>,
+    layer: Cache<'b, B>,
     tx: &Tx,
     id: Id,
     height: u32,
@@ -69,7 +71,74 @@ pub fn apply_in_layer<'b, B: Base>(
         done.0 ≡ record layer.entry { coins = after layer.entry.coins tx.now id height }) }
     ensures spent { IfOk result (λ done. done.1 ≡ spent_coins layer.entry.coins tx.now) }
 {
-    let spent = spend_inputs(alloc, &mut layer, tx)?;
+    let (layer, spent) = take_inputs(alloc, layer, tx)?.unwrap();
+    Ok((add_outputs(layer, tx, id, height)?, spent))
+}
+
+/// Takes the coins that a transaction spends, each looked up once: None where one isn't there, and the layer is
+/// dropped then, as it is at want of memory. A coinbase spends none.
+pub fn take_inputs<'b, B: Base>(
+    alloc: Global,
+    mut layer: Cache<'b, B>,
+    tx: &Tx,
+) -> Result<Option<(Cache<'b, B>, Spent)>, Memory>
+    requires { IsDistinct same (spends tx.now) }
+    ensures all { IfOk result (λ taken. is_some taken ≡
+        list_all (λ at. is_some (coin_map.get layer.entry.coins at)) (spends tx.now)) }
+    ensures layer { IfOk result (λ taken. IfSome taken (λ done.
+        done.0 ≡ record layer.entry { coins = without layer.entry.coins (spends tx.now) })) }
+    ensures spent { IfOk result (λ taken. IfSome taken (λ done.
+        done.1 ≡ spent_coins layer.entry.coins tx.now)) }
+{
+    if tx.is_coinbase() {
+        return Ok(Some((layer, Spent::new(alloc))));
+    }
+    let Some(spent) = take_each(alloc, &mut layer, tx.inputs.as_slice())? else {
+        return Ok(None);
+    };
+    Ok(Some((layer, spent)))
+}
+
+/// Takes the coins of inputs, in order, up to the first that isn't there.
+fn take_each<B: Base>(
+    alloc: Global,
+    layer: &mut Cache<'_, B>,
+    inputs: &[TxIn],
+) -> Result<Option<Spent>, Memory>
+    requires { IsDistinct same (prevs inputs.now) }
+    ensures all { IfOk result (λ taken. is_some taken ≡
+        list_all (λ at. is_some (coin_map.get layer.old.coins at)) (prevs inputs.now)) }
+    ensures spent { IfOk result (λ taken. IfSome taken (λ spent_coins.
+        spent_coins ≡ coins_at layer.old.coins (prevs inputs.now))) }
+    ensures ok { IfOk result (λ taken. IfSome taken (λ _. layer.new ≡
+        record layer.old { coins = without layer.old.coins (prevs inputs.now) })) }
+    ensures base { layer.new.base ≡ layer.old.base }
+{
+    let mut spent = Spent::new(alloc);
+    for input in inputs {
+        let Some(coin) = layer.take(&input.prev)? else {
+            return Ok(None);
+        };
+        spent.push(coin)?;
+    }
+    Ok(Some(spent))
+}
+
+/// Adds the coins that a transaction makes where what it spends was taken before, as by [`take_inputs`]. At want of
+/// memory the layer is dropped.
+pub fn add_outputs<'b, B: Base>(
+    mut layer: Cache<'b, B>,
+    tx: &Tx,
+    id: Id,
+    height: u32,
+) -> Result<Cache<'b, B>, Memory>
+    requires { (before : Coins) × IsApplicable before tx.now id ×
+        (layer.coins ≡ without before (spends tx.now)) }
+    ensures { (before : Coins) → IsApplicable before tx.now id →
+        layer.entry.coins ≡ without before (spends tx.now) →
+        IfOk result (λ left.
+        left ≡ record layer.entry { coins = after before tx.now id height }) }
+{
     add_all(
         &mut layer,
         id,
@@ -77,40 +146,7 @@ pub fn apply_in_layer<'b, B: Base>(
         height,
         tx.is_coinbase(),
     )?;
-    Ok((layer, spent))
-}
-
-/// Takes the coins that a transaction spends. A coinbase spends none.
-fn spend_inputs<B: Base>(alloc: Global, layer: &mut Cache<'_, B>, tx: &Tx) -> Result<Spent, Memory>
-    requires { AreCoins layer.old.coins (spends tx.now) }
-    ensures spent { IfOk result (λ taken. taken ≡ coins_at layer.old.coins (spends tx.now)) }
-    ensures ok { OnOk result (layer.new ≡
-        record layer.old { coins = without layer.old.coins (spends tx.now) }) }
-    ensures base { layer.new.base ≡ layer.old.base }
-{
-    if tx.is_coinbase() {
-        return Ok(Spent::new(alloc));
-    }
-    spend_all(alloc, layer, tx.inputs.as_slice())
-}
-
-/// Takes the coins of inputs.
-fn spend_all<B: Base>(
-    alloc: Global,
-    layer: &mut Cache<'_, B>,
-    inputs: &[TxIn],
-) -> Result<Spent, Memory>
-    requires { AreCoins layer.old.coins (prevs inputs.now) }
-    ensures spent { IfOk result (λ taken. taken ≡ coins_at layer.old.coins (prevs inputs.now)) }
-    ensures ok { OnOk result (layer.new ≡
-        record layer.old { coins = without layer.old.coins (prevs inputs.now) }) }
-    ensures base { layer.new.base ≡ layer.old.base }
-{
-    let mut spent = Spent::new(alloc);
-    for input in inputs {
-        spent.push(layer.spend(&input.prev)?)?;
-    }
-    Ok(spent)
+    Ok(layer)
 }
 
 /// Adds the coins of outputs that can be coins.

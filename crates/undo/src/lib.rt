@@ -6,6 +6,6 @@ mod block_undo;
 pub mod laws;
 mod revert;
 
-pub use apply::{apply_in_layer, apply_tx};
+pub use apply::{add_outputs, apply_in_layer, apply_tx, take_inputs};
 pub use block_undo::{BlockUndo, Spent};
 pub use revert::{revert_in_layer, revert_tx};

@@ -5,7 +5,7 @@ use Rattle.txn.specs.declared.outpoint.OutPoint.{OutPoint}
 use Rattle.coins.specs.declared.entry.CacheEntry.{CacheEntry}
 use Rattle.coins.specs.declared.entry.CacheEntry.TheVariants.{Clean, Dirty, Fresh}
 use Rattle.coins.specs.Coins.{Coin, same}
-use Rattle.coins.specs.Entries.{Entries, entry_at}
+use Rattle.coins.specs.Entries.{Entries, entry_at, stands}
 
 -- fs are es with this entry, or none, at an outpoint
 pub record Written (es fs : Entries) (k : OutPoint) (e : Option CacheEntry) : Type 0 where
@@ -31,12 +31,19 @@ own_coin (Some Clean) = None
 own_coin (Some (Dirty coin)) = coin
 own_coin (Some (Fresh coin)) = Some coin
 
--- the entry after that coin is taken: a fresh one is dropped
-abbrev pub entry_without_coin : Option CacheEntry → Option CacheEntry
-entry_without_coin None = None
-entry_without_coin (Some Clean) = Some Clean
-entry_without_coin (Some (Dirty coin)) = Some (Dirty None)
-entry_without_coin (Some (Fresh coin)) = None
+-- what stands where there is this entry, or none, by what stands there below
+abbrev pub stands_at : Option CacheEntry → Option Coin → Option Coin
+stands_at None below = below
+stands_at (Some e) below = stands e below
+
+-- the entry after the coin that stands there is taken, by what stands below: a fresh one is dropped
+abbrev pub entry_without_coin : Option CacheEntry → Option Coin → Option CacheEntry
+entry_without_coin None None = None
+entry_without_coin None (Some coin) = Some (Dirty None)
+entry_without_coin (Some Clean) None = Some Clean
+entry_without_coin (Some Clean) (Some coin) = Some (Dirty None)
+entry_without_coin (Some (Dirty before)) below = Some (Dirty None)
+entry_without_coin (Some (Fresh before)) below = None
 
 -- an entry stays, or is clean where there was none
 abbrev pub Readied : Option CacheEntry → Option CacheEntry → Type 0

@@ -1,6 +1,5 @@
 -- What the functions that test a transaction take and give.
-use Rattle.std.specs.Prelude.{◌≡◌, ℕ, ◌≤◌, List, length, map, Option, Some}
-use Rattle.std.specs.Borrow.{Bor}
+use Rattle.std.specs.Prelude.{◌≡◌, ℕ, ◌≤◌, List, length, Option, Some}
 use Rattle.std.specs.List.{IsDistinct}
 use Rattle.txn.specs.declared.tx.Tx.{Tx}
 use Rattle.txn.specs.declared.reason.Reason.{Reason}
@@ -13,10 +12,6 @@ use Rattle.connect.specs.Turns.{spent_in, turn}
 use Rattle.connect.specs.laws.Broken.{UpToCoins}
 use Rattle.connect.specs.declared.stop.Stop.{Stop}
 use Rattle.connect.specs.declared.stop.Stop.TheVariants.{Broken, Memory}
-
--- coins that are lent
-abbrev pub coins_of : List (Bor Coin) → List Coin
-coins_of coins = map (λ coin. coin.now) coins
 
 -- where a rule is broken, it is the first one
 abbrev pub IsReason : Option Reason → Stop → Type 0

@@ -1,14 +1,12 @@
 use Rattle.std.proofs.Common.{rules, ◌≡◌, ◌+◌, ◌-◌, ◌^◌, ◌<◌, ◌≤◌, ℕ, min, refl, take, sum_by, length, ap, ap₂, ◌∙◌, arith}
 use Rattle.std.specs.List.{zip}
-use Rattle.std.specs.Borrow.{Bor}
-use Rattle.std.proofs.lemmas.List.{take_all, length-map}
+use Rattle.std.proofs.lemmas.List.{take_all}
 use Rattle.std.proofs.lemmas.List.Sums.{sum_by_push}
 use Rattle.txn.specs.declared.input.TxIn.{TxIn}
 use Rattle.coins.specs.declared.coin.Coin.{Coin}
 use Rattle.script.specs.Signatures.{p2sh_sigops}
 use Rattle.connect.specs.Turns.{inner_sigops}
-use Rattle.connect.specs.inside.Turns.{coins_of}
-use Rattle.connect.proofs.Steps.{take_item, zip_at, length-zip, map_at, item_of}
+use Rattle.connect.proofs.Steps.{take_item, zip_at, length-zip, item_of}
 use Rattle.connect.proofs.counts.inner_sigops.Goals as goal
 
 abbrev of : TxIn × Coin → ℕ
@@ -18,13 +16,13 @@ pub loop-index-preserved : goal.loop-index-preserved
 unfolding p2sh_sigops
 loop-index-preserved c =
     let xs = c.args.tx.now.inputs in
-    let ys = coins_of c.args.coins.now in
+    let ys = c.args.coins.now in
     let i = c.loop-index.index in
     let x = c.index-as_slice-index.result in
-    let y = c.index-coins-index.result.now in
-    let short : length ys ≤ length xs = omega (arith, c.requires, length-map c.args.coins.now (λ (coin : Bor Coin). coin.now)) in
-    let below : i < length ys = omega (arith, c.loop-index-test.true, length-map c.args.coins.now (λ (coin : Bor Coin). coin.now)) in
-    let here = zip_at xs ys i x y (omega arith) below (item_of i x c.as_slice.ensures c.index-as_slice-index.is) (map_at (λ (coin : Bor Coin). coin.now) c.args.coins.now i c.index-coins-index.result c.index-coins-index.is) in
+    let y = c.index-coins-index.result in
+    let short : length ys ≤ length xs = omega (arith, c.requires) in
+    let below : i < length ys = omega (arith, c.loop-index-test.true) in
+    let here = zip_at xs ys i x y (omega arith) below (item_of i x c.as_slice.ensures c.index-as_slice-index.is) c.index-coins-index.is in
     let next : sum_by of (take (i + 1) (zip xs ys)) ≡ sum_by of (take i (zip xs ys)) + of (x, y) = ap (sum_by of) (take_item (zip xs ys) i (x, y) (omega (arith, length-zip xs ys short)) here) ∙ sum_by_push of (take i (zip xs ys)) (x, y) in
     let value : c.p2sh_sigops.result ≡ of (x, y) = c.p2sh_sigops.ensures ∙ ap₂ p2sh_sigops (search rules) (search rules) in
     let sum = c.saturating_add-sum.ensures in
@@ -35,5 +33,5 @@ pub returns : goal.returns
 unfolding inner_sigops
 returns c =
     let xs = c.args.tx.now.inputs in
-    let ys = coins_of c.args.coins.now in
-    c.loop-index.invariant ∙ ap (λ n. min n (2 ^ 128 - 1)) (ap (sum_by of) (take_all c.loop-index.index (zip xs ys) (omega (arith, length-zip xs ys (omega (arith, length-map c.args.coins.now (λ (coin : Bor Coin). coin.now))), length-map c.args.coins.now (λ (coin : Bor Coin). coin.now)))) ∙ refl)
+    let ys = c.args.coins.now in
+    c.loop-index.invariant ∙ ap (λ n. min n (2 ^ 128 - 1)) (ap (sum_by of) (take_all c.loop-index.index (zip xs ys) (omega (arith, length-zip xs ys (omega (arith))))) ∙ refl)

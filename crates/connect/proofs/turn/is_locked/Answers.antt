@@ -1,5 +1,4 @@
 use Rattle.std.proofs.Common.{◌≡◌, ℕ, Bool, true, false, cond, not, ◌&&◌, ◌||◌, nat_le, List, [], ◌∷◌, length, map, refl, sym, ap, ◌∙◌, arith}
-use Rattle.std.specs.Borrow.{Bor}
 use Rattle.std.specs.List.{zip, list_all}
 use Rattle.txn.specs.declared.outpoint.OutPoint.{OutPoint}
 use Rattle.txn.specs.declared.tx.Tx.{Tx}
@@ -10,7 +9,6 @@ use Rattle.coins.specs.declared.coin.Coin.{Coin}
 use Rattle.rules.specs.declared.in_force.InForce.{InForce}
 use Rattle.undo.specs.Effect.{spends}
 use Rattle.connect.specs.Faults.{lock_start}
-use Rattle.connect.specs.inside.Turns.{coins_of}
 use Rattle.connect.proofs.turn.is_locked.Goals.{then-is_coinbase-via-then-is_coinbase, then-is_coinbase-via-else-is_coinbase+then-not-at}
 use Rattle.connect.proofs.turn.is_locked.Goals as goal
 
@@ -48,9 +46,9 @@ returns-then-is_coinbase c = elim c.then-is_coinbase.branch [
       let context = c.args.context.now in
       let first : is_coinbase tx ≡ true = sym c.is_coinbase.ensures.test ∙ w.if-is_coinbase.true in
       let none : c.args.coins.now ≡ [] = no_length c.args.coins.now (c.requires ∙ spends_none tx first) in
-      sym (and_false _ _ (ap not (ap (λ (coins : List (Bor Coin)). are_met tx (map (lock_start context.medians.now) (coins_of coins)) context.height context.cutoff) none ∙ met_without tx context.height context.cutoff))))
+      sym (and_false _ _ (ap not (ap (λ (coins : List Coin). are_met tx (map (lock_start context.medians.now) coins) context.height context.cutoff) none ∙ met_without tx context.height context.cutoff))))
   | then-is_coinbase-via-else-is_coinbase+then-not-at w ↦
       (let context = c.args.context.now in
       let off : nat_le context.params.now.csv context.height ≡ false = ap (λ (rules : InForce). rules.csv) (sym w.at.ensures) ∙ off_where_not w.at.result.csv w.if-not-at.true in
-      sym (ap (λ b. b && not (are_met c.args.tx.now (map (lock_start context.medians.now) (coins_of c.args.coins.now)) context.height context.cutoff)) off))
+      sym (ap (λ b. b && not (are_met c.args.tx.now (map (lock_start context.medians.now) c.args.coins.now) context.height context.cutoff)) off))
 ]

@@ -1,9 +1,33 @@
-use Rattle.std.proofs.Common.{◌≡◌, ap, sym, subst, ◌∙◌}
+use Rattle.std.proofs.Common.{rules, ◌≡◌, length, [], ◌∷◌, refl, ap, sym, subst, ◌∙◌, arith}
 use Rattle.coins.specs.Coins.{Coins, Layer}
 use Rattle.coins.specs.Entries.{Entries, over, IsSound}
 use Rattle.coins.proofs.Layers.{always_err}
 use Rattle.coins.proofs.Merging.{padded_sound, padded_over, merged_over, merged_sound}
 use Rattle.coins.proofs.cache.Cache.absorb.Goals as goal
+
+over_none : (m : Coins) (es : Entries) → length es ≡ 0 → over m es ≡ m
+unfolding over
+over_none m [] h = refl
+over_none m (e ∷ es) h = absurd (omega arith)
+
+pub invariant_of-self : goal.invariant_of-self
+invariant_of-self g c =
+    let m = g.B.Base.coins c.self.inside.base.now in
+    let es = c.self.inside.entries.entries in
+    let ws = c.writes.inside.entries.entries in
+    let empty : length es ≡ 0 = search rules in
+    let below : c.args.self.now.coins ≡ m = sym (ap (λ (l : Layer). l.coins) c.self.view_is) ∙ over_none m es empty in
+    subst (λ (x : Coins). IsSound x ws) below (subst (λ (x : Entries). IsSound c.args.self.now.coins x) (sym c.writes.view_is) c.requires)
+
+pub returns-then-is_empty-clause-ok : goal.returns-then-is_empty-clause-ok
+returns-then-is_empty-clause-ok g c =
+    let m = g.B.Base.coins c.self.inside.base.now in
+    let es = c.self.inside.entries.entries in
+    let ws = c.writes.inside.entries.entries in
+    let empty : length es ≡ 0 = search rules in
+    let below : m ≡ c.args.self.now.coins = sym (over_none m es empty) ∙ ap (λ (l : Layer). l.coins) c.self.view_is in
+    let base : m ≡ c.args.self.now.base = ap (λ (l : Layer). l.base) c.self.view_is in
+    λ i. record { base = base i; coins = over (below i) (c.writes.view_is i) }
 
 pub returns-in_err-make_room-clause-err : goal.returns-in_err-make_room-clause-err
 returns-in_err-make_room-clause-err g c =
