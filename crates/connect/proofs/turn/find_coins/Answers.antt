@@ -1,4 +1,4 @@
-use Rattle.std.proofs.Common.{rules, ◌≡◌, ◌≤◌, false, not, is_some, refl, sym, ap, ◌∙◌, arith}
+use Rattle.std.proofs.Common.{rules, ◌≡◌, false, not, is_some, refl, sym, ap, ◌∙◌, arith}
 use Rattle.rules.specs.Alone.{tx_sigops}
 use Rattle.connect.specs.Turns.{turn}
 use Rattle.connect.specs.laws.Broken.{at_plain, at_missing}
