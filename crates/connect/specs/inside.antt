@@ -2,3 +2,4 @@
 pub mod Turns
 pub mod Listing
 pub mod Applied
+pub mod Early

@@ -4,7 +4,7 @@ ghost use Rattle.std.specs.Prelude.{◌≡◌, ◌≤◌, All};
 ghost use Rattle.std.proofs.Props.{props};
 
 use curve::Table;
-use queue::{Crew, Verdict};
+use queue::{Crew, Verdicts};
 use rules::Params;
 
 /// Where a block stands: on which branch, and under which rules.
@@ -29,7 +29,7 @@ pub struct Env<'a, C: Crew> {
     /// From 1 to 16.
     pub workers: usize,
     /// Verdicts under the same table that were got before, possibly none.
-    pub early: &'a [Verdict<'a>],
+    pub early: &'a [Verdicts<'a>],
     /// Who runs the scripts.
     pub crew: &'a C,
     pub ghost ready: { C.is_ready crew.now } by { C.ready_once crew.now },

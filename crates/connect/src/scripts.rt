@@ -43,6 +43,7 @@ pub(crate) fn first_refused<'a, C: Crew>(
     let found = env.crew.first_failure_with(
         alloc,
         &checks.jobs,
+        &checks.places,
         env.early,
         env.table,
         env.workers,
@@ -58,7 +59,7 @@ pub(crate) fn first_refused<'a, C: Crew>(
 }
 
 /// The rules of scripts that are in force with those of blocks (Bitcoin Core's `GetBlockScriptFlags`).
-fn flags_of(rules: InForce) -> Flags
+pub(crate) fn flags_of(rules: InForce) -> Flags
     ensures { result ≡ flags_of rules }
 {
     Flags {

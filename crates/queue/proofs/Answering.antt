@@ -1,11 +1,13 @@
 -- An answer for the job at a place.
-use Rattle.std.proofs.Common.{◌≡◌, ℕ, ◌<◌, ◌+◌, Bool, true, false, List, [], ◌∷◌, ◌++◌, length, map, take, get_or, Some, subst, refl, arith}
-use Rattle.std.specs.Prelude.{◌↔◌, IsTrue, Option, None, IfSome, slice_get, MatchBool, All}
-use Rattle.std.proofs.lemmas.List.{take_more, map-append}
-use Rattle.std.proofs.lemmas.List.Elements.{All-append}
+use Rattle.std.proofs.Common.{◌≡◌, inl, inr, ℕ, ◌<◌, ◌≤◌, Bool, true, false, List, length, get_or, map, Some, subst, refl, sym, ap, ◌∙◌, arith}
+use Rattle.std.specs.Prelude.{◌↔◌, ◌⊎◌, IsTrue, Option, None, IfSome, slice_get, MatchBool}
+use Rattle.std.specs.Option.{option_map}
+use Rattle.std.proofs.lemmas.Option.{slice_get-map, slice_get_cases}
 use Rattle.curve.specs.Triple.{Triples}
 use Rattle.interp.specs.declared.job.Job.{Job}
-use Rattle.queue.specs.Jobs.{Question, Answered, question_of, IsAccepted, IsAnswer, AcceptsAt, FailsAt}
+use Rattle.interp.specs.laws.Verifying.{accepts-right}
+use Rattle.queue.specs.Jobs.{Question, question_of, IsAccepted, IsAnswer, AreAnswers, AcceptsAt, FailsAt}
+use Rattle.queue.specs.inside.Pairing.{is_accepted, AreKnown}
 
 pub answer-at : (triples : Triples) (jobs : List Job) (place : ℕ) (job : Job) → slice_get jobs place ≡ Some job → (answer : Bool) → IsAnswer (question_of job) triples answer → MatchBool answer (AcceptsAt triples jobs place) (FailsAt triples jobs place)
 answer-at triples jobs place job is true h = λ other there. let same : job ≡ other = cc in subst (λ (j : Job). IsAccepted (question_of j) triples) same h
@@ -21,17 +23,46 @@ pub answer-of : (triples : Triples) (jobs : List Job) (place : ℕ) (job : Job) 
 answer-of triples jobs place job is true h = h job is
 answer-of triples jobs place job is false h = let there = h.1 in let same : h.0 ≡ job = cc in subst (λ (j : Job). ¬ IsAccepted (question_of j) triples) same h.2
 
--- one verdict more, of the next job
-pub verdicts-more : (jobs : List Job) (triples : Triples) (vs : List Answered) (v : Answered) (place : ℕ) (d : Job) (answer : Bool) → place < length jobs → map (λ (x : Answered). x.asked) vs ≡ map question_of (take place jobs) → All (λ (x : Answered). x.triples ≡ triples) vs
-    → v ≡ record { asked = question_of (get_or jobs place d); triples = triples; answer = answer }
-    → (map (λ (x : Answered). x.asked) (vs ++ v ∷ []) ≡ map question_of (take (place + 1) jobs)) × All (λ (x : Answered). x.triples ≡ triples) (vs ++ v ∷ [])
-verdicts-more jobs triples vs v place d answer within same tables is = (
-  simp (map-append, take_more jobs place d within) (cc),
-  All-append (λ (x : Answered). x.triples ≡ triples) vs (v ∷ []) tables (grind arith),
-)
+-- what the test says is the answer, and the answer is what the test says
+pub tested : (triples : Triples) (job : Job) (answer : Bool) → is_accepted triples job ≡ answer → IsAnswer (question_of job) triples answer
+tested triples job true e = (accepts-right job.tx.now job.input job.spent.now job.flags triples).0 e
+tested triples job false e = λ holds. let both : true ≡ false = sym ((accepts-right job.tx.now job.input job.spent.now job.flags triples).1 holds) ∙ e in cc
 
--- what a verdict says of the job at a place, if there is one
-pub known-at : (triples : Triples) (jobs : List Job) (place : ℕ) (job : Job) → slice_get jobs place ≡ Some job → (found : Option Bool) → IfSome found (λ answer. IsAnswer (question_of job) triples answer)
-    → IfSome found (λ answer. MatchBool answer (AcceptsAt triples jobs place) (FailsAt triples jobs place))
-known-at triples jobs place job is (Some answer) h = answer-at triples jobs place job is answer h
-known-at triples jobs place job is None h = tt
+pub test_of : (triples : Triples) (job : Job) (answer : Bool) → IsAnswer (question_of job) triples answer → is_accepted triples job ≡ answer
+test_of triples job true holds = (accepts-right job.tx.now job.input job.spent.now job.flags triples).1 holds
+test_of triples job false fails = at (is_accepted triples job) refl
+  where
+    at : (b : Bool) → is_accepted triples job ≡ b → is_accepted triples job ≡ false
+    at true e = absurd (fails ((accepts-right job.tx.now job.input job.spent.now job.flags triples).0 e))
+    at false e = e
+
+-- what is known of a place says of its job whether it is accepted
+pub known-at : (triples : Triples) (jobs : List Job) (known : List (Option Bool)) → AreKnown triples jobs known → (place : ℕ) (job : Job) → slice_get jobs place ≡ Some job
+    → (found : Option Bool) → slice_get known place ≡ Some found → IfSome found (λ answer. MatchBool answer (AcceptsAt triples jobs place) (FailsAt triples jobs place))
+known-at triples jobs known are place job is (Some answer) there = answer-at triples jobs place job is answer (tested triples job answer (are place job answer is there))
+known-at triples jobs known are place job is None there = tt
+
+pub known-of : (triples : Triples) (jobs : List Job) (known : List (Option Bool)) → AreKnown triples jobs known → (place : ℕ) → place < length jobs
+    → (found : Option Bool) → slice_get known place ≡ Some found → IfSome found (λ answer. MatchBool answer (AcceptsAt triples jobs place) (FailsAt triples jobs place))
+known-of triples jobs known are place within found there = at (slice_get_cases jobs place).1
+  where
+    at : ((job : Job) × (place < length jobs) × (slice_get jobs place ≡ Some job) × (get_or jobs place job ≡ job)) ⊎ ((length jobs ≤ place) × (slice_get jobs place ≡ None)) → IfSome found (λ answer. MatchBool answer (AcceptsAt triples jobs place) (FailsAt triples jobs place))
+    at (inl is) = known-at triples jobs known are place is.0 is.2 found there
+    at (inr past) = absurd (omega (arith, past.0))
+
+-- answers of all places are answers of the questions
+pub answers-of : (triples : Triples) (jobs : List Job) (found : List (Option Bool)) (answers : List Bool)
+    → ((place : ℕ) (said : Bool) → slice_get found place ≡ Some (Some said) → MatchBool said (AcceptsAt triples jobs place) (FailsAt triples jobs place))
+    → map (λ said. Some said) answers ≡ found → AreAnswers (map question_of jobs) triples answers
+answers-of triples jobs found answers each all place q said at_q at_yes = by (slice_get jobs place) refl
+  where
+    there : slice_get found place ≡ Some (Some said)
+    there = ap (λ (l : List (Option Bool)). slice_get l place) (sym all) ∙ slice_get-map (λ (b : Bool). Some b) answers place ∙ ap (option_map (λ (b : Bool). Some b)) at_yes
+
+    by : (job : Option Job) → slice_get jobs place ≡ job → IsAnswer q triples said
+    by (Some job) is =
+        let same : ◌≡◌ {A = Option Question} (Some (question_of job)) (Some q) = sym (slice_get-map question_of jobs place ∙ ap (option_map question_of) is) ∙ at_q in
+        let q_is : question_of job ≡ q = cc in
+        subst (λ (x : Question). IsAnswer x triples said) q_is (answer-of triples jobs place job is said (each place said there))
+    by None is =
+        let both : ◌≡◌ {A = Option Question} None (Some q) = sym (slice_get-map question_of jobs place ∙ ap (option_map question_of) is) ∙ at_q in absurd cc

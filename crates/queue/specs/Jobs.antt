@@ -1,5 +1,5 @@
 -- Which jobs of a list are accepted, and the first one that isn't.
-use Rattle.std.specs.Prelude.{◌≡◌, ℕ, ◌<◌, Bool, true, false, List, length, Option, Some, None, slice_get}
+use Rattle.std.specs.Prelude.{◌≡◌, ℕ, ◌<◌, pos, Bool, true, false, List, [], length, map, get_or, Option, Some, None, slice_get}
 use Rattle.txn.specs.declared.tx.Tx.{Tx}
 use Rattle.curve.specs.Triple.{Triples}
 use Rattle.interp.specs.declared.flags.Flags.{Flags}
@@ -32,11 +32,51 @@ abbrev pub IsAnswer : Question → Triples → Bool → Type 0
 IsAnswer q triples true = IsAccepted q triples
 IsAnswer q triples false = ¬ IsAccepted q triples
 
--- a question with its answer under a table
+-- jobs of one number are of one transaction; those beyond the numbers may be of any
+abbrev pub AreNumbered : List ℕ → List Job → Type 0
+AreNumbered numbers jobs =
+    (i j number : ℕ) (a b : Job) → slice_get jobs i ≡ Some a → slice_get jobs j ≡ Some b
+    → slice_get numbers i ≡ Some number → slice_get numbers j ≡ Some number → a.tx.now ≡ b.tx.now
+
+-- ---- questions that are asked before a block is connected
+
+-- an input of a transaction of a list, by their places, and the script that it spends
+pub record Spending : Type 0 where
+  pub place : ℕ
+  pub input : ℕ
+  pub spent : List ℕ
+
+abbrev pub spending : ℕ → ℕ → List ℕ → Spending
+spending place input spent = record { place = place; input = input; spent = spent }
+
+-- inputs of the transactions of a list, under the same rules
+pub record Batch : Type 0 where
+  pub txs : List Tx
+  pub flags : Flags
+  pub spendings : List Spending
+
+abbrev pub tx_at : List Tx → ℕ → Tx
+tx_at txs place = get_or txs place record { version = pos 0; inputs = []; outputs = []; lock_time = 0 }
+
+-- there are such a transaction and such an input of it
+abbrev pub IsThere : List Tx → Spending → Type 0
+IsThere txs s = (s.place < length txs) × (s.input < length (tx_at txs s.place).inputs)
+
+abbrev pub questions : Batch → List Question
+questions batch = map (λ s. question (tx_at batch.txs s.place) s.input s.spent batch.flags) batch.spendings
+
+-- a batch with an answer to each of its questions, in order, under a table
 pub record Answered : Type 0 where
-  pub asked : Question
+  pub batch : Batch
   pub triples : Triples
-  pub answer : Bool
+  pub answers : List Bool
+
+-- each answer is right
+abbrev pub AreAnswers : List Question → Triples → List Bool → Type 0
+AreAnswers question_of triples answers =
+    (place : ℕ) (q : Question) (yes : Bool) → slice_get question_of place ≡ Some q → slice_get answers place ≡ Some yes → IsAnswer q triples yes
+
+-- ---- the first failure
 
 -- the job at this place, if there is one, is accepted
 abbrev pub AcceptsAt : Triples → List Job → ℕ → Type 0

@@ -1,3 +1,4 @@
 -- What private functions and invariants alone cite.
 pub mod Claims
 pub mod Report
+pub mod Pairing

@@ -2,13 +2,13 @@
 
 ghost use Rattle.std.specs.Prelude.{◌≡◌, ◌<◌, ◌≤◌, ◌^◌, length, All, IfOk};
 ghost use denote.Param.Send.{IsSync};
-ghost use Rattle.queue.specs.Jobs.{HasInput, IsFirstFailure};
+ghost use Rattle.queue.specs.Jobs.{HasInput, AreNumbered, IsFirstFailure};
 ghost use Rattle.queue.specs.laws.Sharing.{IsSync-prop};
 
 use crate::gate::Gate;
-use crate::index::Index;
 use crate::jobs::JobList;
-use crate::verdict::Verdict;
+use crate::pairing::known_answers;
+use crate::verdicts::Verdicts;
 use crate::workers::{first_failure_with, first_refused_alone};
 use curve::Table;
 use interp::Job;
@@ -29,7 +29,8 @@ pub trait Crew {
         &self,
         alloc: Global,
         jobs: &[Job],
-        verdicts: &[Verdict],
+        numbers: &[usize],
+        verdicts: &[Verdicts],
         table: &Table,
         workers: usize,
         gate: &(dyn Gate + Sync),
@@ -38,6 +39,8 @@ pub trait Crew {
         requires workers { (1 ≤ workers) × (workers ≤ 16) }
         requires few { length jobs.now < 2 ^ 32 }
         requires inputs { All HasInput jobs.now }
+        // Jobs of one number are of one transaction, which is compared once with that of a verdict.
+        requires numbered { AreNumbered numbers.now jobs.now }
         requires same_table { All (λ v. v.triples ≡ table.now) verdicts.now }
         ensures { IfOk result (λ place. IsFirstFailure table.now jobs.now place) };
 }
@@ -57,12 +60,15 @@ impl<'r, R: Threads + Sync> Crew for Threaded<'r, R> {
         &self,
         alloc: Global,
         jobs: &[Job],
-        verdicts: &[Verdict],
+        numbers: &[usize],
+        verdicts: &[Verdicts],
         table: &Table,
         workers: usize,
         gate: &(dyn Gate + Sync),
     ) -> Result<Option<usize>, Memory> {
-        first_failure_with(self.rt, alloc, jobs, verdicts, table, workers, &gate)
+        first_failure_with(
+            self.rt, alloc, jobs, numbers, verdicts, table, workers, &gate,
+        )
     }
 }
 
@@ -81,16 +87,17 @@ impl Crew for Alone {
         &self,
         alloc: Global,
         jobs: &[Job],
-        verdicts: &[Verdict],
+        numbers: &[usize],
+        verdicts: &[Verdicts],
         table: &Table,
         _workers: usize,
         gate: &(dyn Gate + Sync),
     ) -> Result<Option<usize>, Memory> {
-        let index = Index::new(alloc, verdicts, table)?;
+        let known = known_answers(alloc, jobs, numbers, verdicts, table)?;
         let list = JobList {
             jobs,
             table,
-            index: &index,
+            known: &known,
         };
         first_refused_alone(alloc, &list, &gate)
     }

@@ -1,51 +1,75 @@
 //! Answers that are got before they are asked for.
 
-ghost use Rattle.std.specs.Prelude.{◌≡◌, ℕ, Bool, ◌<◌, ◌≤◌, ◌^◌, IfOk, IfSome, MatchBool, All, Some, length, map, slice_get, vec_len};
-ghost use Rattle.queue.specs.Jobs.{HasInput, question_of};
+ghost use Rattle.std.specs.Prelude.{◌≡◌, ℕ, Bool, ◌<◌, ◌≤◌, ◌^◌, IfOk, IfSome, MatchBool, Some, length, map, slice_get, vec_len};
+ghost use Rattle.queue.specs.Jobs.{AreAnswers, questions};
 
+use crate::early_jobs::EarlyJobs;
 use crate::gate::Gate;
-use crate::index::Index;
 use crate::jobs::JobList;
 use crate::places::Places;
-use crate::verdict::Verdict;
+use crate::verdicts::Verdicts;
 use crate::workers::run;
 use curve::Table;
-use interp::Job;
 use std::alloc::Global;
 use std::thread::{Threads, for_each_mut};
 use wire::Memory;
 
-/// A verdict of each job, in order. No job is skipped.
+/// The verdicts of jobs. No job is skipped.
 pub fn check_early<'t, R: Threads + Sync, G: Gate + Sync>(
     rt: &R,
     alloc: Global,
-    jobs: &[Job<'t>],
+    jobs: EarlyJobs<'t>,
     table: &'t Table,
     workers: usize,
     gate: &G,
-) -> Result<Vec<Verdict<'t>>, Memory>
+) -> Result<Verdicts<'t>, Memory>
     requires workers { (1 ≤ workers) × (workers ≤ 16) }
-    requires inputs { All HasInput jobs.now }
-    ensures each { IfOk result (λ verdicts. map (λ v. v.asked) verdicts.items ≡
-        map question_of jobs.now) }
-    ensures table { IfOk result (λ verdicts. All (λ v. v.triples ≡
-        table.entry.now) verdicts.items) }
+    ensures batch { IfOk result (λ verdicts. verdicts.batch ≡ jobs.entry) }
+    ensures table { IfOk result (λ verdicts. verdicts.triples ≡ table.entry.now) }
+    ensures each { IfOk result (λ verdicts.
+        length verdicts.answers ≡ length jobs.entry.spendings) }
+    ensures right { IfOk result (λ verdicts.
+        AreAnswers (questions jobs.entry) table.entry.now verdicts.answers) }
 {
-    let index = Index::new(alloc, &[], table)?;
+    let answers = early_answers(rt, alloc, &jobs, table, workers, gate)?;
+    Ok(Verdicts::of(jobs, table, answers))
+}
+
+/// The answer to each job, in order.
+fn early_answers<R: Threads + Sync, G: Gate + Sync>(
+    rt: &R,
+    alloc: Global,
+    jobs: &EarlyJobs,
+    table: &Table,
+    workers: usize,
+    gate: &G,
+) -> Result<Vec<bool>, Memory>
+    requires workers { (1 ≤ workers) × (workers ≤ 16) }
+    ensures each { IfOk result (λ yeses. length yeses.items ≡ length jobs.now.spendings) }
+    ensures right { IfOk result (λ yeses. AreAnswers (questions jobs.now) table.now yeses.items) }
+{
+    let jobs = jobs.jobs(alloc)?;
     let list = JobList {
-        jobs,
+        jobs: &jobs,
         table,
-        index: &index,
+        known: &[],
     };
-    let answers = answers(rt, alloc, &list, workers, gate)?;
-    let mut verdicts = Vec::with_capacity(alloc, jobs.len())?;
-    for place in 0..jobs.len() {
-        let Some(answer) = answers[place] else {
+    let found = answers(rt, alloc, &list, workers, gate)?;
+    all_answers(alloc, &found)
+}
+
+/// The answers, if none is missing.
+fn all_answers(alloc: Global, found: &[Option<bool>]) -> Result<Vec<bool>, Memory>
+    ensures { IfOk result (λ yeses. map (λ yes. Some yes) yeses.items ≡ found.now) }
+{
+    let mut yeses = Vec::with_capacity(alloc, found.len())?;
+    for answer in found {
+        let Some(yes) = *answer else {
             return Err(Memory);
         };
-        verdicts.push(Verdict::of(alloc, &jobs[place], table, answer)?)?;
+        yeses.push(yes)?;
     }
-    Ok(verdicts)
+    Ok(yeses)
 }
 
 /// The answer at each place, where there was memory for it.

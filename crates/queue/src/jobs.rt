@@ -3,21 +3,21 @@
 ghost use Rattle.std.specs.Prelude.{◌≡◌, All, length};
 ghost use Rattle.std.proofs.Props.{props};
 ghost use Rattle.queue.specs.Jobs.{AcceptsAt, FailsAt, HasInput};
+ghost use Rattle.queue.specs.inside.Pairing.{AreKnown};
 
-use crate::index::Index;
 use crate::places::Places;
 use curve::Table;
 use interp::{Job, verify};
 use std::alloc::Global;
 use wire::Memory;
 
-/// The jobs of a list by place, and an index of verdicts under the same table.
+/// The jobs of a list by place, and the answers that are known under the same table, for the first of them or none.
 #[derive(Clone, Copy)]
 pub struct JobList<'a> {
     pub jobs: &'a [Job<'a>],
     pub table: &'a Table,
-    pub index: &'a Index<'a>,
-    pub ghost same_table: { index.now.table.now ≡ table.now } by { Prim.hlevel props },
+    pub known: &'a [Option<bool>],
+    pub ghost right: { AreKnown table.now jobs.now known.now } by { Prim.hlevel props },
     pub ghost inputs: { All HasInput jobs.now } by { Prim.hlevel props },
 }
 
@@ -33,7 +33,7 @@ impl<'a> Places for JobList<'a> {
     }
 
     fn known(&self, place: usize) -> Option<bool> {
-        self.index.answer(&self.jobs[place])
+        *self.known.get(place)?
     }
 
     fn check(&self, alloc: Global, place: usize) -> Result<bool, Memory> {

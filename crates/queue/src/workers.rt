@@ -1,16 +1,16 @@
 //! The workers: each claims the next place of the list, until there is none.
 
 ghost use Rattle.std.specs.Prelude.{◌≡◌, ◌<◌, ◌≤◌, ◌^◌, [], ◌∷◌, length, All, IfOk, MatchBool};
-ghost use Rattle.queue.specs.Jobs.{HasInput, IsFirstFailure};
+ghost use Rattle.queue.specs.Jobs.{HasInput, AreNumbered, IsFirstFailure};
 ghost use Rattle.queue.specs.inside.Report.{IsCounter, Sits, IsLeastOf, IsLeastBelow, Reports};
 
 use crate::claims::{Claim, Halves, Look, Note, ReadNoted, Seat, Words};
 use crate::gate::Gate;
-use crate::index::Index;
 use crate::jobs::JobList;
+use crate::pairing::known_answers;
 use crate::places::Places;
 use crate::report::{lesser, lesser_found};
-use crate::verdict::Verdict;
+use crate::verdicts::Verdicts;
 use atomic_table::Table as Shares;
 use curve::Table;
 use interp::Job;
@@ -34,7 +34,12 @@ pub fn first_failure<R: Threads + Sync, G: Gate + Sync>(
     requires inputs { All HasInput jobs.now }
     ensures { IfOk result (λ place. IsFirstFailure table.now jobs.now place) }
 {
-    first_failure_with(rt, alloc, jobs, &[], table, workers, gate)
+    let list = JobList {
+        jobs,
+        table,
+        known: &[],
+    };
+    first_refused(rt, alloc, &list, workers, gate)
 }
 
 /// The answer of [`first_failure`]. A job that a verdict fits isn't run.
@@ -42,7 +47,8 @@ pub fn first_failure_with<R: Threads + Sync, G: Gate + Sync>(
     rt: &R,
     alloc: Global,
     jobs: &[Job],
-    verdicts: &[Verdict],
+    numbers: &[usize],
+    verdicts: &[Verdicts],
     table: &Table,
     workers: usize,
     gate: &G,
@@ -50,15 +56,17 @@ pub fn first_failure_with<R: Threads + Sync, G: Gate + Sync>(
     requires workers { (1 ≤ workers) × (workers ≤ 16) }
     requires few { length jobs.now < 2 ^ 32 }
     requires inputs { All HasInput jobs.now }
+    // Jobs of one number are of one transaction, which is compared once with that of a verdict.
+    requires numbered { AreNumbered numbers.now jobs.now }
     // The verdicts are of this table.
     requires same_table { All (λ v. v.triples ≡ table.now) verdicts.now }
     ensures { IfOk result (λ place. IsFirstFailure table.now jobs.now place) }
 {
-    let index = Index::new(alloc, verdicts, table)?;
+    let known = known_answers(alloc, jobs, numbers, verdicts, table)?;
     let list = JobList {
         jobs,
         table,
-        index: &index,
+        known: &known,
     };
     first_refused(rt, alloc, &list, workers, gate)
 }

@@ -1,11 +1,20 @@
-use Rattle.std.proofs.Common.{rules, ◌≡◌, List, length, Some, None, ap, subst, ◌∙◌, arith}
+use Rattle.std.proofs.Common.{rules, ◌≡◌, ℕ, List, length, map, Some, None, ap, ap₂, subst, ◌∙◌, arith}
 use Rattle.txn.specs.declared.reason.Reason.TheVariants.{ScriptRefused}
 use Rattle.interp.specs.declared.flags.Flags.{Flags}
-use Rattle.queue.specs.Jobs.{IsFirstFailure}
+use Rattle.std.specs.List.{zip}
+use Rattle.interp.specs.declared.job.Job.{Job}
+use Rattle.queue.specs.Jobs.{question_of, IsFirstFailure}
 use Rattle.connect.specs.Scripts.{Check, flags_of, IsFirstRefused}
 use Rattle.connect.specs.inside.Listing.{checks_from, checks_in}
 use Rattle.connect.proofs.Checks.{none_refused, first_refused_is, below_of}
+use Rattle.connect.proofs.Numbers.{numbered}
 use Rattle.connect.proofs.scripts.first_refused.Goals as goal
+
+pub first_failure_with-requires-clause-numbered : goal.first_failure_with-requires-clause-numbered
+first_failure_with-requires-clause-numbered g c =
+    let listed : zip c.deref-2.result.now (map question_of c.deref.result.now) ≡ checks_from c.flags_of.result 1 c.args.txs.now c.args.undo.now =
+    ap₂ (λ (l : List ℕ) (k : List Job). zip l (map question_of k)) c.deref-2.ensures.value c.deref.ensures.value ∙ c.in_ok-checks.ensures.checks_from in
+    numbered c.flags_of.result c.args.txs.now c.args.undo.now c.deref-2.result.now c.deref.result.now listed
 
 pub returns-in_default : goal.returns-in_default
 returns-in_default g c =
