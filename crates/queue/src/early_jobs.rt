@@ -141,7 +141,8 @@ impl<'t> EarlyJobs<'t> {
     /// The place of an input that asks what the job asks, among those of the transaction that begin at a place.
     pub(crate) fn find(&self, begin: usize, job: &Job) -> Option<usize>
         requires { IsOf self.now begin job.now.tx.now }
-        ensures { IfSome result (λ at. slice_get (questions self.now) at ≡ Some (question_of job.now)) }
+        ensures { IfSome result (λ at. slice_get (questions self.now) at
+            ≡ Some (question_of job.now)) }
     {
         let place = self.list.get(begin)?.place;
         let before = (place, job.input);

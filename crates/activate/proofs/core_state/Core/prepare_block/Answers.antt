@@ -83,8 +83,7 @@ prepare_on_tip-requires-clause-new g c =
     let e = c.len.ensures.count in
     let none : place_of names c.self.inside.tree.blocks (id_of c.args.submitted.now.block.header) ≡ None = ap (place_of names c.self.inside.tree.blocks) (sym c.requires.submission.1.id) ∙ sym c.find.ensures ∙ c.in_default.is in
     let faultless : first_fault (regtest c.self.inside.params c.args.env.now.table.now) c.self.inside.tree c.args.now c.args.submitted.now.block ≡ None = sym (c.in-Ok.ensures.fault c.args.env.now.table.now) in
-    let tip : c.in-Ok.parent ≡ c.args.self.now.active = c.if-parent-self.true ∙ ap (λ (x : CoreState). x.active) c.self.view_is in
-    (
+    let tip : c.in-Ok.parent ≡ c.args.self.now.active = c.if-parent-self.true ∙ ap (λ (x : CoreState). x.active) c.self.view_is in (
       c.args.now,
       subst (λ (p : ℕ). IsNew (regtest c.args.self.now.params c.args.env.now.table.now) c.args.self.now.state c.args.now c.args.submitted.now.block p) tip
           (new-inside _ _ c.args.env.now.table.now c.args.now c.in-Ok.parent c.args.submitted.now.block c.self.view_is none (omega arith) faultless c.in-Ok.ensures.parent),
