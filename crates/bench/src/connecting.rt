@@ -97,7 +97,7 @@ where
     R: AllocGlobal + Clock + Threads + Sync,
 {
     let ids = ids(rt.alloc(), block.txs.as_slice())?;
-    if block_alone_with(rt.alloc(), block, &ids)?.is_some() {
+    if block_alone_with(rt.alloc(), block, &block.id(), &ids)?.is_some() {
         return Err(Fault::Unread);
     }
     let context = Context {

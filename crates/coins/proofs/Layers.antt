@@ -118,10 +118,6 @@ pub always_err : {T E : Type 0} {P : Type 0} (r : Result T E) → P → OnErr r 
 always_err (Ok x) p = tt
 always_err (Err x) p = p
 
-pub copied_some : {T : Type 0} (o : Option (Bor T)) → IsSome (option_copied o) → IsSome o
-copied_some None h = cc
-copied_some (Some x) h = refl
-
 pub if_ok : {T E : Type 0} {P Q : T → Type 0} (r : Result T E) → IfOk r P → ((x : T) → P x → Q x) → IfOk r Q
 if_ok (Ok x) h f = f x h
 if_ok (Err x) h f = tt

@@ -28,14 +28,6 @@ pub some_from : {A : Type 0} (o : Option A) → is_some o ≡ true → IsSome o
 some_from None h = cc
 some_from (Some x) h = refl
 
-pub not_true : (b : Bool) → not b ≡ true → b ≡ false
-not_true true h = sym h
-not_true false h = refl
-
-pub not_false : (b : Bool) → not b ≡ false → b ≡ true
-not_false true h = refl
-not_false false h = sym h
-
 -- padding
 pad_ok : (o : Option CacheEntry) → Readied o o
 pad_ok None = tt

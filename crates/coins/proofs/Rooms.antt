@@ -56,10 +56,6 @@ cover_here (Some w) a b h = refl
 pub covered_laid : (m n : Coins) (ws : Changes) → Covered m n ws → after_changes n ws ≡ after_changes m ws
 covered_laid m n ws c = same_coins _ _ (λ q. get-laid n ws q ∙ cover_here (entry_for ws q) (map.get n q) (map.get m q) (c.at q) ∙ sym (get-laid m ws q))
 
--- making room
-pub opened_none : (m : Coins) → Opened m m []
-opened_none m = record { at = λ q. refl }
-
 or_here : (a b : Bool) (n w : Option Coin) → (b ≡ true → n ≡ None) → cond a None n ≡ cond (a || b) None n
 or_here true b n w h = refl
 or_here false true n w h = h refl
@@ -118,10 +114,6 @@ covered_here : (b : Bool) (f : Option (Option Coin)) (a c : Option Coin) → a �
 covered_here true f a c e h n = let x : is_some f ≡ true = h refl in let y : is_some f ≡ false = ap (λ o. is_some o) n in cc
 covered_here false f a c e h n = sym e
 
--- the outpoints that have been made ready are among the changes
-pub covered_from : (n m : Coins) (added : List OutPoint) (ws : Changes) → Opened n m added → ((q : OutPoint) → list_any (same q) added ≡ true → is_some (entry_for ws q) ≡ true) → Covered m n ws
-covered_from n m added ws o h = record { at = λ q none. covered_here (list_any (same q) added) (entry_for ws q) (map.get m q) (map.get n q) (o.at q) (h q) none }
-
 both_here : (a b : Bool) (n : Option Coin) → cond b None (cond a None n) ≡ cond (a || (b || false)) None n
 both_here true true n = refl
 both_here true false n = refl
@@ -166,11 +158,6 @@ all_push P (y ∷ xs) x a p = (a.0, all_push P xs x a.1 p)
 pub room_more : (n p : Coins) (cs : Changes) (c : OutPoint × Option Coin) → ((q : OutPoint) → is_some (map.get n q) ≡ true → is_some (map.get p q) ≡ true)
     → (is_some c.1 ≡ true → is_some (map.get p c.0) ≡ true) → HasRoomFor n cs → HasRoomFor p (cs ++ c ∷ [])
 room_more n p cs c keeps here r = record { all = all_push (λ x. is_some x.1 ≡ true → is_some (map.get p x.0) ≡ true) cs c (room_all n p cs keeps r.all) here }
-
--- what is noted is among the changes
-named_here : (b : Bool) (w : Option Coin) (o : Option (Option Coin)) → (b ≡ true → is_some (cond b (Some w) o) ≡ true)
-named_here true w o h = refl
-named_here false w o h = cc
 
 named_on : (b : Bool) (w : Option Coin) (o : Option (Option Coin)) → is_some o ≡ true → is_some (cond b (Some w) o) ≡ true
 named_on true w o h = refl

@@ -103,7 +103,8 @@ impl<'a, B: Base> Cache<'a, B> {
         ensures differences { IfOk result (λ changes.
             AreChanges self.now.base self.now.coins changes) }
         // Laid over the base, they give the coins of this layer.
-        ensures laid { IfOk result (λ changes. after_changes self.now.base changes ≡ self.now.coins) }
+        ensures laid { let base = self.now.base in
+            IfOk result (λ changes. after_changes base changes ≡ self.now.coins) }
     {
         Ok(Changes::from_vec(list(alloc, &self.entries, self.base)?))
     }

@@ -63,8 +63,3 @@ module _ (s : Setting) (tx : Tx) (m : Coins) (n : ℕ) (few : n ≤ max_block_si
   pub locked_is : (coins : List Coin) (b : Bool) → coins ≡ spent_in here
       → b ≡ (s.rules.csv && not (are_met tx (map (lock_start s.medians) coins) s.height s.cutoff)) → is_locked s here ≡ b
   locked_is coins b e h = sym (h ∙ ap (λ cs. s.rules.csv && not (are_met tx (map (lock_start s.medians) cs) s.height s.cutoff)) e)
-
-  -- the count with inner scripts, after the one without them
-  pub inner_is : (coins : List Coin) (r p i : ℕ) → coins ≡ spent_in here → r ≡ min (tx_sigops tx) (2 ^ 128 - 1) → p ≡ min (n + r) (2 ^ 128 - 1) → p ≤ max_block_sigops
-      → i ≡ min (inner_sigops coins tx) (2 ^ 128 - 1) → (p ≡ plain_count here) × (i ≡ min (inner_sigops (spent_in here) tx) (2 ^ 128 - 1))
-  inner_is coins r p i e a b h k = (exact_count n (tx_sigops tx) r p few a b h, k ∙ ap (λ cs. min (inner_sigops cs tx) (2 ^ 128 - 1)) e)

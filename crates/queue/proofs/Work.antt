@@ -62,16 +62,6 @@ module _ {C : Type 0} (list : C) (count : ℕ) (A F : ℕ → Type 0) where
       go None h = λ x below. h x below (within x below)
       go (Some least) h = (h.0, h.1, λ x below. h.2 x below (within x (let c = h.0 in omega arith)))
 
-  pub accepts-one : (place : ℕ) → A place → IsLeastOf count A F (place ∷ []) None
-  accepts-one place h = λ x in_list t. subst A (only-here place x t) h
-
-  -- a lesser place is refused, so this one need not be run
-  pub skips-one : (place noted : ℕ) → noted < place → place < count → F noted → IsLeastOf count A F (place ∷ []) (Some noted)
-  skips-one place noted lower in_list h = (omega arith, h, λ x below t. let e = only-here place x t in absurd (omega arith))
-
-  pub fails-one : (place : ℕ) → place < count → F place → IsLeastOf count A F (place ∷ []) (Some place)
-  fails-one place in_list h = (in_list, h, λ x below t. let e = only-here place x t in absurd (omega arith))
-
   -- a worker has claimed places within the list alone, the last one just below `past`
   pub record Working (id : TableId) (parts : ℕ) (seat : Seat (Unit {0}) (Share C)) (past : ℕ) (least : Option ℕ) : Type 0 where
     pub sits : Sits id list seat

@@ -73,8 +73,8 @@ pub record Answered : Type 0 where
 
 -- each answer is right
 abbrev pub AreAnswers : List Question → Triples → List Bool → Type 0
-AreAnswers question_of triples answers =
-    (place : ℕ) (q : Question) (yes : Bool) → slice_get question_of place ≡ Some q → slice_get answers place ≡ Some yes → IsAnswer q triples yes
+AreAnswers asked triples answers =
+    (place : ℕ) (q : Question) (yes : Bool) → slice_get asked place ≡ Some q → slice_get answers place ≡ Some yes → IsAnswer q triples yes
 
 -- ---- the first failure
 

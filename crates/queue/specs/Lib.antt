@@ -1,3 +1,4 @@
 pub mod Jobs
+pub mod Spendings
 pub mod inside
 pub mod laws

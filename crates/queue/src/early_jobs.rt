@@ -40,7 +40,7 @@ impl<'t> Model for EarlyJobs<'t> {
     ghost use Rattle.std.specs.Coded.{codes};
     ghost use Rattle.std.specs.Prelude.{All, map};
     ghost use Rattle.queue.specs.Jobs.{Batch, IsThere};
-    ghost use Rattle.queue.specs.inside.Pairing.{spending_of};
+    ghost use Rattle.queue.specs.Spendings.{spending_of};
 
     ghost Value = { Batch };
 

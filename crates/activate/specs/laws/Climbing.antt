@@ -208,15 +208,6 @@ module _ (t : Blocks Block) where
   abbrev EachIs : ℕ → Type 0
   EachIs p = (k : ℕ) → k < length (branch t p) → get_or (medians_at p) k 0 ≡ median_time_past (branch_blocks t (get_or (branch t p) k 0))
 
-  each-is : (p : ℕ) → p ≤ length t → EachIs p
-  each-is p h = climb t 0 EachIs first up p h (on-genesis t p)
-    where
-      here : (x : ℕ) (older : List ℕ) → branch t x ≡ x ∷ older → get_or (medians_at x) 0 0 ≡ median_time_past (branch_blocks t (get_or (branch t x) 0 0))
-      here x older e =
-          ap (λ (l : List ℕ). get_or (medians_of (blocks_at names t l)) 0 0) e
-          ∙ ap (λ (l : List ℕ). median_time_past (blocks_at names t l)) (sym e)
-          ∙ ap (λ (l : List ℕ). median_time_past (branch_blocks t (get_or l 0 0))) (sym e)
-
       first : EachIs 0
       first k l =
           let n = ap (λ (b : List ℕ). length b) (branch-genesis t) in
