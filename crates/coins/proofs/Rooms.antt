@@ -110,10 +110,6 @@ changed_put es fs k w h = same_coins _ _ (λ q.
     ∙ ap (λ b. cond b w (entry_for es q)) (same-sym k q)
     ∙ sym (get-put (from_entries es) k w q ∙ ap (cond (same q k) w) (get-entries es q)))
 
-covered_here : (b : Bool) (f : Option (Option Coin)) (a c : Option Coin) → a ≡ cond b None c → (b ≡ true → is_some f ≡ true) → f ≡ None → c ≡ a
-covered_here true f a c e h n = let x : is_some f ≡ true = h refl in let y : is_some f ≡ false = ap (λ o. is_some o) n in cc
-covered_here false f a c e h n = sym e
-
 both_here : (a b : Bool) (n : Option Coin) → cond b None (cond a None n) ≡ cond (a || (b || false)) None n
 both_here true true n = refl
 both_here true false n = refl

@@ -204,25 +204,6 @@ module _ (t : Blocks Block) where
   pub length-medians_at : (p : ℕ) → length (reverse (medians_at p)) ≡ length (branch t p)
   length-medians_at p = length-reverse (medians_at p) ∙ length-medians (branch_blocks t p) ∙ length-map (branch t p) (block_at names t)
 
-  -- each is that of the block at its height
-  abbrev EachIs : ℕ → Type 0
-  EachIs p = (k : ℕ) → k < length (branch t p) → get_or (medians_at p) k 0 ≡ median_time_past (branch_blocks t (get_or (branch t p) k 0))
-
-      first : EachIs 0
-      first k l =
-          let n = ap (λ (b : List ℕ). length b) (branch-genesis t) in
-          let z : k ≡ 0 = omega arith in
-          subst (λ (i : ℕ). get_or (medians_at 0) i 0 ≡ median_time_past (branch_blocks t (get_or (branch t 0) i 0))) (sym z) (here 0 [] (branch-genesis t))
-
-      up : (x : ℕ) → 0 < x → x ≤ length t → on t (parent_at t x) 0 ≡ true → EachIs (parent_at t x) → EachIs x
-      up x z m o below zero l = here x (branch t (parent_at t x)) (branch-parent t x z m)
-      up x z m o below (suc k) l =
-          let e = branch-parent t x z m in
-          let n = ap (λ (b : List ℕ). length b) e in
-          ap (λ (b : List ℕ). get_or (medians_of (blocks_at names t b)) (suc k) 0) e
-          ∙ below k (omega arith)
-          ∙ ap (λ (b : List ℕ). median_time_past (branch_blocks t (get_or b (suc k) 0))) (sym e)
-
   module _ (p height : ℕ) (h : p ≤ length t) (low : height < length (branch t p)) where
     pub place-kept : get_or (reverse (branch t p)) height 0 ≤ length t
     unfolding on
