@@ -95,6 +95,13 @@ impl Core {
         })
     }
 
+    /// The heights of soft forks, as they were given.
+    pub fn params(&self) -> &Params
+        ensures { result.now ≡ self.now.params }
+    {
+        &self.params
+    }
+
     /// The active block's id.
     pub fn best(&self) -> Id
         ensures { (triples : Triples) → Follows self.now triples
