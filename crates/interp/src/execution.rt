@@ -307,6 +307,7 @@ impl<'a> Execution<'a> {
         ensures { IfOk result (λ done. Gives done
             (after_skipping (row_at number) self.old) self.new) }
     {
+        // Asked first, since it is so of most opcodes and the compiler would ask for the others before it.
         if number < OP_IF {
             return Ok(true);
         }
@@ -318,9 +319,9 @@ impl<'a> Execution<'a> {
             OP_VERIF | OP_VERNOTIF => Ok(false),
             OP_ELSE => self.turn(),
             OP_ENDIF => Ok(self.close()),
-            OP_CAT..=OP_RIGHT | OP_INVERT..=OP_XOR | OP_2MUL | OP_2DIV | OP_MUL..=OP_RSHIFT => Ok(
-                false,
-            ),
+            OP_CAT..=OP_RIGHT | OP_INVERT..=OP_XOR | OP_2MUL..=OP_2DIV | OP_MUL..=OP_RSHIFT => {
+                Ok(false)
+            }
             // What leaves it so, a gap between these at a time.
             OP_0..=OP_VER => Ok(true),
             OP_VERIFY..OP_CAT => Ok(true),

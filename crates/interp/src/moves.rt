@@ -40,8 +40,22 @@ fn reach(by: Move) -> usize
     }
 }
 
-// The elements stay where they are in the stack's vector and change places in pairs: a frame with a slot for each
-// of them would be cleared at each opcode, which costs more than the row.
+// Two elements change places, by how far below the top they lie; then the next two.
+macro_rules! swap {
+    ($stack:ident; $($m:literal $n:literal),*) => {{
+        $($stack.swap($m, $n);)*
+    }};
+}
+
+// A copy of the element so far below the top is pushed; then the next.
+macro_rules! copy {
+    ($alloc:ident, $stack:ident; $($n:literal)*) => {{
+        $($stack.push_copy($alloc, $n)?;)*
+    }};
+}
+
+// The elements stay in the stack's vector and change places there. Popped into names they would have a slot each in
+// the frame, and to clear all these slots at each opcode costs more than the row.
 /// Whether the elements are there; if so, they are rearranged.
 #[tactic(auto, using(crate::proofs::Exchanges::moved))]
 pub fn rearrange(alloc: Global, stack: &mut Pile<Element>, by: Move) -> Result<bool, Memory>
@@ -53,44 +67,23 @@ pub fn rearrange(alloc: Global, stack: &mut Pile<Element>, by: Move) -> Result<b
     }
     match by {
         Move::Drop2 => stack.drop_top(2),
-        Move::Dup2 => {
-            stack.push_copy(alloc, 1)?;
-            stack.push_copy(alloc, 1)?;
-        }
-        Move::Dup3 => {
-            stack.push_copy(alloc, 2)?;
-            stack.push_copy(alloc, 2)?;
-            stack.push_copy(alloc, 2)?;
-        }
-        Move::Over2 => {
-            stack.push_copy(alloc, 3)?;
-            stack.push_copy(alloc, 3)?;
-        }
-        Move::Rot2 => {
-            stack.swap(0, 2);
-            stack.swap(1, 3);
-            stack.swap(0, 4);
-            stack.swap(1, 5);
-        }
-        Move::Swap2 => {
-            stack.swap(0, 2);
-            stack.swap(1, 3);
-        }
+        Move::Dup2 => copy!(alloc, stack; 1 1),
+        Move::Dup3 => copy!(alloc, stack; 2 2 2),
+        Move::Over2 => copy!(alloc, stack; 3 3),
+        Move::Rot2 => swap!(stack; 0 2, 1 3, 0 4, 1 5),
+        Move::Swap2 => swap!(stack; 0 2, 1 3),
         Move::Drop1 => stack.drop_top(1),
-        Move::Dup => stack.push_copy(alloc, 0)?,
+        Move::Dup => copy!(alloc, stack; 0),
         Move::Nip => {
-            stack.swap(0, 1);
+            swap!(stack; 0 1);
             stack.drop_top(1);
         }
-        Move::Over => stack.push_copy(alloc, 1)?,
-        Move::Rot => {
-            stack.swap(0, 1);
-            stack.swap(0, 2);
-        }
-        Move::Swap => stack.swap(0, 1),
+        Move::Over => copy!(alloc, stack; 1),
+        Move::Rot => swap!(stack; 0 1, 0 2),
+        Move::Swap => swap!(stack; 0 1),
         Move::Tuck => {
-            stack.swap(0, 1);
-            stack.push_copy(alloc, 1)?;
+            swap!(stack; 0 1);
+            copy!(alloc, stack; 1);
         }
     }
     Ok(true)
