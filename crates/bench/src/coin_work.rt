@@ -90,15 +90,15 @@ pub fn looked_up<R: AllocGlobal + Clock>(rt: &R, size: usize) -> Result<Outcome,
     Outcome::since(rt, begin, Check::Count(sum))
 }
 
-/// Each of so many coins of a map, spent in a layer.
+/// Each of so many coins of a map, looked for and spent in a layer.
 pub fn spent<R: AllocGlobal + Clock>(rt: &R, size: usize) -> Result<Outcome, Fault> {
     let (map, places) = filled(rt.alloc(), size)?;
     let mut layer = Cache::over(rt.alloc(), &map);
     let mut sum = 0u64;
     let begin = Instant::now(rt)?;
     for at in places.as_slice() {
-        if layer.get(at).is_some() {
-            sum = sum.wrapping_add(layer.spend(at)?.value.unsigned_abs());
+        if let Some(coin) = layer.take(at)? {
+            sum = sum.wrapping_add(coin.value.unsigned_abs());
         }
     }
     Outcome::since(rt, begin, Check::Count(sum))

@@ -10,7 +10,7 @@ use Rattle.coins.specs.declared.entry.CacheEntry.TheVariants.{Clean, Dirty, Fres
 use Rattle.coins.specs.Coins.{Coin, Coins, Layer, same, put}
 use Rattle.coins.specs.Entries.{Entries, stands, over, entry_at, MarkHolds, IsSound}
 pub use Rattle.coins.specs.inside.Entries.{stands_at}
-use Rattle.coins.specs.inside.Entries.{Written, added_entry, is_fresh, entry_without_coin}
+use Rattle.coins.specs.inside.Entries.{Written, added_entry, is_fresh, own_coin, entry_without_coin}
 use Rattle.coins.specs.laws.Lookups.{same_coins, same-true, same-sym, get-put}
 
 over_here : (b : Bool) (k q : OutPoint) (m : Coins) (e : CacheEntry) (o : Option CacheEntry) → same q k ≡ b → cond b (stands e (map.get m k)) (stands_at o (map.get m q)) ≡ stands_at (cond b (Some e) o) (map.get m q)
@@ -67,6 +67,13 @@ fresh_none None below f h = cc
 fresh_none (Some Clean) below f h = cc
 fresh_none (Some (Dirty w)) below f h = cc
 fresh_none (Some (Fresh d)) below f h = h
+
+-- over nothing, what stands is the coin that an entry holds
+pub own_stands : (o : Option CacheEntry) → stands_at o None ≡ own_coin o
+own_stands None = refl
+own_stands (Some Clean) = refl
+own_stands (Some (Dirty w)) = refl
+own_stands (Some (Fresh d)) = refl
 
 -- once it is taken, nothing stands there
 pub emptied_stands : (o : Option CacheEntry) (below : Option Coin) → MarkHolds o below → stands_at (entry_without_coin o below) below ≡ None

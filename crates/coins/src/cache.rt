@@ -1,6 +1,6 @@
 //! A layer of changes over a base, on which further layers can stand.
 
-ghost use Rattle.std.specs.Prelude.{◌≡◌, IfOk, OnOk, OnErr, None, Some, IsSome};
+ghost use Rattle.std.specs.Prelude.{◌≡◌, IfOk, OnOk, OnErr, None, Some, IsSome, is_some};
 ghost use Rattle.std.specs.Option.{option_copied};
 ghost use Rattle.std.specs.FinMap as map;
 ghost use Rattle.coins.specs.Changes.{AreChanges, after_changes};
@@ -9,7 +9,7 @@ ghost use Rattle.coins.specs.Entries.{over, IsSound};
 use crate::base::Base;
 use crate::changes::{Changes, list};
 use crate::coin::Coin;
-use crate::entry::{CacheEntry, lay_all, make_room, put, take};
+use crate::entry::{CacheEntry, holds_coin, lay_all, make_room, put, take};
 use crate::writes::Writes;
 use std::alloc::Global;
 use std::collections::BTreeMap;
@@ -64,6 +64,14 @@ impl<'a, B: Base> Cache<'a, B> {
             Some(CacheEntry::Clean) => self.base.get(at),
             None => self.base.get(at),
         }
+    }
+
+    /// Whether a coin stands at an outpoint where none stands below: the base isn't looked at.
+    pub fn has_above(&self, at: &OutPoint) -> bool
+        requires { map.get self.now.base at.now ≡ None }
+        ensures { result ≡ is_some (map.get self.now.coins at.now) }
+    {
+        holds_coin(self.entries.get(at))
     }
 
     /// Puts a coin where there is none.

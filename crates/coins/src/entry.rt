@@ -1,6 +1,6 @@
 //! The entries of a layer.
 
-ghost use Rattle.std.specs.Prelude.{◌≡◌, ◌↔◌, IfOk, OnOk, OnErr, IsOk, IsTrue, None, Some, IsSome};
+ghost use Rattle.std.specs.Prelude.{◌≡◌, ◌↔◌, IfOk, OnOk, OnErr, IsOk, IsTrue, None, Some, IsSome, is_some};
 ghost use Rattle.std.specs.FinMap as map;
 ghost use Rattle.std.specs.Option.{option_copied};
 ghost use Rattle.txn.specs.declared.outpoint.OutPoint.{OutPoint};
@@ -40,6 +40,15 @@ fn is_fresh(entry: Option<&CacheEntry>) -> bool
     ensures { result ≡ is_fresh (option_copied entry.entry) }
 {
     matches!(entry, Some(CacheEntry::Fresh(_)))
+}
+
+pub(crate) fn holds_coin(entry: Option<&CacheEntry>) -> bool
+    ensures { result ≡ is_some (own_coin (option_copied entry.entry)) }
+{
+    matches!(
+        entry,
+        Some(CacheEntry::Dirty(Some(_))) | Some(CacheEntry::Fresh(_))
+    )
 }
 
 fn is_clean(entry: &CacheEntry) -> bool

@@ -1,6 +1,6 @@
 //! Connecting a block.
 
-ghost use Rattle.std.specs.Prelude.{◌≡◌, ◌+ℤ◌, ◌≤◌, ◌≤ℤ◌, ◌^◌, ◌∷◌, neg_ℤ, pos, int_lt, map, All, IfOk, IfErr, OnOk, OnErr, None, length};
+ghost use Rattle.std.specs.Prelude.{◌≡◌, ◌+ℤ◌, ◌≤◌, ◌≤ℤ◌, ◌^◌, ◌∷◌, neg_ℤ, pos, false, int_lt, map, All, IfOk, IfErr, OnOk, OnErr, None, length};
 ghost use Rattle.std.specs.List.{AllByRecursion, list_any, flat_map};
 ghost use Rattle.std.specs.Result.{result_err};
 ghost use Rattle.txn.specs.Check.{total};
@@ -100,7 +100,7 @@ fn attempt<B: Base>(
     Ok((undo, layer.into_writes()))
 }
 
-/// Tests and applies the transactions of a block.
+/// Tests and applies the transactions of a block, on a layer that wrote nothing yet.
 fn connect_txs<'b, B: Base>(
     alloc: Global,
     layer: Cache<'b, B>,
@@ -108,6 +108,7 @@ fn connect_txs<'b, B: Base>(
     txs: &[Tx],
     ids: &[Id],
 ) -> Result<(Cache<'b, B>, BlockUndo), Stop>
+    requires fresh { layer.coins ≡ layer.base }
     requires some { 1 ≤ length txs.now }
     requires few { length txs.now ≤ 1000000 }
     requires lawful { AllByRecursion IsLawful txs.now }
@@ -176,6 +177,7 @@ fn connect_others<'b, B: Base>(
     requires lawful { AllByRecursion IsLawful txs.now }
     requires ids { ids.now ≡ ids_of txs.now }
     requires counted { counted ≤ max_block_sigops }
+    requires below { list_any (overwrites layer.base) txs.now ≡ false }
     ensures fault { let ts = turns context.now.height layer.entry.coins counted txs.now in
         IfErr result (IsReason (first_broken (flat_map (turn_rules (setting context.now)) ts))) }
     ensures none { let ts = turns context.now.height layer.entry.coins counted txs.now in

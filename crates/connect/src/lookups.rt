@@ -1,6 +1,6 @@
 //! Coins that an output would overwrite.
 
-ghost use Rattle.std.specs.Prelude.{◌≡◌, ◌≤◌, length, map};
+ghost use Rattle.std.specs.Prelude.{◌≡◌, ◌≤◌, false, length, map};
 ghost use Rattle.std.specs.List.{list_any, range_with_len};
 ghost use Rattle.txn.specs.Identity.{id_of};
 ghost use Rattle.undo.specs.Effect.{place};
@@ -27,6 +27,32 @@ fn has_coin_below<B: Base>(layer: &Cache<'_, B>, id: Id, count: u32) -> bool
 {
     for index in 0..count {
         if layer.get(&OutPoint { id, index }).is_some() {
+            return true;
+        }
+    }
+    false
+}
+
+/// The same where none of its outputs is a coin below the layer, which isn't looked at again.
+#[tactic(auto, unfolding(crate::specs::Faults::overwrites))]
+pub(crate) fn overwrites_above<B: Base>(layer: &Cache<'_, B>, tx: &Tx, id: Id) -> bool
+    requires id { id ≡ id_of tx.now }
+    requires numbered { length tx.now.outputs ≤ 1000000 }
+    requires below { overwrites layer.now.base tx.now ≡ false }
+    ensures { result ≡ overwrites layer.now.coins tx.now }
+{
+    has_coin_above(layer, id, tx.outputs.len() as u32)
+}
+
+/// Whether one of the first outpoints of an id is a coin, where none of them is one below.
+fn has_coin_above<B: Base>(layer: &Cache<'_, B>, id: Id, count: u32) -> bool
+    requires { list_any (has_coin layer.now.base) (map (place id) (range_with_len 0 count)) ≡
+        false }
+    ensures { result ≡
+        list_any (has_coin layer.now.coins) (map (place id) (range_with_len 0 count)) }
+{
+    for index in 0..count {
+        if layer.has_above(&OutPoint { id, index }) {
             return true;
         }
     }

@@ -1,6 +1,6 @@
 //! A transaction in its turn: tested over the coins that it finds, and applied.
 
-ghost use Rattle.std.specs.Prelude.{◌≡◌, ℕ, Some, ◌≤◌, ◌^◌, ◌≤ℤ◌, ◌&&◌, neg_ℤ, pos, int_lt, not, map, length, None, IfOk, IfErr, OnOk};
+ghost use Rattle.std.specs.Prelude.{◌≡◌, ℕ, Some, ◌≤◌, ◌^◌, ◌≤ℤ◌, ◌&&◌, neg_ℤ, pos, int_lt, not, map, length, false, None, IfOk, IfErr, OnOk};
 ghost use Rattle.std.specs.List.{IsDistinct, list_any};
 ghost use Rattle.txn.specs.Check.{is_coinbase};
 ghost use Rattle.txn.specs.First.{first_broken};
@@ -11,14 +11,14 @@ ghost use Rattle.rules.specs.Alone.{max_block_sigops};
 ghost use Rattle.coins.specs.Coins.{Coins, same};
 ghost use Rattle.connect.specs.Setting.{Setting, setting, median_below};
 ghost use Rattle.connect.specs.Turns.{turn, left_by, spent_in, plain_count, full_count};
-ghost use Rattle.connect.specs.Faults.{is_immature, lock_start, fee, turn_rules};
+ghost use Rattle.connect.specs.Faults.{is_immature, lock_start, fee, overwrites, turn_rules};
 ghost use Rattle.connect.specs.inside.Turns.{HasFound, IsReason, IsLawful};
 ghost use Rattle.connect.specs.laws.Broken.{UpToAmount, UpToCount};
 
 use crate::amounts::{paid, worth};
 use crate::context::Context;
 use crate::counts::inner_sigops;
-use crate::lookups::overwrites;
+use crate::lookups::overwrites_above;
 use crate::stop::Stop;
 use coins::{Base, Cache, Coin};
 use hash::Id;
@@ -58,7 +58,8 @@ pub(crate) struct Turned<'b, B: Base> {
     pub passed: Passed,
 }
 
-/// Tests and applies a transaction, after others that counted so many signature operations.
+/// Tests and applies a transaction, after others that counted so many signature operations. None of its outputs is a
+/// coin below the layer.
 pub(crate) fn connect_tx<'b, B: Base>(
     alloc: Global,
     layer: Cache<'b, B>,
@@ -70,6 +71,7 @@ pub(crate) fn connect_tx<'b, B: Base>(
     requires lawful { IsLawful tx.now }
     requires id { id ≡ id_of tx.now }
     requires counted { counted ≤ max_block_sigops }
+    requires below { overwrites layer.base tx.now ≡ false }
     ensures fault { let t = turn tx.now layer.entry.coins counted in
         IfErr result (IsReason (first_broken (turn_rules (setting context.now) t))) }
     ensures none { let t = turn tx.now layer.entry.coins counted in
@@ -88,7 +90,7 @@ pub(crate) fn connect_tx<'b, B: Base>(
     ensures few { IfOk result (λ done. done.passed.counted ≤ max_block_sigops) }
 {
     // Asked before its inputs are taken: one may spend what stands where an output is to come.
-    let overwriting = overwrites(&layer, tx, id);
+    let overwriting = overwrites_above(&layer, tx, id);
     let Taken {
         layer,
         spent,

@@ -1,9 +1,12 @@
-use Rattle.std.proofs.Common.{◌≤◌, List, length, sym, subst}
+use Rattle.std.proofs.Common.{◌≤◌, List, length, sym, subst, ◌∙◌}
 use Rattle.std.specs.List.{AllByRecursion}
 use Rattle.txn.specs.declared.tx.Tx.{Tx}
 use Rattle.connect.specs.inside.Turns.{IsLawful}
 use Rattle.connect.specs.laws.Alone.{lawful_block}
 use Rattle.connect.proofs.connecting.attempt.Goals as goal
+
+pub connect_txs-requires-clause-fresh : goal.connect_txs-requires-clause-fresh
+connect_txs-requires-clause-fresh g c = c.over-layer.ensures.coins ∙ sym c.over-layer.ensures.below
 
 pub connect_txs-requires-clause-some : goal.connect_txs-requires-clause-some
 connect_txs-requires-clause-some g c =

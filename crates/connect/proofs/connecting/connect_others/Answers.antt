@@ -1,6 +1,6 @@
 use Rattle.std.specs.Int.{w128}
 use Rattle.std.proofs.Common.{rules, to_z, of_z, ◌≡◌, ◌+◌, ◌++◌, ◌∷◌, [], List, ◌+ℤ◌, drop, map, sym, ap, ap₂, subst, ◌∙◌, arith}
-use Rattle.std.specs.List.{AllByRecursion, flat_map, fold, drop-map}
+use Rattle.std.specs.List.{AllByRecursion, flat_map, fold, list_any, drop-map}
 use Rattle.std.proofs.lemmas.Int.{ints}
 use Rattle.std.proofs.lemmas.List.{append_assoc, append-nil}
 use Rattle.txn.specs.declared.tx.Tx.{Tx}
@@ -10,9 +10,9 @@ use Rattle.coins.specs.declared.coin.Coin.{Coin}
 use Rattle.coins.specs.Coins.{Coins, Layer}
 use Rattle.connect.specs.Setting.{setting}
 use Rattle.connect.specs.Turns.{Turn, turn, turns, effect, spent_in, left_by, full_count}
-use Rattle.connect.specs.Faults.{fee, turn_rules}
+use Rattle.connect.specs.Faults.{fee, overwrites, turn_rules}
 use Rattle.connect.specs.inside.Turns.{IsLawful, IsReason}
-use Rattle.connect.proofs.Steps.{drop_item, drop_of_length-le}
+use Rattle.connect.proofs.Steps.{drop_item, drop_of_length-le, neither}
 use Rattle.connect.proofs.Blocks.{turns_none, turns_next, effect_none, effect_next, past, still_first}
 use Rattle.connect.proofs.connecting.connect_others.Goals as goal
 
@@ -34,6 +34,15 @@ returns-in_err-turned-clause-fault g c =
     sym (ap (λ (l : List Tx). first_broken (flat_map (turn_rules s) (turns h m n l))) item ∙ ap (λ l. first_broken (flat_map (turn_rules s) l)) (turns_next h m n x rest)) ∙ c.loop-index.invariant.rules in
     let reason = subst (λ o. IsReason o c.in_err-turned.field-0.0) whole (still_first (turn_rules s t) after c.in_err-turned.field-0.0 first) in
     search rules
+
+pub connect_tx-requires-clause-below : goal.connect_tx-requires-clause-below
+connect_tx-requires-clause-below g c =
+    let b = c.loop-index.layer.base in
+    let xs = c.args.txs.now in
+    let i = c.loop-index.index in
+    let x = c.index-txs-index.result in
+    let item = drop_item xs i x (omega arith) c.index-txs-index.is in
+    (neither (overwrites b x) (list_any (overwrites b) (drop (i + 1) xs)) (sym (ap (list_any (overwrites b)) item) ∙ c.loop-index.invariant.below)).0
 
 pub overflow_add-fees : goal.overflow_add-fees
 overflow_add-fees g c =
@@ -70,6 +79,8 @@ loop-index-preserved g c =
     let sum : to_z w128 (of_z w128 (to_z w128 c.loop-index.fees-bits +ℤ to_z w128 (of_z w128 c.in_ok-turned.turned.passed.fee))) ≡ to_z w128 c.loop-index.fees-bits +ℤ fee t = omega (arith, ints, done.fee, done.low, done.high) in
     record {
       base = ap (λ (l : Layer). l.base) done.layer ∙ c.loop-index.invariant.base;
+      below = ap (λ (l : Layer). list_any (overwrites l.base) rest) done.layer
+          ∙ (neither (overwrites c.loop-index.layer.base x) (list_any (overwrites c.loop-index.layer.base) rest) (sym (ap (list_any (overwrites c.loop-index.layer.base)) item) ∙ c.loop-index.invariant.below)).1;
       lawful = (subst (λ (l : List Tx). AllByRecursion IsLawful l) item c.loop-index.invariant.lawful).1;
       ids = ap (drop (i + 1)) c.requires.ids ∙ drop-map id_of (i + 1) xs;
       rules = sym (ap (λ (l : List Turn). first_broken (flat_map (turn_rules s) l)) turns_here ∙ past (turn_rules s t) (flat_map (turn_rules s) later) done.none) ∙ c.loop-index.invariant.rules;

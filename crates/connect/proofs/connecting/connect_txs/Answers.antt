@@ -13,7 +13,7 @@ use Rattle.connect.specs.Setting.{setting}
 use Rattle.connect.specs.Turns.{Turn, turn, turns, effect, spent_in, undo_of, left_by}
 use Rattle.connect.specs.Faults.{overwrites, fees, reward_of, turn_rules, connect_rules}
 use Rattle.connect.specs.inside.Turns.{IsReason}
-use Rattle.connect.proofs.Steps.{drop_item, tail_of}
+use Rattle.connect.proofs.Steps.{drop_item, tail_of, neither}
 use Rattle.connect.proofs.Blocks.{at_clash, at_turn, after_turns, each_is, later_is, later_turns, undo_is, effect_next, past, still_first}
 use Rattle.connect.proofs.connecting.connect_txs.Goals as goal
 
@@ -24,6 +24,27 @@ returns-then-is_overwriting-clause-fault g c =
     let m = c.args.layer.coins in
     let xs = c.args.txs.now in
     at_clash s m xs (sym c.is_overwriting.ensures ∙ c.if-is_overwriting.true)
+
+pub connect_tx-requires-clause-below : goal.connect_tx-requires-clause-below
+connect_tx-requires-clause-below g c =
+    let b = c.args.layer.base in
+    let xs = c.args.txs.now in
+    let x = c.index-txs-0.result in
+    let rest = take (length xs - 1) (drop 1 xs) in
+    let parts : xs ≡ x ∷ rest = drop_item xs 0 x c.requires.some c.index-txs-0.is ∙ ap (λ (l : List Tx). x ∷ l) (sym (tail_of xs)) in
+    let new : list_any (overwrites b) xs ≡ false = ap (λ (m : Coins). list_any (overwrites m) xs) (sym c.requires.fresh) ∙ sym c.is_overwriting.ensures ∙ c.if-is_overwriting.false in
+    (neither (overwrites b x) (list_any (overwrites b) rest) (sym (ap (list_any (overwrites b)) parts) ∙ new)).0
+
+pub connect_others-requires-clause-below : goal.connect_others-requires-clause-below
+connect_others-requires-clause-below g c =
+    let b = c.args.layer.base in
+    let xs = c.args.txs.now in
+    let x = c.index-txs-0.result in
+    let rest = take (length xs - 1) (drop 1 xs) in
+    let parts : xs ≡ x ∷ rest = drop_item xs 0 x c.requires.some c.index-txs-0.is ∙ ap (λ (l : List Tx). x ∷ l) (sym (tail_of xs)) in
+    let new : list_any (overwrites b) xs ≡ false = ap (λ (m : Coins). list_any (overwrites m) xs) (sym c.requires.fresh) ∙ sym c.is_overwriting.ensures ∙ c.if-is_overwriting.false in
+    ap (λ (l : Layer). list_any (overwrites l.base) rest) c.in_ok-coinbase.ensures.layer
+    ∙ (neither (overwrites b x) (list_any (overwrites b) rest) (sym (ap (list_any (overwrites b)) parts) ∙ new)).1
 
 pub returns-in_err-coinbase-clause-fault : goal.returns-in_err-coinbase-clause-fault
 returns-in_err-coinbase-clause-fault g c =
