@@ -1,6 +1,6 @@
 //! A block connected to the coins before it.
 
-ghost use Rattle.std.specs.Prelude.{◌≡◌, ◌≤◌, None};
+ghost use Rattle.std.specs.Prelude.{◌≡◌, ◌≤◌, All, None};
 ghost use Rattle.txn.specs.First.{first_broken};
 ghost use Rattle.txn.specs.Identity.{ids_of};
 ghost use Rattle.rules.specs.Alone.{alone_rules};
@@ -16,7 +16,7 @@ use coins::{Base, Cache, Coin, CoinMap};
 use connect::{Context, Env, connect};
 use curve::Table;
 use hash::Id;
-use queue::{Crew, Open, Threaded};
+use queue::{Crew, Open, Threaded, Verdicts};
 use rules::{Params, block_alone_with};
 use std::alloc::Global;
 use std::rt::Clock;
@@ -60,27 +60,29 @@ where
     timed(rt, &map, &block, &table, workers)
 }
 
-/// Connects a block with this crew. The environment is made where the crew's type is a parameter (`connect::Env` says
+/// Connects a block with this crew and these verdicts. The environment is made where the crew's type is a parameter (`connect::Env` says
 /// why).
-fn connect_with<B: Base, C: Crew>(
+pub fn connect_with<'a, B: Base, C: Crew>(
     alloc: Global,
     cache: &mut Cache<'_, B>,
     context: &Context,
     block: &Block,
     ids: &[Id],
-    table: &Table,
+    table: &'a Table,
     workers: usize,
-    crew: &C,
+    early: &'a [Verdicts<'a>],
+    crew: &'a C,
 ) -> Result<Result<BlockUndo, Reason>, Memory>
     requires alone { first_broken (alone_rules block.now) ≡ None }
     requires ids { ids.now ≡ ids_of block.now.txs }
     requires ready { C.is_ready crew.now }
     requires workers { (1 ≤ workers) × (workers ≤ 16) }
+    requires same_table { All (λ v. v.triples ≡ table.now) early.now }
 {
     let env = Env {
         table,
         workers,
-        early: &[],
+        early,
         crew,
     };
     connect(alloc, cache, context, block, ids, &env, &Open)
@@ -116,6 +118,7 @@ where
         &ids,
         table,
         workers.clamp(1, 16),
+        &[],
         &Threaded { rt },
     )?;
     let check = match answer {

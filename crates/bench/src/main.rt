@@ -6,6 +6,7 @@ mod check;
 mod coin_work;
 mod connecting;
 mod decoding;
+mod early_work;
 mod fault;
 mod filling;
 mod hashing;

@@ -3,7 +3,9 @@
 use crate::fault::Fault;
 use crate::spends::{to_keys, to_two_of_three};
 use crate::timing::Outcome;
-use crate::{chain_work, coin_work, connecting, decoding, hashing, queueing, scripts, signing};
+use crate::{
+    chain_work, coin_work, connecting, decoding, early_work, hashing, queueing, scripts, signing,
+};
 use std::rt::Clock;
 use std::thread::Threads;
 
@@ -33,13 +35,14 @@ pub enum Workload {
     CoinsLookUp,
     CoinsSpend,
     Connect(usize),
+    EarlyWide,
     Chain,
     BlocksAbove,
     Reorganise,
 }
 
 /// Each workload with its name, and the small size at which it is done without words.
-pub const ALL: [(Workload, &str, usize); 30] = [
+pub const ALL: [(Workload, &str, usize); 31] = [
     (Workload::DoubleSha, "double-sha", 3),
     (Workload::Ripemd, "ripemd", 3),
     (Workload::RipemdLong, "ripemd-long", 200),
@@ -67,6 +70,7 @@ pub const ALL: [(Workload, &str, usize); 30] = [
     (Workload::CoinsSpend, "coins-spend", 5),
     (Workload::Connect(1), "connect-1", 5),
     (Workload::Connect(4), "connect-4", 5),
+    (Workload::EarlyWide, "early-wide", 5),
     (Workload::Chain, "chain", 20),
     (Workload::BlocksAbove, "blocks-above", 5),
     (Workload::Reorganise, "reorganise", 3),
@@ -111,6 +115,7 @@ impl Workload {
             Workload::CoinsLookUp => coin_work::looked_up(rt, size),
             Workload::CoinsSpend => coin_work::spent(rt, size),
             Workload::Connect(workers) => connecting::connected(rt, size, workers),
+            Workload::EarlyWide => early_work::wide(rt, size),
             Workload::Chain => chain_work::chained(rt, size),
             Workload::BlocksAbove => chain_work::blocks_above(rt, size),
             Workload::Reorganise => chain_work::reorganised(rt, size),

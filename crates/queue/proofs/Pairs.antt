@@ -10,8 +10,7 @@ use Rattle.interp.specs.declared.job.Job.{Job}
 use Rattle.queue.specs.declared.early_jobs.Listed.{Listed}
 use Rattle.queue.specs.declared.index.Start.{Start}
 use Rattle.queue.specs.Jobs.{Question, question, question_of, IsAnswer, AreNumbered, Spending, Batch, tx_at, questions, Answered}
-use Rattle.queue.specs.Spendings.{spending_of}
-use Rattle.queue.specs.inside.Pairing.{IsOf, BeginsWith, AreKnown}
+use Rattle.queue.specs.inside.Pairing.{spending_of, IsOf, BeginsWith, AreKnown}
 use Rattle.queue.proofs.Answering.{test_of}
 
 some_is : {A : Type 0} (x y : A) → ◌≡◌ {A = Option A} (Some x) (Some y) → x ≡ y

@@ -1,4 +1,3 @@
 pub mod Jobs
-pub mod Spendings
 pub mod inside
 pub mod laws

@@ -39,8 +39,7 @@ impl Listed {
 impl<'t> Model for EarlyJobs<'t> {
     ghost use Rattle.std.specs.Coded.{codes};
     ghost use Rattle.std.specs.Prelude.{All, map};
-    ghost use Rattle.queue.specs.Jobs.{Batch, IsThere};
-    ghost use Rattle.queue.specs.Spendings.{spending_of};
+    ghost use Rattle.queue.specs.Jobs.{Batch, spending, IsThere};
 
     ghost Value = { Batch };
 
@@ -49,10 +48,11 @@ impl<'t> Model for EarlyJobs<'t> {
     ghost view = { λ e. record {
       txs = e.txs.now;
       flags = e.flags;
-      spendings = map spending_of e.list.items;
+      spendings = map (λ l. spending l.place l.input l.spent.items) e.list.items;
     } };
 
-    ghost invariant = { λ e. All (λ listed. IsThere e.txs.now (spending_of listed)) e.list.items };
+    ghost invariant = { λ e.
+        All (λ l. IsThere e.txs.now (spending l.place l.input l.spent.items)) e.list.items };
 }
 
 impl<'t> EarlyJobs<'t> {

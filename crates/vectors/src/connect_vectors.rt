@@ -2,14 +2,14 @@
 
 ghost use Rattle.std.specs.Prelude.{◌≡◌, ◌≤◌, All};
 
-use crate::queue_vectors::{Tally, are_ready};
+use crate::queue_vectors::Tally;
 use block::{Block, GENESIS_ID, Header, Txs, meets_target, merkle};
 use coins::{Base, Cache, Coin, CoinMap};
-use connect::{Context, Env, apply, connect, disconnect};
+use connect::{Context, Env, apply, connect, disconnect, early_jobs, script_flags};
 use curve::Table;
 use hash::{Id, hash160};
-use interp::{Flags, Job};
-use queue::{Alone, Crew, Gate, Open, Threaded, Verdict, check_early};
+use interp::Flags;
+use queue::{Alone, Crew, Gate, Open, Threaded, Verdicts, check_early};
 use rules::{Params, REGTEST_BITS, block_alone_with};
 use std::alloc::Global;
 use std::sync::atomic::Ordering::SeqCst;
@@ -577,7 +577,7 @@ fn is_connected_with<'a, B: Base>(
     context: &Context,
     block: &Block,
     table: &'a Table,
-    early: &'a [Verdict<'a>],
+    early: &'a [Verdicts<'a>],
     gate: &(dyn Gate + Sync),
 ) -> Result<bool, Memory>
     requires { All (λ v. v.triples ≡ table.now) early.now }
@@ -599,8 +599,8 @@ fn is_connected_with<'a, B: Base>(
 #[test]
 fn a_verdict_got_before(rt: HostRuntime) -> Result<(), Fail> {
     let alloc = rt.alloc();
-    let map = funded(alloc, 1)?;
-    let block = block_of(alloc, SUBSIDY, one(alloc, payment(alloc, at(0), 50)?)?)?;
+    let map = funded(alloc, 2)?;
+    let block = block_of(alloc, SUBSIDY, one(alloc, joined(alloc, 100)?)?)?;
     let params = Params::regtest();
     let context = Context {
         height: HEIGHT,
@@ -610,25 +610,64 @@ fn a_verdict_got_before(rt: HostRuntime) -> Result<(), Fail> {
     };
     let table = Table::new(alloc);
     let tally = Tally::new();
-    let payment = block.txs.as_slice().get(1).ok_or(Memory)?;
-    let jobs = [Job {
-        tx: payment,
-        input: 0,
-        spent: GOOD,
-        flags: Flags::ALL,
-    }];
-    assert!(rt; are_ready(&jobs));
-    let verdicts = check_early(&rt, alloc, &jobs, &table, 2, &tally)?;
-    assert_eq!(rt; tally.count.load(SeqCst), 1);
+    let ids = ids(alloc, block.txs.as_slice())?;
+    let jobs = early_jobs(alloc, &map, &block, &ids, params.at(HEIGHT))?;
+    let verdicts = [check_early(&rt, alloc, jobs, &table, 2, &tally)?];
+    assert_eq!(rt;
+        (verdicts[0].answers(), tally.count.load(SeqCst)),
+        (&[true, true], 2)
+    );
     let mut with = Cache::over(alloc, &map);
     assert!(rt;
         is_connected_with(
             alloc, &mut with, &context, &block, &table, &verdicts, &tally
         )?
     );
-    assert_eq!(rt; tally.count.load(SeqCst), 1);
+    assert_eq!(rt; tally.count.load(SeqCst), 2);
     let mut without = Cache::over(alloc, &map);
     assert!(rt; is_connected_with(alloc, &mut without, &context, &block, &table, &[], &tally)?);
-    assert_eq!(rt; tally.count.load(SeqCst), 2);
+    assert_eq!(rt; tally.count.load(SeqCst), 4);
     Ok(())
+}
+
+/// Of a block's inputs those are run early whose coin is there, or made by an earlier transaction of the block, but by
+/// none of them that is later, and by no output that can't be spent.
+#[test]
+fn inputs_that_are_run_early(rt: HostRuntime) -> Result<(), Fail> {
+    let alloc = rt.alloc();
+    let map = funded(alloc, 1)?;
+    let params = Params::regtest();
+    let first = payment(alloc, at(0), 50)?;
+    let next = payment(alloc, outpoint(&first, 0), 50)?;
+    let lost = payment(alloc, at(1), 50)?;
+    let table = Table::new(alloc);
+    for (txs, count) in [
+        (two(alloc, first.copy()?, next.copy()?)?, 2),
+        (two(alloc, next.copy()?, first.copy()?)?, 1),
+        (two(alloc, lost, first)?, 1),
+    ] {
+        let block = block_of(alloc, SUBSIDY, txs)?;
+        let ids = ids(alloc, block.txs.as_slice())?;
+        let jobs = early_jobs(alloc, &map, &block, &ids, params.at(HEIGHT))?;
+        assert_eq!(rt; jobs.len(), count);
+        let verdicts = check_early(&rt, alloc, jobs, &table, 1, &Open)?;
+        assert!(rt; verdicts.answers().iter().all(|yes| *yes));
+    }
+    assert!(rt; script_flags(&params, HEIGHT) != Flags::ALL);
+    Ok(())
+}
+
+/// The outpoint of an output of a transaction.
+fn outpoint(tx: &Tx, index: u32) -> OutPoint {
+    OutPoint { id: tx.id(), index }
+}
+
+/// One that spends the first two outpoints.
+fn joined(alloc: Global, value: i64) -> Result<Tx, Memory> {
+    transaction(
+        alloc,
+        1,
+        &[(at(0), &[], FINAL), (at(1), &[], FINAL)],
+        &[(value, GOOD)],
+    )
 }

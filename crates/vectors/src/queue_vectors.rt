@@ -6,7 +6,9 @@ ghost use Rattle.queue.specs.Jobs.{HasInput};
 use curve::Table;
 use hash::Id;
 use interp::{Flags, Job};
-use queue::{Alone, Crew, Gate, Open, Threaded, check_early, first_failure, first_failure_with};
+use queue::{
+    Alone, Crew, EarlyJobs, Gate, Open, Threaded, check_early, first_failure, first_failure_with,
+};
 use std::alloc::{AllocError, Global};
 use std::sync::atomic::Ordering::SeqCst;
 use std::sync::atomic::{AtomicBool, AtomicU64};
@@ -50,6 +52,17 @@ fn jobs<'a>(alloc: Global, tx: &'a Tx, spent: &[&'a [u8]]) -> Result<Vec<Job<'a>
             spent: *script,
             flags: Flags::ALL,
         })?;
+    }
+    Ok(jobs)
+}
+
+/// The same, to be run early: those of the first transaction's inputs, as far as it has some.
+fn early<'t>(alloc: Global, txs: &'t [Tx], spent: &[&[u8]]) -> Result<EarlyJobs<'t>, AllocError> {
+    let mut jobs = EarlyJobs::new(alloc, txs, Flags::ALL);
+    for (input, script) in spent.iter().enumerate() {
+        if !txs.is_empty() && input < txs[0].inputs.len() {
+            jobs.push(0, input, Vec::from_slice(alloc, *script)?)?;
+        }
     }
     Ok(jobs)
 }
@@ -159,57 +172,52 @@ fn a_job_above_a_failing_one_is_not_run(rt: HostRuntime) -> Result<(), Fail> {
 #[test]
 fn more_verdicts_than_jobs(rt: HostRuntime) -> Result<(), Fail> {
     let table = Table::new(rt.alloc());
-    let tx = transaction(rt.alloc(), 3)?;
-    let list = jobs(rt.alloc(), &tx, &[GOOD, BAD, GOOD])?;
-    assert!(rt; are_ready(&list));
+    let txs = [transaction(rt.alloc(), 3)?];
+    let list = early(rt.alloc(), &txs, &[GOOD, BAD, GOOD])?;
     let gate = Tally::new();
-    let verdicts = check_early(&rt, rt.alloc(), &list, &table, 2, &gate)?;
+    let verdicts = [check_early(&rt, rt.alloc(), list, &table, 2, &gate)?];
+    assert_eq!(rt; verdicts[0].answers(), &[true, false, true]);
     assert_eq!(rt; (gate.count.load(SeqCst), gate.ended.load(SeqCst)), (3, 3));
-    let fewer = jobs(rt.alloc(), &tx, &[GOOD])?;
+    let fewer = jobs(rt.alloc(), &txs[0], &[GOOD])?;
     assert!(rt; are_ready(&fewer));
-    let answer = first_failure_with(&rt, rt.alloc(), &fewer, &verdicts, &table, 1, &gate)?;
+    let answer = first_failure_with(&rt, rt.alloc(), &fewer, &[], &verdicts, &table, 1, &gate)?;
     assert_eq!(rt; (answer, gate.count.load(SeqCst)), (None, 3));
     Ok(())
 }
 
+/// The script that is spent is the caller's own until it is copied, and the transaction may be an equal one.
 #[test]
 fn a_verdict_is_of_an_equal_job_alone(rt: HostRuntime) -> Result<(), Fail> {
     let table = Table::new(rt.alloc());
-    let tx = transaction(rt.alloc(), 1)?;
-    let job = Job {
-        tx: &tx,
+    let txs = [transaction(rt.alloc(), 1)?];
+    let equal = transaction(rt.alloc(), 1)?;
+    let gate = Tally::new();
+    let list = early(rt.alloc(), &txs, &[GOOD])?;
+    assert!(rt; list.len() == 1 && !list.is_empty());
+    let verdicts = [check_early(&rt, rt.alloc(), list, &table, 2, &gate)?];
+    assert_eq!(rt;
+        (verdicts[0].answers(), gate.count.load(SeqCst)),
+        (&[true], 1)
+    );
+    let own = jobs(rt.alloc(), &equal, &[GOOD])?;
+    assert!(rt; are_ready(&own));
+    let threaded = Threaded { rt: &rt };
+    let answer = threaded.first_failure_with(rt.alloc(), &own, &[], &verdicts, &table, 4, &gate)?;
+    assert_eq!(rt; (answer, gate.count.load(SeqCst)), (None, 1));
+    let unruled = [Job {
+        tx: &equal,
         input: 0,
         spent: GOOD,
-        flags: Flags::ALL,
-    };
-    let early = [job];
-    assert!(rt; are_ready(&early));
-    let gate = Tally::new();
-    let verdicts = check_early(&rt, rt.alloc(), &early, &table, 2, &gate)?;
-    assert_eq!(rt; (verdicts.len(), gate.count.load(SeqCst)), (1, 1));
-    let other = [Job { spent: BAD, ..job }];
-    let unruled = Job {
         flags: Flags::NONE,
-        ..job
-    };
-    for verdict in verdicts.as_slice() {
-        assert!(rt; verdict.fits(&job) && verdict.answer());
-        assert!(rt; !verdict.fits(&other[0]) && !verdict.fits(&unruled));
-    }
-    let threaded = Threaded { rt: &rt };
-    let early_answer = threaded.first_failure_with(
-        rt.alloc(),
-        &early,
-        &verdicts,
-        &table,
-        4,
-        &gate,
-    )?;
-    assert_eq!(rt; (early_answer, gate.count.load(SeqCst)), (None, 1));
+    }];
+    assert!(rt; are_ready(&unruled));
+    let answer = first_failure_with(&rt, rt.alloc(), &unruled, &[], &verdicts, &table, 1, &gate)?;
+    assert_eq!(rt; (answer, gate.count.load(SeqCst)), (None, 2));
+    let other = jobs(rt.alloc(), &equal, &[BAD])?;
     assert!(rt; are_ready(&other));
-    let other_answer = first_failure_with(&rt, rt.alloc(), &other, &verdicts, &table, 1, &gate)?;
-    assert_eq!(rt; (other_answer, gate.count.load(SeqCst)), (Some(0), 2));
-    let alone = Alone.first_failure_with(rt.alloc(), &other, &verdicts, &table, 1, &Open)?;
+    let answer = first_failure_with(&rt, rt.alloc(), &other, &[], &verdicts, &table, 1, &gate)?;
+    assert_eq!(rt; (answer, gate.count.load(SeqCst)), (Some(0), 3));
+    let alone = Alone.first_failure_with(rt.alloc(), &other, &[], &verdicts, &table, 1, &Open)?;
     assert_eq!(rt; alone, Some(0));
     Ok(())
 }

@@ -4,8 +4,12 @@ use Rattle.txn.specs.declared.tx.Tx.{Tx}
 use Rattle.curve.specs.Triple.{Triples}
 use Rattle.interp.specs.computed.Verifying.{accepts}
 use Rattle.interp.specs.declared.job.Job.{Job}
-use Rattle.queue.specs.Jobs.{Spending, Batch, tx_at, Answered}
+use Rattle.queue.specs.declared.early_jobs.Listed.{Listed}
+use Rattle.queue.specs.Jobs.{Spending, spending, Batch, tx_at, Answered}
 use Rattle.queue.specs.declared.index.Start.{Start}
+
+abbrev pub spending_of : Listed → Spending
+spending_of listed = spending listed.place listed.input listed.spent.items
 
 -- what is listed at this place, if anything, is of an equal transaction
 abbrev pub IsOf : Batch → ℕ → Tx → Type 0
