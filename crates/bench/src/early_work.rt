@@ -66,7 +66,7 @@ where
     let block = block_with(alloc, txs)?;
     let params = Params::regtest();
     let ids = ids(alloc, block.txs.as_slice())?;
-    if block_alone_with(alloc, &block, &ids)?.is_some() {
+    if block_alone_with(alloc, &block, &block.id(), &ids)?.is_some() {
         return Err(Fault::Unread);
     }
     let table = Table::new(alloc);

@@ -28,7 +28,9 @@ where
 {
     let alloc = rt.alloc();
     let mut words = vec![in alloc; "run", "--scenario", "-", "--heights", scenario.heights]?;
-    words.extend_from_slice(options)?;
+    for option in options {
+        words.push(*option)?;
+    }
     let text = text_of(alloc, scenario)?;
     Ok(play(rt, words.as_slice(), text.as_bytes()))
 }
