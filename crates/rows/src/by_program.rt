@@ -22,7 +22,7 @@ struct Wanted {
 }
 
 /// Plays a scenario, with more words of the command line.
-pub fn played<R>(rt: &R, scenario: &Scenario, options: &[&str]) -> Result<Played, Fail>
+pub fn played<R>(rt: &R, scenario: &Scenario, options: &[&'static str]) -> Result<Played, Fail>
 where
     R: Files + AllocGlobal + Clock + Threads + Sync,
 {
@@ -36,7 +36,7 @@ where
 }
 
 /// Plays a scenario with more words of the command line, and compares the whole output.
-fn expect_with<R>(rt: &R, scenario: &Scenario, options: &[&str]) -> Result<(), Fail>
+fn expect_with<R>(rt: &R, scenario: &Scenario, options: &[&'static str]) -> Result<(), Fail>
 where
     R: Files + AllocGlobal + Clock + Threads + Sync + Abort,
 {
