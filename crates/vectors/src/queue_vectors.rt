@@ -1,20 +1,19 @@
 //! Jobs on several workers, and verdicts got before.
 
-ghost use Rattle.std.specs.Prelude.{◌<◌, ◌^◌, length, All, IsTrue};
+ghost use Rattle.std.specs.Prelude.{◌≡◌, ◌<◌, ◌≤◌, ◌^◌, length, All, IsTrue};
 ghost use Rattle.queue.specs.Jobs.{HasInput};
 
 use curve::Table;
 use hash::Id;
 use interp::{Flags, Job};
-use queue::{
-    Alone, Crew, EarlyJobs, Gate, Open, Threaded, check_early, first_failure, first_failure_with,
-};
+use queue::{Alone, Crew, EarlyJobs, Gate, Open, Threaded, Verdicts, check_early, first_failure};
 use std::alloc::{AllocError, Global};
 use std::sync::atomic::Ordering::SeqCst;
 use std::sync::atomic::{AtomicBool, AtomicU64};
 use std::test::Fail;
 use std::thread::yield_now;
 use txn::{Inputs, OutPoint, Outputs, Script, Tx, TxIn};
+use wire::Memory;
 
 /// A script that accepts, one that refuses.
 const GOOD: &[u8] = &[0x51];
@@ -57,7 +56,7 @@ fn jobs<'a>(alloc: Global, tx: &'a Tx, spent: &[&'a [u8]]) -> Result<Vec<Job<'a>
 }
 
 /// The same, to be run early: those of the first transaction's inputs, as far as it has some.
-fn early<'t>(alloc: Global, txs: &'t [Tx], spent: &[&[u8]]) -> Result<EarlyJobs<'t>, AllocError> {
+fn early<'t>(alloc: Global, txs: &'t [Tx], spent: &[&[u8]]) -> Result<EarlyJobs<'t>, Memory> {
     let mut jobs = EarlyJobs::new(alloc, txs, Flags::ALL);
     for (input, script) in spent.iter().enumerate() {
         if !txs.is_empty() && input < txs[0].inputs.len() {
@@ -73,6 +72,25 @@ pub(crate) fn are_ready(jobs: &[Job]) -> bool
     ensures inputs { IsTrue result → All HasInput jobs.now }
 {
     jobs.len() < 1000 && jobs.iter().all(|job| job.input < job.tx.inputs.len())
+}
+
+/// The least job that isn't accepted, where each is compared by itself with the verdicts.
+fn failing_with<C: Crew>(
+    crew: &C,
+    alloc: Global,
+    jobs: &[Job],
+    verdicts: &[Verdicts],
+    table: &Table,
+    workers: usize,
+    gate: &(dyn Gate + Sync),
+) -> Result<Option<usize>, Memory>
+    requires ready { C.is_ready crew.now }
+    requires workers { (1 ≤ workers) × (workers ≤ 16) }
+    requires few { length jobs.now < 2 ^ 32 }
+    requires inputs { All HasInput jobs.now }
+    requires same_table { All (λ v. v.triples ≡ table.now) verdicts.now }
+{
+    crew.first_failure_with(alloc, jobs, &[], verdicts, table, workers, gate)
 }
 
 /// Holds each job until so many have begun.
@@ -176,11 +194,12 @@ fn more_verdicts_than_jobs(rt: HostRuntime) -> Result<(), Fail> {
     let list = early(rt.alloc(), &txs, &[GOOD, BAD, GOOD])?;
     let gate = Tally::new();
     let verdicts = [check_early(&rt, rt.alloc(), list, &table, 2, &gate)?];
-    assert_eq!(rt; verdicts[0].answers(), &[true, false, true]);
+    assert_eq!(rt; verdicts[0].answers(), [true, false, true].as_slice());
     assert_eq!(rt; (gate.count.load(SeqCst), gate.ended.load(SeqCst)), (3, 3));
     let fewer = jobs(rt.alloc(), &txs[0], &[GOOD])?;
     assert!(rt; are_ready(&fewer));
-    let answer = first_failure_with(&rt, rt.alloc(), &fewer, &[], &verdicts, &table, 1, &gate)?;
+    let threaded = Threaded { rt: &rt };
+    let answer = failing_with(&threaded, rt.alloc(), &fewer, &verdicts, &table, 1, &gate)?;
     assert_eq!(rt; (answer, gate.count.load(SeqCst)), (None, 3));
     Ok(())
 }
@@ -195,14 +214,12 @@ fn a_verdict_is_of_an_equal_job_alone(rt: HostRuntime) -> Result<(), Fail> {
     let list = early(rt.alloc(), &txs, &[GOOD])?;
     assert!(rt; list.len() == 1 && !list.is_empty());
     let verdicts = [check_early(&rt, rt.alloc(), list, &table, 2, &gate)?];
-    assert_eq!(rt;
-        (verdicts[0].answers(), gate.count.load(SeqCst)),
-        (&[true], 1)
-    );
+    assert_eq!(rt; verdicts[0].answers(), [true].as_slice());
+    assert_eq!(rt; gate.count.load(SeqCst), 1);
     let own = jobs(rt.alloc(), &equal, &[GOOD])?;
     assert!(rt; are_ready(&own));
     let threaded = Threaded { rt: &rt };
-    let answer = threaded.first_failure_with(rt.alloc(), &own, &[], &verdicts, &table, 4, &gate)?;
+    let answer = failing_with(&threaded, rt.alloc(), &own, &verdicts, &table, 4, &gate)?;
     assert_eq!(rt; (answer, gate.count.load(SeqCst)), (None, 1));
     let unruled = [Job {
         tx: &equal,
@@ -211,13 +228,13 @@ fn a_verdict_is_of_an_equal_job_alone(rt: HostRuntime) -> Result<(), Fail> {
         flags: Flags::NONE,
     }];
     assert!(rt; are_ready(&unruled));
-    let answer = first_failure_with(&rt, rt.alloc(), &unruled, &[], &verdicts, &table, 1, &gate)?;
+    let answer = failing_with(&threaded, rt.alloc(), &unruled, &verdicts, &table, 1, &gate)?;
     assert_eq!(rt; (answer, gate.count.load(SeqCst)), (None, 2));
     let other = jobs(rt.alloc(), &equal, &[BAD])?;
     assert!(rt; are_ready(&other));
-    let answer = first_failure_with(&rt, rt.alloc(), &other, &[], &verdicts, &table, 1, &gate)?;
+    let answer = failing_with(&threaded, rt.alloc(), &other, &verdicts, &table, 1, &gate)?;
     assert_eq!(rt; (answer, gate.count.load(SeqCst)), (Some(0), 3));
-    let alone = Alone.first_failure_with(rt.alloc(), &other, &[], &verdicts, &table, 1, &Open)?;
+    let alone = failing_with(&Alone, rt.alloc(), &other, &verdicts, &table, 1, &Open)?;
     assert_eq!(rt; alone, Some(0));
     Ok(())
 }
