@@ -44,8 +44,9 @@ WORKLOADS = [
     ("connect-4", "the same with 4 workers", "work", [125_000, 250_000, 500_000, 1_000_000]),
 ]
 
-# Those that the baseline hasn't: it keeps no tree of blocks.
+# Those that the baseline hasn't: it keeps no tree of blocks, and no verdicts.
 OURS_ALONE = [
+    ("early-wide", "a block of one transaction with so many inputs, connected with verdicts of all", [6000, 24_000]),
     ("chain", "blocks without payments, submitted one on the other", [10_000, 100_000]),
     ("blocks-above", "a hundred blocks submitted above so many", [100, 10_000]),
     ("reorganise", "the block by which another branch becomes active, by its depth, beside 10,000 blocks", [10, 100, 1000]),

@@ -11,7 +11,7 @@ use std::alloc::{AllocError, Global};
 use std::sync::atomic::Ordering::SeqCst;
 use std::sync::atomic::{AtomicBool, AtomicU64};
 use std::test::Fail;
-use std::thread::yield_now;
+use std::thread::{Threads, yield_now};
 use txn::{Inputs, OutPoint, Outputs, Script, Tx, TxIn};
 use wire::Memory;
 
@@ -204,38 +204,54 @@ fn more_verdicts_than_jobs(rt: HostRuntime) -> Result<(), Fail> {
     Ok(())
 }
 
-/// The script that is spent is the caller's own until it is copied, and the transaction may be an equal one.
-#[test]
-fn a_verdict_is_of_an_equal_job_alone(rt: HostRuntime) -> Result<(), Fail> {
-    let table = Table::new(rt.alloc());
-    let txs = [transaction(rt.alloc(), 1)?];
-    let equal = transaction(rt.alloc(), 1)?;
+/// How a job's script is answered by two workers or by the caller alone, where there is a verdict of an equal
+/// transaction's first input that spends a script that accepts under all rules, and how many scripts were run in all.
+fn answered<R: Threads + Sync + AllocGlobal>(
+    rt: &R,
+    spent: &[u8],
+    flags: Flags,
+) -> Result<(Option<usize>, Option<usize>, u64), Memory> {
+    let alloc = rt.alloc();
+    let table = Table::new(alloc);
+    let txs = [transaction(alloc, 1)?];
     let gate = Tally::new();
-    let list = early(rt.alloc(), &txs, &[GOOD])?;
-    assert!(rt; list.len() == 1 && !list.is_empty());
-    let verdicts = [check_early(&rt, rt.alloc(), list, &table, 2, &gate)?];
-    assert_eq!(rt; verdicts[0].answers(), [true].as_slice());
-    assert_eq!(rt; gate.count.load(SeqCst), 1);
-    let own = jobs(rt.alloc(), &equal, &[GOOD])?;
-    assert!(rt; are_ready(&own));
-    let threaded = Threaded { rt: &rt };
-    let answer = failing_with(&threaded, rt.alloc(), &own, &verdicts, &table, 4, &gate)?;
-    assert_eq!(rt; (answer, gate.count.load(SeqCst)), (None, 1));
-    let unruled = [Job {
+    let verdicts = [check_early(rt, alloc, early(alloc, &txs, &[GOOD])?, &table, 2, &gate)?];
+    let equal = transaction(alloc, 1)?;
+    let list = [Job {
         tx: &equal,
         input: 0,
-        spent: GOOD,
-        flags: Flags::NONE,
+        spent,
+        flags,
     }];
-    assert!(rt; are_ready(&unruled));
-    let answer = failing_with(&threaded, rt.alloc(), &unruled, &verdicts, &table, 1, &gate)?;
-    assert_eq!(rt; (answer, gate.count.load(SeqCst)), (None, 2));
-    let other = jobs(rt.alloc(), &equal, &[BAD])?;
-    assert!(rt; are_ready(&other));
-    let answer = failing_with(&threaded, rt.alloc(), &other, &verdicts, &table, 1, &gate)?;
-    assert_eq!(rt; (answer, gate.count.load(SeqCst)), (Some(0), 3));
-    let alone = failing_with(&Alone, rt.alloc(), &other, &verdicts, &table, 1, &Open)?;
-    assert_eq!(rt; alone, Some(0));
+    if !are_ready(&list) {
+        return Err(Memory);
+    }
+    let alone = failing_with(&Alone, alloc, &list, &verdicts, &table, 1, &gate)?;
+    let threaded = by_threads(rt, alloc, &list, &verdicts, &table, &gate)?;
+    Ok((alone, threaded, gate.count.load(SeqCst)))
+}
+
+/// The least job that isn't accepted, by two workers.
+fn by_threads<R: Threads + Sync>(
+    rt: &R,
+    alloc: Global,
+    jobs: &[Job],
+    verdicts: &[Verdicts],
+    table: &Table,
+    gate: &(dyn Gate + Sync),
+) -> Result<Option<usize>, Memory>
+    requires few { length jobs.now < 2 ^ 32 }
+    requires inputs { All HasInput jobs.now }
+    requires same_table { All (λ v. v.triples ≡ table.now) verdicts.now }
+{
+    failing_with(&Threaded { rt }, alloc, jobs, verdicts, table, 2, gate)
+}
+
+#[test]
+fn a_verdict_is_of_an_equal_job_alone(rt: HostRuntime) -> Result<(), Fail> {
+    assert_eq!(rt; answered(&rt, GOOD, Flags::ALL)?, (None, None, 1));
+    assert_eq!(rt; answered(&rt, GOOD, Flags::NONE)?, (None, None, 3));
+    assert_eq!(rt; answered(&rt, BAD, Flags::ALL)?, (Some(0), Some(0), 3));
     Ok(())
 }
 
