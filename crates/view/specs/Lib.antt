@@ -1,0 +1,5 @@
+pub mod Beginning
+pub mod Origin
+pub mod Rule
+pub mod ViewState
+pub mod inside

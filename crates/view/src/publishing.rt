@@ -1,0 +1,115 @@
+//! What the readers and the writer of the view do.
+
+ghost use Rattle.std.specs.Prelude.{◌≡◌, ◌<◌, ◌^◌, [], Some, ◌∷◌, ◌++◌, IfOk, IfErr, IfSome, MatchResult, MatchBool, drop};
+ghost use Rattle.left_right.specs.Sides.{view as known};
+ghost use Rattle.view.specs.ViewState.{IsExact, after_publication, after_publications};
+ghost use Rattle.view.specs.Rule.{IsOfKnown};
+
+use crate::history_view::View;
+use crate::publication::Publication;
+use crate::rule::{Entering, KnownOrigin, Publishing, Telling, ViewRule};
+use left_right::reader::{Reader, Reading};
+use left_right::writer::Writer;
+use std::alloc::Global;
+use std::sync::Wait;
+use wire::Memory;
+
+/// A reader that has no view entered.
+pub type ViewReader = Reader<View, KnownOrigin, ViewRule>;
+
+/// A reader in the view that it entered. While it stays there the next publication but one waits for it.
+pub type ViewReading = Reading<View, KnownOrigin, ViewRule>;
+
+/// The writer, who alone publishes.
+pub type ViewWriter = Writer<View, Publication, KnownOrigin, ViewRule>;
+
+/// A writer over two equal views, with room for so many readers.
+pub fn open_writer(
+    alloc: Global,
+    first: View,
+    second: View,
+    readers: usize,
+) -> Result<ViewWriter, Memory>
+    requires readers { (0 < readers) × (readers < 2 ^ 32) }
+    requires alike { second ≡ first }
+    requires exact { IsExact first }
+    ensures shown { IfOk result (λ w. w.desk.shown.value ≡ first) }
+    ensures pending { IfOk result (λ w. drop w.behind w.log.items ≡ []) }
+{
+    Ok(Writer::new(alloc, first, second, readers)?)
+}
+
+/// Publishes what readers see already, so that the writer knows its origin. None where it couldn't.
+pub fn publish_opening<R: Wait>(rt: &R, writer: ViewWriter) -> Option<ViewWriter>
+    requires pending { drop writer.behind writer.log.items ≡ [] }
+    requires exact { IsExact writer.desk.shown.value }
+    ensures known { IfSome result (λ w.
+        known w.desk.place ≡ Some writer.desk.shown.value.origin) }
+    ensures shown { IfSome result (λ w. w.desk.shown.value ≡ writer.desk.shown.value) }
+    ensures pending { IfSome result (λ w. drop w.behind w.log.items ≡ []) }
+{
+    let (writer, shown) = writer.publish_as::<Publishing, R>(rt);
+    match shown {
+        Ok(()) => Some(writer),
+        Err(_) => {
+            drop(writer.take(rt));
+            None
+        }
+    }
+}
+
+/// Enters the view that was published last. The reader comes back where the writer is gone.
+pub fn enter(reader: ViewReader) -> Result<ViewReading, ViewReader>
+    ensures known { let k = known reader.place in
+        MatchResult result (λ r. known r.place ≡ k) (λ r. known r.place ≡ k) }
+    ensures exact { IfOk result (λ r. IsExact r.part.value) }
+    ensures origin { IfOk result (λ r. IsOfKnown (known reader.place) r.part.value) }
+{
+    reader.enter_as::<Entering>()
+}
+
+/// Publishes what is pending, and then this. Or it is pending too, or there was no room for it: then readers see what
+/// they saw.
+pub fn publish<R: Wait>(
+    rt: &R,
+    writer: ViewWriter,
+    publication: Publication,
+) -> (ViewWriter, Result<bool, Publication>)
+    requires exact { let pending = drop writer.behind writer.log.items in
+        IsExact (after_publication
+        (after_publications writer.desk.shown.value pending) publication) }
+    requires book { publication.before.book ≡ writer.desk.shown.value.origin.book }
+    ensures shown { let was = writer.desk.shown.value in
+        let pending = drop writer.behind writer.log.items in
+        MatchResult result.1 (λ done. MatchBool done
+        (result.0.desk.shown.value ≡ after_publication (after_publications was pending) publication)
+        (result.0.desk.shown.value ≡ was)) (λ _. result.0.desk.shown.value ≡ was) }
+    ensures pending { let pending = drop writer.behind writer.log.items in
+        let left = drop result.0.behind result.0.log.items in
+        MatchResult result.1 (λ done. MatchBool done (left ≡ [])
+        (left ≡ pending ++ publication ∷ [])) (λ _. left ≡ pending) }
+    ensures given_back { IfErr result.1 (λ back. back ≡ publication) }
+{
+    let mut writer = writer;
+    if let Err(publication) = writer.append(publication) {
+        return (writer, Err(publication));
+    }
+    let (writer, shown) = writer.publish_as::<Publishing, R>(rt);
+    match shown {
+        Ok(()) => (writer, Ok(true)),
+        Err(_) => (writer, Ok(false)),
+    }
+}
+
+/// One reader more, which knows what the writer knows.
+pub fn another_reader(writer: &mut ViewWriter) -> Result<ViewReader, Memory>
+    ensures known { IfOk result (λ r. known r.place ≡ known writer.old.desk.place) }
+    ensures kept { known writer.new.desk.place ≡ known writer.old.desk.place }
+    ensures shown { writer.new.desk.shown ≡ writer.old.desk.shown }
+    ensures pending { drop writer.new.behind writer.new.log.items
+        ≡ drop writer.old.behind writer.old.log.items }
+{
+    let mut reader = writer.factory().reader()?;
+    reader.learn::<Telling>(writer.tell::<Telling>());
+    Ok(reader)
+}

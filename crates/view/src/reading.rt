@@ -1,0 +1,98 @@
+//! What a reader reads from the view that it has entered.
+
+ghost use Rattle.std.specs.Prelude.{◌≡◌, IfSome, length, map};
+ghost use Rattle.std.specs.Option.{option_copied};
+ghost use Rattle.std.specs.FinMap as coin_map;
+ghost use Rattle.chain.specs.Regtest.{regtest};
+ghost use Rattle.chain.specs.Chainstate.{confirmations};
+ghost use Rattle.tree.specs.Tips.{tip_of_id};
+ghost use Rattle.view.specs.Origin.{machine};
+ghost use Rattle.view.specs.ViewState.{IsExact, coins_of, state_of};
+
+use crate::chain_info::ChainInfo;
+use crate::history_view::View;
+use crate::note::Note;
+use chain::Entry;
+use coins::{Base, Coin, CoinMap};
+use hash::Id;
+use tree::Tip;
+use txn::OutPoint;
+
+impl View {
+    /// How many entries the history has: the place of what is read in it.
+    pub fn at(&self) -> u64
+        ensures { result ≡ length self.now.journal }
+    {
+        self.journal.len() as u64
+    }
+
+    /// The history, as its readers keep it. None where its last entry has no place there.
+    pub fn note(&self) -> Option<Note>
+        requires { IsExact self.now }
+        ensures { IfSome result (λ note.
+            (note.book ≡ self.now.origin.book) × (note.entries ≡ self.now.journal)) }
+    {
+        match &self.note {
+            Some(note) => Some(note.copy()),
+            None => None,
+        }
+    }
+
+    /// Its entries, lent.
+    pub fn journal(&self) -> &[Entry]
+        ensures { result.now ≡ self.now.journal }
+    {
+        self.journal.as_slice()
+    }
+
+    /// The coins after them, lent.
+    pub fn coins(&self) -> &CoinMap
+        ensures { result.now ≡ self.now.coins }
+    {
+        &self.coins
+    }
+
+    /// The best block, its height and the tips after them, lent.
+    pub fn info(&self) -> &ChainInfo
+        ensures { result.now ≡ self.now.info }
+    {
+        &self.info
+    }
+
+    /// The best block's id (Bitcoin Core's `getbestblockhash`).
+    pub fn best(&self) -> Id
+        requires { IsExact self.now }
+        ensures { let o = self.now.origin in
+            result ≡ (machine o).best (state_of o self.now.journal) }
+    {
+        self.info.best
+    }
+
+    /// The tips of the tree, lent (Bitcoin Core's `getchaintips`).
+    pub fn tips(&self) -> &[Tip]
+        requires { IsExact self.now }
+        ensures { let o = self.now.origin in
+            result.now ≡ map tip_of_id ((machine o).tips (state_of o self.now.journal)) }
+    {
+        self.info.tips.as_slice()
+    }
+
+    /// The coin at an outpoint, lent (Bitcoin Core's `gettxout`, with `confirmations`).
+    pub fn coin(&self, outpoint: &OutPoint) -> Option<&Coin>
+        requires { IsExact self.now }
+        ensures { let o = self.now.origin in
+            option_copied result ≡ coin_map.get (coins_of o self.now.journal) outpoint.now }
+    {
+        self.coins.get(outpoint)
+    }
+
+    /// How many blocks of the active branch there are from this height on.
+    pub fn confirmations(&self, height: u32) -> u32
+        requires { IsExact self.now }
+        ensures { let o = self.now.origin in
+            result ≡ confirmations (regtest o.params o.triples) (state_of o self.now.journal) height }
+    {
+        let blocks = self.info.height as u32 + 1;
+        blocks.saturating_sub(height)
+    }
+}
