@@ -1,13 +1,15 @@
 -- The steps of readers and of the writer keep the rule of what is published.
-use Rattle.std.proofs.Common.{◌≡◌, ℕ, ◌≢◌, List, [], ◌∷◌, ◌++◌, fold, set, refl, sym, ap, ◌∙◌, subst, ⊎_elim, Option, Some, None}
+use Rattle.std.proofs.Common.{◌≡◌, ℕ, ◌≢◌, List, [], ◌∷◌, ◌++◌, set, refl, sym, ap, ◌∙◌, subst, ⊎_elim, Option, Some, None}
 use mathlib.Core.Option.{some}
 use lib.ListN.{get_elem?}
 use Rattle.crossbeam_utils.specs.Register.{Admits, TurnsAt, Turns, Forks, Merges}
 use Rattle.atomic_table.proofs.Lists.{at_set, at_snoc, set_again}
 use Rattle.view.specs.Origin.{Origin}
-use Rattle.view.specs.ViewState.{ViewState, IsExact, after_publication, after_publications}
+use Rattle.view.specs.ViewState.{ViewState, IsExact, after_publications}
 use Rattle.view.specs.declared.publication.Publication.{Publication}
-use Rattle.view.specs.Rule.{Keeps, IsOfKnown}
+use Rattle.view.specs.Following.{AllFollow}
+use Rattle.view.specs.laws.Exact.{all_exact, same_origin}
+use Rattle.view.specs.Rule.{Keeps}
 use Rattle.view.specs.inside.Turns.{Sees, Publishes}
 
 set_kept : (x : ViewState) (views : List (Option Origin)) (seat : ℕ) (w : Option Origin) → Keeps x views → ((o : Origin) → w ≡ Some o → o ≡ x.origin) → Keeps x (set views seat w)
@@ -45,16 +47,6 @@ learns seat v other w x views h at apart there =
     let was : get_elem? views other ≡ some w = ⊎_elim (λ (t : (other ≡ seat) × (w ≡ w)). absurd (apart t.0)) (λ (t : (other ≢ seat) × (get_elem? views other ≡ some w)). t.1) (at_set views seat other w w there) in
     set_kept x (set views seat w) other None (set_kept x views seat w h (known x views other w h was)) (nothing x)
 
--- one operation more
-pub one_more : (x : ViewState) (ys : List Publication) (y : Publication) → after_publications x (ys ++ y ∷ []) ≡ after_publication (after_publications x ys) y
-one_more x [] y = refl
-one_more x (z ∷ zs) y = one_more (after_publication x z) zs y
-
--- the origin is that of before, with the operation's book
-pub origin_after : (x : ViewState) (ys : List Publication) (y : Publication) → (after_publication (after_publications x ys) y).origin ≡ record x.origin { book = y.before.book }
-origin_after x [] y = refl
-origin_after x (z ∷ zs) y = origin_after (after_publication x z) zs y
-
 -- what is published again, with nothing pending
 pub publishes_again : (seat : ℕ) (v : Option Origin) (x next : ViewState) (pending : List Publication) → next ≡ after_publications x pending → pending ≡ [] → IsExact x → TurnsAt Keeps seat v x next Publishes
 publishes_again seat v x next pending is none s views h at =
@@ -63,12 +55,11 @@ publishes_again seat v x next pending is none s views h at =
     let kept : Keeps next views = subst (λ n. Keeps n views) (sym same) h in
     (Some next.origin, set_kept next views seat (Some next.origin) kept (λ o e. cc), (refl, good))
 
--- what is published next is what was pending, and what was appended
-pub publishes_next : (seat : ℕ) (v : Option Origin) (x next : ViewState) (appended : Publication) (before after : List Publication) → next ≡ after_publications x after → after ≡ before ++ appended ∷ []
-    → appended.before.book ≡ x.origin.book → IsExact (after_publication (after_publications x before) appended) → TurnsAt Keeps seat v x next Publishes
-publishes_next seat v x next appended before after is all same s views h at =
-    let last : next ≡ after_publication (after_publications x before) appended = is ∙ (ap (λ l. after_publications x l) all ∙ one_more x before appended) in
-    let origin : next.origin ≡ x.origin = ap (λ (n : ViewState). n.origin) last ∙ origin_after x before appended ∙ ap (λ b. record x.origin { book = b }) same in
-    let good : IsExact next = subst IsExact (sym last) s in
+-- what is published next follows what was
+pub publishes_next : (seat : ℕ) (v : Option Origin) (x next : ViewState) (all pending : List Publication) → next ≡ after_publications x pending → pending ≡ all → IsExact x → AllFollow x all → TurnsAt Keeps seat v x next Publishes
+publishes_next seat v x next all pending is same exact follow views h at =
+    let last : next ≡ after_publications x all = is ∙ ap (after_publications x) same in
+    let origin : next.origin ≡ x.origin = ap (λ (n : ViewState). n.origin) last ∙ same_origin x all follow in
+    let good : IsExact next = subst IsExact (sym last) (all_exact x all exact follow) in
     let kept : Keeps next views = (good, (λ j o e. h.1 j o e ∙ sym origin)) in
     (Some next.origin, set_kept next views seat (Some next.origin) kept (λ o e. cc), (refl, good))

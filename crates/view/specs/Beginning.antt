@@ -1,5 +1,5 @@
 -- Beginnings of the one history, and the rule of the word that counts its entries.
-use Rattle.std.specs.Prelude.{◌≡◌, ℕ, Bool, true, List, [], ◌∷◌, length}
+use Rattle.std.specs.Prelude.{◌≡◌, true, List, [], ◌∷◌, length}
 use Rattle.logbook.specs.Pages.{Book, Cell, Named}
 use Rattle.chain.specs.declared.entry.Entry.{Entry}
 

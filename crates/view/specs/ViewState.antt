@@ -1,6 +1,7 @@
 -- What is published, as plain data, and what a publication does to it.
-use Rattle.std.specs.Prelude.{◌≡◌, ℕ, ◌<◌, ◌-◌, if◌then◌else◌, List, [], ◌∷◌, ◌++◌, fold, map, take, length, Option, Some}
+use Rattle.std.specs.Prelude.{◌≡◌, ◌<◌, ◌-◌, if◌then◌else◌, List, [], ◌∷◌, ◌++◌, fold, map, take, length, Option, None, Some}
 use Rattle.std.specs.Option.{option_to_list}
+use Rattle.std.specs.FinMap as coin_map
 use Rattle.block.specs.declared.block.Block.{Block}
 use Rattle.coins.specs.Coins.{Coins}
 use Rattle.coins.specs.Changes.{after_changes}
@@ -52,6 +53,10 @@ pub record IsExact (x : ViewState) : Type 0 where
   pub legal : IsLegal x.origin x.journal
   pub coins_are : x.coins ≡ coins_of x.origin x.journal
   pub info_is : IsInfo x.origin x.journal x.info
+
+-- before any entry there are no coins
+abbrev pub opening_view : Origin → ChainInfo → ViewState
+opening_view o info = record { origin = o; before = []; last = None; journal = []; coins = coin_map.empty; info = info }
 
 -- all entries but the last
 abbrev pub but_last : List Entry → List Entry

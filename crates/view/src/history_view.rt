@@ -1,10 +1,9 @@
 //! The published view, of which two copies are kept: readers take one while the other is changed.
 
-ghost use Rattle.std.specs.Prelude.{◌≡◌, [], None, OnOk, OnErr, IfErr};
+ghost use Rattle.std.specs.Prelude.{◌≡◌, [], OnOk, OnErr, IfErr};
 ghost use Rattle.std.specs.Arc.{arc_value};
-ghost use Rattle.std.specs.FinMap as coin_map;
 ghost use Rattle.view.specs.Origin.{origin};
-ghost use Rattle.view.specs.ViewState.{after_publication};
+ghost use Rattle.view.specs.ViewState.{after_publication, opening_view};
 
 use crate::chain_info::ChainInfo;
 use crate::note::Note;
@@ -75,14 +74,7 @@ impl View {
         info: ChainInfo,
     ) -> View
         requires { note.entries ≡ [] }
-        ensures { result ≡ record {
-          origin = origin note.book params (arc_value table) seats;
-          before = [];
-          last = None;
-          journal = [];
-          coins = coin_map.empty;
-          info = info;
-        } }
+        ensures { result ≡ opening_view (origin note.book params (arc_value table) seats) info }
     {
         View {
             alloc,

@@ -4,6 +4,7 @@
 mod chain_info;
 mod history_view;
 mod hub;
+pub mod laws;
 mod note;
 mod publication;
 mod publishing;

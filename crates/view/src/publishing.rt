@@ -1,8 +1,9 @@
 //! What the readers and the writer of the view do.
 
-ghost use Rattle.std.specs.Prelude.{◌≡◌, ◌<◌, ◌^◌, [], Some, ◌∷◌, ◌++◌, IfOk, IfErr, IfSome, MatchResult, MatchBool, drop};
+ghost use Rattle.std.specs.Prelude.{◌≡◌, ◌<◌, ◌^◌, [], Some, ◌∷◌, ◌++◌, IfOk, IfErr, IfSome, MatchResult, if◌then◌else◌, drop};
 ghost use Rattle.left_right.specs.Sides.{view as known};
-ghost use Rattle.view.specs.ViewState.{IsExact, after_publication, after_publications};
+ghost use Rattle.view.specs.ViewState.{IsExact, after_publications};
+ghost use Rattle.view.specs.Following.{AllFollow};
 ghost use Rattle.view.specs.Rule.{IsOfKnown};
 
 use crate::history_view::View;
@@ -68,26 +69,26 @@ pub fn enter(reader: ViewReader) -> Result<ViewReading, ViewReader>
     reader.enter_as::<Entering>()
 }
 
-/// Publishes what is pending, and then this. Or it is pending too, or there was no room for it: then readers see what
-/// they saw.
+/// Publishes what is pending, and then this: true. Or it is pending too (false), or comes back where there is no room
+/// for it; then readers see what they saw.
 pub fn publish<R: Wait>(
     rt: &R,
     writer: ViewWriter,
     publication: Publication,
 ) -> (ViewWriter, Result<bool, Publication>)
-    requires exact { let pending = drop writer.behind writer.log.items in
-        IsExact (after_publication
-        (after_publications writer.desk.shown.value pending) publication) }
-    requires book { publication.before.book ≡ writer.desk.shown.value.origin.book }
+    requires exact { IsExact writer.desk.shown.value }
+    requires follows { let pending = drop writer.behind writer.log.items in
+        AllFollow writer.desk.shown.value (pending ++ publication ∷ []) }
+    ensures exact { IsExact result.0.desk.shown.value }
     ensures shown { let was = writer.desk.shown.value in
-        let pending = drop writer.behind writer.log.items in
-        MatchResult result.1 (λ done. MatchBool done
-        (result.0.desk.shown.value ≡ after_publication (after_publications was pending) publication)
-        (result.0.desk.shown.value ≡ was)) (λ _. result.0.desk.shown.value ≡ was) }
+        let all = drop writer.behind writer.log.items ++ publication ∷ [] in
+        let shown = result.0.desk.shown.value in
+        MatchResult result.1
+        (λ done. shown ≡ (if done then after_publications was all else was)) (λ _. shown ≡ was) }
     ensures pending { let pending = drop writer.behind writer.log.items in
         let left = drop result.0.behind result.0.log.items in
-        MatchResult result.1 (λ done. MatchBool done (left ≡ [])
-        (left ≡ pending ++ publication ∷ [])) (λ _. left ≡ pending) }
+        MatchResult result.1
+        (λ done. left ≡ (if done then [] else pending ++ publication ∷ [])) (λ _. left ≡ pending) }
     ensures given_back { IfErr result.1 (λ back. back ≡ publication) }
 {
     let mut writer = writer;

@@ -1,13 +1,11 @@
 //! What a reader reads from the view that it has entered.
 
-ghost use Rattle.std.specs.Prelude.{◌≡◌, IfSome, length, map};
-ghost use Rattle.std.specs.Option.{option_copied};
-ghost use Rattle.std.specs.FinMap as coin_map;
+ghost use Rattle.std.specs.Prelude.{◌≡◌, IfSome, MatchOption, None, Some, length, map};
 ghost use Rattle.chain.specs.Regtest.{regtest};
 ghost use Rattle.chain.specs.Chainstate.{confirmations};
 ghost use Rattle.tree.specs.Tips.{tip_of_id};
 ghost use Rattle.view.specs.Origin.{machine};
-ghost use Rattle.view.specs.ViewState.{IsExact, coins_of, state_of};
+ghost use Rattle.view.specs.ViewState.{IsExact, state_of};
 
 use crate::chain_info::ChainInfo;
 use crate::history_view::View;
@@ -77,20 +75,25 @@ impl View {
         self.info.tips.as_slice()
     }
 
-    /// The coin at an outpoint, lent (Bitcoin Core's `gettxout`, with `confirmations`).
-    pub fn coin(&self, outpoint: &OutPoint) -> Option<&Coin>
+    /// The coin at an outpoint, lent, and how many blocks confirm it (Bitcoin Core's `gettxout`).
+    pub fn unspent(&self, outpoint: &OutPoint) -> Option<(&Coin, u32)>
         requires { IsExact self.now }
         ensures { let o = self.now.origin in
-            option_copied result ≡ coin_map.get (coins_of o self.now.journal) outpoint.now }
+            let found = (machine o).coin (state_of o self.now.journal) outpoint.now in
+            MatchOption result (found ≡ None) (λ x. found ≡ Some (x.0.now, x.1)) }
     {
-        self.coins.get(outpoint)
+        match self.coins.get(outpoint) {
+            Some(coin) => Some((coin, self.confirmations(coin.height))),
+            None => None,
+        }
     }
 
     /// How many blocks of the active branch there are from this height on.
-    pub fn confirmations(&self, height: u32) -> u32
+    fn confirmations(&self, height: u32) -> u32
         requires { IsExact self.now }
         ensures { let o = self.now.origin in
-            result ≡ confirmations (regtest o.params o.triples) (state_of o self.now.journal) height }
+            let r = regtest o.params o.triples in
+            result ≡ confirmations r (state_of o self.now.journal) height }
     {
         let blocks = self.info.height as u32 + 1;
         blocks.saturating_sub(height)

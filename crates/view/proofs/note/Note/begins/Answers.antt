@@ -1,4 +1,4 @@
-use Rattle.std.proofs.Common.{◌≡◌, List, ap, subst}
+use Rattle.std.proofs.Common.{List, ap, subst}
 use mathlib.Core.List.{IsPrefix}
 use Rattle.chain.specs.declared.entry.Entry.{Entry}
 use Rattle.view.proofs.Beginnings.{shorter_begins}
