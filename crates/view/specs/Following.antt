@@ -1,5 +1,5 @@
 -- Which publications may come after a view.
-use Rattle.std.specs.Prelude.{◌≡◌, ◌⊎◌, true, false, List, [], ◌∷◌, ◌++◌, Some, None}
+use Rattle.std.specs.Prelude.{◌≡◌, true, false, List, [], ◌∷◌, ◌++◌, Some, None}
 use Rattle.coins.specs.Changes.{AreChanges}
 use Rattle.chain.specs.declared.entry.Entry.{Entry}
 use Rattle.chain.specs.History.{entry_of}
@@ -24,7 +24,12 @@ pub record IsOwed (x : ViewState) (p : Publication) : Type 0 where
   pub entry_is : (e : Entry) × (x.last ≡ Some e) × (p.entry ≡ entry_of e.seat e.command None)
   pub info_is : p.info ≡ x.info
 
--- each of them does one or the other, after those before it
+-- each of them brings the last entry again
+abbrev pub AllOwed : ViewState → List Publication → Type 0
+AllOwed x [] = Unit {0}
+AllOwed x (p ∷ ps) = IsOwed x p × AllOwed (after_publication x p) ps
+
+-- the first of them brings the next entry, and the others bring it again
 abbrev pub AllFollow : ViewState → List Publication → Type 0
 AllFollow x [] = Unit {0}
-AllFollow x (p ∷ ps) = (IsNext x p ⊎ IsOwed x p) × AllFollow (after_publication x p) ps
+AllFollow x (p ∷ ps) = IsNext x p × AllOwed (after_publication x p) ps

@@ -1,6 +1,7 @@
 //! What holds of what is published, by the definitions alone.
 
 ghost use Rattle.std.specs.Prelude.{List, []};
+ghost use mathlib.Core.List.{IsPrefix};
 ghost use Rattle.view.specs.Following.{AllFollow};
 ghost use Rattle.view.specs.Origin.{Origin};
 ghost use Rattle.view.specs.ViewState.{ViewState, IsExact, IsInfo, after_publications, opening_view};
@@ -19,6 +20,12 @@ pub fn the_opening_view_is_exact()
 pub fn publications_keep_a_view_exact()
     ensures { (x : ViewState) (ps : List Publication) → IsExact x → AllFollow x ps
         → IsExact (after_publications x ps) }
+{}
+
+/// And what was published begins what is published then.
+pub fn what_is_published_only_grows()
+    ensures { (x : ViewState) (ps : List Publication) → IsExact x → AllFollow x ps
+        → IsPrefix x.journal (after_publications x ps).journal }
 {}
 
 /// Notes, readers and the writer may be given to other threads, and notes be shared with them.

@@ -1,6 +1,7 @@
 //! What the readers and the writer of the view do.
 
 ghost use Rattle.std.specs.Prelude.{◌≡◌, ◌<◌, ◌^◌, [], Some, ◌∷◌, ◌++◌, IfOk, IfErr, IfSome, MatchResult, if◌then◌else◌, drop};
+ghost use mathlib.Core.List.{IsPrefix};
 ghost use Rattle.left_right.specs.Sides.{view as known};
 ghost use Rattle.view.specs.ViewState.{IsExact, after_publications};
 ghost use Rattle.view.specs.Following.{AllFollow};
@@ -80,6 +81,7 @@ pub fn publish<R: Wait>(
     requires follows { let pending = drop writer.behind writer.log.items in
         AllFollow writer.desk.shown.value (pending ++ publication ∷ []) }
     ensures exact { IsExact result.0.desk.shown.value }
+    ensures grows { IsPrefix writer.desk.shown.value.journal result.0.desk.shown.value.journal }
     ensures shown { let was = writer.desk.shown.value in
         let all = drop writer.behind writer.log.items ++ publication ∷ [] in
         let shown = result.0.desk.shown.value in

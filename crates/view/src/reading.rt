@@ -3,6 +3,8 @@
 ghost use Rattle.std.specs.Prelude.{◌≡◌, IfSome, MatchOption, None, Some, length, map};
 ghost use Rattle.chain.specs.Regtest.{regtest};
 ghost use Rattle.chain.specs.Chainstate.{confirmations};
+ghost use Rattle.chain.specs.Settle.{active};
+ghost use Rattle.tree.specs.Branches.{height};
 ghost use Rattle.tree.specs.Tips.{tip_of_id};
 ghost use Rattle.view.specs.Origin.{machine};
 ghost use Rattle.view.specs.ViewState.{IsExact, state_of};
@@ -64,6 +66,16 @@ impl View {
             result ≡ (machine o).best (state_of o self.now.journal) }
     {
         self.info.best
+    }
+
+    /// The best block's height.
+    pub fn height(&self) -> usize
+        requires { IsExact self.now }
+        ensures { let r = regtest self.now.origin.params self.now.origin.triples in
+            let s = state_of self.now.origin self.now.journal in
+            result ≡ height s.blocks (active r s) }
+    {
+        self.info.height
     }
 
     /// The tips of the tree, lent (Bitcoin Core's `getchaintips`).

@@ -1,5 +1,7 @@
 -- A view stays exact: at first, and after each publication that may follow.
-use Rattle.std.proofs.Common.{◌≡◌, inl, inr, ℕ, ◌-◌, Bool, true, false, if◌then◌else◌, List, [], ◌∷◌, ◌++◌, map, take, length, length-append, Option, Some, None, refl, sym, ap, ◌∙◌, subst, arith}
+use Rattle.std.proofs.Common.{◌≡◌, ℕ, ◌-◌, Bool, true, false, if◌then◌else◌, List, [], ◌∷◌, ◌++◌, map, take, length, length-append, Option, Some, None, refl, sym, ap, ◌∙◌, subst, arith}
+use Rattle.std.proofs.lemmas.List.{append-nil}
+use mathlib.Core.List.{IsPrefix}
 use Rattle.std.specs.Option.{option_to_list}
 use Rattle.std.specs.FinMap as coin_map
 use Rattle.logbook.specs.Pages.{Book}
@@ -23,7 +25,7 @@ use Rattle.view.specs.declared.chain_info.ChainInfo.{ChainInfo}
 use Rattle.view.specs.declared.publication.Publication.{Publication}
 use Rattle.view.specs.Origin.{Origin, machine}
 use Rattle.view.specs.ViewState.{ViewState, IsExact, IsInfo, IsLegal, state_of, coins_of, but_last, after_publication, after_publications, opening_view}
-use Rattle.view.specs.Following.{IsNext, IsOwed, AllFollow}
+use Rattle.view.specs.Following.{IsNext, IsOwed, AllOwed, AllFollow}
 
 -- genesis leaves no coins
 opening_coins : (o : Origin) → coin_map.empty ≡ coins_of o []
@@ -123,20 +125,32 @@ owed_exact x p exact h =
     })
 
 -- one after the other
+owed_exacts : (x : ViewState) (ps : List Publication) → IsExact x → AllOwed x ps → IsExact (after_publications x ps)
+owed_exacts x [] exact h = exact
+owed_exacts x (p ∷ ps) exact h = owed_exacts (after_publication x p) ps (owed_exact x p exact h.0) h.1
+
 pub all_exact : (x : ViewState) (ps : List Publication) → IsExact x → AllFollow x ps → IsExact (after_publications x ps)
 all_exact x [] exact h = exact
-all_exact x (p ∷ ps) exact h =
-    all_exact (after_publication x p) ps (elim h.0 [
-      | inl next ↦ next_exact x p exact next
-      | inr owed ↦ owed_exact x p exact owed
-    ]) h.1
+all_exact x (p ∷ ps) exact h = owed_exacts (after_publication x p) ps (next_exact x p exact h.0) h.1
 
--- and it stays of its origin
+-- it stays of its origin
+owed_origin : (x : ViewState) (ps : List Publication) → AllOwed x ps → (after_publications x ps).origin ≡ x.origin
+owed_origin x [] h = refl
+owed_origin x (p ∷ ps) h = owed_origin (after_publication x p) ps h.1 ∙ ap (λ (b : Book). record x.origin { book = b }) h.0.book_is
+
 pub same_origin : (x : ViewState) (ps : List Publication) → AllFollow x ps → (after_publications x ps).origin ≡ x.origin
 same_origin x [] h = refl
-same_origin x (p ∷ ps) h =
-    let book : p.before.book ≡ x.origin.book = elim h.0 [
-      | inl next ↦ next.book_is
-      | inr owed ↦ owed.book_is
-    ] in
-    same_origin (after_publication x p) ps h.1 ∙ ap (λ (b : Book). record x.origin { book = b }) book
+same_origin x (p ∷ ps) h = owed_origin (after_publication x p) ps h.1 ∙ ap (λ (b : Book). record x.origin { book = b }) h.0.book_is
+
+-- what was published begins what is published then
+owed_before : (x : ViewState) (ps : List Publication) → AllOwed x ps → (after_publications x ps).before ≡ x.before
+owed_before x [] h = refl
+owed_before x (p ∷ ps) h = owed_before (after_publication x p) ps h.1 ∙ h.0.before_is
+
+pub only_grows : (x : ViewState) (ps : List Publication) → IsExact x → AllFollow x ps → IsPrefix x.journal (after_publications x ps).journal
+only_grows x [] exact h = ([], append-nil x.journal)
+only_grows x (p ∷ ps) exact h =
+    let y = after_publications x (p ∷ ps) in
+    let before : y.before ≡ x.journal = owed_before (after_publication x p) ps h.1 ∙ h.0.before_is in
+    let whole = (all_exact x (p ∷ ps) exact h).whole in
+    (option_to_list y.last, sym (whole ∙ ap (λ (es : List Entry). es ++ option_to_list y.last) before))
