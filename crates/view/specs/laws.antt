@@ -1,0 +1,2 @@
+-- Theorems on what is published.
+pub mod Exact

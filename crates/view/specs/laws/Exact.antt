@@ -1,0 +1,156 @@
+-- A view stays exact: at first, and after each publication that may follow.
+use Rattle.std.proofs.Common.{◌≡◌, ℕ, ◌-◌, Bool, true, false, if◌then◌else◌, List, [], ◌∷◌, ◌++◌, map, take, length, length-append, Option, Some, None, refl, sym, ap, ◌∙◌, subst, arith}
+use Rattle.std.proofs.lemmas.List.{append-nil}
+use mathlib.Core.List.{IsPrefix}
+use Rattle.std.specs.Option.{option_to_list}
+use Rattle.std.specs.FinMap as coin_map
+use Rattle.logbook.specs.Pages.{Book}
+use Rattle.block.specs.declared.block.Block.{Block}
+use Rattle.coins.specs.Changes.{after_changes}
+use Rattle.coins.specs.laws.Changing.{laid-changes}
+use Rattle.tree.specs.Branches.{height}
+use Rattle.tree.specs.State.{State, opening}
+use Rattle.tree.specs.Tips.{tip_of_id}
+use Rattle.chain.specs.declared.reply.Reply.{Reply}
+use Rattle.chain.specs.declared.entry.Entry.{Entry}
+use Rattle.chain.specs.History.{Answers, Stands, entry_of, state_after_entries}
+use Rattle.chain.specs.Regtest.{ledger, regtest}
+use Rattle.chain.specs.Replay.{coins, coins_at}
+use Rattle.chain.specs.Settle.{active}
+use Rattle.chain.specs.laws.Actives.{active_kept}
+use Rattle.chain.specs.laws.Coins.{coins-genesis}
+use Rattle.chain.specs.laws.History.{state_after-append, legal_push, legal_front, stands_within}
+use Rattle.chain.specs.laws.Steps.{opening_sound}
+use Rattle.view.specs.declared.chain_info.ChainInfo.{ChainInfo}
+use Rattle.view.specs.declared.publication.Publication.{Publication}
+use Rattle.view.specs.Origin.{Origin, machine}
+use Rattle.view.specs.ViewState.{ViewState, IsExact, IsInfo, IsLegal, state_of, coins_of, but_last, after_publication, after_publications, opening_view}
+use Rattle.view.specs.Following.{IsNext, IsOwed, AllOwed, AllFollow}
+
+-- genesis leaves no coins
+opening_coins : (o : Origin) → coin_map.empty ≡ coins_of o []
+opening_coins o =
+    let r = regtest o.params o.triples in
+    let sound = opening_sound r in
+    let low = active_kept r opening sound.genesis in
+    let at : 0 ≡ active r opening = omega (arith, low) in
+    sym (coins-genesis r ledger []) ∙ ap (λ (p : ℕ). coins_at r ledger [] p) at
+
+pub opening_exact : (o : Origin) (info : ChainInfo) → IsInfo o [] info → IsExact (opening_view o info)
+opening_exact o info h = record { whole = refl; legal = tt; coins_are = opening_coins o; info_is = h }
+
+-- what a publication leaves, from its book and whether it is one entry more
+abbrev view_by : ViewState → Publication → Book → Bool → ViewState
+view_by x p book new = record {
+  origin = record x.origin { book = book };
+  before = p.before.entries;
+  last = Some p.entry;
+  journal = (if new then x.journal else but_last x.journal) ++ p.entry ∷ [];
+  coins = if new then after_changes x.coins p.changes else x.coins;
+  info = p.info;
+}
+
+by_book : (x : ViewState) (p : Publication) (new : Bool) → p.is_new ≡ new → p.before.book ≡ x.origin.book → after_publication x p ≡ view_by x p x.origin.book new
+by_book x p new is book = ap (λ b. view_by x p b p.is_new) book ∙ ap (λ v. view_by x p x.origin.book v) is
+
+-- one entry more
+next_exact : (x : ViewState) (p : Publication) → IsExact x → IsNext x p → IsExact (after_publication x p)
+next_exact x p exact h =
+    subst IsExact (sym (by_book x p true h.is_new h.book_is)) (record {
+      whole = ap (λ (es : List Entry). es ++ p.entry ∷ []) (sym h.before_is);
+      legal = h.legal;
+      coins_are = laid-changes x.coins (coins_of x.origin (x.journal ++ p.entry ∷ [])) p.changes h.changes_are;
+      info_is = h.info_is;
+    })
+
+-- all but the last of a list with one more is the list
+take_whole : (xs : List Entry) (e : Entry) → take (length xs) (xs ++ e ∷ []) ≡ xs
+take_whole [] e = refl
+take_whole (x ∷ xs) e = ap (λ (es : List Entry). x ∷ es) (take_whole xs e)
+
+but_last-one : (xs : List Entry) (e : Entry) → but_last (xs ++ e ∷ []) ≡ xs
+but_last-one xs e =
+    let n : length (xs ++ e ∷ []) - 1 ≡ length xs = omega (arith, length-append xs (e ∷ [])) in
+    ap (λ (k : ℕ). take k (xs ++ e ∷ [])) n ∙ take_whole xs e
+
+-- a step's reply may be owed
+owed_answers : {S : Type 0} (r : Option Reply) (o : Option (S × Reply)) → Answers r o → Answers None o
+owed_answers r None h = h
+owed_answers r (Some x) h = tt
+
+-- the last entry with its reply owed
+module _ (o : Origin) (before : List Entry) (e : Entry) where
+  abbrev owed : Entry
+  owed = entry_of e.seat e.command None
+
+  owed_state : state_of o (before ++ e ∷ []) ≡ state_of o (before ++ owed ∷ [])
+  owed_state =
+      let m = machine o in
+      state_after-append m m.opening before (e ∷ []) ∙ sym (state_after-append m m.opening before (owed ∷ []))
+
+  owed_legal : IsLegal o (before ++ e ∷ []) → IsLegal o (before ++ owed ∷ [])
+  owed_legal h =
+      let m = machine o in
+      let stands : Stands m o.seats (state_after_entries m m.opening before) e = stands_within m o.seats m.opening before [] e h in
+      legal_push m o.seats m.opening before owed (legal_front m o.seats m.opening before (e ∷ []) h) (record {
+        seat_is = stands.seat_is;
+        reply_is = owed_answers e.reply (m.step (state_after_entries m m.opening before) e.command) stands.reply_is;
+      })
+
+-- what stands after a history stands after one of the same state
+same_info : (o : Origin) (xs ys : List Entry) (info : ChainInfo) → state_of o xs ≡ state_of o ys → IsInfo o xs info → IsInfo o ys info
+same_info o xs ys info same h = record {
+  best_is = h.best_is ∙ ap (λ (s : State Block). (machine o).best s) same;
+  height_is = h.height_is ∙ ap (λ (s : State Block). height s.blocks (active (regtest o.params o.triples) s)) same;
+  height_fits = h.height_fits;
+  tips_are = h.tips_are ∙ ap (λ (s : State Block). map tip_of_id ((machine o).tips s)) same;
+}
+
+-- the last entry again
+owed_exact : (x : ViewState) (p : Publication) → IsExact x → IsOwed x p → IsExact (after_publication x p)
+owed_exact x p exact h =
+    let o = x.origin in
+    let e = h.entry_is.0 in
+    let now : List Entry = x.before ++ owed o x.before e ∷ [] in
+    let was : x.journal ≡ x.before ++ e ∷ [] = exact.whole ∙ ap (λ (l : Option Entry). x.before ++ option_to_list l) h.entry_is.1 in
+    let front : but_last x.journal ≡ x.before = ap but_last was ∙ but_last-one x.before e in
+    let journal : but_last x.journal ++ p.entry ∷ [] ≡ now = ap (λ (es : List Entry). es ++ p.entry ∷ []) front ∙ ap (λ (y : Entry). x.before ++ y ∷ []) h.entry_is.2 in
+    let state : state_of o x.journal ≡ state_of o now = ap (state_of o) was ∙ owed_state o x.before e in
+    let state_here : state_of o x.journal ≡ state_of o (but_last x.journal ++ p.entry ∷ []) = state ∙ ap (state_of o) (sym journal) in
+    subst IsExact (sym (by_book x p false h.is_new h.book_is)) (record {
+      whole = ap (λ (es : List Entry). es ++ p.entry ∷ []) (front ∙ sym h.before_is);
+      legal = subst (λ (es : List Entry). IsLegal o es) (sym journal) (owed_legal o x.before e (subst (λ (es : List Entry). IsLegal o es) was exact.legal));
+      coins_are = exact.coins_are ∙ ap (λ (s : State Block). coins (regtest o.params o.triples) ledger s) state_here;
+      info_is = same_info o x.journal (but_last x.journal ++ p.entry ∷ []) p.info state_here (subst (λ (i : ChainInfo). IsInfo o x.journal i) (sym h.info_is) exact.info_is);
+    })
+
+-- one after the other
+owed_exacts : (x : ViewState) (ps : List Publication) → IsExact x → AllOwed x ps → IsExact (after_publications x ps)
+owed_exacts x [] exact h = exact
+owed_exacts x (p ∷ ps) exact h = owed_exacts (after_publication x p) ps (owed_exact x p exact h.0) h.1
+
+pub all_exact : (x : ViewState) (ps : List Publication) → IsExact x → AllFollow x ps → IsExact (after_publications x ps)
+all_exact x [] exact h = exact
+all_exact x (p ∷ ps) exact h = owed_exacts (after_publication x p) ps (next_exact x p exact h.0) h.1
+
+-- it stays of its origin
+owed_origin : (x : ViewState) (ps : List Publication) → AllOwed x ps → (after_publications x ps).origin ≡ x.origin
+owed_origin x [] h = refl
+owed_origin x (p ∷ ps) h = owed_origin (after_publication x p) ps h.1 ∙ ap (λ (b : Book). record x.origin { book = b }) h.0.book_is
+
+pub same_origin : (x : ViewState) (ps : List Publication) → AllFollow x ps → (after_publications x ps).origin ≡ x.origin
+same_origin x [] h = refl
+same_origin x (p ∷ ps) h = owed_origin (after_publication x p) ps h.1 ∙ ap (λ (b : Book). record x.origin { book = b }) h.0.book_is
+
+-- what was published begins what is published then
+owed_before : (x : ViewState) (ps : List Publication) → AllOwed x ps → (after_publications x ps).before ≡ x.before
+owed_before x [] h = refl
+owed_before x (p ∷ ps) h = owed_before (after_publication x p) ps h.1 ∙ h.0.before_is
+
+pub only_grows : (x : ViewState) (ps : List Publication) → IsExact x → AllFollow x ps → IsPrefix x.journal (after_publications x ps).journal
+only_grows x [] exact h = ([], append-nil x.journal)
+only_grows x (p ∷ ps) exact h =
+    let y = after_publications x (p ∷ ps) in
+    let before : y.before ≡ x.journal = owed_before (after_publication x p) ps h.1 ∙ h.0.before_is in
+    let whole = (all_exact x (p ∷ ps) exact h).whole in
+    (option_to_list y.last, sym (whole ∙ ap (λ (es : List Entry). es ++ option_to_list y.last) before))

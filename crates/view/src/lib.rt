@@ -1,0 +1,23 @@
+//! What readers see without waiting: the history so far, with the coins, the best block and the tips after it.
+#![tactic(auto)]
+
+mod chain_info;
+mod history_view;
+mod hub;
+pub mod laws;
+mod note;
+mod publication;
+mod publishing;
+mod reading;
+mod rule;
+
+pub use chain_info::{ChainInfo, Tips};
+pub use history_view::View;
+pub use hub::Hub;
+pub use note::{EntryCount, HistoryRule, Note};
+pub use publication::Publication;
+pub use publishing::{
+    ViewReader, ViewReading, ViewWriter, another_reader, enter, open_writer, publish,
+    publish_opening,
+};
+pub use rule::{KnownOrigin, ViewRule};

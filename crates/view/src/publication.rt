@@ -1,0 +1,52 @@
+//! Operations on what is published: one entry more, with what it changes.
+
+ghost use Rattle.std.specs.Prelude.{◌≡◌, ◌++◌, ◌∷◌, [], IfSome};
+ghost use Rattle.std.specs.Arc.{arc_value};
+ghost use Rattle.view.specs.Beginning.{count_of};
+
+use crate::chain_info::ChainInfo;
+use crate::hub::Hub;
+use crate::note::Note;
+use chain::Entry;
+use coins::Changes;
+use std::sync::Arc;
+use std::sync::atomic::Ordering;
+
+/// The most entries that a history may have.
+const MAX_ENTRIES: u64 = 1 << 60;
+
+/// An entry, what it changes and what stands after it. It is put behind the others, or, where it is none more, in
+/// place of the last.
+#[derive(Drop)]
+pub struct Publication {
+    pub hub: Arc<Hub>,
+    /// The history before the entry.
+    pub before: Note,
+    pub entry: Entry,
+    /// Whether it is one entry more.
+    pub is_new: bool,
+    /// The coins that change, where it is one more.
+    pub changes: Changes,
+    pub info: ChainInfo,
+    /// The number of the attempt that it belongs to: a later one keeps it from its place in the history.
+    pub attempt: u64,
+    pub ghost of_one_history: { (arc_value hub).counter ≡ count_of before.book },
+}
+
+impl Publication {
+    /// The history with the entry, which gets its place there. None where a later attempt was made.
+    pub(crate) fn note(&self) -> Option<Note>
+        ensures { let b = self.now.before in IfSome result (λ n.
+            (n.book ≡ b.book) × (n.entries ≡ b.entries ++ self.now.entry ∷ [])) }
+    {
+        let hub = &self.hub;
+        if hub.attempt.load(Ordering::SeqCst) != self.attempt || self.before.len() >= MAX_ENTRIES {
+            return None;
+        }
+        let mut note = self.before.copy();
+        if note.add(&hub.counter, &self.entry) {
+            return Some(note);
+        }
+        None
+    }
+}

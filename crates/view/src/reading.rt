@@ -1,0 +1,113 @@
+//! What a reader reads from the view that it has entered.
+
+ghost use Rattle.std.specs.Prelude.{◌≡◌, IfSome, MatchOption, None, Some, length, map};
+ghost use Rattle.chain.specs.Regtest.{regtest};
+ghost use Rattle.chain.specs.Chainstate.{confirmations};
+ghost use Rattle.chain.specs.Settle.{active};
+ghost use Rattle.tree.specs.Branches.{height};
+ghost use Rattle.tree.specs.Tips.{tip_of_id};
+ghost use Rattle.view.specs.Origin.{machine};
+ghost use Rattle.view.specs.ViewState.{IsExact, state_of};
+
+use crate::chain_info::ChainInfo;
+use crate::history_view::View;
+use crate::note::Note;
+use chain::Entry;
+use coins::{Base, Coin, CoinMap};
+use hash::Id;
+use tree::Tip;
+use txn::OutPoint;
+
+impl View {
+    /// How many entries the history has: the place of what is read in it.
+    pub fn at(&self) -> u64
+        ensures { result ≡ length self.now.journal }
+    {
+        self.journal.len() as u64
+    }
+
+    /// The history, as its readers keep it. None where its last entry has no place there.
+    pub fn note(&self) -> Option<Note>
+        requires { IsExact self.now }
+        ensures { IfSome result (λ note.
+            (note.book ≡ self.now.origin.book) × (note.entries ≡ self.now.journal)) }
+    {
+        match &self.note {
+            Some(note) => Some(note.copy()),
+            None => None,
+        }
+    }
+
+    /// Its entries, lent.
+    pub fn journal(&self) -> &[Entry]
+        ensures { result.now ≡ self.now.journal }
+    {
+        self.journal.as_slice()
+    }
+
+    /// The coins after them, lent.
+    pub fn coins(&self) -> &CoinMap
+        ensures { result.now ≡ self.now.coins }
+    {
+        &self.coins
+    }
+
+    /// The best block, its height and the tips after them, lent.
+    pub fn info(&self) -> &ChainInfo
+        ensures { result.now ≡ self.now.info }
+    {
+        &self.info
+    }
+
+    /// The best block's id (Bitcoin Core's `getbestblockhash`).
+    pub fn best(&self) -> Id
+        requires { IsExact self.now }
+        ensures { let o = self.now.origin in
+            result ≡ (machine o).best (state_of o self.now.journal) }
+    {
+        self.info.best
+    }
+
+    /// The best block's height.
+    pub fn height(&self) -> usize
+        requires { IsExact self.now }
+        ensures { let r = regtest self.now.origin.params self.now.origin.triples in
+            let s = state_of self.now.origin self.now.journal in
+            result ≡ height s.blocks (active r s) }
+    {
+        self.info.height
+    }
+
+    /// The tips of the tree, lent (Bitcoin Core's `getchaintips`).
+    pub fn tips(&self) -> &[Tip]
+        requires { IsExact self.now }
+        ensures { let o = self.now.origin in
+            result.now ≡ map tip_of_id ((machine o).tips (state_of o self.now.journal)) }
+    {
+        self.info.tips.as_slice()
+    }
+
+    /// The coin at an outpoint, lent, and how many blocks confirm it (Bitcoin Core's `gettxout`).
+    pub fn unspent(&self, outpoint: &OutPoint) -> Option<(&Coin, u32)>
+        requires { IsExact self.now }
+        ensures { let o = self.now.origin in
+            let found = (machine o).coin (state_of o self.now.journal) outpoint.now in
+            MatchOption result (found ≡ None) (λ x. found ≡ Some (x.0.now, x.1)) }
+    {
+        match self.coins.get(outpoint) {
+            Some(coin) => Some((coin, self.confirmations(coin.height))),
+            None => None,
+        }
+    }
+
+    /// How many blocks of the active branch there are from this height on.
+    fn confirmations(&self, height: u32) -> u32
+        requires { IsExact self.now }
+        ensures { let o = self.now.origin in
+            let r = regtest o.params o.triples in
+            result ≡ confirmations r (state_of o self.now.journal) height }
+    {
+        let blocks = self.info.height as u32 + 1;
+        blocks.saturating_sub(height)
+    }
+}
