@@ -1,6 +1,6 @@
 //! What the readers and the writer of the view do.
 
-ghost use Rattle.std.specs.Prelude.{◌≡◌, ◌<◌, ◌^◌, [], Some, ◌∷◌, ◌++◌, IfOk, IfErr, IfSome, MatchResult, if◌then◌else◌, drop};
+ghost use Rattle.std.specs.Prelude.{◌≡◌, ◌<◌, ◌^◌, [], None, Some, ◌∷◌, ◌++◌, IfOk, IfErr, IfSome, MatchResult, if◌then◌else◌, drop};
 ghost use mathlib.Core.List.{IsPrefix};
 ghost use Rattle.left_right.specs.Sides.{view as known};
 ghost use Rattle.view.specs.ViewState.{IsExact, after_publications};
@@ -35,6 +35,7 @@ pub fn open_writer(
     requires readers { (0 < readers) × (readers < 2 ^ 32) }
     requires alike { second ≡ first }
     requires exact { IsExact first }
+    ensures known { IfOk result (λ w. known w.desk.place ≡ None) }
     ensures shown { IfOk result (λ w. w.desk.shown.value ≡ first) }
     ensures pending { IfOk result (λ w. drop w.behind w.log.items ≡ []) }
 {
@@ -92,6 +93,8 @@ pub fn publish<R: Wait>(
         MatchResult result.1
         (λ done. left ≡ (if done then [] else pending ++ publication ∷ [])) (λ _. left ≡ pending) }
     ensures given_back { IfErr result.1 (λ back. back ≡ publication) }
+    ensures known { let o = writer.desk.shown.value.origin in
+        known writer.desk.place ≡ Some o → known result.0.desk.place ≡ Some o }
 {
     let mut writer = writer;
     if let Err(publication) = writer.append(publication) {

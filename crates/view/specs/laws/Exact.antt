@@ -40,8 +40,8 @@ pub opening_exact : (o : Origin) (info : ChainInfo) → IsInfo o [] info → IsE
 opening_exact o info h = record { whole = refl; legal = tt; coins_are = opening_coins o; info_is = h }
 
 -- what a publication leaves, from its book and whether it is one entry more
-abbrev view_by : ViewState → Publication → Book → Bool → ViewState
-view_by x p book new = record {
+abbrev after_parts : ViewState → Publication → Book → Bool → ViewState
+after_parts x p book new = record {
   origin = record x.origin { book = book };
   before = p.before.entries;
   last = Some p.entry;
@@ -50,13 +50,13 @@ view_by x p book new = record {
   info = p.info;
 }
 
-by_book : (x : ViewState) (p : Publication) (new : Bool) → p.is_new ≡ new → p.before.book ≡ x.origin.book → after_publication x p ≡ view_by x p x.origin.book new
-by_book x p new is book = ap (λ b. view_by x p b p.is_new) book ∙ ap (λ v. view_by x p x.origin.book v) is
+after_by : (x : ViewState) (p : Publication) (new : Bool) → p.is_new ≡ new → p.before.book ≡ x.origin.book → after_publication x p ≡ after_parts x p x.origin.book new
+after_by x p new is book = ap (λ b. after_parts x p b p.is_new) book ∙ ap (λ v. after_parts x p x.origin.book v) is
 
 -- one entry more
 next_exact : (x : ViewState) (p : Publication) → IsExact x → IsNext x p → IsExact (after_publication x p)
 next_exact x p exact h =
-    subst IsExact (sym (by_book x p true h.is_new h.book_is)) (record {
+    subst IsExact (sym (after_by x p true h.is_new h.book_is)) (record {
       whole = ap (λ (es : List Entry). es ++ p.entry ∷ []) (sym h.before_is);
       legal = h.legal;
       coins_are = laid-changes x.coins (coins_of x.origin (x.journal ++ p.entry ∷ [])) p.changes h.changes_are;
@@ -80,19 +80,19 @@ owed_answers r (Some x) h = tt
 
 -- the last entry with its reply owed
 module _ (o : Origin) (before : List Entry) (e : Entry) where
-  abbrev owed : Entry
-  owed = entry_of e.seat e.command None
+  abbrev owed_entry : Entry
+  owed_entry = entry_of e.seat e.command None
 
-  owed_state : state_of o (before ++ e ∷ []) ≡ state_of o (before ++ owed ∷ [])
+  owed_state : state_of o (before ++ e ∷ []) ≡ state_of o (before ++ owed_entry ∷ [])
   owed_state =
       let m = machine o in
-      state_after-append m m.opening before (e ∷ []) ∙ sym (state_after-append m m.opening before (owed ∷ []))
+      state_after-append m m.opening before (e ∷ []) ∙ sym (state_after-append m m.opening before (owed_entry ∷ []))
 
-  owed_legal : IsLegal o (before ++ e ∷ []) → IsLegal o (before ++ owed ∷ [])
+  owed_legal : IsLegal o (before ++ e ∷ []) → IsLegal o (before ++ owed_entry ∷ [])
   owed_legal h =
       let m = machine o in
       let stands : Stands m o.seats (state_after_entries m m.opening before) e = stands_within m o.seats m.opening before [] e h in
-      legal_push m o.seats m.opening before owed (legal_front m o.seats m.opening before (e ∷ []) h) (record {
+      legal_push m o.seats m.opening before owed_entry (legal_front m o.seats m.opening before (e ∷ []) h) (record {
         seat_is = stands.seat_is;
         reply_is = owed_answers e.reply (m.step (state_after_entries m m.opening before) e.command) stands.reply_is;
       })
@@ -111,13 +111,13 @@ owed_exact : (x : ViewState) (p : Publication) → IsExact x → IsOwed x p → 
 owed_exact x p exact h =
     let o = x.origin in
     let e = h.entry_is.0 in
-    let now : List Entry = x.before ++ owed o x.before e ∷ [] in
+    let now : List Entry = x.before ++ owed_entry o x.before e ∷ [] in
     let was : x.journal ≡ x.before ++ e ∷ [] = exact.whole ∙ ap (λ (l : Option Entry). x.before ++ option_to_list l) h.entry_is.1 in
     let front : but_last x.journal ≡ x.before = ap but_last was ∙ but_last-one x.before e in
     let journal : but_last x.journal ++ p.entry ∷ [] ≡ now = ap (λ (es : List Entry). es ++ p.entry ∷ []) front ∙ ap (λ (y : Entry). x.before ++ y ∷ []) h.entry_is.2 in
     let state : state_of o x.journal ≡ state_of o now = ap (state_of o) was ∙ owed_state o x.before e in
     let state_here : state_of o x.journal ≡ state_of o (but_last x.journal ++ p.entry ∷ []) = state ∙ ap (state_of o) (sym journal) in
-    subst IsExact (sym (by_book x p false h.is_new h.book_is)) (record {
+    subst IsExact (sym (after_by x p false h.is_new h.book_is)) (record {
       whole = ap (λ (es : List Entry). es ++ p.entry ∷ []) (front ∙ sym h.before_is);
       legal = subst (λ (es : List Entry). IsLegal o es) (sym journal) (owed_legal o x.before e (subst (λ (es : List Entry). IsLegal o es) was exact.legal));
       coins_are = exact.coins_are ∙ ap (λ (s : State Block). coins (regtest o.params o.triples) ledger s) state_here;
