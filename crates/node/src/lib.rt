@@ -5,6 +5,7 @@ mod answer;
 mod fault;
 mod history;
 mod node;
+mod published_history;
 mod seat;
 
 pub use answer::{Stamped, UnspentOutput};

@@ -1,0 +1,210 @@
+-- What waits to be published follows what readers see, and what they see once it is published.
+use Rattle.std.proofs.Common.{◌≡◌, ◌-◌, Bool, true, false, List, [], ◌∷◌, ◌++◌, length, length-append, Option, Some, None, refl, ap, sym, ◌∙◌, subst, arith}
+use Rattle.std.proofs.lemmas.List.{same_from_push}
+use Rattle.std.specs.Option.{option_to_list}
+use Rattle.std.specs.Prelude.{slice_get, map, IfSome}
+use Rattle.block.specs.declared.block.Block.{Block}
+use Rattle.coins.specs.Changes.{Changes, AreChanges}
+use Rattle.tree.specs.Branches.{height}
+use Rattle.tree.specs.State.{State}
+use Rattle.tree.specs.Tips.{tip_of_id}
+use Rattle.chain.specs.declared.command.Command.{Command}
+use Rattle.chain.specs.declared.reply.Reply.{Reply}
+use Rattle.chain.specs.declared.entry.Entry.{Entry}
+use Rattle.chain.specs.History.{Answers, Stands, entry_of, state_after_entries}
+use Rattle.chain.specs.Regtest.{ledger, regtest}
+use Rattle.chain.specs.Replay.{coins}
+use Rattle.chain.specs.Settle.{active}
+use Rattle.chain.specs.laws.History.{state_after-append, legal_push, legal_front, stands_within}
+use Rattle.view.specs.Origin.{Origin, machine}
+use Rattle.view.specs.ViewState.{ViewState, IsExact, IsInfo, IsLegal, state_of, coins_of, after_publication, after_publications}
+use Rattle.view.specs.Following.{IsNext, IsOwed, AllOwed, AllFollow}
+use Rattle.view.specs.declared.chain_info.ChainInfo.{ChainInfo}
+use Rattle.view.specs.declared.publication.Publication.{Publication}
+use Rattle.view.specs.laws.Exact.{all_exact, same_origin}
+use Rattle.node.specs.inside.PublishedState.{Shows, AreDue, replied}
+
+-- the state after an entry is that after its command
+pub state_of-push : (o : Origin) (xs : List Entry) (e d : Entry) → e.command ≡ d.command → state_of o (xs ++ e ∷ []) ≡ state_of o (xs ++ d ∷ [])
+state_of-push o xs e d same =
+    let m = machine o in
+    let s : State Block = state_after_entries m m.opening xs in
+    state_after-append m m.opening xs (e ∷ []) ∙ ap (λ (c : Command). state_after_entries m s (record e { command = c } ∷ [])) same ∙ sym (state_after-append m m.opening xs (d ∷ []))
+
+owed_answers : {S : Type 0} (r : Option Reply) (o : Option (S × Reply)) → Answers r o → Answers None o
+owed_answers r None h = h
+owed_answers r (Some x) h = tt
+
+-- an entry whose reply is owed may stand where it stands
+pub owed_legal : (o : Origin) (xs : List Entry) (e : Entry) → IsLegal o (xs ++ e ∷ []) → IsLegal o (xs ++ replied e None ∷ [])
+owed_legal o xs e h =
+    let m = machine o in
+    let stands : Stands m o.seats (state_after_entries m m.opening xs) e = stands_within m o.seats m.opening xs [] e h in
+    legal_push m o.seats m.opening xs (replied e None) (legal_front m o.seats m.opening xs (e ∷ []) h) (record {
+      seat_is = stands.seat_is;
+      reply_is = owed_answers e.reply (m.step (state_after_entries m m.opening xs) e.command) stands.reply_is;
+    })
+
+-- what stands after a state is one
+one_info : (o : Origin) (xs ys : List Entry) (a b : ChainInfo) → state_of o xs ≡ state_of o ys → IsInfo o xs a → IsInfo o ys b → a ≡ b
+one_info o xs ys a b same h k =
+    let m = machine o in
+    let best : a.best ≡ b.best = h.best_is ∙ ap (λ (s : State Block). m.best s) same ∙ sym k.best_is in
+    let high : a.height ≡ b.height = h.height_is ∙ ap (λ (s : State Block). height s.blocks (active (regtest o.params o.triples) s)) same ∙ sym k.height_is in
+    let tips : a.tips ≡ b.tips = h.tips_are ∙ ap (λ (s : State Block). map tip_of_id (m.tips s)) same ∙ sym k.tips_are in
+    λ i. record { best = best i; height = high i; tips = tips i }
+
+-- one publication more
+pub one_more : (x : ViewState) (ps : List Publication) (p : Publication) → after_publications x (ps ++ p ∷ []) ≡ after_publication (after_publications x ps) p
+one_more x [] p = refl
+one_more x (q ∷ qs) p = one_more (after_publication x q) qs p
+
+-- of publications that bring an entry again
+owed_more : (x : ViewState) (ps : List Publication) (p : Publication) → AllOwed x ps → IsOwed (after_publications x ps) p → AllOwed x (ps ++ p ∷ [])
+owed_more x [] p h o = (o, tt)
+owed_more x (q ∷ qs) p h o = (h.0, owed_more (after_publication x q) qs p h.1 o)
+
+owed_before : (x : ViewState) (ps : List Publication) → AllOwed x ps → (after_publications x ps).before ≡ x.before
+owed_before x [] h = refl
+owed_before x (p ∷ ps) h = owed_before (after_publication x p) ps h.1 ∙ h.0.before_is
+
+owed_last : (x : ViewState) (e : Entry) (ps : List Publication) → x.last ≡ Some e → AllOwed x ps → (d : Entry) × ((after_publications x ps).last ≡ Some d) × (replied d None ≡ replied e None)
+owed_last x e [] is h = (e, is, refl)
+owed_last x e (p ∷ ps) is h =
+    let t = owed_last (after_publication x p) p.entry ps refl h.1 in
+    let at = h.0.entry_is in
+    let same : at.0 ≡ e = cc (at.1, is) in
+    (t.0, t.1, t.2 ∙ ap (λ (f : Entry). replied f None) at.2 ∙ ap (λ (f : Entry). replied f None) same)
+
+-- the entry behind a history is one
+pub same_last : (xs ys : List Entry) (d e : Entry) → xs ++ d ∷ [] ≡ ys ++ e ∷ [] → (xs ≡ ys) × (d ≡ e)
+same_last xs ys d e h = let t = same_from_push xs ys d e h in t
+
+-- a publication of the entry that is owed
+pub record IsOfOwed (is_new : Bool) (o : Origin) (seen : List Entry) (e : Entry) (changes : Changes) (p : Publication) : Type 0 where
+  pub new_is : p.is_new ≡ is_new
+  pub book_is : p.before.book ≡ o.book
+  pub before_is : p.before.entries ≡ seen
+  pub entry_is : replied p.entry None ≡ replied e None
+  pub none : is_new ≡ false → p.entry.reply ≡ None
+  pub changes_are : p.changes ≡ changes
+  pub legal : IsLegal o (seen ++ p.entry ∷ [])
+  pub info_is : IsInfo o (seen ++ p.entry ∷ []) p.info
+
+-- the entry of the last of them
+again_owed : (x : ViewState) (o : Origin) (seen : List Entry) (e : Entry) (changes : Changes) (p q : Publication) (qs : List Publication) → Shows x o seen → IsOfOwed false o seen e changes p → AllFollow x (q ∷ qs)
+    → replied q.entry None ≡ replied e None → IsOwed (after_publications x (q ∷ qs)) p
+again_owed x o seen e changes p q qs shows of follow same =
+    let z : ViewState = after_publications x (q ∷ qs) in
+    let t = owed_last (after_publication x q) q.entry qs refl follow.1 in
+    let origin : z.origin ≡ o = same_origin x (q ∷ qs) follow ∙ shows.origin_is in
+    let before : z.before ≡ seen = owed_before (after_publication x q) qs follow.1 ∙ follow.0.before_is ∙ shows.journal_is in
+    let exact : IsExact z = all_exact x (q ∷ qs) shows.exact follow in
+    let journal : z.journal ≡ seen ++ t.0 ∷ [] = exact.whole ∙ ap (λ (es : List Entry). es ++ option_to_list z.last) before ∙ ap (λ (l : Option Entry). seen ++ option_to_list l) t.1 in
+    let entry : replied p.entry None ≡ replied t.0 None = of.entry_is ∙ sym same ∙ sym t.2 in
+    let info : IsInfo o (seen ++ t.0 ∷ []) z.info = subst (λ (es : List Entry). IsInfo o es z.info) journal (subst (λ (k : Origin). IsInfo k z.journal z.info) origin exact.info_is) in
+    let none : p.entry ≡ replied p.entry None = ap (λ (r : Option Reply). entry_of p.entry.seat p.entry.command r) (of.none refl) in
+    record {
+      is_new = of.new_is;
+      book_is = of.book_is ∙ ap (λ (k : Origin). k.book) (sym origin);
+      before_is = of.before_is ∙ sym before;
+      entry_is = (t.0, t.1, none ∙ entry);
+      info_is = one_info o (seen ++ p.entry ∷ []) (seen ++ t.0 ∷ []) p.info z.info (state_of-push o seen p.entry t.0 (ap (λ (f : Entry). f.command) entry)) of.info_is info;
+    }
+
+-- the coins that stand after an entry stand after it with another reply
+changes_of : (x : ViewState) (o : Origin) (seen journal : List Entry) (e : Entry) (changes : Changes) (p : Publication) → Shows x o seen → journal ≡ seen ++ replied e None ∷ [] → replied p.entry None ≡ replied e None → p.changes ≡ changes
+    → AreChanges x.coins (coins_of x.origin journal) changes → AreChanges x.coins (coins_of x.origin (x.journal ++ p.entry ∷ [])) p.changes
+changes_of x o seen journal e changes p shows is same eq h =
+    let state : state_of x.origin journal ≡ state_of x.origin (x.journal ++ p.entry ∷ []) =
+    ap (state_of x.origin) is ∙ state_of-push x.origin seen (replied e None) p.entry (ap (λ (f : Entry). f.command) (sym same)) ∙ ap (λ (es : List Entry). state_of x.origin (es ++ p.entry ∷ [])) (sym shows.journal_is) in
+    let coins : coins_of x.origin journal ≡ coins_of x.origin (x.journal ++ p.entry ∷ []) = coins_same x.origin journal (x.journal ++ p.entry ∷ []) state in
+    subst (λ (cs : Changes). AreChanges x.coins (coins_of x.origin (x.journal ++ p.entry ∷ [])) cs) (sym eq) (subst (λ m. AreChanges x.coins m changes) coins h)
+  where
+    coins_same : (k : Origin) (xs ys : List Entry) → state_of k xs ≡ state_of k ys → coins_of k xs ≡ coins_of k ys
+    coins_same k xs ys h = ap (λ (s : State Block). coins (regtest k.params k.triples) ledger s) h
+
+-- it follows what is pending
+pub follows : (is_new : Bool) (x : ViewState) (pending : List Publication) (o : Origin) (seen journal : List Entry) (e : Entry) (changes : Changes) (p : Publication) → Shows x o seen → AreDue true is_new x pending journal changes
+    → journal ≡ seen ++ replied e None ∷ [] → IsOfOwed is_new o seen e changes p → AllFollow x (pending ++ p ∷ [])
+follows true x pending o seen journal e changes p shows due is of =
+    let at : o ≡ x.origin = sym shows.origin_is in
+    let es : seen ++ p.entry ∷ [] ≡ x.journal ++ p.entry ∷ [] = ap (λ (l : List Entry). l ++ p.entry ∷ []) (sym shows.journal_is) in
+    let next : IsNext x p = record {
+      is_new = of.new_is;
+      book_is = of.book_is ∙ ap (λ (k : Origin). k.book) at;
+      before_is = of.before_is ∙ sym shows.journal_is;
+      legal = subst (λ (l : List Entry). IsLegal x.origin l) es (subst (λ (k : Origin). IsLegal k (seen ++ p.entry ∷ [])) at of.legal);
+      changes_are = changes_of x o seen journal e changes p shows is of.entry_is of.changes_are due.1;
+      info_is = subst (λ (l : List Entry). IsInfo x.origin l p.info) es (subst (λ (k : Origin). IsInfo k (seen ++ p.entry ∷ []) p.info) at of.info_is);
+    } in
+    let follow : AllFollow x (p ∷ []) = (next, tt) in
+    subst (λ (ps : List Publication). AllFollow x (ps ++ p ∷ [])) (sym due.0) follow
+follows false x pending o seen journal e changes p shows due is of =
+    let q : Publication = due.0 in
+    let qs : List Publication = due.1 in
+    let follow : AllFollow x (q ∷ qs) = due.3 in
+    let at : x.journal ++ replied q.entry None ∷ [] ≡ seen ++ replied e None ∷ [] = sym due.4 ∙ is in
+    let same : replied q.entry None ≡ replied e None = (same_last x.journal seen (replied q.entry None) (replied e None) at).1 in
+    let all : AllFollow x (q ∷ (qs ++ p ∷ [])) = (follow.0, owed_more (after_publication x q) qs p follow.1 (again_owed x o seen e changes p q qs shows of follow same)) in
+    subst (λ (ps : List Publication). AllFollow x (ps ++ p ∷ [])) (sym due.2) all
+
+-- what readers see once it is published
+pub shown_then : (x y : ViewState) (pending : List Publication) (p : Publication) → AllFollow x (pending ++ p ∷ []) → y ≡ after_publications x (pending ++ p ∷ []) → IsExact y
+    → (y.origin ≡ x.origin) × (y.journal ≡ p.before.entries ++ p.entry ∷ [])
+shown_then x y pending p follow is exact =
+    let z : ViewState = after_publications x pending in
+    let last : y ≡ after_publication z p = is ∙ one_more x pending p in (
+      ap (λ (v : ViewState). v.origin) is ∙ same_origin x (pending ++ p ∷ []) follow,
+      exact.whole ∙ ap (λ (v : ViewState). v.before ++ option_to_list v.last) last,
+    )
+
+-- what is due where it is pending too
+pub due_then : (is_new : Bool) (x y : ViewState) (pending left : List Publication) (journal : List Entry) (changes : Changes) (p : Publication) → AreDue true is_new x pending journal changes → AllFollow x (pending ++ p ∷ []) → p.before.entries ≡ x.journal
+    → journal ≡ p.before.entries ++ replied p.entry None ∷ [] → y ≡ x → left ≡ pending ++ p ∷ [] → AreDue true false y left journal []
+due_then is_new x y pending left journal changes p due follow before is same grown =
+    subst (λ (v : ViewState). AreDue true false v left journal []) (sym same) (subst (λ (ps : List Publication). AreDue true false x ps journal []) (sym grown) (by is_new due))
+  where
+    by : (b : Bool) → AreDue true b x pending journal changes → AreDue true false x (pending ++ p ∷ []) journal []
+    by true d = (
+      p,
+      [],
+      ap (λ (ps : List Publication). ps ++ p ∷ []) d.0,
+      subst (λ (ps : List Publication). AllFollow x (ps ++ p ∷ [])) d.0 follow,
+      is ∙ ap (λ (es : List Entry). es ++ replied p.entry None ∷ []) before,
+    )
+    by false d = (
+      d.0,
+      d.1 ++ p ∷ [],
+      ap (λ (ps : List Publication). ps ++ p ∷ []) d.2,
+      subst (λ (ps : List Publication). AllFollow x (ps ++ p ∷ [])) d.2 follow,
+      d.4,
+    )
+
+-- a fact of what an option has, from another
+pub if_some : {A : Type 0} (P Q : A → Type 0) (o : Option A) → ((x : A) → P x → Q x) → IfSome o P → IfSome o Q
+if_some P Q (Some x) f h = f x h
+if_some P Q None f h = h
+
+got_last : (xs : List Entry) (e : Entry) → slice_get (xs ++ e ∷ []) (length xs) ≡ Some e
+got_last [] e = refl
+got_last (x ∷ xs) e = got_last xs e
+
+-- the entry that a look at the last place finds
+pub last_found : (xs journal : List Entry) (e f : Entry) → journal ≡ xs ++ e ∷ [] → slice_get journal (length journal - 1) ≡ Some f → f ≡ e
+last_found xs journal e f all found =
+    let n : length (xs ++ e ∷ []) - 1 ≡ length xs = omega (arith, length-append xs (e ∷ [])) in
+    let here : slice_get journal (length journal - 1) ≡ Some e = ap (λ l. slice_get l (length l - 1)) all ∙ (ap (slice_get (xs ++ e ∷ [])) n ∙ got_last xs e) in
+    cc (here, found)
+
+pub both_some : {A : Type 0} (P Q R : A → Type 0) (o : Option A) → ((x : A) → P x → Q x → R x) → IfSome o P → IfSome o Q → IfSome o R
+both_some P Q R (Some x) f h k = f x h k
+both_some P Q R None f h k = h
+
+-- what is due once a step is taken
+pub due_taken : (is_new : Bool) (x : ViewState) (pending : List Publication) (o : Origin) (seen journal more : List Entry) (before changes : Changes) → Shows x o seen → AreDue false is_new x pending journal before → journal ≡ seen
+    → AreChanges (coins_of o journal) (coins_of o more) changes → AreDue true true x pending more changes
+due_taken is_new x pending o seen journal more before changes shows none same h =
+    let here : coins_of o journal ≡ x.coins = sym (shows.exact.coins_are ∙ (λ i. coins_of (shows.origin_is i) ((shows.journal_is ∙ sym same) i))) in
+    let after : coins_of o more ≡ coins_of x.origin more = ap (λ (k : Origin). coins_of k more) (sym shows.origin_is) in
+    (none, subst (λ m. AreChanges m (coins_of x.origin more) changes) here (subst (λ m. AreChanges (coins_of o journal) m changes) after h))

@@ -1,0 +1,102 @@
+use Rattle.std.proofs.Common.{rules, ◌≡◌, ◌++◌, ◌∷◌, [], true, Some, None, length, ◌-◌, drop, refl, ap, sym, ◌∙◌, subst}
+use Rattle.std.specs.Arc.{arc_value}
+use Rattle.std.specs.Prelude.{slice_get}
+use Rattle.chain.specs.declared.command.Command.{Command}
+use Rattle.chain.specs.declared.entry.Entry.{Entry}
+use Rattle.chain.specs.History.{entry_of}
+use Rattle.view.specs.Beginning.{Beginning}
+use Rattle.view.specs.Origin.{Origin, origin}
+use Rattle.view.specs.ViewState.{IsLegal}
+use Rattle.node.specs.inside.PublishedState.{PublishedState, IsJournal, replied}
+use Rattle.node.proofs.Owing.{of_owed, replied_core}
+use Rattle.node.proofs.Publications.{both_some, follows, last_found}
+use Rattle.node.proofs.published_history.PublishedHistory.publish_owed.Goals as goal
+
+pub attempt_to_publish-left-requires-clause-follows : goal.attempt_to_publish-left-requires-clause-follows
+attempt_to_publish-left-requires-clause-follows g c =
+    let i = c.self.invariant in
+    let s = c.self.inside in
+    let o : Origin = origin s.note.book s.params (arc_value s.table) s.seats in
+    let owed : s.owed ≡ true = ap (λ (h : PublishedState). h.owed) c.self.view_is ∙ c.requires.owed in
+    let t : IsJournal true s.note.entries s.journal.items = rw owed at i.2 in
+    let at : s.home ≡ Some c.in-Some-take.found = sym c.take.ensures.value ∙ c.in-Some-take.is in
+    let k = rw (at, owed) at i.4 in
+    let found : slice_get s.journal.items (length s.journal.items - 1) ≡ Some c.in-Some.last.now = search rules in
+    let last : c.in-Some.last.now ≡ replied t.0 None = last_found s.note.entries s.journal.items (replied t.0 None) c.in-Some.last.now t.1 found in
+    let entry : ◌≡◌ {A = Entry} (entry_of c.in-Some.last.now.seat c.in-Ok-copy.command c.args.reply) (replied t.0 c.args.reply) =
+    ap (λ (q : Command). entry_of c.in-Some.last.now.seat q c.args.reply) c.in-Ok-copy.ensures ∙ ap (λ (f : Entry). replied f c.args.reply) last in
+    let legal : IsLegal o (s.note.entries ++ replied t.0 c.args.reply ∷ []) =
+    subst (λ (h : PublishedState). IsLegal h.origin (s.note.entries ++ replied t.0 c.args.reply ∷ [])) (sym c.self.view_is)
+    (c.requires.legal s.note.entries (replied t.0 None) (ap (λ (h : PublishedState). h.journal) (sym c.self.view_is) ∙ t.1)) in
+    let core = i.0.is_chainstate.follows in
+    let may = c.may_bring.ensures c.if-not-may_bring.false in
+    rw c.into_writer-writer.ensures (
+    follows s.is_new c.in-Some-take.found.writer.desk.shown.value (drop c.in-Some-take.found.writer.behind c.in-Some-take.found.writer.log.items) o s.note.entries s.journal.items t.0 s.changes _ k.0 k.1 t.1
+    (of_owed o s.core s.note.entries s.journal.items t.0 c.args.reply i.0 t.1 legal s.is_new s.changes _ refl (ap (λ (x : Beginning). x.book) c.copy-2.ensures) (ap (λ (x : Beginning). x.entries) c.copy-2.ensures) entry may c.replace.ensures.value
+    (c.in-Ok.ensures.best (arc_value s.table) core) (c.in-Ok.ensures.height (arc_value s.table) core) (c.in-Ok.ensures.tips (arc_value s.table) core))
+    )
+
+pub invariant_of-self-then-still : goal.invariant_of-self-then-still
+invariant_of-self-then-still g c =
+    let i = c.self.invariant in
+    let s = c.self.inside in
+    let o : Origin = origin s.note.book s.params (arc_value s.table) s.seats in
+    let owed : s.owed ≡ true = ap (λ (h : PublishedState). h.owed) c.self.view_is ∙ c.requires.owed in
+    let t : IsJournal true s.note.entries s.journal.items = rw owed at i.2 in
+    let at : s.home ≡ Some c.in-Some-take.found = sym c.take.ensures.value ∙ c.in-Some-take.is in
+    let k = rw (at, owed) at i.4 in
+    let found : slice_get s.journal.items (length s.journal.items - 1) ≡ Some c.in-Some.last.now = search rules in
+    let last : c.in-Some.last.now ≡ replied t.0 None = last_found s.note.entries s.journal.items (replied t.0 None) c.in-Some.last.now t.1 found in
+    let entry : ◌≡◌ {A = Entry} (entry_of c.in-Some.last.now.seat c.in-Ok-copy.command c.args.reply) (replied t.0 c.args.reply) =
+    ap (λ (q : Command). entry_of c.in-Some.last.now.seat q c.args.reply) c.in-Ok-copy.ensures ∙ ap (λ (f : Entry). replied f c.args.reply) last in
+    let book : c.attempt_to_publish-left.result.note.book ≡ s.note.book = c.attempt_to_publish-left.ensures.book ∙ ap (λ (x : Beginning). x.book) c.copy-2.ensures in
+    let of : c.into_writer-writer.result.desk.shown.value.origin ≡ o = rw c.into_writer-writer.ensures k.0.origin_is in
+    let before = ap (λ (x : Beginning). x.entries) c.copy-2.ensures in
+    let whole : c.copy-2.result.entries ++ replied (entry_of c.in-Some.last.now.seat c.in-Ok-copy.command c.args.reply) None ∷ [] ≡ s.journal.items =
+    (λ j. before j ++ replied (entry j) None ∷ []) ∙ sym t.1 in
+    let still = c.if-still.true in
+    let seen : c.attempt_to_publish-left.result.note.entries ≡ s.note.entries = rw still at c.attempt_to_publish-left.ensures.note ∙ before in
+    let shown = rw of at c.attempt_to_publish-left.ensures.shown in
+    let due = rw whole at c.attempt_to_publish-left.ensures.due in
+    rw book (
+      i.0,
+      i.1,
+      rw (still, seen) t,
+      i.3,
+      both_some _ _ _ c.attempt_to_publish-left.result.home (λ h a b. (a, b)) shown due,
+    )
+
+pub invariant_of-self-2 : goal.invariant_of-self-2
+invariant_of-self-2 g c =
+    let i = c.self.invariant in
+    let s = c.self.inside in
+    let o : Origin = origin s.note.book s.params (arc_value s.table) s.seats in
+    let owed : s.owed ≡ true = ap (λ (h : PublishedState). h.owed) c.self.view_is ∙ c.requires.owed in
+    let t : IsJournal true s.note.entries s.journal.items = rw owed at i.2 in
+    let at : s.home ≡ Some c.in-Some-take.found = sym c.take.ensures.value ∙ c.in-Some-take.is in
+    let k = rw (at, owed) at i.4 in
+    let found : slice_get s.journal.items (length s.journal.items - 1) ≡ Some c.in-Some.last.now = search rules in
+    let last : c.in-Some.last.now ≡ replied t.0 None = last_found s.note.entries s.journal.items (replied t.0 None) c.in-Some.last.now t.1 found in
+    let entry : ◌≡◌ {A = Entry} (entry_of c.in-Some.last.now.seat c.in-Ok-copy.command c.args.reply) (replied t.0 c.args.reply) =
+    ap (λ (q : Command). entry_of c.in-Some.last.now.seat q c.args.reply) c.in-Ok-copy.ensures ∙ ap (λ (f : Entry). replied f c.args.reply) last in
+    let legal : IsLegal o (s.note.entries ++ replied t.0 c.args.reply ∷ []) =
+    subst (λ (h : PublishedState). IsLegal h.origin (s.note.entries ++ replied t.0 c.args.reply ∷ [])) (sym c.self.view_is)
+    (c.requires.legal s.note.entries (replied t.0 None) (ap (λ (h : PublishedState). h.journal) (sym c.self.view_is) ∙ t.1)) in
+    let book : c.attempt_to_publish-left.result.note.book ≡ s.note.book = c.attempt_to_publish-left.ensures.book ∙ ap (λ (x : Beginning). x.book) c.copy-2.ensures in
+    let of : c.into_writer-writer.result.desk.shown.value.origin ≡ o = rw c.into_writer-writer.ensures k.0.origin_is in
+    let before = ap (λ (x : Beginning). x.entries) c.copy-2.ensures in
+    let whole : c.copy-2.result.entries ++ replied (entry_of c.in-Some.last.now.seat c.in-Ok-copy.command c.args.reply) None ∷ [] ≡ s.journal.items =
+    (λ j. before j ++ replied (entry j) None ∷ []) ∙ sym t.1 in
+    let done = c.if-still.false in
+    let seen : c.attempt_to_publish-left.result.note.entries ≡ s.note.entries ++ replied t.0 c.args.reply ∷ [] =
+    rw done at c.attempt_to_publish-left.ensures.note ∙ (λ j. before j ++ entry j ∷ []) in
+    let items : c.put_reply.new.journal.items ≡ s.note.entries ++ replied t.0 c.args.reply ∷ [] = c.put_reply.ensures s.note.entries (replied t.0 None) t.1 in
+    let shown = rw of at c.attempt_to_publish-left.ensures.shown in
+    let due = rw done at c.attempt_to_publish-left.ensures.due in
+    rw (book, items) (
+      replied_core o s.core s.note.entries s.journal.items t.0 c.args.reply i.0 t.1 legal,
+      i.1,
+      rw done (sym seen),
+      i.3,
+      both_some _ _ _ c.attempt_to_publish-left.result.home (λ h a b. (a, rw done b)) shown due,
+    )

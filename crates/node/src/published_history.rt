@@ -1,0 +1,341 @@
+//! The history of a node of many seats, as it lies under the lock: the journal, the chainstate after it, and the
+//! writer that publishes both. The coins lie in what is published alone.
+
+ghost use Rattle.std.specs.Prelude.{◌≡◌, ◌<◌, ◌≤◌, ◌∷◌, ◌++◌, [], true, false, All, Some, None, IfOk, IfSome, OnErr, List, drop};
+ghost use Rattle.std.specs.Arc.{arc_value};
+ghost use Rattle.left_right.specs.Sides.{view as known};
+ghost use Rattle.chain.specs.declared.entry.Entry.{Entry as EntryValue};
+ghost use Rattle.chain.specs.Prepared.{command_of};
+ghost use Rattle.activate.specs.CoreState.{Follows, genesis_alone};
+ghost use Rattle.view.specs.Beginning.{count_of};
+ghost use Rattle.view.specs.Origin.{origin};
+ghost use Rattle.view.specs.ViewState.{IsLegal};
+ghost use Rattle.node.specs.inside.Keeping.{is_step};
+ghost use Rattle.node.specs.inside.PublishedState.{IsStepAnswer, IsTaken, Shows, opening_state, replied};
+
+mod attempt;
+mod lent_step;
+mod opening;
+mod writer_home;
+
+use crate::published_history::attempt::{Attempt, attempt_to_publish};
+use crate::published_history::lent_step::{Refusal, chain_info, step_by_reader};
+use crate::published_history::writer_home::WriterHome;
+use activate::Core;
+use chain::{Entry, PreparedCommand, Reply, SubmitReply};
+use coins::Changes;
+use connect::Env;
+use curve::Table;
+use queue::{Crew, Gate, Verdicts};
+use rules::Params;
+use std::alloc::Global;
+use std::marker::Model;
+use std::mem::replace;
+use std::sync::atomic::Ordering;
+use std::sync::{Arc, Wait};
+use view::{Hub, Note, Publication, ViewReader};
+
+/// The history, with the chainstate after it but its coins. A step is owed that is taken and not yet published.
+#[derive(Drop)]
+pub(crate) struct PublishedHistory {
+    alloc: Global,
+    params: Params,
+    table: Arc<Table>,
+    /// How many seats there are.
+    seats: usize,
+    core: Core,
+    hub: Arc<Hub>,
+    /// The history that is published.
+    note: Note,
+    /// The whole history: where a step is owed it stands last, without its reply.
+    journal: Vec<Entry>,
+    owed: bool,
+    /// The owed step is in no pending publication, and then these are its changes.
+    is_new: bool,
+    changes: Changes,
+    /// Both are away only inside a call.
+    home: Option<WriterHome>,
+    reader: Option<ViewReader>,
+}
+
+impl Model for PublishedHistory {
+    ghost use Rattle.std.specs.Prelude.{◌≡◌, Some, IfSome, drop};
+    ghost use Rattle.std.specs.Arc.{arc_value};
+    ghost use Rattle.std.specs.Coded.{codes};
+    ghost use Rattle.std.specs.FinSet as set;
+    ghost use Rattle.curve.specs.Triple.{triple_cmp, coded_triple};
+    ghost use Rattle.left_right.specs.Sides.{view as known};
+    ghost use Rattle.view.specs.Beginning.{count_of};
+    ghost use Rattle.view.specs.Origin.{origin};
+    ghost use Rattle.node.specs.inside.PublishedState.{PublishedState, IsCoreOf, IsJournal, Shows, AreDue};
+
+    ghost Value = { PublishedState };
+
+    ghost coded = { Prim.hlevel (codes, set.code {R = triple_cmp} coded_triple) };
+
+    ghost view = { λ s. let o = origin s.note.book s.params (arc_value s.table) s.seats in
+        record { origin = o; journal = s.journal.items; owed = s.owed } };
+
+    ghost invariant = { λ s. let o = origin s.note.book s.params (arc_value s.table) s.seats in
+        IsCoreOf o s.core s.journal.items
+        × ((arc_value s.hub).counter ≡ count_of s.note.book)
+        × IsJournal s.owed s.note.entries s.journal.items
+        × IfSome s.reader (λ r. known r.place ≡ Some o)
+        × IfSome s.home (λ h. let x = h.writer.desk.shown.value in
+        let pending = drop h.writer.behind h.writer.log.items in
+        Shows x o s.note.entries
+        × AreDue s.owed s.is_new x pending s.journal.items s.changes) };
+}
+
+/// Whether it is the reply to what takes a step.
+fn is_step(reply: &Reply) -> bool
+    ensures { result ≡ is_step reply.now }
+{
+    !matches!(reply, Reply::Submit(SubmitReply::DecodeFailed))
+}
+
+/// Whether a publication may bring this reply: one that brings an entry again brings none.
+fn may_bring(is_new: bool, reply: &Option<Reply>) -> bool
+    ensures { (result ≡ true) → (is_new ≡ false) → reply.now ≡ None }
+{
+    is_new || reply.is_none()
+}
+
+/// Puts a reply in place of the last entry's.
+fn put_reply(journal: &mut Vec<Entry>, reply: Option<Reply>)
+    ensures { (before : List EntryValue) (e : EntryValue) → journal.old.items ≡ before ++ e ∷ []
+        → journal.new.items ≡ before ++ replied e reply ∷ [] }
+{
+    if let Some(last) = journal.pop() {
+        journal.push_reserved(Entry {
+            seat: last.seat,
+            command: last.command,
+            reply,
+        });
+    }
+}
+
+impl PublishedHistory {
+    /// No step was taken yet.
+    pub(crate) fn new(
+        alloc: Global,
+        params: Params,
+        table: Arc<Table>,
+        seats: usize,
+        core: Core,
+        hub: Arc<Hub>,
+        note: Note,
+        home: WriterHome,
+        reader: ViewReader,
+    ) -> PublishedHistory
+        requires core { (core ≡ genesis_alone params) × Follows core (arc_value table) }
+        requires hub { (arc_value hub).counter ≡ count_of note.book }
+        requires empty { note.entries ≡ [] }
+        requires reader { let o = origin note.book params (arc_value table) seats in
+            known reader.place ≡ Some o }
+        requires shown { let o = origin note.book params (arc_value table) seats in
+            Shows home.writer.desk.shown.value o [] }
+        requires pending { drop home.writer.behind home.writer.log.items ≡ [] }
+        ensures { result ≡ opening_state (origin note.book params (arc_value table) seats) }
+    {
+        PublishedHistory {
+            alloc,
+            params,
+            table,
+            seats,
+            core,
+            hub,
+            note,
+            journal: Vec::new(alloc),
+            owed: false,
+            is_new: false,
+            changes: Changes::new(alloc),
+            home: Some(home),
+            reader: Some(reader),
+        }
+    }
+
+    /// The entries.
+    pub(crate) fn journal(&self) -> &[Entry]
+        ensures journal { result.now ≡ self.now.journal }
+        ensures legal { IsLegal self.now.origin self.now.journal }
+    {
+        self.journal.as_slice()
+    }
+
+    /// Takes a step, which is owed then. Bytes that are no block take none.
+    fn take_step<C: Crew>(
+        &mut self,
+        number: usize,
+        command: &PreparedCommand,
+        workers: usize,
+        early: &[Verdicts<'_>],
+        crew: &C,
+        gate: &(dyn Gate + Sync),
+    ) -> Result<Reply, Refusal>
+        requires shown { self.old.owed ≡ false }
+        requires seat { number < self.old.origin.seats }
+        requires ready { C.is_ready crew.now }
+        requires workers { (1 ≤ workers) × (workers ≤ 16) }
+        requires same_table { All (λ v. v.triples ≡ self.old.origin.triples) early.now }
+        ensures takes { let c = command_of command.now in
+            IfOk result (λ reply. IsTaken self.old self.new number c reply) }
+        ensures err { OnErr result (self.new ≡ self.old) }
+    {
+        if self.journal.reserve(1).is_err() {
+            return Err(Refusal::Memory);
+        }
+        let Ok(asked) = command.command() else {
+            return Err(Refusal::Memory);
+        };
+        let env = Env {
+            table: &self.table,
+            workers,
+            early,
+            crew,
+        };
+        let (reply, changes) = step_by_reader(
+            self.alloc,
+            &mut self.reader,
+            &self.note,
+            &mut self.core,
+            command,
+            &env,
+            gate,
+        )?;
+        if !is_step(&reply) {
+            return Ok(reply);
+        }
+        self.journal.push_reserved(Entry {
+            seat: number,
+            command: asked,
+            reply: None,
+        });
+        self.owed = true;
+        self.is_new = true;
+        self.changes = changes;
+        Ok(reply)
+    }
+
+    /// Publishes the step that is owed, with this reply.
+    fn publish_owed<R: Wait>(&mut self, rt: &R, reply: Option<Reply>) -> bool
+        requires owed { self.old.owed ≡ true }
+        requires legal { (before : List EntryValue) (e : EntryValue)
+            → self.old.journal ≡ before ++ e ∷ []
+            → IsLegal self.old.origin (before ++ replied e reply ∷ []) }
+        ensures shown { (before : List EntryValue) (e : EntryValue)
+            → self.old.journal ≡ before ++ e ∷ [] → (result ≡ true)
+            → let journal = before ++ replied e reply ∷ [] in
+            self.new ≡ record self.old { journal = journal; owed = false } }
+        ensures same { (result ≡ false) → self.new ≡ self.old }
+    {
+        let PublishedHistory {
+            alloc,
+            core,
+            hub,
+            note,
+            journal,
+            owed,
+            is_new,
+            changes,
+            home,
+            ..
+        } = self;
+        if !may_bring(*is_new, &reply) {
+            return false;
+        }
+        let Ok(info) = chain_info(*alloc, core) else {
+            return false;
+        };
+        let Ok(shared) = Arc::try_clone(hub) else {
+            return false;
+        };
+        let Some(last) = journal.as_slice().last() else {
+            return false;
+        };
+        let Ok(command) = last.command.copy() else {
+            return false;
+        };
+        let seat = last.seat;
+        let Some(found) = home.take() else {
+            return false;
+        };
+        let writer = found.into_writer();
+        let publication = Publication {
+            hub: shared,
+            before: note.copy(),
+            entry: Entry {
+                seat,
+                command,
+                reply,
+            },
+            is_new: *is_new,
+            changes: replace(changes, Changes::new(*alloc)),
+            info,
+            attempt: hub.attempt.fetch_add(1, Ordering::SeqCst).wrapping_add(1),
+        };
+        let Attempt {
+            home: left,
+            note: seen,
+            owed: still,
+            is_new: new,
+            changes: rest,
+        } = attempt_to_publish(rt, *alloc, writer, publication);
+        *home = left;
+        *note = seen;
+        *owed = still;
+        *is_new = new;
+        *changes = rest;
+        if still {
+            return false;
+        }
+        put_reply(journal, reply);
+        true
+    }
+
+    /// Publishes the step that is owed, if one is.
+    pub(crate) fn settle<R: Wait>(&mut self, rt: &R) -> bool
+        ensures shown { (result ≡ true) → self.new ≡ record self.old { owed = false } }
+        ensures same { (result ≡ false) → self.new ≡ self.old }
+    {
+        if self.owed {
+            return self.publish_owed(rt, None);
+        }
+        true
+    }
+
+    /// Takes a step over the coins that are published, and publishes it. Without an answer it is owed. Bytes that are
+    /// no block take none.
+    pub(crate) fn step<R: Wait, C: Crew>(
+        &mut self,
+        rt: &R,
+        number: usize,
+        command: &PreparedCommand,
+        workers: usize,
+        early: &[Verdicts<'_>],
+        crew: &C,
+        gate: &(dyn Gate + Sync),
+    ) -> Result<Option<Reply>, Refusal>
+        requires shown { self.old.owed ≡ false }
+        requires seat { number < self.old.origin.seats }
+        requires ready { C.is_ready crew.now }
+        requires workers { (1 ≤ workers) × (workers ≤ 16) }
+        requires same_table { All (λ v. v.triples ≡ self.old.origin.triples) early.now }
+        ensures step { let c = command_of command.now in
+            IfOk result (λ answer. IsStepAnswer self.old self.new number c answer) }
+        ensures err { OnErr result (self.new ≡ self.old) }
+    {
+        let reply = self.take_step(number, command, workers, early, crew, gate)?;
+        if !is_step(&reply) || self.publish_owed(rt, Some(reply)) {
+            return Ok(Some(reply));
+        }
+        Ok(None)
+    }
+}
+
+/// It may be given to other threads, as a lock asks.
+fn crosses_threads() {
+    is_sent::<PublishedHistory>();
+}
+
+fn is_sent<T: Send>() {}

@@ -1,0 +1,28 @@
+//! Where the writer is between calls.
+
+ghost use Rattle.std.specs.Prelude.{◌≡◌};
+
+use std::mem::ManuallyDrop;
+use view::ViewWriter;
+
+/// The writer. A drop of it would have to wait for readers, so where this is dropped what is published is kept.
+pub(crate) struct WriterHome {
+    pub(crate) writer: ViewWriter,
+}
+
+impl Drop for WriterHome {
+    fn drop(self) {
+        let Self { writer } = self;
+        let _kept = unsafe { ManuallyDrop::new_unchecked(writer) };
+    }
+}
+
+impl WriterHome {
+    /// The writer, taken out.
+    pub(crate) fn into_writer(self) -> ViewWriter
+        ensures { result ≡ self.writer }
+    {
+        let Self { writer } = self;
+        writer
+    }
+}
