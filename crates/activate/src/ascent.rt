@@ -44,8 +44,8 @@ pub(crate) fn connect_up<B: Base, C: Crew>(
 ) -> Result<Ascent, Memory>
     requires path { LeadsUp tree.now.blocks path.now.fork path.now.up.items }
     requires kept { AllKept (regtest params.now env.now.table.now) tree.now.blocks }
-    requires good { branch_connects (regtest params.now env.now.table.now) tree.now.blocks path.now.fork
-        ≡ true }
+    requires good { let r = regtest params.now env.now.table.now in
+        branch_connects r tree.now.blocks path.now.fork ≡ true }
     requires coins { layer.old.coins ≡ coins_after tree.now.blocks path.now.fork }
     requires medians { medians.items
         ≡ reverse (medians_of (branch_blocks tree.now.blocks path.now.fork)) }

@@ -15,7 +15,8 @@ ghost use Rattle.activate.specs.CoreState.{CoreState, WithCoins, Follows, IsChai
 pub fn the_coins_of_a_chainstate_are_worth_at_most_the_subsidies()
     ensures { (c : WithCoins) (triples : Triples) → IsChainstate c triples
         → let s = c.core.state in
-        total c.coins ≤ℤ pos (subsidies subsidy_of (height s.blocks (active (regtest c.core.params triples) s))) }
+        let r = regtest c.core.params triples in
+        total c.coins ≤ℤ pos (subsidies subsidy_of (height s.blocks (active r s))) }
 {}
 
 /// None of them is worth less than nothing.

@@ -95,8 +95,10 @@ pub(crate) fn take<B: Base>(
 ) -> Result<Option<Coin>, Memory>
     ensures coin { IfOk result (λ coin. coin ≡
         stands_at (entry_at entries.old.entries at.now) (map.get (B.coins base.now) at.now)) }
-    ensures taken { OnOk result (Written entries.old.entries entries.new.entries at.now
-        (entry_without_coin (entry_at entries.old.entries at.now) (map.get (B.coins base.now) at.now))) }
+    ensures taken { let before = entries.old.entries in
+        let below = map.get (B.coins base.now) at.now in
+        OnOk result (Written before entries.new.entries at.now
+        (entry_without_coin (entry_at before at.now) below)) }
     ensures err { OnErr result (entries.new.entries ≡ entries.old.entries) }
 {
     match entries.entry(*at)? {

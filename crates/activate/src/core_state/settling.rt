@@ -49,8 +49,8 @@ impl Core {
         gate: &(dyn Gate + Sync),
     ) -> Result<Settled, Memory>
         requires can { CanTry (regtest self.old.params env.now.table.now) self.old }
-        requires best { IsBest self.old.state (has_no_mark self.old.state) (length self.old.state.blocks)
-            place }
+        requires best { let s = self.old.state in
+            IsBest s (has_no_mark s) (length s.blocks) place }
         requires coins { B.coins base.now ≡ coins_of self.old }
         ensures settled { IfOk result (λ s.
             Settles (regtest self.old.params env.now.table.now) self.old self.new
@@ -84,8 +84,8 @@ impl Core {
         gate: &(dyn Gate + Sync),
     ) -> Result<Settled, Memory>
         requires can { CanTry (regtest self.old.params env.now.table.now) self.old }
-        requires best { IsBest self.old.state (has_no_mark self.old.state) (length self.old.state.blocks)
-            place }
+        requires best { let s = self.old.state in
+            IsBest s (has_no_mark s) (length s.blocks) place }
         requires fails { FailsAt (regtest self.old.params env.now.table.now) self.old.state.blocks
             self.old.active place failed }
         requires coins { B.coins base.now ≡ coins_of self.old }
