@@ -42,14 +42,24 @@ WORKLOADS = [
     ("coins-spend", "coins spent in a layer", "work", [125_000, 250_000, 500_000, 1_000_000]),
     ("connect-1", "a block of 2,000 payments connected over coins, 1 worker", "work", [125_000, 250_000, 500_000, 1_000_000]),
     ("connect-4", "the same with 4 workers", "work", [125_000, 250_000, 500_000, 1_000_000]),
+    ("chain", "blocks without payments, submitted one on the other", "work", [10_000, 100_000]),
+    ("chain-heavy", "the same with blocks of almost a megabyte", "work", [20, 60]),
+    ("blocks-above", "a hundred blocks submitted above so many", "work", [100, 10_000]),
+    ("reorganise", "the block by which another branch of so many blocks becomes active, beside 10,000 blocks", "work", [10, 100, 1000]),
 ]
 
-# Those that the baseline hasn't: it keeps no tree of blocks, and no verdicts.
+# Each size of these has a line in the table.
+EACH_SIZE = {"chain", "blocks-above", "reorganise"}
+
+# Those that the baseline hasn't: it keeps no verdicts.
 OURS_ALONE = [
     ("early-wide", "a block of one transaction with so many inputs, connected with verdicts of all", [6000, 24_000]),
-    ("chain", "blocks without payments, submitted one on the other", [10_000, 100_000]),
-    ("blocks-above", "a hundred blocks submitted above so many", [100, 10_000]),
-    ("reorganise", "the block by which another branch becomes active, by its depth, beside 10,000 blocks", [10, 100, 1000]),
+]
+
+# Name, what one of its blocks is, the bytes of one, and two sizes, whose peaks tell what a block more takes.
+MEMORY = [
+    ("chain", "a block without payments", 190, [50_000, 100_000]),
+    ("chain-heavy", "a block of almost a megabyte", 999_205, [20, 60]),
 ]
 
 # How much more a block may cost on the second chain of `blocks-above` than on the first.
@@ -66,11 +76,42 @@ def once(program, name, size, environment):
     return float(seconds), check
 
 
-def least(name, size, sides, limit):
-    """The least time of each side, of runs in turn, up to seven rounds or so many seconds."""
+def peak(program, name, size):
+    """The most memory, in bytes, that a run had of the system at once."""
+    child = subprocess.Popen([program, name, str(size)], stdout=subprocess.DEVNULL)
+    _, status, usage = os.wait4(child.pid, 0)
+    child.returncode = os.waitstatus_to_exitcode(status)
+    if child.returncode != 0:
+        sys.exit(f"bench: {name} {size} failed")
+    return usage.ru_maxrss * 1024
+
+
+def measure_memory():
+    rows = []
+    for name, what, length, (low, high) in MEMORY:
+        each = [(peak(program, name, high) - peak(program, name, low)) / (high - low) for program in (OURS, BASELINE)]
+        print(f"memory {name:14} " + " ".join(f"{x:12.0f}" for x in each), flush=True)
+        rows.append((name, what, length, each))
+    return rows
+
+
+def table_of_memory(rows):
+    text = [
+        "",
+        "Bytes that a block more takes, by the process's peak, with its coin, its undo and its command:",
+        "",
+        "| workload | what | its bytes | ours | baseline |",
+        "|---|---|---:|---:|---:|",
+    ]
+    text += [f"| {name} | {what} | {length:,} | {each[0]:,.0f} | {each[1]:,.0f} |" for name, what, length, each in rows]
+    return "\n".join(text) + "\n"
+
+
+def least(name, size, sides, limit, fewest):
+    """The least time of each side, of runs in turn: up to fifteen rounds or so many seconds, and at least so many."""
     best = [math.inf] * len(sides)
     begin = time.monotonic()
-    for _ in range(7):
+    for done in range(1, 16):
         checks = set()
         for at, (program, environment) in enumerate(sides):
             seconds, check = once(program, name, size, environment)
@@ -78,7 +119,7 @@ def least(name, size, sides, limit):
             checks.add(check)
         if len(checks) != 1:
             sys.exit(f"bench: {name} {size}: the sides did not do the same: {' '.join(sorted(checks))}")
-        if time.monotonic() - begin > limit:
+        if done >= fewest and time.monotonic() - begin > limit:
             break
     return best
 
@@ -97,7 +138,7 @@ def measure(names, has_sha):
     for name, what, kind, sizes in WORKLOADS:
         if names and name not in names:
             continue
-        costs = [(size, least(name, size, sides, 10 if size == sizes[-1] else 2)) for size in sizes]
+        costs = [(size, least(name, size, sides, *((10, 5) if size == sizes[-1] else (2, 1)))) for size in sizes]
         size, times = costs[-1]
         print(f"{name:14} {size:9} " + " ".join(f"{t:12.6f}" for t in times), flush=True)
         rows.append((name, what, kind, costs))
@@ -109,7 +150,7 @@ def measure_alone(names):
     for name, what, sizes in OURS_ALONE:
         if names and name not in names:
             continue
-        costs = [(size, least(name, size, [(OURS, {})], 20)[0]) for size in sizes]
+        costs = [(size, least(name, size, [(OURS, {})], 20, 1)[0]) for size in sizes]
         for size, seconds in costs:
             print(f"{name:14} {size:9} {seconds:12.6f}", flush=True)
         rows.append((name, what, costs))
@@ -120,15 +161,15 @@ def table_alone(rows):
     text = ["", "Ours alone:", "", "| workload | size | what | seconds |", "|---|---:|---|---:|"]
     for name, what, costs in rows:
         text += [f"| {name} | {size:,} | {what} | {seconds:.6f} |" for size, seconds in costs]
-    return "\n".join([*text, "", growth_of_a_block(rows)]) + "\n"
+    return "\n".join(text) + "\n"
 
 
 def growth_of_a_block(rows):
     """What a block costs on a high chain over what it costs on a low one, where both were timed."""
-    for name, _, costs in rows:
+    for name, _, _, costs in rows:
         if name == "blocks-above":
             (low, before), (high, after) = costs
-            ratio = after / before
+            ratio = after[0] / before[0]
             verdict = "at most" if ratio <= MOST_GROWTH else "MORE THAN"
             return f"A block above {high:,} costs {ratio:.2f} times one above {low:,}: {verdict} {MOST_GROWTH}."
     return ""
@@ -142,7 +183,8 @@ def table(rows, has_sha):
         "",
         f"{name}, {cores} cores, {platform.system()}; {'with' if has_sha else 'without'} SHA instructions. "
         f"Ours is built for {os.environ.get('BENCH_BUILD', 'the default processor').removeprefix('--cpu=')}. "
-        "Least of up to seven runs, in seconds; a ratio below 1 means that ours is faster. What the workloads are: "
+        "Least of 5 to 15 runs, in seconds; a ratio below 1 means that ours is faster. "
+        f"The machine's load at the end was {os.getloadavg()[2]:.0f} on {cores} cores, the run's own among it. What the workloads are: "
         "[README](README.md).",
         "",
         f"| workload | size | what | ours | baseline | ratio{without} |",
@@ -150,12 +192,12 @@ def table(rows, has_sha):
     ]
     for row in rows:
         workload, what, _, costs = row
-        size, times = costs[-1]
-        cells = [f"{times[0]:.6f}"]
-        for other in times[1:]:
-            cells += [f"{other:.6f}", f"{times[0] / other:.2f}"]
-        text.append(f"| {workload} | {size:,} | {what} | " + " | ".join(cells) + " |")
-    return "\n".join(text) + "\n"
+        for size, times in costs if workload in EACH_SIZE else costs[-1:]:
+            cells = [f"{times[0]:.6f}"]
+            for other in times[1:]:
+                cells += [f"{other:.6f}", f"{times[0] / other:.2f}"]
+            text.append(f"| {workload} | {size:,} | {what} | " + " | ".join(cells) + " |")
+    return "\n".join([*text, "", growth_of_a_block(rows)]) + "\n"
 
 
 def ratios(rows):
@@ -224,11 +266,12 @@ def main():
     has_sha = processor()[2]
     rows = measure(names, has_sha)
     alone = measure_alone(names)
-    print(growth_of_a_block(alone), flush=True)
+    print(growth_of_a_block(rows), flush=True)
     if names:
         return
+    memory = measure_memory()
     with open(os.path.join(HERE, "results.md"), "w", encoding="utf-8") as file:
-        file.write(table(rows, has_sha) + table_alone(alone))
+        file.write(table(rows, has_sha) + table_of_memory(memory) + table_alone(alone))
     with open(os.path.join(HERE, "results.svg"), "w", encoding="utf-8") as file:
         file.write(plot(rows))
 

@@ -249,10 +249,10 @@ inline bool check_tx(const Tx& tx) {
         if (input.prev.is_null()) return false;
     return true;
 }
-// Bitcoin Core's CheckBlock.
-inline bool block_alone(const Block& block) {
+// Bitcoin Core's CheckBlock, with the transactions' ids.
+inline bool block_alone(const Block& block, const std::vector<Hash>& ids) {
     if (!meets_target(id_of(block.header))) return false;
-    auto [root, twin] = merkle(ids_of(block.txs));
+    auto [root, twin] = merkle(ids);
     if (root != block.header.root || twin) return false;
     SizeSink sink;
     put_block(sink, block);

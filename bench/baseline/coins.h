@@ -59,6 +59,15 @@ public:
             if (entry.dirty) below[at] = std::move(entry);
         entries.clear();
     }
+    // Moves what it changes into the coins that it stands on.
+    void write(CoinMap& coins) {
+        for (auto& [at, entry] : entries) {
+            if (!entry.dirty) continue;
+            if (entry.coin) coins[at] = std::move(*entry.coin);
+            else coins.erase(at);
+        }
+        entries.clear();
+    }
     const Coin* get(const OutPoint& at) const {
         auto own = entries.find(at);
         if (own != entries.end()) return own->second.coin ? &*own->second.coin : nullptr;

@@ -1,15 +1,12 @@
 // The workloads of crates/bench, in plain C++: prints name, size, seconds and check of one of them.
-#include <atomic>
 #include <chrono>
 #include <cstdio>
 #include <cstdlib>
 #include <functional>
 #include <map>
 #include <string>
-#include <thread>
 
-#include "coins.h"
-#include "scripts.h"
+#include "chain.h"
 
 using Clock = std::chrono::steady_clock;
 
@@ -88,12 +85,15 @@ static Tx payment(Filling& filling) {
     for (int64_t value : {1000, 2000}) outputs.push_back(TxOut{value, to_key_hash(filling.bytes<20>())});
     return spending(prev, Bytes(input.begin(), input.end()), outputs);
 }
+static void mine(Header& header) {
+    while (!meets_target(id_of(header))) header.nonce++;
+}
 static Block block_with(std::vector<Tx> payments) {
     Block block;
     block.txs.push_back(spending(OutPoint{Hash{}, 0xffffffff}, {0x51, 0x51}, {TxOut{5000000000, {0x51}}}));
     for (Tx& tx : payments) block.txs.push_back(std::move(tx));
-    block.header = Header{1, Hash{}, merkle(ids_of(block.txs)).first, 1296688602, 0x207fffff, 0};
-    while (!meets_target(id_of(block.header))) block.header.nonce++;
+    block.header = Header{1, Hash{}, merkle(ids_of(block.txs)).first, GENESIS_TIME, 0x207fffff, 0};
+    mine(block.header);
     return block;
 }
 static Block block_of(size_t size) {
@@ -132,7 +132,7 @@ static std::string payment_ids(size_t size) {
 static std::string alone(size_t size) {
     Block block = block_of(size);
     start();
-    bool holds = block_alone(block);
+    bool holds = block_alone(block, ids_of(block.txs));
     stop();
     return holds ? shown(block.header.root) : "refused";
 }
@@ -308,22 +308,6 @@ static std::string each_input(size_t size) {
     return std::to_string(count);
 }
 
-// The least place of a job that fails, by so many workers; the caller is one of them.
-static size_t first_failure(const std::vector<Job>& jobs, const Table& table, size_t workers) {
-    std::atomic<size_t> next{0}, least{jobs.size()};
-    auto work = [&] {
-        for (size_t place; (place = next.fetch_add(1)) < jobs.size();) {
-            if (place > least.load() || verify(jobs[place], table)) continue;
-            size_t old = least.load();
-            while (place < old && !least.compare_exchange_weak(old, place)) {}
-        }
-    };
-    std::vector<std::thread> threads;
-    for (size_t i = 1; i < workers; i++) threads.emplace_back(work);
-    work();
-    for (std::thread& thread : threads) thread.join();
-    return least;
-}
 static std::string queue(size_t size, size_t workers, size_t times) {
     Spends spends = to_keys(size);
     std::vector<Job> jobs = spends.jobs();
@@ -387,45 +371,6 @@ static std::string coins_spend(size_t size) {
     return std::to_string(sum);
 }
 
-// Bitcoin Core's ConnectBlock, and the flush of its view: the coins that each transaction but the first spent.
-static std::optional<std::vector<std::vector<Coin>>> connect(
-    const CoinMap& map, const Block& block, const std::vector<Hash>& ids, uint32_t height, const Table& table, size_t workers) {
-    Cache view(map);
-    for (size_t t = 0; t < block.txs.size(); t++)
-        for (uint32_t i = 0; i < block.txs[t].outputs.size(); i++)
-            if (view.get(OutPoint{ids[t], i})) return std::nullopt;
-    std::vector<std::vector<Coin>> undo;
-    std::vector<Job> jobs;
-    int64_t fees = 0;
-    unsigned counted = 0;
-    for (size_t t = 0; t < block.txs.size(); t++) {
-        const Tx& tx = block.txs[t];
-        for (const TxIn& input : tx.inputs) counted += sigops(input.script);
-        for (const TxOut& output : tx.outputs) counted += sigops(output.script);
-        if (counted > 20000) return std::nullopt;
-        int64_t worth = 0, paid = 0;
-        for (const TxOut& output : tx.outputs) paid += output.value;
-        if (t > 0) {
-            for (const TxIn& input : tx.inputs) {
-                const Coin* coin = view.get(input.prev);
-                if (!coin || (coin->coinbase && height < coin->height + 100)) return std::nullopt;
-                worth += coin->value;
-            }
-            if (worth < paid) return std::nullopt;
-            fees += worth - paid;
-            std::vector<Coin>& spent = undo.emplace_back();
-            for (const TxIn& input : tx.inputs) spent.push_back(std::move(*view.spend(input.prev)));
-            for (size_t i = 0; i < spent.size(); i++) jobs.push_back(Job{&tx, i, &spent[i].script});
-        }
-        for (uint32_t i = 0; i < tx.outputs.size(); i++)
-            view.add(OutPoint{ids[t], i}, Coin{tx.outputs[i].value, tx.outputs[i].script, height, t == 0});
-    }
-    if (block.txs[0].outputs[0].value > 5000000000 + fees) return std::nullopt;
-    if (first_failure(jobs, table, workers) != jobs.size()) return std::nullopt;
-    Cache::Entries below;
-    view.flush(below);
-    return undo;
-}
 static std::string connected(size_t size, size_t workers) {
     CoinMap map = filled(size).first;
     Spends spends = to_keys(2000);
@@ -436,11 +381,65 @@ static std::string connected(size_t size, size_t workers) {
     }
     Block block = block_with(std::move(payments));
     std::vector<Hash> ids = ids_of(block.txs);
-    if (!block_alone(block)) return "refused";
+    if (!block_alone(block, ids)) return "refused";
     start();
-    auto undo = connect(map, block, ids, 101, spends.table, workers);
+    Cache view(map);
+    auto undo = connect(view, block, ids, 101, spends.table, workers);
+    Cache::Entries below;
+    view.flush(below);
     stop();
     return undo ? std::to_string(undo->size()) : "refused";
+}
+
+// A branch of blocks without payments on genesis. Its number stands in each coinbase behind the height.
+using Blocks = std::vector<std::shared_ptr<const Bytes>>;
+struct Branch {
+    uint32_t number;
+    size_t data = 0;
+    uint32_t height = 0;
+    Hash last = GENESIS_ID;
+    Bytes next() {
+        height++;
+        Bytes input = height_push(height);
+        input.push_back(4);
+        for (int i = 0; i < 4; i++) input.push_back(uint8_t(number >> (8 * i)));
+        Block block;
+        block.txs.push_back(spending(OutPoint{Hash{}, 0xffffffff}, input, {TxOut{subsidy(height), {0x51}}}));
+        if (data > 0) block.txs[0].outputs.push_back(TxOut{0, Bytes(data, 0x6a)});
+        block.header = Header{4, last, merkle(ids_of(block.txs)).first, GENESIS_TIME + height, 0x207fffff, 0};
+        mine(block.header);
+        last = id_of(block.header);
+        return spelled(block);
+    }
+    Blocks grown(size_t count) {
+        Blocks blocks;
+        for (size_t i = 0; i < count; i++) blocks.push_back(std::make_shared<const Bytes>(next()));
+        return blocks;
+    }
+};
+static void submit_each(Chain& chain, const Blocks& blocks) {
+    for (const auto& block : blocks) chain.submit(block, 0xffffffff);
+}
+static std::string above(Branch branch, size_t height, size_t count) {
+    Blocks below = branch.grown(height), timed = branch.grown(count);
+    Chain chain;
+    submit_each(chain, below);
+    start();
+    submit_each(chain, timed);
+    stop();
+    return std::to_string(chain.height());
+}
+static std::string reorganised(size_t depth) {
+    Branch one{1}, other{2};
+    Blocks first = one.grown(depth), second = other.grown(depth), last = other.grown(1);
+    Chain chain;
+    submit_each(chain, first);
+    for (uint32_t i = 0; i < 10000; i++) submit_each(chain, Branch{i + 10}.grown(1));
+    submit_each(chain, second);
+    start();
+    submit_each(chain, last);
+    stop();
+    return std::to_string(chain.height());
 }
 
 int main(int count, char** words) {
@@ -473,6 +472,10 @@ int main(int count, char** words) {
         {"coins-spend", coins_spend},
         {"connect-1", [](size_t n) { return connected(n, 1); }},
         {"connect-4", [](size_t n) { return connected(n, 4); }},
+        {"chain", [](size_t n) { return above(Branch{1}, 0, n); }},
+        {"chain-heavy", [](size_t n) { return above(Branch{1, 999000}, 0, n); }},
+        {"blocks-above", [](size_t n) { return above(Branch{1}, n, 100); }},
+        {"reorganise", reorganised},
     };
     auto workload = count == 3 ? workloads.find(words[1]) : workloads.end();
     if (workload == workloads.end()) {

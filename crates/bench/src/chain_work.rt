@@ -18,7 +18,7 @@ use script::Num;
 use std::alloc::Global;
 use std::rt::Clock;
 use std::time::Instant;
-use txn::{OutPoint, Tx, TxOut, ids};
+use txn::{OutPoint, Script, Tx, TxOut, ids};
 use wire::Memory;
 
 /// When blocks are submitted, in seconds since 1970: after the times of all of them.
@@ -30,12 +30,17 @@ const TIMED: usize = 100;
 /// So many blocks on genesis stand beside the two branches of a reorganisation.
 const BESIDE: usize = 10_000;
 
+/// So many bytes of data stand in a heavy block, which makes it almost as long as a block may be.
+const DATA: usize = 999_000;
+
 /// The branch of this number, as far as it was made.
 #[derive(Drop)]
 struct Branch {
     number: u32,
     last: Id,
     height: u32,
+    /// So many bytes of data stand in each block; none where it is 0.
+    data: usize,
 }
 
 impl Branch {
@@ -45,6 +50,7 @@ impl Branch {
             number,
             last: GENESIS_ID,
             height: 0,
+            data: 0,
         }
     }
 
@@ -65,7 +71,8 @@ impl Branch {
         let txs = Txs::from_vec(txs);
         let mut bytes = Vec::new(alloc);
         block::write(&Block { header, txs }, &mut bytes)?;
-        Ok(Command::Submit(Bytes::from_vec(alloc, bytes)?, NOW))
+        // A list with no room beyond them, as a node makes it of bytes that are lent.
+        Ok(Command::Submit(Bytes::from_slice(alloc, &bytes)?, NOW))
     }
 
     /// A coinbase that pushes the height (BIP 34) and the branch's number.
@@ -80,12 +87,17 @@ impl Branch {
         }
         bytes.push(4)?;
         bytes.extend_from_slice(self.number.to_le_bytes().as_slice())?;
-        let output = TxOut {
-            value: subsidy(self.height),
-            script: script(alloc, &[0x51])?,
-        };
+        let mut outputs = vec![in alloc;
+            TxOut {
+                value: subsidy(self.height),
+                script: script(alloc, &[0x51])?,
+            },
+        ]?;
+        if self.data > 0 {
+            outputs.push(data_output(alloc, self.data)?)?;
+        }
         let input = script(alloc, bytes.as_slice())?;
-        spending(alloc, OutPoint::NULL, input, vec![in alloc; output]?)
+        spending(alloc, OutPoint::NULL, input, outputs)
     }
 
     /// Submissions of so many blocks.
@@ -96,6 +108,18 @@ impl Branch {
         }
         Ok(commands)
     }
+}
+
+/// An output of no worth that holds so many bytes and can't be spent.
+fn data_output(alloc: Global, size: usize) -> Result<TxOut, Fault> {
+    let mut bytes = Vec::with_capacity(alloc, size)?;
+    for _ in 0..size {
+        bytes.push(0x6a)?;
+    }
+    Ok(TxOut {
+        value: 0,
+        script: Script::from_vec(bytes),
+    })
 }
 
 /// The header with the first nonce that meets the target.
@@ -141,18 +165,31 @@ fn take_each(
 
 /// So many blocks one on the other, submitted in turn. The height is the check.
 pub fn chained<R: AllocGlobal + Clock>(rt: &R, size: usize) -> Result<Outcome, Fault> {
-    above(rt, 0, size)
+    above(rt, Branch::new(1), 0, size)
+}
+
+/// The same with blocks of almost a megabyte, one output of which is data.
+pub fn heavily_chained<R: AllocGlobal + Clock>(rt: &R, size: usize) -> Result<Outcome, Fault> {
+    let heavy = Branch {
+        data: DATA,
+        ..Branch::new(1)
+    };
+    above(rt, heavy, 0, size)
 }
 
 /// A hundred blocks, submitted above so many.
 pub fn blocks_above<R: AllocGlobal + Clock>(rt: &R, size: usize) -> Result<Outcome, Fault> {
-    above(rt, size, TIMED)
+    above(rt, Branch::new(1), size, TIMED)
 }
 
-/// So many blocks submitted on a chain of some height.
-fn above<R: AllocGlobal + Clock>(rt: &R, height: usize, count: usize) -> Result<Outcome, Fault> {
+/// So many blocks of a branch submitted on a chain of some height.
+fn above<R: AllocGlobal + Clock>(
+    rt: &R,
+    mut branch: Branch,
+    height: usize,
+    count: usize,
+) -> Result<Outcome, Fault> {
     let alloc = rt.alloc();
-    let mut branch = Branch::new(1);
     let below = branch.grown(alloc, height)?;
     let above = branch.grown(alloc, count)?;
     let table = Table::new(alloc);

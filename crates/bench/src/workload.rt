@@ -37,12 +37,13 @@ pub enum Workload {
     Connect(usize),
     EarlyWide,
     Chain,
+    ChainHeavy,
     BlocksAbove,
     Reorganise,
 }
 
 /// Each workload with its name, and the small size at which it is done without words.
-pub const ALL: [(Workload, &str, usize); 31] = [
+pub const ALL: [(Workload, &str, usize); 32] = [
     (Workload::DoubleSha, "double-sha", 3),
     (Workload::Ripemd, "ripemd", 3),
     (Workload::RipemdLong, "ripemd-long", 200),
@@ -72,6 +73,7 @@ pub const ALL: [(Workload, &str, usize); 31] = [
     (Workload::Connect(4), "connect-4", 5),
     (Workload::EarlyWide, "early-wide", 5),
     (Workload::Chain, "chain", 20),
+    (Workload::ChainHeavy, "chain-heavy", 1),
     (Workload::BlocksAbove, "blocks-above", 5),
     (Workload::Reorganise, "reorganise", 3),
 ];
@@ -117,6 +119,7 @@ impl Workload {
             Workload::Connect(workers) => connecting::connected(rt, size, workers),
             Workload::EarlyWide => early_work::wide(rt, size),
             Workload::Chain => chain_work::chained(rt, size),
+            Workload::ChainHeavy => chain_work::heavily_chained(rt, size),
             Workload::BlocksAbove => chain_work::blocks_above(rt, size),
             Workload::Reorganise => chain_work::reorganised(rt, size),
         }

@@ -1,3 +1,4 @@
+pub mod Front
 pub mod Halving
 pub mod Highest
 pub mod OneReading

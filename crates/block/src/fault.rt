@@ -1,11 +1,12 @@
 //! Why bytes are no block.
 
 ghost use Rattle.std.specs.Prelude.{◌≡◌};
-ghost use Rattle.block.specs.inside.Fault.{read_fault_of};
+ghost use Rattle.block.specs.inside.Fault.{read_fault_of, wire_read_fault_of};
 
 use std::error::Error;
 use std::fmt;
 use txn::TxFault;
+use wire::WireFault;
 
 /// Why a block could not be read.
 #[derive(Clone, Copy, Debug, PartialEq, Eq)]
@@ -45,6 +46,18 @@ impl From<TxFault> for ReadFault {
             TxFault::LongForm => ReadFault::LongForm,
             TxFault::TooLarge => ReadFault::TooLarge,
             TxFault::Memory => ReadFault::Memory,
+        }
+    }
+}
+
+impl From<WireFault> for ReadFault {
+    ghost from_gives = { λ f e. e ≡ wire_read_fault_of f };
+
+    fn from(fault: WireFault) -> ReadFault {
+        match fault {
+            WireFault::Short => ReadFault::Short,
+            WireFault::LongForm => ReadFault::LongForm,
+            WireFault::TooLarge => ReadFault::TooLarge,
         }
     }
 }

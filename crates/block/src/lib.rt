@@ -27,7 +27,7 @@ pub use bytes::Bytes;
 pub use fault::ReadFault;
 pub use genesis::{GENESIS, GENESIS_ID, GENESIS_ROOT, GENESIS_TIME};
 pub use header::Header;
-pub use reading::read;
+pub use reading::{header_of, read};
 pub use reward::subsidy;
 pub use root::merkle;
 pub use sizes::size;

@@ -1,10 +1,10 @@
 //! Blocks read from bytes.
 
-ghost use Rattle.std.specs.Prelude.{◌≡◌, ◌⊎◌, ◌/◌, min, [], length, vec_capacity, IfOk, IfErr, IsOkUnless, Err};
+ghost use Rattle.std.specs.Prelude.{◌≡◌, ◌⊎◌, ◌/◌, ◌++◌, ℕ, List, min, [], length, vec_capacity, IfOk, IfErr, IsOkAnd, IsOkUnless, Some, Err};
 ghost use Rattle.wire.specs.computed.Reading.{Gives, many_at, counted_at};
 ghost use Rattle.txn.specs.computed.Reading.{tx_at};
 ghost use Rattle.txn.specs.Fault.{wire_fault_of};
-ghost use Rattle.block.specs.Grammar.{block};
+ghost use Rattle.block.specs.Grammar.{header, block};
 ghost use Rattle.block.specs.Whole.{Faulty};
 ghost use Rattle.block.specs.Decoding.{block_of_bytes, Decodes};
 ghost use Rattle.block.specs.declared.block.Block.{Block};
@@ -20,14 +20,14 @@ use crate::txs::Txs;
 use hash::Id;
 use std::alloc::Global;
 use txn::{Tx, TxFault};
-use wire::Cursor;
+use wire::{Cursor, WireFault};
 
 /// The fewest bytes of a transaction: a version of 4, two counts of 0, a lock time of 4.
 const LEAST_TRANSACTION: usize = 10;
 
 #[tactic(auto, unfolding(crate::specs::computed::Reading::id_at))]
-fn id(bytes: &mut Cursor) -> Result<Id, TxFault>
-    ensures { Gives wire_fault_of result bytes.new (id_at bytes.old) }
+fn id(bytes: &mut Cursor) -> Result<Id, WireFault>
+    ensures { Gives Some result bytes.new (id_at bytes.old) }
 {
     let mut id = [0; 32];
     id.copy_from_slice(bytes.take(32)?);
@@ -35,8 +35,8 @@ fn id(bytes: &mut Cursor) -> Result<Id, TxFault>
 }
 
 #[tactic(auto, unfolding(crate::specs::computed::Reading::header_at))]
-fn header(bytes: &mut Cursor) -> Result<Header, TxFault>
-    ensures { Gives wire_fault_of result bytes.new (header_at bytes.old) }
+fn header(bytes: &mut Cursor) -> Result<Header, WireFault>
+    ensures { Gives Some result bytes.new (header_at bytes.old) }
 {
     let version = bytes.i32le()?;
     let prev = id(bytes)?;
@@ -52,6 +52,20 @@ fn header(bytes: &mut Cursor) -> Result<Header, TxFault>
         bits,
         nonce,
     })
+}
+
+/// The header of the block that the bytes spell, or begin with: it looks at their first 80 alone, and takes no memory.
+pub fn header_of(bytes: &[u8]) -> Result<Header, WireFault>
+    // What is read is lawful, and spelled at the front.
+    ensures found { IfOk result (λ h. header.Lawful h ×
+        ((rest : List ℕ) × (bytes.now ≡ header.spell h ++ rest))) }
+    // A refusal names the fault that the bytes have.
+    ensures refused { IfErr result (λ fault. header.Faulty fault bytes.now) }
+    // Where the bytes are a block, it is the header of that block.
+    ensures of_block { (b : Block) → block_of_bytes bytes.now ≡ Some b
+        → IsOkAnd result (λ h. h ≡ b.header) }
+{
+    header(&mut Cursor::new(bytes))
 }
 
 #[tactic(auto, unfolding(wire::specs::computed::Reading::counted_at))]

@@ -24,7 +24,6 @@ use Rattle.view.specs.Origin.{Origin}
 use Rattle.view.specs.ViewState.{IsExact, IsInfo, IsLegal, coins_of, opening_view}
 use Rattle.view.specs.declared.chain_info.ChainInfo.{ChainInfo}
 use Rattle.view.specs.laws.Exact.{opening_exact}
-use Rattle.node.specs.Origin as node_origin
 use Rattle.node.specs.inside.Keeping.{is_step}
 use Rattle.node.specs.inside.PublishedState.{IsCoreOf, with_its_coins, replied}
 use Rattle.node.proofs.Few.{height-few}
@@ -64,14 +63,14 @@ with_reply o core xs e r legal k = record {
 
 -- what a command did to a core, its coins beside it
 pub stepped : (o : Origin) (old new : CoreState) (c : Command) (r : Reply) → (new.state, r) ≡ outcome (regtest old.params o.triples) old.state c → new.params ≡ old.params → Follows new o.triples
-    → Stepped (node_origin.origin o.params o.triples o.seats) (with_its_coins old) (with_its_coins new) c r
+    → Stepped o (with_its_coins old) (with_its_coins new) c r
 stepped o old new c r outcome_is params follows = record { outcome_is = outcome_is; params_are = params; is_chainstate = record { follows = follows; coins_are = refl } }
 
 -- after a step it stands last, and its reply may stand there too
 module _ (o : Origin) (old new : CoreState) (journal : List Entry) (number : ℕ) (c : Command) (r : Reply) (kept : IsCoreOf o old journal)
-    (did : Stepped (node_origin.origin o.params o.triples o.seats) (with_its_coins old) (with_its_coins new) c r) (step : is_step r ≡ true) (seat : number < o.seats) where
+    (did : Stepped o (with_its_coins old) (with_its_coins new) c r) (step : is_step r ≡ true) (seat : number < o.seats) where
   whole : IsCoreOf o new (journal ++ entry_of number c (Some r) ∷ [])
-  whole = taken_kept (node_origin.origin o.params o.triples o.seats) (with_its_coins old) (with_its_coins new) journal number c r kept did step seat (journal ++ entry_of number c (Some r) ∷ []) refl
+  whole = taken_kept o (with_its_coins old) (with_its_coins new) journal number c r kept did step seat (journal ++ entry_of number c (Some r) ∷ []) refl
 
   pub replied_legal : IsLegal o (journal ++ entry_of number c (Some r) ∷ [])
   replied_legal = whole.legal
@@ -87,7 +86,7 @@ module _ (o : Origin) (old new : CoreState) (journal : List Entry) (number : ℕ
 -- a new core is that of the empty history
 pub opening_core : (o : Origin) (core : CoreState) (journal : List Entry) → core ≡ genesis_alone o.params → Follows core o.triples → core_state.coins_of core ≡ coin_map.empty → journal ≡ [] → IsCoreOf o core journal
 opening_core o core journal is follows none empty =
-    opens (node_origin.origin o.params o.triples o.seats) (with_its_coins core) journal (λ i. record { core = is i; coins = none i }) (record { follows = follows; coins_are = refl }) empty
+    opens o (with_its_coins core) journal (λ i. record { core = is i; coins = none i }) (record { follows = follows; coins_are = refl }) empty
 
 -- what is published at first
 pub opening_shown : (o : Origin) (core : CoreState) (x : ChainInfo) → core ≡ genesis_alone o.params → Follows core o.triples → core_state.coins_of core ≡ coin_map.empty → x.best ≡ best (regtest core.params o.triples) core.state

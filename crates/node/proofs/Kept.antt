@@ -16,17 +16,17 @@ use Rattle.chain.specs.Machine.{Machine}
 use Rattle.chain.specs.History.{state_left, state_after_entries, Answers, entry_of}
 use Rattle.activate.specs.CoreState.{WithCoins, IsChainstate, genesis_alone}
 use Rattle.chain.specs.laws.History.{state_after-append, legal_push}
-use Rattle.node.specs.Origin.{Origin, machine}
-use Rattle.node.specs.History.{NodeHistory}
-use Rattle.node.specs.inside.Keeping.{IsKept, IsLegal, IsReplyTo, IsUndecodable, Takes, is_step, last_state}
+use Rattle.view.specs.Origin.{Origin, machine}
+use Rattle.view.specs.ViewState.{IsLegal, state_of}
+use Rattle.node.specs.inside.Keeping.{IsKept, IsReplyTo, IsUndecodable, is_step}
 use Rattle.node.proofs.Comes.{comes}
 use Rattle.node.proofs.Few.{AreFew, few-outcome}
 
 -- genesis alone
 pub opens : (o : Origin) (chain : WithCoins) (journal : List Entry) → chain ≡ record { core = genesis_alone o.params; coins = coin_map.empty } → IsChainstate chain o.triples → journal ≡ [] → IsKept o chain journal
 opens o chain journal is sound none = record {
-  legal = subst (λ (j : List Entry). IsLegal (record { origin = o; journal = j })) (sym none) tt;
-  state_is = ap (λ (c : WithCoins). c.core.state) is ∙ ap (λ (j : List Entry). last_state (record { origin = o; journal = j })) (sym none);
+  legal = subst (λ (j : List Entry). IsLegal o j) (sym none) tt;
+  state_is = ap (λ (c : WithCoins). c.core.state) is ∙ ap (λ (j : List Entry). state_of o j) (sym none);
   params_are = ap (λ (c : WithCoins). c.core.params) is;
   is_chainstate = sound;
   few = subst (λ (c : WithCoins). AreFew c.core.state) (sym is) (omega arith);
@@ -85,11 +85,6 @@ module _ (o : Origin) (old new : WithCoins) (journal : List Entry) (number : ℕ
           few = few-new;
         })
 
-    pub taken_takes : (h : NodeHistory) (more : List Entry) → record { origin = o; journal = journal } ≡ h → more ≡ journal ++ entry_of number c (Some r) ∷ [] → Takes h (record { origin = o; journal = more }) number c r
-    taken_takes h more of is =
-        subst (λ (x : NodeHistory). Takes x (record { origin = o; journal = more }) number c r) of
-        (inl (step, taken_reply, ap (λ (j : List Entry). record { origin = o; journal = j }) is))
-
   -- without a step nothing changes
   module _ (none : is_step r ≡ false) where
     stayed : ((new.core.state, r) ≡ submit_says s DecodeFailed) × IsUndecodable c
@@ -113,8 +108,3 @@ module _ (o : Origin) (old new : WithCoins) (journal : List Entry) (number : ℕ
           is_chainstate = stepped.is_chainstate;
           few = few-new;
         })
-
-    pub stayed_takes : (h : NodeHistory) (same : List Entry) → record { origin = o; journal = journal } ≡ h → same ≡ journal → Takes h (record { origin = o; journal = same }) number c r
-    stayed_takes h same of is =
-        subst (λ (x : NodeHistory). Takes x (record { origin = o; journal = same }) number c r) of
-        (inr (stayed_reply, stayed_bytes, ap (λ (j : List Entry). record { origin = o; journal = j }) is))

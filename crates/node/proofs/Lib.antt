@@ -1,7 +1,9 @@
+pub mod Answering
 pub mod Comes
 pub mod Cores
 pub mod Few
 pub mod Kept
 pub mod Owing
-pub mod Passes
+pub mod Owning
 pub mod Publications
+pub mod Same

@@ -1,7 +1,7 @@
 pub mod Calls
-pub mod Finishing
-pub mod History
 pub mod Opening
-pub mod Origin
 pub mod Pass
+pub mod Terms
+pub mod Told
 pub mod inside
+pub mod laws

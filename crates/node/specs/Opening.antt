@@ -1,5 +1,5 @@
 -- Why a node can't be opened.
-use Rattle.std.specs.Prelude.{◌≡◌, ℕ, ◌≤◌}
+use Rattle.std.specs.Prelude.{ℕ, ◌≤◌}
 use Rattle.node.specs.declared.fault.OpenFault.{OpenFault}
 use Rattle.node.specs.declared.fault.OpenFault.TheVariants.{Workers, Seats, Memory, Readers}
 
@@ -7,9 +7,9 @@ use Rattle.node.specs.declared.fault.OpenFault.TheVariants.{Workers, Seats, Memo
 abbrev pub IsWorkerCount : ℕ → Type 0
 IsWorkerCount n = (1 ≤ n) × (n ≤ 16)
 
--- this version has one
+-- 1 to 16
 abbrev pub IsSeatCount : ℕ → Type 0
-IsSeatCount n = n ≡ 1
+IsSeatCount n = (1 ≤ n) × (n ≤ 16)
 
 -- the first of these that holds
 abbrev pub IsOpenFault : ℕ → ℕ → OpenFault → Type 0

@@ -1,53 +1,50 @@
 -- The pass of a seat: what it has seen of the history, and what of it is its own.
-use Rattle.std.specs.Prelude.{◌≡◌, ◌&&◌, ℕ, zero, suc, Bool, true, false, is_none, if◌then◌else◌}
-use Rattle.std.specs.Prelude.{List, [], ◌∷◌, ◌++◌, length, Option, Some}
+use Rattle.std.specs.Prelude.{◌≡◌, ◌⊎◌, ◌&&◌, ℕ, zero, suc, Bool, true, is_none, if◌then◌else◌}
+use Rattle.std.specs.Prelude.{List, [], ◌∷◌, ◌++◌, length, Some, None}
 use mathlib.Core.List.{IsPrefix}
 use Rattle.chain.specs.declared.command.Command.{Command}
 use Rattle.chain.specs.declared.reply.Reply.{Reply}
 use Rattle.chain.specs.declared.entry.Entry.{Entry}
-use Rattle.chain.specs.History.{state_at, Legal, own_of, entry_of}
-use Rattle.node.specs.Origin.{Origin, machine}
-use Rattle.node.specs.History.{NodeHistory, seat_history}
+use Rattle.chain.specs.History.{state_at, own_of, entry_of}
+use Rattle.view.specs.Origin.{Origin, machine}
+use Rattle.view.specs.ViewState.{IsLegal}
 
--- the seat's number, what it is of, whether its node is finished, the beginning of the history that the seat
--- has seen, and its own entries in order
+-- the seat's number, which history it sits at and what that is of, the beginning of it that the seat has seen, and
+-- the seat's own entries in order
 pub record Pass : Type 0 where
   pub number : ℕ
   pub origin : Origin
-  pub finished : Bool
   pub seen : List Entry
   pub mine : List Entry
 
--- that of a seat which has seen all that is kept
-abbrev pub pass_of : ℕ → Option NodeHistory → NodeHistory → Pass
-pass_of number history last = let h = seat_history history last in record {
-  number = number;
-  origin = h.origin;
-  finished = is_none history;
-  seen = h.journal;
-  mine = own_of number h.journal;
-}
+-- a beginning of a history, as one seat tells it another
+pub record Heard : Type 0 where
+  pub origin : Origin
+  pub seen : List Entry
 
 -- a seat that has seen and done nothing
 abbrev pub opening_pass : Origin → ℕ → Pass
-opening_pass o number = record { number = number; origin = o; finished = false; seen = []; mine = [] }
+opening_pass o number = record { number = number; origin = o; seen = []; mine = [] }
 
 -- so many seats, numbered from 0
 abbrev pub opening_passes : Origin → ℕ → List Pass
 opening_passes o zero = []
 opening_passes o (suc n) = opening_passes o n ++ opening_pass o n ∷ []
 
--- the seat of a finished node
-abbrev pub finished_pass : Pass → Pass
-finished_pass p = record p { finished = true }
-
 -- of the same seat: what it has seen only grew, and is legal
 pub record IsLater (p q : Pass) : Type 0 where
   pub number : q.number ≡ p.number
   pub origin : q.origin ≡ p.origin
-  pub finished : q.finished ≡ p.finished
   pub grows : IsPrefix p.seen q.seen
-  pub legal : Legal (machine q.origin) q.origin.seats q.seen
+  pub legal : IsLegal q.origin q.seen
+
+-- the longer of two lists, of which one begins the other
+abbrev pub IsLonger : List Entry → List Entry → List Entry → Type 0
+IsLonger xs ys zs = ((zs ≡ xs) × IsPrefix ys xs) ⊎ ((zs ≡ ys) × IsPrefix xs ys)
+
+-- an entry whose reply is owed
+abbrev pub owed_entry : ℕ → Command → Entry
+owed_entry number command = entry_of number command None
 
 -- whether all these replies are owed
 abbrev pub all_owed : List Entry → Bool

@@ -1,5 +1,5 @@
 -- What private clauses and invariants alone cite.
-pub mod Giving
 pub mod Keeping
 pub mod PublishedState
+pub mod Seats
 pub mod Writing

@@ -27,7 +27,7 @@ pub struct UnspentOutput {
 }
 
 impl UnspentOutput {
-    ghost use Rattle.node.specs.Origin.{unspent_output};
+    ghost use Rattle.node.specs.Told.{unspent_output};
 
     /// What is told of a coin that so many blocks confirm.
     pub(crate) fn of(

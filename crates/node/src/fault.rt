@@ -1,7 +1,8 @@
 //! Why a call has no answer, and why a node can't be opened.
 
-ghost use Rattle.std.specs.Prelude.{◌≡◌};
+ghost use Rattle.std.specs.Prelude.{◌≡◌, ◌⊎◌};
 
+use crate::published_history::Refusal;
 use std::error::Error;
 use std::fmt;
 use wire::Memory;
@@ -13,7 +14,7 @@ pub enum Fault {
     Memory = 1,
     /// The step was taken, and can't be shown yet.
     Owed,
-    /// The node is finished, or seat and node don't fit each other. No step was taken.
+    /// Seat and node don't fit each other, or nothing is published any more. No step was taken.
     Closed,
 }
 
@@ -39,16 +40,29 @@ impl From<Memory> for Fault {
     }
 }
 
+impl From<Refusal> for Fault {
+    ghost use Rattle.node.specs.declared.fault.Fault.TheVariants.{Memory, Closed};
+
+    ghost from_gives = { λ _ fault. (fault ≡ Memory) ⊎ (fault ≡ Closed) };
+
+    fn from(refusal: Refusal) -> Fault {
+        match refusal {
+            Refusal::Memory => Fault::Memory,
+            Refusal::Closed => Fault::Closed,
+        }
+    }
+}
+
 /// Why a node can't be opened. The numbers are tested in this order.
 #[derive(Clone, Copy, Debug, PartialEq, Eq)]
 pub enum OpenFault {
     /// The number of workers isn't 1 to 16.
     Workers = 1,
-    /// The number of seats isn't one that this version has.
+    /// The number of seats isn't 1 to 16.
     Seats,
     /// There was no memory.
     Memory,
-    /// No reader was handed out, for another cause.
+    /// No reader was handed out, for another cause. There is none today.
     Readers,
 }
 

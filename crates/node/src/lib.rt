@@ -2,17 +2,24 @@
 #![tactic(auto)]
 
 mod answer;
+mod early;
 mod fault;
-mod history;
+pub mod laws;
+mod looks;
 mod node;
+mod note;
+mod own;
 mod published_history;
+mod reading;
 mod seat;
+mod writing;
 
 pub use answer::{Stamped, UnspentOutput};
 pub use chain::{Bytes, Command, Entry, MarkReply, Reply, SubmitReply};
 pub use curve::Table;
 pub use fault::{Fault, OpenFault};
 pub use node::{Node, NodeOf};
+pub use note::Note;
 pub use queue::{Gate, Open};
 pub use rules::Params;
 pub use seat::Seat;

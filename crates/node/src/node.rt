@@ -1,16 +1,20 @@
 //! The node: what the seats share.
 
-ghost use Rattle.std.specs.Prelude.{◌≡◌, ℕ, [], ◌∷◌, map, Some, slice_get};
-ghost use Rattle.std.specs.Prelude.{IfOk, IfErr, OnOk, OnErr, Decides};
+ghost use Rattle.std.specs.Prelude.{◌≡◌, ℕ, ◌<◌, ◌≤◌, [], true, All, Some, length, slice_get};
+ghost use Rattle.std.specs.Prelude.{IfOk, IfErr, OnOk, IfSome};
+ghost use Rattle.std.specs.Arc.{arc_value};
+ghost use Rattle.left_right.specs.Sides.{view as known};
+ghost use Rattle.logbook.specs.Pages.{Book};
+ghost use Rattle.chain.specs.Chainstate.{chainstate};
 ghost use Rattle.chain.specs.History.{Legal};
-ghost use Rattle.node.specs.Origin.{machine, origin};
-ghost use Rattle.node.specs.Pass.{Pass, IsStanding, finished_pass, opening_pass, opening_passes};
+ghost use Rattle.view.specs.Origin.{Origin, origin};
+ghost use Rattle.node.specs.Terms.{terms};
+ghost use Rattle.node.specs.Pass.{Pass, IsStanding, opening_passes};
 ghost use Rattle.node.specs.Opening.{IsWorkerCount, IsSeatCount, IsOpenFault};
-ghost use Rattle.node.specs.Finishing.{IsUnfit};
 ghost use Rattle.node.specs.declared.fault.Fault.TheVariants as faults;
 
 use crate::fault::{Fault, OpenFault};
-use crate::history::History;
+use crate::published_history::{Opening, PublishedHistory, open_history};
 use crate::seat::Seat;
 use chain::Entry;
 use curve::Table;
@@ -18,16 +22,18 @@ use queue::Gate;
 use rules::Params;
 use std::alloc::Global;
 use std::marker::Model;
+use std::sync::{Arc, Mutex, Wait};
+use view::ViewReader;
 use wire::Memory;
 
 /// The most workers that check scripts.
 const MAX_WORKERS: usize = 16;
 
-/// How many seats this version has.
-const SEATS: usize = 1;
+/// The most seats that a node has.
+const MAX_SEATS: usize = 16;
 
-/// What the seats share. A clause sees of what they are: the heights of soft forks, the valid signatures and
-/// how many seats there are.
+/// What the seats share. A clause sees what it was opened with: the heights of soft forks, the valid signatures and how
+/// many seats there are.
 #[derive(Drop)]
 pub struct NodeOf<'t, G> {
     pub(crate) alloc: Global,
@@ -36,6 +42,7 @@ pub struct NodeOf<'t, G> {
     seats: usize,
     pub(crate) workers: usize,
     pub(crate) gate: G,
+    pub(crate) history: Mutex<PublishedHistory>,
 }
 
 /// A node whose gate is known by its trait alone.
@@ -46,43 +53,46 @@ impl<'t, G> Model for NodeOf<'t, G> {
     ghost use Rattle.std.specs.Coded.{codes};
     ghost use Rattle.std.specs.FinSet as set;
     ghost use Rattle.curve.specs.Triple.{triple_cmp, coded_triple};
-    ghost use Rattle.node.specs.Origin.{Origin, origin};
+    ghost use Rattle.node.specs.Terms.{Terms, terms};
 
-    ghost Value = { Origin };
+    ghost Value = { Terms };
 
     ghost coded = { Prim.hlevel (codes, set.code {R = triple_cmp} coded_triple) };
 
-    ghost view = { λ node. origin node.params node.table.now node.seats };
+    ghost view = { λ node. terms node.params node.table.now node.seats };
 
     ghost invariant = { λ node. (1 ≤ node.workers) × (node.workers ≤ 16) };
 }
 
 impl<'g> NodeOf<'g, &'g (dyn Gate + Sync)> {
-    /// A node and its seats, numbered from 0. This version has one seat.
+    /// A node and its seats, numbered from 0: 1 to 16 of them, and as many workers.
     ///
-    /// Scripts are run by so many workers, and the gate is called round each. The table of valid signatures is
-    /// lent for as long as node and seats live; it isn't copied.
-    pub fn open(
+    /// Scripts are run by so many workers at a time, and the gate is called round each. The table of valid signatures
+    /// isn't copied.
+    pub fn open<R: Wait>(
+        rt: &R,
         alloc: Global,
         params: Params,
-        table: &'g Table,
+        table: &'g Arc<Table>,
         workers: usize,
         seats: usize,
         gate: &'g (dyn Gate + Sync),
     ) -> Result<(Node<'g>, Vec<Seat<'g>>), OpenFault>
         ensures counts { OnOk result (IsWorkerCount workers × IsSeatCount seats) }
-        ensures node { IfOk result (λ r. r.0 ≡ origin params table.now seats) }
-        ensures seats { let o = origin params table.now seats in
-            IfOk result (λ r. r.1.items ≡ opening_passes o seats) }
+        ensures node { let triples = arc_value table.entry.now in
+            IfOk result (λ r. r.0 ≡ terms params triples seats) }
+        ensures seats { let triples = arc_value table.entry.now in
+            IfOk result (λ r. (b : Book) ×
+            (r.1.items ≡ opening_passes (origin b params triples seats) seats)) }
         ensures refused { IfErr result (λ fault. IsOpenFault workers seats fault) }
     {
         if workers < 1 || workers > MAX_WORKERS {
             return Err(OpenFault::Workers);
         }
-        if seats != SEATS {
+        if seats < 1 || seats > MAX_SEATS {
             return Err(OpenFault::Seats);
         }
-        let Ok(list) = one_seat(alloc, params, table) else {
+        let Ok((history, list)) = history_and_seats(rt, alloc, params, table, seats) else {
             return Err(OpenFault::Memory);
         };
         let node = NodeOf {
@@ -92,64 +102,124 @@ impl<'g> NodeOf<'g, &'g (dyn Gate + Sync)> {
             seats,
             workers,
             gate,
+            history: Mutex::new(history),
         };
         Ok((node, list))
     }
 
-    /// The whole history, in which each seat that is handed in has just its own entries.
+    /// The whole history, in which each seat that is handed in has just its own entries, the owed ones too.
     ///
-    /// The seats are those of this node that came back, each once. They are finished then, and their calls are
-    /// answered [`Fault::Closed`]. The only seat holds the history: without it the list is empty.
+    /// The seats are those of this node that came back, each once. It waits for nobody and takes no memory; the two
+    /// copies of what is published are never given back.
     pub fn finish(self, seats: &mut [Seat<'_>]) -> Result<Vec<Entry>, Fault>
-        ensures legal { let o = self.entry in
-            IfOk result (λ history. Legal (machine o) o.seats history.items) }
+        ensures legal { let t = self.entry in
+            IfOk result (λ history. Legal (chainstate t.params t.triples) t.seats history.items) }
         ensures each { (k : ℕ) (p : Pass) → slice_get seats.old k ≡ Some p →
             IfOk result (λ history. IsStanding history.items p) }
-        ensures finished { OnOk result (seats.new ≡ map finished_pass seats.old) }
         ensures closed { IfErr result (λ fault. fault ≡ faults.Closed) }
-        ensures unfit { OnErr result (IsUnfit self.entry seats.old) }
-        ensures kept { OnErr result (seats.new ≡ seats.old) }
+        ensures same { seats.new ≡ seats.old }
     {
-        let node = self;
-        node.whole_history(seats)
+        Ok(self.fitting_history(seats)?.into_journal())
     }
 
-    /// The same, of a node that stays.
-    fn whole_history(&self, seats: &mut [Seat<'_>]) -> Result<Vec<Entry>, Fault>
-        ensures legal { let o = self.now in
-            IfOk result (λ history. Legal (machine o) o.seats history.items) }
+    /// The same. It waits for readers that are inside, and gives all memory back.
+    pub fn close<R: Wait>(self, rt: &R, seats: &mut [Seat<'_>]) -> Result<Vec<Entry>, Fault>
+        ensures legal { let t = self.entry in
+            IfOk result (λ history. Legal (chainstate t.params t.triples) t.seats history.items) }
         ensures each { (k : ℕ) (p : Pass) → slice_get seats.old k ≡ Some p →
             IfOk result (λ history. IsStanding history.items p) }
-        ensures finished { OnOk result (seats.new ≡ map finished_pass seats.old) }
         ensures closed { IfErr result (λ fault. fault ≡ faults.Closed) }
-        ensures unfit { OnErr result (IsUnfit self.now seats.old) }
-        ensures kept { OnErr result (seats.new ≡ seats.old) }
+        ensures same { seats.new ≡ seats.old }
     {
-        match seats {
-            [] => Ok(Vec::new(self.alloc)),
-            [seat] => match seat.give(self) {
-                Some(journal) => Ok(journal),
-                None => Err(Fault::Closed),
-            },
-            _ => Err(Fault::Closed),
+        Ok(self.fitting_history(seats)?.close(rt))
+    }
+
+    /// The history, if it is of what the node was opened with, and each of these seats fits it.
+    fn fitting_history(self, seats: &mut [Seat<'_>]) -> Result<PublishedHistory, Fault>
+        ensures legal { let t = self.entry in IfOk result (λ history.
+            Legal (chainstate t.params t.triples) t.seats history.journal) }
+        ensures each { (k : ℕ) (p : Pass) → slice_get seats.old k ≡ Some p →
+            IfOk result (λ history. IsStanding history.journal p) }
+        ensures closed { IfErr result (λ fault. fault ≡ faults.Closed) }
+        ensures same { seats.new ≡ seats.old }
+    {
+        let NodeOf {
+            params,
+            table,
+            seats: count,
+            history,
+            ..
+        } = self;
+        let history = history.into_inner();
+        if !history.is_of(&params, table, count) || !all_fit(seats, history.journal()) {
+            return Err(Fault::Closed);
         }
-    }
-
-    /// Whether the history is of this node.
-    pub(crate) fn has(&self, history: &History<'_>) -> bool
-        ensures { Decides result (history.now.origin ≡ self.now) }
-    {
-        history.is_of(&self.params, self.table, self.seats)
+        Ok(history)
     }
 }
 
-/// The list of one seat.
-fn one_seat<'t>(alloc: Global, params: Params, table: &'t Table) -> Result<Vec<Seat<'t>>, Memory>
-    ensures { let o = origin params table.now 1 in
-        IfOk result (λ list. list.items ≡ opening_pass o 0 ∷ []) }
+/// A new history, and its seats.
+fn history_and_seats<'t, R: Wait>(
+    rt: &R,
+    alloc: Global,
+    params: Params,
+    table: &'t Arc<Table>,
+    seats: usize,
+) -> Result<(PublishedHistory, Vec<Seat<'t>>), Memory>
+    requires { seats ≤ 16 }
+    ensures { let triples = arc_value table.entry.now in
+        IfOk result (λ r. (b : Book) ×
+        (r.1.items ≡ opening_passes (origin b params triples seats) seats)) }
 {
-    let history = History::new(alloc, params, table, SEATS)?;
+    let shared = Arc::try_clone(table)?;
+    let Opening {
+        history,
+        note,
+        readers,
+    } = open_history(rt, alloc, params, shared, seats)?;
+    let list = seat_list(alloc, params, table, seats, &note, readers)?;
+    Ok((history, list))
+}
+
+/// The seats, numbered from 0, each with one of these readers.
+fn seat_list<'t>(
+    alloc: Global,
+    params: Params,
+    table: &'t Table,
+    seats: usize,
+    note: &view::Note,
+    readers: Vec<ViewReader>,
+) -> Result<Vec<Seat<'t>>, Memory>
+    requires empty { note.now.entries ≡ [] }
+    requires enough { length readers.items ≡ seats }
+    requires knows { let o = origin note.now.book params table.now seats in
+        All (λ r. known r.place ≡ Some o) readers.items }
+    ensures { let o = origin note.now.book params table.entry.now seats in
+        IfOk result (λ list. list.items ≡ opening_passes o seats) }
+{
+    let mut readers = readers;
     let mut list = Vec::new(alloc);
-    list.push(Seat::new(0, history))?;
+    for number in 0..seats {
+        let Some(reader) = readers.pop() else {
+            unreachable!()
+        };
+        let seat = Seat::new(alloc, params, table, seats, number, note.copy(), reader);
+        list.push(seat)?;
+    }
     Ok(list)
+}
+
+/// Whether each of these seats fits a whole history.
+fn all_fit(seats: &mut [Seat<'_>], journal: &[Entry]) -> bool
+    ensures same { seats.new ≡ seats.old }
+    ensures standing { (result ≡ true) → (k : ℕ) (p : Pass) →
+        slice_get seats.old k ≡ Some p → IsStanding journal.now p }
+{
+    for k in 0..seats.len() {
+        let seat = &mut seats[k];
+        if !seat.fits(journal) {
+            return false;
+        }
+    }
+    true
 }

@@ -1,7 +1,7 @@
 //! The history of a node of many seats, as it lies under the lock: the journal, the chainstate after it, and the
 //! writer that publishes both. The coins lie in what is published alone.
 
-ghost use Rattle.std.specs.Prelude.{◌≡◌, ◌<◌, ◌≤◌, ◌∷◌, ◌++◌, [], true, false, All, Some, None, IfOk, IfSome, OnErr, List, drop};
+ghost use Rattle.std.specs.Prelude.{◌≡◌, ◌<◌, ◌≤◌, ◌∷◌, ◌++◌, [], true, false, All, Some, None, IfOk, IfSome, OnErr, Decides, List, drop, length};
 ghost use Rattle.std.specs.Arc.{arc_value};
 ghost use Rattle.left_right.specs.Sides.{view as known};
 ghost use Rattle.chain.specs.declared.entry.Entry.{Entry as EntryValue};
@@ -19,7 +19,9 @@ mod opening;
 mod writer_home;
 
 use crate::published_history::attempt::{Attempt, attempt_to_publish};
-use crate::published_history::lent_step::{Refusal, chain_info, step_by_reader};
+pub(crate) use crate::published_history::lent_step::Refusal;
+use crate::published_history::lent_step::{chain_info, step_by_reader};
+pub(crate) use crate::published_history::opening::{Opening, open_history};
 use crate::published_history::writer_home::WriterHome;
 use activate::Core;
 use chain::{Entry, PreparedCommand, Reply, SubmitReply};
@@ -153,6 +155,55 @@ impl PublishedHistory {
             home: Some(home),
             reader: Some(reader),
         }
+    }
+
+    /// How many entries there are.
+    pub(crate) fn len(&self) -> u64
+        ensures { result ≡ length self.now.journal }
+    {
+        self.journal.len() as u64
+    }
+
+    /// How many seats there are.
+    pub(crate) fn seats(&self) -> usize
+        ensures { result ≡ self.now.origin.seats }
+    {
+        self.seats
+    }
+
+    /// Whether its table has just the valid signatures of this one.
+    pub(crate) fn has_table(&self, table: &Table) -> bool
+        ensures { Decides result (self.now.origin.triples ≡ table.now) }
+    {
+        self.table.same(table)
+    }
+
+    /// Whether it is of these heights of soft forks, this table and so many seats.
+    pub(crate) fn is_of(&self, params: &Params, table: &Table, seats: usize) -> bool
+        ensures { let o = self.now.origin in
+            (result ≡ true) →
+            (o.params ≡ params.now) × (o.triples ≡ table.now) × (o.seats ≡ seats) }
+    {
+        self.params == *params && self.has_table(table) && self.seats == seats
+    }
+
+    /// The entries, given away. What is published is kept for ever.
+    pub(crate) fn into_journal(self) -> Vec<Entry>
+        ensures { result.items ≡ self.journal }
+    {
+        let PublishedHistory { journal, .. } = self;
+        journal
+    }
+
+    /// The entries, given away. What is published is given back, once no reader is inside.
+    pub(crate) fn close<R: Wait>(self, rt: &R) -> Vec<Entry>
+        ensures { result.items ≡ self.journal }
+    {
+        let PublishedHistory { journal, home, .. } = self;
+        if let Some(home) = home {
+            drop(home.into_writer().take(rt));
+        }
+        journal
     }
 
     /// The entries.

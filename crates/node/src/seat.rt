@@ -1,277 +1,208 @@
 //! Seats: a caller's place at the history.
 
-ghost use Rattle.std.specs.Prelude.{◌≡◌, ◌<◌, []};
-ghost use Rattle.std.specs.Prelude.{IfOk, IfErr, IfSome, IfNone};
-ghost use Rattle.chain.specs.declared.command.Command.TheVariants as command;
-ghost use Rattle.chain.specs.declared.reply.Reply.TheVariants as reply;
-ghost use Rattle.node.specs.Origin.{machine, output_at, shown_tips};
+ghost use Rattle.std.specs.Prelude.{◌≡◌, ◌<◌, [], true, Some, IfSome, length};
+ghost use mathlib.Core.List.{IsPrefix};
+ghost use Rattle.left_right.specs.Sides.{view as known};
+ghost use Rattle.view.specs.Origin.{origin};
 
-use crate::answer::{Stamped, UnspentOutput};
-use crate::fault::Fault;
-use crate::history::History;
-use crate::node::Node;
-use chain::{Bytes, Command, Entry, MarkReply, Reply, SubmitReply};
-use hash::Id;
+use crate::looks::enter_from;
+use crate::note::Note;
+use crate::own::{begins, own_are};
+use chain::{Command, Entry};
+use curve::Table;
+use rules::Params;
 use std::alloc::Global;
 use std::marker::Model;
-use std::snapshot::Snapshot;
-use std::thread::Threads;
-use tree::Tip;
-use txn::OutPoint;
+use view::{ViewReader, ViewReading};
 
 /// A caller's place at the history. A clause sees its pass: what the seat has seen, and what of it is its
 /// own.
 #[derive(Drop)]
 pub struct Seat<'t> {
-    number: usize,
-    /// It is gone once the node is finished.
-    history: Option<History<'t>>,
-    /// What it was then, for proofs alone.
-    last: Snapshot<History<'t>>,
+    pub(crate) params: Params,
+    pub(crate) table: &'t Table,
+    /// How many seats there are.
+    seats: usize,
+    pub(crate) number: usize,
+    /// What it has seen.
+    pub(crate) seen: view::Note,
+    /// The place of its last own entry whose reply it was told, from 1; 0 where there is none.
+    pub(crate) answered: u64,
+    /// The commands of its own steps since then, whose replies are owed.
+    pub(crate) owed: Vec<Command>,
+    /// It is away only inside a call.
+    pub(crate) reader: Option<ViewReader>,
 }
 
 impl<'t> Model for Seat<'t> {
-    ghost use Rattle.std.specs.Prelude.{◌<◌};
+    ghost use Rattle.std.specs.Prelude.{◌≡◌, ◌<◌, ◌≤◌, ◌++◌, Some, IfSome, take, length, map};
     ghost use Rattle.std.specs.Coded.{codes};
     ghost use Rattle.std.specs.FinSet as set;
+    ghost use Rattle.left_right.specs.Sides.{view as known};
     ghost use Rattle.curve.specs.Triple.{triple_cmp, coded_triple};
-    ghost use Rattle.node.specs.History.{seat_history};
-    ghost use Rattle.node.specs.inside.Keeping.{IsLegal};
-    ghost use Rattle.node.specs.Pass.{Pass, pass_of};
+    ghost use Rattle.chain.specs.History.{own_of};
+    ghost use Rattle.view.specs.Origin.{origin};
+    ghost use Rattle.view.specs.ViewState.{IsLegal};
+    ghost use Rattle.node.specs.Pass.{Pass, owed_entry};
 
     ghost Value = { Pass };
 
     ghost coded = { Prim.hlevel (codes, set.code {R = triple_cmp} coded_triple) };
 
-    ghost view = { λ s. pass_of s.number s.history s.last.value };
+    ghost view = { λ s. let before = take s.answered s.seen.entries in record {
+      number = s.number;
+      origin = origin s.seen.book s.params s.table.now s.seats;
+      seen = s.seen.entries;
+      mine = own_of s.number before ++ map (owed_entry s.number) s.owed.items;
+    } };
 
-    ghost invariant = { λ s. let h = seat_history s.history s.last.value in
-        (s.number < h.origin.seats) × IsLegal h };
+    ghost invariant = { λ s. let o = origin s.seen.book s.params s.table.now s.seats in
+        IsLegal o s.seen.entries
+        × (s.answered ≤ length s.seen.entries)
+        × (s.number < s.seats)
+        × IfSome s.reader (λ r. known r.place ≡ Some o) };
 }
 
 impl<'t> Seat<'t> {
-    ghost use Rattle.node.specs.Calls.{IsSubmitAnswer, IsWriteFault, IsReadFault, IsClosedFault};
-    ghost use Rattle.node.specs.Pass.{IsLater, IsOwn, IsRead, IsStanding, IsWrite};
-    ghost use Rattle.node.specs.Pass.{finished_pass, opening_pass};
-    ghost use Rattle.node.specs.Finishing.{IsStranger};
-    ghost use Rattle.node.specs.inside.Giving.{IsGiven};
-    ghost use Rattle.node.specs.inside.Writing.{IsWriteAnswer, IsMark};
+    ghost use Rattle.node.specs.Pass.{IsLater, IsLonger, IsOwn, IsStanding, opening_pass};
+    ghost use Rattle.node.specs.inside.Seats.{IsFound};
 
-    /// Submits the bytes of a block, at a moment in seconds since 1970 (Bitcoin Core's `submitblock`).
-    ///
-    /// Seat and node are of one [`Node::open`].
-    pub fn submit<R: Threads + Sync>(
-        &mut self,
-        rt: &R,
-        node: &Node<'_>,
-        bytes: &[u8],
-        now: u64,
-    ) -> Result<Stamped<SubmitReply>, Fault>
-        ensures later { IsLater self.old self.new }
-        ensures answer { let IsAnswer = IsSubmitAnswer self.old self.new bytes.now now in
-            IfOk result (λ r. IsAnswer r.at r.value) }
-        ensures own { IsOwn self.new }
-        ensures fault { let asked = command.Submit bytes.now now in
-            IfErr result (IsWriteFault self.old self.new asked) }
+    /// What this seat has seen. It takes no memory, and waits for nobody.
+    #[tactic(auto, using(crate::proofs::Owning::own_begins))]
+    pub fn note(&self) -> Note<'t>
+        ensures origin { result.origin ≡ self.now.origin }
+        ensures seen { result.seen ≡ self.now.seen }
+        ensures own { IsOwn self.now }
     {
-        if self.history.is_none() {
-            return Err(Fault::Closed);
-        }
-        let command = Command::Submit(Bytes::from_slice(node.alloc, bytes)?, now);
-        let Stamped { at, value } = self.write(rt, node, command)?;
-        match value {
-            Reply::Submit(value) => Ok(Stamped { at, value }),
-            Reply::Mark(_) => unreachable!(),
+        Note {
+            params: self.params,
+            table: self.table,
+            seats: self.seats,
+            seen: self.seen.copy(),
         }
     }
 
-    /// Marks a block as invalid (Bitcoin Core's `invalidateblock`).
+    /// From now on the seat has seen that too. It takes no memory, and waits for nobody.
     ///
-    /// Seat and node are of one [`Node::open`].
-    pub fn invalidate<R: Threads + Sync>(
-        &mut self,
-        rt: &R,
-        node: &Node<'_>,
-        id: Id,
-    ) -> Result<Stamped<MarkReply>, Fault>
+    /// Seat and note are of one [`Node::open`](crate::Node::open).
+    #[tactic(auto, using(crate::proofs::Owning::own_begins))]
+    pub fn told(&mut self, note: &Note<'_>)
+        requires origin { note.now.origin ≡ self.old.origin }
         ensures later { IsLater self.old self.new }
-        ensures answer { let IsAnswer = IsWrite self.old self.new (command.Invalidate id) in
-            IfOk result (λ r. IsAnswer r.at (reply.Mark r.value)) }
+        ensures mine { self.new.mine ≡ self.old.mine }
+        ensures longer { IsLonger self.old.seen note.now.seen self.new.seen }
         ensures own { IsOwn self.new }
-        ensures fault { IfErr result (IsWriteFault self.old self.new (command.Invalidate id)) }
     {
-        self.mark(rt, node, Command::Invalidate(id))
-    }
-
-    /// Takes the marks from a block, its ancestors and its descendants (Bitcoin Core's `reconsiderblock`).
-    ///
-    /// Seat and node are of one [`Node::open`].
-    pub fn reconsider<R: Threads + Sync>(
-        &mut self,
-        rt: &R,
-        node: &Node<'_>,
-        id: Id,
-    ) -> Result<Stamped<MarkReply>, Fault>
-        ensures later { IsLater self.old self.new }
-        ensures answer { let IsAnswer = IsWrite self.old self.new (command.Reconsider id) in
-            IfOk result (λ r. IsAnswer r.at (reply.Mark r.value)) }
-        ensures own { IsOwn self.new }
-        ensures fault { IfErr result (IsWriteFault self.old self.new (command.Reconsider id)) }
-    {
-        self.mark(rt, node, Command::Reconsider(id))
-    }
-
-    /// Prefers a block to all that are as high (Bitcoin Core's `preciousblock`).
-    ///
-    /// Seat and node are of one [`Node::open`].
-    pub fn precious<R: Threads + Sync>(
-        &mut self,
-        rt: &R,
-        node: &Node<'_>,
-        id: Id,
-    ) -> Result<Stamped<MarkReply>, Fault>
-        ensures later { IsLater self.old self.new }
-        ensures answer { let IsAnswer = IsWrite self.old self.new (command.Precious id) in
-            IfOk result (λ r. IsAnswer r.at (reply.Mark r.value)) }
-        ensures own { IsOwn self.new }
-        ensures fault { IfErr result (IsWriteFault self.old self.new (command.Precious id)) }
-    {
-        self.mark(rt, node, Command::Precious(id))
-    }
-
-    /// The output at an outpoint, if it isn't spent, after all that the seat has then seen (Bitcoin Core's
-    /// `gettxout`).
-    ///
-    /// Seat and node are of one [`Node::open`].
-    pub fn gettxout(
-        &mut self,
-        alloc: Global,
-        _node: &Node<'_>,
-        outpoint: &OutPoint,
-    ) -> Result<Stamped<Option<UnspentOutput>>, Fault>
-        ensures later { IsLater self.old self.new }
-        ensures answer { let output = output_at self.old.origin outpoint.now in
-            IfOk result (λ r. IsRead self.old self.new output r.at r.value) }
-        ensures own { IsOwn self.new }
-        ensures fault { IfErr result (λ fault. IsReadFault self.old self.new fault) }
-    {
-        let Some(history) = &self.history else {
-            return Err(Fault::Closed);
-        };
-        let value = history.unspent(alloc, outpoint)?;
-        let at = history.len();
-        Ok(Stamped { at, value })
-    }
-
-    /// The id of the best block, after all that the seat has then seen.
-    ///
-    /// Seat and node are of one [`Node::open`].
-    pub fn getbestblockhash(&mut self, _node: &Node<'_>) -> Result<Stamped<Id>, Fault>
-        ensures later { IsLater self.old self.new }
-        ensures answer { let m = machine self.old.origin in
-            IfOk result (λ r. IsRead self.old self.new m.best r.at r.value) }
-        ensures own { IsOwn self.new }
-        ensures fault { IfErr result (λ fault. IsClosedFault self.old self.new fault) }
-    {
-        let Some(history) = &self.history else {
-            return Err(Fault::Closed);
-        };
-        Ok(Stamped {
-            at: history.len(),
-            value: history.best(),
-        })
-    }
-
-    /// The tips of the tree, by height downwards, then by arrival, after all that the seat has then seen.
-    ///
-    /// Seat and node are of one [`Node::open`].
-    pub fn getchaintips(
-        &mut self,
-        alloc: Global,
-        _node: &Node<'_>,
-    ) -> Result<Stamped<Vec<Tip>>, Fault>
-        ensures later { IsLater self.old self.new }
-        ensures answer { let tips = shown_tips self.old.origin in
-            IfOk result (λ r. IsRead self.old self.new tips r.at r.value.items) }
-        ensures own { IsOwn self.new }
-        ensures fault { IfErr result (λ fault. IsReadFault self.old self.new fault) }
-    {
-        let Some(history) = &self.history else {
-            return Err(Fault::Closed);
-        };
-        let value = history.tips(alloc)?;
-        let at = history.len();
-        Ok(Stamped { at, value })
-    }
-
-    /// Takes the step of a mark or a preference, and sees it.
-    fn mark<R: Threads + Sync>(
-        &mut self,
-        rt: &R,
-        node: &Node<'_>,
-        command: Command,
-    ) -> Result<Stamped<MarkReply>, Fault>
-        requires mark { IsMark command }
-        ensures later { IsLater self.old self.new }
-        ensures answer { let IsAnswer = IsWrite self.old self.new command in
-            IfOk result (λ r. IsAnswer r.at (reply.Mark r.value)) }
-        ensures own { IsOwn self.new }
-        ensures fault { IfErr result (λ fault. IsWriteFault self.old self.new command fault) }
-    {
-        let Stamped { at, value } = self.write(rt, node, command)?;
-        match value {
-            Reply::Mark(value) => Ok(Stamped { at, value }),
-            Reply::Submit(_) => unreachable!(),
+        if self.seen.begins(&note.seen) {
+            self.seen = note.seen.copy();
         }
     }
 
-    /// Takes the step of a command, and sees it.
-    fn write<R: Threads + Sync>(
-        &mut self,
-        rt: &R,
-        node: &Node<'_>,
-        command: Command,
-    ) -> Result<Stamped<Reply>, Fault>
-        ensures later { IsLater self.old self.new }
-        ensures answer { IfOk result (λ r. IsWriteAnswer self.old self.new command r.at r.value) }
-        ensures own { IsOwn self.new }
-        ensures fault { IfErr result (λ fault. IsWriteFault self.old self.new command fault) }
+    /// Both have seen what either had. It takes no memory, and waits for nobody.
+    ///
+    /// Both seats are of one [`Node::open`](crate::Node::open).
+    pub fn meet(&mut self, other: &mut Seat<'_>)
+        requires origin { other.old.origin ≡ self.old.origin }
+        ensures later { IsLater self.old self.new × IsLater other.old other.new }
+        ensures mine { (self.new.mine ≡ self.old.mine) × (other.new.mine ≡ other.old.mine) }
+        ensures longer { IsLonger self.old.seen other.old.seen self.new.seen }
+        ensures same { other.new.seen ≡ self.new.seen }
+        ensures own { IsOwn self.new × IsOwn other.new }
     {
-        let number = self.number;
-        let Some(history) = &mut self.history else {
-            return Err(Fault::Closed);
-        };
-        let value = history.take(rt, number, command, node.workers, node.gate)?;
-        let at = history.len();
-        Ok(Stamped { at, value })
+        self.told(&other.note());
+        other.told(&self.note());
     }
 
     /// A new seat, which has seen and done nothing.
-    pub(crate) fn new(number: usize, history: History<'t>) -> Seat<'t>
-        requires number { number < history.origin.seats }
-        requires journal { history.journal ≡ [] }
-        ensures { result ≡ opening_pass history.entry.origin number }
+    pub(crate) fn new(
+        alloc: Global,
+        params: Params,
+        table: &'t Table,
+        seats: usize,
+        number: usize,
+        seen: view::Note,
+        reader: ViewReader,
+    ) -> Seat<'t>
+        requires number { number < seats }
+        requires empty { seen.entries ≡ [] }
+        requires reader { known reader.place ≡ Some (origin seen.book params table.now seats) }
+        ensures { result ≡ opening_pass (origin seen.book params table.entry.now seats) number }
     {
         Seat {
+            params,
+            table,
+            seats,
             number,
-            last: Snapshot::of(&history),
-            history: Some(history),
+            seen,
+            answered: 0,
+            owed: Vec::new(alloc),
+            reader: Some(reader),
         }
     }
 
-    /// Gives its history away, if it is of this node. The seat is finished then.
-    pub(crate) fn give(&mut self, node: &Node<'_>) -> Option<Vec<Entry>>
-        ensures given { let o = node.now in
-            IfSome result (λ journal. IsGiven o journal.items self.old self.new) }
-        ensures kept { IfNone result (self.new ≡ self.old) }
-        ensures stranger { IfNone result (IsStranger node.now self.old) }
+    /// Enters the published view, if it goes on from what the seat has seen: the view, and a note of all of it. The
+    /// reading is handed back by `leave` or `stay`.
+    #[tactic(auto, using(crate::proofs::Owning::own_begins))]
+    pub(crate) fn enter(&mut self) -> Option<(ViewReading, view::Note)>
+        ensures same { self.new ≡ self.old }
+        ensures later { IsLater self.old self.new }
+        ensures own { IsOwn self.new }
+        ensures knows { let o = self.old.origin in
+            IfSome result (λ r. known r.0.place ≡ Some o) }
+        ensures found { let o = self.old.origin in let seen = self.old.seen in
+            IfSome result (λ r. IsFound o seen r.0.part.value r.1) }
     {
-        let history = self.history.take()?;
-        if !node.has(&history) {
-            self.history = Some(history);
-            return None;
+        match enter_from(self.reader.take()?, &self.seen) {
+            Ok(found) => Some(found),
+            Err(reader) => {
+                self.reader = Some(reader);
+                None
+            }
         }
-        self.last = Snapshot::of(&history);
-        Some(history.into_journal())
+    }
+
+    /// Leaves a view, and has seen no more than before.
+    #[tactic(auto, using(crate::proofs::Owning::own_begins))]
+    pub(crate) fn stay(&mut self, reading: ViewReading)
+        requires { known reading.place ≡ Some self.old.origin }
+        ensures same { self.new ≡ self.old }
+        ensures later { IsLater self.old self.new }
+        ensures own { IsOwn self.new }
+    {
+        self.reader = Some(reading.leave());
+    }
+
+    /// Leaves a view that it has seen then: how many entries that has.
+    #[tactic(auto, using(crate::proofs::Owning::own_begins))]
+    pub(crate) fn leave(&mut self, reading: ViewReading, found: view::Note) -> u64
+        requires knows { known reading.place ≡ Some self.old.origin }
+        requires found { IsFound self.old.origin self.old.seen reading.part.value found }
+        ensures later { IsLater self.old self.new }
+        ensures mine { self.new.mine ≡ self.old.mine }
+        ensures seen { self.new.seen ≡ found.entries }
+        ensures at { result ≡ length found.entries }
+        ensures own { IsOwn self.new }
+    {
+        self.reader = Some(reading.leave());
+        self.seen = found;
+        self.seen.len()
+    }
+
+    /// Whether it fits a whole history: that goes on from what the seat has seen and would see, and the seat's entries
+    /// in it are its own.
+    pub(crate) fn fits(&mut self, journal: &[Entry]) -> bool
+        ensures same { self.new ≡ self.old }
+        ensures standing { (result ≡ true) → IsStanding journal.now self.old }
+    {
+        let Some((reading, _found)) = self.enter() else {
+            return false;
+        };
+        let is_beginning = begins(reading.get().journal(), journal);
+        self.stay(reading);
+        let from = self.answered as usize;
+        if !is_beginning || from > journal.len() {
+            return false;
+        }
+        own_are(&journal[from..], self.number, self.owed.as_slice())
     }
 }

@@ -1,77 +1,58 @@
 //! The answers of a client's seat.
 
-use crate::progress::Progress;
 use crate::told::{Tips, Told};
 use node::{Fault, Node, Seat, Stamped};
-use scenario::{Client, Definitions, Request, Words};
-use std::alloc::AllocError;
+use scenario::{Definitions, Request};
+use std::alloc::{AllocError, Global};
 use std::fmt;
-use std::io::Write;
+use std::sync::Wait;
 use std::thread::Threads;
-use std::time::Clock;
 
-/// A command and its answer.
+/// A command and its answer, as they are printed.
 #[derive(Drop)]
-pub struct Answer<'d, 't> {
-    words: Words<'d, 't>,
-    outcome: Result<Stamped<Told<'d>>, Fault>,
+pub struct Answer {
+    pub command: String,
+    pub answer: String,
+    /// The stamp, which faults don't have.
+    pub at: Option<u64>,
+    pub is_submission: bool,
 }
 
-/// A client's answers, in the order of its commands.
-#[derive(Drop)]
-pub struct Section<'d, 't> {
-    pub client: &'t str,
-    answers: Vec<Answer<'d, 't>>,
-}
-
-impl<'d, 't> Section<'d, 't> {
-    /// Runs a client on its seat.
-    pub fn run<R, E>(
-        rt: &R,
-        definitions: &'d Definitions,
-        client: &Client<'d, 't>,
-        node: &Node<'_>,
-        seat: &mut Seat<'_>,
-        progress: &mut Progress<'_, E>,
-    ) -> Result<Section<'d, 't>, AllocError>
-    where
-        R: AllocGlobal + Clock + Threads + Sync,
-        E: Write,
-    {
-        let mut answers = Vec::new(rt.alloc());
-        for call in client.calls.as_slice() {
-            answers.push(Answer {
-                words: call.words,
-                outcome: asked(rt, definitions, &call.request, node, seat),
-            })?;
-            if let Request::Submit(..) = call.request {
-                progress.count(rt);
-            }
-        }
-        Ok(Section {
-            client: client.name,
-            answers,
+impl Answer {
+    /// What a seat answered to this command.
+    pub fn new(
+        alloc: Global,
+        command: String,
+        outcome: Result<Stamped<Told<'_>>, Fault>,
+        is_submission: bool,
+    ) -> Result<Answer, AllocError> {
+        let (answer, at) = match outcome {
+            Ok(told) => (told.value.to_string(alloc)?, Some(told.at)),
+            Err(fault) => (fault.to_string(alloc)?, None),
+        };
+        Ok(Answer {
+            command,
+            answer,
+            at,
+            is_submission,
         })
     }
 }
 
 /// What a seat answers to a request.
-fn asked<'d, R>(
+pub fn asked<'d, R>(
     rt: &R,
     definitions: &'d Definitions,
-    request: &Request<'d>,
+    request: &Request<'_>,
     node: &Node<'_>,
     seat: &mut Seat<'_>,
 ) -> Result<Stamped<Told<'d>>, Fault>
 where
-    R: AllocGlobal + Threads + Sync,
+    R: AllocGlobal + Threads + Wait + Sync,
 {
     let alloc = rt.alloc();
     Ok(match request {
-        Request::Submit(bytes, now) => {
-            let reply = seat.submit(rt, node, bytes.as_slice(), *now)?;
-            stamped(reply.at, Told::Submit(reply.value))
-        }
+        Request::Submit(bytes, now) => submitted(rt, node, seat, bytes.as_slice(), *now)?,
         Request::Invalidate(id) => marked(seat.invalidate(rt, node, *id)?),
         Request::Reconsider(id) => marked(seat.reconsider(rt, node, *id)?),
         Request::Precious(id) => marked(seat.precious(rt, node, *id)?),
@@ -90,6 +71,21 @@ where
     })
 }
 
+/// What a seat answers to the submission of these bytes.
+pub fn submitted<'d, R>(
+    rt: &R,
+    node: &Node<'_>,
+    seat: &mut Seat<'_>,
+    bytes: &[u8],
+    now: u64,
+) -> Result<Stamped<Told<'d>>, Fault>
+where
+    R: Threads + Wait + Sync,
+{
+    let reply = seat.submit(rt, node, bytes, now)?;
+    Ok(stamped(reply.at, Told::Submit(reply.value)))
+}
+
 fn marked<'d>(reply: Stamped<node::MarkReply>) -> Stamped<Told<'d>> {
     stamped(reply.at, Told::Mark(reply.value))
 }
@@ -98,22 +94,12 @@ fn stamped(at: u64, value: Told<'_>) -> Stamped<Told<'_>> {
     Stamped { at, value }
 }
 
-impl fmt::Display for Section<'_, '_> {
+impl fmt::Display for Answer {
     fn fmt<W: fmt::Write>(&self, f: &mut fmt::Formatter<W>) -> fmt::Result {
-        writeln!(f, "client {}", self.client)?;
-        for answer in self.answers.as_slice() {
-            answer.fmt(f)?;
-        }
-        Ok(())
-    }
-}
-
-impl fmt::Display for Answer<'_, '_> {
-    fn fmt<W: fmt::Write>(&self, f: &mut fmt::Formatter<W>) -> fmt::Result {
-        let words = self.words;
-        match &self.outcome {
-            Ok(told) => writeln!(f, "{words} = {} @{}", told.value, told.at),
-            Err(fault) => writeln!(f, "{words} = {fault}"),
+        write!(f, "{} = {}", self.command, self.answer)?;
+        match self.at {
+            Some(at) => writeln!(f, " @{at}"),
+            None => writeln!(f),
         }
     }
 }

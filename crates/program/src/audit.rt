@@ -1,21 +1,23 @@
 //! The replay of a journal.
 
-use crate::difference::first_refuted;
+use crate::difference::{Refuted, Replayer, first_refuted};
 use crate::fault::Fault;
-use crate::files::{read_file, read_table};
+use crate::files::{read_file, read_in, read_table};
 use crate::journal::{Asked, Step};
-use crate::options::AuditOptions;
+use crate::options::{AuditOptions, Saved};
 use crate::progress::Progress;
 use crate::records::read_records;
+use crate::saving::{BLOCKS, HEIGHTS, JOURNAL, TABLE};
 use crate::{heights, recorded};
 use block::ReadFault;
+use curve::Table;
 use hash::Id;
-use node::{Bytes, Command, Reply};
+use node::{Bytes, Command, Params, Reply};
 use std::alloc::Global;
 use std::io::{IsTerminal, Write};
 use std::rt::Files;
 use std::time::Clock;
-use std::{fmt, vec};
+use std::{fmt, str, vec};
 
 /// What a replay says of a journal.
 #[derive(Clone, Copy, Debug, PartialEq, Eq)]
@@ -41,35 +43,124 @@ struct Replay {
     recorded: Vec<Option<Reply>>,
 }
 
-/// Replays a journal over the blocks of a blk file. Where `err` is a terminal it is told when the replay begins and how
-/// long it took.
+/// What an audit comes to.
+#[derive(Clone, Copy, Debug)]
+pub struct Audited {
+    pub finding: Finding,
+    /// The reply that the line should have which differs.
+    pub reply: Option<Reply>,
+}
+
+/// What was saved of a run.
+#[derive(Drop)]
+struct Inputs {
+    params: Params,
+    journal: Vec<u8>,
+    blk: Vec<u8>,
+    table: Table,
+}
+
+/// Replays a journal over the blocks of a blk file. Where `err` is a terminal it is told how far the replay is.
 pub fn audit<'w, R, E>(
     rt: &R,
     options: &AuditOptions<'w>,
     err: &mut E,
-) -> Result<Finding, Fault<'w>>
+) -> Result<Audited, Fault<'w>>
 where
     R: Files + AllocGlobal + Clock,
     E: Write + IsTerminal,
 {
     let alloc = rt.alloc();
-    let params = heights::read(options.heights).ok_or(Fault::Heights)?;
-    let journal = read_file(rt, options.journal)?;
-    let blk = read_file(rt, options.blk)?;
-    let table = read_table(rt, options.table)?;
+    let Inputs {
+        params,
+        journal,
+        blk,
+        table,
+    } = read_inputs(rt, &options.saved)?;
     let steps = recorded::read(alloc, journal.as_slice())?;
     let records = read_records(alloc, blk.as_slice())?;
     let blocks = records.len();
     let replay = replay_of(alloc, steps.as_slice(), records)?;
+    let length = steps.len().min(options.limit);
+    let commands = &replay.commands[..length.min(replay.commands.len())];
+    let recorded = &replay.recorded[..length.min(replay.recorded.len())];
     let is_terminal = err.is_terminal();
     let mut progress = Progress::new(rt, err, is_terminal);
-    progress.begin_replay(steps.len(), blocks);
-    let commands = replay.commands.as_slice();
-    let refuted = first_refuted(alloc, &params, commands, &table, replay.recorded.as_slice())?;
-    progress.end(rt);
+    progress.begin_replay(length, blocks);
+    let by = if options.is_quick {
+        Replayer::Chainstate
+    } else {
+        Replayer::Definition
+    };
+    let refuted = first_refuted(
+        alloc,
+        by,
+        &params,
+        commands,
+        &table,
+        recorded,
+        &mut progress,
+    )?;
+    progress.end();
     Ok(match refuted {
-        Some(place) => Finding::Differs(place.saturating_add(1)),
-        None => Finding::Agrees,
+        Some(Refuted { place, reply }) => Audited {
+            finding: Finding::Differs(place.saturating_add(1)),
+            reply,
+        },
+        None => Audited {
+            finding: Finding::Agrees,
+            reply: None,
+        },
+    })
+}
+
+/// The files of an audit, in the order in which one that can't be read is told.
+fn read_inputs<'w, R>(rt: &R, saved: &Saved<'w>) -> Result<Inputs, Fault<'w>>
+where
+    R: Files + AllocGlobal,
+{
+    match saved {
+        Saved::Folder(folder) => read_folder(rt, folder),
+        Saved::Files {
+            journal,
+            blk,
+            table,
+            heights,
+        } => {
+            let params = heights::read(heights).ok_or(Fault::Heights)?;
+            let journal = read_file(rt, journal)?;
+            let blk = read_file(rt, blk)?;
+            let table = match table {
+                Some(file) => read_table(rt.alloc(), Some(read_file(rt, file)?.as_slice()))?,
+                None => read_table(rt.alloc(), None)?,
+            };
+            Ok(Inputs {
+                params,
+                journal,
+                blk,
+                table,
+            })
+        }
+    }
+}
+
+/// The four files that a run saved.
+fn read_folder<'w, R>(rt: &R, folder: &'w str) -> Result<Inputs, Fault<'w>>
+where
+    R: Files + AllocGlobal,
+{
+    let journal = read_in(rt, folder, JOURNAL)?;
+    let blk = read_in(rt, folder, BLOCKS)?;
+    let table = read_in(rt, folder, TABLE)?;
+    let heights = read_in(rt, folder, HEIGHTS)?;
+    let word = str::from_utf8(heights.as_slice()).unwrap_or("");
+    let params = heights::read(word.strip_suffix('\n').unwrap_or(word)).ok_or(Fault::Heights)?;
+    let table = read_table(rt.alloc(), Some(table.as_slice()))?;
+    Ok(Inputs {
+        params,
+        journal,
+        blk,
+        table,
     })
 }
 

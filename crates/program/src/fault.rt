@@ -1,5 +1,7 @@
 //! Why a run ends without its whole output.
 
+use crate::clients::Ended;
+use crate::options::STANDARD;
 use scenario::ScenarioFault;
 use std::alloc::{AllocError, AllocFailed};
 use std::fmt;
@@ -28,10 +30,46 @@ pub enum Fault<'w> {
     CannotWrite(&'w str),
     /// In this folder the file of this name can't be written.
     CannotSave(&'w str, &'static str),
+    /// In this folder the file of this name can't be read.
+    CannotOpen(&'w str, &'static str),
+    /// The scenario defines no block and no transaction of this name.
+    NoName(&'w str),
+    /// The output isn't the one that was expected: the first line that differs, counted from 1, and both.
+    Differs(Difference),
     /// There was no memory.
     Memory,
     /// The node has no seat or no history to give.
     Closed,
+}
+
+/// The first line of an output that isn't the one that was expected.
+#[derive(Debug, Drop)]
+pub struct Difference {
+    /// From 1.
+    pub line: usize,
+    /// None where the file ends before it.
+    pub expected: Option<String>,
+    /// None where the output ends before it.
+    pub written: Option<String>,
+}
+
+impl fmt::Display for Difference {
+    fn fmt<W: fmt::Write>(&self, f: &mut fmt::Formatter<W>) -> fmt::Result {
+        writeln!(f, "regchain: line {} differs", self.line)?;
+        write_line("expected", &self.expected, f)?;
+        write_line("written", &self.written, f)
+    }
+}
+
+fn write_line<W: fmt::Write>(
+    name: &str,
+    line: &Option<String>,
+    f: &mut fmt::Formatter<W>,
+) -> fmt::Result {
+    match line {
+        Some(line) => writeln!(f, "{name}: {line}"),
+        None => writeln!(f, "{name} no such line"),
+    }
 }
 
 impl fmt::Display for Fault<'_> {
@@ -45,6 +83,11 @@ impl fmt::Display for Fault<'_> {
             Fault::BlkStopped(offset) => writeln!(f, "regchain: blk stopped at {offset}"),
             Fault::BlkRecords => writeln!(f, "regchain: blk records"),
             Fault::CannotRead(file) => writeln!(f, "regchain: cannot read {file}"),
+            Fault::CannotOpen(folder, file) => {
+                writeln!(f, "regchain: cannot read {folder}/{file}")
+            }
+            Fault::NoName(name) => writeln!(f, "regchain: no name {name}"),
+            Fault::Differs(difference) => difference.fmt(f),
             Fault::CannotWrite(file) => writeln!(f, "regchain: cannot write {file}"),
             Fault::CannotSave(folder, file) => writeln!(
                 f,
@@ -61,6 +104,17 @@ impl From<clap::Error> for Fault<'_> {
         match error.kind() {
             clap::error::ErrorKind::OutOfMemory => Fault::Memory,
             _ => Fault::CommandLine(error),
+        }
+    }
+}
+
+impl From<Ended> for Fault<'_> {
+    fn from(ended: Ended) -> Self {
+        match ended {
+            Ended::Memory => Fault::Memory,
+            Ended::CannotWrite => Fault::CannotWrite(STANDARD),
+            Ended::BlkStopped(offset) => Fault::BlkStopped(offset),
+            Ended::Closed => Fault::Closed,
         }
     }
 }

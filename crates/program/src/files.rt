@@ -3,6 +3,7 @@
 use crate::fault::Fault;
 use crate::options::STANDARD;
 use curve::Table;
+use std::alloc::Global;
 use std::io::{ErrorKind, Read, Write};
 use std::rt::Files;
 use std::{fs, io};
@@ -31,16 +32,24 @@ where
     }
 }
 
-/// The valid signatures of a table's file: none, where there is no file.
-pub fn read_table<'w, R>(rt: &R, file: Option<&'w str>) -> Result<Table, Fault<'w>>
+/// The bytes of a file in a folder.
+pub fn read_in<'w, R>(rt: &R, folder: &'w str, file: &'static str) -> Result<Vec<u8>, Fault<'w>>
 where
     R: Files + AllocGlobal,
 {
-    let Some(file) = file else {
-        return Ok(Table::new(rt.alloc()));
-    };
-    let text = read_file(rt, file)?;
-    Ok(Table::from_lines(rt.alloc(), text.as_slice())?)
+    let path = format!(in rt.alloc(); "{folder}/{file}")?;
+    fs::read(rt, path.as_str()).map_err(|error| match error.kind() {
+        ErrorKind::OutOfMemory => Fault::Memory,
+        _ => Fault::CannotOpen(folder, file),
+    })
+}
+
+/// The valid signatures of a table's text: none, where there is no text.
+pub fn read_table(alloc: Global, text: Option<&[u8]>) -> Result<Table, Fault<'static>> {
+    match text {
+        Some(text) => Ok(Table::from_lines(alloc, text)?),
+        None => Ok(Table::new(alloc)),
+    }
 }
 
 fn unread<'w>(kind: ErrorKind, file: &'w str) -> Fault<'w> {

@@ -36,6 +36,16 @@ impl Asked {
             Command::Precious(_) => Asked::Precious,
         }
     }
+
+    /// The word of a command.
+    pub fn word(self) -> &'static str {
+        match self {
+            Asked::Submit(_) => "submit",
+            Asked::Invalidate => "invalidate",
+            Asked::Reconsider => "reconsider",
+            Asked::Precious => "precious",
+        }
+    }
 }
 
 /// The id of the block that an entry is about.
@@ -52,11 +62,9 @@ impl<B: fmt::Display> fmt::Display for Step<'_, B> {
     fn fmt<W: fmt::Write>(&self, f: &mut fmt::Formatter<W>) -> fmt::Result {
         let block = &self.block;
         write!(f, "{} {} ", self.number, self.client)?;
-        match self.asked {
-            Asked::Submit(now) => write!(f, "submit {block} {now}")?,
-            Asked::Invalidate => write!(f, "invalidate {block}")?,
-            Asked::Reconsider => write!(f, "reconsider {block}")?,
-            Asked::Precious => write!(f, "precious {block}")?,
+        write!(f, "{} {block}", self.asked.word())?;
+        if let Asked::Submit(now) = self.asked {
+            write!(f, " {now}")?;
         }
         match self.reply {
             Some(reply) => write!(f, " = {reply}"),

@@ -1,21 +1,31 @@
-//! The program: a scenario's clients run on a node, and what they were answered is printed; a journal is replayed.
+//! The program: a scenario's clients run on a node, a thread each, and what they were answered is printed; a journal is replayed.
 #![tactic(auto)]
 
 mod answer;
 mod audit;
+mod clients;
 mod difference;
+mod expected;
 mod fault;
 mod files;
 mod heights;
 mod journal;
+mod objects;
 mod options;
+mod output;
+mod playing;
 mod progress;
+mod quick;
 mod recorded;
 mod records;
 mod replies;
 mod report;
 mod run;
+mod running;
 mod saving;
+mod showing;
+mod text;
 mod told;
+mod writer;
 
-pub use run::{program, program_with_gate, words};
+pub use run::{program, program_with_gate, tell_waiting, words};

@@ -1,5 +1,6 @@
 //! The command line.
 
+use crate::output::Form;
 use clap::error::ErrorKind;
 use clap::{Arg, ArgAction, ArgMatches, Command, Error, value_parser};
 use std::alloc::{AllocError, Global};
@@ -10,6 +11,9 @@ pub const NAME: &str = "regchain";
 /// The name of the standard streams.
 pub const STANDARD: &str = "-";
 
+/// The program's version, with the kit that it is proved with.
+const VERSION: &str = "0.1.0 (rattle-kit-13b logic dac8208d650f15bf)";
+
 /// How many workers check scripts by default.
 const WORKERS: usize = 2;
 
@@ -17,35 +21,66 @@ const WORKERS: usize = 2;
 const HEIGHTS: &str = "1,1,1,1";
 
 /// What the command line asks for.
-#[derive(Clone, Copy)]
+#[derive(Drop)]
 pub enum Options<'w> {
     Run(RunOptions<'w>),
     Audit(AuditOptions<'w>),
+    Show(ShowOptions<'w>),
 }
 
 /// To run the scenario of a file.
 #[derive(Clone, Copy)]
 pub struct RunOptions<'w> {
     pub scenario: &'w str,
+    /// The file of blocks that are submitted first.
+    pub blk: Option<&'w str>,
     /// The file of the valid signatures.
     pub table: Option<&'w str>,
     /// From 1 to 16.
     pub workers: usize,
     /// The heights of soft forks, not yet read.
     pub heights: &'w str,
-    /// The folder for the journal, the blocks and the table.
+    /// The folder for the journal, the blocks, the table and the heights.
     pub save: Option<&'w str>,
+    /// The file of the output that is expected.
+    pub expect: Option<&'w str>,
+    pub form: Form,
 }
 
-/// To replay the journal of a file over the blocks of another.
+/// Where what was saved of a run stands.
+#[derive(Clone, Copy)]
+pub enum Saved<'w> {
+    /// In the files of a folder.
+    Folder(&'w str),
+    Files {
+        journal: &'w str,
+        blk: &'w str,
+        /// The file of the valid signatures.
+        table: Option<&'w str>,
+        /// The heights of soft forks, not yet read.
+        heights: &'w str,
+    },
+}
+
+/// To replay a journal over the blocks of a blk file.
 #[derive(Clone, Copy)]
 pub struct AuditOptions<'w> {
-    pub journal: &'w str,
-    pub blk: &'w str,
-    /// The file of the valid signatures.
-    pub table: Option<&'w str>,
-    /// The heights of soft forks, not yet read.
-    pub heights: &'w str,
+    pub saved: Saved<'w>,
+    /// By the chainstate of one thread, not by the definition.
+    pub is_quick: bool,
+    /// To tell the reply of the first line that differs.
+    pub is_explained: bool,
+    /// How many lines are looked at.
+    pub limit: usize,
+    pub form: Form,
+}
+
+/// To show what a scenario defines.
+#[derive(Drop)]
+pub struct ShowOptions<'w> {
+    pub scenario: &'w str,
+    /// The names that are shown; all, where there are none.
+    pub names: Vec<&'w str>,
 }
 
 impl<'w> Options<'w> {
@@ -55,10 +90,13 @@ impl<'w> Options<'w> {
         if words.len() <= 1 {
             return Ok(Options::Run(RunOptions {
                 scenario: STANDARD,
+                blk: None,
                 table: None,
                 workers: WORKERS,
                 heights: HEIGHTS,
                 save: None,
+                expect: None,
+                form: Form::Text,
             }));
         }
         let mut command = command(alloc)?;
@@ -66,11 +104,12 @@ impl<'w> Options<'w> {
         let read = match matches.subcommand() {
             Some(("run", run)) => read_run(run),
             Some(("audit", audit)) => read_audit(audit),
+            Some(("show", show)) => read_show(alloc, show)?,
             _ => None,
         };
         match read {
             Some(options) => Ok(options),
-            None => Err(command.error(ErrorKind::InvalidSubcommand, "neither 'run' nor 'audit'")?),
+            None => Err(command.error(ErrorKind::InvalidSubcommand, "no such command line")?),
         }
     }
 }
@@ -78,20 +117,51 @@ impl<'w> Options<'w> {
 fn read_run<'w>(run: &ArgMatches<'w>) -> Option<Options<'w>> {
     Some(Options::Run(RunOptions {
         scenario: run.get_str("scenario")?,
+        blk: run.get_str("blk"),
         table: run.get_str("table"),
         workers: run.get_one("workers").unwrap_or(WORKERS),
         heights: run.get_str("heights").unwrap_or(HEIGHTS),
         save: run.get_str("save"),
+        expect: run.get_str("expect"),
+        form: form(run),
     }))
 }
 
 fn read_audit<'w>(audit: &ArgMatches<'w>) -> Option<Options<'w>> {
     Some(Options::Audit(AuditOptions {
+        saved: read_saved(audit)?,
+        is_quick: audit.get_flag("quick"),
+        is_explained: audit.get_flag("explain"),
+        limit: audit.get_one("to").unwrap_or(usize::MAX),
+        form: form(audit),
+    }))
+}
+
+fn read_saved<'w>(audit: &ArgMatches<'w>) -> Option<Saved<'w>> {
+    if let Some(folder) = audit.get_str("saved") {
+        return Some(Saved::Folder(folder));
+    }
+    Some(Saved::Files {
         journal: audit.get_str("journal")?,
         blk: audit.get_str("blk")?,
         table: audit.get_str("table"),
         heights: audit.get_str("heights").unwrap_or(HEIGHTS),
-    }))
+    })
+}
+
+fn read_show<'w>(alloc: Global, show: &ArgMatches<'w>) -> Result<Option<Options<'w>>, AllocError> {
+    let Some(scenario) = show.get_str("scenario") else {
+        return Ok(None);
+    };
+    let names = Vec::from_slice(alloc, show.get_strs("names").unwrap_or(&[]))?;
+    Ok(Some(Options::Show(ShowOptions { scenario, names })))
+}
+
+fn form(matches: &ArgMatches<'_>) -> Form {
+    if matches.get_flag("json") {
+        return Form::Json;
+    }
+    Form::Text
 }
 
 /// The fault of a command line that isn't text.
@@ -102,48 +172,83 @@ pub fn no_text(alloc: Global) -> Result<Error, AllocError> {
 
 fn command<'w>(alloc: Global) -> Result<Command<'w>, AllocError> {
     Command::new(alloc, NAME)
-        .about("The chainstate of a Bitcoin node on regtest")
+        .about(
+            "The chainstate of a Bitcoin node on regtest. Without words it runs the scenario on the standard input",
+        )
+        .version(VERSION)
         .subcommand_required(true)
         .subcommand(run_command(alloc)?)?
-        .subcommand(audit_command(alloc)?)
+        .subcommand(audit_command(alloc)?)?
+        .subcommand(show_command(alloc)?)
 }
 
 fn run_command<'w>(alloc: Global) -> Result<Command<'w>, AllocError> {
-    let scenario = value(
-        alloc,
-        "scenario",
-        "F",
-        "The scenario; - is the standard input",
-    );
     let workers = value(
         alloc,
         "workers",
         "N",
         "How many threads check scripts, 1 to 16 [default: 2]",
     );
+    let blk = "Blocks that are submitted first, as a blk file of Bitcoin Core has them";
+    let folder = "The folder for journal.txt, blocks.blk, table.txt and heights.txt";
     Command::new(alloc, "run")
         .about("Runs a scenario, and prints what its clients are answered")
-        .arg(scenario.required(true))?
+        .arg(scenario(alloc))?
+        .arg(value(alloc, "blk", "F", blk))?
         .arg(table(alloc))?
         .arg(workers.value_parser(value_parser!(u8).range(1..=16)))?
         .arg(heights(alloc))?
-        .arg(value(
-            alloc,
-            "save",
-            "D",
-            "The folder for journal.txt, blocks.blk and table.txt",
-        ))
+        .arg(value(alloc, "save", "D", folder))?
+        .arg(value(alloc, "expect", "F", "The output that it has to have"))?
+        .arg(json(alloc))
 }
 
 fn audit_command<'w>(alloc: Global) -> Result<Command<'w>, AllocError> {
-    let journal = value(alloc, "journal", "F", "The journal.txt of a run");
-    let blk = value(alloc, "blk", "F", "Its blocks.blk");
+    let quick = "By the chainstate of one thread in place of the definition";
+    let explain = "Tells the reply that the first line which differs should have";
+    let lines = value(alloc, "to", "N", "Looks at the first N lines");
     Command::new(alloc, "audit")
         .about("Replays a journal by the definition, and compares the replies")
-        .arg(journal.required(true))?
-        .arg(blk.required(true))?
+        .arg(alone(value(alloc, "saved", "D", "The folder of a run's --save"))?)?
+        .arg(unless_saved(value(alloc, "journal", "F", "The journal.txt of a run"))?)?
+        .arg(unless_saved(value(alloc, "blk", "F", "Its blocks.blk"))?)?
         .arg(table(alloc))?
-        .arg(heights(alloc))
+        .arg(heights(alloc))?
+        .arg(flag(alloc, "quick", quick))?
+        .arg(flag(alloc, "explain", explain))?
+        .arg(lines.value_parser(value_parser!(u64)))?
+        .arg(json(alloc))
+}
+
+fn show_command<'w>(alloc: Global) -> Result<Command<'w>, AllocError> {
+    let names = Arg::new(alloc, "names")
+        .value_name("NAME")
+        .help("These names alone")
+        .num_args(0..)
+        .action(ArgAction::Append);
+    Command::new(alloc, "show")
+        .about("Shows the id and the bytes of each block and transaction that a scenario defines")
+        .arg(scenario(alloc))?
+        .arg(names)
+}
+
+fn scenario<'w>(alloc: Global) -> Arg<'w> {
+    let help = "The scenario; - is the standard input";
+    value(alloc, "scenario", "F", help).required(true)
+}
+
+/// An option that has to be there, unless a folder is named.
+fn unless_saved<'w>(option: Arg<'w>) -> Result<Arg<'w>, AllocError> {
+    option.required_unless_present("saved")
+}
+
+/// An option beside which no file is named.
+fn alone<'w>(option: Arg<'w>) -> Result<Arg<'w>, AllocError> {
+    option
+        .conflicts_with("journal")?
+        .conflicts_with("blk")?
+        .conflicts_with("table")?
+        .conflicts_with("heights")
 }
 
 fn table<'w>(alloc: Global) -> Arg<'w> {
@@ -152,8 +257,12 @@ fn table<'w>(alloc: Global) -> Arg<'w> {
 
 fn heights<'w>(alloc: Global) -> Arg<'w> {
     let help =
-        "From which heights the rules of BIPs 34, 65, 66 and 68 are in force [default: 1,1,1,1]";
+        "From which heights the rules of BIP 34, 65, 66, and of BIPs 68, 112 and 113 are in force [default: 1,1,1,1]";
     value(alloc, "heights", "A,B,C,D", help)
+}
+
+fn json<'w>(alloc: Global) -> Arg<'w> {
+    flag(alloc, "json", "Writes a JSON object a line")
 }
 
 /// An option that takes one value.
@@ -163,4 +272,12 @@ fn value<'w>(alloc: Global, name: &'w str, value: &'w str, help: &'w str) -> Arg
         .value_name(value)
         .help(help)
         .action(ArgAction::Set)
+}
+
+/// An option that takes none.
+fn flag<'w>(alloc: Global, name: &'w str, help: &'w str) -> Arg<'w> {
+    Arg::new(alloc, name)
+        .long(name)
+        .help(help)
+        .action(ArgAction::SetTrue)
 }

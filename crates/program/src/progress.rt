@@ -1,18 +1,29 @@
 //! How far the work is, for who waits for it.
 
+use reference::Watch;
 use std::io::Write;
 use std::time::{Clock, Duration, Instant};
 
 /// How many seconds lie between two lines, at least.
 const PAUSE: u64 = 1;
 
-/// Tells on a stream how many blocks were submitted or replayed, and how many a second.
+/// Tells on a stream how far a run or an audit is.
 #[derive(Drop)]
-pub struct Progress<'e, E> {
+pub struct Progress<'c, 'e, C, E> {
+    clock: &'c C,
     stream: &'e mut E,
-    blocks: u64,
+    work: Work,
     /// None where nothing is to be told, or the clock can't be read.
     times: Option<Times>,
+}
+
+/// What was done so far.
+#[derive(Clone, Copy)]
+enum Work {
+    /// So many commands were answered, so many of them submissions.
+    Run { commands: u64, blocks: u64 },
+    /// So many lines were replayed. The journal has so many blocks.
+    Audit { lines: u64, blocks: u64 },
 }
 
 /// When the work began, and when the last line was told.
@@ -22,17 +33,21 @@ struct Times {
     told: Instant,
 }
 
-impl<'e, E: Write> Progress<'e, E> {
-    /// Of work that begins now. Only where it is wanted something is told.
-    pub fn new<C: Clock>(clock: &C, stream: &'e mut E, is_wanted: bool) -> Progress<'e, E> {
+impl<'c, 'e, C: Clock, E: Write> Progress<'c, 'e, C, E> {
+    /// Of a run that begins now. Only where it is wanted something is told.
+    pub fn new(clock: &'c C, stream: &'e mut E, is_wanted: bool) -> Progress<'c, 'e, C, E> {
         let now = if is_wanted {
             Instant::now(clock).ok()
         } else {
             None
         };
         Progress {
+            clock,
             stream,
-            blocks: 0,
+            work: Work::Run {
+                commands: 0,
+                blocks: 0,
+            },
             times: now.map(|now| Times {
                 begun: now,
                 told: now,
@@ -40,13 +55,44 @@ impl<'e, E: Write> Progress<'e, E> {
         }
     }
 
-    /// One more block was submitted.
-    pub fn count<C: Clock>(&mut self, clock: &C) {
+    /// One more command was answered.
+    pub fn count(&mut self, is_submission: bool) {
+        if let Work::Run { commands, blocks } = self.work {
+            self.work = Work::Run {
+                commands: commands.saturating_add(1),
+                blocks: blocks.saturating_add(u64::from(is_submission)),
+            };
+            self.tell_at_times();
+        }
+    }
+
+    /// A replay of so many lines and blocks begins.
+    pub fn begin_replay(&mut self, lines: usize, blocks: usize) {
+        if self.times.is_some() {
+            let _ = writeln!(
+                self.stream,
+                "regchain: replaying {lines} lines, {blocks} blocks"
+            );
+        }
+        self.work = Work::Audit {
+            lines: 0,
+            blocks: blocks as u64,
+        };
+    }
+
+    /// The work has ended.
+    pub fn end(&mut self) {
+        if let (Some(times), Ok(now)) = (self.times, Instant::now(self.clock)) {
+            self.tell(now.duration_since(times.begun));
+        }
+    }
+
+    /// Tells how far it is, where the last line was told long enough ago.
+    fn tell_at_times(&mut self) {
         let Some(times) = self.times else {
             return;
         };
-        self.blocks = self.blocks.saturating_add(1);
-        let Ok(now) = Instant::now(clock) else {
+        let Ok(now) = Instant::now(self.clock) else {
             return;
         };
         if now.duration_since(times.told).as_secs() >= PAUSE {
@@ -55,28 +101,36 @@ impl<'e, E: Write> Progress<'e, E> {
         }
     }
 
-    /// A replay of so many lines and blocks begins. It is one call, so nothing is told before its end.
-    pub fn begin_replay(&mut self, lines: usize, blocks: usize) {
-        if self.times.is_some() {
-            let _ = writeln!(
-                self.stream,
-                "regchain: replaying {lines} lines, {blocks} blocks"
-            );
-        }
-        self.blocks = blocks as u64;
-    }
-
-    /// The work has ended.
-    pub fn end<C: Clock>(&mut self, clock: &C) {
-        if let (Some(times), Ok(now)) = (self.times, Instant::now(clock)) {
-            self.tell(now.duration_since(times.begun));
-        }
-    }
-
     /// Writes a line. Where that fails the work goes on.
     fn tell(&mut self, passed: Duration) {
-        let blocks = self.blocks;
-        let rate = u128::from(blocks) * 1000 / passed.as_millis().max(1);
-        let _ = writeln!(self.stream, "regchain: {blocks} blocks, {rate} a second");
+        let millis = passed.as_millis().max(1);
+        let _ = match self.work {
+            Work::Run { commands, blocks } => {
+                let rate = u128::from(blocks) * 1000 / millis;
+                writeln!(
+                    self.stream,
+                    "regchain: {blocks} blocks, {rate} a second, {commands} commands"
+                )
+            }
+            Work::Audit { lines, blocks } => {
+                let rate = u128::from(lines) * 1000 / millis;
+                writeln!(
+                    self.stream,
+                    "regchain: {blocks} blocks, {lines} lines, {rate} a second"
+                )
+            }
+        };
+    }
+}
+
+impl<C: Clock, E: Write> Watch for Progress<'_, '_, C, E> {
+    fn done(&mut self, commands: usize) {
+        if let Work::Audit { blocks, .. } = self.work {
+            self.work = Work::Audit {
+                lines: commands as u64,
+                blocks,
+            };
+            self.tell_at_times();
+        }
     }
 }

@@ -61,6 +61,35 @@ fn put_record(out: &mut Vec<u8>, block: &[u8]) -> Result<(), RecordFault>
     Ok(())
 }
 
+/// The records of a blk file's bytes, one after the other.
+#[derive(Drop)]
+pub struct Records<'f> {
+    reader: BlkReader<SliceSource<'f>>,
+}
+
+impl<'f> Records<'f> {
+    pub fn new(alloc: Global, bytes: &'f [u8]) -> Records<'f> {
+        Records {
+            reader: BlkReader::new(alloc, SliceSource::new(bytes)),
+        }
+    }
+
+    /// The next block, if there is one.
+    pub fn next(&mut self) -> Result<Option<Vec<u8>>, BlkFault> {
+        self.reader.next()
+    }
+
+    /// Reads on to the end.
+    pub fn read_out(&mut self) -> Result<(), BlkFault> {
+        for _ in 0..u64::MAX {
+            if self.next()?.is_none() {
+                break;
+            }
+        }
+        Ok(())
+    }
+}
+
 /// The blocks of a blk file's bytes.
 pub fn read_records(alloc: Global, bytes: &[u8]) -> Result<Vec<Vec<u8>>, Fault<'static>> {
     let mut records = Vec::new(alloc);

@@ -1,66 +1,41 @@
-//! What a run of a scenario prints.
+//! The history of a run.
 
-use crate::answer::Section;
 use crate::fault::Fault;
 use crate::journal::{Asked, Step, block_of};
-use crate::progress::Progress;
+use crate::output::Output;
 use hash::Id;
-use node::{Entry, Gate, Node, Params};
-use scenario::{Client, Definitions};
+use node::Entry;
+use scenario::Definitions;
 use std::alloc::{AllocError, Global};
-use std::fmt;
 use std::fmt::Write as _;
 use std::io::Write;
-use std::thread::Threads;
-use std::time::Clock;
 
-/// How the node is opened.
-#[derive(Clone, Copy)]
-pub struct Setting {
-    pub params: Params,
-    pub workers: usize,
-}
-
-/// The answers of each client, and the journal.
+/// The history of a run, with the names of its clients.
 #[derive(Drop)]
 pub struct Report<'d, 't> {
     definitions: &'d Definitions,
-    sections: Vec<Section<'d, 't>>,
+    /// The client of each seat.
+    names: Vec<&'t str>,
     entries: Vec<Entry>,
     /// The block that each step of the journal is about.
     blocks: Vec<Id>,
 }
 
 impl<'d, 't> Report<'d, 't> {
-    /// Runs the clients on a new node, each on a seat of its own.
-    pub fn run<R, E>(
-        rt: &R,
-        setting: Setting,
-        gate: &(dyn Gate + Sync),
+    /// Of these entries, whose seats have these clients.
+    pub fn new(
+        alloc: Global,
         definitions: &'d Definitions,
-        clients: &[Client<'d, 't>],
-        progress: &mut Progress<'_, E>,
-    ) -> Result<Report<'d, 't>, Fault<'static>>
-    where
-        R: AllocGlobal + Clock + Threads + Sync,
-        E: Write,
-    {
-        let alloc = rt.alloc();
-        let Setting { params, workers } = setting;
-        let table = definitions.table();
-        let (node, mut seats) = Node::open(alloc, params, table, workers, clients.len(), gate)?;
-        let mut sections = Vec::new(alloc);
-        for (seat, client) in seats.iter_mut().zip(clients.iter()) {
-            sections.push(Section::run(rt, definitions, client, &node, seat, progress)?)?;
-        }
-        let entries = node.finish(seats.as_mut_slice())?;
+        names: Vec<&'t str>,
+        entries: Vec<Entry>,
+    ) -> Result<Report<'d, 't>, Fault<'static>> {
         let mut blocks = Vec::new(alloc);
         for entry in entries.as_slice() {
             blocks.push(block_of(alloc, entry)?)?;
         }
         Ok(Report {
             definitions,
-            sections,
+            names,
             entries,
             blocks,
         })
@@ -80,6 +55,19 @@ impl<'d, 't> Report<'d, 't> {
         Ok(text)
     }
 
+    /// Writes the journal, with the names of blocks.
+    pub fn write_journal<O: Write>(
+        &self,
+        output: &mut Output<'_, O>,
+    ) -> Result<(), Fault<'static>> {
+        output.journal()?;
+        for (place, (entry, id)) in self.entries.iter().zip(self.blocks.iter()).enumerate() {
+            let step = self.step(place + 1, entry, self.definitions.label(*id));
+            output.step(&step)?;
+        }
+        Ok(())
+    }
+
     /// The step of this number, about this block.
     fn step<B>(&self, number: usize, entry: &Entry, block: B) -> Step<'t, B> {
         Step {
@@ -93,20 +81,6 @@ impl<'d, 't> Report<'d, 't> {
 
     /// The name of the client that has this seat.
     fn client(&self, seat: usize) -> &'t str {
-        self.sections.get(seat).map_or("", |section| section.client)
-    }
-}
-
-impl fmt::Display for Report<'_, '_> {
-    fn fmt<W: fmt::Write>(&self, f: &mut fmt::Formatter<W>) -> fmt::Result {
-        for section in self.sections.as_slice() {
-            section.fmt(f)?;
-        }
-        f.write_str("journal\n")?;
-        for (place, (entry, id)) in self.entries.iter().zip(self.blocks.iter()).enumerate() {
-            let step = self.step(place + 1, entry, self.definitions.label(*id));
-            writeln!(f, "{step}")?;
-        }
-        Ok(())
+        self.names.get(seat).copied().unwrap_or("")
     }
 }

@@ -1,23 +1,23 @@
 //! The program, over a reader and two writers.
 
-ghost use Rattle.std.specs.Prelude.{◌≡◌, ℕ, ◌≤◌, length, IfOk, OnErr};
+ghost use Rattle.std.specs.Prelude.{◌≡◌, ℕ, ◌≤◌, IfOk, OnErr};
 ghost use Rattle.program.specs.declared.audit.Finding.TheVariants as findings;
 
-use crate::audit::{Finding, audit};
+use crate::audit::{Audited, Finding, audit};
 use crate::fault::Fault;
-use crate::files::{print, read_scenario, read_table};
-use crate::heights;
-use crate::options::{NAME, Options, RunOptions, no_text};
-use crate::progress::Progress;
-use crate::report::{Report, Setting};
-use crate::saving::save;
+use crate::files::print;
+use crate::objects;
+use crate::options::{NAME, Options, STANDARD, no_text};
+use crate::output::Form;
+use crate::playing::run;
+use crate::showing::show;
 use node::{Gate, Open};
-use scenario::{Definitions, Line, lines, number_after, read_clients};
 use std::alloc::{AllocError, Global};
 use std::convert::AsStr;
 use std::env;
 use std::io::{ErrorKind, IsTerminal, Read, Write};
 use std::rt::{Env, Files};
+use std::sync::Wait;
 use std::thread::Threads;
 use std::time::Clock;
 
@@ -37,7 +37,7 @@ where
     match read_words(rt) {
         Ok(words) => Some(words),
         Err(fault) => {
-            tell(&fault, err);
+            tell(rt.alloc(), &fault, Form::Text, err);
             None
         }
     }
@@ -48,7 +48,7 @@ where
 /// work is.
 pub fn program<R, S, I, O, E>(rt: &R, words: &[S], input: &mut I, out: &mut O, err: &mut E) -> u8
 where
-    R: Files + AllocGlobal + Clock + Threads + Sync,
+    R: Files + AllocGlobal + Clock + Threads + Wait + Sync,
     S: AsStr,
     I: Read,
     O: Write,
@@ -58,7 +58,19 @@ where
     program_with_gate(rt, words, &Open, input, out, err)
 }
 
-/// The same, with this gate round each script that the node's workers run.
+/// Says on the standard error that a scenario is waited for, where these words, without the program's name, have it read
+/// from a terminal.
+pub fn tell_waiting<S: AsStr, E: Write>(words: &[S], is_terminal: bool, err: &mut E) {
+    let is_read = words.is_empty() || words.iter().any(|word| word.as_str() == STANDARD);
+    if is_terminal && is_read {
+        let _ = writeln!(
+            err,
+            "regchain: waits for a scenario, which ends with Ctrl-D"
+        );
+    }
+}
+
+/// `program`, with this gate round each script that the node's workers run.
 pub fn program_with_gate<R, S, I, O, E>(
     rt: &R,
     words: &[S],
@@ -68,36 +80,53 @@ pub fn program_with_gate<R, S, I, O, E>(
     err: &mut E,
 ) -> u8
 where
-    R: Files + AllocGlobal + Clock + Threads + Sync,
+    R: Files + AllocGlobal + Clock + Threads + Wait + Sync,
     S: AsStr,
     I: Read,
     O: Write,
     E: Write + IsTerminal,
     ensures { result ≤ 1 }
 {
-    match named(rt.alloc(), words) {
-        Ok(words) => status(attempt(rt, words.as_slice(), gate, input, out, err), err),
-        Err(AllocError) => status(Err(Fault::Memory), err),
+    let alloc = rt.alloc();
+    match named(alloc, words) {
+        Ok(words) => {
+            let form = form_of(words.as_slice());
+            let outcome = attempt(rt, words.as_slice(), gate, input, out, err);
+            status(alloc, outcome, form, err)
+        }
+        Err(AllocError) => status(alloc, Err(Fault::Memory), Form::Text, err),
     }
 }
 
+/// In which form the faults of a command line are told.
+fn form_of(words: &[&str]) -> Form {
+    if words.iter().any(|word| *word == "--json") {
+        return Form::Json;
+    }
+    Form::Text
+}
+
 /// The status of a run. A fault is told.
-fn status<E: Write>(outcome: Result<u8, Fault<'_>>, err: &mut E) -> u8
+fn status<E: Write>(alloc: Global, outcome: Result<u8, Fault<'_>>, form: Form, err: &mut E) -> u8
     ensures ok { IfOk outcome.entry (λ status. result ≡ status) }
     ensures fault { OnErr outcome.entry (result ≡ 1) }
 {
     match outcome {
         Ok(status) => status,
         Err(fault) => {
-            tell(&fault, err);
+            tell(alloc, &fault, form, err);
             FAILED
         }
     }
 }
 
 /// Writes a fault's line. Where that fails too, the status alone tells of it.
-fn tell<E: Write>(fault: &Fault<'_>, err: &mut E) {
-    let _ = write!(err, "{fault}");
+fn tell<E: Write>(alloc: Global, fault: &Fault<'_>, form: Form, err: &mut E) {
+    let is_text = form == Form::Text || matches!(fault, Fault::CommandLine(_));
+    let _ = match objects::fault(alloc, fault) {
+        Ok(object) if !is_text => write!(err, "{object}"),
+        _ => write!(err, "{fault}"),
+    };
 }
 
 /// The program's name, and these words.
@@ -131,7 +160,7 @@ fn attempt<'w, R, I, O, E>(
     err: &mut E,
 ) -> Result<u8, Fault<'w>>
 where
-    R: Files + AllocGlobal + Clock + Threads + Sync,
+    R: Files + AllocGlobal + Clock + Threads + Wait + Sync,
     I: Read,
     O: Write,
     E: Write + IsTerminal,
@@ -143,10 +172,30 @@ where
             Ok(DONE)
         }
         Options::Audit(options) => {
-            let finding = audit(rt, &options, err)?;
-            print(out, finding.to_string(rt.alloc())?.as_str())?;
+            let Audited { finding, reply } = audit(rt, &options, err)?;
+            print(out, found(rt.alloc(), finding, options.form)?.as_str())?;
+            if let (Finding::Differs(line), Some(reply), true) = (
+                finding,
+                reply,
+                options.is_explained,
+            ) {
+                let _ = writeln!(err, "regchain: line {line}: the definition gives {reply}");
+            }
             Ok(status_of(finding))
         }
+        Options::Show(options) => {
+            show(rt, &options, input, out)?;
+            Ok(DONE)
+        }
+    }
+}
+
+/// A finding as it is printed.
+fn found(alloc: Global, finding: Finding, form: Form) -> Result<String, AllocError> {
+    match (form, finding) {
+        (Form::Text, _) => finding.to_string(alloc),
+        (Form::Json, Finding::Agrees) => objects::agreement(alloc),
+        (Form::Json, Finding::Differs(line)) => objects::difference(alloc, line as u64),
     }
 }
 
@@ -160,60 +209,4 @@ fn status_of(finding: Finding) -> u8
         Finding::Agrees => DONE,
         Finding::Differs(_) => FAILED,
     }
-}
-
-/// Runs a scenario, prints what its clients were answered, and saves it where that is asked for.
-fn run<'w, R, I, O, E>(
-    rt: &R,
-    options: &RunOptions<'w>,
-    gate: &(dyn Gate + Sync),
-    input: &mut I,
-    out: &mut O,
-    err: &mut E,
-) -> Result<(), Fault<'w>>
-where
-    R: Files + AllocGlobal + Clock + Threads + Sync,
-    I: Read,
-    O: Write,
-    E: Write + IsTerminal,
-{
-    let alloc = rt.alloc();
-    let params = heights::read(options.heights).ok_or(Fault::Heights)?;
-    let text = read_scenario(rt, options.scenario, input)?;
-    let table = read_table(rt, options.table)?;
-    let lines = lines(alloc, text.as_slice())?;
-    let (above, below) = lines.split_at(first_client(lines.as_slice()));
-    let definitions = Definitions::read(alloc, above, table)?;
-    let clients = read_clients(alloc, &definitions, below)?;
-    if clients.is_empty() {
-        return Err(Fault::ScenarioLine(number_after(text.as_slice())));
-    }
-    let is_terminal = err.is_terminal();
-    let mut progress = Progress::new(rt, err, is_terminal);
-    let setting = Setting {
-        params,
-        workers: options.workers,
-    };
-    let report = Report::run(
-        rt,
-        setting,
-        gate,
-        &definitions,
-        clients.as_slice(),
-        &mut progress,
-    )?;
-    progress.end(rt);
-    print(out, report.to_string(alloc)?.as_str())?;
-    match options.save {
-        Some(folder) => save(rt, folder, &report, definitions.table()),
-        None => Ok(()),
-    }
-}
-
-/// The place of the first client's line, or the number of lines where there is none.
-fn first_client(lines: &[Line<'_>]) -> usize
-    ensures { result ≤ length lines.now }
-{
-    let is_client = |line: &Line<'_>| line.words.first() == Some(&"client");
-    lines.iter().position(is_client).unwrap_or(lines.len())
 }

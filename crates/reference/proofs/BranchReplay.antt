@@ -1,9 +1,9 @@
 -- The replay of a branch, block by block.
-use Rattle.std.proofs.Common.{◌≡◌, ℕ, zero, suc, ◌+◌, ◌-◌, ◌<◌, ◌≤◌, Bool, false, not, ◌&&◌, eqb, List, [], ◌∷◌, ◌++◌, length, map, reverse, get_or, take, drop, Option, Some, None, sym, refl, ap, ◌∙◌, subst, inl, inr, arith}
+use Rattle.std.proofs.Common.{◌≡◌, ℕ, zero, suc, ◌+◌, ◌-◌, ◌<◌, ◌≤◌, Bool, true, false, not, ◌&&◌, eqb, List, [], ◌∷◌, ◌++◌, length, map, reverse, get_or, take, drop, Option, Some, None, sym, refl, ap, ◌∙◌, subst, inl, inr, arith}
 use Rattle.std.specs.Prelude.{is_none}
 use Rattle.std.specs.List.{list_all}
 use Rattle.std.proofs.lemmas.Bool.{cases_eq}
-use Rattle.std.proofs.lemmas.List.{length-reverse, length-map, length-append, reverse-append, drop_more, drop_all, get_or-map, get_or-reverse, take_at, drop-drop}
+use Rattle.std.proofs.lemmas.List.{length-reverse, length-map, length-append, reverse-append, drop_more, drop_all, get_or-map, get_or-reverse, take_at, take_all, drop-drop}
 use Rattle.txn.specs.declared.reason.Reason.{Reason}
 use Rattle.block.specs.declared.block.Block.{Block}
 use Rattle.curve.specs.Triple.{Triples}
@@ -25,7 +25,7 @@ use Rattle.chain.specs.Valid.{fault_over, fault, connects, branch_connects, firs
 use Rattle.chain.specs.Replay.{replay}
 use Rattle.chain.specs.Regtest.{medians_of, setting_on, ledger, regtest}
 use Rattle.chain.specs.laws.Medians.{length-medians}
-use Rattle.reference.specs.inside.Replayed.{trial_of_fault, medians_in, trial_after, trial_on, is_valid, is_first}
+use Rattle.reference.specs.inside.Replayed.{medians_in, trial_after, trial_on, is_valid, is_first}
 
 -- ---- medians
 
@@ -154,7 +154,7 @@ module _ (params : Params) (triples : Triples) (t : Blocks Block) where
   abbrev pub trial_at : ℕ → Trial
   trial_at p = trial_on (regtest params triples) (blocks_at names t (branch t p))
 
-  trial-zero : trial_at 0 ≡ Valid
+  pub trial-zero : trial_at 0 ≡ Valid
   unfolding trial_on fault_over
   trial-zero = ap (λ (l : List ℕ). trial_on (regtest params triples) (blocks_at names t l)) (branch-genesis t)
 
@@ -248,16 +248,14 @@ module _ (params : Params) (triples : Triples) (bs : List Block) (h : ℕ) (some
         ∙ ap (λ o. trial_after Valid o) (fault_more params triples b (drop (length bs - h) bs) (omega arith))
         ∙ ap (λ (s : Setting). trial_after Valid (connect_fault s (replay ledger (drop (length bs - h) bs)) b.txs triples)) (sym (setting-is params bs h (length bs - h) (omega arith) some cutoff medians c m))
 
-  -- where it fails, that is the end
-  pub ends : (reason : Reason) (is_last : Bool) → is_last ≡ eqb (h + 1) (length bs) → trial_on (regtest params triples) (drop (length bs - (h + 1)) bs) ≡ Fails reason → trial_of_fault reason is_last ≡ trial_on (regtest params triples) bs
-  ends reason is_last e f =
+  -- where it fails, the branch isn't valid
+  pub ends : (reason : Reason) → trial_on (regtest params triples) (drop (length bs - (h + 1)) bs) ≡ Fails reason → false ≡ is_valid (trial_on (regtest params triples) bs)
+  ends reason f =
       elim (cases_eq (h + 1) (length bs)) [
         | inl w ↦
             let z : length bs - (h + 1) ≡ 0 = omega arith in
-            ap (trial_of_fault reason) (e ∙ Rattle.std.proofs.lemmas.Bool.eq-eqb (h + 1) (length bs) w) ∙ sym f ∙ ap (λ (k : ℕ). trial_on (regtest params triples) (drop k bs)) z
-        | inr w ↦
-            ap (trial_of_fault reason) (e ∙ Rattle.std.proofs.lemmas.Bool.ne_eqb (h + 1) (length bs) w)
-            ∙ sym (trial_stuck (regtest params triples) bs (length bs - (h + 1)) reason (omega arith) (omega arith) f)
+            ap is_valid (sym f ∙ ap (λ (k : ℕ). trial_on (regtest params triples) (drop k bs)) z)
+        | inr w ↦ ap is_valid (sym (trial_stuck (regtest params triples) bs (length bs - (h + 1)) reason (omega arith) (omega arith) f))
       ]
 
 -- genesis alone
@@ -273,3 +271,29 @@ module _ (params : Params) (triples : Triples) (bs : List Block) (some : 1 ≤ l
 
   pub first_trial : trial_on (regtest params triples) (drop (length bs - 1) bs) ≡ Valid
   first_trial = ap (λ (l : List Block). trial_on (regtest params triples) l) first ∙ trial_one (regtest params triples) (get_or bs (length bs - 1) d)
+
+-- ---- a block on a branch that was replayed
+
+only_valid : (t : Trial) → is_valid t ≡ true → t ≡ Valid
+only_valid Valid e = refl
+only_valid (Fails reason) e = absurd (cc)
+only_valid Below e = absurd (cc)
+
+above_invalid : (t : Trial) (f : Option Reason) → is_valid t ≡ false → trial_after t f ≡ Below
+above_invalid Valid f e = absurd (cc)
+above_invalid (Fails reason) f e = refl
+above_invalid Below f e = refl
+
+module _ (params : Params) (triples : Triples) (b : Block) (bs : List Block) where
+  pub above_below : is_valid (trial_on (regtest params triples) bs) ≡ false → Below ≡ trial_on (regtest params triples) (b ∷ bs)
+  unfolding trial_on
+  above_below e = sym (above_invalid (trial_on (regtest params triples) bs) (fault_over (regtest params triples) bs b) e)
+
+  pub above_valid : 1 ≤ length bs → is_valid (trial_on (regtest params triples) bs) ≡ true → (cutoff : ℕ) (medians : List ℕ) → cutoff ≡ get_or (reverse (medians_of bs)) (length bs - 1) 0 → medians ≡ reverse (medians_of bs)
+      → trial_after Valid (connect_fault (record { height = length bs; cutoff = cutoff; medians = medians; rules = at params (length bs) }) (replay ledger bs) b.txs triples) ≡ trial_on (regtest params triples) (b ∷ bs)
+  above_valid some e cutoff medians c m =
+      let n = length-reverse (medians_of bs) in
+      let l = length-medians bs in
+      ap (λ (s : Setting). trial_after Valid (connect_fault s (replay ledger bs) b.txs triples)) (setting-is params bs (length bs) 0 (omega arith) some cutoff medians c (m ∙ sym (take_all (length bs) (reverse (medians_of bs)) (omega arith))))
+      ∙ ap (λ o. trial_after Valid o) (sym (fault_more params triples b bs (omega arith)))
+      ∙ sym (trial_more (regtest params triples) b bs (only_valid (trial_on (regtest params triples) bs) e))

@@ -14,7 +14,7 @@ use Rattle.tree.specs.Branches.{Kept, Blocks, down_from, on, before, branch, pla
 use Rattle.tree.specs.State.{opening, with_mark, without_marks, with_call, with_block}
 use Rattle.tree.specs.Names.{names}
 use Rattle.tree.specs.Limits.{max_blocks}
-use Rattle.tree.specs.laws.Added.{place-bound, id_there, id_here, block_there, block_here}
+use Rattle.tree.specs.laws.Added.{place-bound, blocks-old, blocks-new, id_there, id_here, block_there, block_here}
 use Rattle.tree.specs.laws.Branches.{parent_there, parent_here}
 use Rattle.reference.specs.declared.kept_block.KeptBlock.{KeptBlock}
 use Rattle.reference.specs.declared.judgement.Judgement.{Judgement}
@@ -23,7 +23,8 @@ use Rattle.chain.specs.Settle.{active, on_candidate, becomes_seen, becomes_bad, 
 use Rattle.chain.specs.Valid.{branch_connects, first_to_fail}
 use Rattle.chain.specs.Regtest.{regtest}
 use Rattle.chain.specs.Settled.{AllKept}
-use Rattle.reference.specs.inside.Replayed.{IsRight, IsKeptBlock, AreKeptBlocks, AreJudgements, kept_of, blocks_of, first_kept, state_of_replayed, is_flagged, places_of, judgement_in, no_judgement, is_near, is_valid, is_first, any_below}
+use Rattle.reference.specs.inside.Replayed.{IsRight, IsKeptBlock, AreKeptBlocks, AreTried, AreJudgements, blocks_before, kept_of, blocks_of, first_kept, state_of_replayed, is_flagged, places_of, judgement_in, no_judgement, is_near, is_valid, is_first, any_below, trial_on}
+use Rattle.reference.proofs.BranchReplay.{trial-zero}
 use Rattle.reference.proofs.KeptBlocks.{length-blocks, blocks-push}
 use Rattle.reference.proofs.Flags.{places-joined, places-taken, places-push, flag_set, flag_push-zero}
 use Rattle.reference.proofs.States.{made, first-is, valid-is, on_near, first-never}
@@ -35,6 +36,7 @@ still_right params triples old new right h b s g = record {
   some = subst (λ v. 0 < length v.items) (sym h) right.some;
   room = subst (λ v. length v.items ≤ max_blocks) (sym h) right.room;
   held = subst (λ v. AreKeptBlocks (blocks_of v.items) v.items) (sym h) right.held;
+  tried = subst (λ v. AreTried (regtest params triples) (blocks_of v.items) v.items) (sym h) right.tried;
   kept = subst (λ v. AllKept (regtest params triples) (blocks_of v.items)) (sym h) right.kept;
   bad = b ∙ ap (λ v. length v.items) (sym h);
   seen = s ∙ ap (λ v. length v.items) (sym h);
@@ -181,9 +183,27 @@ module _ (params : Params) (triples : Triples) (old new : Replayed) (right : IsR
           | inr w ↦ subst (IsKeptBlock (kept_of n ∷ t) p) (sym (get_or-append old.held.items (n ∷ []) d p (omega arith))) (held_there (kept_of n) p (get_or old.held.items p d) (omega arith) (right.held p d (omega arith)))
         ]
 
-    pub add_right : length old.held.items < max_blocks → place_of names (state_of_replayed old).blocks n.id ≡ None → first_broken (alone_rules n.block) ≡ None → IsRight (regtest params triples) new
+    -- what was found of each
+    tried_more : n.trial ≡ trial_on (regtest params triples) (n.block ∷ blocks_before t n.parent) → AreTried (regtest params triples) (kept_of n ∷ t) (old.held.items ++ n ∷ [])
+    tried_more is p d h =
+        let e = length-append old.held.items (n ∷ []) in
+        let g = length-blocks old.held.items right.some in
+        elim (cases_eq p (length old.held.items)) [
+          | inl w ↦
+              ap (λ (q : ℕ). (get_or (old.held.items ++ n ∷ []) q d).trial) w
+              ∙ ap (λ (k : KeptBlock). k.trial) (get_or-append_seam old.held.items n [] d)
+              ∙ is
+              ∙ ap (λ (l : List Block). trial_on (regtest params triples) l) (sym (blocks-new names (kept_of n) t))
+              ∙ ap (λ (q : ℕ). trial_on (regtest params triples) (blocks_before (kept_of n ∷ t) q)) (g ∙ sym w)
+          | inr w ↦
+              ap (λ (k : KeptBlock). k.trial) (get_or-append old.held.items (n ∷ []) d p (omega arith))
+              ∙ right.tried p d (omega arith)
+              ∙ ap (λ (l : List Block). trial_on (regtest params triples) l) (sym (blocks-old names (kept_of n) t p (omega arith)))
+        ]
+
+    pub add_right : n.trial ≡ trial_on (regtest params triples) (n.block ∷ blocks_before t n.parent) → length old.held.items < max_blocks → place_of names (state_of_replayed old).blocks n.id ≡ None → first_broken (alone_rules n.block) ≡ None → IsRight (regtest params triples) new
     unfolding state_of_replayed
-    add_right room new_id alone =
+    add_right is room new_id alone =
         let z = right.some in
         let g = length-blocks old.held.items right.some in
         let b = right.bad in
@@ -199,6 +219,7 @@ module _ (params : Params) (triples : Triples) (old new : Replayed) (right : IsR
           some = omega arith;
           room = omega arith;
           held = subst (λ (k : Blocks Block). AreKeptBlocks k new.held.items) (sym push) (subst (λ (k : List KeptBlock). AreKeptBlocks (kept_of n ∷ t) k) (sym held) held_more);
+          tried = subst (λ (k : Blocks Block). AreTried (regtest params triples) k new.held.items) (sym push) (subst (λ (k : List KeptBlock). AreTried (regtest params triples) (kept_of n ∷ t) k) (sym held) (tried_more is));
           kept = subst (λ (k : Blocks Block). AllKept (regtest params triples) k) (sym push) (record { alone = alone; unknown = ap (place_of names t) (sym id) ∙ new_id; parent = named }, right.kept);
           bad = omega arith;
           seen = omega arith;
@@ -223,6 +244,7 @@ module _ (params : Params) (triples : Triples) (old : Replayed) (held : ◌≡�
         some = omega arith;
         room = omega arith;
         held = subst (λ (k : List KeptBlock). AreKeptBlocks (blocks_of k) k) (sym held) (λ p d h. at_zero p d (omega arith));
+        tried = subst (λ (k : List KeptBlock). AreTried (regtest params triples) (blocks_of k) k) (sym held) (λ p d h. tried_zero p d (omega arith));
         kept = subst (λ (k : List KeptBlock). AllKept (regtest params triples) (blocks_of k)) (sym held) tt;
         bad = omega arith;
         seen = omega arith;
@@ -231,3 +253,6 @@ module _ (params : Params) (triples : Triples) (old : Replayed) (held : ◌≡�
     where
       at_zero : (p : ℕ) (d : KeptBlock) → p ≡ 0 → IsKeptBlock [] p (get_or (first_kept ∷ []) p d)
       at_zero p d e = subst (λ (q : ℕ). IsKeptBlock [] q (get_or (first_kept ∷ []) q d)) (sym e) (record { block = refl; id = refl; parent = refl })
+
+      tried_zero : (p : ℕ) (d : KeptBlock) → p ≡ 0 → (get_or (first_kept ∷ []) p d).trial ≡ trial_on (regtest params triples) (blocks_before [] p)
+      tried_zero p d e = ap (λ (q : ℕ). (get_or (first_kept ∷ []) q d).trial) e ∙ sym (trial-zero params triples []) ∙ ap (λ (q : ℕ). trial_on (regtest params triples) (blocks_before [] q)) (sym e)

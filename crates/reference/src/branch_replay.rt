@@ -1,6 +1,6 @@
 //! The replay of a branch from genesis.
 
-ghost use Rattle.std.specs.Prelude.{◌≡◌, ◌≤◌, ◌<◌, ℕ, length, map, reverse, take, IfOk, None, slice_index_or};
+ghost use Rattle.std.specs.Prelude.{◌≡◌, ◌≤◌, ◌<◌, ◌∷◌, ℕ, true, length, map, reverse, take, IfOk, None, slice_index_or};
 ghost use Rattle.std.specs.FinMap as coin_map;
 ghost use Rattle.txn.specs.First.{first_broken};
 ghost use Rattle.locks.specs.MedianTime.{median_of};
@@ -9,8 +9,10 @@ ghost use Rattle.connect.specs.Setting.{setting};
 ghost use Rattle.connect.specs.Turns.{effect};
 ghost use Rattle.connect.specs.computed.Scripts.{connect_fault};
 ghost use Rattle.tree.specs.MedianTime.{time_of};
-ghost use Rattle.chain.specs.Regtest.{medians_of};
-ghost use Rattle.reference.specs.inside.Replayed.{AreAlone, blocks_in, chain_rules, trial_of_fault, medians_in, trial_on};
+ghost use Rattle.chain.specs.Regtest.{ledger, medians_of};
+ghost use Rattle.chain.specs.Replay.{replay};
+ghost use Rattle.reference.specs.declared.branch_replay.Trial.TheVariants.{Valid};
+ghost use Rattle.reference.specs.inside.Replayed.{AreAlone, blocks_in, chain_rules, is_valid, medians_in, trial_after, trial_on};
 
 use crate::kept_block::KeptBlock;
 use block::Block;
@@ -42,23 +44,45 @@ pub(crate) enum Trial {
     Below,
 }
 
-/// The replay of the branch of a block, whose places these are.
+/// The replay of a branch, whose places these are, and of a block on it.
 pub(crate) fn replay(
     alloc: Global,
     chain: &Chain,
     held: &[KeptBlock],
     branch: &[usize],
+    block: &Block,
 ) -> Result<Trial, Memory>
     requires alone { AreAlone held.now branch.now }
+    requires block { first_broken (alone_rules block.now) ≡ None }
     requires some { 1 ≤ length branch.now }
     requires few { length branch.now ≤ 1000000 }
     ensures { IfOk result (λ trial.
-        trial ≡ trial_on (chain_rules chain.now) (blocks_in held.now branch.now)) }
+        trial ≡ trial_on (chain_rules chain.now) (block.now ∷ blocks_in held.now branch.now)) }
 {
     let medians = medians_by_height(alloc, held, branch)?;
     let base = CoinMap::new(alloc);
     let mut coins = Cache::over(alloc, &base);
-    connect_all(alloc, chain, &mut coins, held, branch, &medians)
+    if !connect_all(alloc, chain, &mut coins, held, branch, &medians)? {
+        return Ok(Trial::Below);
+    }
+    let context = Context {
+        height: branch.len() as u32,
+        cutoff: medians[branch.len() - 1],
+        medians: &medians,
+        params: chain.params,
+    };
+    let fault = connect_next(alloc, chain, &mut coins, &context, block)?;
+    Ok(trial_of(fault))
+}
+
+/// What the replay of a valid branch and a block on it comes to, by the block's fault.
+fn trial_of(fault: Option<Reason>) -> Trial
+    ensures { result ≡ trial_after Valid fault }
+{
+    match fault {
+        None => Trial::Valid,
+        Some(reason) => Trial::Fails(reason),
+    }
 }
 
 /// The medians time past of the blocks of a branch by height, that of genesis first.
@@ -107,7 +131,7 @@ fn median_from(times: &[u32]) -> u32
     median(&times[..MEDIAN_TIME_SPAN])
 }
 
-/// Connects the blocks of a branch one after the other, to no coins at first, up to the first that has a fault.
+/// Connects the blocks of a branch one after the other, to no coins at first: whether each connects.
 fn connect_all(
     alloc: Global,
     chain: &Chain,
@@ -115,14 +139,16 @@ fn connect_all(
     held: &[KeptBlock],
     branch: &[usize],
     medians: &[u32],
-) -> Result<Trial, Memory>
+) -> Result<bool, Memory>
     requires empty { coins.old.coins ≡ coin_map.empty }
     requires alone { AreAlone held.now branch.now }
     requires some { 1 ≤ length branch.now }
     requires few { length branch.now ≤ 1000000 }
     requires medians { medians.now ≡ reverse (medians_of (blocks_in held.now branch.now)) }
-    ensures { IfOk result (λ trial.
-        trial ≡ trial_on (chain_rules chain.now) (blocks_in held.now branch.now)) }
+    ensures valid { IfOk result (λ connects.
+        connects ≡ is_valid (trial_on (chain_rules chain.now) (blocks_in held.now branch.now))) }
+    ensures coins { IfOk result (λ connects.
+        connects ≡ true → coins.new.coins ≡ replay ledger (blocks_in held.now branch.now)) }
 {
     for height in 1..branch.len() {
         let context = Context {
@@ -132,20 +158,11 @@ fn connect_all(
             params: chain.params,
         };
         let block = &held[branch[branch.len() - 1 - height]].block;
-        if let Some(reason) = connect_next(alloc, chain, coins, &context, block)? {
-            return Ok(fails(reason, height + 1 == branch.len()));
+        if let Some(_reason) = connect_next(alloc, chain, coins, &context, block)? {
+            return Ok(false);
         }
     }
-    Ok(Trial::Valid)
-}
-
-fn fails(reason: Reason, is_last: bool) -> Trial
-    ensures { result ≡ trial_of_fault reason is_last }
-{
-    if is_last {
-        return Trial::Fails(reason);
-    }
-    Trial::Below
+    Ok(true)
 }
 
 /// Connects a block. One that has a fault leaves the coins.

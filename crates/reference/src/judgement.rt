@@ -8,9 +8,9 @@ ghost use Rattle.rules.specs.declared.params.Params.{Params};
 ghost use Rattle.tree.specs.State.{State, rank_in, has_no_mark};
 ghost use Rattle.chain.specs.Regtest.{regtest};
 ghost use Rattle.chain.specs.Settle.{active};
-ghost use Rattle.reference.specs.inside.Replayed.{IsRight, AreJudgements, above, chain_rules, is_flagged, is_valid, judgement_at, judgement_in, state_of_replayed};
+ghost use Rattle.reference.specs.inside.Replayed.{IsRight, AreJudged, AreJudgements, above, chain_rules, is_flagged, is_valid, judgement_at, judgement_in, state_of_replayed};
 
-use crate::branch_replay::{Chain, Trial, replay};
+use crate::branch_replay::{Chain, Trial};
 use crate::kept_block::branch_of;
 use crate::replayed::Replayed;
 use std::alloc::Global;
@@ -25,7 +25,7 @@ pub(crate) struct Judgement {
     pub(crate) rank: usize,
 }
 
-/// Each block, judged by the replay of its branch.
+/// Each block, judged by what was found of its branch when it came.
 pub(crate) fn survey(alloc: Global, chain: &Chain, old: &Replayed) -> Result<Vec<Judgement>, Memory>
     requires { IsRight (chain_rules chain.now) old.now }
     ensures { IfOk result (λ judged.
@@ -33,25 +33,44 @@ pub(crate) fn survey(alloc: Global, chain: &Chain, old: &Replayed) -> Result<Vec
 {
     let mut judged = Vec::new(alloc);
     for place in 0..old.held.len() {
-        judged.push(judge(alloc, chain, old, place)?)?;
+        judged.push(judge(chain, old, &judged, place))?;
     }
     Ok(judged)
 }
 
-fn judge(alloc: Global, chain: &Chain, old: &Replayed, place: usize) -> Result<Judgement, Memory>
-    requires right { IsRight (chain_rules chain.now) old.now }
+/// The next block, where all before it are judged. Under which rules they are tried stands in the contract alone.
+fn judge(_chain: &Chain, old: &Replayed, judged: &[Judgement], place: usize) -> Judgement
+    requires right { IsRight (chain_rules _chain.now) old.now }
     requires kept { place < length old.now.held.items }
-    ensures { IfOk result (λ judged.
-        judged ≡ judgement_at (chain_rules chain.now) (state_of_replayed old.now) place) }
+    requires long { length judged.now ≡ place }
+    requires below { AreJudged (chain_rules _chain.now) (state_of_replayed old.now) judged.now place }
+    ensures { result
+        ≡ judgement_at (chain_rules _chain.now) (state_of_replayed old.now) place }
 {
-    let branch = branch_of(alloc, &old.held, place)?;
-    let trial = replay(alloc, chain, &old.held, &branch)?;
-    Ok(Judgement {
+    let trial = old.held[place].trial;
+    let rank = rank_of(&old.calls, place);
+    if place == 0 {
+        return Judgement {
+            trial,
+            usable: true,
+            height: 0,
+            rank,
+        };
+    }
+    let below = judged[old.held[place].parent];
+    Judgement {
         trial,
-        usable: is_usable(alloc, old, place)?,
-        height: branch.len() - 1,
-        rank: rank_of(&old.calls, place),
-    })
+        usable: is_clean(old.bad[place], below.usable),
+        height: below.height + 1,
+        rank,
+    }
+}
+
+/// Whether a block isn't marked, on a branch of which none is, or one.
+fn is_clean(is_bad: bool, is_below: bool) -> bool
+    ensures { result ≡ (not is_bad && is_below) }
+{
+    !is_bad && is_below
 }
 
 /// Whether no block of a branch is marked.

@@ -5,6 +5,7 @@ ghost use Rattle.tree.specs.Branches.{branch, place_of};
 ghost use Rattle.tree.specs.Names.{names};
 ghost use Rattle.reference.specs.inside.Replayed.{AreKeptBlocks, blocks_of};
 
+use crate::branch_replay::Trial;
 use block::Block;
 use hash::Id;
 use std::alloc::Global;
@@ -17,6 +18,8 @@ pub(crate) struct KeptBlock {
     pub(crate) id: Id,
     /// The place of the block that it stands on; 0 for genesis.
     pub(crate) parent: usize,
+    /// What the replay of its branch came to. It is a function of the branch, so it was found when the block came.
+    pub(crate) trial: Trial,
 }
 
 /// The places from this one down to genesis.

@@ -1,4 +1,4 @@
-//! The definition of the chainstate as a program: it replays every branch from genesis for each command.
+//! The definition of the chainstate as a program: it replays the branch of each block from genesis.
 #![tactic(auto)]
 
 mod branch_replay;
@@ -9,4 +9,4 @@ mod replies;
 mod settling;
 mod stepping;
 
-pub use replies::slow;
+pub use replies::{Unwatched, Watch, slow, slow_watched};

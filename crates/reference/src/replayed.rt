@@ -1,6 +1,6 @@
 //! The state between two commands.
 
-ghost use Rattle.std.specs.Prelude.{◌≡◌, ◌<◌, None, Some, length, IfOk, OnOk, ◌||◌};
+ghost use Rattle.std.specs.Prelude.{◌≡◌, ◌<◌, ◌∷◌, None, Some, length, IfOk, OnOk, ◌||◌};
 ghost use Rattle.block.specs.Identity.{id_of};
 ghost use Rattle.tree.specs.Branches.{has, on, place_of};
 ghost use Rattle.tree.specs.Names.{names};
@@ -11,8 +11,9 @@ ghost use Rattle.rules.specs.Alone.{alone_rules};
 ghost use Rattle.curve.specs.Triple.{Triples};
 ghost use Rattle.rules.specs.declared.params.Params.{Params};
 ghost use Rattle.chain.specs.Regtest.{regtest};
-ghost use Rattle.reference.specs.inside.Replayed.{AreKeptBlocks, IsRight, blocks_of, first_kept, state_of_replayed};
+ghost use Rattle.reference.specs.inside.Replayed.{AreKeptBlocks, IsRight, blocks_before, blocks_of, first_kept, state_of_replayed, trial_on};
 
+use crate::branch_replay::Trial;
 use crate::kept_block::{KeptBlock, branch_of};
 use block::{Block, GENESIS_ID, GENESIS_ROOT, GENESIS_TIME, Header, Txs};
 use hash::Id;
@@ -48,8 +49,14 @@ impl Replayed {
         Ok(old)
     }
 
-    /// Keeps a block that was made of this id, on this parent.
-    pub(crate) fn add(&mut self, block: Block, id: Id, parent: usize) -> Result<(), Memory>
+    /// Keeps a block that was made of this id, on this parent. The trial is that of its branch.
+    pub(crate) fn add(
+        &mut self,
+        block: Block,
+        id: Id,
+        parent: usize,
+        trial: Trial,
+    ) -> Result<(), Memory>
         requires right { (params : Params) × (triples : Triples)
             × IsRight (regtest params triples) self.old }
         requires room { length self.old.held.items < max_blocks }
@@ -63,9 +70,16 @@ impl Replayed {
             ≡ with_block (state_of_replayed self.old) block parent) }
         ensures right { (params : Params) (triples : Triples)
             → IsRight (regtest params triples) self.old
+            → let before = blocks_before (state_of_replayed self.old).blocks parent in
+            trial ≡ trial_on (regtest params triples) (block ∷ before)
             → OnOk result (IsRight (regtest params triples) self.new) }
     {
-        self.held.push(KeptBlock { block, id, parent })?;
+        self.held.push(KeptBlock {
+            block,
+            id,
+            parent,
+            trial,
+        })?;
         self.bad.push(false)?;
         self.seen.push(false)?;
         Ok(())
@@ -159,5 +173,6 @@ fn genesis(alloc: Global) -> KeptBlock
         block,
         id: GENESIS_ID,
         parent: 0,
+        trial: Trial::Valid,
     }
 }

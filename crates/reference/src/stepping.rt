@@ -17,7 +17,7 @@ ghost use Rattle.chain.specs.Step.{Submit, Invalidate, Reconsider, Precious, mar
 ghost use Rattle.chain.specs.Submission.{submit_says, outcome_of_added, answer_known};
 ghost use Rattle.reference.specs.inside.Replayed.{IsRight, chain_rules, reply_by_trial, state_of_replayed};
 
-use crate::branch_replay::{Chain, Trial, medians_by_height};
+use crate::branch_replay::{Chain, Trial, medians_by_height, replay};
 use crate::judgement::{best_of, is_usable, survey};
 use crate::kept_block::{branch_of, find};
 use crate::replayed::Replayed;
@@ -117,7 +117,9 @@ fn keep(
 {
     let id = block.id();
     let place = old.held.len();
-    old.add(block, id, parent)?;
+    let branch = branch_of(alloc, &old.held, parent)?;
+    let trial = replay(alloc, chain, &old.held, &branch, &block)?;
+    old.add(block, id, parent, trial)?;
     let settled = settle(alloc, chain, old)?;
     if place == settled.active {
         return Ok(SubmitReply::Accepted);

@@ -2,11 +2,12 @@
 
 use crate::play::{expect_fault, play};
 use crate::saved_files::{Saved, saved_run};
-use crate::scenarios::branches::{BIP_66_BY_HEIGHT, FAILING_BRANCH};
+use lists::scenarios::branches::{BIP_66_BY_HEIGHT, FAILING_BRANCH};
 use std::alloc::Global;
 use std::fs;
 use std::process::Abort;
 use std::rt::Files;
+use std::sync::Wait;
 use std::test::Fail;
 use std::thread::Threads;
 use std::time::Clock;
@@ -40,14 +41,14 @@ fn changed(alloc: Global, bytes: &[u8], place: usize, byte: u8) -> Result<Vec<u8
 /// Audits the run's journal with other blocks.
 fn expect_of<R>(rt: &R, saved: &Saved, blocks: &[u8], line: &str) -> Result<(), Fail>
 where
-    R: Files + AllocGlobal + Clock + Threads + Sync + Abort,
+    R: Files + AllocGlobal + Clock + Threads + Wait + Sync + Abort,
 {
     saved.expect_fault(rt, saved.journal.as_bytes(), blocks, line)
 }
 
 fn expect_record_faults<R>(rt: &R, saved: &Saved) -> Result<(), Fail>
 where
-    R: Files + AllocGlobal + Clock + Threads + Sync + Abort,
+    R: Files + AllocGlobal + Clock + Threads + Wait + Sync + Abort,
 {
     let alloc = rt.alloc();
     let blocks = saved.blocks.as_slice();
@@ -71,7 +72,7 @@ where
 
 fn expect_file_faults<R>(rt: &R, saved: &Saved) -> Result<(), Fail>
 where
-    R: Files + AllocGlobal + Clock + Threads + Sync + Abort,
+    R: Files + AllocGlobal + Clock + Threads + Wait + Sync + Abort,
 {
     let alloc = rt.alloc();
     let blocks = saved.blocks.as_slice();
@@ -165,7 +166,7 @@ const READABLE: [(&str, &str); 7] = [
 /// Audits a journal of one line, with a blk file that has no record.
 fn expect_line<R>(rt: &R, saved: &Saved, line: (&str, &str), fault: &str) -> Result<(), Fail>
 where
-    R: Files + AllocGlobal + Clock + Threads + Sync + Abort,
+    R: Files + AllocGlobal + Clock + Threads + Wait + Sync + Abort,
 {
     let (front, rest) = line;
     let text = format!(in rt.alloc(); "{front}{ID}{rest}\n")?;
@@ -174,7 +175,7 @@ where
 
 fn expect_lines<R>(rt: &R, lines: &[(&str, &str)], fault: &str) -> Result<(), Fail>
 where
-    R: Files + AllocGlobal + Clock + Threads + Sync + Abort,
+    R: Files + AllocGlobal + Clock + Threads + Wait + Sync + Abort,
 {
     let saved = saved_run(rt, &FAILING_BRANCH, folder_of(fault))?;
     for line in lines {
@@ -204,7 +205,7 @@ fn journal_lines_that_are_read(rt: HostRuntime) -> Result<(), Fail> {
 /// Texts of journals, each with the line on either stream that it gives beside a blk file without records.
 fn expect_journals<R>(rt: &R, saved: &Saved) -> Result<(), Fail>
 where
-    R: Files + AllocGlobal + Clock + Threads + Sync + Abort,
+    R: Files + AllocGlobal + Clock + Threads + Wait + Sync + Abort,
 {
     saved.expect_finding(rt, b"", b"", "agrees\n")?;
     saved.expect_fault(rt, b"\n", b"", "regchain: journal line 1\n")?;

@@ -1,12 +1,13 @@
 //! The table of scenarios through the program, with its whole output; and one more with a file of valid signatures.
 
 use crate::play::{Played, play};
-use crate::scenarios::branches::BRANCHES;
-use crate::scenarios::spends::{A_LONG_BRANCH_TAKEN_BACK, SPENDS, TWO_BAD_INPUTS};
-use crate::scenarios::{REGTEST, Scenario};
+use lists::scenarios::branches::BRANCHES;
+use lists::scenarios::spends::{A_LONG_BRANCH_TAKEN_BACK, SPENDS, TWO_BAD_INPUTS};
+use lists::scenarios::{REGTEST, Scenario};
 use std::alloc::Global;
 use std::process::Abort;
 use std::rt::Files;
+use std::sync::Wait;
 use std::test::Fail;
 use std::thread::Threads;
 use std::time::Clock;
@@ -24,7 +25,7 @@ struct Wanted {
 /// Plays a scenario, with more words of the command line.
 pub fn played<R>(rt: &R, scenario: &Scenario, options: &[&'static str]) -> Result<Played, Fail>
 where
-    R: Files + AllocGlobal + Clock + Threads + Sync,
+    R: Files + AllocGlobal + Clock + Threads + Wait + Sync,
 {
     let alloc = rt.alloc();
     let mut words = vec![in alloc; "run", "--scenario", "-", "--heights", scenario.heights]?;
@@ -36,9 +37,9 @@ where
 }
 
 /// Plays a scenario with more words of the command line, and compares the whole output.
-fn expect_with<R>(rt: &R, scenario: &Scenario, options: &[&'static str]) -> Result<(), Fail>
+pub fn expect_with<R>(rt: &R, scenario: &Scenario, options: &[&'static str]) -> Result<(), Fail>
 where
-    R: Files + AllocGlobal + Clock + Threads + Sync + Abort,
+    R: Files + AllocGlobal + Clock + Threads + Wait + Sync + Abort,
 {
     let played = played(rt, scenario, options)?;
     let output = output(rt.alloc(), scenario)?;
@@ -62,7 +63,7 @@ fn text_of(alloc: Global, scenario: &Scenario) -> Result<String, Fail> {
 }
 
 /// The whole output.
-fn output(alloc: Global, scenario: &Scenario) -> Result<String, Fail> {
+pub(crate) fn output(alloc: Global, scenario: &Scenario) -> Result<String, Fail> {
     let mut wanted = Wanted {
         answers: String::new(alloc),
         journal: String::new(alloc),
@@ -153,7 +154,7 @@ fn any_number_of_workers(rt: HostRuntime) -> Result<(), Fail> {
 }
 
 /// The hash type SINGLE, without an output of the input's number, signs the number 1.
-const BY_TABLE: Scenario = Scenario {
+pub(crate) const BY_TABLE: Scenario = Scenario {
     name: "by a table",
     heights: REGTEST,
     definitions: "block f1 genesis pay=01aaac
@@ -176,7 +177,7 @@ submit g = blk-bad-inputs 1:1 @102",
     ..BY_TABLE
 };
 
-const TABLE: &str =
+pub(crate) const TABLE: &str =
     "aa 3006020101020101 0100000000000000000000000000000000000000000000000000000000000000\n";
 
 #[test]

@@ -2,9 +2,10 @@
 
 use crate::play::{expect_fault, play, play_over};
 use crate::saved_files::saved_run;
-use crate::scenarios::branches::MARKS_SET_AND_TAKEN;
+use lists::scenarios::branches::MARKS_SET_AND_TAKEN;
 use std::process::Abort;
 use std::rt::Files;
+use std::sync::Wait;
 use std::test::Fail;
 use std::thread::Threads;
 use std::time::Clock;
@@ -62,7 +63,7 @@ fn workers(rt: HostRuntime) {
 /// A run without a command.
 fn expect_empty_run<R>(rt: &R, words: &[&str])
 where
-    R: Files + AllocGlobal + Clock + Threads + Sync + Abort,
+    R: Files + AllocGlobal + Clock + Threads + Wait + Sync + Abort,
 {
     let played = play(rt, words, b"client a\n");
     assert_eq!(rt; played.out.as_slice(), b"client a\njournal\n".as_slice());
@@ -72,7 +73,7 @@ where
 /// A command line that is refused by `clap`'s text.
 fn expect_refused<R>(rt: &R, words: &[&str])
 where
-    R: Files + AllocGlobal + Clock + Threads + Sync + Abort,
+    R: Files + AllocGlobal + Clock + Threads + Wait + Sync + Abort,
 {
     let played = play(rt, words, b"client a\n");
     assert!(rt; played.err.starts_with(b"error: "));

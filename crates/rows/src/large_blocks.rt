@@ -6,6 +6,7 @@ use std::alloc::{AllocError, Global};
 use std::process::Abort;
 use std::rt::Files;
 use std::str;
+use std::sync::Wait;
 use std::test::Fail;
 use std::thread::Threads;
 use std::time::Clock;
@@ -45,7 +46,7 @@ fn a_million_bytes_and_one_more(rt: HostRuntime) -> Result<(), Fail> {
 
 fn expect<R>(rt: &R, text: &str, output: &str)
 where
-    R: Files + AllocGlobal + Clock + Threads + Sync + Abort,
+    R: Files + AllocGlobal + Clock + Threads + Wait + Sync + Abort,
 {
     let played = play(rt, &[], text.as_bytes());
     assert_eq!(rt; str::from_utf8(played.out.as_slice()).unwrap_or(""), output);
@@ -56,7 +57,7 @@ where
 /// 19,999 signature operations: 999 times CHECKMULTISIG (ae), and 19 times CHECKSIG (ac).
 fn with_inner_script<R>(rt: &R, inner: &str) -> Result<Played, Fail>
 where
-    R: Files + AllocGlobal + Clock + Threads + Sync,
+    R: Files + AllocGlobal + Clock + Threads + Wait + Sync,
 {
     let alloc = rt.alloc();
     let script = hex::decode(alloc, inner)?;
@@ -76,7 +77,7 @@ where
 
 fn expect_answer<R>(rt: &R, inner: &str, answer: &str) -> Result<(), Fail>
 where
-    R: Files + AllocGlobal + Clock + Threads + Sync + Abort,
+    R: Files + AllocGlobal + Clock + Threads + Wait + Sync + Abort,
 {
     let played = with_inner_script(rt, inner)?;
     let output = str::from_utf8(played.out.as_slice()).map_err(|_| Fail::new("a text"))?;

@@ -1,4 +1,4 @@
-//! Scenarios with the output that they must have, run through the program, and scripts with their verdicts.
+//! Scenarios with the output that they must have, run through the program, and the calls of a node's seat.
 #![tactic(auto)]
 
 #[cfg(test)]
@@ -6,27 +6,21 @@ mod answers;
 #[cfg(test)]
 mod audit_faults;
 #[cfg(test)]
+mod bench_runs;
+#[cfg(test)]
 mod block_options;
 #[cfg(test)]
-mod by_chainstate;
-#[cfg(test)]
-mod by_definition;
-#[cfg(test)]
 mod by_program;
-#[cfg(test)]
-mod chance;
 #[cfg(test)]
 mod command_line;
 #[cfg(test)]
 mod command_line_runs;
 #[cfg(test)]
-mod commands;
-#[cfg(test)]
 mod context_free;
 #[cfg(test)]
-mod dealing;
+mod document;
 #[cfg(test)]
-mod definition_alone;
+mod examples;
 #[cfg(test)]
 mod large_blocks;
 #[cfg(test)]
@@ -40,18 +34,12 @@ mod saved_files;
 #[cfg(test)]
 mod scenario_faults;
 #[cfg(test)]
-mod scenarios;
-#[cfg(test)]
-mod scripts;
-#[cfg(test)]
-mod stepping;
+mod several_clients;
 #[cfg(test)]
 mod streams;
 #[cfg(test)]
 mod table_files;
 #[cfg(test)]
-mod verdict_lines;
-#[cfg(test)]
-mod worked_examples;
+mod worked_rows;
 #[cfg(test)]
 mod workers;

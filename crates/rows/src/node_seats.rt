@@ -1,26 +1,29 @@
-//! One seat of a node, its answers and its history.
+//! One seat of a node, and its answers.
 
 mod blocks;
 mod calls;
 
 use block::{GENESIS, GENESIS_ID, meets_target};
 use blocks::{FIRST, NOW, block_on, grown, payment, plain};
-use calls::{Call, listed, play};
+use calls::{Call, play};
 use hash::Id;
 use node::{Fault, Node, Open, OpenFault, Params, Seat, Table};
-use std::alloc::Global;
+use std::sync::{Arc, Wait};
 use std::test::Fail;
 use txn::OutPoint;
 
 /// A node of one seat under the rules of regtest.
-fn opened<'g>(alloc: Global, table: &'g Table) -> Result<(Node<'g>, Vec<Seat<'g>>), OpenFault> {
-    opened_with(alloc, table, 2, 1)
+fn opened<'g, R: AllocGlobal + Wait>(
+    rt: &R,
+    table: &'g Arc<Table>,
+) -> Result<(Node<'g>, Vec<Seat<'g>>), OpenFault> {
+    opened_with(rt, table, 2, 1)
 }
 
 #[test]
 fn one_seat(rt: HostRuntime) -> Result<(), Fail> {
-    let table = Table::new(rt.alloc());
-    let (node, mut seats) = opened(rt.alloc(), &table)?;
+    let table = Arc::new(rt.alloc(), Table::new(rt.alloc()))?;
+    let (node, mut seats) = opened(&rt, &table)?;
     let calls = [
         Call::Best,
         Call::Submit(&GENESIS[..284], NOW),
@@ -40,22 +43,13 @@ accepted @3
 2405fee2b5db4a6c607abb4c3cde55d59d28f53158f341cc789bacc929f29a52 @3
 "
     );
-    let history = node.finish(seats.as_mut_slice())?;
-    let entries = listed(rt.alloc(), &history)?;
-    assert_eq!(rt;
-        entries.as_str(),
-        "0 285 bytes 1296688602 duplicate
-0 146 bytes 1296681402 time-too-new
-0 146 bytes 1296688602 accepted
-"
-    );
     Ok(())
 }
 
 #[test]
 fn marks(rt: HostRuntime) -> Result<(), Fail> {
-    let table = Table::new(rt.alloc());
-    let (node, mut seats) = opened(rt.alloc(), &table)?;
+    let table = Arc::new(rt.alloc(), Table::new(rt.alloc()))?;
+    let (node, mut seats) = opened(&rt, &table)?;
     let first = block::read(rt.alloc(), FIRST)?.id();
     let calls = [
         Call::Submit(FIRST, NOW),
@@ -88,8 +82,8 @@ done @5
 fn preferences(rt: HostRuntime) -> Result<(), Fail> {
     let other = plain(rt.alloc(), GENESIS_ID, 1, b'b')?;
     let first = block::read(rt.alloc(), FIRST)?.id();
-    let table = Table::new(rt.alloc());
-    let (node, mut seats) = opened(rt.alloc(), &table)?;
+    let table = Arc::new(rt.alloc(), Table::new(rt.alloc()))?;
+    let (node, mut seats) = opened(&rt, &table)?;
     let calls = [
         Call::Submit(&other.bytes, NOW),
         Call::Submit(FIRST, NOW),
@@ -115,8 +109,8 @@ done @4
 /// A coinbase of height 1 is spent at height 101, where it has 100 blocks above it.
 #[test]
 fn a_spend(rt: HostRuntime) -> Result<(), Fail> {
-    let table = Table::new(rt.alloc());
-    let (node, mut seats) = opened(rt.alloc(), &table)?;
+    let table = Arc::new(rt.alloc(), Table::new(rt.alloc()))?;
+    let (node, mut seats) = opened(&rt, &table)?;
     let (last, coin) = grown(&rt, &node, &mut seats, 100)?;
     let pay = payment(rt.alloc(), coin, 4_999_999_000)?;
     let paid = OutPoint {
@@ -144,39 +138,6 @@ none @101
     Ok(())
 }
 
-/// After `finish` each call is answered `Closed`, and so is `finish` with seats that don't fit.
-#[test]
-fn ends(rt: HostRuntime) -> Result<(), Fail> {
-    let table = Table::new(rt.alloc());
-    let (node, mut seats) = opened(rt.alloc(), &table)?;
-    let mut other = Table::new(rt.alloc());
-    other.add(b"key", b"signature", &[0; 32])?;
-    let (other, _) = Node::open(rt.alloc(), Params::regtest(), &other, 1, 1, &Open)?;
-    assert_eq!(rt;
-        other.finish(seats.as_mut_slice()).err(),
-        Some(Fault::Closed)
-    );
-    let calls = [
-        Call::Submit(FIRST, NOW),
-        Call::Reconsider(GENESIS_ID),
-        Call::Best,
-        Call::Tips,
-        Call::Coin(OutPoint::NULL),
-    ];
-    assert_eq!(rt; node.finish(seats.as_mut_slice())?.len(), 0);
-    let (again, _) = opened(rt.alloc(), &table)?;
-    let answers = play(&rt, &again, &mut seats, &calls)?;
-    assert_eq!(rt;
-        answers.as_str(),
-        "closed\nclosed\nclosed\nclosed\nclosed\n"
-    );
-    assert_eq!(rt;
-        again.finish(seats.as_mut_slice()).err(),
-        Some(Fault::Closed)
-    );
-    Ok(())
-}
-
 /// The same block, with the lowest nonce that misses the target.
 #[test]
 fn work_that_is_missing(rt: HostRuntime) -> Result<(), Fail> {
@@ -189,31 +150,41 @@ fn work_that_is_missing(rt: HostRuntime) -> Result<(), Fail> {
     }
     let mut bytes = Vec::new(rt.alloc());
     block::write(&block, &mut bytes)?;
-    let table = Table::new(rt.alloc());
-    let (node, mut seats) = opened(rt.alloc(), &table)?;
+    let table = Arc::new(rt.alloc(), Table::new(rt.alloc()))?;
+    let (node, mut seats) = opened(&rt, &table)?;
     let answers = play(&rt, &node, &mut seats, &[Call::Submit(&bytes, NOW)])?;
     assert_eq!(rt; answers.as_str(), "high-hash @1\n");
     Ok(())
 }
 
 /// A node of so many workers and seats.
-fn opened_with<'g>(
-    alloc: Global,
-    table: &'g Table,
+fn opened_with<'g, R: AllocGlobal + Wait>(
+    rt: &R,
+    table: &'g Arc<Table>,
     workers: usize,
     seats: usize,
 ) -> Result<(Node<'g>, Vec<Seat<'g>>), OpenFault> {
-    Node::open(alloc, Params::regtest(), table, workers, seats, &Open)
+    Node::open(
+        rt,
+        rt.alloc(),
+        Params::regtest(),
+        table,
+        workers,
+        seats,
+        &Open,
+    )
 }
 
 #[test]
 fn openings(rt: HostRuntime) -> Result<(), Fail> {
-    let table = Table::new(rt.alloc());
-    let open = |workers, seats| opened_with(rt.alloc(), &table, workers, seats).err();
-    assert_eq!(rt; open(0, 2), Some(OpenFault::Workers));
+    let table = Arc::new(rt.alloc(), Table::new(rt.alloc()))?;
+    let open = |workers, seats| opened_with(&rt, &table, workers, seats).err();
+    assert_eq!(rt; open(0, 17), Some(OpenFault::Workers));
     assert_eq!(rt; open(17, 1), Some(OpenFault::Workers));
-    assert_eq!(rt; open(16, 2), Some(OpenFault::Seats));
-    let (node, _) = opened(rt.alloc(), &table)?;
+    assert_eq!(rt; open(16, 0), Some(OpenFault::Seats));
+    assert_eq!(rt; open(1, 17), Some(OpenFault::Seats));
+    let (node, seats) = opened_with(&rt, &table, 16, 16)?;
+    assert_eq!(rt; seats.len(), 16);
     assert!(rt; node.finish(&mut [])?.is_empty());
     Ok(())
 }

@@ -6,6 +6,7 @@ use std::io;
 use std::io::{IsTerminal, Write};
 use std::process::Abort;
 use std::rt::Files;
+use std::sync::Wait;
 use std::thread::Threads;
 use std::time::Clock;
 
@@ -41,7 +42,7 @@ impl IsTerminal for Errors {
 }
 
 /// Runs the program, with a standard error that is no terminal.
-pub fn play<R: Files + AllocGlobal + Clock + Threads + Sync>(
+pub fn play<R: Files + AllocGlobal + Clock + Threads + Wait + Sync>(
     rt: &R,
     words: &[&str],
     text: &[u8],
@@ -50,7 +51,7 @@ pub fn play<R: Files + AllocGlobal + Clock + Threads + Sync>(
 }
 
 /// Runs the program, with a standard error that is a terminal or none.
-pub fn play_over<R: Files + AllocGlobal + Clock + Threads + Sync>(
+pub fn play_over<R: Files + AllocGlobal + Clock + Threads + Wait + Sync>(
     rt: &R,
     words: &[&str],
     text: &[u8],
@@ -68,7 +69,7 @@ pub fn play_over<R: Files + AllocGlobal + Clock + Threads + Sync>(
 }
 
 /// Runs the program with a gate round each script.
-pub fn play_with_gate<R: Files + AllocGlobal + Clock + Threads + Sync>(
+pub fn play_with_gate<R: Files + AllocGlobal + Clock + Threads + Wait + Sync>(
     rt: &R,
     words: &[&str],
     gate: &(dyn Gate + Sync),
@@ -86,7 +87,7 @@ pub fn play_with_gate<R: Files + AllocGlobal + Clock + Threads + Sync>(
 }
 
 /// A scenario, and the whole output that it must have.
-pub fn expect_output<R: Files + AllocGlobal + Clock + Threads + Sync + Abort>(
+pub fn expect_output<R: Files + AllocGlobal + Clock + Threads + Wait + Sync + Abort>(
     rt: &R,
     text: &[u8],
     output: &str,
@@ -98,7 +99,7 @@ pub fn expect_output<R: Files + AllocGlobal + Clock + Threads + Sync + Abort>(
 }
 
 /// A command line and a scenario, and the line on the standard error that they must give.
-pub fn expect_fault<R: Files + AllocGlobal + Clock + Threads + Sync + Abort>(
+pub fn expect_fault<R: Files + AllocGlobal + Clock + Threads + Wait + Sync + Abort>(
     rt: &R,
     words: &[&str],
     text: &[u8],

@@ -2,12 +2,13 @@
 
 use crate::by_program::played;
 use crate::play::{Played, play};
-use crate::scenarios::branches::{FAILING_BRANCH, PREFERENCES};
-use crate::scenarios::spends::LOCKED_BY_HEIGHT;
-use crate::scenarios::{REGTEST, Scenario};
+use lists::scenarios::branches::{FAILING_BRANCH, PREFERENCES};
+use lists::scenarios::spends::LOCKED_BY_HEIGHT;
+use lists::scenarios::{REGTEST, Scenario};
 use std::alloc::Global;
 use std::process::Abort;
 use std::rt::Files;
+use std::sync::Wait;
 use std::test::Fail;
 use std::thread::Threads;
 use std::time::Clock;
@@ -26,7 +27,7 @@ pub struct Saved {
 /// Saves a run in a new folder.
 pub fn saved_run<R>(rt: &R, scenario: &Scenario, folder: &'static str) -> Result<Saved, Fail>
 where
-    R: Files + AllocGlobal + Clock + Threads + Sync + Abort,
+    R: Files + AllocGlobal + Clock + Threads + Wait + Sync + Abort,
 {
     fs::create_dir_all(rt, folder)?;
     let played = played(rt, scenario, &["--save", folder])?;
@@ -49,7 +50,7 @@ impl Saved {
     /// Audits this journal and these blocks in place of those that were saved.
     pub fn audit<R>(&self, rt: &R, journal: &[u8], blocks: &[u8]) -> Result<Played, Fail>
     where
-        R: Files + AllocGlobal + Clock + Threads + Sync,
+        R: Files + AllocGlobal + Clock + Threads + Wait + Sync,
     {
         let alloc = rt.alloc();
         let journal_file = path(alloc, self.folder, "other.txt")?;
@@ -78,7 +79,7 @@ impl Saved {
         line: &str,
     ) -> Result<(), Fail>
     where
-        R: Files + AllocGlobal + Clock + Threads + Sync + Abort,
+        R: Files + AllocGlobal + Clock + Threads + Wait + Sync + Abort,
     {
         let played = self.audit(rt, journal, blocks)?;
         let status = if line == "agrees\n" { 0 } else { 1 };
@@ -97,7 +98,7 @@ impl Saved {
         line: &str,
     ) -> Result<(), Fail>
     where
-        R: Files + AllocGlobal + Clock + Threads + Sync + Abort,
+        R: Files + AllocGlobal + Clock + Threads + Wait + Sync + Abort,
     {
         let played = self.audit(rt, journal, blocks)?;
         assert_eq!(rt; str::from_utf8(played.err.as_slice()).unwrap_or(""), line);
@@ -110,7 +111,7 @@ impl Saved {
     /// kind that line is named.
     pub fn expect_each_line_counts<R>(&self, rt: &R) -> Result<(), Fail>
     where
-        R: Files + AllocGlobal + Clock + Threads + Sync + Abort,
+        R: Files + AllocGlobal + Clock + Threads + Wait + Sync + Abort,
     {
         let alloc = rt.alloc();
         let blocks = self.blocks.as_slice();
@@ -171,7 +172,7 @@ fn preferences(rt: HostRuntime) -> Result<(), Fail> {
 /// A journal doesn't agree with another reply in the line of this place, from 0.
 fn expect_line_counts<R>(rt: &R, saved: &Saved, place: usize) -> Result<(), Fail>
 where
-    R: Files + AllocGlobal + Clock + Threads + Sync + Abort,
+    R: Files + AllocGlobal + Clock + Threads + Wait + Sync + Abort,
 {
     let alloc = rt.alloc();
     let line = saved.journal.lines().nth(place).ok_or("a line")?;

@@ -3,6 +3,7 @@
 use crate::play::expect_fault;
 use std::process::Abort;
 use std::rt::Files;
+use std::sync::Wait;
 use std::test::Fail;
 use std::thread::Threads;
 use std::time::Clock;
@@ -175,7 +176,7 @@ const WITHOUT_CLIENT: [Case; 5] = [
     Case(b"block b1 genesis\n# client a\n\n", 4),
 ];
 
-fn expect_lines<R: Files + AllocGlobal + Clock + Threads + Sync + Abort>(
+fn expect_lines<R: Files + AllocGlobal + Clock + Threads + Wait + Sync + Abort>(
     rt: &R,
     cases: &[Case],
 ) -> Result<(), Fail> {

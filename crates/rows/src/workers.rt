@@ -7,6 +7,7 @@ use std::process::Abort;
 use std::rt::Files;
 use std::sync::atomic::Ordering::SeqCst;
 use std::sync::atomic::{AtomicBool, AtomicU64};
+use std::sync::{Arc, Wait};
 use std::test::Fail;
 use std::thread::{Threads, yield_now};
 use std::time::Clock;
@@ -76,8 +77,8 @@ fn two_workers_meet(rt: HostRuntime) -> Result<(), Fail> {
     let gate = meeting_of(2, MANY);
     let text = lines(rt.alloc(), DEFINITIONS.as_bytes())?;
     let definitions = Definitions::read(rt.alloc(), &text, node::Table::new(rt.alloc()))?;
-    let table = definitions.table();
-    let (node, mut seats) = Node::open(rt.alloc(), Params::regtest(), table, 2, 1, &gate)?;
+    let table = Arc::new(rt.alloc(), definitions.table().copy()?)?;
+    let (node, mut seats) = Node::open(&rt, rt.alloc(), Params::regtest(), &table, 2, 1, &gate)?;
     for seat in &mut seats {
         for height in 1..101u64 {
             let name = format!(in rt.alloc(); "c{height}")?;
@@ -99,7 +100,7 @@ fn expect_accepted<R>(
     at: u64,
 ) -> Result<(), Fail>
 where
-    R: AllocGlobal + Threads + Sync + Abort,
+    R: AllocGlobal + Threads + Wait + Sync + Abort,
 {
     let block = definitions.find(name).map_err(|_| Fail::new("a block"))?;
     let reply = seat.submit(rt, node, &block.bytes, NOW)?;
@@ -127,7 +128,7 @@ submit m0
 /// Whether all three scripts of a run with these words run at once.
 fn three_meet<R>(rt: &R, words: &[&str], turns: u32) -> bool
 where
-    R: Files + AllocGlobal + Clock + Threads + Sync + Abort,
+    R: Files + AllocGlobal + Clock + Threads + Wait + Sync + Abort,
 {
     let gate = meeting_of(3, turns);
     let played = play_with_gate(rt, words, &gate, SCENARIO.as_bytes());

@@ -59,7 +59,13 @@ pub struct Client<'d, 't> {
     now: u64,
 }
 
-/// The clients of these lines, over the definitions before them. For now there is one.
+/// The most clients that a scenario has.
+const MAX_CLIENTS: usize = 15;
+
+/// The name of the client that submits a blk file, which no other has.
+pub const BLK: &str = "blk";
+
+/// The clients of these lines, over the definitions before them: at most 15, each of another name.
 pub fn read_clients<'d, 't>(
     alloc: Global,
     definitions: &'d Definitions,
@@ -79,11 +85,7 @@ fn read_line<'d, 't>(
     clients: &mut Vec<Client<'d, 't>>,
 ) -> Result<(), LineFault> {
     if let ["client", name] = line.words.as_slice() {
-        if !clients.is_empty() {
-            return Err(LineFault::Unreadable);
-        }
-        clients.push(Client::new(alloc, name)?)?;
-        return Ok(());
+        return add_client(alloc, name, clients);
     }
     match clients.last_mut() {
         Some(client) => client.command(alloc, definitions, line),
@@ -91,9 +93,23 @@ fn read_line<'d, 't>(
     }
 }
 
+/// Adds a client of this name, which no other has.
+fn add_client<'d, 't>(
+    alloc: Global,
+    name: &'t str,
+    clients: &mut Vec<Client<'d, 't>>,
+) -> Result<(), LineFault> {
+    let is_taken = clients.iter().any(|client| client.name == name);
+    if is_taken || clients.len() >= MAX_CLIENTS {
+        return Err(LineFault::Unreadable);
+    }
+    clients.push(Client::new(alloc, name)?)?;
+    Ok(())
+}
+
 impl<'d, 't> Client<'d, 't> {
     fn new(alloc: Global, name: &'t str) -> Result<Client<'d, 't>, LineFault> {
-        if !is_name(name) || name == "blk" {
+        if !is_name(name) || name == BLK {
             return Err(LineFault::Unreadable);
         }
         Ok(Client {
@@ -169,9 +185,9 @@ impl<'d, 't> Client<'d, 't> {
 /// What the words of a line ask that submits nothing.
 fn question<'d>(definitions: &Definitions, words: &[&str]) -> Result<Request<'d>, LineFault> {
     match words {
-        ["invalidate", name] => Ok(Request::Invalidate(definitions.find(name)?.id)),
-        ["reconsider", name] => Ok(Request::Reconsider(definitions.find(name)?.id)),
-        ["precious", name] => Ok(Request::Precious(definitions.find(name)?.id)),
+        ["invalidate", block] => Ok(Request::Invalidate(definitions.block_id(block)?)),
+        ["reconsider", block] => Ok(Request::Reconsider(definitions.block_id(block)?)),
+        ["precious", block] => Ok(Request::Precious(definitions.block_id(block)?)),
         ["best"] => Ok(Request::Best),
         ["tips"] => Ok(Request::Tips),
         ["txout", output] => Ok(Request::Output(definitions.output(output)?)),

@@ -6,7 +6,7 @@ use crate::draft::Draft;
 use crate::fault::{LineFault, ScenarioFault};
 use crate::known::Known;
 use crate::label::Label;
-use crate::line::{Line, bytes, is_name, number};
+use crate::line::{Line, bytes, id, is_id_long, is_name, number};
 use crate::making::{Named, genesis, made};
 use crate::recipe::Recipe;
 use crate::valid_signature::{ValidSignature, add_valid_signature};
@@ -31,6 +31,8 @@ pub struct Definitions {
     transactions: BTreeMap<String, Known>,
     /// The first name of each block's id.
     names: BTreeMap<Id, String>,
+    /// The names that the lines define, in their order.
+    order: Vec<String>,
     /// The valid signatures.
     table: Table,
     /// The transaction whose lines are being read.
@@ -50,10 +52,12 @@ impl Definitions {
             blocks: BTreeMap::new(alloc),
             transactions: BTreeMap::new(alloc),
             names: BTreeMap::new(alloc),
+            order: Vec::new(alloc),
             table,
             draft: None,
         };
         definitions.insert(genesis(alloc)?)?;
+        definitions.order.clear();
         for line in lines {
             definitions
                 .define(line.words.as_slice())
@@ -66,6 +70,14 @@ impl Definitions {
     /// The block of this name.
     pub fn find(&self, name: &str) -> Result<&Named, LineFault> {
         self.blocks.get(name).ok_or(LineFault::Unreadable)
+    }
+
+    /// The id of the block that a word names: by its name, or by the id's digits, of which nothing is asked.
+    pub fn block_id(&self, word: &str) -> Result<Id, LineFault> {
+        if is_id_long(word) {
+            return id(word);
+        }
+        Ok(self.find(word)?.id)
     }
 
     /// How the block of this id is printed.
@@ -133,6 +145,7 @@ impl Definitions {
         if let Some(draft) = self.draft.take() {
             let (name, tx) = draft.finish();
             let known = Known::from_tx(tx);
+            self.order.push(name.clone()?)?;
             self.transactions.insert(name, known)?;
         }
         Ok(())
@@ -219,13 +232,21 @@ impl Definitions {
         }
     }
 
-    /// The output that a word names: a transaction and a number. That there is such an output isn't asked.
+    /// The output that a word names: a transaction, by its name or its id's digits, and a number. That there is such
+    /// an output isn't asked.
     pub fn output(&self, word: &str) -> Result<OutPoint, LineFault> {
         let (tx, index) = word.split_once(':').ok_or(LineFault::Unreadable)?;
         Ok(OutPoint {
-            id: self.transaction(tx)?.id,
+            id: self.transaction_id(tx)?,
             index: number(index)?,
         })
+    }
+
+    fn transaction_id(&self, word: &str) -> Result<Id, LineFault> {
+        if is_id_long(word) {
+            return id(word);
+        }
+        Ok(self.transaction(word)?.id)
     }
 
     /// A name that is given once: to a block or to a transaction.
@@ -246,7 +267,40 @@ impl Definitions {
         if !self.names.contains_key(&block.id) {
             self.names.insert(block.id, block.name.clone()?)?;
         }
+        self.order.push(name.clone()?)?;
         self.blocks.insert(name, block)?;
         Ok(())
     }
+
+    /// The names that the lines define, in their order.
+    pub fn names(&self) -> &[String] {
+        self.order.as_slice()
+    }
+
+    /// The block or the transaction of this name: its id, and its bytes in hexadecimal digits.
+    pub fn shown(&self, name: &str) -> Result<Shown, LineFault> {
+        if let Some(block) = self.blocks.get(name) {
+            let digits = hex::encode(self.alloc, block.bytes.as_slice())?;
+            return Ok(Shown {
+                id: block.id,
+                digits,
+            });
+        }
+        let known = self.transaction(name)?;
+        let mut bytes = Vec::new(self.alloc);
+        txn::write(&known.tx, &mut bytes)?;
+        let digits = hex::encode(self.alloc, bytes.as_slice())?;
+        Ok(Shown {
+            id: known.id,
+            digits,
+        })
+    }
+}
+
+/// What a name stands for, to be handed to another program.
+#[derive(Drop)]
+pub struct Shown {
+    pub id: Id,
+    /// Its bytes in hexadecimal.
+    pub digits: String,
 }

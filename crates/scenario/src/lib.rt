@@ -13,8 +13,8 @@ mod making;
 mod recipe;
 mod valid_signature;
 
-pub use client::{Call, Client, Payload, Request, Words, read_clients};
-pub use definitions::Definitions;
+pub use client::{BLK, Call, Client, Payload, Request, Words, read_clients};
+pub use definitions::{Definitions, Shown};
 pub use fault::{LineFault, ScenarioFault};
 pub use label::Label;
 pub use line::{Line, is_name, lines, number_after};

@@ -66,6 +66,11 @@ pub fn is_name(word: &str) -> bool
     is_lettered && !word.is_empty() && word.len() <= 32
 }
 
+/// Whether a word is as long as an id, and so no name.
+pub fn is_id_long(word: &str) -> bool {
+    word.len() == 64
+}
+
 /// A number in decimal digits, without a sign.
 pub fn number<N: FromStr>(word: &str) -> Result<N, LineFault>
 where

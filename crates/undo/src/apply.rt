@@ -114,7 +114,7 @@ fn take_each<B: Base>(
         record layer.old { coins = without layer.old.coins (prevs inputs.now) })) }
     ensures base { layer.new.base ≡ layer.old.base }
 {
-    let mut spent = Spent::new(alloc);
+    let mut spent = Spent::with_room(alloc, inputs.len())?;
     for input in inputs {
         let Some(coin) = layer.take(&input.prev)? else {
             return Ok(None);

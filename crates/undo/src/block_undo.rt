@@ -1,6 +1,6 @@
 //! The coins that are kept so that a block can be taken back.
 
-ghost use Rattle.std.specs.Prelude.{◌≡◌, ◌↔◌, OnOk, OnErr, IsTrue, [], ◌∷◌, ◌++◌, length};
+ghost use Rattle.std.specs.Prelude.{◌≡◌, ◌↔◌, IfOk, OnOk, OnErr, IsTrue, [], ◌∷◌, ◌++◌, length};
 
 use coins::Coin;
 use std::alloc::Global;
@@ -31,6 +31,15 @@ impl Spent {
         Spent {
             coins: Vec::new(alloc),
         }
+    }
+
+    /// No coins, with room for so many and no more.
+    pub fn with_room(alloc: Global, count: usize) -> Result<Spent, Memory>
+        ensures { IfOk result (λ spent. spent ≡ []) }
+    {
+        Ok(Spent {
+            coins: Vec::with_capacity(alloc, count)?,
+        })
     }
 
     /// One more, at the end.

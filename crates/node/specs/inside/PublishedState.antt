@@ -13,7 +13,6 @@ use Rattle.view.specs.Origin.{Origin}
 use Rattle.view.specs.ViewState.{ViewState, IsExact, IsLegal, coins_of}
 use Rattle.view.specs.Following.{AllFollow}
 use Rattle.view.specs.declared.publication.Publication.{Publication}
-use Rattle.node.specs.Origin as node_origin
 use Rattle.node.specs.inside.Keeping.{IsKept, IsReplyTo, IsUndecodable, is_step}
 
 -- what the history is of, its entries, and whether the last of them is owed to readers, who don't see it yet
@@ -28,7 +27,7 @@ with_its_coins c = record { core = c; coins = core_state.coins_of c }
 
 -- the entries are a legal history, and the core is as they lead to
 abbrev pub IsCoreOf : Origin → CoreState → List Entry → Type 0
-IsCoreOf o core journal = IsKept (node_origin.origin o.params o.triples o.seats) (with_its_coins core) journal
+IsCoreOf o core journal = IsKept o (with_its_coins core) journal
 
 -- the entry, with this reply
 abbrev pub replied : Entry → Option Reply → Entry

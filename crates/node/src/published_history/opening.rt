@@ -27,7 +27,7 @@ pub(crate) struct Opening {
 }
 
 /// Opens a history.
-pub(crate) fn open<R: Wait>(
+pub(crate) fn open_history<R: Wait>(
     rt: &R,
     alloc: Global,
     params: Params,

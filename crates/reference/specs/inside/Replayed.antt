@@ -47,7 +47,7 @@ abbrev pub AreKeptBlocks : Blocks Block → List KeptBlock → Type 0
 AreKeptBlocks t held = (p : ℕ) (d : KeptBlock) → p < length held → IsKeptBlock t p (slice_index_or held p d)
 
 abbrev pub first_kept : KeptBlock
-first_kept = record { block = genesis; id = GENESIS_ID; parent = 0 }
+first_kept = record { block = genesis; id = GENESIS_ID; parent = 0; trial = Valid }
 
 abbrev pub block_in : List KeptBlock → ℕ → Block
 block_in held p = (slice_index_or held p first_kept).block
@@ -66,10 +66,6 @@ pub record AreAlone (held : List KeptBlock) (places : List ℕ) : Type 0 where
 abbrev pub medians_in : List ℕ → List ℕ
 medians_in [] = []
 medians_in (x ∷ older) = median_of (take 11 (x ∷ older)) ∷ medians_in older
-
--- the first that doesn't connect is the last one, or isn't
-abbrev pub trial_of_fault : Reason → Bool → Trial
-trial_of_fault reason is_last = cond is_last (Fails reason) Below
 
 abbrev pub trial_after : Trial → Option Reason → Trial
 trial_after Valid None = Valid
@@ -90,6 +86,15 @@ abbrev pub is_first : Trial → Bool
 is_first Valid = false
 is_first (Fails reason) = true
 is_first Below = false
+
+-- the blocks of the branch of a place
+abbrev pub blocks_before : Blocks Block → ℕ → List Block
+blocks_before t p = blocks_at names t (branch t p)
+
+-- what was found of each block that is held is what the replay of its branch comes to
+abbrev pub AreTried : Rules Block Id → Blocks Block → List KeptBlock → Type 0
+AreTried r t held = (p : ℕ) (d : KeptBlock) → p < length held
+    → (slice_index_or held p d).trial ≡ trial_on r (blocks_before t p)
 
 -- ---- the state
 
@@ -113,6 +118,7 @@ pub record IsRight (r : Rules Block Id) (old : Replayed) : Type 0 where
   pub some : 0 < length old.held.items
   pub room : length old.held.items ≤ max_blocks
   pub held : AreKeptBlocks (blocks_of old.held.items) old.held.items
+  pub tried : AreTried r (blocks_of old.held.items) old.held.items
   pub kept : AllKept r (blocks_of old.held.items)
   pub bad : length old.bad.items ≡ length old.held.items
   pub seen : length old.seen.items ≡ length old.held.items
@@ -122,11 +128,15 @@ pub record IsRight (r : Rules Block Id) (old : Replayed) : Type 0 where
 
 unfoldable pub judgement_at : Rules Block Id → State Block → ℕ → Judgement
 judgement_at r s p = record {
-  trial = trial_on r (blocks_at names s.blocks (branch s.blocks p));
+  trial = trial_on r (blocks_before s.blocks p);
   usable = has_no_mark s p;
   height = height s.blocks p;
   rank = rank s p;
 }
+
+-- the first n blocks are judged
+abbrev pub AreJudged : Rules Block Id → State Block → List Judgement → ℕ → Type 0
+AreJudged r s judged n = (p : ℕ) (d : Judgement) → p < n → slice_index_or judged p d ≡ judgement_at r s p
 
 pub record AreJudgements (r : Rules Block Id) (s : State Block) (judged : List Judgement) : Type 0 where
   pub same : length judged ≡ suc (length s.blocks)

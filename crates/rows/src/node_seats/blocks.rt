@@ -5,6 +5,7 @@ use block::{Block, GENESIS_ID, GENESIS_TIME, Header, Txs, meets_target, merkle, 
 use hash::Id;
 use node::{Node, Seat};
 use std::alloc::Global;
+use std::sync::Wait;
 use std::test::Fail;
 use std::thread::Threads;
 use txn::{Inputs, OutPoint, Outputs, Script, Tx, TxIn, TxOut, ids};
@@ -66,7 +67,7 @@ pub fn plain(alloc: Global, prev: Id, height: u8, letter: u8) -> Result<Made, Fa
 }
 
 /// Blocks up to a height, submitted one on the other: the last one's id, and the first one's coin.
-pub fn grown<R: AllocGlobal + Threads + Sync>(
+pub fn grown<R: AllocGlobal + Threads + Wait + Sync>(
     rt: &R,
     node: &Node<'_>,
     seats: &mut [Seat<'_>],

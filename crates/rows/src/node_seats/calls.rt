@@ -1,9 +1,10 @@
 //! Calls of seats, and their answers as text.
 
 use hash::Id;
-use node::{Command, Entry, Fault, Node, Reply, Seat, Stamped, Tip, UnspentOutput};
+use node::{Fault, Node, Seat, Stamped, Tip, UnspentOutput};
 use std::alloc::{AllocError, Global};
 use std::fmt;
+use std::sync::Wait;
 use std::test::Fail;
 use std::thread::Threads;
 use txn::OutPoint;
@@ -52,7 +53,7 @@ impl fmt::Display for Found {
 }
 
 /// What the seats answer to these calls, a line each.
-pub fn play<R: AllocGlobal + Threads + Sync>(
+pub fn play<R: AllocGlobal + Threads + Wait + Sync>(
     rt: &R,
     node: &Node<'_>,
     seats: &mut [Seat<'_>],
@@ -67,7 +68,7 @@ pub fn play<R: AllocGlobal + Threads + Sync>(
     Ok(text)
 }
 
-fn answer<R: AllocGlobal + Threads + Sync>(
+fn answer<R: AllocGlobal + Threads + Wait + Sync>(
     rt: &R,
     node: &Node<'_>,
     seat: &mut Seat<'_>,
@@ -113,23 +114,5 @@ fn line<T: fmt::Display + Drop>(
     match answer {
         Ok(Stamped { at, value }) => writeln!(text, "{value} @{at}"),
         Err(fault) => writeln!(text, "{fault}"),
-    }
-}
-
-/// The entries of submissions, a line each.
-pub fn listed(alloc: Global, history: &[Entry]) -> Result<String, Fail> {
-    let mut text = String::new(alloc);
-    for entry in history {
-        entered(entry, &mut text)?;
-    }
-    Ok(text)
-}
-
-fn entered(entry: &Entry, text: &mut String) -> Result<(), AllocError> {
-    match (&entry.command, entry.reply) {
-        (Command::Submit(bytes, now), Some(Reply::Submit(reply))) => {
-            writeln!(text, "{} {} bytes {now} {reply}", entry.seat, bytes.len())
-        }
-        _ => writeln!(text, "another entry"),
     }
 }

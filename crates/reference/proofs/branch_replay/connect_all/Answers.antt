@@ -1,4 +1,4 @@
-use Rattle.std.proofs.Common.{◌≡◌, ℕ, ◌+◌, ◌-◌, ◌<◌, ◌≤◌, Bool, eqb, List, Option, length, reverse, take, drop, get_or, Some, None, sym, refl, ap, ◌∙◌, arith}
+use Rattle.std.proofs.Common.{◌≡◌, ℕ, ◌+◌, ◌-◌, ◌<◌, ◌≤◌, false, List, Option, length, reverse, take, drop, get_or, Some, None, sym, refl, ap, ◌∙◌, arith}
 use Rattle.std.proofs.lemmas.List.{length-map, length-reverse, length-take-le, get_or-map, get_or_default}
 use Rattle.curve.specs.Triple.{Triples}
 use Rattle.txn.specs.declared.reason.Reason.{Reason}
@@ -12,7 +12,7 @@ use Rattle.reference.specs.declared.kept_block.KeptBlock.{KeptBlock}
 use Rattle.reference.specs.declared.branch_replay.Trial.TheVariants.{Valid}
 use Rattle.chain.specs.Replay.{replay}
 use Rattle.chain.specs.Regtest.{medians_of, ledger, regtest}
-use Rattle.reference.specs.inside.Replayed.{block_in, blocks_in, first_kept, trial_of_fault, trial_after, trial_on}
+use Rattle.reference.specs.inside.Replayed.{block_in, blocks_in, first_kept, is_valid, trial_after, trial_on}
 use Rattle.chain.specs.laws.Medians.{length-medians}
 use Rattle.reference.proofs.BranchReplay.{first_replay, first_trial, next_replay, next_trial, ends}
 use Rattle.reference.proofs.branch_replay.connect_all.Goals as goal
@@ -90,10 +90,10 @@ module _ (params : Params) (triples : Triples) (hs : List KeptBlock) (br medians
       let e = same in
       next_replay params triples (blocks_in hs br) h some (omega arith) n.block own ∙ ap (λ (m : Coins). effect h m n.block.txs) (sym here)
 
-  end_here : (reason : Reason) (is_last : Bool) → fault ≡ Some reason → is_last ≡ eqb (h + 1) (length br) → trial_of_fault reason is_last ≡ trial_on (regtest params triples) (blocks_in hs br)
-  end_here reason is_last e l =
+  end_here : (reason : Reason) → fault ≡ Some reason → false ≡ is_valid (trial_on (regtest params triples) (blocks_in hs br))
+  end_here reason e =
       let k = same in
-      ends params triples (blocks_in hs br) h some (omega arith) n.block own reason is_last (l ∙ ap (λ (j : ℕ). eqb (h + 1) j) (sym same)) (trial_next ∙ ap (λ o. trial_after Valid o) e)
+      ends params triples (blocks_in hs br) h some (omega arith) n.block own reason (trial_next ∙ ap (λ o. trial_after Valid o) e)
 
   more : fault ≡ None → (new : Coins) → new ≡ effect h coins n.block.txs → record {
     coins : new ≡ replay ledger (drop (length br - (h + 1)) (blocks_in hs br));
@@ -104,21 +104,34 @@ module _ (params : Params) (triples : Triples) (hs : List KeptBlock) (br medians
     trial = ap (λ (k : ℕ). trial_on (regtest params triples) (drop (k - (h + 1)) (blocks_in hs br))) (sym same) ∙ trial_next ∙ ap (λ o. trial_after Valid o) e;
   }
 
-pub returns-in-Some : goal.returns-in-Some
-returns-in-Some c =
+pub returns-in-Some-clause-valid : goal.returns-in-Some-clause-valid
+returns-in-Some-clause-valid c =
     let br = c.args.branch.now in
     let h = c.loop-height.height in
     let t = c.loop-height-test.true in
-    c.fails.ensures
-    ∙ end_here c.args.chain.now.params.now c.args.chain.now.table.now c.args.held.now br c.args.medians.now h (get_or c.args.held.now (get_or br (length br - 1 - h) 0) c.index-held-branch.result) c.loop-height.coins.coins c.in_ok-reason.field-0
-    c.loop-height.auto.height t (c.requires.alone.kept (length br - 1 - h) (omega arith)) (ap (λ (x : KeptBlock). get_or c.args.held.now (get_or br (length br - 1 - h) 0) x) c.index-held-branch.is) c.requires.medians c.loop-height.invariant.coins c.loop-height.invariant.trial c.in_ok-reason.ensures.fault
-    c.in-Some.reason (eqb (h + 1) (length br)) c.in-Some.is refl
+    end_here c.args.chain.now.params.now c.args.chain.now.table.now c.args.held.now br c.args.medians.now h (get_or c.args.held.now (get_or br (length br - 1 - h) 0) c.index-held-branch.result) c.loop-height.coins.coins c.in_ok-_reason.field-0
+    c.loop-height.auto.height t (c.requires.alone.kept (length br - 1 - h) (omega arith)) (ap (λ (x : KeptBlock). get_or c.args.held.now (get_or br (length br - 1 - h) 0) x) c.index-held-branch.is) c.requires.medians c.loop-height.invariant.coins c.loop-height.invariant.trial c.in_ok-_reason.ensures.fault
+    c.in-Some._reason c.in-Some.is
 
 pub loop-height-preserved : goal.loop-height-preserved
 loop-height-preserved c =
     let br = c.args.branch.now in
     let h = c.loop-height.height in
     let t = c.loop-height-test.true in
-    more c.args.chain.now.params.now c.args.chain.now.table.now c.args.held.now br c.args.medians.now h (get_or c.args.held.now (get_or br (length br - 1 - h) 0) c.index-held-branch.result) c.loop-height.coins.coins c.in_ok-reason.field-0
-    c.loop-height.auto.height t (c.requires.alone.kept (length br - 1 - h) (omega arith)) (ap (λ (x : KeptBlock). get_or c.args.held.now (get_or br (length br - 1 - h) 0) x) c.index-held-branch.is) c.requires.medians c.loop-height.invariant.coins c.loop-height.invariant.trial c.in_ok-reason.ensures.fault
-    c.in_default.is c.connect_next.new.coins.coins (c.in_ok-reason.ensures.coins c.in_default.is)
+    more c.args.chain.now.params.now c.args.chain.now.table.now c.args.held.now br c.args.medians.now h (get_or c.args.held.now (get_or br (length br - 1 - h) 0) c.index-held-branch.result) c.loop-height.coins.coins c.in_ok-_reason.field-0
+    c.loop-height.auto.height t (c.requires.alone.kept (length br - 1 - h) (omega arith)) (ap (λ (x : KeptBlock). get_or c.args.held.now (get_or br (length br - 1 - h) 0) x) c.index-held-branch.is) c.requires.medians c.loop-height.invariant.coins c.loop-height.invariant.trial c.in_ok-_reason.ensures.fault
+    c.in_default.is c.connect_next.new.coins.coins (c.in_ok-_reason.ensures.coins c.in_default.is)
+
+pub returns-clause-valid : goal.returns-clause-valid
+returns-clause-valid c =
+    let br = c.args.branch.now in
+    let f = c.loop-height-test.false in
+    let z : length br - c.loop-height.height ≡ 0 = omega arith in
+    sym (ap (λ (k : ℕ). is_valid (trial_on (regtest c.args.chain.now.params.now c.args.chain.now.table.now) (drop k (blocks_in c.args.held.now br)))) (sym z) ∙ ap is_valid c.loop-height.invariant.trial)
+
+pub returns-clause-coins : goal.returns-clause-coins
+returns-clause-coins c = λ is.
+    let br = c.args.branch.now in
+    let f = c.loop-height-test.false in
+    let z : length br - c.loop-height.height ≡ 0 = omega arith in
+    c.loop-height.invariant.coins ∙ ap (λ (k : ℕ). replay ledger (drop k (blocks_in c.args.held.now br))) z

@@ -10,7 +10,6 @@ use Rattle.chain.specs.Regtest.{regtest}
 use Rattle.activate.specs.CoreState.{Follows}
 use Rattle.view.specs.Origin.{Origin, origin}
 use Rattle.view.specs.ViewState.{IsLegal, state_of}
-use Rattle.node.specs.Origin as node_origin
 use Rattle.node.specs.inside.Keeping.{is_step}
 use Rattle.node.specs.inside.PublishedState.{PublishedState, with_its_coins, with_owed}
 use Rattle.node.proofs.Cores.{stepped, replied_legal, owed_core, owed_changes}
@@ -32,7 +31,7 @@ invariant_of-self-then-not-is_step g c =
     let i = c.self.invariant in
     let s = c.self.inside in
     let o : Origin = origin s.note.book s.params (arc_value s.table) s.seats in
-    let n = node_origin.origin o.params o.triples o.seats in
+    let n = o in
     let k = command_of c.args.command.now in
     let r = c.in_ok-reply.reply in
     let core = c.step_by_reader.new.core in
@@ -53,7 +52,7 @@ returns-then-not-is_step-clause-takes g c =
     let i = c.self.invariant in
     let s = c.self.inside in
     let o : Origin = origin s.note.book s.params (arc_value s.table) s.seats in
-    let n = node_origin.origin o.params o.triples o.seats in
+    let n = o in
     let k = command_of c.args.command.now in
     let r = c.in_ok-reply.reply in
     let core = c.step_by_reader.new.core in
@@ -73,7 +72,7 @@ invariant_of-self-2 g c =
     let i = c.self.invariant in
     let s = c.self.inside in
     let o : Origin = origin s.note.book s.params (arc_value s.table) s.seats in
-    let n = node_origin.origin o.params o.triples o.seats in
+    let n = o in
     let k = command_of c.args.command.now in
     let r = c.in_ok-reply.reply in
     let core = c.step_by_reader.new.core in
@@ -101,7 +100,7 @@ returns-clause-takes g c =
     let i = c.self.invariant in
     let s = c.self.inside in
     let o : Origin = origin s.note.book s.params (arc_value s.table) s.seats in
-    let n = node_origin.origin o.params o.triples o.seats in
+    let n = o in
     let k = command_of c.args.command.now in
     let r = c.in_ok-reply.reply in
     let core = c.step_by_reader.new.core in

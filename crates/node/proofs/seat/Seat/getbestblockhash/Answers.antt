@@ -1,8 +1,0 @@
-use Rattle.node.proofs.Passes.{owns}
-use Rattle.node.proofs.seat.Seat.getbestblockhash.Goals as goal
-
-pub returns-in_default-clause-own : goal.returns-in_default-clause-own
-returns-in_default-clause-own g c = owns c.self.inside.number c.self.inside.history c.self.inside.last.value c.args.self.now c.self.view_is
-
-pub returns-clause-own : goal.returns-clause-own
-returns-clause-own g c = owns c.self.inside.number c.self.inside.history c.self.inside.last.value c.args.self.now c.self.view_is

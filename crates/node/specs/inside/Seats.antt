@@ -1,0 +1,15 @@
+-- What a seat finds as it enters the published view.
+use Rattle.std.specs.Prelude.{◌≡◌, List}
+use mathlib.Core.List.{IsPrefix}
+use Rattle.chain.specs.declared.entry.Entry.{Entry}
+use Rattle.view.specs.Beginning.{Beginning}
+use Rattle.view.specs.Origin.{Origin}
+use Rattle.view.specs.ViewState.{ViewState, IsExact}
+
+-- the view is exact, of this origin, and goes on from these entries; the note has all of its own
+pub record IsFound (o : Origin) (seen : List Entry) (x : ViewState) (note : Beginning) : Type 0 where
+  pub exact : IsExact x
+  pub origin_is : x.origin ≡ o
+  pub book_is : note.book ≡ o.book
+  pub entries_are : note.entries ≡ x.journal
+  pub grows : IsPrefix seen note.entries

@@ -1,0 +1,2 @@
+-- Theorems on what a node is opened with.
+pub mod Opening

@@ -1,0 +1,94 @@
+//! Scripts that are run before the lock is taken.
+
+ghost use Rattle.std.specs.Prelude.{◌≡◌, IfOk, IfSome};
+ghost use Rattle.view.specs.ViewState.{IsExact};
+ghost use Rattle.txn.specs.Identity.{ids_of};
+
+use crate::node::Node;
+use crate::seat::Seat;
+use chain::{PreparedCommand, SubmittedBlock};
+use connect::early_jobs;
+use curve::Table;
+use queue::{EarlyJobs, Gate, Verdicts, check_early};
+use rules::Params;
+use std::alloc::Global;
+use std::thread::Threads;
+use view::View;
+use wire::Memory;
+
+/// The scripts of a block, where its parent is the best block of a view: of each input whose coin the view or the block
+/// itself has.
+fn jobs_over<'c>(
+    alloc: Global,
+    view: &View,
+    params: &Params,
+    block: &'c SubmittedBlock,
+) -> Result<Option<EarlyJobs<'c>>, Memory>
+    requires exact { IsExact view.now }
+    requires ids { block.now.ids.items ≡ ids_of block.now.block.txs }
+{
+    if block.block.header.prev != view.best() {
+        return Ok(None);
+    }
+    let rules = params.at(view.height() as u32 + 1);
+    let ids = block.ids.as_slice();
+    let jobs = early_jobs(alloc, view.coins(), &block.block, ids, rules)?;
+    Ok(if jobs.is_empty() { None } else { Some(jobs) })
+}
+
+impl<'t> Seat<'t> {
+    ghost use Rattle.node.specs.Pass.{IsLater, IsOwn};
+
+    /// The scripts that can be run before the lock is taken: those of a block that breaks no rule by itself, and whose
+    /// parent is the best block that the seat sees. The view was left when they are given.
+    #[tactic(auto, using(crate::proofs::Owning::own_begins))]
+    pub(crate) fn early_jobs<'c>(
+        &mut self,
+        alloc: Global,
+        command: &'c PreparedCommand,
+    ) -> Result<Option<EarlyJobs<'c>>, Memory>
+        ensures same { self.new ≡ self.old }
+        ensures later { IsLater self.old self.new }
+        ensures own { IsOwn self.new }
+    {
+        let _ = &self.params;
+        let PreparedCommand::Submit(submission, _) = command else {
+            return Ok(None);
+        };
+        let Some(block) = submission.block() else {
+            return Ok(None);
+        };
+        if block.fault.is_some() {
+            return Ok(None);
+        }
+        let Some((reading, _found)) = self.enter() else {
+            return Ok(None);
+        };
+        let jobs = jobs_over(alloc, reading.get(), &self.params, block);
+        self.stay(reading);
+        jobs
+    }
+
+    /// The verdicts of those scripts under a table. They are run when the view was left: a reader that stays inside
+    /// holds up all publications.
+    pub(crate) fn early_verdicts<'c, R: Threads + Sync>(
+        &mut self,
+        rt: &R,
+        node: &Node<'_>,
+        command: &'c PreparedCommand,
+        table: &'c Table,
+    ) -> Result<Option<Verdicts<'c>>, Memory>
+        ensures same { self.new ≡ self.old }
+        ensures later { IsLater self.old self.new }
+        ensures own { IsOwn self.new }
+        ensures table { IfOk result (λ early.
+            IfSome early (λ verdicts. verdicts.triples ≡ table.entry.now)) }
+    {
+        let Some(jobs) = self.early_jobs(node.alloc, command)? else {
+            return Ok(None);
+        };
+        let gate: &(dyn Gate + Sync) = node.gate;
+        let verdicts = check_early(rt, node.alloc, jobs, table, node.workers, &gate)?;
+        Ok(Some(verdicts))
+    }
+}

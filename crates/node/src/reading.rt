@@ -1,0 +1,113 @@
+//! A seat's reading calls. They wait for nobody: each enters the published view once.
+
+ghost use Rattle.std.specs.Prelude.{◌≡◌, IfOk, IfErr};
+ghost use Rattle.view.specs.Origin.{machine};
+ghost use Rattle.view.specs.ViewState.{IsExact, state_of};
+ghost use Rattle.node.specs.Told.{output_at, shown_tips};
+
+use crate::answer::{Stamped, UnspentOutput};
+use crate::fault::Fault;
+use crate::node::Node;
+use crate::seat::Seat;
+use hash::Id;
+use std::alloc::Global;
+use tree::Tip;
+use txn::OutPoint;
+use view::View;
+use wire::Memory;
+
+/// The output at an outpoint of a view, if it isn't spent.
+fn output(alloc: Global, view: &View, outpoint: &OutPoint) -> Result<Option<UnspentOutput>, Memory>
+    requires { IsExact view.now }
+    ensures { let o = view.now.origin in let s = state_of o view.now.journal in
+        IfOk result (λ found. found ≡ output_at o outpoint.now s) }
+{
+    match view.unspent(outpoint) {
+        Some((coin, confirmations)) => Ok(Some(UnspentOutput::of(alloc, coin, confirmations)?)),
+        None => Ok(None),
+    }
+}
+
+/// The tips of a view.
+fn tips(alloc: Global, view: &View) -> Result<Vec<Tip>, Memory>
+    requires { IsExact view.now }
+    ensures { let o = view.now.origin in let s = state_of o view.now.journal in
+        IfOk result (λ list. list.items ≡ shown_tips o s) }
+{
+    Ok(Vec::from_slice(alloc, view.tips())?)
+}
+
+impl<'t> Seat<'t> {
+    ghost use Rattle.node.specs.Calls.{IsReadFault, IsClosedFault};
+    ghost use Rattle.node.specs.Pass.{IsLater, IsOwn, IsRead};
+
+    /// The output at an outpoint, if it isn't spent, after all that the seat has then seen (Bitcoin Core's
+    /// `gettxout`).
+    ///
+    /// Seat and node are of one [`Node::open`](crate::Node::open).
+    pub fn gettxout(
+        &mut self,
+        alloc: Global,
+        _node: &Node<'_>,
+        outpoint: &OutPoint,
+    ) -> Result<Stamped<Option<UnspentOutput>>, Fault>
+        ensures later { IsLater self.old self.new }
+        ensures answer { let output = output_at self.old.origin outpoint.now in
+            IfOk result (λ r. IsRead self.old self.new output r.at r.value) }
+        ensures own { IsOwn self.new }
+        ensures fault { IfErr result (λ fault. IsReadFault self.old self.new fault) }
+    {
+        let Some((reading, found)) = self.enter() else {
+            return Err(Fault::Closed);
+        };
+        let Ok(value) = output(alloc, reading.get(), outpoint) else {
+            self.stay(reading);
+            return Err(Fault::Memory);
+        };
+        let at = self.leave(reading, found);
+        Ok(Stamped { at, value })
+    }
+
+    /// The id of the best block, after all that the seat has then seen. It takes no memory.
+    ///
+    /// Seat and node are of one [`Node::open`](crate::Node::open).
+    pub fn getbestblockhash(&mut self, _node: &Node<'_>) -> Result<Stamped<Id>, Fault>
+        ensures later { IsLater self.old self.new }
+        ensures answer { let m = machine self.old.origin in
+            IfOk result (λ r. IsRead self.old self.new m.best r.at r.value) }
+        ensures own { IsOwn self.new }
+        ensures fault { IfErr result (λ fault. IsClosedFault self.old self.new fault) }
+    {
+        let Some((reading, found)) = self.enter() else {
+            return Err(Fault::Closed);
+        };
+        let value = reading.get().best();
+        let at = self.leave(reading, found);
+        Ok(Stamped { at, value })
+    }
+
+    /// The tips of the tree, by height downwards, then by arrival, after all that the seat has then seen.
+    ///
+    /// Seat and node are of one [`Node::open`](crate::Node::open).
+    pub fn getchaintips(
+        &mut self,
+        alloc: Global,
+        _node: &Node<'_>,
+    ) -> Result<Stamped<Vec<Tip>>, Fault>
+        ensures later { IsLater self.old self.new }
+        ensures answer { let tips = shown_tips self.old.origin in
+            IfOk result (λ r. IsRead self.old self.new tips r.at r.value.items) }
+        ensures own { IsOwn self.new }
+        ensures fault { IfErr result (λ fault. IsReadFault self.old self.new fault) }
+    {
+        let Some((reading, found)) = self.enter() else {
+            return Err(Fault::Closed);
+        };
+        let Ok(value) = tips(alloc, reading.get()) else {
+            self.stay(reading);
+            return Err(Fault::Memory);
+        };
+        let at = self.leave(reading, found);
+        Ok(Stamped { at, value })
+    }
+}

@@ -1,0 +1,116 @@
+//! What clients ask of their seats, one after the other.
+
+use crate::answer::{Answer, asked, submitted};
+use crate::fault::Fault;
+use crate::records::Records;
+use block::BlkFault;
+use node::{Node, Seat};
+use scenario::{Client, Definitions, Request};
+use std::alloc::{AllocError, AllocFailed};
+use std::sync::Wait;
+use std::thread::Threads;
+
+/// The moment at which the blocks of a blk file are submitted: the last that a header's time can be.
+const BLK_MOMENT: u64 = 4_294_967_295;
+
+/// Why a client ends before its commands do.
+#[derive(Clone, Copy, Debug, PartialEq, Eq)]
+pub enum Ended {
+    /// There was no memory for an answer.
+    Memory,
+    /// The output takes no more.
+    CannotWrite,
+    /// The blk file isn't read on from this offset.
+    BlkStopped(u64),
+    /// The reader of the blk file has no more to give.
+    Closed,
+}
+
+impl From<AllocError> for Ended {
+    fn from(_error: AllocError) -> Ended {
+        Ended::Memory
+    }
+}
+
+impl<T: Drop> From<AllocFailed<T>> for Ended {
+    fn from(_error: AllocFailed<T>) -> Ended {
+        Ended::Memory
+    }
+}
+
+impl From<BlkFault> for Ended {
+    fn from(fault: BlkFault) -> Ended {
+        match fault {
+            BlkFault::Foreign(offset) => Ended::BlkStopped(offset),
+            BlkFault::Cut(offset) => Ended::BlkStopped(offset),
+            BlkFault::TooLong(offset) => Ended::BlkStopped(offset),
+            BlkFault::Memory => Ended::Memory,
+            BlkFault::Read | BlkFault::Stopped => Ended::Closed,
+        }
+    }
+}
+
+/// How a client ends by a fault of the output.
+pub fn ended_by(fault: &Fault<'_>) -> Ended {
+    if matches!(fault, Fault::Memory) {
+        return Ended::Memory;
+    }
+    Ended::CannotWrite
+}
+
+/// Who takes answers as they come.
+pub trait Sink {
+    fn take(&mut self, answer: Answer) -> Result<(), Ended>;
+}
+
+impl Sink for Vec<Answer> {
+    fn take(&mut self, answer: Answer) -> Result<(), Ended> {
+        self.push(answer)?;
+        Ok(())
+    }
+}
+
+/// Runs a client's commands on its seat.
+pub fn answer_all<R, S>(
+    rt: &R,
+    definitions: &Definitions,
+    node: &Node<'_>,
+    client: &Client<'_, '_>,
+    seat: &mut Seat<'_>,
+    sink: &mut S,
+) -> Result<(), Ended>
+where
+    R: AllocGlobal + Threads + Wait + Sync,
+    S: Sink,
+{
+    for call in client.calls.as_slice() {
+        let words = call.words.to_string(rt.alloc())?;
+        let outcome = asked(rt, definitions, &call.request, node, seat);
+        let is_submission = matches!(call.request, Request::Submit(..));
+        sink.take(Answer::new(rt.alloc(), words, outcome, is_submission)?)?;
+    }
+    Ok(())
+}
+
+/// Submits the records of a blk file in their order, until one can't be read.
+pub fn submit_all<R, S>(
+    rt: &R,
+    node: &Node<'_>,
+    records: &mut Records<'_>,
+    seat: &mut Seat<'_>,
+    sink: &mut S,
+) -> Result<(), Ended>
+where
+    R: AllocGlobal + Threads + Wait + Sync,
+    S: Sink,
+{
+    for number in 1..u64::MAX {
+        let Some(record) = records.next()? else {
+            return Ok(());
+        };
+        let words = format!(in rt.alloc(); "record {number}")?;
+        let outcome = submitted(rt, node, seat, record.as_slice(), BLK_MOMENT);
+        sink.take(Answer::new(rt.alloc(), words, outcome, true)?)?;
+    }
+    Ok(())
+}

@@ -1,0 +1,34 @@
+//! An output beside the one that was expected.
+
+use crate::fault::{Difference, Fault};
+use std::alloc::Global;
+use std::str;
+
+/// Refuses an output that isn't the file's, by its first line that differs.
+pub fn compare(alloc: Global, expected: &[u8], written: &str) -> Result<(), Fault<'static>> {
+    if expected == written.as_bytes() {
+        return Ok(());
+    }
+    let mut lines = expected.split(|byte| *byte == b'\n');
+    let mut others = written.as_bytes().split(|byte| *byte == b'\n');
+    for place in 0..=written.len().saturating_add(1) {
+        let (line, other) = (lines.next(), others.next());
+        if line != other {
+            return Err(Fault::Differs(Difference {
+                line: place.saturating_add(1),
+                expected: text_of(alloc, line)?,
+                written: text_of(alloc, other)?,
+            }));
+        }
+    }
+    Ok(())
+}
+
+/// A line's text, or what stands for bytes that are none.
+fn text_of(alloc: Global, line: Option<&[u8]>) -> Result<Option<String>, Fault<'static>> {
+    let Some(line) = line else {
+        return Ok(None);
+    };
+    let text = str::from_utf8(line).unwrap_or("no text");
+    Ok(Some(String::from_str(alloc, text)?))
+}

@@ -1,0 +1,102 @@
+//! The standard output of a run, written as it comes.
+
+use crate::answer::Answer;
+use crate::expected::compare;
+use crate::fault::Fault;
+use crate::files::print;
+use crate::journal::Step;
+use crate::objects;
+use scenario::Label;
+use std::alloc::Global;
+use std::fmt::Write as _;
+use std::io::Write;
+
+/// How a line is written.
+#[derive(Clone, Copy, Debug, PartialEq, Eq)]
+pub enum Form {
+    Text,
+    /// A JSON object for each answer and each line of the journal.
+    Json,
+}
+
+/// The standard output of a run.
+#[derive(Drop)]
+pub struct Output<'o, O> {
+    alloc: Global,
+    stream: &'o mut O,
+    pub form: Form,
+    /// What was written, where that is to be compared.
+    kept: Option<String>,
+}
+
+impl<'o, O: Write> Output<'o, O> {
+    /// Only where it is to be compared, what is written is kept.
+    pub fn new(alloc: Global, stream: &'o mut O, form: Form, is_compared: bool) -> Output<'o, O> {
+        Output {
+            alloc,
+            stream,
+            form,
+            kept: if is_compared {
+                Some(String::new(alloc))
+            } else {
+                None
+            },
+        }
+    }
+
+    /// The line above a client's answers.
+    pub fn client(&mut self, name: &str) -> Result<(), Fault<'static>> {
+        match self.form {
+            Form::Text => {
+                let line = format!(in self.alloc; "client {name}\n")?;
+                self.put(line.as_str())
+            }
+            Form::Json => Ok(()),
+        }
+    }
+
+    /// Answers of a client, in their order.
+    pub fn answers(&mut self, client: &str, answers: &[Answer]) -> Result<(), Fault<'static>> {
+        let mut text = String::new(self.alloc);
+        for answer in answers {
+            match self.form {
+                Form::Text => write!(text, "{answer}").map_err(|_| Fault::Memory)?,
+                Form::Json => text.push_str(objects::answer(self.alloc, client, answer)?.as_str())?,
+            }
+        }
+        self.put(text.as_str())
+    }
+
+    /// The line above the journal.
+    pub fn journal(&mut self) -> Result<(), Fault<'static>> {
+        match self.form {
+            Form::Text => self.put("journal\n"),
+            Form::Json => Ok(()),
+        }
+    }
+
+    /// A line of the journal.
+    pub fn step(&mut self, step: &Step<'_, Label<'_>>) -> Result<(), Fault<'static>> {
+        let text = match self.form {
+            Form::Text => format!(in self.alloc; "{step}\n")?,
+            Form::Json => objects::step(self.alloc, step)?,
+        };
+        self.put(text.as_str())
+    }
+
+    /// Writes a text, and hands it on at once.
+    fn put(&mut self, text: &str) -> Result<(), Fault<'static>> {
+        if let Some(kept) = &mut self.kept {
+            kept.push_str(text)?;
+        }
+        print(self.stream, text)
+    }
+
+    /// Refuses an output that isn't this, by its first line that differs.
+    pub fn compare(&self, expected: &[u8]) -> Result<(), Fault<'static>> {
+        match &self.kept {
+            Some(kept) => compare(self.alloc, expected, kept.as_str()),
+            None => Ok(()),
+        }
+    }
+}

@@ -1,0 +1,205 @@
+//! The run of a scenario: its files, its clients, what is printed, and what is saved.
+
+use crate::fault::Fault;
+use crate::files::{read_file, read_scenario, read_table};
+use crate::heights;
+use crate::options::RunOptions;
+use crate::output::Output;
+use crate::progress::Progress;
+use crate::report::Report;
+use crate::running::{run_clients, run_records};
+use crate::saving::save;
+use crate::text::{Text, read_definitions};
+use crate::writer::Writer;
+use curve::Table;
+use node::{Gate, Node, Params};
+use scenario::{BLK, Client, Definitions, number_after, read_clients};
+use std::alloc::Global;
+use std::io::{IsTerminal, Read, Write};
+use std::rt::Files;
+use std::sync::{Arc, Wait};
+use std::thread::Threads;
+use std::time::Clock;
+
+/// What the files of a run hold.
+#[derive(Drop)]
+struct Inputs {
+    scenario: Vec<u8>,
+    blk: Option<Vec<u8>>,
+    table: Table,
+    expected: Option<Vec<u8>>,
+}
+
+/// Runs a scenario, prints what its clients were answered, and saves it where that is asked for.
+pub fn run<'w, R, I, O, E>(
+    rt: &R,
+    options: &RunOptions<'w>,
+    gate: &(dyn Gate + Sync),
+    input: &mut I,
+    out: &mut O,
+    err: &mut E,
+) -> Result<(), Fault<'w>>
+where
+    R: Files + AllocGlobal + Clock + Threads + Wait + Sync,
+    I: Read,
+    O: Write,
+    E: Write + IsTerminal,
+{
+    let alloc = rt.alloc();
+    let params = heights::read(options.heights).ok_or(Fault::Heights)?;
+    let inputs = read_inputs(rt, options, input)?;
+    let Inputs {
+        scenario,
+        blk,
+        table,
+        expected,
+    } = inputs;
+    let Text { definitions, below } = read_definitions(alloc, scenario.as_slice(), table)?;
+    let clients = read_clients(alloc, &definitions, below.as_slice())?;
+    if clients.is_empty() {
+        return Err(Fault::ScenarioLine(number_after(scenario.as_slice())));
+    }
+    let is_terminal = err.is_terminal();
+    let mut writer = Writer {
+        output: Output::new(alloc, out, options.form, expected.is_some()),
+        progress: Progress::new(rt, err, is_terminal),
+        name: String::new(alloc),
+        alloc,
+    };
+    let setting = Setting {
+        params,
+        workers: options.workers,
+    };
+    let played = play(
+        rt,
+        setting,
+        gate,
+        &definitions,
+        clients.as_slice(),
+        blk.as_ref().map(|file| file.as_slice()),
+        &mut writer,
+    )?;
+    let Writer {
+        mut output,
+        mut progress,
+        ..
+    } = writer;
+    progress.end();
+    let Played { report, written } = played;
+    let written = written.and_then(|()| report.write_journal(&mut output));
+    if let Some(folder) = options.save {
+        let saved = save(rt, folder, &report, definitions.table(), options.heights);
+        written?;
+        saved?;
+    } else {
+        written?;
+    }
+    match expected {
+        Some(expected) => output.compare(expected.as_slice()),
+        None => Ok(()),
+    }
+}
+
+/// The files of a run, in the order in which one that can't be read is told.
+fn read_inputs<'w, R, I>(
+    rt: &R,
+    options: &RunOptions<'w>,
+    input: &mut I,
+) -> Result<Inputs, Fault<'w>>
+where
+    R: Files + AllocGlobal,
+    I: Read,
+{
+    let scenario = read_scenario(rt, options.scenario, input)?;
+    let blk = match options.blk {
+        Some(file) => Some(read_file(rt, file)?),
+        None => None,
+    };
+    // Its lines are looked at when all files were read.
+    let table = match options.table {
+        Some(file) => Some(read_file(rt, file)?),
+        None => None,
+    };
+    let expected = match options.expect {
+        Some(file) => Some(read_file(rt, file)?),
+        None => None,
+    };
+    let table = read_table(rt.alloc(), table.as_ref().map(|text| text.as_slice()))?;
+    Ok(Inputs {
+        scenario,
+        blk,
+        table,
+        expected,
+    })
+}
+
+/// How the node is opened.
+#[derive(Clone, Copy)]
+struct Setting {
+    params: Params,
+    workers: usize,
+}
+
+/// A run whose history is known.
+#[derive(Drop)]
+struct Played<'d, 't> {
+    report: Report<'d, 't>,
+    /// That the output took no more, if it didn't.
+    written: Result<(), Fault<'static>>,
+}
+
+/// Runs the clients on a new node. The output's fault is the only one after which there is a history.
+fn play<'d, 't, R, E, O>(
+    rt: &R,
+    setting: Setting,
+    gate: &(dyn Gate + Sync),
+    definitions: &'d Definitions,
+    clients: &[Client<'d, 't>],
+    blk: Option<&[u8]>,
+    writer: &mut Writer<'_, '_, '_, R, E, O>,
+) -> Result<Played<'d, 't>, Fault<'static>>
+where
+    R: AllocGlobal + Clock + Threads + Wait + Sync,
+    O: Write,
+    E: Write,
+{
+    let alloc = rt.alloc();
+    let Setting { params, workers } = setting;
+    let names = names(alloc, clients, blk.is_some())?;
+    let table = Arc::new(alloc, definitions.table().copy()?)?;
+    let (node, mut seats) = Node::open(rt, alloc, params, &table, workers, names.len(), gate)?;
+    let lone = usize::from(blk.is_some()).min(seats.len());
+    let (first, others) = seats.split_at_mut(lone);
+    let submitted = match (blk, first) {
+        (Some(file), [seat]) => run_records(rt, file, &node, seat, writer),
+        _ => Ok(()),
+    };
+    let written = match submitted {
+        Ok(()) => run_clients(rt, definitions, clients, &node, others, writer),
+        Err(fault) => Err(fault),
+    };
+    let entries = node.close(rt, seats.as_mut_slice())?;
+    match written {
+        Ok(()) | Err(Fault::CannotWrite(_)) => Ok(Played {
+            report: Report::new(alloc, definitions, names, entries)?,
+            written,
+        }),
+        Err(fault) => Err(fault),
+    }
+}
+
+/// The client of each seat.
+fn names<'t>(
+    alloc: Global,
+    clients: &[Client<'_, 't>],
+    has_blk: bool,
+) -> Result<Vec<&'t str>, Fault<'static>> {
+    let mut names = Vec::new(alloc);
+    if has_blk {
+        names.push(BLK)?;
+    }
+    for client in clients {
+        names.push(client.name)?;
+    }
+    Ok(names)
+}

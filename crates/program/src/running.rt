@@ -1,0 +1,156 @@
+//! The run of a scenario's clients on a node.
+
+use crate::answer::Answer;
+use crate::clients::{Ended, answer_all, ended_by, submit_all};
+use crate::fault::Fault;
+use crate::records::Records;
+use crate::writer::Writer;
+use node::{Node, Seat};
+use scenario::{BLK, Client, Definitions};
+use std::alloc::Global;
+use std::io::Write;
+use std::sync::{Mutex, Wait};
+use std::thread;
+use std::thread::Threads;
+use std::time::Clock;
+
+/// Runs the clients, each on a seat of its own. The answers of the first are written as they come, those of each other
+/// one when it and all before it have ended.
+pub fn run_clients<R, E, O>(
+    rt: &R,
+    definitions: &Definitions,
+    clients: &[Client<'_, '_>],
+    node: &Node<'_>,
+    seats: &mut [Seat<'_>],
+    writer: &mut Writer<'_, '_, '_, R, E, O>,
+) -> Result<(), Fault<'static>>
+where
+    R: AllocGlobal + Clock + Threads + Wait + Sync,
+    E: Write,
+    O: Write,
+{
+    let (Some((client, others)), Some((seat, rest))) = (
+        clients.split_first(),
+        seats.split_first_mut(),
+    ) else {
+        return Ok(());
+    };
+    let mut desks = Vec::new(rt.alloc());
+    for _ in others {
+        desks.push(Desk::new(rt.alloc()))?;
+    }
+    let table = desks.as_slice();
+    let ((), written) = thread::join(
+        rt,
+        || run_at_once(rt, definitions, others, node, rest, table),
+        || run_first(rt, definitions, client, node, seat, writer),
+    );
+    written?;
+    for (client, desk) in others.iter().zip(desks.into_iter()) {
+        writer.client(client.name)?;
+        writer.answers(desk.into_answers()?.as_slice())?;
+    }
+    Ok(())
+}
+
+/// Runs the first client, and writes each answer when it comes.
+fn run_first<R, E, O>(
+    rt: &R,
+    definitions: &Definitions,
+    client: &Client<'_, '_>,
+    node: &Node<'_>,
+    seat: &mut Seat<'_>,
+    writer: &mut Writer<'_, '_, '_, R, E, O>,
+) -> Result<(), Fault<'static>>
+where
+    R: AllocGlobal + Clock + Threads + Wait + Sync,
+    E: Write,
+    O: Write,
+{
+    writer.client(client.name)?;
+    Ok(answer_all(rt, definitions, node, client, seat, writer)?)
+}
+
+/// The answers of a client, when it has ended.
+#[derive(Drop)]
+struct Desk {
+    answers: Mutex<Result<Vec<Answer>, Ended>>,
+}
+
+impl Desk {
+    fn new(alloc: Global) -> Desk {
+        Desk {
+            answers: Mutex::new(Ok(Vec::new(alloc))),
+        }
+    }
+
+    fn lay<R: Wait>(&self, rt: &R, answers: Result<Vec<Answer>, Ended>) {
+        let mut guard = self.answers.lock(rt);
+        *guard = answers;
+    }
+
+    fn into_answers(self) -> Result<Vec<Answer>, Ended> {
+        let Desk { answers } = self;
+        answers.into_inner()
+    }
+}
+
+/// Runs several clients at once, each on a thread of its own where one can be made.
+fn run_at_once<'x, R>(
+    rt: &'x R,
+    definitions: &'x Definitions,
+    clients: &'x [Client<'_, '_>],
+    node: &'x Node<'_>,
+    seats: &mut [Seat<'_>],
+    desks: &'x [Desk],
+)
+where
+    R: AllocGlobal + Threads + Wait + Sync,
+{
+    let run_one = |place: usize, seat: &mut Seat<'_>| {
+        if let (Some(client), Some(desk)) = (clients.get(place), desks.get(place)) {
+            desk.lay(rt, collected(rt, definitions, node, client, seat));
+        }
+    };
+    thread::for_each_mut(rt, seats, 16, &run_one);
+}
+
+/// All answers of a client.
+fn collected<R>(
+    rt: &R,
+    definitions: &Definitions,
+    node: &Node<'_>,
+    client: &Client<'_, '_>,
+    seat: &mut Seat<'_>,
+) -> Result<Vec<Answer>, Ended>
+where
+    R: AllocGlobal + Threads + Wait + Sync,
+{
+    let mut answers = Vec::new(rt.alloc());
+    answer_all(rt, definitions, node, client, seat, &mut answers)?;
+    Ok(answers)
+}
+
+/// The client of a blk file, whose answers are written as they come. The file's fault comes before that of the output.
+pub fn run_records<R, E, O>(
+    rt: &R,
+    file: &[u8],
+    node: &Node<'_>,
+    seat: &mut Seat<'_>,
+    writer: &mut Writer<'_, '_, '_, R, E, O>,
+) -> Result<(), Fault<'static>>
+where
+    R: AllocGlobal + Clock + Threads + Wait + Sync,
+    E: Write,
+    O: Write,
+{
+    let mut records = Records::new(rt.alloc(), file);
+    let written = match writer.client(BLK) {
+        Ok(()) => submit_all(rt, node, &mut records, seat, writer),
+        Err(fault) => Err(ended_by(&fault)),
+    };
+    if let Err(Ended::CannotWrite) = written {
+        records.read_out()?;
+    }
+    Ok(written?)
+}

@@ -1,0 +1,60 @@
+//! What a scenario defines, to be handed to another program.
+
+use crate::fault::Fault;
+use crate::files::{print, read_scenario};
+use crate::options::ShowOptions;
+use crate::text::{Text, read_definitions};
+use curve::Table;
+use scenario::{Definitions, LineFault, Shown};
+use std::alloc::{AllocError, Global};
+use std::io::{Read, Write};
+use std::rt::Files;
+
+/// Prints a line for each of these names, or for each that the scenario defines: the name, the id, and the bytes in
+/// hexadecimal.
+pub fn show<'w, R, I, O>(
+    rt: &R,
+    options: &ShowOptions<'w>,
+    input: &mut I,
+    out: &mut O,
+) -> Result<(), Fault<'w>>
+where
+    R: Files + AllocGlobal,
+    I: Read,
+    O: Write,
+{
+    let alloc = rt.alloc();
+    let text = read_scenario(rt, options.scenario, input)?;
+    let Text { definitions, .. } = read_definitions(alloc, text.as_slice(), Table::new(alloc))?;
+    if options.names.is_empty() {
+        for name in definitions.names() {
+            if let Some(line) = line(alloc, &definitions, name.as_str())? {
+                print(out, line.as_str())?;
+            }
+        }
+        return Ok(());
+    }
+    for name in options.names.as_slice() {
+        match line(alloc, &definitions, name)? {
+            Some(line) => print(out, line.as_str())?,
+            None => return Err(Fault::NoName(name)),
+        }
+    }
+    Ok(())
+}
+
+/// The line of a name, if something has it.
+fn line(
+    alloc: Global,
+    definitions: &Definitions,
+    name: &str,
+) -> Result<Option<String>, AllocError> {
+    match definitions.shown(name) {
+        Ok(shown) => {
+            let Shown { id, digits } = shown;
+            Ok(Some(format!(in alloc; "{name} {id} {digits}\n")?))
+        }
+        Err(LineFault::Unreadable) => Ok(None),
+        Err(LineFault::Memory) => Err(AllocError),
+    }
+}

@@ -1,0 +1,46 @@
+//! Who writes what clients are answered, and tells how far they are.
+
+use crate::answer::Answer;
+use crate::clients::{Ended, Sink, ended_by};
+use crate::fault::Fault;
+use crate::output::Output;
+use crate::progress::Progress;
+use std::alloc::Global;
+use std::io::Write;
+use std::slice;
+use std::time::Clock;
+
+/// The output of a run, and its progress.
+#[derive(Drop)]
+pub struct Writer<'c, 'e, 'o, C, E, O> {
+    pub output: Output<'o, O>,
+    pub progress: Progress<'c, 'e, C, E>,
+    /// The client whose answers are written.
+    pub name: String,
+    pub alloc: Global,
+}
+
+impl<C: Clock, E: Write, O: Write> Writer<'_, '_, '_, C, E, O> {
+    /// The answers to come are those of this client.
+    pub fn client(&mut self, name: &str) -> Result<(), Fault<'static>> {
+        self.name = String::from_str(self.alloc, name)?;
+        self.output.client(name)
+    }
+
+    /// Writes answers of the client, in their order.
+    pub fn answers(&mut self, answers: &[Answer]) -> Result<(), Fault<'static>> {
+        for answer in answers {
+            self.progress.count(answer.is_submission);
+        }
+        self.output.answers(self.name.as_str(), answers)
+    }
+}
+
+impl<C: Clock, E: Write, O: Write> Sink for Writer<'_, '_, '_, C, E, O> {
+    fn take(&mut self, answer: Answer) -> Result<(), Ended> {
+        match self.answers(slice::from_ref(&answer)) {
+            Ok(()) => Ok(()),
+            Err(fault) => Err(ended_by(&fault)),
+        }
+    }
+}
