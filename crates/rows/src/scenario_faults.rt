@@ -132,7 +132,7 @@ const COMMANDS: [Case; 34] = [
     Case(b"client\n", 1),
     Case(b"client blk\n", 1),
     Case(b"client a.b\n", 1),
-    Case(b"client a\nclient b\n", 2),
+    Case(b"client a\nclient a\n", 2),
     // words that aren't known, or haven't come yet
     Case(b"client a\nbest\nbestt\n", 3),
     Case(b"client a\ntips genesis\n", 2),
