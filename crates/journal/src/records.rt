@@ -3,11 +3,10 @@
 ghost use Rattle.std.specs.Prelude.{◌≡◌, ◌++◌, IfOk, OnOk};
 ghost use Rattle.std.specs.List.{flat_map};
 ghost use Rattle.block.specs.Blk.{record_bytes};
-ghost use Rattle.program.specs.inside.Saved.{record_of};
+ghost use Rattle.journal.specs.Saved.{record_of};
 
-use crate::fault::Fault;
 use block::{BlkFault, BlkReader, SliceSource};
-use node::{Command, Entry};
+use chain::{Command, Entry};
 use std::alloc::{AllocError, Global};
 
 /// What stands before each of regtest's records (Bitcoin Core's message start).
@@ -91,15 +90,15 @@ impl<'f> Records<'f> {
 }
 
 /// The blocks of a blk file's bytes.
-pub fn read_records(alloc: Global, bytes: &[u8]) -> Result<Vec<Vec<u8>>, Fault<'static>> {
+pub fn read_records(alloc: Global, bytes: &[u8]) -> Result<Vec<Vec<u8>>, BlkFault> {
     let mut records = Vec::new(alloc);
     let mut reader = BlkReader::new(alloc, SliceSource::new(bytes));
     // Each record has its head at least, so no more of them can come than there are bytes.
     for _ in 0..=bytes.len() {
         match reader.next() {
-            Ok(Some(record)) => records.push(record)?,
+            Ok(Some(record)) => records.push(record).map_err(|_| BlkFault::Memory)?,
             Ok(None) => return Ok(records),
-            Err(fault) => return Err(Fault::from(fault)),
+            Err(fault) => return Err(fault),
         }
     }
     Ok(records)

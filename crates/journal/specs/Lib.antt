@@ -1,4 +1,3 @@
--- What private clauses alone cite.
 pub mod Agreement
 pub mod Heights
 pub mod Saved

@@ -1,8 +1,8 @@
 //! The lines of the journal.
 
 use block::ReadFault;
+use chain::{Command, Entry, Reply};
 use hash::Id;
-use node::{Command, Entry, Reply};
 use std::alloc::Global;
 use std::fmt;
 

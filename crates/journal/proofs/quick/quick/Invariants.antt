@@ -3,7 +3,7 @@ use Rattle.tree.specs.State.{opening}
 use Rattle.chain.specs.Commands.{replies_of}
 use Rattle.chain.specs.Regtest.{regtest}
 use Rattle.activate.specs.CoreState.{IsChainstate}
-use Rattle.program.proofs.quick.quick.Given as goal
+use Rattle.journal.proofs.quick.quick.Given as goal
 
 abbrev pub invariant-loop-index : goal.invariant-loop-index
 invariant-loop-index g l = record {

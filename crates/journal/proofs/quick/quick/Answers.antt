@@ -9,7 +9,7 @@ use Rattle.chain.specs.Submission.{Outcome}
 use Rattle.chain.specs.Commands.{outcome, replies_of}
 use Rattle.chain.specs.Regtest.{regtest}
 use Rattle.activate.specs.CoreState.{WithCoins}
-use Rattle.program.proofs.quick.quick.Goals as goal
+use Rattle.journal.proofs.quick.quick.Goals as goal
 
 pub loop-index-init : goal.loop-index-init
 loop-index-init g c =

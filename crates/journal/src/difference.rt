@@ -4,12 +4,13 @@ ghost use Rattle.std.specs.Prelude.{◌≡◌, IfOk, IfSome, None, Some, option_
 ghost use Rattle.tree.specs.State.{opening};
 ghost use Rattle.chain.specs.Regtest.{regtest};
 ghost use Rattle.chain.specs.Commands.{replies_of};
-ghost use Rattle.program.specs.inside.Agreement.{agrees, IsFirstDifference};
+ghost use Rattle.journal.specs.Agreement.{agrees, IsFirstDifference};
 
 use crate::quick::quick;
+use chain::{Command, Reply};
 use curve::Table;
-use node::{Command, Params, Reply};
 use reference::{Watch, slow_watched};
+use rules::Params;
 use std::alloc::Global;
 use wire::Memory;
 

@@ -1,13 +1,13 @@
 //! The heights of soft forks, as a word of the command line gives them.
 
 ghost use Rattle.std.specs.Prelude.{IfSome};
-ghost use Rattle.program.specs.inside.Heights.{IsNumber, IsSpelling};
+ghost use Rattle.journal.specs.Heights.{IsNumber, IsSpelling};
 
-use node::Params;
+use rules::Params;
 
 /// The heights of BIP 34, BIP 65, BIP 66 and of BIPs 68, 112 and 113: four decimal numbers of 32 bits, parted by
 /// commas. None where the word is anything else.
-pub fn read(word: &str) -> Option<Params>
+pub fn read_heights(word: &str) -> Option<Params>
     ensures { IfSome result (IsSpelling word.now) }
 {
     let (bip34, rest) = word.split_once(',')?;

@@ -1,6 +1,6 @@
 //! Replies, read back from their texts.
 
-use node::{MarkReply, SubmitReply};
+use chain::{MarkReply, SubmitReply};
 use std::fmt;
 use std::fmt::Write;
 use txn::Reason;

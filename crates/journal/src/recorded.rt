@@ -1,17 +1,17 @@
 //! Journals, read back.
 
-use crate::fault::Fault;
-use crate::journal::{Asked, Step};
+use crate::fault::JournalFault;
 use crate::replies::{is_text_of, read_mark_reply, read_submit_reply};
+use crate::step::{Asked, Step};
+use chain::Reply;
 use hash::Id;
-use node::Reply;
 use scenario::is_name;
 use std::alloc::{AllocError, Global};
 use std::str;
 
 /// The steps of a journal's text. A line can be read where a step is printed so, with its block's id in digits.
 /// The last line may lack its end.
-pub fn read<'t>(alloc: Global, text: &'t [u8]) -> Result<Vec<Step<'t, Id>>, Fault<'static>> {
+pub fn read_journal<'t>(alloc: Global, text: &'t [u8]) -> Result<Vec<Step<'t, Id>>, JournalFault> {
     let mut steps = Vec::new(alloc);
     let text = match text {
         [] => return Ok(steps),
@@ -22,7 +22,7 @@ pub fn read<'t>(alloc: Global, text: &'t [u8]) -> Result<Vec<Step<'t, Id>>, Faul
         let number = place + 1;
         match read_line(alloc, number, line)? {
             Some(step) => steps.push(step)?,
-            None => return Err(Fault::JournalLine(number)),
+            None => return Err(JournalFault::BadLine(number)),
         }
     }
     Ok(steps)

@@ -6,11 +6,12 @@ ghost use Rattle.chain.specs.Regtest.{regtest};
 ghost use Rattle.chain.specs.Commands.{replies_of};
 
 use activate::Chainstate;
+use chain::{Command, Reply};
 use connect::Env;
 use curve::Table;
-use node::{Command, Open, Params, Reply};
-use queue::Alone;
+use queue::{Alone, Open};
 use reference::Watch;
+use rules::Params;
 use std::alloc::Global;
 use wire::Memory;
 
