@@ -17,8 +17,8 @@ impl Finding {
     /// The status with which an audit ends.
     pub fn status(self) -> u8
         ensures bound { result ≤ 1 }
-        ensures agrees { self.entry ≡ findings.Agrees → result ≡ 0 }
-        ensures differs { (line : ℕ) → self.entry ≡ findings.Differs line → result ≡ 1 }
+        ensures agrees { self ≡ findings.Agrees → result ≡ 0 }
+        ensures differs { (line : ℕ) → self ≡ findings.Differs line → result ≡ 1 }
     {
         match self {
             Finding::Agrees => 0,
