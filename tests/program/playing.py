@@ -54,8 +54,8 @@ class SavedTest(ScenarioTest):
         self.expect_finding(changed, self.blocks, f"line {place + 1}\n")
 
     def expect_each_line_counts(self) -> None:
-        """The journal agrees as it is, and with any one of its replies owed. With any one changed to another of its kind
-        that line is named."""
+        """The journal agrees as it is, and with any one of its replies owed. With any one changed to another of its
+        kind that line is named."""
         self.expect_finding(self.journal, self.blocks, "agrees\n")
         for place in range(len(self.journal.splitlines())):
             self.expect_line_counts(place)

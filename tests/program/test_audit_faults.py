@@ -75,8 +75,8 @@ GARBAGE = [
     ("order_table.txt", "garbage\n"),
 ]
 
-# Command lines with several faults each, and the one that is told: heights, files that can't be read, the table's lines,
-# the journal's lines, in this order.
+# Command lines with several faults each, and the one that is told: heights, files that can't be read, the table's
+# lines, the journal's lines, in this order.
 ORDER = [
     ("audit --journal no --blk no --heights 1", "regchain: heights\n"),
     ("audit --table no_table --blk no_blk --journal no_journal", "regchain: cannot read no_journal\n"),

@@ -78,7 +78,8 @@ Options:
       --blk <F>            Blocks that are submitted first, as a blk file of Bitcoin Core has them
       --table <F>          The signatures that are valid
       --workers <N>        How many threads check scripts, 1 to 16 [default: 2]
-      --heights <A,B,C,D>  From which heights the rules of BIP 34, 65, 66, and of BIPs 68, 112 and 113 are in force [default: 1,1,1,1]
+      --heights <A,B,C,D>  From which heights the rules of BIP 34, 65, 66, and of BIPs \
+68, 112 and 113 are in force [default: 1,1,1,1]
       --save <D>           The folder for journal.txt, blocks.blk, table.txt and heights.txt
       --expect <F>         The output that it has to have
       --json               Writes a JSON object a line
@@ -97,7 +98,8 @@ Options:
       --journal <F>        The journal.txt of a run
       --blk <F>            Its blocks.blk
       --table <F>          The signatures that are valid
-      --heights <A,B,C,D>  From which heights the rules of BIP 34, 65, 66, and of BIPs 68, 112 and 113 are in force [default: 1,1,1,1]
+      --heights <A,B,C,D>  From which heights the rules of BIP 34, 65, 66, and of BIPs \
+68, 112 and 113 are in force [default: 1,1,1,1]
       --quick              By the chainstate of one thread in place of the definition
       --explain            Tells the reply that the first line which differs should have
       --to <N>             Looks at the first N lines
@@ -151,5 +153,9 @@ class CommandLine(ProgramTest):
         for words, is_read in READ:
             for is_terminal in [False, True]:
                 with self.subTest(words=words, is_terminal=is_terminal):
-                    played = self.play_typed(words, "client a\n") if is_terminal else self.play(words, "client a\n")
+                    play = self.play_typed if is_terminal else self.play
+                    played = play(words, "client a\n")
                     self.assertEqual(played.err.startswith(WAITING), is_read and is_terminal)
+                    if is_read:
+                        told = WAITING if is_terminal else ""
+                        self.assertEqual(played, Played(0, "client a\njournal\n", told))

@@ -39,7 +39,8 @@ def submissions(out: str, front: str) -> list[int]:
 
 class SeveralClients(ProgramTest):
     def expect_sections(self, out: str) -> None:
-        """Each client has 40 answers whose stamps never fall, and 20 submissions in the journal, one above the other."""
+        """Each client has 40 answers whose stamps never fall, and 20 submissions in the journal, one above the
+        other."""
         for client, front in [("a", "a submit p"), ("b", "b submit q")]:
             found = stamps(out, client)
             self.assertEqual(len(found), 40)
