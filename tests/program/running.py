@@ -11,6 +11,7 @@ import tempfile
 import termios
 import threading
 import unittest
+from subprocess import PIPE
 from typing import NamedTuple
 
 ROOT = os.path.dirname(os.path.dirname(os.path.dirname(os.path.realpath(__file__))))
@@ -28,6 +29,10 @@ class Played(NamedTuple):
     status: int
     out: str
     err: str
+
+
+def text_of(data: bytes | None) -> str:
+    return (data or b"").decode("latin-1")
 
 
 def lines(*each: str) -> str:
@@ -62,41 +67,33 @@ class ProgramTest(unittest.TestCase):
             file.write(data)
 
     def read(self, name: str) -> str:
-        return self.read_bytes(name).decode("latin-1")
+        return text_of(self.read_bytes(name))
 
     def read_bytes(self, name: str) -> bytes:
         with open(self.path(name), "rb") as file:
             return file.read()
 
+    def play_on(self, words: list[str], **streams: object) -> Played:
+        """Runs the program on these words and standard streams, which are said as for `subprocess.run`. What goes to
+        none of its pipes is empty."""
+        ended = subprocess.run([PROGRAM, *words], cwd=self.folder, timeout=SECONDS, **streams)
+        return Played(ended.returncode, text_of(ended.stdout), text_of(ended.stderr))
+
     def play(self, words: list[str], text: str = "") -> Played:
-        """Runs the program on these words, with this text on its standard input. No stream is a terminal."""
-        ended = subprocess.run(
-            [PROGRAM, *words], input=text.encode("latin-1"), capture_output=True, cwd=self.folder, timeout=SECONDS
-        )
-        return Played(ended.returncode, ended.stdout.decode("latin-1"), ended.stderr.decode("latin-1"))
+        """Runs the program with this text on its standard input. No stream is a terminal."""
+        return self.play_on(words, input=text.encode("latin-1"), stdout=PIPE, stderr=PIPE)
 
     def play_over_terminal(self, words: list[str], text: str = "") -> Played:
         """Runs the program with a standard error that is a terminal."""
         with Terminal() as terminal:
-            ended = subprocess.run(
-                [PROGRAM, *words],
-                input=text.encode("latin-1"),
-                stdout=subprocess.PIPE,
-                stderr=terminal.side,
-                cwd=self.folder,
-                timeout=SECONDS,
-            )
-            err = terminal.shown()
-        return Played(ended.returncode, ended.stdout.decode("latin-1"), err)
+            played = self.play_on(words, input=text.encode("latin-1"), stdout=PIPE, stderr=terminal.side)
+            return played._replace(err=terminal.shown())
 
     def play_typed(self, words: list[str], text: str) -> Played:
         """Runs the program with a standard input that is a terminal, on which this text is typed, and its end."""
         with Terminal() as terminal:
             terminal.type(text + "\x04")
-            ended = subprocess.run(
-                [PROGRAM, *words], stdin=terminal.side, capture_output=True, cwd=self.folder, timeout=SECONDS
-            )
-        return Played(ended.returncode, ended.stdout.decode("latin-1"), ended.stderr.decode("latin-1"))
+            return self.play_on(words, stdin=terminal.side, stdout=PIPE, stderr=PIPE)
 
     def expect(self, words: list[str], text: str, wanted: Played) -> None:
         """Runs the program, and compares the standard output, the standard error and the status."""
@@ -144,7 +141,7 @@ class Terminal:
         os.close(self.side)
         self.side = -1
         self.reader.join()
-        return b"".join(self.pieces).decode("latin-1")
+        return text_of(b"".join(self.pieces))
 
     def __exit__(self, *_: object) -> None:
         if self.side >= 0:

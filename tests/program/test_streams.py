@@ -1,27 +1,20 @@
 """Standard streams that fail: a folder in the place of the input, a full device, and a pipe that nobody reads."""
 import os
-import subprocess
+from subprocess import PIPE
 
-import running
-from running import SECONDS, Played, ProgramTest
+from running import Played, ProgramTest
 
 
 class Streams(ProgramTest):
-    def play_on(self, words: list[str], **streams: object) -> Played:
-        """Runs the program on these streams."""
-        ended = subprocess.run([running.PROGRAM, *words], cwd=self.folder, timeout=SECONDS, **streams)
-        out, err = (b"" if it is None else it for it in (ended.stdout, ended.stderr))
-        return Played(ended.returncode, out.decode("latin-1"), err.decode("latin-1"))
-
     def test_an_input_that_fails(self) -> None:
         folder = os.open(self.folder, os.O_RDONLY)
         self.addCleanup(os.close, folder)
-        played = self.play_on([], stdin=folder, capture_output=True)
+        played = self.play_on([], stdin=folder, stdout=PIPE, stderr=PIPE)
         self.assertEqual(played, Played(1, "", "regchain: cannot read -\n"))
 
     def test_an_output_that_is_full(self) -> None:
         with open("/dev/full", "wb") as full:
-            played = self.play_on([], input=b"client a\n", stdout=full, stderr=subprocess.PIPE)
+            played = self.play_on([], input=b"client a\n", stdout=full, stderr=PIPE)
         self.assertEqual(played, Played(1, "", "regchain: cannot write -\n"))
 
     def test_both_outputs_are_full(self) -> None:
@@ -37,6 +30,6 @@ class Streams(ProgramTest):
         text = b"block b1 genesis\nclient a\nsubmit b1\nbest\ninvalidate b1\n"
         words = ["run", "--scenario", "-", "--save", "closed_output"]
         with open(writing, "wb") as out:
-            played = self.play_on(words, input=text, stdout=out, stderr=subprocess.PIPE)
+            played = self.play_on(words, input=text, stdout=out, stderr=PIPE)
         self.assertEqual(played, Played(1, "", "regchain: cannot write -\n"))
         self.expect(["audit", "--saved", "closed_output"], "", Played(0, "agrees\n", ""))
