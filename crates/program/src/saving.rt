@@ -33,6 +33,10 @@ pub fn save<'w, R>(
 where
     R: Files + AllocGlobal,
 {
+    // An empty name is no folder, and not the one at the root.
+    if folder.is_empty() {
+        return Err(Fault::CannotSave(folder, JOURNAL));
+    }
     let saved = write_new(rt, folder, report, table, heights).and_then(|()| put_all(rt, folder));
     if saved.is_err() {
         for file in NAMES {
@@ -53,10 +57,6 @@ where
     R: Files + AllocGlobal,
 {
     let alloc = rt.alloc();
-    // An empty name is no folder, and not the one at the root.
-    if folder.is_empty() {
-        return Err(Fault::CannotSave(folder, JOURNAL));
-    }
     let journal = report.journal_in_digits(alloc)?;
     write(rt, folder, JOURNAL, journal.as_bytes())?;
     let blocks = match blk_file(alloc, report.entries()) {
