@@ -1,0 +1,14 @@
+//! What C calls: the proved chainstate behind a handle. `c/wakotehu.c` calls these, and is called by users.
+#![tactic(auto)]
+
+mod answers;
+mod exports;
+mod kept;
+mod parts;
+mod session;
+mod slot;
+
+pub use answers::{Answer, Heights, Name, Place, ShownCoin, ShownTip};
+pub use kept::Kept;
+pub use session::Session;
+pub use slot::Slot;
