@@ -114,8 +114,8 @@ wakotehu_code wakotehu_close(wakotehu_handle handle);
 wakotehu_code wakotehu_submit(wakotehu_handle handle, const uint8_t *bytes, size_t length, uint64_t now,
                               wakotehu_answer *answer);
 
-/* Marks a block as invalid; takes the marks from a block, its ancestors and its descendants; prefers a block to all that
- * are as high (Bitcoin Core's invalidateblock, reconsiderblock, preciousblock). id: 32 bytes. */
+/* Marks a block as invalid; takes the marks from a block, its ancestors and its descendants; prefers a block to all
+ * that are as high (Bitcoin Core's invalidateblock, reconsiderblock, preciousblock). id: 32 bytes. */
 wakotehu_code wakotehu_invalidate(wakotehu_handle handle, const uint8_t *id, wakotehu_answer *answer);
 wakotehu_code wakotehu_reconsider(wakotehu_handle handle, const uint8_t *id, wakotehu_answer *answer);
 wakotehu_code wakotehu_precious(wakotehu_handle handle, const uint8_t *id, wakotehu_answer *answer);
@@ -124,7 +124,8 @@ wakotehu_code wakotehu_precious(wakotehu_handle handle, const uint8_t *id, wakot
 wakotehu_code wakotehu_best(wakotehu_handle handle, uint8_t *id);
 wakotehu_code wakotehu_height(wakotehu_handle handle, uint64_t *height);
 
-/* A tip by its place in the list of tips, from 0: by height downwards, then as they came. WAKOTEHU_NONE past the end. */
+/* A tip by its place in the list of tips, from 0: by height downwards, then as they came. WAKOTEHU_NONE past the
+ * end. */
 wakotehu_code wakotehu_tip_at(wakotehu_handle handle, size_t place, wakotehu_tip *tip);
 
 /* The coin at an outpoint: the id of a transaction (32 bytes) and the output's number, from 0. WAKOTEHU_NONE where
@@ -133,6 +134,23 @@ wakotehu_code wakotehu_tip_at(wakotehu_handle handle, size_t place, wakotehu_tip
  * length is 0. */
 wakotehu_code wakotehu_coin_at(wakotehu_handle handle, const uint8_t *id, uint32_t index, wakotehu_coin *coin,
                                uint8_t *script, size_t length);
+
+/* The bytes of a block that was submitted, and how many there are (`needed`); WAKOTEHU_NONE where there is none, and
+ * for the genesis block. The first of `bytes`, of `length` bytes, become the block; where it is too short nothing is
+ * written there, and the answer is WAKOTEHU_TOO_SMALL. bytes may be null where length is 0. Blocks that are kept are
+ * there, and those that were refused, but for blocks whose transactions aren't those of their header. */
+wakotehu_code wakotehu_block(wakotehu_handle handle, const uint8_t *id, uint8_t *bytes, size_t length, size_t *needed);
+
+/* Who is called for a coin: with the id of its transaction (32 bytes), the output's number, the coin, and coin->script
+ * bytes of its script. What is pointed to lives as long as the call. The handle is in use meanwhile: a call on it
+ * answers WAKOTEHU_BUSY. Any other answer than 0 ends the walk. */
+typedef int (*wakotehu_coin_call)(void *context, const uint8_t *id, uint32_t index, const wakotehu_coin *coin,
+                                  const uint8_t *script);
+
+/* Calls `call` once for each coin: those of the highest block first, then by the order of its outputs. `context` is
+ * handed on. Where there is no memory, WAKOTEHU_MEMORY is answered, and some coins may have been told. It reads the
+ * blocks of the active branch again, so it takes about as long as submitting them. */
+wakotehu_code wakotehu_coins(wakotehu_handle handle, wakotehu_coin_call call, void *context);
 
 /* Bitcoin Core's word for a reason, as "bad-cb-amount"; "blk-bad-inputs" for 29; "" for a number that is no reason's.
  * The text lives as long as the program. */

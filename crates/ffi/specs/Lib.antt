@@ -1,4 +1,5 @@
 pub mod Answers
+pub mod Blocks
 pub mod Codes
 pub mod Keeping
 pub mod SessionState

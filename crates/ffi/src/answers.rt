@@ -15,7 +15,7 @@ pub(crate) const MEMORY: u32 = 1;
 pub(crate) const CLOSED: u32 = 2;
 /// A line of the table can't be read.
 pub(crate) const BAD_TABLE: u32 = 3;
-/// There is no such thing: no coin, no tip.
+/// There is no such thing: no coin, no tip, no block.
 pub(crate) const NONE: u32 = 4;
 /// The room that was handed in is too small; what is needed is told.
 pub(crate) const TOO_SMALL: u32 = 5;
@@ -66,6 +66,14 @@ pub struct ShownTip {
     pub height: u64,
     pub length: u64,
     pub status: u32,
+}
+
+/// A transaction of a block: its id, and how many outputs it has.
+#[repr(C)]
+#[derive(Clone, Copy, Drop)]
+pub struct Made {
+    pub id: Name,
+    pub outputs: u64,
 }
 
 /// A coin without its script, and how long that is.

@@ -2,13 +2,14 @@
 #![tactic(auto)]
 
 mod answers;
+mod blocks;
 mod exports;
 mod kept;
 mod parts;
 mod session;
 mod slot;
 
-pub use answers::{Answer, Heights, Name, Place, ShownCoin, ShownTip};
+pub use answers::{Answer, Heights, Made, Name, Place, ShownCoin, ShownTip};
 pub use kept::Kept;
 pub use session::Session;
 pub use slot::Slot;

@@ -7,7 +7,7 @@ import unittest
 from blocks import NOW, Maker, block_id, signed, spend, with_script
 from wakotehu import Bench, ReplayDiffers, errors
 from wakotehu.encoding import Input, Output, Transaction, push, signature_digest
-from wakotehu.signatures import Secp256k1
+from wakotehu.signatures import Secp256k1, signed_codes
 
 SECP = Secp256k1()
 SECRETS = [bytes([number]) * 32 for number in (1, 2, 3)]
@@ -91,6 +91,14 @@ class BenchTest(unittest.TestCase):
         )
         self.assertEqual(bench.submit(block, NOW), "accepted")
 
+    def test_signatures_that_stand_in_the_code_are_taken_out(self):
+        one, two, three = (push(b"\x30" * 9 + bytes([number])) for number in (1, 2, 3))
+        names = [script[1:] for script in (one, two, three)]
+        code = one + two + three + b"\xae"
+        wanted = {two + three, two, three, b""}
+        self.assertEqual(signed_codes([code], names[0], names), {rest + b"\xae" for rest in wanted})
+        self.assertEqual(signed_codes([one + two], names[0], names), set())
+
     def test_several_inputs_and_a_chain_within_a_block(self):
         script = pay_to_key(KEYS[0])
         bench = self.mined(script, 103)
@@ -103,9 +111,24 @@ class BenchTest(unittest.TestCase):
         then = with_script(then, 0, *signed(SECP, SECRETS[:1], then, 0, script))
         self.assertEqual(bench.submit(self.maker.block(bench.best(), [tx, then]), NOW), "accepted")
         self.assertEqual(bench.coin(then.id, 0).value, 15000000000)
-        coins = list(bench.coins())
+        coins = bench.coins()
         self.assertEqual(len(coins), 103 - 3 + 1 + 1)
         self.assertEqual(sum(coin.value for _, _, coin in coins), 104 * 5000000000)
+
+    def test_blocks_are_given_back(self):
+        bench = self.mined(b"\x51", 2)
+        block = self.maker.block(bench.best())
+        self.assertIsNone(bench.block(block_id(block)))
+        # A block with its header, and another coinbase, isn't taken for it.
+        bench.try_submit(block[:-1] + b"\x01", NOW)
+        self.assertIsNone(bench.block(block_id(block)))
+        bench.submit(block, NOW)
+        self.assertEqual(bench.block(block_id(block)), block)
+        self.assertEqual(bench.branch(), [block_id(it) for it in (*self.blocks, block)])
+        early = self.maker.block(bench.best())
+        bench.try_submit(early, 1000)
+        self.assertEqual(bench.block(block_id(early)), early)
+        self.assertEqual([bench.is_kept(block_id(it)) for it in (block, early)], [True, False])
 
     def test_a_reorganisation_gives_the_coin_back(self):
         script = pay_to_key(KEYS[0])

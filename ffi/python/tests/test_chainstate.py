@@ -92,6 +92,29 @@ class ChainstateTest(unittest.TestCase):
                 coin = chain.coin(maker.coinbases[block_id(block)].id, 0)
                 self.assertEqual(coin.script, b"\x61" * length)
 
+    def test_coins_and_blocks(self):
+        blocks = self.maker.chain(3)
+        other = self.maker.chain(2, extra=b"o")
+        for block in (*other, *blocks):
+            self.chain.submit(block, NOW)
+        coins = self.chain.coins()
+        wanted = [(self.maker.coinbases[block_id(block)].id, 0, height) for height, block in enumerate(blocks, 1)]
+        self.assertEqual([(id, index, coin.height) for id, index, coin in coins], wanted[::-1])
+        self.assertEqual({coin[:2] + coin[3:] for _, _, coin in coins}, {(5000000000, b"\x51", True)})
+        for block in (*other, *blocks):
+            self.assertEqual(self.chain.block(block_id(block)), block)
+        self.assertIsNone(self.chain.block(GENESIS.id))
+        self.assertIsNone(self.chain.block(bytes(32)))
+        self.assertRaises(ValueError, self.chain.block, b"")
+
+    def test_coins_with_long_scripts_and_long_blocks(self):
+        maker = Maker(script=b"\x61" * 9000)
+        block = maker.block(GENESIS.id)
+        self.chain.submit(block, NOW)
+        [(_, _, coin)] = self.chain.coins()
+        self.assertEqual(coin.script, b"\x61" * 9000)
+        self.assertEqual(self.chain.block(block_id(block)), block)
+
     def test_closed(self):
         self.chain.close()
         self.chain.close()

@@ -2,11 +2,11 @@
 
 import time
 from types import TracebackType
-from typing import Dict, Iterator, List, NamedTuple, Optional, Sequence, Set, Tuple, Type, Union
+from typing import Dict, List, NamedTuple, Optional, Sequence, Set, Tuple, Type, Union
 
 from . import errors
 from .chainstate import REGTEST, Chainstate, Coin, Reply, Tip
-from .encoding import EncodingError, Transaction, read_block
+from .encoding import GENESIS, EncodingError, Transaction, read_block
 from .signatures import Secp256k1, Triple, asked
 
 
@@ -30,7 +30,7 @@ class Bench:
     Spent scripts are known from all blocks that were ever submitted, on whatever branch. A block that spends an output
     of a block that comes later is judged without its signatures, and rejected for its inputs anyhow.
 
-    It has the calls of `Chainstate`, and the blocks: `block`, `branch`, `coins`.
+    It has the calls of `Chainstate`, and walks over blocks: `parent`, `branch`, `is_kept`.
     """
 
     def __init__(self, heights: Sequence[int] = REGTEST, table: Union[str, bytes] = b"") -> None:
@@ -45,7 +45,8 @@ class Bench:
         self._valid: Set[Triple] = set()
         self._refused: Set[Triple] = set()
         self._scripts: Dict[Tuple[bytes, int], bytes] = {}
-        self._blocks: Dict[bytes, bytes] = {}
+        # The parents of all blocks that the chainstate has the bytes of.
+        self._parents: Dict[bytes, bytes] = {}
         self.chain = Chainstate(self.heights, self.table)
 
     def close(self) -> None:
@@ -69,9 +70,11 @@ class Bench:
     def try_submit(self, block: bytes, now: Optional[int] = None) -> Reply:
         """As `Chainstate.try_submit`."""
         block, moment = bytes(block), int(time.time()) if now is None else now
-        self._learn(block)
+        id = self._learn(block)
         reply = self.chain.try_submit(block, moment)
         self.journal.append(Entry("submit", block, moment, reply.text))
+        if id is not None and id not in self._parents and self.chain.block(id) == block:
+            self._parents[id] = block[4:36]
         return reply
 
     def try_mark(self, command: str, id: bytes) -> Reply:
@@ -111,54 +114,47 @@ class Bench:
         return self.chain.coin(id, index)
 
     def block(self, id: bytes) -> Optional[bytes]:
-        """The bytes of a block that was submitted, kept or not; None for others and for the genesis block."""
-        return self._blocks.get(bytes(id))
+        """As `Chainstate.block`."""
+        return self.chain.block(id)
 
     def parent(self, id: bytes) -> bytes:
         """The id of the block that a submitted one names as its parent."""
-        return self._blocks[bytes(id)][4:36]
+        return self._parents[bytes(id)]
 
     def branch(self, id: Optional[bytes] = None) -> List[bytes]:
-        """The ids of a kept block's branch, the block next to genesis first; of the active block by default."""
+        """The ids of a block's branch, the block next to genesis first; of the active block by default."""
         at = self.best() if id is None else bytes(id)
         found = []
-        while at in self._blocks:
+        while at in self._parents:
             found.append(at)
-            at = self.parent(at)
+            at = self._parents[at]
         return found[::-1]
 
-    def coins(self) -> Iterator[Tuple[bytes, int, Coin]]:
-        """All coins, as the id of a transaction, an output's number, and the coin, in the order of the active branch.
+    def is_kept(self, id: bytes) -> bool:
+        """Whether the chainstate keeps a block, genesis or another: then it is one of a tip's branch."""
+        id = bytes(id)
+        kept = {tip.id for tip in self.tips()}
+        return id == GENESIS.id or id in kept or any(id in self.branch(tip) for tip in kept)
 
-        Each coin was made by a block of the active branch, so the chainstate is asked for each output of these.
-        """
-        seen = set()
-        for id in self.branch():
-            for tx in read_block(self._blocks[id]).transactions:
-                name = tx.id
-                if name in seen:
-                    continue
-                seen.add(name)
-                for index in range(len(tx.outputs)):
-                    coin = self.coin(name, index)
-                    if coin is not None:
-                        yield name, index, coin
+    def coins(self) -> List[Tuple[bytes, int, Coin]]:
+        """As `Chainstate.coins`."""
+        return self.chain.coins()
 
     # ---- signatures
 
-    def _learn(self, data: bytes) -> None:
-        """Gets the valid signatures of a block into the table, by a replay where it lacks one."""
+    def _learn(self, data: bytes) -> Optional[bytes]:
+        """Gets the valid signatures of a block into the table, by a replay where it lacks one; answers its id."""
         try:
             block = read_block(data)
         except EncodingError:
-            return
-        self._blocks.setdefault(block.header.id, data)
+            return None
         for tx in block.transactions:
             name = tx.id
             for index, output in enumerate(tx.outputs):
                 self._scripts[name, index] = output.script
         if self._new_triples(block.transactions):
             self._replay()
+        return block.header.id
 
     def _new_triples(self, transactions: List[Transaction]) -> bool:
         """Puts all valid triples that are new into the table; whether there was one."""

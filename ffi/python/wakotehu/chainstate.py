@@ -3,10 +3,10 @@
 import ctypes
 import time
 from types import TracebackType
-from typing import Iterator, List, NamedTuple, Optional, Sequence, Type, Union
+from typing import Any, Iterator, List, NamedTuple, Optional, Sequence, Tuple, Type, Union
 
 from . import errors
-from .library import Answer, Heights, library
+from .library import Answer, CoinCall, Heights, library
 from .library import Coin as _Coin
 from .library import Tip as _Tip
 
@@ -199,6 +199,33 @@ class Chainstate:
             return None
         self._check(code)
         return Coin(coin.value, script.raw[: coin.script], coin.height, bool(coin.coinbase))
+
+    def coins(self) -> List[Tuple[bytes, int, Coin]]:
+        """All coins, as the id of a transaction, an output's number, and the coin: those of the highest block first."""
+        found: List[Tuple[bytes, int, Coin]] = []
+
+        def take(_context: Any, id: Any, index: int, coin: Any, script: Any) -> int:
+            it = coin.contents
+            made = Coin(it.value, ctypes.string_at(script, it.script), it.height, bool(it.coinbase))
+            found.append((ctypes.string_at(id, 32), index, made))
+            return 0
+
+        self._check(self._library.wakotehu_coins(self._handle, CoinCall(take), None))
+        return found
+
+    def block(self, id: bytes) -> Optional[bytes]:
+        """The bytes of a block that was submitted, or None. None for the genesis block too, and for one whose
+        transactions aren't those of its header. A block that was refused by another rule is there."""
+        needed, data = ctypes.c_size_t(), ctypes.create_string_buffer(4096)
+        for _ in range(2):
+            code = self._library.wakotehu_block(self._handle, _id(id), data, len(data), ctypes.byref(needed))
+            if code != 5:
+                break
+            data = ctypes.create_string_buffer(needed.value)
+        if code == 4:
+            return None
+        self._check(code)
+        return data.raw[: needed.value]
 
     # ---- inside
 

@@ -7,7 +7,7 @@ import hashlib
 import struct
 from typing import Iterable, List, NamedTuple, Optional, Sequence, Tuple
 
-OP_CODESEPARATOR = 0xAB
+OP_CODESEPARATOR, OP_CHECKSIG, OP_CHECKMULTISIGVERIFY = 0xAB, 0xAC, 0xAF
 
 
 class EncodingError(ValueError):

@@ -4,7 +4,7 @@ import ctypes
 import ctypes.util
 import os
 import subprocess
-from ctypes import POINTER, c_char_p, c_int, c_int64, c_size_t, c_uint8, c_uint32, c_uint64
+from ctypes import CFUNCTYPE, POINTER, c_char_p, c_int, c_int64, c_size_t, c_uint8, c_uint32, c_uint64, c_void_p
 from typing import Iterator, Optional
 
 from .errors import LibraryMissing
@@ -26,6 +26,8 @@ class Coin(ctypes.Structure):
     _fields_ = [("value", c_int64), ("script", c_uint64), ("height", c_uint32), ("coinbase", c_uint32)]
 
 
+CoinCall = CFUNCTYPE(c_int, c_void_p, POINTER(c_uint8), c_uint32, POINTER(Coin), POINTER(c_uint8))
+
 _CALLS = {
     "open": [POINTER(c_uint64), POINTER(Heights), c_char_p, c_size_t, POINTER(c_uint64)],
     "close": [c_uint64],
@@ -37,6 +39,8 @@ _CALLS = {
     "height": [c_uint64, POINTER(c_uint64)],
     "tip_at": [c_uint64, c_size_t, POINTER(Tip)],
     "coin_at": [c_uint64, c_char_p, c_uint32, POINTER(Coin), c_char_p, c_size_t],
+    "block": [c_uint64, c_char_p, c_char_p, c_size_t, POINTER(c_size_t)],
+    "coins": [c_uint64, CoinCall, c_void_p],
 }
 
 

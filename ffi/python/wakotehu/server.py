@@ -137,15 +137,9 @@ class Calls:
         if id == GENESIS.id:
             return GENESIS
         data = self.bench.block(id)
-        if data is None or not self._is_kept(id):
+        if data is None or not self.bench.is_kept(id):
             raise RpcError(INVALID_ADDRESS_OR_KEY, "Block not found")
         return read_block(data).header
-
-    def _is_kept(self, id: bytes) -> bool:
-        """Whether the chainstate keeps a block that was submitted: it is one of a tip's branch."""
-        if id == GENESIS.id:
-            return True
-        return any(id == tip.id or id in self.bench.branch(tip.id) for tip in self.bench.tips())
 
     def _branch(self, id: bytes) -> List[bytes]:
         return [GENESIS.id] + self.bench.branch(id)

@@ -3,9 +3,13 @@ are valid, by libsecp256k1."""
 
 import ctypes
 import ctypes.util
-from typing import Iterator, List, NamedTuple, Optional, Set, Tuple
+from itertools import chain, combinations
+from typing import Iterator, NamedTuple, Optional, Sequence, Set, Tuple
 
-from .encoding import OP_CODESEPARATOR, Transaction, is_p2sh, operations, push, pushes, signature_digest, without
+from .encoding import (
+    OP_CHECKMULTISIGVERIFY, OP_CHECKSIG, OP_CODESEPARATOR, Transaction, is_p2sh, operations, push, pushes,
+    signature_digest, without,
+)  # fmt: skip
 
 
 class Triple(NamedTuple):
@@ -21,20 +25,21 @@ class Triple(NamedTuple):
 
 
 def _codes(script: bytes) -> Iterator[bytes]:
-    """What a signature may sign of a script: all of it, or what follows a code separator."""
-    yield script
-    for _, number, _, end in operations(script):
-        if number == OP_CODESEPARATOR:
-            yield script[end:]
+    """What a signature may sign of a script: all of it, or what follows a code separator. Nothing of a script that
+    checks no signature."""
+    found = list(operations(script))
+    if any(OP_CHECKSIG <= number <= OP_CHECKMULTISIGVERIFY for _, number, _, _ in found):
+        yield script
+        yield from (script[end:] for _, number, _, end in found if number == OP_CODESEPARATOR)
 
 
 def asked(tx: Transaction, input: int, spent: bytes) -> Set[Triple]:
     """All triples that the scripts of an input can ask for, and more.
 
     A key or a signature is pushed by the input's script, by the spent one or by the one that is its preimage: no other
-    operation leaves bytes that can be either. What is signed is one of those scripts from its begin or a code separator
-    on, without that signature or without all of them. A triple too many does no harm: it gets into the table only if it
-    is valid.
+    operation leaves bytes that can be either, but for hashes, of which none is known that reads as a signature. What is
+    signed is one of those scripts from its begin or a code separator on, without that signature, and without those that
+    are checked in one call with it. A triple too many does no harm: it gets into the table only if it is valid.
     """
     own = tx.inputs[input].script
     scripts = [own, spent]
@@ -42,24 +47,28 @@ def asked(tx: Transaction, input: int, spent: bytes) -> Set[Triple]:
         scripts += pushes(own)[-1:]
     found = {data for script in scripts for data in pushes(script)}
     keys = [data for data in found if len(data) in (33, 65)]
-    signatures = [data for data in found if 9 <= len(data) <= 520 and data[0] == 0x30]
+    signatures = sorted(data for data in found if 9 <= len(data) <= 520 and data[0] == 0x30)
     triples = set()
     for signature in signatures:
-        for code in _all_codes(scripts, signature, signatures):
+        for code in signed_codes(scripts, signature, signatures):
             digest = signature_digest(tx, input, code, signature[-1])
             triples.update(Triple(key, signature[:-1], digest) for key in keys)
     return triples
 
 
-def _all_codes(scripts: List[bytes], signature: bytes, signatures: List[bytes]) -> Set[bytes]:
+def signed_codes(scripts: Sequence[bytes], signature: bytes, signatures: Sequence[bytes]) -> Set[bytes]:
+    """What a signature may sign of scripts: without itself, and without any of the others that stand there. Where more
+    than eight others stand in one code, none of them is taken out, or all are."""
     codes = set()
-    for script in scripts:
-        for code in _codes(script):
-            alone = without(code, push(signature))
-            codes.update((code, alone))
-            for other in signatures:
-                code = without(code, push(other))
-            codes.add(code)
+    for code in chain.from_iterable(map(_codes, scripts)):
+        alone = without(code, push(signature))
+        there = [other for other in signatures if without(alone, push(other)) != alone]
+        counts = range(len(there) + 1) if len(there) <= 8 else (0, len(there))
+        for others in chain.from_iterable(combinations(there, count) for count in counts):
+            rest = alone
+            for other in others:
+                rest = without(rest, push(other))
+            codes.add(rest)
     return codes
 
 
