@@ -80,4 +80,5 @@ abbrev pub IsCoinShown : Option Coin → ShownCoin → List ℕ → ℕ → Type
 IsCoinShown None shown script result = result ≡ 4
 IsCoinShown (Some coin) shown script result =
     ShowsCoin coin shown
-    × (((result ≡ 0) × (take (length coin.script) script ≡ coin.script)) ⊎ ((result ≡ 5) × (length script < length coin.script)))
+    × (((result ≡ 0) × (take (length coin.script) script ≡ coin.script))
+    ⊎ ((result ≡ 5) × (length script < length coin.script)))

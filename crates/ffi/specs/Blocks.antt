@@ -21,7 +21,8 @@ made_of t = record { id = record { bytes = (id_of t).0 }; outputs = length t.out
 abbrev pub AreListed : List Tx → List Made → ℕ → ℕ → Type 0
 AreListed txs rows count result =
     (count ≡ length txs)
-    × (((result ≡ 0) × (take (length txs) rows ≡ map made_of txs)) ⊎ ((result ≡ 1) ⊎ ((result ≡ 5) × (length rows < length txs))))
+    × (((result ≡ 0) × (take (length txs) rows ≡ map made_of txs))
+    ⊎ ((result ≡ 1) ⊎ ((result ≡ 5) × (length rows < length txs))))
 
 -- or there is no block, or no memory to read it
 abbrev pub IsListed : Option Block → List Made → ℕ → ℕ → Type 0

@@ -1,9 +1,7 @@
 -- What C keeps between two calls: nothing, or what a box of a session owns.
 use base.Fml.{Fml, ftrue}
-use base.Stored.{Coded}
 use denote.RawPtr.{Ptr}
 use Rattle.std.specs.Prelude.{Option, None, Some}
-use Rattle.std.specs.Coded.{coded_option}
 use Rattle.std.specs.Box.Ownership.{box_owns}
 use Rattle.std.specs.Global.{Global}
 use Rattle.std.specs.contracts.impls.GlobalAllocator.TheImpl.{ghosts}
@@ -13,7 +11,3 @@ use Rattle.ffi.specs.contracts.session.Session.{the_row}
 abbrev pub kept_owns : Global → Ptr → Option the_row.Denot → Fml
 kept_owns alloc at None = ftrue
 kept_owns alloc at (Some x) = box_owns (ghosts.dealloc_token alloc) the_row at x
-
--- how its value is stored
-abbrev pub kept_coded : Coded (Option the_row.Denot)
-kept_coded = coded_option the_row.coded

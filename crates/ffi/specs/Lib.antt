@@ -3,3 +3,4 @@ pub mod Blocks
 pub mod Codes
 pub mod Keeping
 pub mod SessionState
+pub mod inside

@@ -24,7 +24,10 @@ state_of s = s.chain.core.state
 
 -- genesis alone, under these heights of soft forks and these valid signatures
 abbrev pub opened : Params → Triples → SessionState
-opened params triples = record { chain = record { core = genesis_alone params; coins = coin_map.empty }; triples = triples }
+opened params triples = record {
+  chain = record { core = genesis_alone params; coins = coin_map.empty };
+  triples = triples;
+}
 
 -- a session by the rules of another
 abbrev pub KeepsRules : SessionState → SessionState → Type 0

@@ -1,14 +1,15 @@
 //! A session as C keeps it: by the address of its box.
 //!
 //! C sees an address without a type, since what crosses to C may not lead to a type with parts that are shared. Only
-//! the five functions of this file and of `parts.rt` name the address; they are proved by hand.
+//! the five functions of this file and of `unboxed.rt` name the address; they are proved by hand.
 
 ghost use Rattle.std.specs.Prelude.{◌≡◌, Option, None, Some, IsSome};
 ghost use Rattle.ffi.specs.SessionState.{SessionState};
-ghost use Rattle.ffi.specs.Keeping.{kept_owns, kept_coded};
+ghost use Rattle.ffi.specs.Keeping.{kept_owns};
+ghost use Rattle.ffi.specs.inside.Stored.{kept_coded};
 
-use crate::parts::Parts;
 use crate::session::Session;
+use crate::unboxed::Unboxed;
 use std::alloc::Global;
 use std::marker::Model;
 use std::ptr::null_mut;
@@ -39,7 +40,7 @@ impl Kept {
     pub(crate) fn of(session: Box<Session>) -> Kept
         ensures { result.value ≡ Some session.value }
     {
-        Kept::of_parts(Parts::of(session))
+        Kept::of_unboxed(Unboxed::of(session))
     }
 
     /// The session, where there is one.
@@ -47,25 +48,25 @@ impl Kept {
         requires { IsSome self.value }
         ensures { self.value ≡ Some result.value }
     {
-        self.into_parts().into_box()
+        self.unboxed().boxed()
     }
 
-    fn of_parts(parts: Parts<Session, Global>) -> Kept
-        ensures { result.value ≡ Some parts.value }
+    fn of_unboxed(found: Unboxed<Session, Global>) -> Kept
+        ensures { result.value ≡ Some found.value }
     {
-        let Parts { at, alloc } = parts;
+        let Unboxed { at, alloc } = found;
         Kept {
             at: at as *mut u8,
             alloc,
         }
     }
 
-    fn into_parts(self) -> Parts<Session, Global>
+    fn unboxed(self) -> Unboxed<Session, Global>
         requires { IsSome self.value }
         ensures { self.value ≡ Some result.value }
     {
         let Kept { at, alloc } = self;
-        Parts {
+        Unboxed {
             at: at as *mut Session,
             alloc,
         }

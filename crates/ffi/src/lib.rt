@@ -5,9 +5,9 @@ mod answers;
 mod blocks;
 mod exports;
 mod kept;
-mod parts;
 mod session;
 mod slot;
+mod unboxed;
 
 pub use answers::{Answer, Heights, Made, Name, Place, ShownCoin, ShownTip};
 pub use kept::Kept;

@@ -54,7 +54,7 @@ class Player:
         self.ids, self.blocks = {"genesis": GENESIS.id}, {"genesis": CoreRegTestParams.GENESIS_BLOCK.serialize()}
         for name, id, data in shown:
             self.ids[name] = read_id(id)
-            if double_sha(data[:80]) == self.ids[name]:
+            if len(data) > 80 and double_sha(data[:80]) == self.ids[name]:
                 self.blocks[name] = data
         for name, data in self.blocks.items():
             made = read_block(data).transactions

@@ -34,19 +34,27 @@ stayed = (stay_dropped (plain (λ _. RawPtr)) yes, (stay_dropped (plain (λ _. E
 
 pub empty_spec : {M : Type 1} → statement M
 empty_spec 𝓤 𝓛 𝓜 𝓡 wired =
-    let 𝓣 = tables 𝓤 𝓛.H 𝓜 𝓡 𝓡.env in let c = clauses 𝓛 𝓜.mem 𝓡.returns in let fn = code.function in
-    proved_at 𝓛 ended stayed c 𝓜 𝓡 (Goes-dropped 𝓛 0 (plain (λ _. RawPtr)) yes (λ κs x f. refl), (Goes-dropped 𝓛 0 (plain (λ _. E.al.row)) yes (λ κs x f. refl), tt)) name fn (code.unfolded 𝓤 𝓛.H 𝓜 𝓡 wired) (λ z are.
-    let Post : Val → SProp 𝓤 = (walk_of 𝓛 ended stayed c).post z in let Run : List Val → SProp 𝓤 = λ ws. WpFn 𝓤 𝓛.H 𝓣.C 𝓣.Λ fn ws Post in
-    let p : Ptr = z.0.3.0 in let a = z.0.3.1.0 in
-    let Out = type_at signature.result tt in let made : Out.Denot = record { at = p; alloc = a; value = None } in
-    qed 𝓛 ((‵ ftrue ⊛ ‵ (fsep (RawPtr.own_val p z.0.4.0) (fsep (E.al.row.own_val a z.0.4.1.0) ftrue))) ∷ raw (emp 𝓤) ∷ []) ∵ split ! $ drop ! $ fsplit ! $
-    feq_l ! (λ ep. fsplit ! $ handle_tells E.al ! a z.0.4.1.0 (λ h eh fits.
-    move ! (1 ∷ 2 ∷ []) $ drop ! $ drop ! $ let w : Val = both p h in
-    suffices ! (Run (ptr_val p ∷ h ∷ [])) (subst (λ (us : List Val). ent 𝓤 (Run (ptr_val p ∷ h ∷ [])) (Run us)) (sym (λ i. ep i ++ (eh i ++ []))) (id⊢ 𝓤 (Run (ptr_val p ∷ h ∷ [])))) $
-    enter ! 𝓣.C 𝓣.Λ fn (ptr_val p ∷ h ∷ []) Post $ alloc_all ! (λ l. pass_all ! refl (((rawptr_Lawful 𝓛).typed p _ refl).0, (fits, tt)) $
-    sets ! (agg ! (and_then ! (get ! refl) (and_then ! (get ! refl) (no_more !)))) refl (both_typed p h fits) $
+    let 𝓣 = tables 𝓤 𝓛.H 𝓜 𝓡 𝓡.env in
+    let said = clauses 𝓛 𝓜.mem 𝓡.returns in
+    let body = code.function in
+    proved_at 𝓛 ended stayed said 𝓜 𝓡 (Goes-dropped 𝓛 0 (plain (λ _. RawPtr)) yes (λ ls x f. refl), (Goes-dropped 𝓛 0 (plain (λ _. E.al.row)) yes (λ ls x f. refl), tt)) name body (code.unfolded 𝓤 𝓛.H 𝓜 𝓡 wired) (λ given are.
+    let After : Val → SProp 𝓤 = (walk_of 𝓛 ended stayed said).post given in
+    let Runs : List Val → SProp 𝓤 = λ alone. WpFn 𝓤 𝓛.H 𝓣.C 𝓣.Λ body alone After in
+    let p : Ptr = given.0.3.0 in
+    let a = given.0.3.1.0 in
+    let Outcome = type_at signature.result tt in
+    let outcome : Outcome.Denot = record { at = p; alloc = a; value = None } in
+    qed 𝓛 ((‵ ftrue ⊛ ‵ (fsep (RawPtr.own_val p given.0.4.0) (fsep (E.al.row.own_val a given.0.4.1.0) ftrue))) ∷ raw (emp 𝓤) ∷ []) ∵ split ! $ drop ! $ fsplit ! $
+    feq_l ! (λ ep. fsplit ! $ handle_tells E.al ! a given.0.4.1.0 (λ handle eh fitting.
+    move ! (1 ∷ 2 ∷ []) $ drop ! $ drop ! $ let one : Val = both p handle in
+    suffices ! (Runs (ptr_val p ∷ handle ∷ [])) (subst (λ (spelled : List Val). ent 𝓤 (Runs (ptr_val p ∷ handle ∷ [])) (Runs spelled)) (sym (λ i. ep i ++ (eh i ++ []))) (id⊢ 𝓤 (Runs (ptr_val p ∷ handle ∷ [])))) $
+    enter ! 𝓣.C 𝓣.Λ body (ptr_val p ∷ handle ∷ []) After $
+    alloc_all ! (λ l. pass_all ! refl (((rawptr_Lawful 𝓛).typed p _ refl).0, (fitting, tt)) $
+    sets ! (agg ! (and_then ! (get ! refl) (and_then ! (get ! refl) (no_more !)))) refl (both_typed p handle fitting) $
     returns ! (look_at ! 0 refl) $ free_all ! refl $
-    suffices ! _ (ends_at 𝓛 ended stayed c z w made (tt, (tt, tt)) (tt, (tt, tt))) $ says ! refl $
-    nothing ! $ nothing ! $ move ! (2 ∷ 0 ∷ []) $ fjoin ! $ feq_i ! (List Val) (ptr_val p ∷ []) (ptr_val p ∷ []) refl $ fjoin ! $
-    feq_i ! (List Val) (w ∷ []) (w ∷ []) refl $ fjoin ! $ fpack ! (Valss (RawPtr ∷ E.al.row ∷ [])) (within (shape kept.the_type) (p, (((a.memory.seal, tt), tt), tt)) (w ∷ [])) (ptr_val p ∷ [], (h ∷ [], tt)) $ fjoin ! $
+    suffices ! _ (ends_at 𝓛 ended stayed said given one outcome (tt, (tt, tt)) (tt, (tt, tt))) $ says ! refl $
+    nothing ! $ nothing ! $ move ! (2 ∷ 0 ∷ []) $ fjoin ! $
+    feq_i ! (List Val) (ptr_val p ∷ []) (ptr_val p ∷ []) refl $ fjoin ! $
+    feq_i ! (List Val) (one ∷ []) (one ∷ []) refl $ fjoin ! $
+    fpack ! (Valss (RawPtr ∷ E.al.row ∷ [])) (within (shape kept.the_type) (p, (((a.memory.seal, tt), tt), tt)) (one ∷ [])) (ptr_val p ∷ [], (handle ∷ [], tt)) $ fjoin ! $
     nothing ! $ nothing ! $ fjoin ! $ nothing ! $ fjoin ! $ join ! $ nothing ! $ join ! $ done !))))
