@@ -1,9 +1,9 @@
 -- The two fields go over, and what they own goes with them.
-use mathlib.Core.Path.{◌≡◌, refl, sym, subst}
-use mathlib.Core.List.{List, [], ◌∷◌, ◌++◌}
+use mathlib.Core.Path.{◌≡◌, refl, sym}
+use mathlib.Core.List.{List, [], ◌∷◌}
 use Rattle.std.proofs.Common.{Option, None, Some, IsSome, true≢false}
 use mir.Val.{Val}
-use base.Logic.{SProp, ent, emp, id⊢}
+use base.Logic.{SProp, id⊢}
 use base.Fml.{ftrue, fsep}
 use prog.Wp.{WpFn}
 use types.Kit.{‵, raw, ◌⊛◌, ◌$◌, ◌∵◌, !, qed, move, drop, rewrite, use1, join, split, fsplit, fjoin, suffices, done}

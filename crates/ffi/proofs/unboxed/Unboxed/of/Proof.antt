@@ -1,11 +1,11 @@
 -- What the box owned goes with its address.
-use Rattle.std.proofs.Common.{◌≡◌, List, [], ◌∷◌, ◌++◌, refl, sym, ap, ◌∙◌, subst}
+use Rattle.std.proofs.Common.{◌≡◌, List, [], ◌∷◌, ◌++◌, refl, ap, ◌∙◌}
 use mir.Syntax.{a_type, dcons}
 use mir.Raw.{raw as bare}
 use mir.Val.{Val, vstruct, of_list}
 use mir.MapTy.{inst_fn}
 use mir.Syntax.{dnil}
-use base.Logic.{SProp, ent, emp, id⊢, never, fst∗}
+use base.Logic.{SProp, id⊢, never, fst∗}
 use base.Fml.{ftrue, fsep, flft}
 use prog.Wp.{WpFn}
 use types.Logic.{sem}
@@ -18,7 +18,6 @@ use contract.Running.{tables}
 use denote.Builtin.{RawPtr}
 use denote.Exit.{no}
 use denote.Param.{bounded}
-use denote.RattleType.{RattleType}
 use denote.RawPtr.{Ptr, block_ptr, null_ptr, ptr_val, in_a_block}
 use denote.Signature.{type_at, plain}
 use denote.Steps.{nothing, only, heard}
@@ -35,7 +34,7 @@ use Rattle.std.proofs.BoxSteps.Steps.{box_out, box_in}
 use Rattle.std.specs.contracts.boxed.Box.into_raw_with_allocator as callee
 use Rattle.std.proofs.boxed.Box.into_raw_with_allocator.Met.{met}
 use Rattle.ffi.proofs.AsBox.{on_one}
-use Rattle.ffi.specs.contracts.unboxed.Unboxed.of.{signature, ended, clauses}
+use Rattle.ffi.specs.contracts.unboxed.Unboxed.of.{ended, clauses}
 use Rattle.ffi.specs.contracts.unboxed.Unboxed.of.Key.{name}
 use Rattle.ffi.proofs.unboxed.Unboxed.of.Statement.{statement}
 use Rattle.ffi.proofs.unboxed.Unboxed.of.Code as code
