@@ -42,18 +42,18 @@ abbrev rest : Body
 rest = seq (assign (place 0 []) (rv_opd (copy (place 4 [])))) return
 
 pub boxed_spec : {M : Type 1} → statement M
-boxed_spec 𝓤 𝓛 𝓜 𝓡 wired X Z LX LZ g d dd allocator md =
-    let E : Bx = record { row = X; laws = LX; al = record { row = Z; laws = LZ; g = g; d = d; drops = dd } } in
+boxed_spec 𝓤 𝓛 𝓜 𝓡 wired inner freer inner_laws freer_laws rights inner_drops freer_drops allocator inner_dict =
+    let E : Bx = record { row = inner; laws = inner_laws; al = record { row = freer; laws = freer_laws; g = rights; d = inner_drops; drops = freer_drops } } in
     let 𝓣 = tables 𝓤 𝓛.H 𝓜 𝓡 𝓡.env in
-    let at_types = bounded (a_type ∷ a_type ∷ []) (X, (Z, tt)) (dcons d (dcons dd dnil)) in
+    let at_types = bounded (a_type ∷ a_type ∷ []) (inner, (freer, tt)) (dcons inner_drops (dcons freer_drops dnil)) in
     let body = inst_fn at_types code.function in
-    let From : RattleType = unboxed.the_row (R E) (P E) g in
-    let Ending = ended X Z g d dd in
-    let said = clauses X Z g d dd 𝓛 𝓜.mem 𝓡.returns in
+    let From : RattleType = unboxed.the_row (R E) (P E) rights in
+    let Ending = ended inner freer rights inner_drops freer_drops in
+    let said = clauses inner freer rights inner_drops freer_drops 𝓛 𝓜.mem 𝓡.returns in
     let keeps : Stays Ending.signature.params Ending.kept = (stay_dropped (plain (λ _. From)) no, tt) in
-    let Boxing = triple_of 𝓛 (callee.signature X Z g d dd) (callee.spec X Z g d dd 𝓛 𝓜.mem 𝓡.returns) in
-    let it_does = met 𝓤 𝓛 𝓜 𝓡 (code.calls-std_alloc::boxed::Box::from_raw 𝓡.env wired) X Z LX LZ g d dd allocator md in
-    proved_at 𝓛 Ending keeps said 𝓜 𝓡 (Goes-blank 𝓛 2 (plain (λ _. From)) no (λ ls x f. tt), tt) (name at_types) body (code.unfolded 𝓤 𝓛.H 𝓜 𝓡 wired (X, (Z, tt)) d dd) (λ given are.
+    let Boxing = triple_of 𝓛 (callee.signature inner freer rights inner_drops freer_drops) (callee.spec inner freer rights inner_drops freer_drops 𝓛 𝓜.mem 𝓡.returns) in
+    let it_does = met 𝓤 𝓛 𝓜 𝓡 (code.calls-std_alloc::boxed::Box::from_raw 𝓡.env wired) inner freer inner_laws freer_laws rights inner_drops freer_drops allocator inner_dict in
+    proved_at 𝓛 Ending keeps said 𝓜 𝓡 (Goes-blank 𝓛 2 (plain (λ _. From)) no (λ ls x f. tt), tt) (name at_types) body (code.unfolded 𝓤 𝓛.H 𝓜 𝓡 wired (inner, (freer, tt)) inner_drops freer_drops) (λ given are.
     let ls = given.0.0 in
     let shares = given.0.1 in
     let a = given.0.3.0.alloc in
@@ -62,8 +62,8 @@ boxed_spec 𝓤 𝓛 𝓜 𝓡 wired X Z LX LZ g d dd allocator md =
     let Runs : List Val → SProp 𝓤 = λ alone. WpFn 𝓤 𝓛.H 𝓣.C 𝓣.Λ body alone After in
     let box : D E = record { ptr = given.0.3.0.at; alloc = a; value = x } in
     let living : Item 𝓤 = ‵ (flft ls.0 shares.0) ⊛ ‵ (flft ls.1.0 shares.1.0) ⊛ ‵ ftrue in
-    let in_x : Item 𝓤 = raw (fact 𝓤 (ls.0 ⊑ X.lives)) in
-    let in_a : Item 𝓤 = raw (fact 𝓤 (ls.1.0 ⊑ Z.lives)) in
+    let in_x : Item 𝓤 = raw (fact 𝓤 (ls.0 ⊑ inner.lives)) in
+    let in_a : Item 𝓤 = raw (fact 𝓤 (ls.1.0 ⊑ freer.lives)) in
     qed 𝓛 ((living ⊛ ‵ (fsep ((B E).own_val box given.0.4.0) ftrue)) ∷ (in_x ⊛ in_a ⊛ ‵ ftrue) ∷ []) ∵ split ! $ move ! (1 ∷ []) $ fsplit ! $
     box_out E ! box given.0.4.0 (λ block offset handle here alone fitting. fjoin ! $
     let one : Val = word E handle block offset in

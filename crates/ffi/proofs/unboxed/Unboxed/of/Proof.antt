@@ -40,17 +40,17 @@ use Rattle.ffi.proofs.unboxed.Unboxed.of.Statement.{statement}
 use Rattle.ffi.proofs.unboxed.Unboxed.of.Code as code
 
 pub of_spec : {M : Type 1} → statement M
-of_spec 𝓤 𝓛 𝓜 𝓡 wired X Z LX LZ g d dd dx allocator md glue =
-    let E : Bx = record { row = X; laws = LX; al = record { row = Z; laws = LZ; g = g; d = d; drops = dd } } in
+of_spec 𝓤 𝓛 𝓜 𝓡 wired inner freer inner_laws freer_laws rights inner_drops freer_drops box_drops allocator inner_dict box_glue =
+    let E : Bx = record { row = inner; laws = inner_laws; al = record { row = freer; laws = freer_laws; g = rights; d = inner_drops; drops = freer_drops } } in
     let 𝓣 = tables 𝓤 𝓛.H 𝓜 𝓡 𝓡.env in
-    let at_types = bounded (a_type ∷ a_type ∷ []) (X, (Z, tt)) (dcons d (dcons dd (dcons dx dnil))) in
+    let at_types = bounded (a_type ∷ a_type ∷ []) (inner, (freer, tt)) (dcons inner_drops (dcons freer_drops (dcons box_drops dnil))) in
     let body = inst_fn at_types code.function in
-    let Ending = ended X Z g d dd dx in
-    let said = clauses X Z g d dd dx 𝓛 𝓜.mem 𝓡.returns in
+    let Ending = ended inner freer rights inner_drops freer_drops box_drops in
+    let said = clauses inner freer rights inner_drops freer_drops box_drops 𝓛 𝓜.mem 𝓡.returns in
     let keeps : Stays Ending.signature.params Ending.kept = (stay_dropped (plain (λ _. B E)) no, tt) in
-    let Unboxing = triple_of 𝓛 (callee.signature X Z g d dd dx) (callee.spec X Z g d dd dx 𝓛 𝓜.mem 𝓡.returns) in
-    let it_does = met 𝓤 𝓛 𝓜 𝓡 (code.calls-std_alloc::boxed::Box::into_raw_with_allocator 𝓡.env wired) X Z LX LZ g d dd dx allocator md glue in
-    proved_at 𝓛 Ending keeps said 𝓜 𝓡 (Goes-blank 𝓛 2 (plain (λ _. B E)) no (λ ls x f. tt), tt) (name at_types) body (code.unfolded 𝓤 𝓛.H 𝓜 𝓡 wired (X, (Z, tt)) d dd dx) (λ given are.
+    let Unboxing = triple_of 𝓛 (callee.signature inner freer rights inner_drops freer_drops box_drops) (callee.spec inner freer rights inner_drops freer_drops box_drops 𝓛 𝓜.mem 𝓡.returns) in
+    let it_does = met 𝓤 𝓛 𝓜 𝓡 (code.calls-std_alloc::boxed::Box::into_raw_with_allocator 𝓡.env wired) inner freer inner_laws freer_laws rights inner_drops freer_drops box_drops allocator inner_dict box_glue in
+    proved_at 𝓛 Ending keeps said 𝓜 𝓡 (Goes-blank 𝓛 2 (plain (λ _. B E)) no (λ ls x f. tt), tt) (name at_types) body (code.unfolded 𝓤 𝓛.H 𝓜 𝓡 wired (inner, (freer, tt)) inner_drops freer_drops box_drops) (λ given are.
     let ls = given.0.0 in
     let shares = given.0.1 in
     let box = given.0.3.0 in
@@ -70,14 +70,14 @@ of_spec 𝓤 𝓛 𝓜 𝓡 wired X Z LX LZ g d dd dx allocator md glue =
     enter ! 𝓣.C 𝓣.Λ body (one ∷ []) After $ alloc_all ! (λ l. pass_all ! refl (shaped, tt) $
     sets ! (of_opd ! (get ! refl)) refl shaped $
     calls_at ! (framed 𝓤 𝓛.H 𝓜 𝓣) Unboxing it_does asked (and_then ! (get ! refl) (no_more !)) (λ back.
-    use1 𝓛 (later (some (λ (r : Ptr × Z.Denot). (living ⊛ ‵ ((Tuple (RawPtr ∷ P E ∷ [])).own_val r (back ∷ []))) ⊛ some (λ (_ : (Unit {0} × (Unit {0} × Unit {0})) × Unit {0}).
+    use1 𝓛 (later (some (λ (r : Ptr × freer.Denot). (living ⊛ ‵ ((Tuple (RawPtr ∷ P E ∷ [])).own_val r (back ∷ []))) ⊛ some (λ (_ : (Unit {0} × (Unit {0} × Unit {0})) × Unit {0}).
     ‵ (fsep (fsep ftrue (fsep ftrue ftrue)) ftrue) ⊛ (raw (fact 𝓤 (r.1 ≡ a)) ⊛ ‵ (box_owns (token E.al a) (R E) r.0 box.value)))))) (id⊢ 𝓤 _) $
     await ! tt $ pick ! (λ r. split ! $ move ! (1 ∷ []) $ pick ! (λ _. split3 ! $ drop ! $
     heard ! (r.1 ≡ a) (λ ea.
     in_a_block ! r.0 (λ p. box_owns (token E.al a) (R E) p box.value) (fst∗ 𝓤 (never 𝓤) (sem 𝓛 (token E.al a (bare (τ E)) null_ptr))) (λ block' offset' here'.
     move ! (1 ∷ []) $ split ! $ move ! (1 ∷ []) $ fpick ! (λ vss. fsplit ! $ feq_l ! (λ eu. fsplit ! $
     feq_l ! (λ ep. fsplit ! $
-    rewrite ! 0 (λ (s : Z.Denot). ‵ (Z.own_val s vss.1.0)) ea refl $
+    rewrite ! 0 (λ (s : freer.Denot). ‵ (freer.own_val s vss.1.0)) ea refl $
     handle_tells E.al ! a vss.1.0 (λ handle' eh fitting'.
     let one' : Val = word E handle' block' offset' in
     let shaped' = box_typed E handle' block' offset' fitting' in
