@@ -1,40 +1,23 @@
 //! The replay of a journal.
 
-use crate::difference::{Refuted, Replayer, first_refuted};
 use crate::fault::Fault;
 use crate::files::{read_file, read_in, read_table};
-use crate::journal::{Asked, Step};
 use crate::options::{AuditOptions, Saved};
 use crate::progress::Progress;
-use crate::records::read_records;
 use crate::saving::{BLOCKS, HEIGHTS, JOURNAL, TABLE};
-use crate::{heights, recorded};
 use block::ReadFault;
 use curve::Table;
 use hash::Id;
+use journal::{
+    Asked, Finding, Refuted, Replayer, Step, first_refuted, read_heights, read_journal,
+    read_records,
+};
 use node::{Bytes, Command, Params, Reply};
 use std::alloc::Global;
 use std::io::{IsTerminal, Write};
 use std::rt::Files;
 use std::time::Clock;
-use std::{fmt, str, vec};
-
-/// What a replay says of a journal.
-#[derive(Clone, Copy, Debug, PartialEq, Eq)]
-pub enum Finding {
-    Agrees,
-    /// The reply of this line, counted from 1, is the first that differs.
-    Differs(usize),
-}
-
-impl fmt::Display for Finding {
-    fn fmt<W: fmt::Write>(&self, f: &mut fmt::Formatter<W>) -> fmt::Result {
-        match self {
-            Finding::Agrees => f.write_str("agrees\n"),
-            Finding::Differs(line) => writeln!(f, "line {line}"),
-        }
-    }
-}
+use std::{str, vec};
 
 /// What was asked, in order, and the replies that were recorded.
 #[derive(Drop)]
@@ -77,7 +60,7 @@ where
         blk,
         table,
     } = read_inputs(rt, &options.saved)?;
-    let steps = recorded::read(alloc, journal.as_slice())?;
+    let steps = read_journal(alloc, journal.as_slice())?;
     let records = read_records(alloc, blk.as_slice())?;
     let blocks = records.len();
     let replay = replay_of(alloc, steps.as_slice(), records)?;
@@ -127,7 +110,7 @@ where
             table,
             heights,
         } => {
-            let params = heights::read(heights).ok_or(Fault::Heights)?;
+            let params = read_heights(heights).ok_or(Fault::Heights)?;
             let journal = read_file(rt, journal)?;
             let blk = read_file(rt, blk)?;
             let table = match table {
@@ -154,7 +137,7 @@ where
     let table = read_in(rt, folder, TABLE)?;
     let heights = read_in(rt, folder, HEIGHTS)?;
     let word = str::from_utf8(heights.as_slice()).unwrap_or("");
-    let params = heights::read(word.strip_suffix('\n').unwrap_or(word)).ok_or(Fault::Heights)?;
+    let params = read_heights(word.strip_suffix('\n').unwrap_or(word)).ok_or(Fault::Heights)?;
     let table = read_table(rt.alloc(), Some(table.as_slice()))?;
     Ok(Inputs {
         params,

@@ -2,8 +2,8 @@
 
 use crate::answer::{Answer, asked, submitted};
 use crate::fault::Fault;
-use crate::records::Records;
 use block::BlkFault;
+use journal::Records;
 use node::{Node, Seat};
 use scenario::{Client, Definitions, Request};
 use std::alloc::{AllocError, AllocFailed};

@@ -2,6 +2,7 @@
 
 use crate::clients::Ended;
 use crate::options::STANDARD;
+use journal::JournalFault;
 use scenario::ScenarioFault;
 use std::alloc::{AllocError, AllocFailed};
 use std::fmt;
@@ -173,6 +174,15 @@ impl From<block::BlkFault> for Fault<'_> {
             block::BlkFault::Memory => Fault::Memory,
             // The reader is asked no more after a fault, and a slice of bytes has none of its own.
             block::BlkFault::Read | block::BlkFault::Stopped => Fault::Closed,
+        }
+    }
+}
+
+impl From<JournalFault> for Fault<'_> {
+    fn from(fault: JournalFault) -> Self {
+        match fault {
+            JournalFault::BadLine(number) => Fault::JournalLine(number),
+            JournalFault::Memory => Fault::Memory,
         }
     }
 }

@@ -2,7 +2,7 @@
 
 use crate::answer::Answer;
 use crate::fault::Fault;
-use crate::journal::{Asked, Step};
+use journal::{Asked, Step};
 use json::Writer;
 use scenario::Label;
 use std::alloc::{AllocError, Global};

@@ -2,7 +2,6 @@
 
 use crate::fault::Fault;
 use crate::files::{read_file, read_scenario, read_table};
-use crate::heights;
 use crate::options::RunOptions;
 use crate::output::Output;
 use crate::progress::Progress;
@@ -12,6 +11,7 @@ use crate::saving::save;
 use crate::text::{Text, read_definitions};
 use crate::writer::Writer;
 use curve::Table;
+use journal::read_heights;
 use node::{Gate, Node, Params};
 use scenario::{BLK, Client, Definitions, number_after, read_clients};
 use std::alloc::Global;
@@ -46,7 +46,7 @@ where
     E: Write + IsTerminal,
 {
     let alloc = rt.alloc();
-    let params = heights::read(options.heights).ok_or(Fault::Heights)?;
+    let params = read_heights(options.heights).ok_or(Fault::Heights)?;
     let inputs = read_inputs(rt, options, input)?;
     let Inputs {
         scenario,

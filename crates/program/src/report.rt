@@ -1,9 +1,9 @@
 //! The history of a run.
 
 use crate::fault::Fault;
-use crate::journal::{Asked, Step, block_of};
 use crate::output::Output;
 use hash::Id;
+use journal::{Asked, Step, block_of};
 use node::Entry;
 use scenario::Definitions;
 use std::alloc::{AllocError, Global};

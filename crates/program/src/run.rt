@@ -1,9 +1,8 @@
 //! The program, over a reader and two writers.
 
-ghost use Rattle.std.specs.Prelude.{◌≡◌, ℕ, ◌≤◌, IfOk, OnErr};
-ghost use Rattle.program.specs.declared.audit.Finding.TheVariants as findings;
+ghost use Rattle.std.specs.Prelude.{◌≡◌, ◌≤◌, IfOk, OnErr};
 
-use crate::audit::{Audited, Finding, audit};
+use crate::audit::{Audited, audit};
 use crate::fault::Fault;
 use crate::files::print;
 use crate::objects;
@@ -11,6 +10,7 @@ use crate::options::{NAME, Options, STANDARD, no_text};
 use crate::output::Form;
 use crate::playing::run;
 use crate::showing::show;
+use journal::Finding;
 use node::{Gate, Open};
 use std::alloc::{AllocError, Global};
 use std::convert::AsStr;
@@ -21,10 +21,10 @@ use std::sync::Wait;
 use std::thread::Threads;
 use std::time::Clock;
 
-/// The status of a run with its whole output, and of a journal that agrees.
+/// The status of a run with its whole output.
 const DONE: u8 = 0;
 
-/// The status of a fault, and of a journal that differs.
+/// The status of a fault.
 const FAILED: u8 = 1;
 
 /// The words of the process's command line, without the program's name. Where they can't be read there is
@@ -181,7 +181,7 @@ where
             ) {
                 let _ = writeln!(err, "regchain: line {line}: the definition gives {reply}");
             }
-            Ok(status_of(finding))
+            Ok(finding.status())
         }
         Options::Show(options) => {
             show(rt, &options, input, out)?;
@@ -196,17 +196,5 @@ fn found(alloc: Global, finding: Finding, form: Form) -> Result<String, AllocErr
         (Form::Text, _) => finding.to_string(alloc),
         (Form::Json, Finding::Agrees) => objects::agreement(alloc),
         (Form::Json, Finding::Differs(line)) => objects::difference(alloc, line as u64),
-    }
-}
-
-/// The status of a journal that was replayed.
-fn status_of(finding: Finding) -> u8
-    ensures bound { result ≤ 1 }
-    ensures agrees { finding ≡ findings.Agrees → result ≡ 0 }
-    ensures differs { (line : ℕ) → finding ≡ findings.Differs line → result ≡ 1 }
-{
-    match finding {
-        Finding::Agrees => DONE,
-        Finding::Differs(_) => FAILED,
     }
 }

@@ -3,8 +3,8 @@
 use crate::answer::Answer;
 use crate::clients::{Ended, answer_all, ended_by, submit_all};
 use crate::fault::Fault;
-use crate::records::Records;
 use crate::writer::Writer;
+use journal::Records;
 use node::{Node, Seat};
 use scenario::{BLK, Client, Definitions};
 use std::alloc::Global;

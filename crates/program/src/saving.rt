@@ -1,9 +1,9 @@
 //! The files that a run leaves in a folder.
 
 use crate::fault::Fault;
-use crate::records::{RecordFault, blk_file};
 use crate::report::Report;
 use curve::Table;
+use journal::{RecordFault, blk_file};
 use std::fs;
 use std::io::ErrorKind;
 use std::rt::Files;

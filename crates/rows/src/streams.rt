@@ -1,8 +1,7 @@
 //! Standard streams that fail.
 
-use crate::play::Errors;
+use crate::play::no_errors;
 use program::program;
-use std::alloc::Global;
 use std::io;
 use std::io::{ErrorKind, IsTerminal, Read, Write};
 
@@ -29,13 +28,6 @@ impl Write for Broken {
 impl IsTerminal for Broken {
     fn is_terminal(&self) -> bool {
         true
-    }
-}
-
-fn no_errors(alloc: Global) -> Errors {
-    Errors {
-        bytes: Vec::new(alloc),
-        is_terminal: false,
     }
 }
 

@@ -1,0 +1,20 @@
+//! What is saved of a run, written and read back, and its replay.
+#![tactic(auto)]
+
+mod difference;
+mod fault;
+mod finding;
+mod heights;
+mod quick;
+mod recorded;
+mod records;
+mod replies;
+mod step;
+
+pub use difference::{Refuted, Replayer, first_refuted};
+pub use fault::JournalFault;
+pub use finding::Finding;
+pub use heights::read_heights;
+pub use recorded::read_journal;
+pub use records::{RecordFault, Records, blk_file, read_records};
+pub use step::{Asked, Step, block_of};

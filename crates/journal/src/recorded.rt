@@ -1,0 +1,77 @@
+//! Journals, read back.
+
+use crate::fault::JournalFault;
+use crate::replies::{is_text_of, read_mark_reply, read_submit_reply};
+use crate::step::{Asked, Step};
+use chain::Reply;
+use hash::Id;
+use scenario::is_name;
+use std::alloc::{AllocError, Global};
+use std::str;
+
+/// The steps of a journal's text. A line can be read where a step is printed so, with its block's id in digits.
+/// The last line may lack its end.
+pub fn read_journal<'t>(alloc: Global, text: &'t [u8]) -> Result<Vec<Step<'t, Id>>, JournalFault> {
+    let mut steps = Vec::new(alloc);
+    let text = match text {
+        [] => return Ok(steps),
+        [front @ .., b'\n'] => front,
+        _ => text,
+    };
+    for (place, line) in text.split(|byte| *byte == b'\n').enumerate() {
+        let number = place + 1;
+        match read_line(alloc, number, line)? {
+            Some(step) => steps.push(step)?,
+            None => return Err(JournalFault::BadLine(number)),
+        }
+    }
+    Ok(steps)
+}
+
+fn read_line<'t>(
+    alloc: Global,
+    number: usize,
+    line: &'t [u8],
+) -> Result<Option<Step<'t, Id>>, AllocError> {
+    let Ok(line) = str::from_utf8(line) else {
+        return Ok(None);
+    };
+    let Some((front, reply)) = line.split_once(" = ") else {
+        return Ok(None);
+    };
+    let words: Vec<&str> = front.split(' ').collect(alloc)?;
+    Ok(read_step(number, words.as_slice(), reply).filter(|step| is_text_of(step, line)))
+}
+
+/// The step of this place that the words of a line and the text of its reply tell, however they are spelled.
+fn read_step<'t>(number: usize, words: &[&'t str], reply: &str) -> Option<Step<'t, Id>> {
+    let (client, asked, id) = match words {
+        [_, client, "submit", id, now] => (*client, Asked::Submit(now.parse().ok()?), id),
+        [_, client, "invalidate", id] => (*client, Asked::Invalidate, id),
+        [_, client, "reconsider", id] => (*client, Asked::Reconsider, id),
+        [_, client, "precious", id] => (*client, Asked::Precious, id),
+        _ => return None,
+    };
+    if !is_name(client) {
+        return None;
+    }
+    Some(Step {
+        number,
+        client,
+        asked,
+        block: Id::read(id.as_bytes())?,
+        reply: read_reply(asked, reply)?,
+    })
+}
+
+/// The reply of this text to what was asked; within, none where it is owed.
+fn read_reply(asked: Asked, text: &str) -> Option<Option<Reply>> {
+    if text == "owed" {
+        return Some(None);
+    }
+    let reply = match asked {
+        Asked::Submit(_) => Reply::Submit(read_submit_reply(text)?),
+        _ => Reply::Mark(read_mark_reply(text)?),
+    };
+    Some(Some(reply))
+}

@@ -1,4 +1,0 @@
--- What private clauses alone cite.
-pub mod Agreement
-pub mod Heights
-pub mod Saved

@@ -1,0 +1,161 @@
+"""The command line."""
+from running import Played, ProgramTest
+
+# Command lines with `clap`'s texts for them.
+TEXTS = [
+    (
+        "frobnicate",
+        """\
+error: unrecognized subcommand 'frobnicate'
+
+Usage: regchain <COMMAND>
+
+For more information, try '--help'.
+""",
+    ),
+    (
+        "run",
+        """\
+error: the following required arguments were not provided:
+  --scenario <F>
+
+Usage: regchain run --scenario <F>
+
+For more information, try '--help'.
+""",
+    ),
+    (
+        "run --scenario - --signet f",
+        """\
+error: unexpected argument '--signet' found
+
+Usage: regchain run --scenario <F>
+
+For more information, try '--help'.
+""",
+    ),
+    (
+        "run --scenario - --workers 17",
+        """\
+error: invalid value '17' for '--workers <N>': 17 is not in 1..=16
+
+For more information, try '--help'.
+""",
+    ),
+    (
+        "--version",
+        """\
+regchain 0.1.0 (rattle-kit-13b logic dac8208d650f15bf)
+""",
+    ),
+    (
+        "--help",
+        """\
+The chainstate of a Bitcoin node on regtest. Without words it runs the scenario on the standard input
+
+Usage: regchain <COMMAND>
+
+Commands:
+  run    Runs a scenario, and prints what its clients are answered
+  audit  Replays a journal by the definition, and compares the replies
+  show   Shows the id and the bytes of each block and transaction that a scenario defines
+  help   Print this message or the help of the given subcommand(s)
+
+Options:
+  -h, --help     Print help
+  -V, --version  Print version
+""",
+    ),
+    (
+        "run --help",
+        """\
+Runs a scenario, and prints what its clients are answered
+
+Usage: regchain run [OPTIONS] --scenario <F>
+
+Options:
+      --scenario <F>       The scenario; - is the standard input
+      --blk <F>            Blocks that are submitted first, as a blk file of Bitcoin Core has them
+      --table <F>          The signatures that are valid
+      --workers <N>        How many threads check scripts, 1 to 16 [default: 2]
+      --heights <A,B,C,D>  From which heights the rules of BIP 34, 65, 66, and of BIPs \
+68, 112 and 113 are in force [default: 1,1,1,1]
+      --save <D>           The folder for journal.txt, blocks.blk, table.txt and heights.txt
+      --expect <F>         The output that it has to have
+      --json               Writes a JSON object a line
+  -h, --help               Print help
+""",
+    ),
+    (
+        "audit --help",
+        """\
+Replays a journal by the definition, and compares the replies
+
+Usage: regchain audit [OPTIONS]
+
+Options:
+      --saved <D>          The folder of a run's --save
+      --journal <F>        The journal.txt of a run
+      --blk <F>            Its blocks.blk
+      --table <F>          The signatures that are valid
+      --heights <A,B,C,D>  From which heights the rules of BIP 34, 65, 66, and of BIPs \
+68, 112 and 113 are in force [default: 1,1,1,1]
+      --quick              By the chainstate of one thread in place of the definition
+      --explain            Tells the reply that the first line which differs should have
+      --to <N>             Looks at the first N lines
+      --json               Writes a JSON object a line
+  -h, --help               Print help
+""",
+    ),
+    (
+        "show --help",
+        """\
+Shows the id and the bytes of each block and transaction that a scenario defines
+
+Usage: regchain show --scenario <F> [NAME]...
+
+Arguments:
+  [NAME]...  These names alone
+
+Options:
+      --scenario <F>  The scenario; - is the standard input
+  -h, --help          Print help
+""",
+    ),
+]
+
+# Words with which a scenario is read from the standard input, and words with which none is.
+READ = [([], True), (["run", "--scenario", "-"], True), (["run", "--scenario", "f"], False), (["--version"], False)]
+
+WAITING = "regchain: waits for a scenario, which ends with Ctrl-D\n"
+
+
+class CommandLine(ProgramTest):
+    def test_words_that_are_not_ours(self) -> None:
+        for words, text in TEXTS:
+            self.expect_fault(words.split(" "), "client a\n", text)
+
+    def test_a_scenario_in_a_file(self) -> None:
+        self.write("scenario.txt", "client in_a_file\n")
+        words = ["run", "--scenario", "scenario.txt"]
+        self.expect(words, "client standard\n", Played(0, "client in_a_file\njournal\n", ""))
+
+    def test_a_scenario_on_the_standard_input(self) -> None:
+        words = ["run", "--scenario", "-"]
+        self.expect(words, "client standard\n", Played(0, "client standard\njournal\n", ""))
+
+    def test_a_file_that_is_not_there(self) -> None:
+        words = ["run", "--scenario", "not/there.txt"]
+        self.expect_fault(words, "client a\n", "regchain: cannot read not/there.txt\n")
+
+    def test_a_scenario_that_is_waited_for(self) -> None:
+        """Who has to type a scenario is told so, on a terminal alone."""
+        for words, is_read in READ:
+            for is_terminal in [False, True]:
+                with self.subTest(words=words, is_terminal=is_terminal):
+                    play = self.play_typed if is_terminal else self.play
+                    played = play(words, "client a\n")
+                    self.assertEqual(played.err.startswith(WAITING), is_read and is_terminal)
+                    if is_read:
+                        told = WAITING if is_terminal else ""
+                        self.assertEqual(played, Played(0, "client a\njournal\n", told))
