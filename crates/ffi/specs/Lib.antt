@@ -1,0 +1,6 @@
+pub mod Answers
+pub mod Blocks
+pub mod Codes
+pub mod Keeping
+pub mod SessionState
+pub mod inside

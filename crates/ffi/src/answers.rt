@@ -1,0 +1,158 @@
+//! What C is answered.
+
+ghost use Rattle.std.specs.Prelude.{◌≡◌};
+ghost use Rattle.ffi.specs.Codes.{input_number, reason_number, reply_number, status_number, submit_number, transaction_number};
+
+use chain::{MarkReply, Reply, SubmitReply};
+use tree::{Status, Tip};
+use txn::Reason;
+
+/// The call did what it says.
+pub(crate) const DONE: u32 = 0;
+/// There was no memory, and nothing changed.
+pub(crate) const MEMORY: u32 = 1;
+/// The slot holds no session.
+pub(crate) const CLOSED: u32 = 2;
+/// A line of the table can't be read.
+pub(crate) const BAD_TABLE: u32 = 3;
+/// There is no such thing: no coin, no tip, no block.
+pub(crate) const NONE: u32 = 4;
+/// The room that was handed in is too small; what is needed is told.
+pub(crate) const TOO_SMALL: u32 = 5;
+/// The slot holds a session already.
+pub(crate) const FULL: u32 = 6;
+
+/// An id, in the order in which it is hashed and sent.
+#[repr(C)]
+#[derive(Clone, Copy, Drop)]
+pub struct Name {
+    pub bytes: [u8; 32],
+}
+
+/// The heights from which soft forks are in force.
+#[repr(C)]
+#[derive(Clone, Copy, Drop)]
+pub struct Heights {
+    pub bip34: u32,
+    pub bip65: u32,
+    pub bip66: u32,
+    pub csv: u32,
+}
+
+/// An outpoint.
+#[repr(C)]
+#[derive(Clone, Copy, Drop)]
+pub struct Place {
+    pub id: Name,
+    pub index: u32,
+}
+
+/// A reply, by its number; of a rejection the reason's number, and the transaction and the input whose script wasn't
+/// accepted. All else is 0.
+#[repr(C)]
+#[derive(Clone, Copy, Drop)]
+pub struct Answer {
+    pub reply: u32,
+    pub reason: u32,
+    pub transaction: u64,
+    pub input: u64,
+}
+
+/// A tip.
+#[repr(C)]
+#[derive(Clone, Copy, Drop)]
+pub struct ShownTip {
+    pub id: Name,
+    pub height: u64,
+    pub length: u64,
+    pub status: u32,
+}
+
+/// A transaction of a block: its id, and how many outputs it has.
+#[repr(C)]
+#[derive(Clone, Copy, Drop)]
+pub struct Made {
+    pub id: Name,
+    pub outputs: u64,
+}
+
+/// A coin without its script, and how long that is.
+#[repr(C)]
+#[derive(Clone, Copy, Drop)]
+pub struct ShownCoin {
+    pub value: i64,
+    pub script: u64,
+    pub height: u32,
+    pub coinbase: u32,
+}
+
+fn number_of_submission(reply: SubmitReply) -> u32
+    ensures { result ≡ submit_number reply }
+{
+    match reply {
+        SubmitReply::Accepted => 1,
+        SubmitReply::Inconclusive => 2,
+        SubmitReply::Duplicate => 3,
+        SubmitReply::DuplicateInvalid => 4,
+        SubmitReply::DuplicateInconclusive => 5,
+        SubmitReply::Rejected(_) => 6,
+        SubmitReply::DecodeFailed => 7,
+        SubmitReply::TreeFull => 8,
+    }
+}
+
+/// A reply as C is told it.
+pub(crate) fn as_told(reply: Reply) -> Answer
+    ensures reply { result.reply ≡ reply_number reply }
+    ensures reason { result.reason ≡ reason_number reply }
+    ensures transaction { result.transaction ≡ transaction_number reply }
+    ensures input { result.input ≡ input_number reply }
+{
+    let mut told = Answer {
+        reply: 0,
+        reason: 0,
+        transaction: 0,
+        input: 0,
+    };
+    match reply {
+        Reply::Submit(reply) => {
+            told.reply = number_of_submission(reply);
+            if let SubmitReply::Rejected(reason) = reply {
+                told.reason = reason.number() as u32;
+                if let Reason::ScriptRefused { transaction, input } = reason {
+                    told.transaction = transaction as u64;
+                    told.input = input as u64;
+                }
+            }
+        }
+        Reply::Mark(reply) => {
+            told.reply = match reply {
+                MarkReply::Done => 9,
+                MarkReply::NotFound => 10,
+                MarkReply::Genesis => 11,
+            };
+        }
+    }
+    told
+}
+
+/// A tip as C is told it.
+pub(crate) fn shown_tip(tip: &Tip) -> ShownTip
+    ensures id { result.id.bytes ≡ tip.now.id.0 }
+    ensures height { result.height ≡ tip.now.height }
+    ensures length { result.length ≡ tip.now.length }
+    ensures status { result.status ≡ status_number tip.now.status }
+{
+    let bytes = tip.id.0;
+    ShownTip {
+        id: Name { bytes },
+        height: tip.height as u64,
+        length: tip.length as u64,
+        status: match tip.status {
+            Status::Active => 1,
+            Status::Invalid => 2,
+            Status::ValidFork => 3,
+            Status::ValidHeaders => 4,
+        },
+    }
+}

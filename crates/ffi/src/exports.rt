@@ -1,0 +1,279 @@
+//! The calls, as C names them. A slot that holds no session is answered by a number, and nothing changes.
+
+ghost use Rattle.std.specs.Prelude.{◌≡◌, ◌⊎◌, IsSome, None, Some, map, slice_get};
+ghost use Rattle.std.specs.FinMap as coin_map;
+ghost use Rattle.curve.specs.Lines.{IsFirstBad, lines};
+ghost use Rattle.chain.specs.declared.command.Command.TheVariants as command;
+ghost use Rattle.chain.specs.Regtest.{ledger};
+ghost use Rattle.chain.specs.Replay.{coins};
+ghost use Rattle.chain.specs.Settle.{active, best, tips};
+ghost use Rattle.tree.specs.Branches.{height as height_of};
+ghost use Rattle.tree.specs.Tips.{tip_of_id};
+ghost use Rattle.ffi.specs.Answers.{IsCoinShown, IsOpenedBy, IsTaken, IsTipShown, id_of, outpoint_of, params_of};
+ghost use Rattle.ffi.specs.SessionState.{SessionState, rules_of, state_of};
+
+use crate::answers::{
+    Answer, BAD_TABLE, CLOSED, DONE, FULL, Heights, MEMORY, NONE, Name, Place, ShownCoin, ShownTip,
+    TOO_SMALL, as_told, shown_tip,
+};
+use crate::session::Session;
+use crate::slot::{Slot, put, take};
+use block::Bytes;
+use chain::Command;
+use curve::TableFault;
+use hash::Id;
+use rules::Params;
+use std::alloc::Global;
+use txn::OutPoint;
+
+/// Opens a session on genesis alone. Where a line of the table can't be read, `line` is its number, from 1.
+#[unsafe(no_mangle)]
+pub extern "C" fn ffi_open(
+    alloc: Global,
+    slot: &mut Slot,
+    heights: &Heights,
+    table: &[u8],
+    line: &mut u64,
+) -> u32
+    ensures opened { result ≡ 0
+        → IsOpenedBy (params_of heights.now) (lines table.now) slot.new.kept.value }
+    ensures was_empty { result ≡ 0 → slot.old.kept.value ≡ None }
+    ensures refused { (result ≡ 0) ⊎ (slot.new.kept.value ≡ slot.old.kept.value) }
+    ensures bad_line { result ≡ 3 → IsFirstBad (lines table.now) line.new }
+    ensures full { result ≡ 6 → IsSome slot.old.kept.value }
+{
+    *line = 0;
+    if slot.is_full() {
+        return FULL;
+    }
+    let params = Params {
+        bip34: heights.bip34,
+        bip65: heights.bip65,
+        bip66: heights.bip66,
+        csv: heights.csv,
+    };
+    match Session::open(alloc, params, table) {
+        Err(TableFault::Memory) => MEMORY,
+        Err(TableFault::BadLine(number)) => {
+            *line = number as u64;
+            BAD_TABLE
+        }
+        Ok(session) => match Box::new(alloc, session) {
+            Err(_) => MEMORY,
+            Ok(session) => {
+                put(slot, session);
+                DONE
+            }
+        },
+    }
+}
+
+/// Gives the session's memory back.
+#[unsafe(no_mangle)]
+pub extern "C" fn ffi_close(alloc: Global, slot: &mut Slot) -> u32
+    ensures { slot.new.kept.value ≡ None }
+{
+    match take(alloc, slot) {
+        None => CLOSED,
+        Some(session) => {
+            drop(session);
+            DONE
+        }
+    }
+}
+
+/// One step of the session in a slot.
+fn step(alloc: Global, slot: &mut Slot, asked: &Command, reply: &mut Answer) -> u32
+    ensures closed { slot.old.kept.value ≡ None → result ≡ 2 }
+    ensures taken { (s : SessionState) → slot.old.kept.value ≡ Some s → result ≡ 0
+        → IsTaken s slot.new.kept.value asked.now reply.new }
+    ensures refused { (result ≡ 0) ⊎ (slot.new.kept.value ≡ slot.old.kept.value) }
+    ensures answers { (s : SessionState) → slot.old.kept.value ≡ Some s
+        → (result ≡ 0) ⊎ (result ≡ 1) }
+{
+    let Some(mut session) = take(alloc, slot) else {
+        return CLOSED;
+    };
+    let told = session.step(alloc, asked);
+    put(slot, session);
+    match told {
+        Err(_) => MEMORY,
+        Ok(told) => {
+            *reply = as_told(told);
+            DONE
+        }
+    }
+}
+
+/// Submits the block of these bytes at a moment in seconds since 1970.
+#[unsafe(no_mangle)]
+pub extern "C" fn ffi_submit(
+    alloc: Global,
+    slot: &mut Slot,
+    bytes: &[u8],
+    now: u64,
+    reply: &mut Answer,
+) -> u32
+    ensures closed { slot.old.kept.value ≡ None → result ≡ 2 }
+    ensures taken { (s : SessionState) → slot.old.kept.value ≡ Some s → result ≡ 0
+        → IsTaken s slot.new.kept.value (command.Submit bytes.now now) reply.new }
+    ensures refused { (result ≡ 0) ⊎ (slot.new.kept.value ≡ slot.old.kept.value) }
+    ensures answers { (s : SessionState) → slot.old.kept.value ≡ Some s
+        → (result ≡ 0) ⊎ (result ≡ 1) }
+{
+    if !slot.is_full() {
+        return CLOSED;
+    }
+    match Bytes::from_slice(alloc, bytes) {
+        Err(_) => MEMORY,
+        Ok(bytes) => step(alloc, slot, &Command::Submit(bytes, now), reply),
+    }
+}
+
+/// Marks the block of this id as invalid.
+#[unsafe(no_mangle)]
+pub extern "C" fn ffi_invalidate(
+    alloc: Global,
+    slot: &mut Slot,
+    id: &Name,
+    reply: &mut Answer,
+) -> u32
+    ensures closed { slot.old.kept.value ≡ None → result ≡ 2 }
+    ensures taken { (s : SessionState) → slot.old.kept.value ≡ Some s → result ≡ 0
+        → IsTaken s slot.new.kept.value (command.Invalidate (id_of id.now)) reply.new }
+    ensures refused { (result ≡ 0) ⊎ (slot.new.kept.value ≡ slot.old.kept.value) }
+    ensures answers { (s : SessionState) → slot.old.kept.value ≡ Some s
+        → (result ≡ 0) ⊎ (result ≡ 1) }
+{
+    let bytes = id.bytes;
+    step(alloc, slot, &Command::Invalidate(Id(bytes)), reply)
+}
+
+/// Takes the marks from the block of this id, its ancestors and its descendants.
+#[unsafe(no_mangle)]
+pub extern "C" fn ffi_reconsider(
+    alloc: Global,
+    slot: &mut Slot,
+    id: &Name,
+    reply: &mut Answer,
+) -> u32
+    ensures closed { slot.old.kept.value ≡ None → result ≡ 2 }
+    ensures taken { (s : SessionState) → slot.old.kept.value ≡ Some s → result ≡ 0
+        → IsTaken s slot.new.kept.value (command.Reconsider (id_of id.now)) reply.new }
+    ensures refused { (result ≡ 0) ⊎ (slot.new.kept.value ≡ slot.old.kept.value) }
+    ensures answers { (s : SessionState) → slot.old.kept.value ≡ Some s
+        → (result ≡ 0) ⊎ (result ≡ 1) }
+{
+    let bytes = id.bytes;
+    step(alloc, slot, &Command::Reconsider(Id(bytes)), reply)
+}
+
+/// Prefers the block of this id to all that are as high.
+#[unsafe(no_mangle)]
+pub extern "C" fn ffi_precious(alloc: Global, slot: &mut Slot, id: &Name, reply: &mut Answer) -> u32
+    ensures closed { slot.old.kept.value ≡ None → result ≡ 2 }
+    ensures taken { (s : SessionState) → slot.old.kept.value ≡ Some s → result ≡ 0
+        → IsTaken s slot.new.kept.value (command.Precious (id_of id.now)) reply.new }
+    ensures refused { (result ≡ 0) ⊎ (slot.new.kept.value ≡ slot.old.kept.value) }
+    ensures answers { (s : SessionState) → slot.old.kept.value ≡ Some s
+        → (result ≡ 0) ⊎ (result ≡ 1) }
+{
+    let bytes = id.bytes;
+    step(alloc, slot, &Command::Precious(Id(bytes)), reply)
+}
+
+/// The active block's id and height.
+#[unsafe(no_mangle)]
+pub extern "C" fn ffi_best(alloc: Global, slot: &mut Slot, id: &mut Name, height: &mut u64) -> u32
+    ensures kept { slot.new.kept.value ≡ slot.old.kept.value }
+    ensures closed { slot.old.kept.value ≡ None → result ≡ 2 }
+    ensures best_is { (s : SessionState) → slot.old.kept.value ≡ Some s
+        → id.new.bytes ≡ (best (rules_of s) (state_of s)).0 }
+    ensures height_is { (s : SessionState) → slot.old.kept.value ≡ Some s
+        → height.new ≡ height_of (state_of s).blocks (active (rules_of s) (state_of s)) }
+    ensures done { (s : SessionState) → slot.old.kept.value ≡ Some s → result ≡ 0 }
+{
+    let Some(session) = take(alloc, slot) else {
+        return CLOSED;
+    };
+    let best = session.best().0;
+    id.bytes = best;
+    *height = session.height() as u64;
+    put(slot, session);
+    DONE
+}
+
+/// The tip at a place of the list of tips, from 0, by height downwards, then by arrival.
+#[unsafe(no_mangle)]
+pub extern "C" fn ffi_tip(alloc: Global, slot: &mut Slot, index: u64, tip: &mut ShownTip) -> u32
+    ensures kept { slot.new.kept.value ≡ slot.old.kept.value }
+    ensures closed { slot.old.kept.value ≡ None → result ≡ 2 }
+    ensures tip_is { (s : SessionState) → slot.old.kept.value ≡ Some s
+        → IsTipShown (slice_get (map tip_of_id (tips (rules_of s) (state_of s))) index) tip.new
+        result }
+{
+    let Some(session) = take(alloc, slot) else {
+        return CLOSED;
+    };
+    let tips = session.tips(alloc);
+    put(slot, session);
+    match tips {
+        Err(_) => MEMORY,
+        Ok(tips) => match tips.as_slice().get(index as usize) {
+            None => NONE,
+            Some(found) => {
+                *tip = shown_tip(found);
+                DONE
+            }
+        },
+    }
+}
+
+/// The coin at an outpoint. Its script is put at the front of `script`, where that is long enough.
+#[unsafe(no_mangle)]
+pub extern "C" fn ffi_coin(
+    alloc: Global,
+    slot: &mut Slot,
+    at: &Place,
+    coin: &mut ShownCoin,
+    script: &mut [u8],
+) -> u32
+    ensures kept { slot.new.kept.value ≡ slot.old.kept.value }
+    ensures closed { slot.old.kept.value ≡ None → result ≡ 2 }
+    ensures coin_is { (s : SessionState) → slot.old.kept.value ≡ Some s
+        → IsCoinShown (coin_map.get (coins (rules_of s) ledger (state_of s)) (outpoint_of at.now))
+        coin.new script.new result }
+{
+    let Some(session) = take(alloc, slot) else {
+        return CLOSED;
+    };
+    let code = show_coin(&session, at, coin, script);
+    put(slot, session);
+    code
+}
+
+fn show_coin(session: &Session, at: &Place, shown: &mut ShownCoin, script: &mut [u8]) -> u32
+    ensures { let s = session.now in let o = outpoint_of at.now in
+        IsCoinShown (coin_map.get (coins (rules_of s) ledger (state_of s)) o) shown.new script.new result }
+{
+    let bytes = at.id.bytes;
+    let outpoint = OutPoint {
+        id: Id(bytes),
+        index: at.index,
+    };
+    let Some(coin) = session.coin(&outpoint) else {
+        return NONE;
+    };
+    let bytes = coin.script.as_slice();
+    *shown = ShownCoin {
+        value: coin.value,
+        script: bytes.len() as u64,
+        height: coin.height,
+        coinbase: coin.coinbase as u32,
+    };
+    if bytes.len() > script.len() {
+        return TOO_SMALL;
+    }
+    script[..bytes.len()].copy_from_slice(bytes);
+    DONE
+}

@@ -1,0 +1,424 @@
+/*
+ * The calls that users make. This file is trusted: nothing proves it. It tests what C hands in, names chainstates by
+ * numbers, lets one call at a time into each, keeps a copy of the blocks, and goes over those of the active branch for
+ * the coins; the work is done by the proved functions ffi_*, of crates/ffi.
+ *
+ * What it owes them: each pointer points to what its type says and to nothing that another argument points to; a slot
+ * is zero bytes at first and is written by them alone; one call at a time uses a slot, and the next one sees all that
+ * it wrote (the words below are read and written in one order by all threads). A session may go from thread to thread:
+ * crates/ffi has the prover show it.
+ */
+#include "wakotehu.h"
+
+#include <stdatomic.h>
+#include <stdbool.h>
+#include <stdlib.h>
+#include <string.h>
+
+/* ---- the proved functions. A parameter of no bytes, the allocator, isn't passed. */
+
+struct slot {
+    bool full;
+    void *at; /* read and written by the proved functions alone */
+};
+
+struct place {
+    uint8_t id[32];
+    uint32_t index;
+};
+
+struct made {
+    uint8_t id[32];
+    uint64_t outputs;
+};
+
+uint32_t ffi_open(struct slot *slot, const wakotehu_heights *heights, const uint8_t *table, size_t length,
+                  uint64_t *line);
+uint32_t ffi_close(struct slot *slot);
+uint32_t ffi_submit(struct slot *slot, const uint8_t *bytes, size_t length, uint64_t now, wakotehu_answer *answer);
+uint32_t ffi_invalidate(struct slot *slot, const uint8_t *id, wakotehu_answer *answer);
+uint32_t ffi_reconsider(struct slot *slot, const uint8_t *id, wakotehu_answer *answer);
+uint32_t ffi_precious(struct slot *slot, const uint8_t *id, wakotehu_answer *answer);
+uint32_t ffi_best(struct slot *slot, uint8_t *id, uint64_t *height);
+uint32_t ffi_tip(struct slot *slot, uint64_t index, wakotehu_tip *tip);
+uint32_t ffi_coin(struct slot *slot, const struct place *at, wakotehu_coin *coin, uint8_t *script, size_t length);
+uint32_t ffi_header(const uint8_t *bytes, size_t length, uint8_t *id, uint8_t *parent);
+uint32_t ffi_transactions(const uint8_t *bytes, size_t length, struct made *rows, size_t most, uint64_t *count);
+
+_Static_assert(sizeof(struct slot) == 16 && offsetof(struct slot, at) == 8, "as Slot of crates/ffi lies in memory");
+_Static_assert(sizeof(struct place) == 36, "as Place");
+_Static_assert(sizeof(struct made) == 40, "as Made");
+_Static_assert(sizeof(wakotehu_answer) == 24, "as Answer");
+_Static_assert(sizeof(wakotehu_tip) == 56 && offsetof(wakotehu_tip, status) == 48, "as ShownTip");
+_Static_assert(sizeof(wakotehu_coin) == 24, "as ShownCoin");
+
+/* ---- handles. A handle is the number of an opening, and below it in one byte the place. The word of a place is the
+ * number of its last opening, and below it in two bits what it is. Places are never given back. */
+
+enum { FREE = 0, OPEN = 1, IN_USE = 2 };
+
+/* A block that was submitted. Where `bytes` is null there is none. */
+struct block {
+    uint8_t id[32], parent[32];
+    uint8_t *bytes;
+    size_t length;
+};
+
+/* Blocks by their ids: each stands where the first bytes of its id say, or in the next place that was free. `room` is 0
+ * or a power of two, and at most half of the places are taken. */
+struct blocks {
+    struct block *places;
+    size_t count, room;
+};
+
+static struct chain {
+    _Atomic uint64_t word;
+    struct slot slot;
+    struct blocks blocks;
+} chains[WAKOTEHU_MOST];
+
+static uint64_t word_of(wakotehu_handle handle, uint64_t state) { return handle >> 8 << 2 | state; }
+
+/* Lets this call into the chainstate of a handle, or says why not. */
+static wakotehu_code enter(wakotehu_handle handle) {
+    uint64_t found = word_of(handle, OPEN);
+    if (handle >> 8 == 0 || handle >> 62 != 0)
+        return WAKOTEHU_CLOSED;
+    if (atomic_compare_exchange_strong(&chains[handle & 255].word, &found, word_of(handle, IN_USE)))
+        return WAKOTEHU_OK;
+    return found == word_of(handle, IN_USE) ? WAKOTEHU_BUSY : WAKOTEHU_CLOSED;
+}
+
+static struct chain *chain_of(wakotehu_handle handle) { return &chains[handle & 255]; }
+
+static struct slot *slot_of(wakotehu_handle handle) { return &chain_of(handle)->slot; }
+
+/* Lets the next call in, and hands the code on. */
+static wakotehu_code leave(wakotehu_handle handle, uint32_t code) {
+    atomic_store(&chains[handle & 255].word, word_of(handle, OPEN));
+    return (wakotehu_code)code;
+}
+
+/* ---- what is handed in */
+
+static const uint8_t no_bytes[1];
+
+/* Bytes that can be read: of none, some address that isn't null. */
+static bool readable(const void *bytes, size_t length) { return (bytes || !length) && length <= PTRDIFF_MAX; }
+
+/* ---- the copies of blocks */
+
+/* The place where a block of this id stands, or would stand. */
+static struct block *place_in(const struct blocks *blocks, const uint8_t *id) {
+    size_t at;
+    memcpy(&at, id, sizeof at);
+    while (blocks->places[at & (blocks->room - 1)].bytes
+           && memcmp(blocks->places[at & (blocks->room - 1)].id, id, 32) != 0)
+        at++;
+    return &blocks->places[at & (blocks->room - 1)];
+}
+
+static const struct block *find(const struct blocks *blocks, const uint8_t *id) {
+    const struct block *found = blocks->room ? place_in(blocks, id) : NULL;
+    return found && found->bytes ? found : NULL;
+}
+
+/* Makes room for one block more; false where there is no memory. */
+static bool make_room(struct blocks *blocks) {
+    struct blocks larger = {NULL, blocks->count, blocks->room ? 2 * blocks->room : 64};
+    if (2 * (blocks->count + 1) <= blocks->room)
+        return true;
+    larger.places = calloc(larger.room, sizeof *larger.places);
+    if (!larger.places)
+        return false;
+    for (size_t n = 0; n < blocks->room; n++)
+        if (blocks->places[n].bytes)
+            *place_in(&larger, blocks->places[n].id) = blocks->places[n];
+    free(blocks->places);
+    *blocks = larger;
+    return true;
+}
+
+/* Copies the bytes of a block that isn't there yet, and makes room for it; false where there is no memory. */
+static bool copy_block(struct blocks *blocks, const uint8_t *bytes, size_t length, struct block *copy) {
+    if (ffi_header(bytes, length, copy->id, copy->parent) != WAKOTEHU_OK || find(blocks, copy->id))
+        return true;
+    if (!make_room(blocks) || !(copy->bytes = malloc(length)))
+        return false;
+    memcpy(copy->bytes, bytes, length);
+    copy->length = length;
+    return true;
+}
+
+/* Whether it was seen that a header's transactions are these: the reasons from 4 on are looked for after that. So all
+ * blocks that a chainstate keeps have a copy, and no other bytes have the id. */
+static bool is_whole(const wakotehu_answer *answer) {
+    return answer->reply == WAKOTEHU_ACCEPTED || answer->reply == WAKOTEHU_INCONCLUSIVE
+           || (answer->reply == WAKOTEHU_REJECTED && answer->reason >= 4);
+}
+
+static void forget(struct blocks *blocks) {
+    for (size_t n = 0; n < blocks->room; n++)
+        free(blocks->places[n].bytes);
+    free(blocks->places);
+    *blocks = (struct blocks){NULL, 0, 0};
+}
+
+/* ---- opening and closing */
+
+wakotehu_code wakotehu_open(wakotehu_handle *handle, const wakotehu_heights *heights, const char *table,
+                            size_t length, uint64_t *line) {
+    uint64_t bad_line = 0;
+    if (!handle || !heights || !readable(table, length))
+        return WAKOTEHU_NULL;
+    for (uint64_t place = 0; place < WAKOTEHU_MOST; place++) {
+        uint64_t word = atomic_load(&chains[place].word);
+        wakotehu_handle made = ((word >> 2) + 1) << 8 | place;
+        if ((word & 3) != FREE || made >> 62 != 0)
+            continue;
+        if (!atomic_compare_exchange_strong(&chains[place].word, &word, word_of(made, IN_USE)))
+            continue;
+        uint32_t code = ffi_open(&chains[place].slot, heights, length ? (const uint8_t *)table : no_bytes, length,
+                                 &bad_line);
+        if (line)
+            *line = bad_line;
+        if (code == WAKOTEHU_OK)
+            *handle = made;
+        atomic_store(&chains[place].word, word_of(made, code == WAKOTEHU_OK ? OPEN : FREE));
+        return (wakotehu_code)code;
+    }
+    return WAKOTEHU_TOO_MANY;
+}
+
+wakotehu_code wakotehu_close(wakotehu_handle handle) {
+    wakotehu_code code = enter(handle);
+    if (code != WAKOTEHU_OK)
+        return code;
+    code = (wakotehu_code)ffi_close(slot_of(handle));
+    forget(&chain_of(handle)->blocks);
+    atomic_store(&chains[handle & 255].word, word_of(handle, FREE));
+    return code;
+}
+
+/* ---- commands */
+
+/* Submits, with the copy made before: a step that was taken may not fail. */
+static uint32_t submit(struct chain *chain, const uint8_t *bytes, size_t length, uint64_t now,
+                       wakotehu_answer *answer) {
+    struct block copy = {0};
+    if (!copy_block(&chain->blocks, bytes, length, &copy))
+        return WAKOTEHU_MEMORY;
+    uint32_t code = ffi_submit(&chain->slot, bytes, length, now, answer);
+    if (copy.bytes && code == WAKOTEHU_OK && is_whole(answer)) {
+        *place_in(&chain->blocks, copy.id) = copy;
+        chain->blocks.count++;
+    } else
+        free(copy.bytes);
+    return code;
+}
+
+wakotehu_code wakotehu_submit(wakotehu_handle handle, const uint8_t *bytes, size_t length, uint64_t now,
+                              wakotehu_answer *answer) {
+    if (!readable(bytes, length) || !answer)
+        return WAKOTEHU_NULL;
+    wakotehu_code code = enter(handle);
+    if (code != WAKOTEHU_OK)
+        return code;
+    memset(answer, 0, sizeof *answer);
+    return leave(handle, submit(chain_of(handle), length ? bytes : no_bytes, length, now, answer));
+}
+
+static wakotehu_code mark(wakotehu_handle handle, const uint8_t *id, wakotehu_answer *answer,
+                          uint32_t (*call)(struct slot *, const uint8_t *, wakotehu_answer *)) {
+    uint8_t copy[32];
+    if (!id || !answer)
+        return WAKOTEHU_NULL;
+    wakotehu_code code = enter(handle);
+    if (code != WAKOTEHU_OK)
+        return code;
+    memcpy(copy, id, sizeof copy);
+    memset(answer, 0, sizeof *answer);
+    return leave(handle, call(slot_of(handle), copy, answer));
+}
+
+wakotehu_code wakotehu_invalidate(wakotehu_handle handle, const uint8_t *id, wakotehu_answer *answer) {
+    return mark(handle, id, answer, ffi_invalidate);
+}
+
+wakotehu_code wakotehu_reconsider(wakotehu_handle handle, const uint8_t *id, wakotehu_answer *answer) {
+    return mark(handle, id, answer, ffi_reconsider);
+}
+
+wakotehu_code wakotehu_precious(wakotehu_handle handle, const uint8_t *id, wakotehu_answer *answer) {
+    return mark(handle, id, answer, ffi_precious);
+}
+
+/* ---- reads */
+
+static wakotehu_code best(wakotehu_handle handle, uint8_t *id, uint64_t *height) {
+    wakotehu_code code = enter(handle);
+    return code != WAKOTEHU_OK ? code : leave(handle, ffi_best(slot_of(handle), id, height));
+}
+
+wakotehu_code wakotehu_best(wakotehu_handle handle, uint8_t *id) {
+    uint64_t height = 0;
+    return id ? best(handle, id, &height) : WAKOTEHU_NULL;
+}
+
+wakotehu_code wakotehu_height(wakotehu_handle handle, uint64_t *height) {
+    uint8_t id[32] = {0};
+    return height ? best(handle, id, height) : WAKOTEHU_NULL;
+}
+
+wakotehu_code wakotehu_tip_at(wakotehu_handle handle, size_t place, wakotehu_tip *tip) {
+    if (!tip)
+        return WAKOTEHU_NULL;
+    wakotehu_code code = enter(handle);
+    if (code != WAKOTEHU_OK)
+        return code;
+    memset(tip, 0, sizeof *tip);
+    return leave(handle, ffi_tip(slot_of(handle), place, tip));
+}
+
+wakotehu_code wakotehu_coin_at(wakotehu_handle handle, const uint8_t *id, uint32_t index, wakotehu_coin *coin,
+                               uint8_t *script, size_t length) {
+    struct place at;
+    uint8_t none[1];
+    if (!id || !coin || !readable(script, length))
+        return WAKOTEHU_NULL;
+    wakotehu_code code = enter(handle);
+    if (code != WAKOTEHU_OK)
+        return code;
+    memcpy(at.id, id, sizeof at.id);
+    at.index = index;
+    memset(coin, 0, sizeof *coin);
+    return leave(handle, ffi_coin(slot_of(handle), &at, coin, length ? script : none, length));
+}
+
+wakotehu_code wakotehu_block(wakotehu_handle handle, const uint8_t *id, uint8_t *bytes, size_t length,
+                             size_t *needed) {
+    if (!id || !needed || !readable(bytes, length))
+        return WAKOTEHU_NULL;
+    wakotehu_code code = enter(handle);
+    if (code != WAKOTEHU_OK)
+        return code;
+    const struct block *found = find(&chain_of(handle)->blocks, id);
+    *needed = found ? found->length : 0;
+    if (!found)
+        return leave(handle, WAKOTEHU_NONE);
+    if (length < found->length)
+        return leave(handle, WAKOTEHU_TOO_SMALL);
+    memcpy(bytes, found->bytes, found->length);
+    return leave(handle, WAKOTEHU_OK);
+}
+
+/* ---- all coins */
+
+/* Whom coins are handed to, and the room for their scripts. */
+struct walk {
+    wakotehu_coin_call call;
+    void *context;
+    uint8_t *script;
+    size_t length;
+    bool ended;
+};
+
+/* Hands on the coin at an outpoint, if there is one and it is of this height. */
+static uint32_t hand_on(struct chain *chain, const struct place *at, uint64_t height, struct walk *walk) {
+    wakotehu_coin coin;
+    uint32_t code = ffi_coin(&chain->slot, at, &coin, walk->script, walk->length);
+    if (code == WAKOTEHU_TOO_SMALL) {
+        uint8_t *larger = realloc(walk->script, coin.script);
+        if (!larger)
+            return WAKOTEHU_MEMORY;
+        walk->script = larger;
+        walk->length = coin.script;
+        code = ffi_coin(&chain->slot, at, &coin, walk->script, walk->length);
+    }
+    if (code == WAKOTEHU_OK && coin.height == height)
+        walk->ended = walk->call(walk->context, at->id, at->index, &coin, walk->script) != 0;
+    return code == WAKOTEHU_NONE ? WAKOTEHU_OK : code;
+}
+
+/* Hands on the coins that a block of the active branch left. */
+static uint32_t coins_of(struct chain *chain, const struct block *block, uint64_t height, struct walk *walk) {
+    /* No transaction of a valid block has fewer than 60 bytes. */
+    size_t most = block->length / 60;
+    uint64_t count = 0;
+    struct made *rows = malloc(most * sizeof *rows);
+    uint32_t code = rows ? ffi_transactions(block->bytes, block->length, rows, most, &count) : WAKOTEHU_MEMORY;
+    for (uint64_t n = 0; code == WAKOTEHU_OK && n < count; n++) {
+        struct place at = {{0}, 0};
+        memcpy(at.id, rows[n].id, sizeof at.id);
+        for (; code == WAKOTEHU_OK && !walk->ended && at.index < rows[n].outputs; at.index++)
+            code = hand_on(chain, &at, height, walk);
+    }
+    free(rows);
+    return code;
+}
+
+/* A coin was made by the block of its height on the active branch. */
+static uint32_t coins(struct chain *chain, struct walk *walk) {
+    uint8_t id[32] = {0};
+    uint64_t height = 0;
+    uint32_t code = ffi_best(&chain->slot, id, &height);
+    for (; code == WAKOTEHU_OK && !walk->ended && height > 0; height--) {
+        const struct block *block = find(&chain->blocks, id);
+        if (!block)
+            return WAKOTEHU_NONE;
+        code = coins_of(chain, block, height, walk);
+        memcpy(id, block->parent, sizeof id);
+    }
+    return code;
+}
+
+wakotehu_code wakotehu_coins(wakotehu_handle handle, wakotehu_coin_call call, void *context) {
+    struct walk walk = {call, context, NULL, 64, false};
+    if (!call)
+        return WAKOTEHU_NULL;
+    wakotehu_code code = enter(handle);
+    if (code != WAKOTEHU_OK)
+        return code;
+    walk.script = malloc(walk.length);
+    uint32_t found = walk.script ? coins(chain_of(handle), &walk) : WAKOTEHU_MEMORY;
+    free(walk.script);
+    return leave(handle, found);
+}
+
+/* ---- words */
+
+const char *wakotehu_reason_text(uint32_t reason) {
+    static const char *const texts[] = {
+        "", "high-hash", "bad-txnmrklroot", "bad-txns-duplicate", "bad-blk-length", "bad-cb-missing",
+        "bad-cb-multiple", "bad-txns-vin-empty", "bad-txns-vout-empty", "bad-txns-vout-negative",
+        "bad-txns-vout-toolarge", "bad-txns-txouttotal-toolarge", "bad-txns-inputs-duplicate", "bad-cb-length",
+        "bad-txns-prevout-null", "bad-blk-sigops", "prev-blk-not-found", "bad-prevblk", "bad-diffbits",
+        "time-too-old", "time-too-new", "bad-version", "bad-txns-nonfinal", "bad-cb-height", "bad-txns-BIP30",
+        "bad-txns-inputs-missingorspent", "bad-txns-premature-spend-of-coinbase", "bad-txns-in-belowout",
+        "bad-cb-amount", "blk-bad-inputs",
+    };
+    return reason < sizeof texts / sizeof *texts ? texts[reason] : "";
+}
+
+const char *wakotehu_reply_text(uint32_t reply) {
+    static const char *const texts[] = {
+        "", "accepted", "inconclusive", "duplicate", "duplicate-invalid", "duplicate-inconclusive", "rejected",
+        "decode-failed", "tree-full", "done", "not-found", "genesis",
+    };
+    return reply < sizeof texts / sizeof *texts ? texts[reply] : "";
+}
+
+const char *wakotehu_code_text(wakotehu_code code) {
+    switch (code) {
+    case WAKOTEHU_OK: return "it is done";
+    case WAKOTEHU_MEMORY: return "there was no memory, and nothing changed";
+    case WAKOTEHU_CLOSED: return "no chainstate has this handle";
+    case WAKOTEHU_BAD_TABLE: return "a line of the table can't be read";
+    case WAKOTEHU_NONE: return "there is no such thing";
+    case WAKOTEHU_TOO_SMALL: return "the room is too small";
+    case WAKOTEHU_BUSY: return "another call is using the handle";
+    case WAKOTEHU_NULL: return "a pointer is null, or a length is too large";
+    case WAKOTEHU_TOO_MANY: return "too many chainstates are open";
+    }
+    return "";
+}

@@ -1,0 +1,169 @@
+/*
+ * Wakotehu: a chainstate with Bitcoin Core's rules on regtest before segregated witness, proved.
+ *
+ * A chainstate is named by a handle, which is a number. Each call takes the handle first and answers a code:
+ * WAKOTEHU_OK, or why it did nothing. No call crashes or ends the program, whatever handle it is given.
+ *
+ *   - A handle is used by one call at a time, by any thread: a call on a handle that another call is using answers
+ *     WAKOTEHU_BUSY and does nothing. Calls on different handles run side by side.
+ *   - A handle that was closed, or never opened, is answered WAKOTEHU_CLOSED. No number is given out twice.
+ *   - A null pointer where one has to be is answered WAKOTEHU_NULL. Pointers have to point to what the call says: that
+ *     can't be tested. What a call writes and what it reads may not overlap.
+ *   - WAKOTEHU_MEMORY: there was no memory, and nothing changed.
+ *   - All memory that is handed in stays the caller's. The library hands out none: there is nothing to free but the
+ *     handle, by wakotehu_close.
+ *   - An id is 32 bytes in the order in which they are hashed and sent; programs print them the other way round.
+ *   - Moments are seconds since 1970, values are satoshis.
+ *   - No call may be made by a signal handler, or by the child of a fork of a process with threads.
+ */
+#ifndef WAKOTEHU_H
+#define WAKOTEHU_H
+
+#include <stddef.h>
+#include <stdint.h>
+
+#ifdef __cplusplus
+extern "C" {
+#endif
+
+/* A chainstate. 0 is never one. */
+typedef uint64_t wakotehu_handle;
+
+/* What a call answers. */
+typedef enum {
+    WAKOTEHU_OK = 0,
+    WAKOTEHU_MEMORY = 1,    /* there was no memory, and nothing changed */
+    WAKOTEHU_CLOSED = 2,    /* no chainstate has this handle */
+    WAKOTEHU_BAD_TABLE = 3, /* a line of the table can't be read */
+    WAKOTEHU_NONE = 4,      /* there is no such coin, tip or block */
+    WAKOTEHU_TOO_SMALL = 5, /* the room is too small; what is needed was told */
+    WAKOTEHU_BUSY = 7,      /* another call is using the handle */
+    WAKOTEHU_NULL = 8,      /* a pointer is null, or a length is above 2^63 - 1 */
+    WAKOTEHU_TOO_MANY = 9   /* WAKOTEHU_MOST chainstates are open */
+} wakotehu_code;
+
+/* So many chainstates can be open at once. */
+#define WAKOTEHU_MOST 256
+
+/* The heights from which soft forks are in force (regtest: 1 each); csv is BIPs 68, 112 and 113. */
+typedef struct {
+    uint32_t bip34, bip65, bip66, csv;
+} wakotehu_heights;
+
+/* What a command came to. */
+typedef enum {
+    WAKOTEHU_ACCEPTED = 1,               /* the block is the active one */
+    WAKOTEHU_INCONCLUSIVE = 2,           /* the block is kept, and another is the active one */
+    WAKOTEHU_DUPLICATE = 3,              /* it is kept before, and was found valid */
+    WAKOTEHU_DUPLICATE_INVALID = 4,      /* it is kept before, and a block of its branch is marked */
+    WAKOTEHU_DUPLICATE_INCONCLUSIVE = 5, /* it is kept before, and was never looked at whole */
+    WAKOTEHU_REJECTED = 6,               /* it breaks a rule: the reason says which */
+    WAKOTEHU_DECODE_FAILED = 7,          /* the bytes are no block */
+    WAKOTEHU_TREE_FULL = 8,              /* no more blocks can be kept */
+    WAKOTEHU_DONE = 9,                   /* of invalidate, reconsider and precious */
+    WAKOTEHU_NOT_FOUND = 10,             /* no such block is kept */
+    WAKOTEHU_GENESIS = 11                /* the genesis block is never marked */
+} wakotehu_reply;
+
+/* A reply. Of a rejection `reason` is a number from 1 to 29; where it is 29, `transaction` and `input` count from 0
+ * and name the input whose script isn't accepted. All else is 0. */
+typedef struct {
+    uint32_t reply;
+    uint32_t reason;
+    uint64_t transaction;
+    uint64_t input;
+} wakotehu_answer;
+
+/* What is known of a tip (Bitcoin Core's getchaintips). */
+typedef enum {
+    WAKOTEHU_ACTIVE = 1,
+    WAKOTEHU_INVALID = 2,
+    WAKOTEHU_VALID_FORK = 3,
+    WAKOTEHU_VALID_HEADERS = 4
+} wakotehu_status;
+
+/* A tip: its height, and how many blocks of its branch aren't on the active one. */
+typedef struct {
+    uint8_t id[32];
+    uint64_t height;
+    uint64_t length;
+    uint32_t status;
+} wakotehu_tip;
+
+/* A coin: its value, how many bytes its script has, its block's height, and 1 where a coinbase made it. */
+typedef struct {
+    int64_t value;
+    uint64_t script;
+    uint32_t height;
+    uint32_t coinbase;
+} wakotehu_coin;
+
+/* Opens a chainstate that has the genesis block alone, and writes its handle.
+ * table: lines of valid signatures, each a key, a signature without its hash type and a digest of 64 digits (not
+ *        reversed), in lower-case hexadecimal, parted by spaces; null where length is 0. It is copied.
+ * line:  where the answer is WAKOTEHU_BAD_TABLE, the number, from 1, of the first line that can't be read; may be null.
+ * Each opened chainstate has to be given back by wakotehu_close. */
+wakotehu_code wakotehu_open(wakotehu_handle *handle, const wakotehu_heights *heights, const char *table,
+                            size_t length, uint64_t *line);
+
+/* Closes a chainstate and gives its memory back. */
+wakotehu_code wakotehu_close(wakotehu_handle handle);
+
+/* Submits the block of these bytes (Bitcoin Core's submitblock). now: the moment, in seconds since 1970. The bytes are
+ * copied. */
+wakotehu_code wakotehu_submit(wakotehu_handle handle, const uint8_t *bytes, size_t length, uint64_t now,
+                              wakotehu_answer *answer);
+
+/* Marks a block as invalid; takes the marks from a block, its ancestors and its descendants; prefers a block to all
+ * that are as high (Bitcoin Core's invalidateblock, reconsiderblock, preciousblock). id: 32 bytes. */
+wakotehu_code wakotehu_invalidate(wakotehu_handle handle, const uint8_t *id, wakotehu_answer *answer);
+wakotehu_code wakotehu_reconsider(wakotehu_handle handle, const uint8_t *id, wakotehu_answer *answer);
+wakotehu_code wakotehu_precious(wakotehu_handle handle, const uint8_t *id, wakotehu_answer *answer);
+
+/* The active block's id (32 bytes) and its height. */
+wakotehu_code wakotehu_best(wakotehu_handle handle, uint8_t *id);
+wakotehu_code wakotehu_height(wakotehu_handle handle, uint64_t *height);
+
+/* A tip by its place in the list of tips, from 0: by height downwards, then as they came. WAKOTEHU_NONE past the
+ * end. */
+wakotehu_code wakotehu_tip_at(wakotehu_handle handle, size_t place, wakotehu_tip *tip);
+
+/* The coin at an outpoint: the id of a transaction (32 bytes) and the output's number, from 0. WAKOTEHU_NONE where
+ * there is none. The first bytes of `script`, of `length` bytes, become the coin's script; where it is too short
+ * nothing is written there, the coin's fields are, and the answer is WAKOTEHU_TOO_SMALL. script may be null where
+ * length is 0. */
+wakotehu_code wakotehu_coin_at(wakotehu_handle handle, const uint8_t *id, uint32_t index, wakotehu_coin *coin,
+                               uint8_t *script, size_t length);
+
+/* The bytes of a block that was submitted, and how many there are (`needed`); WAKOTEHU_NONE where there is none, and
+ * for the genesis block. The first of `bytes`, of `length` bytes, become the block; where it is too short nothing is
+ * written there, and the answer is WAKOTEHU_TOO_SMALL. bytes may be null where length is 0. Blocks that are kept are
+ * there, and those that were refused, but for blocks whose transactions aren't those of their header. */
+wakotehu_code wakotehu_block(wakotehu_handle handle, const uint8_t *id, uint8_t *bytes, size_t length, size_t *needed);
+
+/* Who is called for a coin: with the id of its transaction (32 bytes), the output's number, the coin, and coin->script
+ * bytes of its script. What is pointed to lives as long as the call. The handle is in use meanwhile: a call on it
+ * answers WAKOTEHU_BUSY. Any other answer than 0 ends the walk. */
+typedef int (*wakotehu_coin_call)(void *context, const uint8_t *id, uint32_t index, const wakotehu_coin *coin,
+                                  const uint8_t *script);
+
+/* Calls `call` once for each coin: those of the highest block first, then by the order of its outputs. `context` is
+ * handed on. Where there is no memory, WAKOTEHU_MEMORY is answered, and some coins may have been told. It reads the
+ * blocks of the active branch again, so it takes about as long as submitting them. */
+wakotehu_code wakotehu_coins(wakotehu_handle handle, wakotehu_coin_call call, void *context);
+
+/* Bitcoin Core's word for a reason, as "bad-cb-amount"; "blk-bad-inputs" for 29; "" for a number that is no reason's.
+ * The text lives as long as the program. */
+const char *wakotehu_reason_text(uint32_t reason);
+
+/* The word for a reply, as "accepted", "duplicate-invalid" or "not-found"; "rejected" for WAKOTEHU_REJECTED; "" for a
+ * number that is no reply's. */
+const char *wakotehu_reply_text(uint32_t reply);
+
+/* A sentence for a code. */
+const char *wakotehu_code_text(wakotehu_code code);
+
+#ifdef __cplusplus
+}
+#endif
+#endif

@@ -1,0 +1,179 @@
+"""Real signatures: made by libsecp256k1, found in the scripts, and judged by the proved chainstate."""
+
+import hashlib
+import time
+import unittest
+
+from blocks import NOW, Maker, block_id, signed, spend, with_script
+from wakotehu import Bench, ReplayDiffers, errors
+from wakotehu.encoding import Input, Output, Transaction, push, signature_digest
+from wakotehu.signatures import Secp256k1, signed_codes
+
+SECP = Secp256k1()
+SECRETS = [bytes([number]) * 32 for number in (1, 2, 3)]
+KEYS = [SECP.public_key(secret) for secret in SECRETS]
+
+
+def hash160(data):
+    return hashlib.new("ripemd160", hashlib.sha256(data).digest()).digest()
+
+
+def pay_to_key(key):
+    return push(key) + b"\xac"
+
+
+def pay_to_key_hash(key):
+    return b"\x76\xa9" + push(hash160(key)) + b"\x88\xac"
+
+
+def pay_to_script(script):
+    return b"\xa9" + push(hash160(script)) + b"\x87"
+
+
+def multisig(needed, keys):
+    return bytes([0x50 + needed]) + b"".join(map(push, keys)) + bytes([0x50 + len(keys), 0xAE])
+
+
+class BenchTest(unittest.TestCase):
+    def mined(self, script, count=101):
+        """A bench with blocks whose coinbases this script spends."""
+        self.maker = Maker(script)
+        bench = Bench()
+        self.addCleanup(bench.close)
+        self.blocks = self.maker.chain(count)
+        for block in self.blocks:
+            self.assertEqual(bench.submit(block, NOW), "accepted")
+        return bench
+
+    def coin(self, place=0):
+        return self.maker.coinbases[block_id(self.blocks[place])].id
+
+    def test_keys_and_hashes_of_keys(self):
+        for script, more in ((pay_to_key(KEYS[0]), ()), (pay_to_key_hash(KEYS[0]), (KEYS[0],))):
+            for kind in (1, 2, 3, 129, 130, 131):
+                with self.subTest(script=script.hex(), kind=kind):
+                    bench = self.mined(script)
+                    tx = spend(self.coin(), 0, 5000000000, b"")
+                    [signature] = signed(SECP, SECRETS[:1], tx, 0, script, kind)
+                    wrong = signed(SECP, SECRETS[1:2], tx, 0, script, kind)
+                    bad = self.maker.block(bench.best(), [with_script(tx, 0, *wrong, *more)], extra=b"w")
+                    with self.assertRaises(errors.BlkBadInputs) as caught:
+                        bench.submit(bad, NOW)
+                    self.assertEqual((caught.exception.transaction, caught.exception.input), (1, 0))
+                    good = self.maker.block(bench.best(), [with_script(tx, 0, signature, *more)])
+                    self.assertEqual(bench.submit(good, NOW), "accepted")
+                    self.assertEqual(bench.replays, 1)
+                    self.assertIsNone(bench.coin(self.coin(), 0))
+                    again = spend(self.coin(), 0, 4000000000, b"")
+                    twice = self.maker.block(
+                        bench.best(),
+                        [with_script(again, 0, *signed(SECP, SECRETS[:1], again, 0, script, kind), *more)],
+                    )
+                    with self.assertRaises(errors.BadTxnsInputsMissingorspent):
+                        bench.submit(twice, NOW)
+
+    def test_two_of_three_by_script_hash(self):
+        redeem = multisig(2, KEYS)
+        bench = self.mined(pay_to_script(redeem))
+        tx = spend(self.coin(), 0, 5000000000, b"")
+        both = signed(SECP, SECRETS[1:], tx, 0, redeem)
+        for order, reply in ((both[::-1], "blk-bad-inputs 1:0"), (both, "accepted")):
+            block = self.maker.block(bench.best(), [with_script(tx, 0, *order, redeem, begins=b"\x00")])
+            self.assertEqual(bench.try_submit(block, NOW).text, reply)
+
+    def test_code_separators(self):
+        # The signature signs what follows the separator.
+        script = b"\x61\xab" + pay_to_key(KEYS[0])
+        bench = self.mined(script)
+        tx = spend(self.coin(), 0, 5000000000, b"")
+        block = self.maker.block(
+            bench.best(), [with_script(tx, 0, *signed(SECP, SECRETS[:1], tx, 0, pay_to_key(KEYS[0])))]
+        )
+        self.assertEqual(bench.submit(block, NOW), "accepted")
+
+    def test_signatures_that_stand_in_the_code_are_taken_out(self):
+        one, two, three = (push(b"\x30" * 9 + bytes([number])) for number in (1, 2, 3))
+        names = [script[1:] for script in (one, two, three)]
+        code = one + two + three + b"\xae"
+        wanted = {two + three, two, three, b""}
+        self.assertEqual(signed_codes([code], names[0], names), {rest + b"\xae" for rest in wanted})
+        self.assertEqual(signed_codes([one + two], names[0], names), set())
+
+    def test_several_inputs_and_a_chain_within_a_block(self):
+        script = pay_to_key(KEYS[0])
+        bench = self.mined(script, 103)
+        inputs = [Input(self.coin(place), 0, b"", 0xFFFFFFFF) for place in range(3)]
+        tx = Transaction(1, inputs, [Output(15000000000, script)], 0)
+        for place in range(3):
+            digest = signature_digest(tx, place, script, 1)
+            tx = with_script(tx, place, SECP.sign(SECRETS[0], digest) + b"\x01")
+        then = spend(tx.id, 0, 15000000000, b"")
+        then = with_script(then, 0, *signed(SECP, SECRETS[:1], then, 0, script))
+        self.assertEqual(bench.submit(self.maker.block(bench.best(), [tx, then]), NOW), "accepted")
+        self.assertEqual(bench.coin(then.id, 0).value, 15000000000)
+        coins = bench.coins()
+        self.assertEqual(len(coins), 103 - 3 + 1 + 1)
+        self.assertEqual(sum(coin.value for _, _, coin in coins), 104 * 5000000000)
+
+    def test_blocks_are_given_back(self):
+        bench = self.mined(b"\x51", 2)
+        block = self.maker.block(bench.best())
+        self.assertIsNone(bench.block(block_id(block)))
+        # A block with its header, and another coinbase, isn't taken for it.
+        bench.try_submit(block[:-1] + b"\x01", NOW)
+        self.assertIsNone(bench.block(block_id(block)))
+        bench.submit(block, NOW)
+        self.assertEqual(bench.block(block_id(block)), block)
+        self.assertEqual(bench.branch(), [block_id(it) for it in (*self.blocks, block)])
+        early = self.maker.block(bench.best())
+        bench.try_submit(early, 1000)
+        self.assertEqual(bench.block(block_id(early)), early)
+        self.assertEqual([bench.is_kept(block_id(it)) for it in (block, early)], [True, False])
+
+    def test_a_reorganisation_gives_the_coin_back(self):
+        script = pay_to_key(KEYS[0])
+        bench = self.mined(script)
+        tip = bench.best()
+        tx = spend(self.coin(), 0, 5000000000, b"")
+        tx = with_script(tx, 0, *signed(SECP, SECRETS[:1], tx, 0, script))
+        bench.submit(self.maker.block(tip, [tx]), NOW)
+        other = self.maker.chain(2, tip, extra=b"o")
+        self.assertEqual([bench.submit(block, NOW) for block in other], ["inconclusive", "accepted"])
+        self.assertEqual(bench.coin(self.coin(), 0).value, 5000000000)
+        # On that branch it can be spent again, by the same signature.
+        replays = bench.replays
+        self.assertEqual(bench.submit(self.maker.block(bench.best(), [tx]), NOW), "accepted")
+        self.assertEqual(bench.replays, replays)
+
+    def test_a_replay_that_differs_is_an_error(self):
+        # A block is judged before its signature is known, by a chainstate of another table; then the table grows.
+        script = pay_to_key(KEYS[0])
+        bench = self.mined(script)
+        tx = spend(self.coin(), 0, 5000000000, b"")
+        block = self.maker.block(
+            bench.best(), [with_script(tx, 0, *signed(SECP, SECRETS[:1], tx, 0, script))]
+        )
+        learn, bench._learn = bench._learn, lambda data: None
+        self.assertEqual(bench.try_submit(block, NOW).text, "blk-bad-inputs 1:0")
+        bench._learn = learn
+        with self.assertRaises(ReplayDiffers) as caught:
+            bench.submit(block, NOW)
+        self.assertEqual(
+            (caught.exception.place, caught.exception.given, caught.exception.replayed),
+            (101, "blk-bad-inputs 1:0", "accepted"),
+        )
+
+    def test_a_replay_of_a_thousand_blocks(self):
+        script = pay_to_key(KEYS[0])
+        bench = self.mined(script, 1000)
+        tx = spend(self.coin(), 0, 5000000000, b"")
+        begun = time.perf_counter()
+        block = self.maker.block(bench.best(), [with_script(tx, 0, *signed(SECP, SECRETS[:1], tx, 0, script))])
+        self.assertEqual(bench.submit(block, NOW), "accepted")
+        spent = time.perf_counter() - begun
+        print(f"\nreplay of 1,000 blocks: {1000 * bench.seconds:.1f} ms; the whole call: {1000 * spent:.1f} ms")
+        self.assertLess(bench.seconds, 2.0)
+
+
+if __name__ == "__main__":
+    unittest.main()

@@ -1,0 +1,252 @@
+"""The proved chainstate."""
+
+import ctypes
+import time
+from types import TracebackType
+from typing import Any, Iterator, List, NamedTuple, Optional, Sequence, Tuple, Type, Union
+
+from . import errors
+from .library import Answer, CoinCall, Heights, library
+from .library import Coin as _Coin
+from .library import Tip as _Tip
+
+#: The heights of regtest: all soft forks from height 1 on.
+REGTEST = (1, 1, 1, 1)
+
+_STATUS = ("", "active", "invalid", "valid-fork", "valid-headers")
+_REPLIES = (
+    "", "accepted", "inconclusive", "duplicate", "duplicate-invalid", "duplicate-inconclusive", "rejected",
+    "decode-failed", "tree-full", "done", "not-found", "genesis",
+)  # fmt: skip
+
+
+def show(id: bytes) -> str:
+    """An id as it is printed: its bytes reversed, in hexadecimal."""
+    return id[::-1].hex()
+
+
+def read_id(text: str) -> bytes:
+    """The id that is printed so."""
+    id = bytes.fromhex(text)[::-1]
+    if len(id) != 32:
+        raise ValueError("an id has 64 digits")
+    return id
+
+
+class Coin(NamedTuple):
+    """An output that isn't spent: its value in satoshis, its script, the height of its block."""
+
+    value: int
+    script: bytes
+    height: int
+    coinbase: bool
+
+
+class Tip(NamedTuple):
+    """A tip. `length` is how many blocks of its branch aren't on the active one; `status` is "active", "invalid",
+    "valid-fork" or "valid-headers"."""
+
+    id: bytes
+    height: int
+    length: int
+    status: str
+
+
+class Reply(NamedTuple):
+    """What a command came to, in the words of the program: "accepted", "bad-cb-amount", "blk-bad-inputs 1:0", .."""
+
+    text: str
+    reply: str
+    reason: str
+    transaction: int
+    input: int
+
+    def check(self) -> str:
+        """The reply's word, or the exception for a reply that is a refusal."""
+        if self.reply == "rejected":
+            raise errors.BY_REASON[self.reason](self.transaction, self.input)
+        kinds = {
+            "decode-failed": errors.DecodeFailed,
+            "tree-full": errors.TreeFull,
+            "not-found": errors.NotFound,
+            "genesis": errors.Genesis,
+        }
+        if self.reply in kinds:
+            raise kinds[self.reply](self.text)
+        return self.reply
+
+
+class Chainstate:
+    """A chainstate, as the proved library keeps it. It begins with the genesis block alone.
+
+    heights: from which heights BIPs 34, 65, 66 and 68 with 112 and 113 are in force.
+    table: the valid signatures, as lines of a key, a signature without its hash type and a digest, in hexadecimal and
+        parted by spaces. No other signature is valid; `Bench` makes real ones valid.
+
+    Ids are bytes in the order in which they are hashed; `show` prints them as everywhere. One thread at a time may be
+    inside a call: another one is refused with `Busy`.
+
+        with Chainstate() as chain:
+            chain.submit(block)
+    """
+
+    def __init__(self, heights: Sequence[int] = REGTEST, table: Union[str, bytes] = b"") -> None:
+        self._handle = 0
+        self._library = library()
+        text = table.encode() if isinstance(table, str) else bytes(table)
+        handle, line = ctypes.c_uint64(), ctypes.c_uint64()
+        code = self._library.wakotehu_open(
+            ctypes.byref(handle), ctypes.byref(Heights(*heights)), text, len(text), ctypes.byref(line)
+        )
+        if code == 3:
+            raise errors.BadTable(line.value)
+        self._check(code)
+        self._handle = handle.value
+
+    # ---- its life
+
+    def close(self) -> None:
+        """Gives its memory back. Later calls raise `Closed`; closing twice is fine."""
+        if self._handle:
+            code = self._library.wakotehu_close(self._handle)
+            if code != 2:
+                self._check(code)
+
+    def __enter__(self) -> "Chainstate":
+        return self
+
+    def __exit__(
+        self, kind: Optional[Type[BaseException]], value: Optional[BaseException], trace: Optional[TracebackType]
+    ) -> None:
+        self.close()
+
+    def __del__(self) -> None:
+        if getattr(self, "_handle", 0):
+            self._library.wakotehu_close(self._handle)
+
+    # ---- commands
+
+    def submit(self, block: bytes, now: Optional[int] = None) -> str:
+        """Submits a block at a moment in seconds since 1970, now by default.
+
+        Answers "accepted", "inconclusive" (it is kept beside the active branch), "duplicate", "duplicate-invalid" or
+        "duplicate-inconclusive". A block that breaks a rule raises `Rejected`, of the reason's class; bytes that are no
+        block raise `DecodeFailed`.
+        """
+        return self.try_submit(block, now).check()
+
+    def try_submit(self, block: bytes, now: Optional[int] = None) -> Reply:
+        """The same, and a refusal is answered, not raised."""
+        block, moment = bytes(block), int(time.time()) if now is None else now
+        return self._command("submit", block, len(block), moment)
+
+    def invalidate(self, id: bytes) -> None:
+        """Marks a block as invalid. One that isn't kept raises `NotFound`; the genesis block raises `Genesis`."""
+        self.try_mark("invalidate", id).check()
+
+    def reconsider(self, id: bytes) -> None:
+        """Takes the marks from a block, its ancestors and its descendants."""
+        self.try_mark("reconsider", id).check()
+
+    def precious(self, id: bytes) -> None:
+        """Prefers a block to all that are as high."""
+        self.try_mark("precious", id).check()
+
+    def try_mark(self, command: str, id: bytes) -> Reply:
+        """One of "invalidate", "reconsider", "precious"; a refusal is answered, not raised."""
+        if command not in ("invalidate", "reconsider", "precious"):
+            raise ValueError(command)
+        return self._command(command, _id(id))
+
+    # ---- reads
+
+    def best(self) -> bytes:
+        """The active block's id."""
+        id = ctypes.create_string_buffer(32)
+        self._check(self._library.wakotehu_best(self._handle, id))
+        return id.raw
+
+    def height(self) -> int:
+        """The active block's height."""
+        height = ctypes.c_uint64()
+        self._check(self._library.wakotehu_height(self._handle, ctypes.byref(height)))
+        return height.value
+
+    def tips(self) -> List[Tip]:
+        """The tips, by height downwards, then as they came."""
+        return list(self._tips())
+
+    def _tips(self) -> Iterator[Tip]:
+        tip = _Tip()
+        for place in range(2**32):
+            code = self._library.wakotehu_tip_at(self._handle, place, ctypes.byref(tip))
+            if code == 4:
+                return
+            self._check(code)
+            yield Tip(bytes(tip.id), tip.height, tip.length, _STATUS[tip.status])
+
+    def coin(self, id: bytes, index: int) -> Optional[Coin]:
+        """The coin at an outpoint, or None."""
+        coin, script = _Coin(), ctypes.create_string_buffer(128)
+        for _ in range(2):
+            code = self._library.wakotehu_coin_at(
+                self._handle, _id(id), index, ctypes.byref(coin), script, len(script)
+            )
+            if code != 5:
+                break
+            script = ctypes.create_string_buffer(coin.script)
+        if code == 4:
+            return None
+        self._check(code)
+        return Coin(coin.value, script.raw[: coin.script], coin.height, bool(coin.coinbase))
+
+    def coins(self) -> List[Tuple[bytes, int, Coin]]:
+        """All coins, as the id of a transaction, an output's number, and the coin: those of the highest block first."""
+        found: List[Tuple[bytes, int, Coin]] = []
+
+        def take(_context: Any, id: Any, index: int, coin: Any, script: Any) -> int:
+            it = coin.contents
+            made = Coin(it.value, ctypes.string_at(script, it.script), it.height, bool(it.coinbase))
+            found.append((ctypes.string_at(id, 32), index, made))
+            return 0
+
+        self._check(self._library.wakotehu_coins(self._handle, CoinCall(take), None))
+        return found
+
+    def block(self, id: bytes) -> Optional[bytes]:
+        """The bytes of a block that was submitted, or None. None for the genesis block too, and for one whose
+        transactions aren't those of its header. A block that was refused by another rule is there."""
+        needed, data = ctypes.c_size_t(), ctypes.create_string_buffer(4096)
+        for _ in range(2):
+            code = self._library.wakotehu_block(self._handle, _id(id), data, len(data), ctypes.byref(needed))
+            if code != 5:
+                break
+            data = ctypes.create_string_buffer(needed.value)
+        if code == 4:
+            return None
+        self._check(code)
+        return data.raw[: needed.value]
+
+    # ---- inside
+
+    def _command(self, name: str, *words: object) -> Reply:
+        answer = Answer()
+        self._check(getattr(self._library, f"wakotehu_{name}")(self._handle, *words, ctypes.byref(answer)))
+        reply, reason = _REPLIES[answer.reply], errors.REASONS[answer.reason]
+        text = reason or reply
+        if reason == "blk-bad-inputs":
+            text = f"{reason} {answer.transaction}:{answer.input}"
+        return Reply(text, reply, reason, answer.transaction, answer.input)
+
+    def _check(self, code: int) -> None:
+        if code == 0:
+            return
+        kinds = {1: MemoryError, 2: errors.Closed, 7: errors.Busy, 8: ValueError, 9: errors.TooMany}
+        raise kinds.get(code, errors.Error)(self._library.wakotehu_code_text(code).decode())
+
+
+def _id(id: bytes) -> bytes:
+    id = bytes(id)
+    if len(id) != 32:
+        raise ValueError("an id has 32 bytes")
+    return id

@@ -1,0 +1,291 @@
+"""Blocks and transactions as bytes, for tests: they are read here without judging them, and made.
+
+The chainstate itself reads blocks by proved code; nothing here takes part in what it answers.
+"""
+
+import hashlib
+import struct
+from typing import Iterable, List, NamedTuple, Optional, Sequence, Tuple
+
+OP_CODESEPARATOR, OP_CHECKSIG, OP_CHECKMULTISIGVERIFY = 0xAB, 0xAC, 0xAF
+
+
+class EncodingError(ValueError):
+    """The bytes spell no such thing."""
+
+
+def double_sha(data: bytes) -> bytes:
+    """SHA-256 of SHA-256."""
+    return hashlib.sha256(hashlib.sha256(data).digest()).digest()
+
+
+class Input(NamedTuple):
+    id: bytes
+    index: int
+    script: bytes
+    sequence: int
+
+
+class Output(NamedTuple):
+    value: int
+    script: bytes
+
+
+class Transaction(NamedTuple):
+    version: int
+    inputs: List[Input]
+    outputs: List[Output]
+    lock_time: int
+
+    @property
+    def id(self) -> bytes:
+        return double_sha(write_transaction(self))
+
+    @property
+    def is_coinbase(self) -> bool:
+        return len(self.inputs) == 1 and self.inputs[0].id == bytes(32) and self.inputs[0].index == 0xFFFFFFFF
+
+
+class Header(NamedTuple):
+    version: int
+    parent: bytes
+    root: bytes
+    time: int
+    bits: int
+    nonce: int
+
+    @property
+    def id(self) -> bytes:
+        return double_sha(write_header(self))
+
+
+class Block(NamedTuple):
+    header: Header
+    transactions: List[Transaction]
+
+
+#: Regtest's genesis block, its header alone: its coinbase makes no coin.
+GENESIS = Header(
+    1,
+    bytes(32),
+    bytes.fromhex("3ba3edfd7a7b12b27ac72c3e67768f617fc81bc3888a51323a9fb8aa4b1e5e4a"),
+    1296688602,
+    0x207FFFFF,
+    2,
+)
+
+
+# ---- reading
+
+
+class _Reader:
+    def __init__(self, data: bytes) -> None:
+        self.data, self.at = data, 0
+
+    def take(self, count: int) -> bytes:
+        if count > len(self.data) - self.at:
+            raise EncodingError("the bytes end early")
+        self.at += count
+        return self.data[self.at - count : self.at]
+
+    def number(self, form: str) -> int:
+        return struct.unpack(form, self.take(struct.calcsize(form)))[0]
+
+    def count(self) -> int:
+        first = self.number("<B")
+        return first if first < 253 else self.number({253: "<H", 254: "<I", 255: "<Q"}[first])
+
+    def text(self) -> bytes:
+        return self.take(self.count())
+
+    def transaction(self) -> Transaction:
+        version = self.number("<i")
+        inputs = [
+            Input(self.take(32), self.number("<I"), self.text(), self.number("<I")) for _ in range(self.count())
+        ]
+        outputs = [Output(self.number("<q"), self.text()) for _ in range(self.count())]
+        return Transaction(version, inputs, outputs, self.number("<I"))
+
+    def header(self) -> Header:
+        numbers = self.number("<i"), self.take(32), self.take(32)
+        return Header(*numbers, self.number("<I"), self.number("<I"), self.number("<I"))
+
+    def end(self) -> None:
+        if self.at != len(self.data):
+            raise EncodingError("bytes are left over")
+
+
+def read_transaction(data: bytes) -> Transaction:
+    reader = _Reader(data)
+    found = reader.transaction()
+    reader.end()
+    return found
+
+
+def read_block(data: bytes) -> Block:
+    reader = _Reader(data)
+    header = reader.header()
+    found = Block(header, [reader.transaction() for _ in range(reader.count())])
+    reader.end()
+    return found
+
+
+# ---- writing
+
+
+def _count(number: int) -> bytes:
+    if number < 253:
+        return bytes([number])
+    for mark, form, most in ((253, "<H", 2**16), (254, "<I", 2**32), (255, "<Q", 2**64)):
+        if number < most:
+            return bytes([mark]) + struct.pack(form, number)
+    raise ValueError(number)
+
+
+def _text(data: bytes) -> bytes:
+    return _count(len(data)) + data
+
+
+def write_transaction(tx: Transaction) -> bytes:
+    inputs = b"".join(
+        i.id + struct.pack("<I", i.index) + _text(i.script) + struct.pack("<I", i.sequence) for i in tx.inputs
+    )
+    outputs = b"".join(struct.pack("<q", o.value) + _text(o.script) for o in tx.outputs)
+    ends = struct.pack("<i", tx.version), struct.pack("<I", tx.lock_time)
+    return ends[0] + _count(len(tx.inputs)) + inputs + _count(len(tx.outputs)) + outputs + ends[1]
+
+
+def write_header(header: Header) -> bytes:
+    numbers = struct.pack("<III", header.time, header.bits, header.nonce)
+    return struct.pack("<i", header.version) + header.parent + header.root + numbers
+
+
+def write_block(block: Block) -> bytes:
+    transactions = b"".join(map(write_transaction, block.transactions))
+    return write_header(block.header) + _count(len(block.transactions)) + transactions
+
+
+# ---- making
+
+
+def merkle_root(ids: Sequence[bytes]) -> bytes:
+    """The root of a Merkle tree over ids; of an odd level the last is paired with itself."""
+    level = list(ids) or [bytes(32)]
+    while len(level) > 1:
+        level += level[-1:] * (len(level) % 2)
+        level = [double_sha(a + b) for a, b in zip(level[::2], level[1::2])]
+    return level[0]
+
+
+def push(data: bytes) -> bytes:
+    """The shortest push of some bytes."""
+    if len(data) < 76:
+        return bytes([len(data)]) + data
+    if len(data) < 256:
+        return b"\x4c" + bytes([len(data)]) + data
+    return b"\x4d" + struct.pack("<H", len(data)) + data
+
+
+def push_number(number: int) -> bytes:
+    """The push of a number that is not negative, as a coinbase has its height."""
+    if number == 0:
+        return b"\x00"
+    if number <= 16:
+        return bytes([0x50 + number])
+    return push(number.to_bytes(number.bit_length() // 8 + 1, "little"))
+
+
+def subsidy(height: int) -> int:
+    """What a coinbase may make beside fees: it halves every 150 blocks (regtest)."""
+    return 5000000000 >> (height // 150) if height < 150 * 64 else 0
+
+
+def coinbase(height: int, value: int, script: bytes = b"\x51", extra: bytes = b"\x00") -> Transaction:
+    """A coinbase whose one output is spent by `script`. Two of one height need different `extra` bytes."""
+    begins = push_number(height) + push(extra)
+    return Transaction(1, [Input(bytes(32), 0xFFFFFFFF, begins, 0xFFFFFFFF)], [Output(value, script)], 0)
+
+
+def mine(parent: bytes, when: int, transactions: List[Transaction], version: int = 4) -> bytes:
+    """A block that meets the target of regtest, as bytes."""
+    header = Header(version, parent, merkle_root([tx.id for tx in transactions]), when, 0x207FFFFF, 0)
+    target = 0x7FFFFF << 232
+    while int.from_bytes(header.id, "little") > target:
+        header = header._replace(nonce=header.nonce + 1)
+    return write_block(Block(header, transactions))
+
+
+# ---- scripts
+
+
+def operations(script: bytes) -> Iterable[Tuple[int, int, Optional[bytes], int]]:
+    """The operations that can be read: where each begins, its number, what it pushes, and where it ends."""
+    at = 0
+    while at < len(script):
+        begin, number = at, script[at]
+        at += 1
+        if number > 0x4E:
+            yield begin, number, None, at
+            continue
+        wide = {0x4C: 1, 0x4D: 2, 0x4E: 4}.get(number, 0)
+        if wide > len(script) - at:
+            return
+        count = int.from_bytes(script[at : at + wide], "little") if wide else number
+        at += wide
+        if count > len(script) - at:
+            return
+        yield begin, number, script[at : at + count], at + count
+        at += count
+
+
+def pushes(script: bytes) -> List[bytes]:
+    """All that a script pushes as bytes, up to where it can't be read on."""
+    return [data for _, _, data, _ in operations(script) if data is not None]
+
+
+def without(script: bytes, removed: bytes) -> bytes:
+    """A script without each operation's place at which these bytes stand (Bitcoin Core's `FindAndDelete`)."""
+    if not removed:
+        return script
+    kept, at, ends = b"", 0, [0] + [end for _, _, _, end in operations(script)]
+    for end in ends:
+        if end < at:
+            continue
+        kept += script[at:end]
+        at = end
+        while script[at : at + len(removed)] == removed:
+            at += len(removed)
+    return kept + script[at:]
+
+
+def without_separators(script: bytes) -> bytes:
+    kept, last = b"", 0
+    for begin, number, _, end in operations(script):
+        if number != OP_CODESEPARATOR:
+            kept += script[begin:end]
+        last = end
+    return kept + script[last:]
+
+
+def is_p2sh(script: bytes) -> bool:
+    return len(script) == 23 and script[:2] == b"\xa9\x14" and script[22:] == b"\x87"
+
+
+def signature_digest(tx: Transaction, input: int, code: bytes, kind: int) -> bytes:
+    """What a signature of this hash type signs (before segregated witness)."""
+    base, one = kind & 31, (1).to_bytes(32, "little")
+    if input >= len(tx.inputs) or (base == 3 and input >= len(tx.outputs)):
+        return one
+    code = without_separators(code)
+    inputs = [
+        i._replace(script=code if n == input else b"", sequence=i.sequence if n == input or base not in (2, 3) else 0)
+        for n, i in enumerate(tx.inputs)
+    ]
+    outputs = tx.outputs
+    if base == 2:
+        outputs = []
+    if base == 3:
+        outputs = [Output(-1, b"")] * input + [tx.outputs[input]]
+    if kind & 128:
+        inputs = [inputs[input]]
+    return double_sha(write_transaction(Transaction(tx.version, inputs, outputs, tx.lock_time)) + struct.pack("<I", kind))

@@ -1,0 +1,89 @@
+"""libwakotehu.so, by ctypes."""
+
+import ctypes
+import ctypes.util
+import os
+import subprocess
+from ctypes import CFUNCTYPE, POINTER, c_char_p, c_int, c_int64, c_size_t, c_uint8, c_uint32, c_uint64, c_void_p
+from typing import Iterator, Optional
+
+from .errors import LibraryMissing
+
+
+class Heights(ctypes.Structure):
+    _fields_ = [("bip34", c_uint32), ("bip65", c_uint32), ("bip66", c_uint32), ("csv", c_uint32)]
+
+
+class Answer(ctypes.Structure):
+    _fields_ = [("reply", c_uint32), ("reason", c_uint32), ("transaction", c_uint64), ("input", c_uint64)]
+
+
+class Tip(ctypes.Structure):
+    _fields_ = [("id", c_uint8 * 32), ("height", c_uint64), ("length", c_uint64), ("status", c_uint32)]
+
+
+class Coin(ctypes.Structure):
+    _fields_ = [("value", c_int64), ("script", c_uint64), ("height", c_uint32), ("coinbase", c_uint32)]
+
+
+CoinCall = CFUNCTYPE(c_int, c_void_p, POINTER(c_uint8), c_uint32, POINTER(Coin), POINTER(c_uint8))
+
+_CALLS = {
+    "open": [POINTER(c_uint64), POINTER(Heights), c_char_p, c_size_t, POINTER(c_uint64)],
+    "close": [c_uint64],
+    "submit": [c_uint64, c_char_p, c_size_t, c_uint64, POINTER(Answer)],
+    "invalidate": [c_uint64, c_char_p, POINTER(Answer)],
+    "reconsider": [c_uint64, c_char_p, POINTER(Answer)],
+    "precious": [c_uint64, c_char_p, POINTER(Answer)],
+    "best": [c_uint64, c_char_p],
+    "height": [c_uint64, POINTER(c_uint64)],
+    "tip_at": [c_uint64, c_size_t, POINTER(Tip)],
+    "coin_at": [c_uint64, c_char_p, c_uint32, POINTER(Coin), c_char_p, c_size_t],
+    "block": [c_uint64, c_char_p, c_char_p, c_size_t, POINTER(c_size_t)],
+    "coins": [c_uint64, CoinCall, c_void_p],
+}
+
+
+def _places() -> Iterator[str]:
+    """Where the library may be, the likeliest place first."""
+    named = os.environ.get("WAKOTEHU_LIBRARY")
+    if named:
+        yield named
+        return
+    try:
+        asked = ["pkg-config", "--variable=libdir", "wakotehu"]
+        folder = subprocess.run(asked, capture_output=True, text=True, check=True).stdout.strip()
+        yield os.path.join(folder, "libwakotehu.so")
+    except (OSError, subprocess.CalledProcessError):
+        pass
+    found = ctypes.util.find_library("wakotehu")
+    if found:
+        yield found
+    yield "/usr/local/lib/libwakotehu.so"
+
+
+_loaded: Optional[ctypes.CDLL] = None
+
+
+def library() -> ctypes.CDLL:
+    """The library, with its calls' types.
+
+    It is looked for where WAKOTEHU_LIBRARY names it; else by pkg-config, where the linker looks, and in /usr/local/lib.
+    """
+    global _loaded
+    if _loaded is not None:
+        return _loaded
+    for place in _places():
+        try:
+            loaded = ctypes.CDLL(place)
+        except OSError:
+            continue
+        for name, types in _CALLS.items():
+            call = getattr(loaded, f"wakotehu_{name}")
+            call.argtypes, call.restype = types, c_int
+        for name in ("reason", "reply", "code"):
+            call = getattr(loaded, f"wakotehu_{name}_text")
+            call.argtypes, call.restype = [c_uint32], c_char_p
+        _loaded = loaded
+        return loaded
+    raise LibraryMissing("libwakotehu.so isn't found: set WAKOTEHU_LIBRARY, or run ./install")

@@ -1,0 +1,286 @@
+/* Every allocation refused in turn, handles misused, blocks and coins read back, and threads that fight for a handle.
+ * Prints nothing where all is well. malloc, calloc and realloc go by the wrappers below (the linker's --wrap). */
+#include <pthread.h>
+#include <stdio.h>
+#include <stdlib.h>
+#include <string.h>
+#include <wakotehu.h>
+
+#include "../examples/blocks.h"
+
+static long left = -1; /* so many allocations until one is refused; below 0: none is */
+
+void *__real_malloc(size_t size);
+void *__real_calloc(size_t count, size_t size);
+void *__real_realloc(void *old, size_t size);
+
+void *__wrap_malloc(size_t size) { return left >= 0 && left-- == 0 ? NULL : __real_malloc(size); }
+void *__wrap_calloc(size_t count, size_t size) { return left >= 0 && left-- == 0 ? NULL : __real_calloc(count, size); }
+void *__wrap_realloc(void *old, size_t size) { return left >= 0 && left-- == 0 ? NULL : __real_realloc(old, size); }
+
+static const wakotehu_heights regtest = {1, 1, 1, 1};
+static const uint64_t now = 1296690000;
+
+#define EXPECT(holds)                                                          \
+    do {                                                                       \
+        if (!(holds)) {                                                        \
+            fprintf(stderr, "%s:%d: %s\n", __FILE__, __LINE__, #holds);        \
+            exit(1);                                                           \
+        }                                                                      \
+    } while (0)
+
+static wakotehu_handle opened(void) {
+    wakotehu_handle chain = 0;
+    EXPECT(wakotehu_open(&chain, &regtest, NULL, 0, NULL) == WAKOTEHU_OK);
+    return chain;
+}
+
+static uint32_t submitted(wakotehu_handle chain, const uint8_t *block, size_t length) {
+    wakotehu_answer answer;
+    EXPECT(wakotehu_submit(chain, block, length, now, &answer) == WAKOTEHU_OK);
+    return answer.reply;
+}
+
+/* How many coins there are, and their sum. */
+struct counted {
+    uint64_t coins;
+    int64_t sum;
+};
+
+static int count(void *context, const uint8_t *id, uint32_t index, const wakotehu_coin *coin, const uint8_t *script) {
+    struct counted *counted = context;
+    EXPECT(id && index == 0 && coin->script == 1 && script[0] == 0x51 && coin->coinbase == 1);
+    counted->coins++;
+    counted->sum += coin->value;
+    return 0;
+}
+
+/* What a chainstate tells of itself. */
+struct told {
+    uint8_t best[32];
+    uint64_t height;
+    wakotehu_tip tips[4];
+    wakotehu_code coins[2];
+    wakotehu_code blocks[3];
+    struct counted counted;
+};
+
+static struct told told(wakotehu_handle chain) {
+    struct told it;
+    wakotehu_coin coin;
+    uint8_t script[8];
+    size_t needed;
+    memset(&it, 0, sizeof it);
+    EXPECT(wakotehu_best(chain, it.best) == WAKOTEHU_OK);
+    EXPECT(wakotehu_height(chain, &it.height) == WAKOTEHU_OK);
+    for (size_t place = 0; place < 4; place++) {
+        wakotehu_code code = wakotehu_tip_at(chain, place, &it.tips[place]);
+        EXPECT(code == WAKOTEHU_OK || code == WAKOTEHU_NONE);
+    }
+    it.coins[0] = wakotehu_coin_at(chain, b1_coinbase, 0, &coin, script, sizeof script);
+    it.coins[1] = wakotehu_coin_at(chain, c1_coinbase, 0, &coin, script, sizeof script);
+    it.blocks[0] = wakotehu_block(chain, c1 + 4, NULL, 0, &needed);
+    it.blocks[1] = wakotehu_block(chain, c2 + 4, NULL, 0, &needed);
+    it.blocks[2] = wakotehu_block(chain, it.best, NULL, 0, &needed);
+    EXPECT(wakotehu_coins(chain, count, &it.counted) == WAKOTEHU_OK);
+    return it;
+}
+
+/* The calls that take memory, after the blocks b1 and c1. */
+static wakotehu_code nth_call(int call, wakotehu_handle chain, wakotehu_handle *other) {
+    struct counted counted = {0, 0};
+    wakotehu_answer answer;
+    wakotehu_tip tip;
+    uint8_t id[32];
+    switch (call) {
+    case 0: return wakotehu_submit(chain, c2, sizeof c2, now, &answer);
+    case 1: wakotehu_best(chain, id); return wakotehu_invalidate(chain, id, &answer);
+    case 2: wakotehu_best(chain, id); return wakotehu_reconsider(chain, id, &answer);
+    case 3: wakotehu_best(chain, id); return wakotehu_precious(chain, id, &answer);
+    case 4: return wakotehu_tip_at(chain, 0, &tip);
+    case 5: return wakotehu_submit(chain, b1, 40, now, &answer);
+    case 6: return wakotehu_coins(chain, count, &counted);
+    default: return wakotehu_open(other, &regtest, "# no signature\n", 15, NULL);
+    }
+}
+
+static void refused_allocations(void) {
+    long refused = 0;
+    for (int call = 0; call < 8; call++)
+        for (long n = 0;; n++) {
+            wakotehu_handle chain = opened(), other = 0;
+            EXPECT(submitted(chain, b1, sizeof b1) == WAKOTEHU_ACCEPTED);
+            EXPECT(submitted(chain, c1, sizeof c1) == WAKOTEHU_INCONCLUSIVE);
+            struct told before = told(chain);
+            left = n;
+            wakotehu_code code = nth_call(call, chain, &other);
+            int all = left >= 0;
+            left = -1;
+            if (code == WAKOTEHU_MEMORY) {
+                struct told after = told(chain);
+                EXPECT(memcmp(&before, &after, sizeof before) == 0);
+                EXPECT(other == 0);
+                EXPECT(nth_call(call, chain, &other) == WAKOTEHU_OK);
+                refused++;
+            } else
+                EXPECT(code == WAKOTEHU_OK);
+            if (other)
+                EXPECT(wakotehu_close(other) == WAKOTEHU_OK);
+            EXPECT(wakotehu_close(chain) == WAKOTEHU_OK);
+            if (all)
+                break;
+        }
+    EXPECT(refused > 20);
+}
+
+static void misused_handles(void) {
+    wakotehu_handle chain = opened(), wrong[] = {0, 1, 255, UINT64_MAX, chain + 1, chain + 256, chain << 32, 0};
+    wakotehu_answer answer;
+    wakotehu_coin coin;
+    wakotehu_tip tip;
+    uint8_t id[32] = {0};
+    uint64_t height, line = 7;
+    wakotehu_handle none;
+    EXPECT(wakotehu_submit(chain, NULL, 1, now, &answer) == WAKOTEHU_NULL);
+    EXPECT(wakotehu_submit(chain, b1, SIZE_MAX, now, &answer) == WAKOTEHU_NULL);
+    EXPECT(wakotehu_submit(chain, b1, sizeof b1, now, NULL) == WAKOTEHU_NULL);
+    EXPECT(wakotehu_submit(chain, NULL, 0, now, &answer) == WAKOTEHU_OK && answer.reply == WAKOTEHU_DECODE_FAILED);
+    EXPECT(wakotehu_best(chain, NULL) == WAKOTEHU_NULL && wakotehu_height(chain, NULL) == WAKOTEHU_NULL);
+    EXPECT(wakotehu_invalidate(chain, NULL, &answer) == WAKOTEHU_NULL);
+    EXPECT(wakotehu_tip_at(chain, 0, NULL) == WAKOTEHU_NULL && wakotehu_tip_at(chain, 1, &tip) == WAKOTEHU_NONE);
+    EXPECT(wakotehu_coin_at(chain, NULL, 0, &coin, NULL, 0) == WAKOTEHU_NULL);
+    EXPECT(wakotehu_coin_at(chain, id, 0, &coin, NULL, 1) == WAKOTEHU_NULL);
+    EXPECT(wakotehu_coin_at(chain, id, 0, &coin, NULL, 0) == WAKOTEHU_NONE);
+    EXPECT(wakotehu_open(NULL, &regtest, NULL, 0, NULL) == WAKOTEHU_NULL);
+    EXPECT(wakotehu_open(&none, NULL, NULL, 0, NULL) == WAKOTEHU_NULL);
+    EXPECT(wakotehu_open(&none, &regtest, "#\nnonsense\n", 11, &line) == WAKOTEHU_BAD_TABLE && line == 2);
+    EXPECT(submitted(chain, b1, sizeof b1) == WAKOTEHU_ACCEPTED);
+    EXPECT(wakotehu_coin_at(chain, b1_coinbase, 0, &coin, NULL, 0) == WAKOTEHU_TOO_SMALL && coin.script == 1);
+    EXPECT(wakotehu_close(chain) == WAKOTEHU_OK);
+    wrong[7] = chain;
+    for (size_t n = 0; n < sizeof wrong / sizeof *wrong; n++) {
+        EXPECT(wakotehu_submit(wrong[n], b1, sizeof b1, now, &answer) == WAKOTEHU_CLOSED);
+        EXPECT(wakotehu_precious(wrong[n], id, &answer) == WAKOTEHU_CLOSED);
+        EXPECT(wakotehu_best(wrong[n], id) == WAKOTEHU_CLOSED && wakotehu_height(wrong[n], &height) == WAKOTEHU_CLOSED);
+        EXPECT(wakotehu_tip_at(wrong[n], 0, &tip) == WAKOTEHU_CLOSED);
+        EXPECT(wakotehu_coin_at(wrong[n], id, 0, &coin, NULL, 0) == WAKOTEHU_CLOSED);
+        EXPECT(wakotehu_close(wrong[n]) == WAKOTEHU_CLOSED);
+    }
+    /* The place is used again, and the old handle stays closed. */
+    wakotehu_handle again = opened();
+    EXPECT(again != chain && wakotehu_best(chain, id) == WAKOTEHU_CLOSED);
+    EXPECT(wakotehu_close(again) == WAKOTEHU_OK);
+}
+
+/* What a walk over coins sees of its own handle. */
+struct inside {
+    wakotehu_handle chain;
+    int calls;
+};
+
+static int use_inside(void *context, const uint8_t *id, uint32_t index, const wakotehu_coin *coin,
+                      const uint8_t *script) {
+    struct inside *inside = context;
+    uint8_t best[32];
+    (void)id, (void)index, (void)coin, (void)script;
+    EXPECT(wakotehu_best(inside->chain, best) == WAKOTEHU_BUSY);
+    EXPECT(wakotehu_close(inside->chain) == WAKOTEHU_BUSY);
+    inside->calls++;
+    return 1;
+}
+
+static void blocks_and_coins(void) {
+    wakotehu_handle chain = opened();
+    struct counted counted = {0, 0};
+    struct inside inside = {chain, 0};
+    uint8_t other[sizeof c1], bytes[sizeof c1 + 1], best[32], none[32] = {7};
+    size_t needed = 1;
+    EXPECT(wakotehu_coins(chain, count, &counted) == WAKOTEHU_OK && counted.coins == 0);
+    EXPECT(wakotehu_best(chain, best) == WAKOTEHU_OK);
+    EXPECT(wakotehu_block(chain, best, NULL, 0, &needed) == WAKOTEHU_NONE && needed == 0);
+    /* A block with the header of c1 and another coinbase isn't taken for c1. */
+    memcpy(other, c1, sizeof c1);
+    other[sizeof c1 - 1] = 1;
+    EXPECT(submitted(chain, other, sizeof other) == WAKOTEHU_REJECTED);
+    EXPECT(submitted(chain, c1, sizeof c1) == WAKOTEHU_ACCEPTED);
+    EXPECT(wakotehu_best(chain, best) == WAKOTEHU_OK);
+    EXPECT(wakotehu_block(chain, best, bytes, sizeof c1 - 1, &needed) == WAKOTEHU_TOO_SMALL && needed == sizeof c1);
+    EXPECT(wakotehu_block(chain, best, bytes, sizeof bytes, &needed) == WAKOTEHU_OK && needed == sizeof c1);
+    EXPECT(memcmp(bytes, c1, sizeof c1) == 0);
+    EXPECT(wakotehu_block(chain, none, bytes, sizeof bytes, &needed) == WAKOTEHU_NONE);
+    EXPECT(wakotehu_block(chain, best, NULL, 1, &needed) == WAKOTEHU_NULL);
+    EXPECT(wakotehu_block(chain, NULL, NULL, 0, &needed) == WAKOTEHU_NULL);
+    EXPECT(wakotehu_block(chain, best, NULL, 0, NULL) == WAKOTEHU_NULL);
+    EXPECT(wakotehu_coins(chain, NULL, NULL) == WAKOTEHU_NULL);
+    /* The coins of the active branch alone, and none of the one that was left. */
+    EXPECT(submitted(chain, b1, sizeof b1) == WAKOTEHU_INCONCLUSIVE);
+    EXPECT(submitted(chain, c2, sizeof c2) == WAKOTEHU_ACCEPTED);
+    EXPECT(wakotehu_coins(chain, count, &counted) == WAKOTEHU_OK);
+    EXPECT(counted.coins == 2 && counted.sum == 10000000000);
+    EXPECT(wakotehu_coins(chain, use_inside, &inside) == WAKOTEHU_OK && inside.calls == 1);
+    EXPECT(wakotehu_close(chain) == WAKOTEHU_OK);
+    EXPECT(wakotehu_coins(chain, count, &counted) == WAKOTEHU_CLOSED);
+    EXPECT(wakotehu_block(chain, best, bytes, sizeof bytes, &needed) == WAKOTEHU_CLOSED);
+}
+
+static void too_many(void) {
+    static wakotehu_handle all[WAKOTEHU_MOST];
+    wakotehu_handle more;
+    for (size_t n = 0; n < WAKOTEHU_MOST; n++)
+        all[n] = opened();
+    EXPECT(wakotehu_open(&more, &regtest, NULL, 0, NULL) == WAKOTEHU_TOO_MANY);
+    for (size_t n = 0; n < WAKOTEHU_MOST; n++)
+        EXPECT(wakotehu_close(all[n]) == WAKOTEHU_OK);
+}
+
+static wakotehu_handle shared;
+
+/* Stops at once: what other threads submit isn't known. */
+static int see(void *context, const uint8_t *id, uint32_t index, const wakotehu_coin *coin, const uint8_t *script) {
+    (void)context, (void)id, (void)index, (void)coin, (void)script;
+    return 1;
+}
+
+/* Submits, reads and closes, whatever the others do. */
+static void *fight(void *unused) {
+    wakotehu_answer answer;
+    uint8_t id[32], bytes[sizeof b1];
+    size_t needed;
+    (void)unused;
+    for (int n = 0; n < 2000; n++) {
+        wakotehu_code code = wakotehu_submit(shared, n % 2 ? c1 : b1, n % 2 ? sizeof c1 : sizeof b1, now, &answer);
+        EXPECT(code == WAKOTEHU_OK || code == WAKOTEHU_BUSY || code == WAKOTEHU_CLOSED);
+        code = wakotehu_best(shared, id);
+        EXPECT(code == WAKOTEHU_OK || code == WAKOTEHU_BUSY || code == WAKOTEHU_CLOSED);
+        if (code == WAKOTEHU_OK) {
+            code = wakotehu_block(shared, id, bytes, sizeof bytes, &needed);
+            EXPECT(code == WAKOTEHU_OK || code == WAKOTEHU_NONE || code == WAKOTEHU_BUSY || code == WAKOTEHU_CLOSED);
+        }
+        code = wakotehu_coins(shared, see, NULL);
+        EXPECT(code == WAKOTEHU_OK || code == WAKOTEHU_BUSY || code == WAKOTEHU_CLOSED);
+    }
+    for (wakotehu_code code = WAKOTEHU_BUSY; code == WAKOTEHU_BUSY;) {
+        code = wakotehu_close(shared);
+        EXPECT(code == WAKOTEHU_OK || code == WAKOTEHU_BUSY || code == WAKOTEHU_CLOSED);
+    }
+    return NULL;
+}
+
+static void threads_that_fight(void) {
+    pthread_t threads[4];
+    shared = opened();
+    for (size_t n = 0; n < 4; n++)
+        EXPECT(pthread_create(&threads[n], NULL, fight, NULL) == 0);
+    for (size_t n = 0; n < 4; n++)
+        EXPECT(pthread_join(threads[n], NULL) == 0);
+    EXPECT(wakotehu_close(shared) == WAKOTEHU_CLOSED);
+}
+
+int main(void) {
+    refused_allocations();
+    misused_handles();
+    blocks_and_coins();
+    too_many();
+    threads_that_fight();
+    return 0;
+}
