@@ -1,5 +1,5 @@
 -- Histories: the state after some of their steps, and which of them may be.
-use Rattle.std.specs.Prelude.{◌≡◌, ℕ, ◌<◌, ◌==◌, cond, List, [], ◌∷◌, take, Option, Some, None}
+use Rattle.std.specs.Prelude.{◌≡◌, ℕ, ◌<◌, ◌==◌, if◌then◌else◌, List, [], ◌∷◌, take, Option, Some, None}
 use Rattle.chain.specs.declared.command.Command.{Command}
 use Rattle.chain.specs.declared.reply.Reply.{Reply}
 use Rattle.chain.specs.declared.entry.Entry.{Entry}
@@ -41,7 +41,7 @@ Legal m seats history = LegalFrom m seats m.opening history
 -- the entries of one seat
 abbrev pub own_of : ℕ → List Entry → List Entry
 own_of seat [] = []
-own_of seat (e ∷ es) = cond (e.seat == seat) (e ∷ own_of seat es) (own_of seat es)
+own_of seat (e ∷ es) = if e.seat == seat then e ∷ own_of seat es else own_of seat es
 
 abbrev pub entry_of : ℕ → Command → Option Reply → Entry
 entry_of seat command reply = record { seat = seat; command = command; reply = reply }

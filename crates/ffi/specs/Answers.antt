@@ -19,7 +19,7 @@ use Rattle.ffi.specs.declared.answers.Place.{Place}
 use Rattle.ffi.specs.declared.answers.ShownCoin.{ShownCoin}
 use Rattle.ffi.specs.declared.answers.ShownTip.{ShownTip}
 use Rattle.ffi.specs.Codes.{coinbase_number, input_number, reason_number, reply_number, status_number, transaction_number}
-use Rattle.ffi.specs.SessionState.{KeepsRules, SessionState, opened, rules_of, state_of}
+use Rattle.ffi.specs.SessionState.{KeepsRules, SessionState, new_session, rules_of, state_of}
 
 abbrev pub params_of : Heights → Params
 params_of h = record { bip34 = h.bip34; bip65 = h.bip65; bip66 = h.bip66; csv = h.csv }
@@ -35,7 +35,7 @@ outpoint_of p = record { id = id_of p.id; index = p.index }
 -- genesis alone, under a table of these lines
 pub record IsOpenedBy (params : Params) (ls : List (List ℕ)) (after : Option SessionState) : Type 0 where
   pub triples : Triples
-  pub after_is : after ≡ Some (opened params triples)
+  pub after_is : after ≡ Some (new_session params triples)
   pub table : IsTableOf ls triples
 
 -- ---- steps

@@ -23,8 +23,8 @@ abbrev pub state_of : SessionState → State Block
 state_of s = s.chain.core.state
 
 -- genesis alone, under these heights of soft forks and these valid signatures
-abbrev pub opened : Params → Triples → SessionState
-opened params triples = record {
+abbrev pub new_session : Params → Triples → SessionState
+new_session params triples = record {
   chain = record { core = genesis_alone params; coins = coin_map.empty };
   triples = triples;
 }

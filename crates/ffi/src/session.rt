@@ -11,7 +11,7 @@ ghost use Rattle.chain.specs.Regtest.{ledger};
 ghost use Rattle.chain.specs.Replay.{coins};
 ghost use Rattle.chain.specs.Settle.{active, best, tips};
 ghost use Rattle.activate.specs.CoreState.{IsChainstate, genesis_alone};
-ghost use Rattle.ffi.specs.SessionState.{KeepsRules, opened, rules_of, state_of};
+ghost use Rattle.ffi.specs.SessionState.{KeepsRules, new_session, rules_of, state_of};
 
 use activate::Chainstate;
 use chain::{Command, Reply};
@@ -71,7 +71,7 @@ impl Session {
     /// Genesis alone, with these heights of soft forks and the valid signatures of a table's text.
     pub(crate) fn open(alloc: Global, params: Params, text: &[u8]) -> Result<Session, TableFault>
         ensures found { IfOk result (λ session.
-            (session ≡ opened params session.triples)
+            (session ≡ new_session params session.triples)
             × IsTableOf (lines text.now) session.triples) }
         ensures refused { IfErr result (IsFaultOf (lines text.now)) }
     {

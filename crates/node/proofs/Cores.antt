@@ -25,7 +25,7 @@ use Rattle.view.specs.ViewState.{IsExact, IsInfo, IsLegal, coins_of, opening_vie
 use Rattle.view.specs.declared.chain_info.ChainInfo.{ChainInfo}
 use Rattle.view.specs.laws.Exact.{opening_exact}
 use Rattle.node.specs.inside.Keeping.{is_step}
-use Rattle.node.specs.inside.PublishedState.{IsCoreOf, with_its_coins, replied}
+use Rattle.node.specs.inside.PublishedState.{IsCoreOf, with_its_coins, entry_with_reply}
 use Rattle.node.proofs.Few.{height-few}
 use Rattle.node.proofs.Kept.{Stepped, opens, taken_kept}
 use Rattle.node.proofs.Publications.{state_of-push, owed_legal}
@@ -52,10 +52,10 @@ tells o core journal x k is high list =
     }
 
 -- an entry with another reply that it may have
-pub with_reply : (o : Origin) (core : CoreState) (xs : List Entry) (e : Entry) (r : Option Reply) → IsLegal o (xs ++ replied e r ∷ []) → IsCoreOf o core (xs ++ e ∷ []) → IsCoreOf o core (xs ++ replied e r ∷ [])
+pub with_reply : (o : Origin) (core : CoreState) (xs : List Entry) (e : Entry) (r : Option Reply) → IsLegal o (xs ++ entry_with_reply e r ∷ []) → IsCoreOf o core (xs ++ e ∷ []) → IsCoreOf o core (xs ++ entry_with_reply e r ∷ [])
 with_reply o core xs e r legal k = record {
   legal = legal;
-  state_is = k.state_is ∙ state_of-push o xs e (replied e r) refl;
+  state_is = k.state_is ∙ state_of-push o xs e (entry_with_reply e r) refl;
   params_are = k.params_are;
   is_chainstate = k.is_chainstate;
   few = k.few;

@@ -22,7 +22,7 @@ use Rattle.view.specs.Following.{IsNext, IsOwed, AllOwed, AllFollow}
 use Rattle.view.specs.declared.chain_info.ChainInfo.{ChainInfo}
 use Rattle.view.specs.declared.publication.Publication.{Publication}
 use Rattle.view.specs.laws.Exact.{all_exact, same_origin}
-use Rattle.node.specs.inside.PublishedState.{Shows, AreDue, replied}
+use Rattle.node.specs.inside.PublishedState.{Shows, AreDue, entry_with_reply}
 
 -- the state after an entry is that after its command
 pub state_of-push : (o : Origin) (xs : List Entry) (e d : Entry) → e.command ≡ d.command → state_of o (xs ++ e ∷ []) ≡ state_of o (xs ++ d ∷ [])
@@ -36,11 +36,11 @@ owed_answers r None h = h
 owed_answers r (Some x) h = tt
 
 -- an entry whose reply is owed may stand where it stands
-pub owed_legal : (o : Origin) (xs : List Entry) (e : Entry) → IsLegal o (xs ++ e ∷ []) → IsLegal o (xs ++ replied e None ∷ [])
+pub owed_legal : (o : Origin) (xs : List Entry) (e : Entry) → IsLegal o (xs ++ e ∷ []) → IsLegal o (xs ++ entry_with_reply e None ∷ [])
 owed_legal o xs e h =
     let m = machine o in
     let stands : Stands m o.seats (state_after_entries m m.opening xs) e = stands_within m o.seats m.opening xs [] e h in
-    legal_push m o.seats m.opening xs (replied e None) (legal_front m o.seats m.opening xs (e ∷ []) h) (record {
+    legal_push m o.seats m.opening xs (entry_with_reply e None) (legal_front m o.seats m.opening xs (e ∷ []) h) (record {
       seat_is = stands.seat_is;
       reply_is = owed_answers e.reply (m.step (state_after_entries m m.opening xs) e.command) stands.reply_is;
     })
@@ -68,13 +68,13 @@ owed_before : (x : ViewState) (ps : List Publication) → AllOwed x ps → (afte
 owed_before x [] h = refl
 owed_before x (p ∷ ps) h = owed_before (after_publication x p) ps h.1 ∙ h.0.before_is
 
-owed_last : (x : ViewState) (e : Entry) (ps : List Publication) → x.last ≡ Some e → AllOwed x ps → (d : Entry) × ((after_publications x ps).last ≡ Some d) × (replied d None ≡ replied e None)
+owed_last : (x : ViewState) (e : Entry) (ps : List Publication) → x.last ≡ Some e → AllOwed x ps → (d : Entry) × ((after_publications x ps).last ≡ Some d) × (entry_with_reply d None ≡ entry_with_reply e None)
 owed_last x e [] is h = (e, is, refl)
 owed_last x e (p ∷ ps) is h =
     let t = owed_last (after_publication x p) p.entry ps refl h.1 in
     let at = h.0.entry_is in
     let same : at.0 ≡ e = cc (at.1, is) in
-    (t.0, t.1, t.2 ∙ ap (λ (f : Entry). replied f None) at.2 ∙ ap (λ (f : Entry). replied f None) same)
+    (t.0, t.1, t.2 ∙ ap (λ (f : Entry). entry_with_reply f None) at.2 ∙ ap (λ (f : Entry). entry_with_reply f None) same)
 
 -- the entry behind a history is one
 pub same_last : (xs ys : List Entry) (d e : Entry) → xs ++ d ∷ [] ≡ ys ++ e ∷ [] → (xs ≡ ys) × (d ≡ e)
@@ -85,7 +85,7 @@ pub record IsOfOwed (is_new : Bool) (o : Origin) (seen : List Entry) (e : Entry)
   pub new_is : p.is_new ≡ is_new
   pub book_is : p.before.book ≡ o.book
   pub before_is : p.before.entries ≡ seen
-  pub entry_is : replied p.entry None ≡ replied e None
+  pub entry_is : entry_with_reply p.entry None ≡ entry_with_reply e None
   pub none : is_new ≡ false → p.entry.reply ≡ None
   pub changes_are : p.changes ≡ changes
   pub legal : IsLegal o (seen ++ p.entry ∷ [])
@@ -93,7 +93,7 @@ pub record IsOfOwed (is_new : Bool) (o : Origin) (seen : List Entry) (e : Entry)
 
 -- the entry of the last of them
 again_owed : (x : ViewState) (o : Origin) (seen : List Entry) (e : Entry) (changes : Changes) (p q : Publication) (qs : List Publication) → Shows x o seen → IsOfOwed false o seen e changes p → AllFollow x (q ∷ qs)
-    → replied q.entry None ≡ replied e None → IsOwed (after_publications x (q ∷ qs)) p
+    → entry_with_reply q.entry None ≡ entry_with_reply e None → IsOwed (after_publications x (q ∷ qs)) p
 again_owed x o seen e changes p q qs shows of follow same =
     let z : ViewState = after_publications x (q ∷ qs) in
     let t = owed_last (after_publication x q) q.entry qs refl follow.1 in
@@ -101,9 +101,9 @@ again_owed x o seen e changes p q qs shows of follow same =
     let before : z.before ≡ seen = owed_before (after_publication x q) qs follow.1 ∙ follow.0.before_is ∙ shows.journal_is in
     let exact : IsExact z = all_exact x (q ∷ qs) shows.exact follow in
     let journal : z.journal ≡ seen ++ t.0 ∷ [] = exact.whole ∙ ap (λ (es : List Entry). es ++ option_to_list z.last) before ∙ ap (λ (l : Option Entry). seen ++ option_to_list l) t.1 in
-    let entry : replied p.entry None ≡ replied t.0 None = of.entry_is ∙ sym same ∙ sym t.2 in
+    let entry : entry_with_reply p.entry None ≡ entry_with_reply t.0 None = of.entry_is ∙ sym same ∙ sym t.2 in
     let info : IsInfo o (seen ++ t.0 ∷ []) z.info = subst (λ (es : List Entry). IsInfo o es z.info) journal (subst (λ (k : Origin). IsInfo k z.journal z.info) origin exact.info_is) in
-    let none : p.entry ≡ replied p.entry None = ap (λ (r : Option Reply). entry_of p.entry.seat p.entry.command r) (of.none refl) in
+    let none : p.entry ≡ entry_with_reply p.entry None = ap (λ (r : Option Reply). entry_of p.entry.seat p.entry.command r) (of.none refl) in
     record {
       is_new = of.new_is;
       book_is = of.book_is ∙ ap (λ (k : Origin). k.book) (sym origin);
@@ -113,11 +113,11 @@ again_owed x o seen e changes p q qs shows of follow same =
     }
 
 -- the coins that stand after an entry stand after it with another reply
-changes_of : (x : ViewState) (o : Origin) (seen journal : List Entry) (e : Entry) (changes : Changes) (p : Publication) → Shows x o seen → journal ≡ seen ++ replied e None ∷ [] → replied p.entry None ≡ replied e None → p.changes ≡ changes
+changes_of : (x : ViewState) (o : Origin) (seen journal : List Entry) (e : Entry) (changes : Changes) (p : Publication) → Shows x o seen → journal ≡ seen ++ entry_with_reply e None ∷ [] → entry_with_reply p.entry None ≡ entry_with_reply e None → p.changes ≡ changes
     → AreChanges x.coins (coins_of x.origin journal) changes → AreChanges x.coins (coins_of x.origin (x.journal ++ p.entry ∷ [])) p.changes
 changes_of x o seen journal e changes p shows is same eq h =
     let state : state_of x.origin journal ≡ state_of x.origin (x.journal ++ p.entry ∷ []) =
-    ap (state_of x.origin) is ∙ state_of-push x.origin seen (replied e None) p.entry (ap (λ (f : Entry). f.command) (sym same)) ∙ ap (λ (es : List Entry). state_of x.origin (es ++ p.entry ∷ [])) (sym shows.journal_is) in
+    ap (state_of x.origin) is ∙ state_of-push x.origin seen (entry_with_reply e None) p.entry (ap (λ (f : Entry). f.command) (sym same)) ∙ ap (λ (es : List Entry). state_of x.origin (es ++ p.entry ∷ [])) (sym shows.journal_is) in
     let coins : coins_of x.origin journal ≡ coins_of x.origin (x.journal ++ p.entry ∷ []) = coins_same x.origin journal (x.journal ++ p.entry ∷ []) state in
     subst (λ (cs : Changes). AreChanges x.coins (coins_of x.origin (x.journal ++ p.entry ∷ [])) cs) (sym eq) (subst (λ m. AreChanges x.coins m changes) coins h)
   where
@@ -126,7 +126,7 @@ changes_of x o seen journal e changes p shows is same eq h =
 
 -- it follows what is pending
 pub follows : (is_new : Bool) (x : ViewState) (pending : List Publication) (o : Origin) (seen journal : List Entry) (e : Entry) (changes : Changes) (p : Publication) → Shows x o seen → AreDue true is_new x pending journal changes
-    → journal ≡ seen ++ replied e None ∷ [] → IsOfOwed is_new o seen e changes p → AllFollow x (pending ++ p ∷ [])
+    → journal ≡ seen ++ entry_with_reply e None ∷ [] → IsOfOwed is_new o seen e changes p → AllFollow x (pending ++ p ∷ [])
 follows true x pending o seen journal e changes p shows due is of =
     let at : o ≡ x.origin = sym shows.origin_is in
     let es : seen ++ p.entry ∷ [] ≡ x.journal ++ p.entry ∷ [] = ap (λ (l : List Entry). l ++ p.entry ∷ []) (sym shows.journal_is) in
@@ -144,8 +144,8 @@ follows false x pending o seen journal e changes p shows due is of =
     let q : Publication = due.0 in
     let qs : List Publication = due.1 in
     let follow : AllFollow x (q ∷ qs) = due.3 in
-    let at : x.journal ++ replied q.entry None ∷ [] ≡ seen ++ replied e None ∷ [] = sym due.4 ∙ is in
-    let same : replied q.entry None ≡ replied e None = (same_last x.journal seen (replied q.entry None) (replied e None) at).1 in
+    let at : x.journal ++ entry_with_reply q.entry None ∷ [] ≡ seen ++ entry_with_reply e None ∷ [] = sym due.4 ∙ is in
+    let same : entry_with_reply q.entry None ≡ entry_with_reply e None = (same_last x.journal seen (entry_with_reply q.entry None) (entry_with_reply e None) at).1 in
     let all : AllFollow x (q ∷ (qs ++ p ∷ [])) = (follow.0, owed_more (after_publication x q) qs p follow.1 (again_owed x o seen e changes p q qs shows of follow same)) in
     subst (λ (ps : List Publication). AllFollow x (ps ++ p ∷ [])) (sym due.2) all
 
@@ -161,7 +161,7 @@ shown_then x y pending p follow is exact =
 
 -- what is due where it is pending too
 pub due_then : (is_new : Bool) (x y : ViewState) (pending left : List Publication) (journal : List Entry) (changes : Changes) (p : Publication) → AreDue true is_new x pending journal changes → AllFollow x (pending ++ p ∷ []) → p.before.entries ≡ x.journal
-    → journal ≡ p.before.entries ++ replied p.entry None ∷ [] → y ≡ x → left ≡ pending ++ p ∷ [] → AreDue true false y left journal []
+    → journal ≡ p.before.entries ++ entry_with_reply p.entry None ∷ [] → y ≡ x → left ≡ pending ++ p ∷ [] → AreDue true false y left journal []
 due_then is_new x y pending left journal changes p due follow before is same grown =
     subst (λ (v : ViewState). AreDue true false v left journal []) (sym same) (subst (λ (ps : List Publication). AreDue true false x ps journal []) (sym grown) (by is_new due))
   where
@@ -171,7 +171,7 @@ due_then is_new x y pending left journal changes p due follow before is same gro
       [],
       ap (λ (ps : List Publication). ps ++ p ∷ []) d.0,
       subst (λ (ps : List Publication). AllFollow x (ps ++ p ∷ [])) d.0 follow,
-      is ∙ ap (λ (es : List Entry). es ++ replied p.entry None ∷ []) before,
+      is ∙ ap (λ (es : List Entry). es ++ entry_with_reply p.entry None ∷ []) before,
     )
     by false d = (
       d.0,

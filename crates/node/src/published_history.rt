@@ -11,7 +11,7 @@ ghost use Rattle.view.specs.Beginning.{count_of};
 ghost use Rattle.view.specs.Origin.{origin};
 ghost use Rattle.view.specs.ViewState.{IsLegal};
 ghost use Rattle.node.specs.inside.Keeping.{is_step};
-ghost use Rattle.node.specs.inside.PublishedState.{IsStepAnswer, IsTaken, Shows, opening_state, replied};
+ghost use Rattle.node.specs.inside.PublishedState.{IsStepAnswer, IsTaken, Shows, opening_state, entry_with_reply};
 
 mod attempt;
 mod lent_step;
@@ -106,7 +106,7 @@ fn may_bring(is_new: bool, reply: &Option<Reply>) -> bool
 /// Puts a reply in place of the last entry's.
 fn put_reply(journal: &mut Vec<Entry>, reply: Option<Reply>)
     ensures { (before : List EntryValue) (e : EntryValue) → journal.old.items ≡ before ++ e ∷ []
-        → journal.new.items ≡ before ++ replied e reply ∷ [] }
+        → journal.new.items ≡ before ++ entry_with_reply e reply ∷ [] }
 {
     if let Some(last) = journal.pop() {
         journal.push_reserved(Entry {
@@ -273,10 +273,10 @@ impl PublishedHistory {
         requires owed { self.old.owed ≡ true }
         requires legal { (before : List EntryValue) (e : EntryValue)
             → self.old.journal ≡ before ++ e ∷ []
-            → IsLegal self.old.origin (before ++ replied e reply ∷ []) }
+            → IsLegal self.old.origin (before ++ entry_with_reply e reply ∷ []) }
         ensures shown { (before : List EntryValue) (e : EntryValue)
             → self.old.journal ≡ before ++ e ∷ [] → (result ≡ true)
-            → let journal = before ++ replied e reply ∷ [] in
+            → let journal = before ++ entry_with_reply e reply ∷ [] in
             self.new ≡ record self.old { journal = journal; owed = false } }
         ensures same { (result ≡ false) → self.new ≡ self.old }
     {

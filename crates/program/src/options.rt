@@ -12,7 +12,7 @@ pub const NAME: &str = "regchain";
 pub const STANDARD: &str = "-";
 
 /// The program's version, with the kit that it is proved with.
-const VERSION: &str = "0.1.0 (rattle-kit-13b logic dac8208d650f15bf)";
+const VERSION: &str = "0.1.0 (rattle-kit-13f logic dac8208d650f15bf)";
 
 /// How many workers check scripts by default.
 const WORKERS: usize = 2;

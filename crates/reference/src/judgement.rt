@@ -43,7 +43,8 @@ fn judge(_chain: &Chain, old: &Replayed, judged: &[Judgement], place: usize) -> 
     requires right { IsRight (chain_rules _chain.now) old.now }
     requires kept { place < length old.now.held.items }
     requires long { length judged.now ≡ place }
-    requires below { AreJudged (chain_rules _chain.now) (state_of_replayed old.now) judged.now place }
+    requires below { let s = state_of_replayed old.now in
+        AreJudged (chain_rules _chain.now) s judged.now place }
     ensures { result
         ≡ judgement_at (chain_rules _chain.now) (state_of_replayed old.now) place }
 {

@@ -1,8 +1,8 @@
 //! Lists by chance whose commands four seats share, each on a thread of its own, told nothing by the others.
 //!
-//! The history is replayed by the chainstate of one thread. Each seat's answers are those at their places in it, and
-//! never stand before the ones that it had earlier: so whatever two seats saw, one saw a beginning of what the other
-//! did.
+//! The history's replies are those of the definition as a program, and its best blocks those of the chainstate of one
+//! thread. Each seat's answers are those at their places in it, and never stand before the ones that it had earlier: so
+//! whatever two seats saw, one saw a beginning of what the other did.
 
 use crate::asking::{Answer, asked};
 use crate::desk::{Answers, Desk};
@@ -10,7 +10,8 @@ use crate::replay::Replay;
 use hash::Id;
 use lists::commands::define;
 use lists::dealing::Deal;
-use node::{Entry, Fault, Node, Open, Params, Seat, Stamped};
+use node::{Entry, Fault, Node, Open, Params, Seat, Stamped, Table};
+use reference::slow;
 use scenario::{Call, Request, lines, read_clients};
 use std::process::Abort;
 use std::sync::{Arc, Wait};
@@ -69,6 +70,26 @@ fn bests<R: AllocGlobal + Abort>(
         bests.push(replay.best())?;
     }
     Ok(bests)
+}
+
+/// Compares a history's replies with those of the definition as a program.
+fn expect_replies<R: AllocGlobal + Abort>(
+    rt: &R,
+    params: &Params,
+    history: &[Entry],
+    table: &Table,
+    seed: u64,
+) -> Result<(), Fail> {
+    let mut commands = Vec::with_capacity(rt.alloc(), history.len())?;
+    for entry in history {
+        commands.push(entry.command.copy()?)?;
+    }
+    let replies = slow(rt.alloc(), params, &commands, table)?;
+    assert_eq!(rt; replies.len(), history.len(), "list {seed}");
+    for (entry, reply) in history.iter().zip(replies) {
+        assert_eq!(rt; entry.reply, Some(reply), "list {seed}");
+    }
+    Ok(())
 }
 
 /// Compares an answer with what stands at its place in the history. Whether it was that of a step.
@@ -132,6 +153,7 @@ fn expect<R: AllocGlobal + Threads + Wait + Sync + Abort>(
     let (node, mut seats) = Node::open(rt, alloc, params, &table, 2, SEATS, &Open)?;
     ask_at_once(rt, &node, seats.as_mut_slice(), calls, &desks);
     let history = node.finish(seats.as_mut_slice())?;
+    expect_replies(rt, &params, &history, definitions.table(), seed)?;
     let mut replay = Replay::new(alloc, params, definitions.table())?;
     let bests = bests(rt, &mut replay, &history, seed)?;
     for (number, desk) in desks.into_iter().enumerate() {
@@ -173,6 +195,16 @@ fn lists_50_to_99_on_genesis(rt: HostRuntime) -> Result<(), Fail> {
 }
 
 #[test]
-fn lists_100_to_109_on_a_chain(rt: HostRuntime) -> Result<(), Fail> {
-    expect_on_a_chain(&rt, 100)
+fn lists_100_to_149_on_genesis(rt: HostRuntime) -> Result<(), Fail> {
+    expect_on_genesis(&rt, 100)
+}
+
+#[test]
+fn lists_150_to_199_on_genesis(rt: HostRuntime) -> Result<(), Fail> {
+    expect_on_genesis(&rt, 150)
+}
+
+#[test]
+fn lists_200_to_209_on_a_chain(rt: HostRuntime) -> Result<(), Fail> {
+    expect_on_a_chain(&rt, 200)
 }

@@ -8,7 +8,7 @@ import urllib.request
 
 import bitcoin
 import bitcoin.rpc
-from bitcoin.core import CBlock, CTransaction, lx, x
+from bitcoin.core import CBlock, CoreRegTestParams, CTransaction, lx, x
 
 from blocks import Maker, block_id, signed, spend, with_script
 from test_bench import KEYS, SECP, SECRETS, pay_to_key, pay_to_key_hash
@@ -95,6 +95,8 @@ class ServerTest(unittest.TestCase):
         self.assertEqual(self.proxy.getblockhash(0), GENESIS.id)
         self.assertEqual(self.proxy.getblockhash(1), block_id(b1))
         self.assertEqual(self.proxy.getblock(block_id(b1)).serialize(), b1)
+        self.assertEqual(self.proxy.getblock(GENESIS.id), CoreRegTestParams.GENESIS_BLOCK)
+        self.assertEqual(self.proxy.call("getblock", show(GENESIS.id))["nTx"], 1)
         header = self.proxy.call("getblockheader", show(block_id(b1)))
         self.assertEqual(header["previousblockhash"], show(GENESIS.id))
         self.assertEqual(header["nextblockhash"], show(block_id(b2)))

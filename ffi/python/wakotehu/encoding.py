@@ -64,7 +64,7 @@ class Block(NamedTuple):
     transactions: List[Transaction]
 
 
-#: Regtest's genesis block, its header alone: its coinbase makes no coin.
+#: The header of regtest's genesis block.
 GENESIS = Header(
     1,
     bytes(32),
@@ -72,6 +72,16 @@ GENESIS = Header(
     1296688602,
     0x207FFFFF,
     2,
+)
+
+#: The genesis block's bytes. No chainstate keeps them, as its coinbase makes no coin.
+GENESIS_BLOCK = bytes.fromhex(
+    "0100000000000000000000000000000000000000000000000000000000000000000000003ba3edfd7a7b12b27ac72c3e67768f617fc81bc3"
+    "888a51323a9fb8aa4b1e5e4adae5494dffff7f20020000000101000000010000000000000000000000000000000000000000000000000000"
+    "000000000000ffffffff4d04ffff001d0104455468652054696d65732030332f4a616e2f32303039204368616e63656c6c6f72206f6e2062"
+    "72696e6b206f66207365636f6e64206261696c6f757420666f722062616e6b73ffffffff0100f2052a01000000434104678afdb0fe554827"
+    "1967f1a67130b7105cd6a828e03909a67962e0ea1f61deb649f6bc3f4cef38c4f35504e51ec112de5c384df7ba0b8d578a4c702b6bf11d5f"
+    "ac00000000"
 )
 
 

@@ -14,8 +14,8 @@ from typing import Any, Callable, Dict, List, Optional, Sequence, Tuple
 from .bench import Bench
 from .chainstate import REGTEST, read_id, show
 from .encoding import (
-    GENESIS, EncodingError, Header, Transaction, coinbase, double_sha, mine, read_block, read_transaction, subsidy,
-    write_header, write_transaction,
+    GENESIS, GENESIS_BLOCK, EncodingError, Header, Transaction, coinbase, double_sha, mine, read_block,
+    read_transaction, subsidy, write_header, write_transaction,
 )  # fmt: skip
 
 # Bitcoin Core's codes.
@@ -134,12 +134,15 @@ class Calls:
         return [GENESIS.id] + self.bench.branch()
 
     def _header(self, id: bytes) -> Header:
+        return read_block(self._block(id)).header
+
+    def _block(self, id: bytes) -> bytes:
         if id == GENESIS.id:
-            return GENESIS
+            return GENESIS_BLOCK
         data = self.bench.block(id)
         if data is None or not self.bench.is_kept(id):
             raise RpcError(INVALID_ADDRESS_OR_KEY, "Block not found")
-        return read_block(data).header
+        return data
 
     def _branch(self, id: bytes) -> List[bytes]:
         return [GENESIS.id] + self.bench.branch(id)
@@ -166,7 +169,7 @@ class Calls:
             "difficulty": 4.656542373906925e-10,
             # Each block of regtest counts for 2.
             "chainwork": f"{2 * len(branch):064x}",
-            "nTx": 1 if id == GENESIS.id else len(read_block(self.bench.block(id) or b"").transactions),
+            "nTx": len(read_block(self._block(id)).transactions),
         }
         if height:
             fields["previousblockhash"] = show(header.parent)
@@ -212,10 +215,7 @@ class Calls:
 
     def rpc_getblock(self, blockhash: Any, verbosity: Any = 1) -> Any:
         id = _hash(blockhash)
-        self._header(id)
-        data = self.bench.block(id)
-        if data is None:
-            raise RpcError(MISC_ERROR, "Block not available (the genesis block is kept as its header)")
+        data = self._block(id)
         if verbosity in (0, False):
             return data.hex()
         if verbosity not in (1, True):
@@ -321,7 +321,7 @@ class Calls:
             "verificationprogress": 1,
             "initialblockdownload": False,
             "chainwork": f"{2 * len(ids):064x}",
-            "size_on_disk": sum(len(self.bench.block(id) or b"") for id in ids),
+            "size_on_disk": sum(len(self._block(id)) for id in ids),
             "pruned": False,
             "warnings": "",
         }

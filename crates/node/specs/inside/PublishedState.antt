@@ -30,13 +30,13 @@ abbrev pub IsCoreOf : Origin → CoreState → List Entry → Type 0
 IsCoreOf o core journal = IsKept o (with_its_coins core) journal
 
 -- the entry, with this reply
-abbrev pub replied : Entry → Option Reply → Entry
-replied e r = entry_of e.seat e.command r
+abbrev pub entry_with_reply : Entry → Option Reply → Entry
+entry_with_reply e r = entry_of e.seat e.command r
 
 -- of the entries that are published and the journal: it has the same, or one more, whose reply is owed
 abbrev pub IsJournal : Bool → List Entry → List Entry → Type 0
 IsJournal false seen journal = journal ≡ seen
-IsJournal true seen journal = (e : Entry) × (journal ≡ seen ++ replied e None ∷ [])
+IsJournal true seen journal = (e : Entry) × (journal ≡ seen ++ entry_with_reply e None ∷ [])
 
 -- readers see these entries, with what stands after them
 pub record Shows (x : ViewState) (o : Origin) (seen : List Entry) : Type 0 where
@@ -51,7 +51,7 @@ AreDue false is_new x pending journal changes = pending ≡ []
 AreDue true true x pending journal changes = (pending ≡ []) × AreChanges x.coins (coins_of x.origin journal) changes
 AreDue true false x pending journal changes =
     (p : Publication) × (ps : List Publication) × (pending ≡ p ∷ ps) × AllFollow x (p ∷ ps)
-    × (journal ≡ x.journal ++ replied p.entry None ∷ [])
+    × (journal ≡ x.journal ++ entry_with_reply p.entry None ∷ [])
 
 -- one entry more, whose reply is owed
 abbrev pub with_owed : PublishedState → ℕ → Command → PublishedState

@@ -3,7 +3,7 @@
 ghost use Rattle.std.specs.Prelude.{◌≡◌, ◌++◌, ◌∷◌, [], true, IfSome, MatchBool, None, drop};
 ghost use Rattle.view.specs.ViewState.{IsExact};
 ghost use Rattle.view.specs.Following.{AllFollow};
-ghost use Rattle.node.specs.inside.PublishedState.{AreDue, Shows, replied};
+ghost use Rattle.node.specs.inside.PublishedState.{AreDue, Shows, entry_with_reply};
 
 use crate::published_history::writer_home::WriterHome;
 use coins::Changes;
@@ -39,7 +39,7 @@ pub(crate) fn attempt_to_publish<R: Wait>(
         AllFollow writer.desk.shown.value (pending ++ publication ∷ []) }
     requires due { let pending = drop writer.behind writer.log.items in
         let p = publication in
-        let journal = p.before.entries ++ replied p.entry None ∷ [] in
+        let journal = p.before.entries ++ entry_with_reply p.entry None ∷ [] in
         AreDue true p.is_new writer.desk.shown.value pending journal p.changes }
     ensures book { result.note.book ≡ publication.before.book }
     ensures note { let p = publication in
@@ -49,7 +49,7 @@ pub(crate) fn attempt_to_publish<R: Wait>(
     ensures shown { let o = writer.desk.shown.value.origin in
         IfSome result.home (λ h. Shows h.writer.desk.shown.value o result.note.entries) }
     ensures due { let p = publication in
-        let journal = p.before.entries ++ replied p.entry None ∷ [] in
+        let journal = p.before.entries ++ entry_with_reply p.entry None ∷ [] in
         IfSome result.home (λ h.
         let left = drop h.writer.behind h.writer.log.items in
         AreDue result.owed result.is_new h.writer.desk.shown.value left journal result.changes) }

@@ -1,5 +1,5 @@
 -- Words for what the functions of `slow` do inside. No public clause needs them.
-use Rattle.std.specs.Prelude.{◌≡◌, ℕ, ◌+◌, ◌-◌, ◌==◌, ◌<◌, ◌≤◌, zero, suc, Bool, true, false, nat_lt, ◌&&◌, ◌||◌, cond, List, [], ◌∷◌, length, map, take, drop, reverse, slice_index_or, Option, None, Some}
+use Rattle.std.specs.Prelude.{◌≡◌, ℕ, ◌+◌, ◌-◌, ◌==◌, ◌<◌, ◌≤◌, zero, suc, Bool, true, false, nat_lt, ◌&&◌, ◌||◌, if◌then◌else◌, List, [], ◌∷◌, length, map, take, drop, reverse, slice_index_or, Option, None, Some}
 use Rattle.std.specs.List.{filter}
 use Rattle.txn.specs.declared.reason.Reason.{Reason}
 use Rattle.txn.specs.First.{first_broken}
@@ -164,5 +164,5 @@ any_below passes (suc n) = passes n || any_below passes n
 -- the answer to a block that isn't the active one
 abbrev pub reply_by_trial : Bool → Trial → SubmitReply
 reply_by_trial is_bad Valid = Inconclusive
-reply_by_trial is_bad (Fails reason) = cond is_bad (Rejected reason) Inconclusive
+reply_by_trial is_bad (Fails reason) = if is_bad then Rejected reason else Inconclusive
 reply_by_trial is_bad Below = Inconclusive

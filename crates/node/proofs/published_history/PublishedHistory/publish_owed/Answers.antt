@@ -7,7 +7,7 @@ use Rattle.chain.specs.History.{entry_of}
 use Rattle.view.specs.Beginning.{Beginning}
 use Rattle.view.specs.Origin.{Origin, origin}
 use Rattle.view.specs.ViewState.{IsLegal}
-use Rattle.node.specs.inside.PublishedState.{PublishedState, IsJournal, replied}
+use Rattle.node.specs.inside.PublishedState.{PublishedState, IsJournal, entry_with_reply}
 use Rattle.node.proofs.Owing.{of_owed, replied_core}
 use Rattle.node.proofs.Publications.{both_some, follows, last_found}
 use Rattle.node.proofs.published_history.PublishedHistory.publish_owed.Goals as goal
@@ -22,12 +22,12 @@ attempt_to_publish-left-requires-clause-follows g c =
     let at : s.home ≡ Some c.in-Some-take.found = sym c.take.ensures.value ∙ c.in-Some-take.is in
     let k = rw (at, owed) at i.4 in
     let found : slice_get s.journal.items (length s.journal.items - 1) ≡ Some c.in-Some.last.now = search rules in
-    let last : c.in-Some.last.now ≡ replied t.0 None = last_found s.note.entries s.journal.items (replied t.0 None) c.in-Some.last.now t.1 found in
-    let entry : ◌≡◌ {A = Entry} (entry_of c.in-Some.last.now.seat c.in-Ok-copy.command c.args.reply) (replied t.0 c.args.reply) =
-    ap (λ (q : Command). entry_of c.in-Some.last.now.seat q c.args.reply) c.in-Ok-copy.ensures ∙ ap (λ (f : Entry). replied f c.args.reply) last in
-    let legal : IsLegal o (s.note.entries ++ replied t.0 c.args.reply ∷ []) =
-    subst (λ (h : PublishedState). IsLegal h.origin (s.note.entries ++ replied t.0 c.args.reply ∷ [])) (sym c.self.view_is)
-    (c.requires.legal s.note.entries (replied t.0 None) (ap (λ (h : PublishedState). h.journal) (sym c.self.view_is) ∙ t.1)) in
+    let last : c.in-Some.last.now ≡ entry_with_reply t.0 None = last_found s.note.entries s.journal.items (entry_with_reply t.0 None) c.in-Some.last.now t.1 found in
+    let entry : ◌≡◌ {A = Entry} (entry_of c.in-Some.last.now.seat c.in-Ok-copy.command c.args.reply) (entry_with_reply t.0 c.args.reply) =
+    ap (λ (q : Command). entry_of c.in-Some.last.now.seat q c.args.reply) c.in-Ok-copy.ensures ∙ ap (λ (f : Entry). entry_with_reply f c.args.reply) last in
+    let legal : IsLegal o (s.note.entries ++ entry_with_reply t.0 c.args.reply ∷ []) =
+    subst (λ (h : PublishedState). IsLegal h.origin (s.note.entries ++ entry_with_reply t.0 c.args.reply ∷ [])) (sym c.self.view_is)
+    (c.requires.legal s.note.entries (entry_with_reply t.0 None) (ap (λ (h : PublishedState). h.journal) (sym c.self.view_is) ∙ t.1)) in
     let core = i.0.is_chainstate.follows in
     let may = c.may_bring.ensures c.if-not-may_bring.false in
     rw c.into_writer-writer.ensures (
@@ -46,14 +46,14 @@ invariant_of-self-then-still g c =
     let at : s.home ≡ Some c.in-Some-take.found = sym c.take.ensures.value ∙ c.in-Some-take.is in
     let k = rw (at, owed) at i.4 in
     let found : slice_get s.journal.items (length s.journal.items - 1) ≡ Some c.in-Some.last.now = search rules in
-    let last : c.in-Some.last.now ≡ replied t.0 None = last_found s.note.entries s.journal.items (replied t.0 None) c.in-Some.last.now t.1 found in
-    let entry : ◌≡◌ {A = Entry} (entry_of c.in-Some.last.now.seat c.in-Ok-copy.command c.args.reply) (replied t.0 c.args.reply) =
-    ap (λ (q : Command). entry_of c.in-Some.last.now.seat q c.args.reply) c.in-Ok-copy.ensures ∙ ap (λ (f : Entry). replied f c.args.reply) last in
+    let last : c.in-Some.last.now ≡ entry_with_reply t.0 None = last_found s.note.entries s.journal.items (entry_with_reply t.0 None) c.in-Some.last.now t.1 found in
+    let entry : ◌≡◌ {A = Entry} (entry_of c.in-Some.last.now.seat c.in-Ok-copy.command c.args.reply) (entry_with_reply t.0 c.args.reply) =
+    ap (λ (q : Command). entry_of c.in-Some.last.now.seat q c.args.reply) c.in-Ok-copy.ensures ∙ ap (λ (f : Entry). entry_with_reply f c.args.reply) last in
     let book : c.attempt_to_publish-left.result.note.book ≡ s.note.book = c.attempt_to_publish-left.ensures.book ∙ ap (λ (x : Beginning). x.book) c.copy-2.ensures in
     let of : c.into_writer-writer.result.desk.shown.value.origin ≡ o = rw c.into_writer-writer.ensures k.0.origin_is in
     let before = ap (λ (x : Beginning). x.entries) c.copy-2.ensures in
-    let whole : c.copy-2.result.entries ++ replied (entry_of c.in-Some.last.now.seat c.in-Ok-copy.command c.args.reply) None ∷ [] ≡ s.journal.items =
-    (λ j. before j ++ replied (entry j) None ∷ []) ∙ sym t.1 in
+    let whole : c.copy-2.result.entries ++ entry_with_reply (entry_of c.in-Some.last.now.seat c.in-Ok-copy.command c.args.reply) None ∷ [] ≡ s.journal.items =
+    (λ j. before j ++ entry_with_reply (entry j) None ∷ []) ∙ sym t.1 in
     let still = c.if-still.true in
     let seen : c.attempt_to_publish-left.result.note.entries ≡ s.note.entries = rw still at c.attempt_to_publish-left.ensures.note ∙ before in
     let shown = rw of at c.attempt_to_publish-left.ensures.shown in
@@ -76,21 +76,21 @@ invariant_of-self-2 g c =
     let at : s.home ≡ Some c.in-Some-take.found = sym c.take.ensures.value ∙ c.in-Some-take.is in
     let k = rw (at, owed) at i.4 in
     let found : slice_get s.journal.items (length s.journal.items - 1) ≡ Some c.in-Some.last.now = search rules in
-    let last : c.in-Some.last.now ≡ replied t.0 None = last_found s.note.entries s.journal.items (replied t.0 None) c.in-Some.last.now t.1 found in
-    let entry : ◌≡◌ {A = Entry} (entry_of c.in-Some.last.now.seat c.in-Ok-copy.command c.args.reply) (replied t.0 c.args.reply) =
-    ap (λ (q : Command). entry_of c.in-Some.last.now.seat q c.args.reply) c.in-Ok-copy.ensures ∙ ap (λ (f : Entry). replied f c.args.reply) last in
-    let legal : IsLegal o (s.note.entries ++ replied t.0 c.args.reply ∷ []) =
-    subst (λ (h : PublishedState). IsLegal h.origin (s.note.entries ++ replied t.0 c.args.reply ∷ [])) (sym c.self.view_is)
-    (c.requires.legal s.note.entries (replied t.0 None) (ap (λ (h : PublishedState). h.journal) (sym c.self.view_is) ∙ t.1)) in
+    let last : c.in-Some.last.now ≡ entry_with_reply t.0 None = last_found s.note.entries s.journal.items (entry_with_reply t.0 None) c.in-Some.last.now t.1 found in
+    let entry : ◌≡◌ {A = Entry} (entry_of c.in-Some.last.now.seat c.in-Ok-copy.command c.args.reply) (entry_with_reply t.0 c.args.reply) =
+    ap (λ (q : Command). entry_of c.in-Some.last.now.seat q c.args.reply) c.in-Ok-copy.ensures ∙ ap (λ (f : Entry). entry_with_reply f c.args.reply) last in
+    let legal : IsLegal o (s.note.entries ++ entry_with_reply t.0 c.args.reply ∷ []) =
+    subst (λ (h : PublishedState). IsLegal h.origin (s.note.entries ++ entry_with_reply t.0 c.args.reply ∷ [])) (sym c.self.view_is)
+    (c.requires.legal s.note.entries (entry_with_reply t.0 None) (ap (λ (h : PublishedState). h.journal) (sym c.self.view_is) ∙ t.1)) in
     let book : c.attempt_to_publish-left.result.note.book ≡ s.note.book = c.attempt_to_publish-left.ensures.book ∙ ap (λ (x : Beginning). x.book) c.copy-2.ensures in
     let of : c.into_writer-writer.result.desk.shown.value.origin ≡ o = rw c.into_writer-writer.ensures k.0.origin_is in
     let before = ap (λ (x : Beginning). x.entries) c.copy-2.ensures in
-    let whole : c.copy-2.result.entries ++ replied (entry_of c.in-Some.last.now.seat c.in-Ok-copy.command c.args.reply) None ∷ [] ≡ s.journal.items =
-    (λ j. before j ++ replied (entry j) None ∷ []) ∙ sym t.1 in
+    let whole : c.copy-2.result.entries ++ entry_with_reply (entry_of c.in-Some.last.now.seat c.in-Ok-copy.command c.args.reply) None ∷ [] ≡ s.journal.items =
+    (λ j. before j ++ entry_with_reply (entry j) None ∷ []) ∙ sym t.1 in
     let done = c.if-still.false in
-    let seen : c.attempt_to_publish-left.result.note.entries ≡ s.note.entries ++ replied t.0 c.args.reply ∷ [] =
+    let seen : c.attempt_to_publish-left.result.note.entries ≡ s.note.entries ++ entry_with_reply t.0 c.args.reply ∷ [] =
     rw done at c.attempt_to_publish-left.ensures.note ∙ (λ j. before j ++ entry j ∷ []) in
-    let items : c.put_reply.new.journal.items ≡ s.note.entries ++ replied t.0 c.args.reply ∷ [] = c.put_reply.ensures s.note.entries (replied t.0 None) t.1 in
+    let items : c.put_reply.new.journal.items ≡ s.note.entries ++ entry_with_reply t.0 c.args.reply ∷ [] = c.put_reply.ensures s.note.entries (entry_with_reply t.0 None) t.1 in
     let shown = rw of at c.attempt_to_publish-left.ensures.shown in
     let due = rw done at c.attempt_to_publish-left.ensures.due in
     rw (book, items) (
