@@ -1,1 +1,2 @@
+pub mod OpeningViews
 pub mod Openings

@@ -14,6 +14,8 @@ mod ends;
 #[cfg(test)]
 mod free;
 #[cfg(test)]
+mod inside;
+#[cfg(test)]
 mod moved;
 #[cfg(test)]
 mod replay;

@@ -28,8 +28,8 @@ abbrev genesis : Block
 genesis = names.genesis
 
 -- with this header but for its time, and these transactions
-abbrev timed : ℕ → List Tx → Block
-timed time txs = record { header = record block.header { version = pos 4; time = time }; txs = txs }
+abbrev block_of_time : ℕ → List Tx → Block
+block_of_time time txs = record { header = record block.header { version = pos 4; time = time }; txs = txs }
 
 -- ---- where a block stands
 
@@ -46,7 +46,7 @@ on_genesis = refl
 
 -- of two times the later one is in the middle; the times needn't rise
 pub on_two_more :
-    setting_on (record { bip34 = 2; bip65 = 3; bip66 = 4; csv = 5 }) (timed 1296688800 [] ∷ timed 1296689000 [] ∷ genesis ∷ [])
+    setting_on (record { bip34 = 2; bip65 = 3; bip66 = 4; csv = 5 }) (block_of_time 1296688800 [] ∷ block_of_time 1296689000 [] ∷ genesis ∷ [])
     ≡ record {
       height = 3;
       cutoff = 1296688800;
@@ -73,23 +73,23 @@ locked_until time = record {
   lock_time = time;
 }
 
-pub time_of_the_median : fault_at (with_csv_from 1) 1296688602 (timed 1296688602 []) ≡ Some TimeTooOld
+pub time_of_the_median : fault_at (with_csv_from 1) 1296688602 (block_of_time 1296688602 []) ≡ Some TimeTooOld
 unfolding median_time_past median_of is_middle
 time_of_the_median = refl
 
-pub two_hours_and_a_second_ahead : fault_at (with_csv_from 1) 1296688602 (timed 1296695803 []) ≡ Some TimeTooNew
+pub two_hours_and_a_second_ahead : fault_at (with_csv_from 1) 1296688602 (block_of_time 1296695803 []) ≡ Some TimeTooNew
 unfolding median_time_past median_of is_middle
 two_hours_and_a_second_ahead = refl
 
-pub no_height_in_the_coinbase : fault_at (with_csv_from 1) 1296688602 (timed 1296695802 []) ≡ Some CoinbaseHeight
+pub no_height_in_the_coinbase : fault_at (with_csv_from 1) 1296688602 (block_of_time 1296695802 []) ≡ Some CoinbaseHeight
 unfolding median_time_past median_of is_middle height_push
 no_height_in_the_coinbase = refl
 
 -- with BIP 113 the lock time has to lie below the median, and else below the block's own time
-pub locked_until_the_median : fault_at (with_csv_from 1) 1296688602 (timed 1296688603 (locked_until 1296688602 ∷ [])) ≡ Some NonFinal
+pub locked_until_the_median : fault_at (with_csv_from 1) 1296688602 (block_of_time 1296688603 (locked_until 1296688602 ∷ [])) ≡ Some NonFinal
 unfolding median_time_past median_of is_middle is_final
 locked_until_the_median = refl
 
-pub locked_until_the_median_before_bip113 : fault_at (with_csv_from 2) 1296688602 (timed 1296688603 (locked_until 1296688602 ∷ [])) ≡ None
+pub locked_until_the_median_before_bip113 : fault_at (with_csv_from 2) 1296688602 (block_of_time 1296688603 (locked_until 1296688602 ∷ [])) ≡ None
 unfolding median_time_past median_of is_middle is_final height_push
 locked_until_the_median_before_bip113 = refl

@@ -1,0 +1,164 @@
+//! A reader that stays inside a view: the next publication but one waits for it, and no reader does.
+//!
+//! No public call of a node holds a reader inside, so the view is opened here by itself.
+
+ghost use Rattle.std.specs.Prelude.{◌≡◌, [], IfOk, drop};
+ghost use Rattle.view.specs.ViewState.{IsExact};
+
+use activate::Core;
+use node::{Params, Table};
+use std::alloc::Global;
+use std::process::Abort;
+use std::sync::atomic::Ordering::SeqCst;
+use std::sync::atomic::{AtomicBool, AtomicU64};
+use std::sync::{Arc, Wait};
+use std::test::Fail;
+use std::thread::{Threads, join, yield_now};
+use view::{
+    ChainInfo, Hub, Note, Tips, View, ViewReader, ViewWriter, another_reader, enter, open_writer,
+    publish_opening,
+};
+use wire::Memory;
+
+/// How often a thread looks at what another does.
+const MANY: u32 = 10_000_000;
+
+/// How often other readers come and go while one stays inside.
+const OTHERS: u32 = 1_000;
+
+/// What the threads tell each other.
+#[derive(Drop)]
+struct Told {
+    is_inside: AtomicBool,
+    published: AtomicU64,
+}
+
+impl Told {
+    /// Waits until the reader is inside: whether it came.
+    fn wait_for_the_reader(&self) -> bool {
+        for _ in 0..MANY {
+            if self.is_inside.load(SeqCst) {
+                return true;
+            }
+            yield_now();
+        }
+        false
+    }
+
+    /// Waits until something is published: whether it was.
+    fn wait_for_the_writer(&self) -> bool {
+        for _ in 0..MANY {
+            if self.published.load(SeqCst) > 0 {
+                return true;
+            }
+            yield_now();
+        }
+        false
+    }
+}
+
+/// Best block, height and tips of genesis alone.
+fn opening_info(alloc: Global, core: &Core) -> Result<ChainInfo, Memory> {
+    let tips = core.tips(alloc)?;
+    Ok(ChainInfo {
+        best: core.best(),
+        height: core.height(),
+        tips: Tips::from_vec(alloc, tips)?,
+    })
+}
+
+/// A writer over two opening views.
+fn open_views(alloc: Global) -> Result<ViewWriter, Memory>
+    ensures exact { IfOk result (λ w. IsExact w.desk.shown.value) }
+    ensures pending { IfOk result (λ w. drop w.behind w.log.items ≡ []) }
+{
+    let params = Params::regtest();
+    let table = Arc::new(alloc, Table::new(alloc))?;
+    let core = Core::with(alloc, params)?;
+    let info = opening_info(alloc, &core)?;
+    let same = info.clone()?;
+    let (counter, note) = Note::open();
+    let other = Arc::try_clone(&table)?;
+    let first = View::new(alloc, params, table, 1, note.copy(), info);
+    let second = View::new(alloc, params, other, 1, note.copy(), same);
+    open_writer(alloc, first, second, 2)
+}
+
+/// A reader that stays inside, and another one.
+fn two_readers(writer: &mut ViewWriter) -> Option<(ViewReader, ViewReader)>
+    ensures shown { writer.new.desk.shown ≡ writer.old.desk.shown }
+    ensures pending { drop writer.new.behind writer.new.log.items
+        ≡ drop writer.old.behind writer.old.log.items }
+{
+    let first = another_reader(writer).ok()?;
+    let second = another_reader(writer).ok()?;
+    Some((first, second))
+}
+
+/// Publishes twice, as soon as the reader is inside, and lets the views go.
+fn publish_twice<R: Wait>(rt: &R, writer: ViewWriter, told: &Told) -> bool
+    requires exact { IsExact writer.desk.shown.value }
+    requires pending { drop writer.behind writer.log.items ≡ [] }
+{
+    let has_come = told.wait_for_the_reader();
+    let Some(writer) = publish_opening(rt, writer) else {
+        return false;
+    };
+    told.published.store(1, SeqCst);
+    let Some(writer) = publish_opening(rt, writer) else {
+        return false;
+    };
+    told.published.store(2, SeqCst);
+    drop(writer.take(rt));
+    has_come
+}
+
+/// Enters, and leaves when another reader has come and gone many times: how often was published meanwhile.
+fn stay_inside(first: ViewReader, second: ViewReader, told: &Told) -> Option<u64> {
+    let inside = enter(first).ok()?;
+    told.is_inside.store(true, SeqCst);
+    let has_come = told.wait_for_the_writer();
+    let others = come_and_go(second);
+    let published = told.published.load(SeqCst);
+    drop(inside.leave());
+    (has_come && others == OTHERS).then_some(published)
+}
+
+/// How often a reader came and went.
+fn come_and_go(reader: ViewReader) -> u32 {
+    let mut reader = reader;
+    for done in 0..OTHERS {
+        match enter(reader) {
+            Ok(inside) => reader = inside.leave(),
+            Err(_) => return done,
+        }
+        yield_now();
+    }
+    OTHERS
+}
+
+/// While a reader is inside, one publication ends and the next one doesn't, and another reader comes and goes. When it
+/// has left, that one ends too.
+#[test]
+fn a_reader_that_stays(rt: HostRuntime) -> Result<(), Fail> {
+    expect_waiting(&rt)
+}
+
+fn expect_waiting<R: AllocGlobal + Threads + Wait + Sync + Abort>(rt: &R) -> Result<(), Fail> {
+    let told = Told {
+        is_inside: AtomicBool::new(false),
+        published: AtomicU64::new(0),
+    };
+    let mut writer = open_views(rt.alloc())?;
+    let Some((first, second)) = two_readers(&mut writer) else {
+        drop(writer.take(rt));
+        return Err(Memory.into());
+    };
+    let writing = || publish_twice(rt, writer, &told);
+    let reading = || stay_inside(first, second, &told);
+    let (has_published, published) = join(rt, writing, reading);
+    assert!(rt; has_published);
+    assert_eq!(rt; published, Some(1));
+    assert_eq!(rt; told.published.load(SeqCst), 2);
+    Ok(())
+}
