@@ -15,10 +15,11 @@ ghost use Rattle.connect.specs.Faults.{overwrites, fees, turn_rules, connect_rul
 ghost use Rattle.connect.specs.Scripts.{IsConnectFault};
 ghost use Rattle.connect.specs.Connecting.{IsConnected};
 ghost use Rattle.connect.specs.inside.Turns.{IsReason, IsLawful};
+ghost use Rattle.connect.specs.declared.lookups.Lookup.TheVariants.{Above};
 
 use crate::amounts::paid;
 use crate::context::{Context, Env};
-use crate::lookups::overwrites;
+use crate::lookups::{Lookup, overwrites};
 use crate::scripts::first_refused;
 use crate::stop::Stop;
 use crate::turn::connect_tx;
@@ -60,55 +61,120 @@ pub fn connect<B: Base, C: Crew>(
     ensures kept { IfOk result (λ answer. OnErr answer (cache.new ≡ cache.old)) }
     ensures err { OnErr result (cache.new ≡ cache.old) }
 {
-    match attempt(alloc, &*cache, context, block, ids) {
-        Err(Stop::Broken(reason)) => Ok(Err(reason)),
-        Err(Stop::Memory) => Err(Memory),
+    match attempt(alloc, &*cache, context, block, ids, env, gate)? {
+        Err(reason) => Ok(Err(reason)),
         Ok((undo, writes)) => {
-            let others = &block.txs.as_slice()[1..];
-            let rules = context.params.at(context.height);
-            if let Some(reason) = first_refused(alloc, others, &undo, rules, env, gate)? {
-                return Ok(Err(reason));
-            }
             cache.absorb(writes)?;
             Ok(Ok(undo))
         }
     }
 }
 
-/// What a block that breaks no rule but those of scripts spends, and what it writes on a layer over these coins.
-fn attempt<B: Base>(
+/// The first rule that a block breaks, or else what it spends, and what it writes on a layer over these coins.
+fn attempt<B: Base, C: Crew>(
     alloc: Global,
     base: &B,
     context: &Context,
     block: &Block,
     ids: &[Id],
-) -> Result<(BlockUndo, Writes), Stop>
+    env: &Env<'_, C>,
+    gate: &(dyn Gate + Sync),
+) -> Result<Result<(BlockUndo, Writes), Reason>, Memory>
     requires alone { first_broken (alone_rules block.now) ≡ None }
     requires ids { ids.now ≡ ids_of block.now.txs }
-    ensures fault { IfErr result (IsReason (first_broken
-        (connect_rules (setting context.now) (B.coins base.now) block.now.txs))) }
-    ensures none { OnOk result (first_broken
-        (connect_rules (setting context.now) (B.coins base.now) block.now.txs) ≡ None) }
-    ensures undo { IfOk result (λ done. done.0 ≡
-        undo_of context.now.height (B.coins base.now) block.now.txs) }
-    ensures sound { IfOk result (λ done. IsSound (B.coins base.now) done.1) }
-    ensures over { IfOk result (λ done. over (B.coins base.now) done.1 ≡
-        effect context.now.height (B.coins base.now) block.now.txs) }
+    ensures fault { IfOk result (λ answer.
+        IsConnectFault (setting context.now) (B.coins base.now) block.now.txs env.now.table.now
+        (result_err answer)) }
+    ensures sound { IfOk result (λ answer. IfOk answer (λ done.
+        IsSound (B.coins base.now) done.1)) }
+    ensures over { IfOk result (λ answer. IfOk answer (λ done. over (B.coins base.now) done.1 ≡
+        effect context.now.height (B.coins base.now) block.now.txs)) }
+    ensures connected { IfOk result (λ answer. IfOk answer (λ done.
+        IsConnected (setting context.now) (B.coins base.now) block.now
+        (over (B.coins base.now) done.1) done.0)) }
 {
     let layer = Cache::over(alloc, base);
-    let (layer, undo) = connect_txs(alloc, layer, context, block.txs.as_slice(), ids)?;
-    Ok((undo, layer.into_writes()))
+    match connect_block(alloc, layer, context, block, ids, env, gate, Lookup::Above)? {
+        Err(reason) => Ok(Err(reason)),
+        Ok((layer, undo)) => Ok(Ok((undo, layer.into_writes()))),
+    }
 }
 
-/// Tests and applies the transactions of a block, on a layer that wrote nothing yet.
+/// The same as [`connect`] in a layer that is the caller's own, on which other blocks may have written before. It is
+/// given back where the block connects, with what that spent, and dropped at a reason or want of memory.
+pub fn connect_in_layer<'b, B: Base, C: Crew>(
+    alloc: Global,
+    layer: Cache<'b, B>,
+    context: &Context,
+    block: &Block,
+    ids: &[Id],
+    env: &Env<'_, C>,
+    gate: &(dyn Gate + Sync),
+) -> Result<Result<(Cache<'b, B>, BlockUndo), Reason>, Memory>
+    // It breaks no rule by itself.
+    requires alone { first_broken (alone_rules block.now) ≡ None }
+    requires ids { ids.now ≡ ids_of block.now.txs }
+    ensures fault { IfOk result (λ answer.
+        IsConnectFault (setting context.now) layer.entry.coins block.now.txs env.now.table.now
+        (result_err answer)) }
+    ensures coins { let m = layer.entry.coins in
+        IfOk result (λ answer. IfOk answer (λ done. done.0 ≡
+        record layer.entry { coins = effect context.now.height m block.now.txs })) }
+    // With its undo it can be taken back by `disconnect_in_layer`.
+    ensures connected { IfOk result (λ answer. IfOk answer (λ done.
+        IsConnected (setting context.now) layer.entry.coins block.now done.0.coins done.1)) }
+{
+    connect_block(alloc, layer, context, block, ids, env, gate, Lookup::Whole)
+}
+
+/// Connects a block in a layer, and looks for the outputs of its transactions there.
+fn connect_block<'b, B: Base, C: Crew>(
+    alloc: Global,
+    layer: Cache<'b, B>,
+    context: &Context,
+    block: &Block,
+    ids: &[Id],
+    env: &Env<'_, C>,
+    gate: &(dyn Gate + Sync),
+    lookup: Lookup,
+) -> Result<Result<(Cache<'b, B>, BlockUndo), Reason>, Memory>
+    requires alone { first_broken (alone_rules block.now) ≡ None }
+    requires ids { ids.now ≡ ids_of block.now.txs }
+    requires fresh { lookup ≡ Above → layer.coins ≡ layer.base }
+    ensures fault { IfOk result (λ answer.
+        IsConnectFault (setting context.now) layer.entry.coins block.now.txs env.now.table.now
+        (result_err answer)) }
+    ensures coins { let m = layer.entry.coins in
+        IfOk result (λ answer. IfOk answer (λ done. done.0 ≡
+        record layer.entry { coins = effect context.now.height m block.now.txs })) }
+    ensures connected { IfOk result (λ answer. IfOk answer (λ done.
+        IsConnected (setting context.now) layer.entry.coins block.now done.0.coins done.1)) }
+{
+    match connect_txs(alloc, layer, context, block.txs.as_slice(), ids, lookup) {
+        Err(Stop::Broken(reason)) => Ok(Err(reason)),
+        Err(Stop::Memory) => Err(Memory),
+        Ok((layer, undo)) => {
+            let others = &block.txs.as_slice()[1..];
+            let rules = context.params.at(context.height);
+            if let Some(reason) = first_refused(alloc, others, &undo, rules, env, gate)? {
+                return Ok(Err(reason));
+            }
+            Ok(Ok((layer, undo)))
+        }
+    }
+}
+
+/// Tests and applies the transactions of a block. Where outputs are looked for above the layer's base alone, it wrote
+/// nothing yet.
 fn connect_txs<'b, B: Base>(
     alloc: Global,
     layer: Cache<'b, B>,
     context: &Context,
     txs: &[Tx],
     ids: &[Id],
+    lookup: Lookup,
 ) -> Result<(Cache<'b, B>, BlockUndo), Stop>
-    requires fresh { layer.coins ≡ layer.base }
+    requires fresh { lookup ≡ Above → layer.coins ≡ layer.base }
     requires some { 1 ≤ length txs.now }
     requires few { length txs.now ≤ 1000000 }
     requires lawful { AllByRecursion IsLawful txs.now }
@@ -126,7 +192,7 @@ fn connect_txs<'b, B: Base>(
     if is_overwriting(&layer, txs, ids) {
         return Err(Stop::Broken(Reason::OverwritesCoin));
     }
-    let coinbase = connect_tx(alloc, layer, context, &txs[0], ids[0], 0)?;
+    let coinbase = connect_tx(alloc, layer, context, &txs[0], ids[0], 0, lookup)?;
     let others = connect_others(
         alloc,
         coinbase.layer,
@@ -134,6 +200,7 @@ fn connect_txs<'b, B: Base>(
         &txs[1..],
         &ids[1..],
         coinbase.passed.counted,
+        lookup,
     )?;
     if is_overpaid(context.height, others.fees, txs[0].outputs.as_slice()) {
         return Err(Stop::Broken(Reason::CoinbaseAmount));
@@ -172,12 +239,13 @@ fn connect_others<'b, B: Base>(
     txs: &[Tx],
     ids: &[Id],
     counted: u128,
+    lookup: Lookup,
 ) -> Result<Others<'b, B>, Stop>
     requires few { length txs.now ≤ 1000000 }
     requires lawful { AllByRecursion IsLawful txs.now }
     requires ids { ids.now ≡ ids_of txs.now }
     requires counted { counted ≤ max_block_sigops }
-    requires below { list_any (overwrites layer.base) txs.now ≡ false }
+    requires below { lookup ≡ Above → list_any (overwrites layer.base) txs.now ≡ false }
     ensures fault { let ts = turns context.now.height layer.entry.coins counted txs.now in
         IfErr result (IsReason (first_broken (flat_map (turn_rules (setting context.now)) ts))) }
     ensures none { let ts = turns context.now.height layer.entry.coins counted txs.now in
@@ -196,7 +264,15 @@ fn connect_others<'b, B: Base>(
     let mut fees = 0;
     let mut so_far = counted;
     for index in 0..txs.len() {
-        let turned = connect_tx(alloc, layer, context, &txs[index], ids[index], so_far)?;
+        let turned = connect_tx(
+            alloc,
+            layer,
+            context,
+            &txs[index],
+            ids[index],
+            so_far,
+            lookup,
+        )?;
         layer = turned.layer;
         undo.push(turned.spent)?;
         fees += turned.passed.fee;

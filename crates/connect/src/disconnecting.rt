@@ -37,6 +37,26 @@ pub fn disconnect<B: Base>(
     cache.absorb(writes)
 }
 
+/// The same as [`disconnect`] in a layer that is the caller's own, which is given back where the block was taken back:
+/// at want of memory, when part of it may be, it is dropped.
+pub fn disconnect_in_layer<'b, B: Base>(
+    alloc: Global,
+    layer: Cache<'b, B>,
+    block: &Block,
+    ids: &[Id],
+    undo: &BlockUndo,
+) -> Result<Cache<'b, B>, Memory>
+    requires ids { ids.now ≡ ids_of block.now.txs }
+    // Coins and undo are those that connecting it left.
+    requires connected { (s : Setting) × (before : Coins) ×
+        IsConnected s before block.now layer.coins undo.now }
+    ensures { (s : Setting) (before : Coins) →
+        IsConnected s before block.now layer.entry.coins undo.now →
+        IfOk result (λ left. left ≡ record layer.entry { coins = before }) }
+{
+    revert_txs(alloc, layer, block.txs.as_slice(), ids, undo)
+}
+
 /// What taking transactions back writes, on a layer over these coins.
 fn writes_back<B: Base>(
     alloc: Global,

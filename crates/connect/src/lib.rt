@@ -15,8 +15,8 @@ mod stop;
 mod turn;
 
 pub use applying::apply;
-pub use connecting::connect;
+pub use connecting::{connect, connect_in_layer};
 pub use context::{Context, Env};
-pub use disconnecting::disconnect;
+pub use disconnecting::{disconnect, disconnect_in_layer};
 pub use early::{early_jobs, script_flags};
 pub use turn::COINBASE_MATURITY;

@@ -14,11 +14,12 @@ ghost use Rattle.connect.specs.Turns.{turn, left_by, spent_in, plain_count, full
 ghost use Rattle.connect.specs.Faults.{is_immature, lock_start, fee, overwrites, turn_rules};
 ghost use Rattle.connect.specs.inside.Turns.{HasFound, IsReason, IsLawful};
 ghost use Rattle.connect.specs.laws.Broken.{UpToAmount, UpToCount};
+ghost use Rattle.connect.specs.declared.lookups.Lookup.TheVariants.{Above};
 
 use crate::amounts::{paid, worth};
 use crate::context::Context;
 use crate::counts::inner_sigops;
-use crate::lookups::overwrites_above;
+use crate::lookups::{Lookup, overwrites_in_turn};
 use crate::stop::Stop;
 use coins::{Base, Cache, Coin};
 use hash::Id;
@@ -58,8 +59,7 @@ pub(crate) struct Turned<'b, B: Base> {
     pub passed: Passed,
 }
 
-/// Tests and applies a transaction, after others that counted so many signature operations. None of its outputs is a
-/// coin below the layer.
+/// Tests and applies a transaction, after others that counted so many signature operations.
 pub(crate) fn connect_tx<'b, B: Base>(
     alloc: Global,
     layer: Cache<'b, B>,
@@ -67,11 +67,12 @@ pub(crate) fn connect_tx<'b, B: Base>(
     tx: &Tx,
     id: Id,
     counted: u128,
+    lookup: Lookup,
 ) -> Result<Turned<'b, B>, Stop>
     requires lawful { IsLawful tx.now }
     requires id { id ≡ id_of tx.now }
     requires counted { counted ≤ max_block_sigops }
-    requires below { overwrites layer.base tx.now ≡ false }
+    requires below { lookup ≡ Above → overwrites layer.base tx.now ≡ false }
     ensures fault { let t = turn tx.now layer.entry.coins counted in
         IfErr result (IsReason (first_broken (turn_rules (setting context.now) t))) }
     ensures none { let t = turn tx.now layer.entry.coins counted in
@@ -90,7 +91,7 @@ pub(crate) fn connect_tx<'b, B: Base>(
     ensures few { IfOk result (λ done. done.passed.counted ≤ max_block_sigops) }
 {
     // Asked before its inputs are taken: one may spend what stands where an output is to come.
-    let overwriting = overwrites_above(&layer, tx, id);
+    let overwriting = overwrites_in_turn(&layer, tx, id, lookup);
     let Taken {
         layer,
         spent,

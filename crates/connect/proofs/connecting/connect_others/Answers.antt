@@ -36,13 +36,13 @@ returns-in_err-turned-clause-fault g c =
     search rules
 
 pub connect_tx-requires-clause-below : goal.connect_tx-requires-clause-below
-connect_tx-requires-clause-below g c =
+connect_tx-requires-clause-below g c = λ above.
     let b = c.loop-index.layer.base in
     let xs = c.args.txs.now in
     let i = c.loop-index.index in
     let x = c.index-txs-index.result in
     let item = drop_item xs i x (omega arith) c.index-txs-index.is in
-    (neither (overwrites b x) (list_any (overwrites b) (drop (i + 1) xs)) (sym (ap (list_any (overwrites b)) item) ∙ c.loop-index.invariant.below)).0
+    (neither (overwrites b x) (list_any (overwrites b) (drop (i + 1) xs)) (sym (ap (list_any (overwrites b)) item) ∙ c.loop-index.invariant.below above)).0
 
 pub overflow_add-fees : goal.overflow_add-fees
 overflow_add-fees g c =
@@ -79,8 +79,8 @@ loop-index-preserved g c =
     let sum : to_z w128 (of_z w128 (to_z w128 c.loop-index.fees-bits +ℤ to_z w128 (of_z w128 c.in_ok-turned.turned.passed.fee))) ≡ to_z w128 c.loop-index.fees-bits +ℤ fee t = omega (arith, ints, done.fee, done.low, done.high) in
     record {
       base = ap (λ (l : Layer). l.base) done.layer ∙ c.loop-index.invariant.base;
-      below = ap (λ (l : Layer). list_any (overwrites l.base) rest) done.layer
-          ∙ (neither (overwrites c.loop-index.layer.base x) (list_any (overwrites c.loop-index.layer.base) rest) (sym (ap (list_any (overwrites c.loop-index.layer.base)) item) ∙ c.loop-index.invariant.below)).1;
+      below = λ above. ap (λ (l : Layer). list_any (overwrites l.base) rest) done.layer
+          ∙ (neither (overwrites c.loop-index.layer.base x) (list_any (overwrites c.loop-index.layer.base) rest) (sym (ap (list_any (overwrites c.loop-index.layer.base)) item) ∙ c.loop-index.invariant.below above)).1;
       lawful = (subst (λ (l : List Tx). AllByRecursion IsLawful l) item c.loop-index.invariant.lawful).1;
       ids = ap (drop (i + 1)) c.requires.ids ∙ drop-map id_of (i + 1) xs;
       rules = sym (ap (λ (l : List Turn). first_broken (flat_map (turn_rules s) l)) turns_here ∙ past (turn_rules s t) (flat_map (turn_rules s) later) done.none) ∙ c.loop-index.invariant.rules;

@@ -7,12 +7,13 @@ use Rattle.connect.specs.Setting.{setting}
 use Rattle.connect.specs.Turns.{spent_in, turns, effect}
 use Rattle.connect.specs.Faults.{fee, fees, overwrites, turn_rules}
 use Rattle.connect.specs.inside.Turns.{IsLawful}
+use Rattle.connect.specs.declared.lookups.Lookup.TheVariants.{Above}
 use Rattle.connect.proofs.connecting.connect_others.Given as goal
 
 abbrev pub invariant-loop-index : goal.invariant-loop-index
 invariant-loop-index g l = record {
   base : l.layer.base ≡ l.initial.layer.base;
-  below : list_any (overwrites l.layer.base) (drop l.index l.txs) ≡ false;
+  below : l.lookup ≡ Above → list_any (overwrites l.layer.base) (drop l.index l.txs) ≡ false;
   lawful : AllByRecursion IsLawful (drop l.index l.txs);
   ids : drop l.index l.ids ≡ ids_of (drop l.index l.txs);
   rules : first_broken (flat_map (turn_rules (setting l.context)) (turns l.context.height l.layer.coins l.so_far (drop l.index l.txs)))

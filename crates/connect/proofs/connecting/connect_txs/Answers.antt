@@ -26,23 +26,23 @@ returns-then-is_overwriting-clause-fault g c =
     at_clash s m xs (sym c.is_overwriting.ensures ∙ c.if-is_overwriting.true)
 
 pub connect_tx-requires-clause-below : goal.connect_tx-requires-clause-below
-connect_tx-requires-clause-below g c =
+connect_tx-requires-clause-below g c = λ above.
     let b = c.args.layer.base in
     let xs = c.args.txs.now in
     let x = c.index-txs-0.result in
     let rest = take (length xs - 1) (drop 1 xs) in
     let parts : xs ≡ x ∷ rest = drop_item xs 0 x c.requires.some c.index-txs-0.is ∙ ap (λ (l : List Tx). x ∷ l) (sym (tail_of xs)) in
-    let new : list_any (overwrites b) xs ≡ false = ap (λ (m : Coins). list_any (overwrites m) xs) (sym c.requires.fresh) ∙ sym c.is_overwriting.ensures ∙ c.if-is_overwriting.false in
+    let new : list_any (overwrites b) xs ≡ false = ap (λ (m : Coins). list_any (overwrites m) xs) (sym (c.requires.fresh above)) ∙ sym c.is_overwriting.ensures ∙ c.if-is_overwriting.false in
     (neither (overwrites b x) (list_any (overwrites b) rest) (sym (ap (list_any (overwrites b)) parts) ∙ new)).0
 
 pub connect_others-requires-clause-below : goal.connect_others-requires-clause-below
-connect_others-requires-clause-below g c =
+connect_others-requires-clause-below g c = λ above.
     let b = c.args.layer.base in
     let xs = c.args.txs.now in
     let x = c.index-txs-0.result in
     let rest = take (length xs - 1) (drop 1 xs) in
     let parts : xs ≡ x ∷ rest = drop_item xs 0 x c.requires.some c.index-txs-0.is ∙ ap (λ (l : List Tx). x ∷ l) (sym (tail_of xs)) in
-    let new : list_any (overwrites b) xs ≡ false = ap (λ (m : Coins). list_any (overwrites m) xs) (sym c.requires.fresh) ∙ sym c.is_overwriting.ensures ∙ c.if-is_overwriting.false in
+    let new : list_any (overwrites b) xs ≡ false = ap (λ (m : Coins). list_any (overwrites m) xs) (sym (c.requires.fresh above)) ∙ sym c.is_overwriting.ensures ∙ c.if-is_overwriting.false in
     ap (λ (l : Layer). list_any (overwrites l.base) rest) c.in_ok-coinbase.ensures.layer
     ∙ (neither (overwrites b x) (list_any (overwrites b) rest) (sym (ap (list_any (overwrites b)) parts) ∙ new)).1
 

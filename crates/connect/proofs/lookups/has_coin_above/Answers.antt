@@ -1,8 +1,6 @@
-use Rattle.std.proofs.Common.{rules, ◌≡◌, ◌+◌, ◌-◌, ◌||◌, suc, Bool, true, false, List, None, Option, map, refl, sym, ap, ◌∙◌, arith}
-use Rattle.std.specs.Prelude.{is_some}
+use Rattle.std.proofs.Common.{rules, ◌≡◌, ◌+◌, ◌-◌, ◌||◌, suc, false, map, sym, ap, ◌∙◌, arith}
 use Rattle.std.specs.List.{list_any, range_with_len}
 use Rattle.std.specs.FinMap as coin_map
-use Rattle.txn.specs.declared.outpoint.OutPoint.{OutPoint}
 use Rattle.undo.specs.Effect.{place}
 use Rattle.connect.specs.Faults.{has_coin}
 use Rattle.connect.proofs.Steps.{neither, none_of}

@@ -48,7 +48,7 @@ returns-then-overwriting-clause-fault g c =
     subst (λ (l : List Coin). HasFound s tx m n l) (sym c.as_slice-coins.ensures) (c.in_ok-layer.ensures.found s) in
     let plain : c.in_ok-layer.field-0.plain ≡ plain_count (turn tx m n) = c.in_ok-layer.ensures.plain in
     let enough = c.in-Ok.ensures.enough m n found in
-    at_clash s (turn tx m n) (c.in_ok-counted.ensures.count m n found enough plain) (sym c.overwrites_above-overwriting.ensures ∙ c.if-overwriting.true)
+    at_clash s (turn tx m n) (c.in_ok-counted.ensures.count m n found enough plain) (sym c.overwrites_in_turn-overwriting.ensures ∙ c.if-overwriting.true)
 
 pub add_outputs-requires : goal.add_outputs-requires
 add_outputs-requires g c =
@@ -61,7 +61,7 @@ add_outputs-requires g c =
     subst (λ (l : List Coin). HasFound s tx m n l) (sym c.as_slice-coins.ensures) (c.in_ok-layer.ensures.found s) in
     let plain : c.in_ok-layer.field-0.plain ≡ plain_count (turn tx m n) = c.in_ok-layer.ensures.plain in
     let enough = c.in-Ok.ensures.enough m n found in
-    let none = none_broken s t (record { count = c.in_ok-counted.ensures.count m n found enough plain; new = sym c.overwrites_above-overwriting.ensures ∙ c.if-overwriting.false }) in
+    let none = none_broken s t (record { count = c.in_ok-counted.ensures.count m n found enough plain; new = sym c.overwrites_in_turn-overwriting.ensures ∙ c.if-overwriting.false }) in
     let can : IsApplicable m tx c.args.id = subst (λ (id : Id). IsApplicable m tx id) (sym c.requires.id) (applies s t c.requires.lawful none) in
     (m, can, ap (λ (l : Layer). l.coins) c.in_ok-layer.ensures.layer)
 
@@ -75,7 +75,7 @@ returns-clause-none g c =
     subst (λ (l : List Coin). HasFound s tx m n l) (sym c.as_slice-coins.ensures) (c.in_ok-layer.ensures.found s) in
     let plain : c.in_ok-layer.field-0.plain ≡ plain_count (turn tx m n) = c.in_ok-layer.ensures.plain in
     let enough = c.in-Ok.ensures.enough m n found in
-    none_broken s (turn tx m n) (record { count = c.in_ok-counted.ensures.count m n found enough plain; new = sym c.overwrites_above-overwriting.ensures ∙ c.if-overwriting.false })
+    none_broken s (turn tx m n) (record { count = c.in_ok-counted.ensures.count m n found enough plain; new = sym c.overwrites_in_turn-overwriting.ensures ∙ c.if-overwriting.false })
 
 pub returns-clause-layer : goal.returns-clause-layer
 returns-clause-layer g c =
@@ -88,7 +88,7 @@ returns-clause-layer g c =
     subst (λ (l : List Coin). HasFound s tx m n l) (sym c.as_slice-coins.ensures) (c.in_ok-layer.ensures.found s) in
     let plain : c.in_ok-layer.field-0.plain ≡ plain_count (turn tx m n) = c.in_ok-layer.ensures.plain in
     let enough = c.in-Ok.ensures.enough m n found in
-    let none = none_broken s t (record { count = c.in_ok-counted.ensures.count m n found enough plain; new = sym c.overwrites_above-overwriting.ensures ∙ c.if-overwriting.false }) in
+    let none = none_broken s t (record { count = c.in_ok-counted.ensures.count m n found enough plain; new = sym c.overwrites_in_turn-overwriting.ensures ∙ c.if-overwriting.false }) in
     let can : IsApplicable m tx c.args.id = subst (λ (id : Id). IsApplicable m tx id) (sym c.requires.id) (applies s t c.requires.lawful none) in
     c.in_ok-layer-2.ensures m can (ap (λ (l : Layer). l.coins) c.in_ok-layer.ensures.layer)
     ∙ (λ i. record { base = (c.in_ok-layer.ensures.layer i).base; coins = after m tx (c.requires.id i) c.args.context.now.height })

@@ -1,60 +1,74 @@
 use Rattle.std.proofs.Common.{◌≡◌, ◌≤◌, ◌-◌, List, length, take, drop, sum_by, Some, None, sym, ap, ap₂, subst, ◌∙◌, arith}
-use Rattle.std.specs.List.{AllZip}
+use Rattle.std.specs.List.{AllByRecursion, AllZip}
 use Rattle.txn.specs.declared.tx.Tx.{Tx}
+use Rattle.txn.specs.First.{first_broken}
 use Rattle.coins.specs.declared.coin.Coin.{Coin}
-use Rattle.coins.specs.Coins.{Layer}
 use Rattle.rules.specs.declared.in_force.InForce.{InForce}
 use Rattle.connect.specs.Setting.{setting}
 use Rattle.connect.specs.Turns.{undo_of}
+use Rattle.connect.specs.Faults.{connect_rules}
 use Rattle.connect.specs.Scripts.{Check, flags_of, script_checks, IsFirstRefused}
 use Rattle.connect.specs.inside.Listing.{checks_from}
+use Rattle.connect.specs.inside.Turns.{IsLawful}
 use Rattle.connect.specs.laws.Alone.{lawful_block}
 use Rattle.connect.proofs.Steps.{tail_of}
 use Rattle.connect.proofs.Whole.{Fits, lawful_coinbase_first, block_fits, block_few, block_checks, fault_is}
-use Rattle.connect.proofs.connecting.connect.Goals as goal
+use Rattle.connect.proofs.connecting.connect_block.Goals as goal
+
+pub connect_txs-requires-clause-some : goal.connect_txs-requires-clause-some
+connect_txs-requires-clause-some g c =
+    subst (λ (l : List Tx). 1 ≤ length l) (sym c.as_slice.ensures) (lawful_block c.args.block.now c.requires.alone).some
+
+pub connect_txs-requires-clause-few : goal.connect_txs-requires-clause-few
+connect_txs-requires-clause-few g c =
+    subst (λ (l : List Tx). length l ≤ 1000000) (sym c.as_slice.ensures) (lawful_block c.args.block.now c.requires.alone).few
+
+pub connect_txs-requires-clause-lawful : goal.connect_txs-requires-clause-lawful
+connect_txs-requires-clause-lawful g c =
+    subst (λ (l : List Tx). AllByRecursion IsLawful l) (sym c.as_slice.ensures) (lawful_block c.args.block.now c.requires.alone).lawful
 
 pub slice_bounds-others-count : goal.slice_bounds-others-count
 slice_bounds-others-count g c =
-    subst (λ (l : List Tx). 1 ≤ length l) (sym c.as_slice.ensures) (lawful_block c.args.block.now c.requires.alone).some
+    subst (λ (l : List Tx). 1 ≤ length l) (sym c.as_slice-in-Ok.ensures) (lawful_block c.args.block.now c.requires.alone).some
 
 pub slice_bounds-others-start : goal.slice_bounds-others-start
 slice_bounds-others-start g c =
-    subst (λ (l : List Tx). 1 ≤ length l) (sym c.as_slice.ensures) (lawful_block c.args.block.now c.requires.alone).some
+    subst (λ (l : List Tx). 1 ≤ length l) (sym c.as_slice-in-Ok.ensures) (lawful_block c.args.block.now c.requires.alone).some
 
 pub first_refused-requires-clause-alike : goal.first_refused-requires-clause-alike
 first_refused-requires-clause-alike g c =
     let s = setting c.args.context.now in
-    let m = c.args.cache.now.coins in
+    let m = c.args.layer.coins in
     let txs = c.args.block.now.txs in
     let lawful = lawful_block c.args.block.now c.requires.alone in
     let coinbase = lawful_coinbase_first c.args.block.now lawful in
-    let slice = c.as_slice.result.now in
-    let others : take (length slice - 1) (drop 1 slice) ≡ drop 1 txs = tail_of slice ∙ ap (drop 1) c.as_slice.ensures in
-    let undo : c.in-Ok.undo ≡ undo_of s.height m txs = c.in-Ok.ensures.undo in
+    let slice = c.as_slice-in-Ok.result.now in
+    let others : take (length slice - 1) (drop 1 slice) ≡ drop 1 txs = tail_of slice ∙ ap (drop 1) c.as_slice-in-Ok.ensures in
+    let undo : c.in-Ok.undo ≡ undo_of s.height m txs = c.in-Ok.ensures.undo ∙ ap (undo_of s.height m) c.as_slice.ensures in
     subst (λ (l : List Tx). AllZip Fits l c.in-Ok.undo) (sym others) (subst (λ (l : List (List Coin)). AllZip Fits (drop 1 txs) l) (sym undo) (block_fits s m txs coinbase))
 
 pub first_refused-requires-clause-few : goal.first_refused-requires-clause-few
 first_refused-requires-clause-few g c =
     let s = setting c.args.context.now in
-    let m = c.args.cache.now.coins in
+    let m = c.args.layer.coins in
     let txs = c.args.block.now.txs in
     let lawful = lawful_block c.args.block.now c.requires.alone in
     let coinbase = lawful_coinbase_first c.args.block.now lawful in
-    let slice = c.as_slice.result.now in
-    let others : take (length slice - 1) (drop 1 slice) ≡ drop 1 txs = tail_of slice ∙ ap (drop 1) c.as_slice.ensures in
-    let undo : c.in-Ok.undo ≡ undo_of s.height m txs = c.in-Ok.ensures.undo in
+    let slice = c.as_slice-in-Ok.result.now in
+    let others : take (length slice - 1) (drop 1 slice) ≡ drop 1 txs = tail_of slice ∙ ap (drop 1) c.as_slice-in-Ok.ensures in
+    let undo : c.in-Ok.undo ≡ undo_of s.height m txs = c.in-Ok.ensures.undo ∙ ap (undo_of s.height m) c.as_slice.ensures in
     omega (arith, ap (λ (l : List (List Coin)). sum_by (λ (coins : List Coin). length coins) l) undo, block_few s m txs coinbase, lawful.inputs)
 
 pub returns-in-Some-clause-fault : goal.returns-in-Some-clause-fault
 returns-in-Some-clause-fault g c =
     let s = setting c.args.context.now in
-    let m = c.args.cache.now.coins in
+    let m = c.args.layer.coins in
     let txs = c.args.block.now.txs in
     let lawful = lawful_block c.args.block.now c.requires.alone in
     let coinbase = lawful_coinbase_first c.args.block.now lawful in
-    let slice = c.as_slice.result.now in
-    let others : take (length slice - 1) (drop 1 slice) ≡ drop 1 txs = tail_of slice ∙ ap (drop 1) c.as_slice.ensures in
-    let undo : c.in-Ok.undo ≡ undo_of s.height m txs = c.in-Ok.ensures.undo in
+    let slice = c.as_slice-in-Ok.result.now in
+    let others : take (length slice - 1) (drop 1 slice) ≡ drop 1 txs = tail_of slice ∙ ap (drop 1) c.as_slice-in-Ok.ensures in
+    let undo : c.in-Ok.undo ≡ undo_of s.height m txs = c.in-Ok.ensures.undo ∙ ap (undo_of s.height m) c.as_slice.ensures in
     let triples = c.args.env.now.table.now in
     let checks : checks_from (flags_of c.at-rules.result) 1 (take (length slice - 1) (drop 1 slice)) c.in-Ok.undo ≡ script_checks s m txs =
     ap (λ (r : InForce). checks_from (flags_of r) 1 (take (length slice - 1) (drop 1 slice)) c.in-Ok.undo) c.at-rules.ensures
@@ -62,18 +76,18 @@ returns-in-Some-clause-fault g c =
     ∙ block_checks s m txs coinbase in
     let refused : IsFirstRefused triples (checks_from (flags_of c.at-rules.result) 1 (take (length slice - 1) (drop 1 slice)) c.in-Ok.undo) (Some c.in-Some.reason) =
     subst (λ o. IsFirstRefused triples (checks_from (flags_of c.at-rules.result) 1 (take (length slice - 1) (drop 1 slice)) c.in-Ok.undo) o) c.in-Some.is c.in_ok-reason-in-Ok.ensures in
-    fault_is s m txs triples (Some c.in-Some.reason) c.in-Ok.ensures.none (subst (λ (l : List Check). IsFirstRefused triples l (Some c.in-Some.reason)) checks refused)
+    fault_is s m txs triples (Some c.in-Some.reason) (ap (λ (l : List Tx). first_broken (connect_rules s m l)) (sym c.as_slice.ensures) ∙ c.in-Ok.ensures.none) (subst (λ (l : List Check). IsFirstRefused triples l (Some c.in-Some.reason)) checks refused)
 
-pub returns-in_ok-absorb-in-Ok-clause-fault : goal.returns-in_ok-absorb-in-Ok-clause-fault
-returns-in_ok-absorb-in-Ok-clause-fault g c =
+pub returns-in_default-clause-fault : goal.returns-in_default-clause-fault
+returns-in_default-clause-fault g c =
     let s = setting c.args.context.now in
-    let m = c.args.cache.now.coins in
+    let m = c.args.layer.coins in
     let txs = c.args.block.now.txs in
     let lawful = lawful_block c.args.block.now c.requires.alone in
     let coinbase = lawful_coinbase_first c.args.block.now lawful in
-    let slice = c.as_slice.result.now in
-    let others : take (length slice - 1) (drop 1 slice) ≡ drop 1 txs = tail_of slice ∙ ap (drop 1) c.as_slice.ensures in
-    let undo : c.in-Ok.undo ≡ undo_of s.height m txs = c.in-Ok.ensures.undo in
+    let slice = c.as_slice-in-Ok.result.now in
+    let others : take (length slice - 1) (drop 1 slice) ≡ drop 1 txs = tail_of slice ∙ ap (drop 1) c.as_slice-in-Ok.ensures in
+    let undo : c.in-Ok.undo ≡ undo_of s.height m txs = c.in-Ok.ensures.undo ∙ ap (undo_of s.height m) c.as_slice.ensures in
     let triples = c.args.env.now.table.now in
     let checks : checks_from (flags_of c.at-rules.result) 1 (take (length slice - 1) (drop 1 slice)) c.in-Ok.undo ≡ script_checks s m txs =
     ap (λ (r : InForce). checks_from (flags_of r) 1 (take (length slice - 1) (drop 1 slice)) c.in-Ok.undo) c.at-rules.ensures
@@ -81,13 +95,4 @@ returns-in_ok-absorb-in-Ok-clause-fault g c =
     ∙ block_checks s m txs coinbase in
     let refused : IsFirstRefused triples (checks_from (flags_of c.at-rules.result) 1 (take (length slice - 1) (drop 1 slice)) c.in-Ok.undo) None =
     subst (λ o. IsFirstRefused triples (checks_from (flags_of c.at-rules.result) 1 (take (length slice - 1) (drop 1 slice)) c.in-Ok.undo) o) c.in_default.is c.in_ok-reason-in-Ok.ensures in
-    fault_is s m txs triples None c.in-Ok.ensures.none (subst (λ (l : List Check). IsFirstRefused triples l None) checks refused)
-
-pub returns-in_ok-absorb-in-Ok-clause-connected : goal.returns-in_ok-absorb-in-Ok-clause-connected
-returns-in_ok-absorb-in-Ok-clause-connected g c =
-    record {
-      alone = c.requires.alone;
-      over_coins = c.in-Ok.ensures.none;
-      after = ap (λ (l : Layer). l.coins) c.in_ok-absorb-in-Ok.ensures.ok ∙ c.in-Ok.ensures.over;
-      spent = c.in-Ok.ensures.undo;
-    }
+    fault_is s m txs triples None (ap (λ (l : List Tx). first_broken (connect_rules s m l)) (sym c.as_slice.ensures) ∙ c.in-Ok.ensures.none) (subst (λ (l : List Check). IsFirstRefused triples l None) checks refused)
