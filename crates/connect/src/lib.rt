@@ -14,7 +14,7 @@ mod scripts;
 mod stop;
 mod turn;
 
-pub use applying::apply;
+pub use applying::apply_in_layer;
 pub use connecting::{connect, connect_in_layer};
 pub use context::{Context, Env};
 pub use disconnecting::{disconnect, disconnect_in_layer};
