@@ -1,6 +1,6 @@
 //! The walk up a branch, block by block.
 
-ghost use Rattle.std.specs.Prelude.{◌≡◌, ◌≤◌, ◌<◌, true, length, reverse, IfOk, OnOk};
+ghost use Rattle.std.specs.Prelude.{◌≡◌, ◌≤◌, ◌<◌, true, length, reverse, IfOk, IfErr, OnOk};
 ghost use Rattle.std.specs.Result.{result_err};
 ghost use Rattle.tree.specs.Branches.{parent_at, height};
 ghost use Rattle.chain.specs.Valid.{fault, branch_connects};
@@ -8,11 +8,12 @@ ghost use Rattle.chain.specs.Regtest.{medians_of, regtest};
 ghost use Rattle.chain.specs.Settled.{AllKept};
 ghost use Rattle.activate.specs.CoreState.{branch_blocks, coins_after};
 ghost use Rattle.activate.specs.inside.Keeping.{undo_at};
-ghost use Rattle.activate.specs.inside.Ascents.{IsAscent, LeadsUp};
+ghost use Rattle.activate.specs.inside.Ascents.{top_of, IsTop, LeadsUp};
+ghost use Rattle.activate.specs.inside.Paths.{IsStop};
 
 use crate::path::BranchPath;
 use coins::{Base, Cache};
-use connect::{Context, Env, connect};
+use connect::{Context, Env, connect_in_layer};
 use queue::{Crew, Gate};
 use rules::Params;
 use std::alloc::Global;
@@ -21,38 +22,52 @@ use txn::{Reason, ids};
 use undo::BlockUndo;
 use wire::Memory;
 
-/// What the walk up a path comes to.
+/// What the walk up a path comes to where each block connects.
 #[derive(Drop)]
-pub(crate) enum Ascent {
-    /// Each block connects: what they spend, the lowest first.
-    Top(Vec<BlockUndo>),
-    /// So many connect, and the next one doesn't.
-    Stops(usize, Reason),
+pub(crate) struct Ascent<'b, B: Base> {
+    /// The layer that the blocks were applied to.
+    pub(crate) layer: Cache<'b, B>,
+    /// What they spend, the lowest first.
+    pub(crate) undo: Vec<BlockUndo>,
+}
+
+/// What it comes to where one doesn't.
+#[derive(Drop)]
+pub(crate) struct Stop {
+    /// How many blocks connect before that one.
+    pub(crate) passed: usize,
+    pub(crate) reason: Reason,
 }
 
 /// Connects the blocks of a path to the coins of the fork's branch, from the lowest on, up to the first that
-/// has a fault. The medians are those of the fork's branch by height.
-pub(crate) fn connect_up<B: Base, C: Crew>(
+/// has a fault, where the layer is dropped. The medians are those of the fork's branch by height.
+pub(crate) fn connect_up<'b, B: Base, C: Crew>(
     alloc: Global,
-    layer: &mut Cache<'_, B>,
+    mut layer: Cache<'b, B>,
     tree: &Tree,
     params: &Params,
     medians: Vec<u32>,
     path: &BranchPath,
     env: &Env<'_, C>,
     gate: &(dyn Gate + Sync),
-) -> Result<Ascent, Memory>
+) -> Result<Result<Ascent<'b, B>, Stop>, Memory>
     requires path { LeadsUp tree.now.blocks path.now.fork path.now.up.items }
     requires kept { AllKept (regtest params.now env.now.table.now) tree.now.blocks }
     requires good { let r = regtest params.now env.now.table.now in
         branch_connects r tree.now.blocks path.now.fork ≡ true }
-    requires coins { layer.old.coins ≡ coins_after tree.now.blocks path.now.fork }
+    requires coins { layer.coins ≡ coins_after tree.now.blocks path.now.fork }
     requires medians { medians.items
         ≡ reverse (medians_of (branch_blocks tree.now.blocks path.now.fork)) }
-    ensures climb { IfOk result (λ ascent.
-        IsAscent (regtest params.now env.now.table.now) tree.now.blocks
-        path.now.fork path.now.up.items layer.new.coins ascent) }
-    ensures base { layer.new.base ≡ layer.old.base }
+    ensures top { let r = regtest params.now env.now.table.now in
+        IfOk result (λ answer. IfOk answer (λ ascent.
+        IsTop r tree.now.blocks path.now.fork path.now.up.items
+        ascent.undo.items ascent.layer.coins)) }
+    ensures stops { let r = regtest params.now env.now.table.now in
+        IfOk result (λ answer. IfErr answer (λ stop.
+        IsStop r tree.now.blocks (top_of path.now.fork path.now.up.items) path.now.up.items
+        stop.passed stop.reason)) }
+    ensures base { IfOk result (λ answer. IfOk answer (λ ascent.
+        ascent.layer.base ≡ layer.entry.base)) }
 {
     let up = path.up.as_slice();
     let mut medians = medians;
@@ -60,29 +75,32 @@ pub(crate) fn connect_up<B: Base, C: Crew>(
     for passed in 0..up.len() {
         let place = up[up.len() - 1 - passed];
         match connect_next(alloc, layer, tree, params, &mut medians, place, env, gate)? {
-            Ok(spent) => undo.push(spent)?,
-            Err(reason) => return Ok(Ascent::Stops(passed, reason)),
+            Ok((left, spent)) => {
+                layer = left;
+                undo.push(spent)?;
+            }
+            Err(reason) => return Ok(Err(Stop { passed, reason })),
         }
     }
-    Ok(Ascent::Top(undo))
+    Ok(Ok(Ascent { layer, undo }))
 }
 
 /// Connects the block at a place to the coins of its parent's branch, and adds its median to those of that. The
 /// first rule that it breaks leaves the medians.
-fn connect_next<B: Base, C: Crew>(
+fn connect_next<'b, B: Base, C: Crew>(
     alloc: Global,
-    layer: &mut Cache<'_, B>,
+    layer: Cache<'b, B>,
     tree: &Tree,
     params: &Params,
     medians: &mut Vec<u32>,
     place: usize,
     env: &Env<'_, C>,
     gate: &(dyn Gate + Sync),
-) -> Result<Result<BlockUndo, Reason>, Memory>
+) -> Result<Result<(Cache<'b, B>, BlockUndo), Reason>, Memory>
     requires above { 0 < place }
     requires place { place ≤ length tree.now.blocks }
     requires kept { AllKept (regtest params.now env.now.table.now) tree.now.blocks }
-    requires coins { layer.old.coins ≡ coins_after tree.now.blocks
+    requires coins { layer.coins ≡ coins_after tree.now.blocks
         (parent_at tree.now.blocks place) }
     requires medians { medians.old.items
         ≡ reverse
@@ -92,14 +110,15 @@ fn connect_next<B: Base, C: Crew>(
         result_err answer
         ≡ fault (regtest params.now env.now.table.now) tree.now.blocks place) }
     ensures undo { IfOk result (λ answer.
-        IfOk answer (λ undo. undo ≡ undo_at tree.now.blocks place)) }
+        IfOk answer (λ done. done.1 ≡ undo_at tree.now.blocks place)) }
     ensures coins { IfOk result (λ answer.
-        OnOk answer (layer.new.coins ≡ coins_after tree.now.blocks place)) }
+        IfOk answer (λ done. done.0.coins ≡ coins_after tree.now.blocks place)) }
     ensures medians { IfOk result (λ answer.
         OnOk answer
         (medians.new.items
         ≡ reverse (medians_of (branch_blocks tree.now.blocks place)))) }
-    ensures base { layer.new.base ≡ layer.old.base }
+    ensures base { IfOk result (λ answer.
+        IfOk answer (λ done. done.0.base ≡ layer.entry.base)) }
 {
     let block = tree.block(place).read(alloc)?;
     let ids = ids(alloc, block.txs.as_slice())?;
@@ -110,10 +129,10 @@ fn connect_next<B: Base, C: Crew>(
         medians: below,
         params,
     };
-    match connect(alloc, layer, &context, &block, &ids, env, gate)? {
-        Ok(undo) => {
+    match connect_in_layer(alloc, layer, &context, &block, &ids, env, gate)? {
+        Ok(done) => {
             medians.push(tree.median(place))?;
-            Ok(Ok(undo))
+            Ok(Ok(done))
         }
         Err(reason) => Ok(Err(reason)),
     }

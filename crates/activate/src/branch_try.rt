@@ -8,7 +8,7 @@ ghost use Rattle.activate.specs.CoreState.{coins_after};
 ghost use Rattle.activate.specs.inside.Keeping.{IsBranch};
 ghost use Rattle.activate.specs.inside.Paths.{IsAttempt};
 
-use crate::ascent::{Ascent, connect_up};
+use crate::ascent::connect_up;
 use crate::disconnection::disconnect_to_fork;
 use crate::fork_search::path_to;
 use crate::path::{Attempt, FailedTry, Reorganisation};
@@ -61,10 +61,9 @@ pub(crate) fn try_branch<B: Base, C: Crew>(
         IfOk result (λ attempt. IsAttempt r b.tree.now.blocks b.active place attempt) }
 {
     let path = path_to(alloc, active_branch, place)?;
-    let mut layer = Cache::over(alloc, base);
-    disconnect_to_fork(
+    let layer = disconnect_to_fork(
         alloc,
-        &mut layer,
+        Cache::over(alloc, base),
         active_branch.tree,
         active_branch.active,
         active_branch.branch,
@@ -74,7 +73,7 @@ pub(crate) fn try_branch<B: Base, C: Crew>(
     let shared = Vec::from_slice(alloc, &active_branch.medians[..=path.height])?;
     match connect_up(
         alloc,
-        &mut layer,
+        layer,
         active_branch.tree,
         active_branch.params,
         shared,
@@ -82,18 +81,18 @@ pub(crate) fn try_branch<B: Base, C: Crew>(
         env,
         gate,
     )? {
-        Ascent::Top(undo) => {
-            let changes = layer.changes(alloc)?;
+        Ok(ascent) => {
+            let changes = ascent.layer.changes(alloc)?;
             Ok(Attempt::Succeeds(Reorganisation {
                 path,
-                undo,
+                undo: ascent.undo,
                 changes,
             }))
         }
-        Ascent::Stops(passed, reason) => Ok(Attempt::Fails(FailedTry {
+        Err(stop) => Ok(Attempt::Fails(FailedTry {
             path,
-            passed,
-            reason,
+            passed: stop.passed,
+            reason: stop.reason,
         })),
     }
 }

@@ -1,6 +1,6 @@
 //! The blocks of the active branch, taken back from the coins.
 
-ghost use Rattle.std.specs.Prelude.{◌≡◌, ◌≤◌, ◌<◌, ◌+◌, true, length, reverse, IfOk, OnOk};
+ghost use Rattle.std.specs.Prelude.{◌≡◌, ◌≤◌, ◌<◌, ◌+◌, true, length, reverse, IfOk};
 ghost use Rattle.tree.specs.Branches.{branch, on, height};
 ghost use Rattle.tree.specs.Limits.{max_blocks};
 ghost use Rattle.activate.specs.CoreState.{coins_after};
@@ -9,7 +9,7 @@ ghost use Rattle.activate.specs.inside.Paths.{AreConnected};
 ghost use Rattle.activate.specs.inside.Disconnection.{place_at, IsConnectedBranch, IsUndoAbove};
 
 use coins::{Base, Cache, CoinMap};
-use connect::{apply, disconnect};
+use connect::{apply_in_layer, disconnect_in_layer};
 use std::alloc::Global;
 use std::collections::VecDeque;
 use tree::Tree;
@@ -19,25 +19,25 @@ use wire::Memory;
 
 /// Takes the active blocks above the fork back from the coins (Bitcoin Core's `DisconnectTip`). The places are those of
 /// the active branch by height, and the undo is that of its highest blocks; where it ends above the fork, that of the
-/// blocks between is made anew.
-pub(crate) fn disconnect_to_fork<B: Base>(
+/// blocks between is made anew. At want of memory the layer is dropped.
+pub(crate) fn disconnect_to_fork<'b, B: Base>(
     alloc: Global,
-    layer: &mut Cache<'_, B>,
+    layer: Cache<'b, B>,
     tree: &Tree,
     active: usize,
     places: &[usize],
     undo: &VecDeque<BlockUndo>,
     fork: usize,
-) -> Result<(), Memory>
+) -> Result<Cache<'b, B>, Memory>
     requires kept { active ≤ length tree.now.blocks }
     requires on { on tree.now.blocks active fork ≡ true }
     requires branch { places.now ≡ reverse (branch tree.now.blocks active) }
     requires undo { undo.now.items ≡ highest_undo tree.now.blocks active (length undo.now.items) }
     requires above { length undo.now.items ≤ height tree.now.blocks active }
     requires connected { AreConnected tree.now.blocks active }
-    requires coins { layer.old.coins ≡ coins_after tree.now.blocks active }
-    ensures coins { OnOk result (layer.new.coins ≡ coins_after tree.now.blocks fork) }
-    ensures base { layer.new.base ≡ layer.old.base }
+    requires coins { layer.coins ≡ coins_after tree.now.blocks active }
+    ensures coins { IfOk result (λ left. left.coins ≡ coins_after tree.now.blocks fork) }
+    ensures base { IfOk result (λ left. left.base ≡ layer.entry.base) }
 {
     let low = tree.height(fork);
     // Undo is kept of the blocks above this height.
@@ -45,41 +45,41 @@ pub(crate) fn disconnect_to_fork<B: Base>(
     if kept <= low {
         return disconnect_blocks(alloc, layer, tree, places, kept, undo, low);
     }
-    disconnect_blocks(alloc, layer, tree, places, kept, undo, kept)?;
+    let layer = disconnect_blocks(alloc, layer, tree, places, kept, undo, kept)?;
     let again = replayed_undo(alloc, tree, places, low, kept)?;
     disconnect_blocks(alloc, layer, tree, places, low, &again, low)
 }
 
 /// Takes blocks of a branch back down to a height, with the undo of its blocks above the height `low`.
-fn disconnect_blocks<B: Base>(
+fn disconnect_blocks<'b, B: Base>(
     alloc: Global,
-    layer: &mut Cache<'_, B>,
+    mut layer: Cache<'b, B>,
     tree: &Tree,
     places: &[usize],
     low: usize,
     undo: &VecDeque<BlockUndo>,
     down_to: usize,
-) -> Result<(), Memory>
+) -> Result<Cache<'b, B>, Memory>
     requires branch { IsConnectedBranch tree.now.blocks places.now }
     requires undo { IsUndoAbove tree.now.blocks places.now low undo.now.items }
     requires inside { low + length undo.now.items < length places.now }
     requires from { low ≤ down_to }
     requires to { down_to ≤ low + length undo.now.items }
-    requires coins { layer.old.coins
+    requires coins { layer.coins
         ≡ coins_after tree.now.blocks
         (place_at places.now (low + length undo.now.items)) }
-    ensures coins { OnOk result
-        (layer.new.coins
+    ensures coins { IfOk result (λ left.
+        left.coins
         ≡ coins_after tree.now.blocks (place_at places.now down_to)) }
-    ensures base { layer.new.base ≡ layer.old.base }
+    ensures base { IfOk result (λ left. left.base ≡ layer.entry.base) }
 {
     for done in 0..low + undo.len() - down_to {
         let index = undo.len() - 1 - done;
         let block = tree.block(places[low + 1 + index]).read(alloc)?;
         let ids = ids(alloc, block.txs.as_slice())?;
-        disconnect(alloc, layer, &block, &ids, &undo[index])?;
+        layer = disconnect_in_layer(alloc, layer, &block, &ids, &undo[index])?;
     }
-    Ok(())
+    Ok(layer)
 }
 
 /// The undo of the blocks above one height up to another, made anew by a replay from genesis.
@@ -103,7 +103,8 @@ fn replayed_undo(
     for height in 1..high + 1 {
         let block = tree.block(places[height]).read(alloc)?;
         let ids = ids(alloc, block.txs.as_slice())?;
-        let spent = apply(alloc, &mut coins, height as u32, &block, &ids)?;
+        let (left, spent) = apply_in_layer(alloc, coins, height as u32, &block, &ids)?;
+        coins = left;
         if height > low {
             undo.push_back(spent)?;
         }

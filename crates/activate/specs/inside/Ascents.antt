@@ -6,13 +6,10 @@ use Rattle.coins.specs.declared.coin.Coin.{Coin}
 use Rattle.coins.specs.Coins.{Coins}
 use Rattle.tree.specs.Branches.{Blocks, on}
 use Rattle.tree.specs.laws.Above.{above}
-use Rattle.activate.specs.declared.ascent.Ascent.{Ascent}
-use Rattle.activate.specs.declared.ascent.Ascent.TheVariants.{Top, Stops}
 use Rattle.chain.specs.Rules.{Rules}
 use Rattle.chain.specs.Valid.{branch_connects}
 use Rattle.activate.specs.CoreState.{coins_after}
 use Rattle.activate.specs.inside.Keeping.{undo_at}
-use Rattle.activate.specs.inside.Paths.{IsStop}
 
 -- the highest of these places above the fork f, or f where there is none
 abbrev pub top_of : ℕ → List ℕ → ℕ
@@ -30,8 +27,3 @@ pub record IsTop (r : Rules Block Id) (t : Blocks Block) (f : ℕ) (up : List �
   pub good : branch_connects r t (top_of f up) ≡ true
   pub spent : undo ≡ reverse (map (undo_at t) up)
   pub left : coins ≡ coins_after t (top_of f up)
-
--- what the walk up comes to, and these coins
-abbrev pub IsAscent : Rules Block Id → Blocks Block → ℕ → List ℕ → Coins → Ascent → Type 0
-IsAscent r t f up coins (Top undo) = IsTop r t f up undo.items coins
-IsAscent r t f up coins (Stops passed reason) = IsStop r t (top_of f up) up passed reason

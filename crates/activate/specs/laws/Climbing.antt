@@ -1,5 +1,5 @@
 -- The walk up a branch: each block over the coins of its parent's, up to the first that doesn't connect.
-use Rattle.std.proofs.Common.{◌≡◌, ℕ, zero, suc, ◌+◌, ◌-◌, ◌<◌, ◌≤◌, true, not, List, [], ◌∷◌, ◌++◌, length, reverse, take, drop, get_or, Option, Some, None, sym, refl, ap, ◌∙◌, subst, inl, inr, append_assoc, arith}
+use Rattle.std.proofs.Common.{◌≡◌, ℕ, suc, ◌+◌, ◌-◌, ◌<◌, ◌≤◌, true, not, List, [], ◌∷◌, ◌++◌, length, reverse, take, drop, get_or, Option, Some, None, sym, ap, ◌∙◌, subst, inl, inr, append_assoc, arith}
 use Rattle.std.specs.Option.{is_none}
 use Rattle.std.specs.List.{list_all}
 use Rattle.std.proofs.lemmas.Bool.{and_from, cases_eq}
@@ -18,7 +18,7 @@ use Rattle.tree.specs.Branches.{Blocks, has, branch, on, height, parent_at, bloc
 use Rattle.tree.specs.Names.{names}
 use Rattle.tree.specs.MedianTime.{median_time_past}
 use Rattle.tree.specs.laws.Sets.{has_here, has_there}
-use Rattle.tree.specs.laws.Branches.{branch_head, branch-genesis, on-bounds, on-genesis}
+use Rattle.tree.specs.laws.Branches.{branch_head, on-bounds}
 use Rattle.tree.specs.laws.Parents.{parent-kept, before-parent, branch-parent, height-parent, climb}
 use Rattle.tree.specs.laws.Walks.{has_at}
 use Rattle.tree.specs.laws.Above.{above, above-end, above-step, above-rest, above-part, OnWay}

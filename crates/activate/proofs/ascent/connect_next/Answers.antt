@@ -2,10 +2,13 @@ use Rattle.std.proofs.Common.{◌≡◌, ℕ, ◌≤◌, List, [], ◌∷◌, �
 use Rattle.std.proofs.lemmas.List.{length-reverse}
 use Rattle.std.specs.Result.{result_err}
 use Rattle.block.specs.declared.block.Block.{Block}
+use Rattle.coins.specs.declared.coin.Coin.{Coin}
+use Rattle.coins.specs.Coins.{Layer}
 use Rattle.txn.specs.First.{first_broken}
 use Rattle.rules.specs.Alone.{alone_rules}
 use Rattle.connect.specs.Connecting.{IsConnected}
 use Rattle.connect.specs.Scripts.{IsConnectFault}
+use Rattle.connect.specs.Turns.{effect}
 use Rattle.connect.specs.laws.Scripts.{fault-found}
 use Rattle.tree.specs.Branches.{Blocks, parent_at, height}
 use Rattle.tree.specs.laws.Parents.{height-parent}
@@ -39,8 +42,8 @@ bounds-below-below g c =
     let s = some t p c.as_slice-below.result.now (length-parent c.args.params.now c.args.env.now.table.now t p c.requires.above c.requires.place) (omega arith) (c.as_slice-below.ensures.value ∙ c.requires.medians) in
     omega arith
 
-pub connect-requires-clause-alone : goal.connect-requires-clause-alone
-connect-requires-clause-alone g c =
+pub connect_in_layer-requires-clause-alone : goal.connect_in_layer-requires-clause-alone
+connect_in_layer-requires-clause-alone g c =
     ap (λ (b : Block). first_broken (alone_rules b)) (c.in_ok-block.ensures ∙ c.block.ensures)
     ∙ alone-at (regtest c.args.params.now c.args.env.now.table.now) c.args.tree.now.blocks c.args.place c.requires.kept c.requires.above c.requires.place
 
@@ -49,9 +52,9 @@ returns-in-Ok-clause-fault g c =
     let params = c.args.params.now in
     let triples = c.args.env.now.table.now in
     let s = setting_under params c.height_of.result c.as_slice-below.result.now in
-    let m = c.args.layer.now.coins in
+    let m = c.args.layer.coins in
     let txs = c.in_ok-block.block.txs in
-    (fault-found s m txs triples None).0 (subst (λ a. IsConnectFault s m txs triples (result_err a)) c.in-Ok.is c.in_ok-undo.ensures.fault)
+    (fault-found s m txs triples None).0 (subst (λ a. IsConnectFault s m txs triples (result_err a)) c.in-Ok.is c.in_ok-done.ensures.fault)
     ∙ fault-next params triples c.args.tree.now.blocks c.args.place c.requires.above c.requires.place c.height_of.result m c.in_ok-block.block c.height_of.ensures c.requires.coins (c.in_ok-block.ensures ∙ c.block.ensures)
     c.as_slice-below.result.now (c.as_slice-below.ensures.value ∙ c.requires.medians)
 
@@ -60,8 +63,8 @@ returns-in-Ok-clause-undo g c =
     let params = c.args.params.now in
     let triples = c.args.env.now.table.now in
     let s = setting_under params c.height_of.result c.as_slice-below.result.now in
-    let m = c.args.layer.now.coins in
-    let done = subst (λ a. IfOk a (λ undo. IsConnected s m c.in_ok-block.block c.connect.new.cache.coins undo)) c.in-Ok.is c.in_ok-undo.ensures.connected in
+    let m = c.args.layer.coins in
+    let done = subst (λ a. IfOk a (λ (d : Layer × List (List Coin)). IsConnected s m c.in_ok-block.block d.0.coins d.1)) c.in-Ok.is c.in_ok-done.ensures.connected in
     done.spent
     ∙ undo-next params triples c.args.tree.now.blocks c.args.place c.requires.above c.requires.place c.height_of.result m c.in_ok-block.block c.height_of.ensures c.requires.coins (c.in_ok-block.ensures ∙ c.block.ensures)
 
@@ -70,8 +73,8 @@ returns-in-Ok-clause-coins g c =
     let params = c.args.params.now in
     let triples = c.args.env.now.table.now in
     let s = setting_under params c.height_of.result c.as_slice-below.result.now in
-    let m = c.args.layer.now.coins in
-    let done = subst (λ a. IfOk a (λ undo. IsConnected s m c.in_ok-block.block c.connect.new.cache.coins undo)) c.in-Ok.is c.in_ok-undo.ensures.connected in
+    let m = c.args.layer.coins in
+    let done = subst (λ a. IfOk a (λ (d : Layer × List (List Coin)). IsConnected s m c.in_ok-block.block d.0.coins d.1)) c.in-Ok.is c.in_ok-done.ensures.connected in
     done.after
     ∙ coins-next params triples c.args.tree.now.blocks c.args.place c.requires.above c.requires.place c.height_of.result m c.in_ok-block.block c.height_of.ensures c.requires.coins (c.in_ok-block.ensures ∙ c.block.ensures)
 
@@ -90,8 +93,16 @@ returns-clause-fault g c =
     let params = c.args.params.now in
     let triples = c.args.env.now.table.now in
     let s = setting_under params c.height_of.result c.as_slice-below.result.now in
-    let m = c.args.layer.now.coins in
+    let m = c.args.layer.coins in
     let txs = c.in_ok-block.block.txs in
-    (fault-found s m txs triples (Some c.in-Err.reason)).0 (subst (λ a. IsConnectFault s m txs triples (result_err a)) c.in-Err.is c.in_ok-undo.ensures.fault)
+    (fault-found s m txs triples (Some c.in-Err.reason)).0 (subst (λ a. IsConnectFault s m txs triples (result_err a)) c.in-Err.is c.in_ok-done.ensures.fault)
     ∙ fault-next params triples c.args.tree.now.blocks c.args.place c.requires.above c.requires.place c.height_of.result m c.in_ok-block.block c.height_of.ensures c.requires.coins (c.in_ok-block.ensures ∙ c.block.ensures)
     c.as_slice-below.result.now (c.as_slice-below.ensures.value ∙ c.requires.medians)
+
+pub returns-in-Ok-clause-base : goal.returns-in-Ok-clause-base
+returns-in-Ok-clause-base g c =
+    let m = c.args.layer.coins in
+    let h = c.height_of.result in
+    let txs = c.in_ok-block.block.txs in
+    let done = subst (λ a. IfOk a (λ (d : Layer × List (List Coin)). ◌≡◌ {A = Layer} d.0 (record c.args.layer { coins = effect h m txs }))) c.in-Ok.is c.in_ok-done.ensures.coins in
+    ap (λ (l : Layer). l.base) done

@@ -1,7 +1,8 @@
-use Rattle.std.proofs.Common.{◌≡◌, ℕ, ◌+◌, ◌-◌, List, [], ◌∷◌, ◌++◌, length, reverse, take, drop, map, get_or, Some, IfOk, OnOk, sym, refl, ap, ◌∙◌, subst, arith}
+use Rattle.std.proofs.Common.{◌≡◌, ℕ, ◌+◌, ◌-◌, List, [], ◌∷◌, ◌++◌, length, reverse, take, drop, map, get_or, Some, IfOk, OnOk, sym, refl, ap, ◌∙◌, subst}
 use Rattle.std.proofs.lemmas.List.{reverse-append}
 use Rattle.std.specs.Result.{result_err}
 use Rattle.coins.specs.declared.coin.Coin.{Coin}
+use Rattle.coins.specs.Coins.{Layer}
 use Rattle.chain.specs.Valid.{fault, branch_connects}
 use Rattle.chain.specs.Regtest.{medians_of, regtest}
 use Rattle.activate.specs.CoreState.{branch_blocks, coins_after}
@@ -40,8 +41,8 @@ connect_next-requires-clause-medians g c =
     let n = is-next t c.args.path.now.fork up w c.loop-passed.passed c.loop-passed-test.true (get_or up (length up - 1 - c.loop-passed.passed) 0) refl in
     c.loop-passed.invariant.medians ∙ ap (λ (p : ℕ). reverse (medians_of (branch_blocks t p))) (sym n.parent)
 
-pub returns-in-Err-clause-climb : goal.returns-in-Err-clause-climb
-returns-in-Err-clause-climb g c =
+pub returns-in-Err-clause-stops : goal.returns-in-Err-clause-stops
+returns-in-Err-clause-stops g c =
     let params = c.args.params.now in
     let triples = c.args.env.now.table.now in
     let t = c.args.tree.now.blocks in
@@ -52,7 +53,7 @@ returns-in-Err-clause-climb g c =
     let w = subst (LeadsUp t f) (sym c.as_slice-up.ensures.value) c.requires.path in
     let n = is-next t f up w passed c.loop-passed-test.true x refl in
     let v = ap (branch_connects (regtest params triples) t) n.parent ∙ c.loop-passed.invariant.good in
-    let e : fault (regtest params triples) t x ≡ Some c.in-Err.reason = sym c.in_ok-spent.ensures.fault ∙ ap result_err c.in-Err.is in
+    let e : fault (regtest params triples) t x ≡ Some c.in-Err.reason = sym c.in_ok-left.ensures.fault ∙ ap result_err c.in-Err.is in
     record {
       front = reverse (drop (length up - passed) up);
       place = x;
@@ -80,10 +81,11 @@ loop-passed-preserved g c =
     let more = rest-next t f up w passed c.loop-passed-test.true x refl in
     let top = ap (top_of f) more in
     let i = c.loop-passed.invariant in
-    let spent = subst (λ a. IfOk a (λ undo. undo ≡ undo_at t x)) c.in-Ok.is c.in_ok-spent.ensures.undo in
-    let coins = subst (λ a. OnOk a (c.connect_next.new.layer.coins ≡ coins_after t x)) c.in-Ok.is c.in_ok-spent.ensures.coins in
-    let medians = subst (λ a. OnOk a (c.connect_next.new.medians.items ≡ reverse (medians_of (branch_blocks t x)))) c.in-Ok.is c.in_ok-spent.ensures.medians in
-    let good = valid-next params triples t x n.above_genesis n.kept (ap (branch_connects (regtest params triples) t) n.parent ∙ i.good) (sym c.in_ok-spent.ensures.fault ∙ ap result_err c.in-Ok.is) in
+    let spent = subst (λ a. IfOk a (λ (d : Layer × List (List Coin)). d.1 ≡ undo_at t x)) c.in-Ok.is c.in_ok-left.ensures.undo in
+    let coins = subst (λ a. IfOk a (λ (d : Layer × List (List Coin)). d.0.coins ≡ coins_after t x)) c.in-Ok.is c.in_ok-left.ensures.coins in
+    let base = subst (λ a. IfOk a (λ (d : Layer × List (List Coin)). d.0.base ≡ c.loop-passed.layer.base)) c.in-Ok.is c.in_ok-left.ensures.base in
+    let medians = subst (λ a. OnOk a (c.connect_next.new.medians.items ≡ reverse (medians_of (branch_blocks t x)))) c.in-Ok.is c.in_ok-left.ensures.medians in
+    let good = valid-next params triples t x n.above_genesis n.kept (ap (branch_connects (regtest params triples) t) n.parent ∙ i.good) (sym c.in_ok-left.ensures.fault ∙ ap result_err c.in-Ok.is) in
     record {
       spent = c.in_ok-push-in-Ok.ensures.items
           ∙ ap (λ (l : List (List (List Coin))). l ++ c.in-Ok.spent ∷ []) i.spent
@@ -93,5 +95,5 @@ loop-passed-preserved g c =
       good = ap (branch_connects (regtest params triples) t) top ∙ good;
       coins = coins ∙ ap (coins_after t) (sym top);
       medians = medians ∙ ap (λ (p : ℕ). reverse (medians_of (branch_blocks t p))) (sym top);
-      base = c.in_ok-spent.ensures.base ∙ i.base;
+      base = base ∙ i.base;
     }

@@ -1,10 +1,8 @@
-use Rattle.std.proofs.Common.{◌≡◌, ℕ, ◌+◌, ◌≤◌, List, length, reverse, take, IfOk, sym, ap, ◌∙◌, subst, arith}
+use Rattle.std.proofs.Common.{◌≡◌, ℕ, ◌+◌, ◌≤◌, List, length, reverse, take, Result, Ok, Err, IfOk, IfErr, sym, ap, ◌∙◌, subst, arith}
 use Rattle.std.proofs.lemmas.List.{length-take-le}
 use Rattle.block.specs.declared.block.Block.{Block}
 use Rattle.tree.specs.Branches.{Blocks, branch, on}
 use Rattle.tree.specs.laws.Above.{above}
-use Rattle.tree.specs.laws.Branches.{on-bounds}
-use Rattle.tree.specs.laws.Parents.{height-place}
 use Rattle.activate.specs.declared.path.BranchPath.{BranchPath}
 use Rattle.chain.specs.Valid.{branch_connects}
 use Rattle.chain.specs.Regtest.{medians_of, regtest}
@@ -13,8 +11,7 @@ use Rattle.coins.specs.Coins.{Coins}
 use Rattle.coins.specs.Changes.{AreChanges, after_changes}
 use Rattle.activate.specs.CoreState.{branch_blocks, coins_after}
 use Rattle.activate.specs.inside.Paths.{IsPath, IsStop}
-use Rattle.activate.specs.declared.ascent.Ascent.{Ascent}
-use Rattle.activate.specs.inside.Ascents.{top_of, LeadsUp, IsTop, IsAscent}
+use Rattle.activate.specs.inside.Ascents.{top_of, LeadsUp, IsTop}
 use Rattle.activate.specs.laws.Climbing.{top-above, height-below, length-branch, length-medians_at, medians-shared, were-connected}
 use Rattle.activate.proofs.branch_try.try_branch.Goals as goal
 
@@ -54,6 +51,12 @@ enough t a p path w k medians e =
     let n = ap (λ (l : List ℕ). length l) e in
     omega arith
 
+ok_part : {T E : Type 0} (P : T → Type 0) (r : Result T E) (x : T) → r ≡ Ok x → IfOk r P → P x
+ok_part P r x e h = subst (λ a. IfOk a P) e h
+
+err_part : {T E : Type 0} (P : E → Type 0) (r : Result T E) (x : E) → r ≡ Err x → IfErr r P → P x
+err_part P r x e h = subst (λ a. IfErr a P) e h
+
 pub disconnect_to_fork-requires-clause-connected : goal.disconnect_to_fork-requires-clause-connected
 disconnect_to_fork-requires-clause-connected g c =
     were-connected c.args.active_branch.now.params.now c.args.env.now.table.now c.args.active_branch.now.tree.now.blocks c.args.active_branch.now.active
@@ -83,37 +86,35 @@ connect_up-requires-clause-medians g c =
     ∙ ap (take (c.in_ok-path.path.height + 1)) c.requires.branch.medians_are
     ∙ shared c.args.active_branch.now.tree.now.blocks c.args.active_branch.now.active c.args.place c.in_ok-path.path c.in_ok-path.ensures.path c.requires.active
 
-pub returns-in-Top : goal.returns-in-Top
-returns-in-Top g c =
+pub returns-in_ok-changes-in-Ok : goal.returns-in_ok-changes-in-Ok
+returns-in_ok-changes-in-Ok g c =
     let t = c.args.active_branch.now.tree.now.blocks in
     let a = c.args.active_branch.now.active in
     let r = regtest c.args.active_branch.now.params.now c.args.env.now.table.now in
     let path = c.in_ok-path.path in
     let w = c.in_ok-path.ensures.path in
-    let top : IsTop r t path.fork path.up.items c.in-Top.undo.items c.connect_up.new.layer.coins =
-    subst (λ (x : Ascent). IsAscent r t path.fork path.up.items c.connect_up.new.layer.coins x) c.in-Top.is c.in_ok-undo.ensures.climb in
+    let top : IsTop r t path.fork path.up.items c.in-Ok.ascent.undo.items c.in-Ok.ascent.layer.coins = ok_part _ _ _ c.in-Ok.is c.in_ok-ascent.ensures.top in
     let e = leads t a c.args.place path w c.requires.place in
-    let after : c.connect_up.new.layer.coins ≡ coins_after t c.args.place = top.left ∙ ap (coins_after t) e in
-    let below : c.connect_up.new.layer.base ≡ coins_after t a = c.in_ok-undo.ensures.base ∙ c.in_ok-disconnect_to_fork.ensures.base ∙ c.over-layer.ensures.below ∙ c.requires.coins in
+    let after : c.in-Ok.ascent.layer.coins ≡ coins_after t c.args.place = top.left ∙ ap (coins_after t) e in
+    let below : c.in-Ok.ascent.layer.base ≡ coins_after t a = ok_part _ _ _ c.in-Ok.is c.in_ok-ascent.ensures.base ∙ c.in_ok-layer.ensures.base ∙ c.over.ensures.below ∙ c.requires.coins in
     record {
       path = w;
       good = ap (branch_connects r t) (sym e) ∙ top.good;
       undo = top.spent;
       changes =
-          subst (λ (x : Coins). AreChanges x (coins_after t c.args.place) c.in_ok-changes-in-Top.changes) below
-          (subst (λ (x : Coins). AreChanges c.connect_up.new.layer.base x c.in_ok-changes-in-Top.changes) after c.in_ok-changes-in-Top.ensures.differences);
-      laid = ap (λ (x : Coins). after_changes x c.in_ok-changes-in-Top.changes) (sym below) ∙ c.in_ok-changes-in-Top.ensures.laid ∙ after;
+          subst (λ (x : Coins). AreChanges x (coins_after t c.args.place) c.in_ok-changes-in-Ok.changes) below
+          (subst (λ (x : Coins). AreChanges c.in-Ok.ascent.layer.base x c.in_ok-changes-in-Ok.changes) after c.in_ok-changes-in-Ok.ensures.differences);
+      laid = ap (λ (x : Coins). after_changes x c.in_ok-changes-in-Ok.changes) (sym below) ∙ c.in_ok-changes-in-Ok.ensures.laid ∙ after;
     }
 
-pub returns : goal.returns
-returns g c =
+pub returns-in-Err : goal.returns-in-Err
+returns-in-Err g c =
     let t = c.args.active_branch.now.tree.now.blocks in
     let r = regtest c.args.active_branch.now.params.now c.args.env.now.table.now in
     let path = c.in_ok-path.path in
     let w = c.in_ok-path.ensures.path in
-    let stop : IsStop r t (top_of path.fork path.up.items) path.up.items c.in-Stops.passed c.in-Stops.reason =
-    subst (λ (x : Ascent). IsAscent r t path.fork path.up.items c.connect_up.new.layer.coins x) c.in-Stops.is c.in_ok-undo.ensures.climb in
+    let stop : IsStop r t (top_of path.fork path.up.items) path.up.items c.in-Err.stop.passed c.in-Err.stop.reason = err_part _ _ _ c.in-Err.is c.in_ok-ascent.ensures.stops in
     record {
       path = w;
-      stop = subst (λ (q : ℕ). IsStop r t q path.up.items c.in-Stops.passed c.in-Stops.reason) (leads t c.args.active_branch.now.active c.args.place path w c.requires.place) stop;
+      stop = subst (λ (q : ℕ). IsStop r t q path.up.items c.in-Err.stop.passed c.in-Err.stop.reason) (leads t c.args.active_branch.now.active c.args.place path w c.requires.place) stop;
     }

@@ -1,4 +1,4 @@
-use Rattle.std.proofs.Common.{◌≡◌, ◌+◌, ◌-◌, ◌<◌, ◌≤◌, true, ℕ, suc, List, length, reverse, Result, Ok, Err, OnOk, sym, ap, subst, ◌∙◌, arith}
+use Rattle.std.proofs.Common.{◌≡◌, ◌+◌, ◌-◌, ◌<◌, ◌≤◌, true, ℕ, suc, List, length, reverse, Result, Ok, Err, IfOk, sym, ap, subst, ◌∙◌, arith}
 use Rattle.block.specs.declared.block.Block.{Block}
 use Rattle.coins.specs.declared.coin.Coin.{Coin}
 use Rattle.tree.specs.Branches.{Blocks, branch, on, height}
@@ -39,9 +39,9 @@ stands t places undo a f k o p u few connected low high size e g n =
       undo_is = subst (λ (l : List ℕ). IsUndoAbove t l (high - size) undo) (sym p) (subst (λ j. IsUndoAbove t (reverse (branch t a)) j undo) {x = height t a - length undo} {y = high - size} (omega arith) (undo-above t a k undo u few));
     }
 
-on_ok : {T E : Type 0} {P Q : Type 0} (r : Result T E) → OnOk r P → (P → Q) → OnOk r Q
-on_ok (Ok x) h f = f h
-on_ok (Err x) h f = tt
+if_ok : {T E : Type 0} {P Q : T → Type 0} (r : Result T E) → IfOk r P → ((x : T) → P x → Q x) → IfOk r Q
+if_ok (Ok x) h f = f x h
+if_ok (Err x) h f = tt
 
 pub height-low-requires : goal.height-low-requires
 height-low-requires g c = (on-bounds c.args.tree.now.blocks c.args.active c.args.fork c.requires.on).1
@@ -80,7 +80,7 @@ pub returns-then-kept-low-clause-coins : goal.returns-then-kept-low-clause-coins
 returns-then-kept-low-clause-coins g c =
     let s = stands c.args.tree.now.blocks c.args.places.now c.args.undo.now.items c.args.active c.args.fork c.requires.kept c.requires.on c.requires.branch c.requires.undo c.requires.above c.requires.connected
     c.height-low.result c.height.result c.len.result c.height-low.ensures.value c.height.ensures.value (omega (arith, c.len.ensures, c.args.undo.now.ok)) in
-    on_ok c.disconnect_blocks.result c.disconnect_blocks.ensures.coins (λ e. e ∙ ap (coins_after c.args.tree.now.blocks) s.here)
+    if_ok c.disconnect_blocks.result c.disconnect_blocks.ensures.coins (λ left e. e ∙ ap (coins_after c.args.tree.now.blocks) s.here)
 
 pub disconnect_blocks-requires-2-clause-branch : goal.disconnect_blocks-requires-2-clause-branch
 disconnect_blocks-requires-2-clause-branch g c =
@@ -140,4 +140,4 @@ pub returns-clause-coins : goal.returns-clause-coins
 returns-clause-coins g c =
     let s = stands c.args.tree.now.blocks c.args.places.now c.args.undo.now.items c.args.active c.args.fork c.requires.kept c.requires.on c.requires.branch c.requires.undo c.requires.above c.requires.connected
     c.height-low.result c.height.result c.len.result c.height-low.ensures.value c.height.ensures.value (omega (arith, c.len.ensures, c.args.undo.now.ok)) in
-    on_ok c.disconnect_blocks-3.result c.disconnect_blocks-3.ensures.coins (λ e. e ∙ ap (coins_after c.args.tree.now.blocks) s.here)
+    if_ok c.disconnect_blocks-3.result c.disconnect_blocks-3.ensures.coins (λ left e. e ∙ ap (coins_after c.args.tree.now.blocks) s.here)

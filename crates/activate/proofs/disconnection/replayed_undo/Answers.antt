@@ -39,8 +39,8 @@ next_up t places branch height some below m block e f =
           (step-connected t places branch h within m block (coins_after t (place_at places (suc h))) (undo_at t (place_at places (suc h))) e (f ∙ ap (λ k. block_at names t (place_at places k)) (sym next)) refl refl),
     )
 
-pub apply-requires-clause-connected : goal.apply-requires-clause-connected
-apply-requires-clause-connected c =
+pub apply_in_layer-requires-clause-connected : goal.apply_in_layer-requires-clause-connected
+apply_in_layer-requires-clause-connected c =
     let t = c.args.tree.now.blocks in
     let places = c.args.places.now in
     let height = c.loop-height.height in
@@ -57,18 +57,18 @@ loop-height-preserved c =
     let b = c.in_ok-block.block in
     let one = next_up t places c.requires.branch height c.loop-height.auto.height (omega (arith, c.requires.inside, c.loop-height-test.true)) m b c.loop-height.invariant.coins (c.in_ok-block.ensures ∙ c.block.ensures) in
     let next : height ≡ suc (height - 1) = omega (arith, c.loop-height.auto.height) in
-    let spent : c.in_ok-spent.spent ≡ undo_at t (place_at places (suc (height - 1))) =
-    c.in_ok-spent.ensures.undo ∙ ap (λ k. undo_of k m b.txs) (sym one.1) ∙ sym one.2.spent ∙ ap (λ k. undo_at t (place_at places k)) next in
+    let spent : c.in_ok-left.spent ≡ undo_at t (place_at places (suc (height - 1))) =
+    c.in_ok-left.ensures.undo ∙ ap (λ k. undo_of k m b.txs) (sym one.1) ∙ sym one.2.spent ∙ ap (λ k. undo_at t (place_at places k)) next in
     let count = c.loop-height.invariant.count in
     record {
       coins =
-          ap (λ (l : Layer). l.coins) c.in_ok-spent.ensures.ok ∙ ap (λ k. effect k m b.txs) (sym one.1) ∙ sym one.2.after
+          ap (λ (l : Layer). l.coins) c.in_ok-left.ensures.coins ∙ ap (λ k. effect k m b.txs) (sym one.1) ∙ sym one.2.after
           ∙ ap (λ k. coins_after t (place_at places k)) {x = height} {y = height + 1 - 1} (omega arith);
       count =
           elim c.if-height-low.branch [
             | then-height-low+in_ok-push_back w ↦
-                let more : c.if-height-low.undo.items ≡ c.loop-height.undo.items ++ c.in_ok-spent.spent ∷ [] = ap (λ v. v.items) w.undo-is ∙ w.in_ok-push_back.ensures.items in
-                let size = ap (λ (l : List (List (List Coin))). length l) more ∙ length-append c.loop-height.undo.items (c.in_ok-spent.spent ∷ []) in
+                let more : c.if-height-low.undo.items ≡ c.loop-height.undo.items ++ c.in_ok-left.spent ∷ [] = ap (λ v. v.items) w.undo-is ∙ w.in_ok-push_back.ensures.items in
+                let size = ap (λ (l : List (List (List Coin))). length l) more ∙ length-append c.loop-height.undo.items (c.in_ok-left.spent ∷ []) in
                 let above = w.if-height-low.true in
                 omega arith
             | else-height-low w ↦
@@ -79,9 +79,9 @@ loop-height-preserved c =
       undo =
           elim c.if-height-low.branch [
             | then-height-low+in_ok-push_back w ↦
-                let more : c.if-height-low.undo.items ≡ c.loop-height.undo.items ++ c.in_ok-spent.spent ∷ [] = ap (λ v. v.items) w.undo-is ∙ w.in_ok-push_back.ensures.items in
+                let more : c.if-height-low.undo.items ≡ c.loop-height.undo.items ++ c.in_ok-left.spent ∷ [] = ap (λ v. v.items) w.undo-is ∙ w.in_ok-push_back.ensures.items in
                 let above = w.if-height-low.true in
-                undo-more t places low (height - 1) c.loop-height.undo.items c.if-height-low.undo.items c.in_ok-spent.spent c.loop-height.invariant.undo (omega arith) spent more
+                undo-more t places low (height - 1) c.loop-height.undo.items c.if-height-low.undo.items c.in_ok-left.spent c.loop-height.invariant.undo (omega arith) spent more
             | else-height-low w ↦ subst (λ (l : List (List (List Coin))). IsUndoAbove t places low l) (sym (ap (λ v. v.items) w.undo-is)) c.loop-height.invariant.undo
           ];
     }
