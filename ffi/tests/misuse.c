@@ -86,51 +86,70 @@ static struct told told(wakotehu_handle chain) {
     return it;
 }
 
-/* The calls that take memory, after the blocks b1 and c1. */
-static wakotehu_code nth_call(int call, wakotehu_handle chain, wakotehu_handle *other) {
-    struct counted counted = {0, 0};
+/* What a call gave, and what the chainstate tells after it. */
+struct given {
     wakotehu_answer answer;
     wakotehu_tip tip;
+    struct counted counted;
+    struct told after;
+};
+
+/* The calls that take memory, after the blocks b1 and c1. */
+enum { CALLS = 8 };
+
+static wakotehu_code nth_call(int call, wakotehu_handle chain, struct given *it, wakotehu_handle *other) {
     uint8_t id[32];
+    memset(it, 0, sizeof *it);
+    EXPECT(wakotehu_best(chain, id) == WAKOTEHU_OK);
     switch (call) {
-    case 0: return wakotehu_submit(chain, c2, sizeof c2, now, &answer);
-    case 1: wakotehu_best(chain, id); return wakotehu_invalidate(chain, id, &answer);
-    case 2: wakotehu_best(chain, id); return wakotehu_reconsider(chain, id, &answer);
-    case 3: wakotehu_best(chain, id); return wakotehu_precious(chain, id, &answer);
-    case 4: return wakotehu_tip_at(chain, 0, &tip);
-    case 5: return wakotehu_submit(chain, b1, 40, now, &answer);
-    case 6: return wakotehu_coins(chain, count, &counted);
+    case 0: return wakotehu_submit(chain, c2, sizeof c2, now, &it->answer);
+    case 1: return wakotehu_invalidate(chain, id, &it->answer);
+    case 2: return wakotehu_reconsider(chain, id, &it->answer);
+    case 3: return wakotehu_precious(chain, id, &it->answer);
+    case 4: return wakotehu_tip_at(chain, 0, &it->tip);
+    case 5: return wakotehu_submit(chain, b1, 40, now, &it->answer);
+    case 6: return wakotehu_coins(chain, count, &it->counted);
     default: return wakotehu_open(other, &regtest, "# no signature\n", 15, NULL);
     }
 }
 
+/* Makes a call on a new chainstate with the nth of its allocations refused, from 0 (below 0: none is), and once more
+ * where that was met: the first is told by the code, and changes nothing. */
+static struct given given_by(int call, long n, int *met) {
+    wakotehu_handle chain = opened(), other = 0;
+    struct given it;
+    EXPECT(submitted(chain, b1, sizeof b1) == WAKOTEHU_ACCEPTED);
+    EXPECT(submitted(chain, c1, sizeof c1) == WAKOTEHU_INCONCLUSIVE);
+    struct told before = told(chain);
+    left = n;
+    wakotehu_code code = nth_call(call, chain, &it, &other);
+    *met = n >= 0 && left < 0;
+    left = -1;
+    EXPECT(code == (*met ? WAKOTEHU_MEMORY : WAKOTEHU_OK));
+    if (*met) {
+        struct told after = told(chain);
+        EXPECT(memcmp(&before, &after, sizeof before) == 0);
+        EXPECT(other == 0);
+        EXPECT(nth_call(call, chain, &it, &other) == WAKOTEHU_OK);
+    }
+    it.after = told(chain);
+    EXPECT(!other || wakotehu_close(other) == WAKOTEHU_OK);
+    EXPECT(wakotehu_close(chain) == WAKOTEHU_OK);
+    return it;
+}
+
+/* Each call ends in what it gives where nothing is refused, and each takes memory. */
 static void refused_allocations(void) {
-    long refused = 0;
-    for (int call = 0; call < 8; call++)
-        for (long n = 0;; n++) {
-            wakotehu_handle chain = opened(), other = 0;
-            EXPECT(submitted(chain, b1, sizeof b1) == WAKOTEHU_ACCEPTED);
-            EXPECT(submitted(chain, c1, sizeof c1) == WAKOTEHU_INCONCLUSIVE);
-            struct told before = told(chain);
-            left = n;
-            wakotehu_code code = nth_call(call, chain, &other);
-            int all = left >= 0;
-            left = -1;
-            if (code == WAKOTEHU_MEMORY) {
-                struct told after = told(chain);
-                EXPECT(memcmp(&before, &after, sizeof before) == 0);
-                EXPECT(other == 0);
-                EXPECT(nth_call(call, chain, &other) == WAKOTEHU_OK);
-                refused++;
-            } else
-                EXPECT(code == WAKOTEHU_OK);
-            if (other)
-                EXPECT(wakotehu_close(other) == WAKOTEHU_OK);
-            EXPECT(wakotehu_close(chain) == WAKOTEHU_OK);
-            if (all)
-                break;
-        }
-    EXPECT(refused > 20);
+    for (int call = 0; call < CALLS; call++) {
+        int met;
+        struct given right = given_by(call, -1, &met);
+        long n = 0;
+        do {
+            struct given it = given_by(call, n, &met);
+            EXPECT(memcmp(&right, &it, sizeof right) == 0);
+        } while (met && ++n);
+        EXPECT(n > 0);
+    }
 }
 
 static void misused_handles(void) {
