@@ -5,7 +5,10 @@ ghost use Rattle.std.specs.Prelude.{◌≡◌, ◌≤◌, All};
 use crate::queue_vectors::Tally;
 use block::{Block, GENESIS_ID, Header, Txs, meets_target, merkle};
 use coins::{Base, Cache, Coin, CoinMap};
-use connect::{Context, Env, apply, connect, disconnect, early_jobs, script_flags};
+use connect::{
+    Context, Env, apply_in_layer, connect, connect_in_layer, disconnect, disconnect_in_layer,
+    early_jobs, script_flags,
+};
 use curve::Table;
 use hash::{Id, hash160};
 use interp::Flags;
@@ -538,18 +541,19 @@ fn there_again(rt: HostRuntime) -> Result<(), Fail> {
         params: &params,
     };
     let mut cache = Cache::over(alloc, &map);
-    assert!(rt; is_repeated(alloc, &mut cache, &context, &block)?);
-    assert!(rt; cache.get(&made).is_some() && cache.get(&at(0)).is_none());
-    assert!(rt; cache.changes(alloc)?.len() == 3);
+    assert!(rt; is_repeated(alloc, &mut cache, &context, &block, &made)?);
+    assert!(rt; cache.changes(alloc)?.is_empty());
     Ok(())
 }
 
-/// Whether a block that was connected and taken back can be applied again, and then spends as much.
+/// Whether a block that was connected and taken back can be applied again on a layer, and then spends as much, which is
+/// the first coin, and makes this one.
 fn is_repeated<B: Base>(
     alloc: Global,
     cache: &mut Cache<'_, B>,
     context: &Context,
     block: &Block,
+    made: &OutPoint,
 ) -> Result<bool, Memory> {
     let table = Table::new(alloc);
     let env = Env {
@@ -566,8 +570,127 @@ fn is_repeated<B: Base>(
         return Ok(false);
     };
     disconnect(alloc, cache, block, &ids, &undo)?;
-    let again = apply(alloc, cache, context.height, block, &ids)?;
-    Ok(again.len() == 1 && undo.len() == 1)
+    let layer = Cache::over(alloc, &*cache);
+    let (layer, again) = apply_in_layer(alloc, layer, context.height, block, &ids)?;
+    let moved = layer.get(&at(0)).is_none() && layer.get(made).is_some();
+    Ok(moved && layer.changes(alloc)?.len() == 3 && again.len() == 1 && undo.len() == 1)
+}
+
+/// On the layer of a reorganisation a block is taken back and connected again, whose coins stand below the layer.
+#[test]
+fn back_and_again_in_a_layer(rt: HostRuntime) -> Result<(), Fail> {
+    let alloc = rt.alloc();
+    let map = funded(alloc, 1)?;
+    let block = block_of(alloc, SUBSIDY + 10, one(alloc, payment(alloc, at(0), 40)?)?)?;
+    let params = Params::regtest();
+    let context = Context {
+        height: HEIGHT,
+        cutoff: 0,
+        medians: &[],
+        params: &params,
+    };
+    let mut cache = Cache::over(alloc, &map);
+    assert_eq!(rt;
+        layer_changes(alloc, &mut cache, &context, &block)?,
+        Some((3, 0))
+    );
+    assert_eq!(rt; cache.changes(alloc)?.len(), 3);
+    Ok(())
+}
+
+/// How many coins a layer changes after a block was taken back on it, and after it was connected again there. It was
+/// connected below it before.
+fn layer_changes<B: Base>(
+    alloc: Global,
+    cache: &mut Cache<'_, B>,
+    context: &Context,
+    block: &Block,
+) -> Result<Option<(usize, usize)>, Memory> {
+    let table = Table::new(alloc);
+    let env = Env {
+        table: &table,
+        workers: 1,
+        early: &[],
+        crew: &Alone,
+    };
+    let ids = ids(alloc, block.txs.as_slice())?;
+    if block_alone_with(alloc, block, &block.id(), &ids)?.is_some() {
+        return Ok(None);
+    }
+    let Ok(undo) = connect(alloc, cache, context, block, &ids, &env, &Open)? else {
+        return Ok(None);
+    };
+    let layer = Cache::over(alloc, &*cache);
+    let layer = disconnect_in_layer(alloc, layer, block, &ids, &undo)?;
+    let back = layer.changes(alloc)?.len();
+    let Ok((layer, _)) = connect_in_layer(alloc, layer, context, block, &ids, &env, &Open)? else {
+        return Ok(None);
+    };
+    Ok(Some((back, layer.changes(alloc)?.len())))
+}
+
+/// Blocks that are connected on one layer find what those before them left there.
+#[test]
+fn blocks_in_one_layer(rt: HostRuntime) -> Result<(), Fail> {
+    let alloc = rt.alloc();
+    let tx = payment(alloc, at(0), 40)?;
+    let made = outpoint(&tx, 0);
+    let first = block_of(alloc, SUBSIDY + 10, one(alloc, tx)?)?;
+    let spends = block_of(alloc, SUBSIDY, one(alloc, payment(alloc, made, 40)?)?)?;
+    assert_eq!(rt; second_answer(alloc, &first, &spends)?, None);
+    let again = block_of(alloc, SUBSIDY, one(alloc, payment(alloc, at(0), 50)?)?)?;
+    assert_eq!(rt;
+        second_answer(alloc, &first, &again)?,
+        Some(Reason::InputsMissingOrSpent)
+    );
+    let same_coinbase = block_of(alloc, SUBSIDY + 10, Vec::new(alloc))?;
+    assert_eq!(rt;
+        second_answer(alloc, &first, &same_coinbase)?,
+        Some(Reason::OverwritesCoin)
+    );
+    Ok(())
+}
+
+/// The first reason of a block on the layer on which another one was connected, over a coin at the first outpoint.
+fn second_answer(alloc: Global, first: &Block, second: &Block) -> Result<Option<Reason>, Memory> {
+    let map = funded(alloc, 1)?;
+    match left_by(alloc, Cache::over(alloc, &map), first)? {
+        Err(reason) => Ok(Some(reason)),
+        Ok(layer) => match left_by(alloc, layer, second)? {
+            Err(reason) => Ok(Some(reason)),
+            Ok(_) => Ok(None),
+        },
+    }
+}
+
+/// A layer with a block connected on it, or the first reason of that.
+fn left_by<'b, B: Base>(
+    alloc: Global,
+    layer: Cache<'b, B>,
+    block: &Block,
+) -> Result<Result<Cache<'b, B>, Reason>, Memory> {
+    let params = Params::regtest();
+    let context = Context {
+        height: HEIGHT,
+        cutoff: 0,
+        medians: &[],
+        params: &params,
+    };
+    let table = Table::new(alloc);
+    let env = Env {
+        table: &table,
+        workers: 1,
+        early: &[],
+        crew: &Alone,
+    };
+    let ids = ids(alloc, block.txs.as_slice())?;
+    if let Some(reason) = block_alone_with(alloc, block, &block.id(), &ids)? {
+        return Ok(Err(reason));
+    }
+    match connect_in_layer(alloc, layer, &context, block, &ids, &env, &Open)? {
+        Err(reason) => Ok(Err(reason)),
+        Ok((layer, _)) => Ok(Ok(layer)),
+    }
 }
 
 /// Whether a block is connected with these verdicts, by the caller alone.
