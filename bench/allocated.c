@@ -2,11 +2,12 @@
    allocator itself says that it is (malloc_usable_size) and with the word that it keeps before it. At the end of the
    program the most that was handed out at one moment goes to the file that ALLOCATED names. */
 #define _GNU_SOURCE
-#include <dlfcn.h>
 #include <malloc.h>
 #include <stdatomic.h>
 #include <stdio.h>
 #include <stdlib.h>
+#include <sys/syscall.h>
+#include <unistd.h>
 
 static _Atomic size_t now, most;
 
@@ -44,11 +45,20 @@ void free(void *piece) {
     __libc_free(piece);
 }
 
-__attribute__((destructor)) static void tell(void) {
+static void tell(void) {
     const char *name = getenv("ALLOCATED");
     size_t told = atomic_load(&most);
     FILE *file = name ? fopen(name, "w") : NULL;
     if (!file) return;
     fprintf(file, "%zu\n", told);
     fclose(file);
+}
+
+/* The C++ program ends by exit; ours, whose runtime runs nothing behind `main`, by _exit. */
+__attribute__((destructor)) static void end(void) { tell(); }
+
+void _exit(int status) {
+    tell();
+    syscall(SYS_exit_group, status);
+    __builtin_unreachable();
 }
