@@ -48,6 +48,27 @@ WORKLOADS = [
     ("reorganise", "the block by which another branch of so many blocks becomes active, beside 10,000 blocks", "work", [10, 100, 1000]),
 ]
 
+READERS = [1, 2, 4, 8]
+
+# Those of a node and its seats, likewise.
+NODE = [
+    ("read-map", "so many coins looked up in a plain map", [100_000]),
+    *[(f"read-coin-{n}", f"each of so many coins read by each of {n} seats (`gettxout`)", [100_000]) for n in READERS],
+    *[(f"read-best-{n}", f"`getbestblockhash` so often by each of {n} seats", [100_000]) for n in READERS],
+    *[(f"read-beside-{n}", f"as read-coin-{n}, beside a seat that submits blocks of 2,000 payments", [100_000]) for n in READERS],
+    ("slowest", "the slowest of a million reads beside a seat that submits blocks of so many payments", [500, 1000, 2000, 4000]),
+    ("publish-1", "ten blocks over so many coins, each of which changes one coin", [10_000, 1_000_000]),
+    ("publish-100", "the same, 101 coins", [10_000, 1_000_000]),
+    ("publish-10000", "the same, 10,001 coins", [10_000, 1_000_000]),
+    ("seats-1", "four branches of so many blocks of 1,000 payments on one base, beside a longer one, by one seat", [100]),
+    ("seats-2", "the same by two seats at once", [100]),
+    ("seats-4", "the same by four seats at once", [100]),
+    ("turns-1", "one branch of so many blocks of 1,000 payments, by one seat", [50]),
+    ("turns-4", "the same by four seats in turn", [50]),
+    ("workers-1", "a block of so many payments that each run 200 HASH256, submitted to a node of one worker", [2000]),
+    ("workers-4", "the same, four workers", [2000]),
+]
+
 # Each size of these has a line in the table.
 EACH_SIZE = {"chain", "blocks-above", "reorganise"}
 
@@ -56,10 +77,15 @@ OURS_ALONE = [
     ("early-wide", "a block of one transaction with so many inputs, connected with verdicts of all", [6000, 24_000]),
 ]
 
-# Name, what one of its blocks is, the bytes of one, and two sizes, whose peaks tell what a block more takes.
+# Name, what is kept, the bytes that it has of a block, what it may take at most, and two sizes, whose difference tells
+# what one more takes.
 MEMORY = [
-    ("chain", "a block without payments", 190, [50_000, 100_000]),
-    ("chain-heavy", "a block of almost a megabyte", 999_205, [20, 60]),
+    ("chain", "a block without payments, in a chainstate of one thread", 190, 2 * 190 + 300, [50_000, 100_000]),
+    ("chain-heavy", "a block of almost a megabyte, likewise", 999_205, 2 * 999_205 + 300, [20, 60]),
+    ("keep", "a block without payments, in a node", 190, 2 * 190 + 300, [50_000, 100_000]),
+    ("keep-heavy", "a block of almost a megabyte, in a node", 999_205, 2 * 999_205 + 300, [20, 60]),
+    ("hold-coins", "a coin with a script of 25 bytes, in a map", 0, 170, [500_000, 1_000_000]),
+    ("keep-coins", "a coin with a script of one byte, in a node, less its share of its block", 27, 170, [100_000, 200_000]),
 ]
 
 # How much more a block may cost on the second chain of `blocks-above` than on the first.
@@ -76,34 +102,36 @@ def once(program, name, size, environment):
     return float(seconds), check
 
 
-def peak(program, name, size):
-    """The most memory, in bytes, that a run had of the system at once."""
-    child = subprocess.Popen([program, name, str(size)], stdout=subprocess.DEVNULL)
-    _, status, usage = os.wait4(child.pid, 0)
-    child.returncode = os.waitstatus_to_exitcode(status)
-    if child.returncode != 0:
-        sys.exit(f"bench: {name} {size} failed")
-    return usage.ru_maxrss * 1024
+def allocated(program, name, size):
+    """The most bytes that the allocator had handed out at once in a run, by its own count (`allocated.c`)."""
+    told = os.path.join(HERE, "out", "allocated.txt")
+    once(program, name, size, {"LD_PRELOAD": os.path.join(HERE, "out", "allocated.so"), "ALLOCATED": told})
+    with open(told, encoding="utf-8") as file:
+        return int(file.read())
 
 
 def measure_memory():
     rows = []
-    for name, what, length, (low, high) in MEMORY:
-        each = [(peak(program, name, high) - peak(program, name, low)) / (high - low) for program in (OURS, BASELINE)]
+    for name, what, length, most, (low, high) in MEMORY:
+        each = [(allocated(program, name, high) - allocated(program, name, low)) / (high - low) for program in (OURS, BASELINE)]
+        if name == "keep-coins":
+            each = [bytes - length for bytes in each]
         print(f"memory {name:14} " + " ".join(f"{x:12.0f}" for x in each), flush=True)
-        rows.append((name, what, length, each))
+        rows.append((name, what, length, most, each))
     return rows
 
 
 def table_of_memory(rows):
     text = [
         "",
-        "Bytes that a block more takes, by the process's peak, with its coin, its undo and its command:",
+        "Bytes that one more takes, by the allocator's own count, of a block with its coin, its undo and its command:",
         "",
-        "| workload | what | its bytes | ours | baseline |",
-        "|---|---|---:|---:|---:|",
+        "| workload | what | its bytes | ours | baseline | at most |",
+        "|---|---|---:|---:|---:|---:|",
     ]
-    text += [f"| {name} | {what} | {length:,} | {each[0]:,.0f} | {each[1]:,.0f} |" for name, what, length, each in rows]
+    for name, what, length, most, each in rows:
+        verdict = f"{most:,}" + ("" if each[0] <= most else ": MORE")
+        text.append(f"| {name} | {what} | {length:,} | {each[0]:,.0f} | {each[1]:,.0f} | {verdict} |")
     return "\n".join(text) + "\n"
 
 
@@ -143,6 +171,77 @@ def measure(names, has_sha):
         print(f"{name:14} {size:9} " + " ".join(f"{t:12.6f}" for t in times), flush=True)
         rows.append((name, what, kind, costs))
     return rows
+
+
+def measure_node(names, has_sha):
+    """The same of a node: each run makes its chain first, so there are fewer."""
+    sides = [(OURS, {}), (BASELINE, {})] + ([(BASELINE, HIDDEN)] if has_sha else [])
+    rows = []
+    for name, what, sizes in NODE:
+        if names and name not in names:
+            continue
+        costs = [(size, least(name, size, sides, 5, 2 if size >= 1_000_000 else 3)) for size in sizes]
+        for size, times in costs:
+            print(f"{name:14} {size:9} " + " ".join(f"{t:12.6f}" for t in times), flush=True)
+        rows.append((name, what, "work", costs))
+    return rows
+
+
+def goal(text, ratio, bound, is_most=True):
+    """A line that says whether a ratio is what it should be."""
+    holds = ratio <= bound if is_most else ratio >= bound
+    words = ("at most", "MORE THAN") if is_most else ("at least", "LESS THAN")
+    return f"- {text}: {ratio:.2f}, {words[not holds]} {bound}."
+
+
+def goals_of_a_node(rows):
+    """What a node's times are to be beside each other, of those that were measured."""
+    found = {(name, size): times[0] for name, _, _, costs in rows for size, times in costs}
+    theirs = {(name, size): times[1] for name, _, _, costs in rows for size, times in costs}
+    lines = []
+
+    def ask(text, over, under, bound, is_most=True):
+        if over in found and under in found:
+            other = theirs[over] / theirs[under]
+            lines.append(goal(text, found[over] / found[under], bound, is_most)[:-1] + f" (the baseline: {other:.2f}).")
+
+    size = 100_000
+    ask("a read of a coin over a plain map's look-up", ("read-coin-1", size), ("read-map", size), 3)
+    for n in READERS:
+        over, under = (f"read-coin-{n}", size), (f"read-beside-{n}", size)
+        ask(f"look-ups a second by {n} beside a writer, over those alone", over, under, 0.9, False)
+    ask("the slowest read beside blocks of 4,000 payments, over that beside blocks of 500", ("slowest", 4000), ("slowest", 500), 1.5)
+    for n in (1, 100, 10_000):
+        ask(f"a step of {n:,} changes over a million coins, over one over ten thousand", (f"publish-{n}", 1_000_000), (f"publish-{n}", 10_000), 1.2)
+    ask("blocks a second by 4 seats, over those by one", ("seats-1", 100), ("seats-4", 100), 2.5, False)
+    ask("one branch by four seats in turn, over one seat", ("turns-4", 50), ("turns-1", 50), 1.1)
+    ask("a block by four workers, times faster than by one", ("workers-1", 2000), ("workers-4", 2000), 3.2, False)
+    for coins in (10_000, 1_000_000):
+        # ten blocks, of which the first workload has all but the changes
+        one, few, many = (found.get((f"publish-{n}", coins), 0) for n in (1, 100, 10_000))
+        if one and few and many:
+            each = [1e6 * (few - one) / 1000, 1e6 * (many - one) / 100_000]
+            lines.append(f"- a change over {coins:,} coins costs {each[0]:.2f} microseconds among 100, and {each[1]:.2f} among 10,000.")
+    for name in [f"read-{what}-{n}" for what in ("coin", "best", "beside") for n in READERS]:
+        if (name, size) in found:
+            reads = size * int(name.rsplit("-", 1)[1]) / 1e6
+            lines.append(f"- {name}: {reads / found[name, size]:.2f} million a second (the baseline: {reads / theirs[name, size]:.2f}).")
+    return "\n".join(lines)
+
+
+def table_of_node(rows, has_sha):
+    without = " | baseline without SHA instructions | ratio" if has_sha else ""
+    text = [
+        "",
+        "A node and its seats, least of 2 to 15 runs:",
+        "",
+        f"| workload | size | what | ours | baseline | ratio{without} |",
+        "|---|---:|---|---:|---:|---:|" + ("---:|---:|" if has_sha else ""),
+        *lines_of(rows, {row[0] for row in rows}),
+        "",
+        goals_of_a_node(rows),
+    ]
+    return "\n".join(text) + "\n"
 
 
 def measure_alone(names):
@@ -190,14 +289,19 @@ def table(rows, has_sha):
         f"| workload | size | what | ours | baseline | ratio{without} |",
         "|---|---:|---|---:|---:|---:|" + ("---:|---:|" if has_sha else ""),
     ]
-    for row in rows:
-        workload, what, _, costs = row
-        for size, times in costs if workload in EACH_SIZE else costs[-1:]:
+    return "\n".join([*text, *lines_of(rows, EACH_SIZE), "", growth_of_a_block(rows)]) + "\n"
+
+
+def lines_of(rows, in_each_size):
+    """A line of a table for each workload, of its last size or of each."""
+    text = []
+    for workload, what, _, costs in rows:
+        for size, times in costs if workload in in_each_size else costs[-1:]:
             cells = [f"{times[0]:.6f}"]
             for other in times[1:]:
                 cells += [f"{other:.6f}", f"{times[0] / other:.2f}"]
             text.append(f"| {workload} | {size:,} | {what} | " + " | ".join(cells) + " |")
-    return "\n".join([*text, "", growth_of_a_block(rows)]) + "\n"
+    return text
 
 
 def ratios(rows):
@@ -249,8 +353,8 @@ def growth(rows, top):
     return out, top + height + 80
 
 
-def plot(rows):
-    bars, end = ratios(rows)
+def plot(rows, node):
+    bars, end = ratios(rows + node)
     lines, end = growth(rows, end + 20)
     head = f'<svg xmlns="http://www.w3.org/2000/svg" width="800" height="{end}" font-family="sans-serif" font-size="11">'
     style = "<style>.head{font-size:14px;font-weight:bold}</style>"
@@ -260,20 +364,21 @@ def plot(rows):
 
 def main():
     names = sys.argv[1:]
-    unknown = set(names) - {row[0] for row in WORKLOADS + OURS_ALONE}
+    unknown = set(names) - {row[0] for row in WORKLOADS + NODE + OURS_ALONE} - {"memory"}
     if unknown:
         sys.exit(f"bench: no such workload: {' '.join(sorted(unknown))}")
     has_sha = processor()[2]
     rows = measure(names, has_sha)
+    node = measure_node(names, has_sha)
     alone = measure_alone(names)
-    print(growth_of_a_block(rows), flush=True)
+    print(growth_of_a_block(rows), goals_of_a_node(node), sep="\n", flush=True)
+    memory = measure_memory() if not names or "memory" in names else []
     if names:
         return
-    memory = measure_memory()
     with open(os.path.join(HERE, "results.md"), "w", encoding="utf-8") as file:
-        file.write(table(rows, has_sha) + table_of_memory(memory) + table_alone(alone))
+        file.write(table(rows, has_sha) + table_of_node(node, has_sha) + table_of_memory(memory) + table_alone(alone))
     with open(os.path.join(HERE, "results.svg"), "w", encoding="utf-8") as file:
-        file.write(plot(rows))
+        file.write(plot(rows, node))
 
 
 main()

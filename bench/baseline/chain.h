@@ -112,6 +112,7 @@ class Chain {
     std::vector<Undo> undo{{}};
     CoinMap coins;
     Table table;
+    size_t workers;
 
     // The median of the times of a block and the ten before it (GetMedianTimePast).
     uint32_t median(size_t place) const {
@@ -154,7 +155,7 @@ class Chain {
             Block block;
             std::vector<Hash> ids;
             if (i > 0) block = read_block(*nodes[up[i]].bytes), ids = ids_of(block.txs);
-            auto spent = connect(view, i > 0 ? block : *tip, i > 0 ? ids : *tip_ids, nodes[up[i]].height, table, 1);
+            auto spent = connect(view, i > 0 ? block : *tip, i > 0 ? ids : *tip_ids, nodes[up[i]].height, table, workers);
             if (!spent) return false;
             branch.push_back(up[i]);
             undo.push_back(std::move(*spent));
@@ -164,18 +165,37 @@ class Chain {
     }
 
 public:
+    explicit Chain(size_t workers = 1) : workers(workers) {}
     size_t height() const { return branch.size() - 1; }
-    bool submit(std::shared_ptr<const Bytes> bytes, uint64_t now) {
+    const Hash& best() const { return nodes[branch.back()].id; }
+    const Coin* coin(const OutPoint& at) const {
+        auto found = coins.find(at);
+        return found == coins.end() ? nullptr : &found->second;
+    }
+    // A block that was read, and judged by itself.
+    struct Read {
+        std::shared_ptr<const Bytes> bytes;
+        Block block;
+        Hash id;
+        std::vector<Hash> ids;
+        bool holds;
+    };
+    static Read read(std::shared_ptr<const Bytes> bytes) {
         Block block = read_block(*bytes);
         Hash id = id_of(block.header);
-        auto parent = places.find(block.header.prev);
-        if (places.count(id) || parent == places.end()) return false;
         std::vector<Hash> ids = ids_of(block.txs);
-        if (!block_alone(block, ids) || !context_holds(block, parent->second, now)) return false;
+        bool holds = block_alone(block, ids);
+        return Read{std::move(bytes), std::move(block), id, std::move(ids), holds};
+    }
+    bool submit(std::shared_ptr<const Bytes> bytes, uint64_t now) { return submit(read(std::move(bytes)), now); }
+    bool submit(Read read, uint64_t now) {
+        auto parent = places.find(read.block.header.prev);
+        if (places.count(read.id) || parent == places.end()) return false;
+        if (!read.holds || !context_holds(read.block, parent->second, now)) return false;
         size_t place = nodes.size();
-        nodes.push_back(Index{id, parent->second, nodes[parent->second].height + 1, block.header, std::move(bytes)});
-        places.emplace(id, place);
+        nodes.push_back(Index{read.id, parent->second, nodes[parent->second].height + 1, read.block.header, std::move(read.bytes)});
+        places.emplace(read.id, place);
         if (nodes[place].height <= height()) return true;
-        return activate(place, &block, &ids);
+        return activate(place, &read.block, &read.ids);
     }
 };

@@ -6,7 +6,7 @@
 #include <map>
 #include <string>
 
-#include "chain.h"
+#include "node.h"
 
 using Clock = std::chrono::steady_clock;
 
@@ -77,13 +77,18 @@ static Bytes to_key_hash(const ShortHash& hash) {
 static Tx spending(OutPoint prev, Bytes script, std::vector<TxOut> outputs) {
     return Tx{1, {TxIn{prev, std::move(script), 0xffffffff}}, std::move(outputs), 0};
 }
-static Tx payment(Filling& filling) {
-    OutPoint prev{filling.bytes<32>(), 0};
+// An input script of the usual length: the push of a signature and of a key.
+static Bytes signed_input(Filling& filling) {
     auto input = filling.bytes<106>();
     input[0] = 71, input[72] = 33;
+    return Bytes(input.begin(), input.end());
+}
+static Tx payment(Filling& filling) {
+    OutPoint prev{filling.bytes<32>(), 0};
+    Bytes input = signed_input(filling);
     std::vector<TxOut> outputs;
     for (int64_t value : {1000, 2000}) outputs.push_back(TxOut{value, to_key_hash(filling.bytes<20>())});
-    return spending(prev, Bytes(input.begin(), input.end()), outputs);
+    return spending(prev, std::move(input), outputs);
 }
 static void mine(Header& header) {
     while (!meets_target(id_of(header))) header.nonce++;
@@ -397,8 +402,8 @@ struct Branch {
     uint32_t number;
     size_t data = 0;
     uint32_t height = 0;
-    Hash last = GENESIS_ID;
-    Bytes next() {
+    Hash last = GENESIS_ID, coinbase{};
+    Bytes next(std::vector<Tx> payments = {}) {
         height++;
         Bytes input = height_push(height);
         input.push_back(4);
@@ -406,6 +411,8 @@ struct Branch {
         Block block;
         block.txs.push_back(spending(OutPoint{Hash{}, 0xffffffff}, input, {TxOut{subsidy(height), {0x51}}}));
         if (data > 0) block.txs[0].outputs.push_back(TxOut{0, Bytes(data, 0x6a)});
+        coinbase = id_of(block.txs[0]);
+        for (Tx& tx : payments) block.txs.push_back(std::move(tx));
         block.header = Header{4, last, merkle(ids_of(block.txs)).first, GENESIS_TIME + height, 0x207fffff, 0};
         mine(block.header);
         last = id_of(block.header);
@@ -442,6 +449,8 @@ static std::string reorganised(size_t depth) {
     return std::to_string(chain.height());
 }
 
+#include "seats.h"
+
 int main(int count, char** words) {
     using Workload = std::function<std::string(size_t)>;
     const std::map<std::string, Workload> workloads{
@@ -476,6 +485,34 @@ int main(int count, char** words) {
         {"chain-heavy", [](size_t n) { return above(Branch{1, 999000}, 0, n); }},
         {"blocks-above", [](size_t n) { return above(Branch{1}, n, 100); }},
         {"reorganise", reorganised},
+        {"read-map", read_map},
+        {"read-coin-1", [](size_t n) { return read_alone(n, 1, false); }},
+        {"read-coin-2", [](size_t n) { return read_alone(n, 2, false); }},
+        {"read-coin-4", [](size_t n) { return read_alone(n, 4, false); }},
+        {"read-coin-8", [](size_t n) { return read_alone(n, 8, false); }},
+        {"read-best-1", [](size_t n) { return read_alone(n, 1, true); }},
+        {"read-best-2", [](size_t n) { return read_alone(n, 2, true); }},
+        {"read-best-4", [](size_t n) { return read_alone(n, 4, true); }},
+        {"read-best-8", [](size_t n) { return read_alone(n, 8, true); }},
+        {"read-beside-1", [](size_t n) { return read_beside(n, 1); }},
+        {"read-beside-2", [](size_t n) { return read_beside(n, 2); }},
+        {"read-beside-4", [](size_t n) { return read_beside(n, 4); }},
+        {"read-beside-8", [](size_t n) { return read_beside(n, 8); }},
+        {"slowest", slowest},
+        {"publish-1", [](size_t n) { return published(n, 0); }},
+        {"publish-100", [](size_t n) { return published(n, 50); }},
+        {"publish-10000", [](size_t n) { return published(n, 5000); }},
+        {"seats-1", [](size_t n) { return branches(n, 1); }},
+        {"seats-2", [](size_t n) { return branches(n, 2); }},
+        {"seats-4", [](size_t n) { return branches(n, 4); }},
+        {"turns-1", turns},
+        {"turns-4", turns},
+        {"workers-1", [](size_t n) { return worked(n, 1); }},
+        {"workers-4", [](size_t n) { return worked(n, 4); }},
+        {"keep", [](size_t n) { return keep(Branch{1}, n); }},
+        {"keep-heavy", [](size_t n) { return keep(Branch{1, 999000}, n); }},
+        {"keep-coins", keep_coins},
+        {"hold-coins", hold_coins},
     };
     auto workload = count == 3 ? workloads.find(words[1]) : workloads.end();
     if (workload == workloads.end()) {

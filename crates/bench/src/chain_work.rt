@@ -2,27 +2,22 @@
 
 ghost use Rattle.activate.specs.CoreState.{IsChainstate};
 
+use crate::branch::Branch;
 use crate::check::Check;
 use crate::fault::Fault;
-use crate::payments::{script, spending};
 use crate::timing::Outcome;
 use activate::Chainstate;
-use block::{Block, GENESIS_ID, GENESIS_TIME, Header, Txs, meets_target, merkle, subsidy};
 use chain::{Bytes, Command};
 use connect::Env;
 use curve::Table;
-use hash::Id;
 use queue::{Alone, Open};
-use rules::REGTEST_BITS;
-use script::Num;
 use std::alloc::Global;
 use std::rt::Clock;
 use std::time::Instant;
-use txn::{OutPoint, Script, Tx, TxOut, ids};
 use wire::Memory;
 
 /// When blocks are submitted, in seconds since 1970: after the times of all of them.
-const NOW: u64 = 0xffff_ffff;
+pub const NOW: u64 = 0xffff_ffff;
 
 /// So many blocks are timed where it is asked what one costs on a chain of some height.
 const TIMED: usize = 100;
@@ -31,106 +26,22 @@ const TIMED: usize = 100;
 const BESIDE: usize = 10_000;
 
 /// So many bytes of data stand in a heavy block, which makes it almost as long as a block may be.
-const DATA: usize = 999_000;
+pub const DATA: usize = 999_000;
 
-/// The branch of this number, as far as it was made.
-#[derive(Drop)]
-struct Branch {
-    number: u32,
-    last: Id,
-    height: u32,
-    /// So many bytes of data stand in each block; none where it is 0.
-    data: usize,
+/// The submission of a branch's next block, without payments.
+fn next(alloc: Global, branch: &mut Branch) -> Result<Command, Fault> {
+    let bytes = branch.next_bytes(alloc, Vec::new(alloc))?;
+    // A list with no room beyond them, as a node makes it of bytes that are lent.
+    Ok(Command::Submit(Bytes::from_slice(alloc, &bytes)?, NOW))
 }
 
-impl Branch {
-    /// Genesis alone.
-    fn new(number: u32) -> Branch {
-        Branch {
-            number,
-            last: GENESIS_ID,
-            height: 0,
-            data: 0,
-        }
+/// Submissions of so many blocks.
+fn grown(alloc: Global, branch: &mut Branch, count: usize) -> Result<Vec<Command>, Fault> {
+    let mut commands = Vec::with_capacity(alloc, count)?;
+    for _ in 0..count {
+        commands.push(next(alloc, branch)?)?;
     }
-
-    /// The submission of a block on the last one.
-    fn next(&mut self, alloc: Global) -> Result<Command, Fault> {
-        self.height = self.height.wrapping_add(1);
-        let txs = vec![in alloc; self.coinbase(alloc)?]?;
-        let (root, _) = merkle(alloc, ids(alloc, txs.as_slice())?.as_slice())?;
-        let header = mined(Header {
-            version: 4,
-            prev: self.last,
-            root,
-            time: GENESIS_TIME.wrapping_add(self.height),
-            bits: REGTEST_BITS,
-            nonce: 0,
-        });
-        self.last = header.id();
-        let txs = Txs::from_vec(txs);
-        let mut bytes = Vec::new(alloc);
-        block::write(&Block { header, txs }, &mut bytes)?;
-        // A list with no room beyond them, as a node makes it of bytes that are lent.
-        Ok(Command::Submit(Bytes::from_slice(alloc, &bytes)?, NOW))
-    }
-
-    /// A coinbase that pushes the height (BIP 34) and the branch's number.
-    fn coinbase(&self, alloc: Global) -> Result<Tx, Fault> {
-        let mut bytes = Vec::new(alloc);
-        if self.height >= 1 && self.height <= 16 {
-            bytes.push(0x50 + self.height as u8)?;
-        } else {
-            let height = Num(i64::from(self.height)).spell(alloc)?;
-            bytes.push((height.len() % 76) as u8)?;
-            bytes.extend_from_slice(&height)?;
-        }
-        bytes.push(4)?;
-        bytes.extend_from_slice(self.number.to_le_bytes().as_slice())?;
-        let mut outputs = vec![in alloc;
-            TxOut {
-                value: subsidy(self.height),
-                script: script(alloc, &[0x51])?,
-            },
-        ]?;
-        if self.data > 0 {
-            outputs.push(data_output(alloc, self.data)?)?;
-        }
-        let input = script(alloc, bytes.as_slice())?;
-        spending(alloc, OutPoint::NULL, input, outputs)
-    }
-
-    /// Submissions of so many blocks.
-    fn grown(&mut self, alloc: Global, count: usize) -> Result<Vec<Command>, Fault> {
-        let mut commands = Vec::with_capacity(alloc, count)?;
-        for _ in 0..count {
-            commands.push(self.next(alloc)?)?;
-        }
-        Ok(commands)
-    }
-}
-
-/// An output of no worth that holds so many bytes and can't be spent.
-fn data_output(alloc: Global, size: usize) -> Result<TxOut, Fault> {
-    let mut bytes = Vec::with_capacity(alloc, size)?;
-    for _ in 0..size {
-        bytes.push(0x6a)?;
-    }
-    Ok(TxOut {
-        value: 0,
-        script: Script::from_vec(bytes),
-    })
-}
-
-/// The header with the first nonce that meets the target.
-fn mined(header: Header) -> Header {
-    for nonce in 0..1000 {
-        let mined = Header { nonce, ..header };
-        if meets_target(&mined.id()) {
-            return mined;
-        }
-    }
-    header
+    Ok(commands)
 }
 
 /// Submissions of blocks on genesis.
@@ -138,7 +49,8 @@ fn beside(alloc: Global, count: usize) -> Result<Vec<Command>, Fault> {
     let mut commands = Vec::with_capacity(alloc, count)?;
     for number in 0..count {
         let number = (number % 1_000_000) as u32;
-        commands.push(Branch::new(number.wrapping_add(10)).next(alloc)?)?;
+        let mut branch = Branch::new(number.wrapping_add(10));
+        commands.push(next(alloc, &mut branch)?)?;
     }
     Ok(commands)
 }
@@ -190,8 +102,8 @@ fn above<R: AllocGlobal + Clock>(
     count: usize,
 ) -> Result<Outcome, Fault> {
     let alloc = rt.alloc();
-    let below = branch.grown(alloc, height)?;
-    let above = branch.grown(alloc, count)?;
+    let below = grown(alloc, &mut branch, height)?;
+    let above = grown(alloc, &mut branch, count)?;
     let table = Table::new(alloc);
     let mut chain = Chainstate::new(alloc)?;
     take_each(alloc, &mut chain, &table, &below)?;
@@ -205,9 +117,9 @@ fn above<R: AllocGlobal + Clock>(
 pub fn reorganised<R: AllocGlobal + Clock>(rt: &R, depth: usize) -> Result<Outcome, Fault> {
     let alloc = rt.alloc();
     let mut other = Branch::new(2);
-    let first = Branch::new(1).grown(alloc, depth)?;
-    let second = other.grown(alloc, depth)?;
-    let last = other.grown(alloc, 1)?;
+    let first = grown(alloc, &mut Branch::new(1), depth)?;
+    let second = grown(alloc, &mut other, depth)?;
+    let last = grown(alloc, &mut other, 1)?;
     let table = Table::new(alloc);
     let mut chain = Chainstate::new(alloc)?;
     take_each(alloc, &mut chain, &table, &first)?;

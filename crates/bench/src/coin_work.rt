@@ -103,3 +103,17 @@ pub fn spent<R: AllocGlobal + Clock>(rt: &R, size: usize) -> Result<Outcome, Fau
     }
     Outcome::since(rt, begin, Check::Count(sum))
 }
+
+/// So many coins put into a map, and nothing beside it.
+pub fn held<R: AllocGlobal + Clock>(rt: &R, size: usize) -> Result<Outcome, Fault> {
+    let mut hoard = Hoard::new();
+    let mut map = CoinMap::new(rt.alloc());
+    let mut sum = 0u64;
+    let begin = Instant::now(rt)?;
+    for _ in 0..size {
+        let (at, coin) = hoard.next(rt.alloc())?;
+        sum = sum.wrapping_add(coin.value.unsigned_abs());
+        map.insert(at, coin)?;
+    }
+    Outcome::since(rt, begin, Check::Count(sum))
+}

@@ -14,6 +14,8 @@ pub enum Fault {
     Io,
     /// A block that was made here isn't read again.
     Unread,
+    /// A node isn't opened, or doesn't answer.
+    Node,
 }
 
 impl fmt::Display for Fault {
@@ -23,6 +25,7 @@ impl fmt::Display for Fault {
             Fault::Memory => writeln!(f, "bench: memory"),
             Fault::Io => writeln!(f, "bench: the clock or the output failed"),
             Fault::Unread => writeln!(f, "bench: a block is not read"),
+            Fault::Node => writeln!(f, "bench: the node failed"),
         }
     }
 }
@@ -48,5 +51,17 @@ impl<T: Drop> From<AllocFailed<T>> for Fault {
 impl From<io::Error> for Fault {
     fn from(_error: io::Error) -> Self {
         Fault::Io
+    }
+}
+
+impl From<node::Fault> for Fault {
+    fn from(_fault: node::Fault) -> Self {
+        Fault::Node
+    }
+}
+
+impl From<node::OpenFault> for Fault {
+    fn from(_fault: node::OpenFault) -> Self {
+        Fault::Node
     }
 }

@@ -1,6 +1,7 @@
 //! Times one workload, or does each of them at a small size.
 #![tactic(auto)]
 
+mod branch;
 mod chain_work;
 mod check;
 mod coin_work;
@@ -10,11 +11,15 @@ mod early_work;
 mod fault;
 mod filling;
 mod hashing;
+mod node_work;
 mod payments;
 mod queueing;
+mod read_work;
 mod scripts;
+mod seat_work;
 mod signing;
 mod spends;
+mod start;
 mod timing;
 mod words;
 mod workload;

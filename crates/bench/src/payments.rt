@@ -47,7 +47,7 @@ pub fn spending(
 }
 
 /// An input script of the usual length: the push of a signature and of a key.
-fn signed(filling: &mut Filling) -> [u8; 106] {
+pub fn signed(filling: &mut Filling) -> [u8; 106] {
     let mut bytes: [u8; 106] = filling.bytes();
     bytes[0] = 71;
     bytes[72] = 33;

@@ -6,13 +6,14 @@ use std::env;
 use std::io::Write;
 use std::process::ExitCode;
 use std::rt::{Clock, Env};
+use std::sync::Wait;
 use std::thread::Threads;
 
 /// Does what the words of the process's command line say: with a workload's name and a size that workload, with a
 /// line of name, size, seconds and check; without words each of them at its small size, with lines without seconds.
 pub fn attempt<R, O>(rt: &R, out: &mut O) -> Result<(), Fault>
 where
-    R: Env + AllocGlobal + Clock + Threads + Sync,
+    R: Env + AllocGlobal + Clock + Threads + Wait + Sync,
     O: Write,
 {
     let words: Vec<String> = env::args(rt)?.skip(1).collect(rt.alloc())?;
@@ -25,7 +26,7 @@ where
 
 fn each_small<R, O>(rt: &R, out: &mut O) -> Result<(), Fault>
 where
-    R: AllocGlobal + Clock + Threads + Sync,
+    R: AllocGlobal + Clock + Threads + Wait + Sync,
     O: Write,
 {
     for (workload, name, size) in ALL {
@@ -37,7 +38,7 @@ where
 
 fn one<R, O>(rt: &R, out: &mut O, name: &str, size: &str) -> Result<(), Fault>
 where
-    R: AllocGlobal + Clock + Threads + Sync,
+    R: AllocGlobal + Clock + Threads + Wait + Sync,
     O: Write,
 {
     let workload = Workload::named(name).ok_or(Fault::Words)?;

@@ -1,12 +1,15 @@
 //! The workloads by their names.
 
 use crate::fault::Fault;
+use crate::read_work::Look;
 use crate::spends::{to_keys, to_two_of_three};
 use crate::timing::Outcome;
 use crate::{
-    chain_work, coin_work, connecting, decoding, early_work, hashing, queueing, scripts, signing,
+    chain_work, coin_work, connecting, decoding, early_work, hashing, node_work, queueing, scripts,
+    signing,
 };
 use std::rt::Clock;
+use std::sync::Wait;
 use std::thread::Threads;
 
 /// What is timed.
@@ -40,10 +43,23 @@ pub enum Workload {
     ChainHeavy,
     BlocksAbove,
     Reorganise,
+    ReadMap,
+    ReadCoin(usize),
+    ReadBest(usize),
+    ReadBeside(usize),
+    Slowest,
+    Publish(usize),
+    Seats(usize),
+    Turns(usize),
+    Workers(usize),
+    Keep,
+    KeepHeavy,
+    KeepCoins,
+    HoldCoins,
 }
 
 /// Each workload with its name, and the small size at which it is done without words.
-pub const ALL: [(Workload, &str, usize); 32] = [
+pub const ALL: [(Workload, &str, usize); 60] = [
     (Workload::DoubleSha, "double-sha", 3),
     (Workload::Ripemd, "ripemd", 3),
     (Workload::RipemdLong, "ripemd-long", 200),
@@ -76,6 +92,34 @@ pub const ALL: [(Workload, &str, usize); 32] = [
     (Workload::ChainHeavy, "chain-heavy", 1),
     (Workload::BlocksAbove, "blocks-above", 5),
     (Workload::Reorganise, "reorganise", 3),
+    (Workload::ReadMap, "read-map", 20),
+    (Workload::ReadCoin(1), "read-coin-1", 20),
+    (Workload::ReadCoin(2), "read-coin-2", 20),
+    (Workload::ReadCoin(4), "read-coin-4", 20),
+    (Workload::ReadCoin(8), "read-coin-8", 20),
+    (Workload::ReadBest(1), "read-best-1", 20),
+    (Workload::ReadBest(2), "read-best-2", 20),
+    (Workload::ReadBest(4), "read-best-4", 20),
+    (Workload::ReadBest(8), "read-best-8", 20),
+    (Workload::ReadBeside(1), "read-beside-1", 20),
+    (Workload::ReadBeside(2), "read-beside-2", 20),
+    (Workload::ReadBeside(4), "read-beside-4", 20),
+    (Workload::ReadBeside(8), "read-beside-8", 20),
+    (Workload::Slowest, "slowest", 3),
+    (Workload::Publish(0), "publish-1", 20),
+    (Workload::Publish(50), "publish-100", 20),
+    (Workload::Publish(5000), "publish-10000", 20),
+    (Workload::Seats(1), "seats-1", 1),
+    (Workload::Seats(2), "seats-2", 1),
+    (Workload::Seats(4), "seats-4", 1),
+    (Workload::Turns(1), "turns-1", 2),
+    (Workload::Turns(4), "turns-4", 2),
+    (Workload::Workers(1), "workers-1", 3),
+    (Workload::Workers(4), "workers-4", 3),
+    (Workload::Keep, "keep", 3),
+    (Workload::KeepHeavy, "keep-heavy", 1),
+    (Workload::KeepCoins, "keep-coins", 20),
+    (Workload::HoldCoins, "hold-coins", 5),
 ];
 
 impl Workload {
@@ -90,7 +134,7 @@ impl Workload {
 
     pub fn run<R>(self, rt: &R, size: usize) -> Result<Outcome, Fault>
     where
-        R: AllocGlobal + Clock + Threads + Sync,
+        R: AllocGlobal + Clock + Threads + Wait + Sync,
     {
         let alloc = rt.alloc();
         match self {
@@ -122,6 +166,29 @@ impl Workload {
             Workload::ChainHeavy => chain_work::heavily_chained(rt, size),
             Workload::BlocksAbove => chain_work::blocks_above(rt, size),
             Workload::Reorganise => chain_work::reorganised(rt, size),
+            _ => self.run_at_node(rt, size),
+        }
+    }
+
+    /// Those of a node and its seats.
+    fn run_at_node<R>(self, rt: &R, size: usize) -> Result<Outcome, Fault>
+    where
+        R: AllocGlobal + Clock + Threads + Wait + Sync,
+    {
+        match self {
+            Workload::ReadMap => node_work::map_reads(rt, size),
+            Workload::ReadCoin(readers) => node_work::read(rt, size, readers, Look::Coin),
+            Workload::ReadBest(readers) => node_work::read(rt, size, readers, Look::Best),
+            Workload::ReadBeside(readers) => node_work::read_beside(rt, size, readers),
+            Workload::Slowest => node_work::slowest(rt, size),
+            Workload::Publish(payments) => node_work::published(rt, size, payments),
+            Workload::Seats(seats) => node_work::branches(rt, size, seats),
+            Workload::Turns(seats) => node_work::turns(rt, size, seats),
+            Workload::Workers(workers) => node_work::worked(rt, size, workers),
+            Workload::Keep => node_work::keep(rt, size),
+            Workload::KeepHeavy => node_work::keep_heavy(rt, size),
+            Workload::KeepCoins => node_work::keep_coins(rt, size),
+            _ => coin_work::held(rt, size),
         }
     }
 }

@@ -1,0 +1,199 @@
+//! Chains with coins for payments.
+
+use crate::branch::Branch;
+use crate::fault::Fault;
+use crate::filling::Filling;
+use crate::payments::{script, signed, spending};
+use std::alloc::Global;
+use txn::{OutPoint, Outputs, Tx, TxOut, ids};
+
+/// So many blocks stand below the first that spends a coinbase.
+const UNRIPE: usize = 100;
+
+/// The most outputs of a transaction that spends a coinbase.
+const FAN: usize = 20_000;
+
+/// The most payments of a block that spreads coins.
+const SPREAD: usize = 3000;
+
+/// What a coin is worth that a coinbase is spent for.
+pub const WORTH: i64 = 100_000;
+
+/// A script that accepts.
+pub const TRUE: &[u8] = &[0x51];
+
+/// What a payment pays: so many outputs of a worth, with a script.
+#[derive(Clone, Copy)]
+pub struct Paid<'s> {
+    pub outputs: usize,
+    pub worth: i64,
+    pub script: &'s [u8],
+}
+
+impl Paid<'_> {
+    fn outputs(&self, alloc: Global) -> Result<Vec<TxOut>, Fault> {
+        let mut outputs = Vec::with_capacity(alloc, self.outputs)?;
+        for _ in 0..self.outputs {
+            outputs.push(TxOut {
+                value: self.worth,
+                script: script(alloc, self.script)?,
+            })?;
+        }
+        Ok(outputs)
+    }
+}
+
+/// A payment of each coin.
+pub fn payments(
+    alloc: Global,
+    filling: &mut Filling,
+    coins: &[OutPoint],
+    paid: &Paid<'_>,
+) -> Result<Vec<Tx>, Fault> {
+    let mut payments = Vec::with_capacity(alloc, coins.len())?;
+    for prev in coins {
+        let input = script(alloc, signed(filling).as_slice())?;
+        payments.push(spending(alloc, *prev, input, paid.outputs(alloc)?)?)?;
+    }
+    Ok(payments)
+}
+
+/// Puts the outpoints that payments made behind others.
+pub fn put_made(alloc: Global, made: &mut Vec<OutPoint>, payments: &[Tx]) -> Result<(), Fault> {
+    let ids = ids(alloc, payments)?;
+    for (tx, id) in payments.iter().zip(ids.iter()) {
+        for index in 0..tx.outputs.len().min(1_000_000) as u32 {
+            made.push(OutPoint { id: *id, index })?;
+        }
+    }
+    Ok(())
+}
+
+/// A chain from genesis on, as far as it was made, and the coins that it leaves.
+#[derive(Drop)]
+pub struct Start {
+    pub branch: Branch,
+    pub filling: Filling,
+    /// The bytes of its blocks.
+    pub blocks: Vec<Vec<u8>>,
+    /// Coins that coinbases were spent for.
+    pub coins: Vec<OutPoint>,
+    /// Coins that those were spent for.
+    pub spread: Vec<OutPoint>,
+    /// The outputs of the first coinbases, which nothing spends yet.
+    unripe: Vec<OutPoint>,
+}
+
+impl Start {
+    /// A chain whose first coinbases are ripe.
+    pub fn new(alloc: Global) -> Result<Start, Fault> {
+        let mut start = Start {
+            branch: Branch::new(1),
+            filling: Filling::new(16),
+            blocks: Vec::new(alloc),
+            coins: Vec::new(alloc),
+            spread: Vec::new(alloc),
+            unripe: Vec::new(alloc),
+        };
+        for _ in 0..UNRIPE {
+            start.ripen(alloc)?;
+        }
+        Ok(start)
+    }
+
+    /// One more block without payments, whose coinbase is spent later.
+    fn ripen(&mut self, alloc: Global) -> Result<(), Fault> {
+        let block = self.branch.next_block(alloc, Vec::new(alloc))?;
+        let mut bytes = Vec::new(alloc);
+        block::write(&block, &mut bytes)?;
+        self.blocks.push(bytes)?;
+        put_made(alloc, &mut self.unripe, block.txs.as_slice())
+    }
+
+    /// One more block, of these payments.
+    pub fn add(&mut self, alloc: Global, payments: Vec<Tx>) -> Result<(), Fault> {
+        let bytes = self.branch.next_bytes(alloc, payments)?;
+        self.blocks.push(bytes)?;
+        Ok(())
+    }
+
+    /// Spends coinbases for so many coins of a script, in blocks of up to 20,000.
+    pub fn fan(&mut self, alloc: Global, count: usize, script: &[u8]) -> Result<(), Fault> {
+        self.unripe.as_mut_slice().reverse();
+        let mut left = count;
+        while left > 0 {
+            let Some(prev) = self.unripe.pop() else {
+                return Err(Fault::Unread);
+            };
+            let outputs = left.min(FAN);
+            left = left.saturating_sub(outputs);
+            self.fan_one(alloc, prev, outputs, script)?;
+        }
+        Ok(())
+    }
+
+    fn fan_one(
+        &mut self,
+        alloc: Global,
+        prev: OutPoint,
+        outputs: usize,
+        script: &[u8],
+    ) -> Result<(), Fault> {
+        let paid = Paid {
+            outputs,
+            worth: WORTH,
+            script,
+        };
+        let payments = payments(alloc, &mut self.filling, &[prev], &paid)?;
+        put_made(alloc, &mut self.coins, payments.as_slice())?;
+        self.add(alloc, payments)
+    }
+
+    /// Spends the last coins, each for ten, until there are so many.
+    pub fn spread(&mut self, alloc: Global, count: usize) -> Result<(), Fault> {
+        let keep = self.coins.len().saturating_sub(count / 10);
+        while self.coins.len() > keep {
+            let from = self.coins.len().saturating_sub(SPREAD).max(keep);
+            self.spread_from(alloc, from)?;
+        }
+        Ok(())
+    }
+
+    fn spread_from(&mut self, alloc: Global, from: usize) -> Result<(), Fault> {
+        let paid = Paid {
+            outputs: 10,
+            worth: WORTH / 10,
+            script: TRUE,
+        };
+        let (_, coins) = self.coins.as_slice().split_at(from.min(self.coins.len()));
+        let payments = payments(alloc, &mut self.filling, coins, &paid)?;
+        self.coins.truncate(from);
+        put_made(alloc, &mut self.spread, payments.as_slice())?;
+        self.add(alloc, payments)
+    }
+}
+
+/// The bytes of so many blocks on a branch, each of one payment of each coin that the block before made of these.
+pub fn paying(
+    alloc: Global,
+    branch: Branch,
+    coins: &[OutPoint],
+    count: usize,
+) -> Result<Vec<Vec<u8>>, Fault> {
+    let mut branch = branch;
+    let mut filling = Filling::new(u64::from(branch.number).wrapping_add(20));
+    let paid = Paid {
+        outputs: 1,
+        worth: WORTH,
+        script: TRUE,
+    };
+    let mut coins = Vec::from_slice(alloc, coins)?;
+    let mut blocks = Vec::with_capacity(alloc, count)?;
+    for _ in 0..count {
+        let payments = payments(alloc, &mut filling, coins.as_slice(), &paid)?;
+        coins.clear();
+        put_made(alloc, &mut coins, payments.as_slice())?;
+        blocks.push(branch.next_bytes(alloc, payments)?)?;
+    }
+    Ok(blocks)
+}
