@@ -120,13 +120,11 @@ impl Start {
     /// Spends coinbases for so many coins of a script, in blocks of up to 20,000.
     pub fn fan(&mut self, alloc: Global, count: usize, script: &[u8]) -> Result<(), Fault> {
         self.unripe.as_mut_slice().reverse();
-        let mut left = count;
-        while left > 0 {
+        for made in (0..count).step_by(FAN) {
             let Some(prev) = self.unripe.pop() else {
                 return Err(Fault::Unread);
             };
-            let outputs = left.min(FAN);
-            left = left.saturating_sub(outputs);
+            let outputs = count.saturating_sub(made).min(FAN);
             self.fan_one(alloc, prev, outputs, script)?;
         }
         Ok(())
@@ -152,7 +150,7 @@ impl Start {
     /// Spends the last coins, each for ten, until there are so many.
     pub fn spread(&mut self, alloc: Global, count: usize) -> Result<(), Fault> {
         let keep = self.coins.len().saturating_sub(count / 10);
-        while self.coins.len() > keep {
+        for _ in (keep..self.coins.len()).step_by(SPREAD) {
             let from = self.coins.len().saturating_sub(SPREAD).max(keep);
             self.spread_from(alloc, from)?;
         }
