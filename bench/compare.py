@@ -56,7 +56,7 @@ NODE = [
     *[(f"read-coin-{n}", f"each of so many coins read by each of {n} seats (`gettxout`)", [100_000]) for n in READERS],
     *[(f"read-best-{n}", f"`getbestblockhash` so often by each of {n} seats", [100_000]) for n in READERS],
     *[(f"read-beside-{n}", f"as read-coin-{n}, beside a seat that submits blocks of 2,000 payments", [100_000]) for n in READERS],
-    ("slowest", "the slowest of a million reads beside a seat that submits blocks of so many payments", [500, 1000, 2000, 4000]),
+    ("slowest", "the slowest of a million reads beside a seat that submits blocks of so many payments", [500, 4000]),
     ("publish-1", "ten blocks over so many coins, each of which changes one coin", [10_000, 1_000_000]),
     ("publish-100", "the same, 101 coins", [10_000, 1_000_000]),
     ("publish-10000", "the same, 10,001 coins", [10_000, 1_000_000]),
@@ -167,7 +167,7 @@ def measure(names, has_sha):
     for name, what, kind, sizes in WORKLOADS:
         if names and name not in names:
             continue
-        costs = [(size, least(name, size, sides, *((10, 5) if size == sizes[-1] else (2, 1)))) for size in sizes]
+        costs = [(size, least(name, size, sides, *((6, 3) if size == sizes[-1] else (2, 1)))) for size in sizes]
         size, times = costs[-1]
         print(f"{name:14} {size:9} " + " ".join(f"{t:12.6f}" for t in times), flush=True)
         rows.append((name, what, kind, costs))
@@ -181,7 +181,7 @@ def measure_node(names, has_sha):
     for name, what, sizes in NODE:
         if names and name not in names:
             continue
-        costs = [(size, least(name, size, sides, 5, 2 if size >= 1_000_000 else 3)) for size in sizes]
+        costs = [(size, least(name, size, sides, 4, 2)) for size in sizes]
         for size, times in costs:
             print(f"{name:14} {size:9} " + " ".join(f"{t:12.6f}" for t in times), flush=True)
         rows.append((name, what, "work", costs))
@@ -283,7 +283,7 @@ def table(rows, has_sha):
         "",
         f"{name}, {cores} cores, {platform.system()}; {'with' if has_sha else 'without'} SHA instructions. "
         f"Ours is built for {os.environ.get('BENCH_BUILD', 'the default processor').removeprefix('--cpu=')}. "
-        "Least of 5 to 15 runs, in seconds; a ratio below 1 means that ours is faster. "
+        "Least of 3 to 15 runs, in seconds; a ratio below 1 means that ours is faster. "
         f"The machine's load at the end was {os.getloadavg()[2]:.0f} on {cores} cores, the run's own among it. What the workloads are: "
         "[README](README.md).",
         "",
