@@ -1,10 +1,11 @@
 -- A view that shows what a new core tells is exact.
-use Rattle.std.proofs.Common.{◌≡◌, ℕ, ◌<◌, ◌≤◌, ap, sym, ◌∙◌, subst, map, arith, length}
-use Rattle.rules.specs.declared.params.Params.{Params}
+use Rattle.std.proofs.Common.{◌≡◌, ℕ, ◌<◌, ap, sym, ◌∙◌, subst, map, arith}
 use Rattle.tree.specs.Branches.{height}
 use Rattle.tree.specs.Limits.{max_blocks}
-use Rattle.tree.specs.State.{opening}
+use Rattle.block.specs.declared.block.Block.{Block}
+use Rattle.tree.specs.State.{State, opening}
 use Rattle.tree.specs.Tips.{tip_of_id}
+use Rattle.tree.specs.laws.Branches.{height-genesis}
 use Rattle.chain.specs.Regtest.{regtest}
 use Rattle.chain.specs.Settle.{active, best, tips}
 use Rattle.chain.specs.laws.Actives.{active_kept}
@@ -19,15 +20,18 @@ module _ (o : Origin) (core : CoreState) (x : ChainInfo) (is : core ≡ genesis_
     (best_is : x.best ≡ best (regtest core.params o.triples) core.state)
     (height_is : x.height ≡ height core.state.blocks (active (regtest core.params o.triples) core.state))
     (tips_are : x.tips ≡ map tip_of_id (tips (regtest core.params o.triples) core.state)) where
-  at : 0 ≡ active (regtest o.params o.triples) opening
-  at = let r = regtest o.params o.triples in
-      let low = active_kept r opening (opening_sound r).genesis in omega (arith, low)
+  abbrev start : State Block
+  start = opening {B = Block}
 
-  high : x.height ≡ height opening.blocks (active (regtest o.params o.triples) opening)
+  at : 0 ≡ active (regtest o.params o.triples) start
+  at = let r = regtest o.params o.triples in
+      let low = active_kept r start (opening_sound r).genesis in omega (arith, low)
+
+  high : x.height ≡ height start.blocks (active (regtest o.params o.triples) start)
   high = height_is ∙ ap (λ (c : CoreState). height c.state.blocks (active (regtest c.params o.triples) c.state)) is
 
   none : x.height ≡ 0
-  none = high ∙ ap (λ (p : ℕ). height opening.blocks p) (sym at)
+  none = high ∙ ap (λ (p : ℕ). height start.blocks p) (sym at) ∙ height-genesis start.blocks
 
   pub exact_at_first : IsExact (opening_view o x)
   exact_at_first = opening_exact o x (record {

@@ -2,7 +2,13 @@
 //!
 //! No public call of a node holds a reader inside, so the view is opened here by itself.
 
-ghost use Rattle.std.specs.Prelude.{◌≡◌, [], IfOk, drop};
+ghost use Rattle.std.specs.Prelude.{◌≡◌, [], IfOk, drop, map};
+ghost use Rattle.curve.specs.Triple.{Triples};
+ghost use Rattle.tree.specs.Branches.{height};
+ghost use Rattle.tree.specs.Tips.{tip_of_id};
+ghost use Rattle.chain.specs.Regtest.{regtest};
+ghost use Rattle.chain.specs.Settle.{active, best, tips};
+ghost use Rattle.activate.specs.CoreState.{Follows};
 ghost use Rattle.view.specs.ViewState.{IsExact};
 
 use activate::Core;
@@ -13,7 +19,7 @@ use std::sync::atomic::Ordering::SeqCst;
 use std::sync::atomic::{AtomicBool, AtomicU64};
 use std::sync::{Arc, Wait};
 use std::test::Fail;
-use std::thread::{Threads, join, yield_now};
+use std::thread::{Threads, spawn, yield_now};
 use view::{
     ChainInfo, Hub, Note, Tips, View, ViewReader, ViewWriter, another_reader, enter, open_writer,
     publish_opening,
@@ -58,7 +64,18 @@ impl Told {
 }
 
 /// Best block, height and tips of genesis alone.
-fn opening_info(alloc: Global, core: &Core) -> Result<ChainInfo, Memory> {
+fn opening_info(alloc: Global, core: &Core) -> Result<ChainInfo, Memory>
+    ensures best { (triples : Triples) → Follows core.now triples
+        → let r = regtest core.now.params triples in
+        IfOk result (λ info. info.best ≡ best r core.now.state) }
+    ensures height { (triples : Triples) → Follows core.now triples
+        → let r = regtest core.now.params triples in
+        let s = core.now.state in
+        IfOk result (λ info. info.height ≡ height s.blocks (active r s)) }
+    ensures tips { (triples : Triples) → Follows core.now triples
+        → let r = regtest core.now.params triples in
+        IfOk result (λ info. info.tips ≡ map tip_of_id (tips r core.now.state)) }
+{
     let tips = core.tips(alloc)?;
     Ok(ChainInfo {
         best: core.best(),
@@ -81,7 +98,8 @@ fn open_views(alloc: Global) -> Result<ViewWriter, Memory>
     let other = Arc::try_clone(&table)?;
     let first = View::new(alloc, params, table, 1, note.copy(), info);
     let second = View::new(alloc, params, other, 1, note.copy(), same);
-    open_writer(alloc, first, second, 2)
+    let writer = open_writer(alloc, first, second, 2)?;
+    Ok(writer)
 }
 
 /// A reader that stays inside, and another one.
@@ -149,14 +167,16 @@ fn expect_waiting<R: AllocGlobal + Threads + Wait + Sync + Abort>(rt: &R) -> Res
         is_inside: AtomicBool::new(false),
         published: AtomicU64::new(0),
     };
+    let told = Arc::new(rt.alloc(), told)?;
+    let theirs = Arc::try_clone(&told)?;
     let mut writer = open_views(rt.alloc())?;
     let Some((first, second)) = two_readers(&mut writer) else {
         drop(writer.take(rt));
         return Err(Memory.into());
     };
-    let writing = || publish_twice(rt, writer, &told);
-    let reading = || stay_inside(first, second, &told);
-    let (has_published, published) = join(rt, writing, reading);
+    let reader = spawn(rt, move || stay_inside(first, second, &theirs));
+    let has_published = publish_twice(rt, writer, &told);
+    let published = reader.ok().ok_or("a thread")?.join(rt);
     assert!(rt; has_published);
     assert_eq!(rt; published, Some(1));
     assert_eq!(rt; told.published.load(SeqCst), 2);
