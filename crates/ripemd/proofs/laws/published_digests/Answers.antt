@@ -7,5 +7,5 @@ returns-clause-nothing c = of_nothing
 pub returns-clause-abc : goal.returns-clause-abc
 returns-clause-abc c = of_abc
 
-pub returns-clause-two_blocks : goal.returns-clause-two_blocks
-returns-clause-two_blocks c = of_two_blocks
+pub returns-clause-longer : goal.returns-clause-longer
+returns-clause-longer c = of_two_blocks
