@@ -82,7 +82,7 @@ pub(crate) fn try_branch<B: Base, C: Crew>(
         gate,
     )? {
         Ok(ascent) => {
-            let changes = ascent.layer.changes(alloc)?;
+            let changes = ascent.layer.into_changes();
             Ok(Attempt::Succeeds(Reorganisation {
                 path,
                 undo: ascent.undo,

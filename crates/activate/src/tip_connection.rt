@@ -62,7 +62,7 @@ pub(crate) fn connect_tip<B: Base, C: Crew>(
     match connect(alloc, &mut layer, context, block, ids, env, gate)? {
         Err(reason) => Ok(Err(reason)),
         Ok(undo) => {
-            let changes = layer.changes(alloc)?;
+            let changes = layer.into_changes();
             Ok(Ok(ConnectedTip { undo, changes }))
         }
     }

@@ -1,7 +1,6 @@
 -- Entries over coins, changed at one outpoint.
-use Rattle.std.proofs.Common.{◌≡◌, Bool, true, false, cond, [], ◌∷◌, Option, Some, None, IsSome, Bor, Result, Ok, Err, OnOk, OnErr, IfOk, refl, sym, ap, subst, ◌∙◌}
+use Rattle.std.proofs.Common.{◌≡◌, Bool, true, false, cond, [], ◌∷◌, Option, Some, None, Result, Ok, Err, OnOk, OnErr, IfOk, refl, sym, ap, subst, ◌∙◌}
 use Rattle.std.specs.FinMap as map
-use Rattle.std.specs.Option.{option_copied}
 use Rattle.std.specs.Result.{is_err}
 use Rattle.std.specs.FinMap.{get}
 use Rattle.txn.specs.declared.outpoint.OutPoint.{OutPoint}

@@ -1,4 +1,5 @@
 pub mod Layers
 pub mod Listing
 pub mod Merging
+pub mod Naming
 pub mod Rooms

@@ -1,17 +1,20 @@
 -- The list of what a layer's entries change.
-use Rattle.std.proofs.Common.{◌≡◌, Bool, true, false, cond, [], ◌∷◌, ◌++◌, Option, Some, None, MatchOption, inl, inr, refl, sym, ap, subst, ◌∙◌}
+use Rattle.std.proofs.Common.{◌≡◌, ◌↔◌, IsTrue, Bool, true, false, cond, [], ◌∷◌, Option, Some, None, MatchOption, ◌⊎◌, inl, inr, refl, sym, ap, subst, ◌∙◌}
+use Rattle.std.specs.Prelude.{not}
 use Rattle.std.specs.FinMap as map
 use Rattle.std.specs.Map.{keys_of}
+use Rattle.std.specs.Map.Calls.{RetainsPairs}
 use Rattle.std.specs.List.{AllByRecursion, IsDistinct}
 use Rattle.std.specs.List.Sorted.{IsStrictlySortedBy}
-use Rattle.std.proofs.lemmas.List.{append_assoc, append-nil}
 use Rattle.std.proofs.lemmas.Map.Keys.{IsDistinct-from_sorted}
 use Rattle.txn.specs.declared.outpoint.OutPoint.{OutPoint}
 use Rattle.coins.specs.declared.entry.CacheEntry.{CacheEntry}
+use Rattle.coins.specs.declared.entry.CacheEntry.TheVariants.{Clean, Dirty, Fresh}
 use Rattle.coins.specs.Coins.{Coin, Coins, outpoint_cmp, same}
 use Rattle.coins.specs.Entries.{Entries, stands, over, entry_at, MarkHolds, IsSound}
 use Rattle.coins.specs.Changes.{Changes, change_at, AreChanges}
-use Rattle.coins.specs.inside.Changes.{Lists}
+use Rattle.coins.specs.inside.Changes.{named, IsAsBelow, AreChanging}
+use Rattle.coins.specs.inside.Entries.{own_coin}
 use Rattle.coins.specs.laws.Lookups.{same-true, same-self}
 use Rattle.coins.proofs.Layers.{stands_at, get-over}
 
@@ -42,26 +45,41 @@ marks_of m (e ∷ es) d h = (
 pub marks-sound : (m : Coins) (es : Entries) → IsStrictlySortedBy outpoint_cmp (keys_of es) → IsSound m es → MarksOf m es
 marks-sound m es ordered sound = marks_of m es (IsDistinct-from_sorted outpoint_cmp (keys_of es) ordered) sound.marks
 
--- one entry after the other
-pub lists_none : (m : Coins) (es : Entries) (cs : Changes) → ((ds : Changes) → Lists m [] ds → Lists m es (cs ++ ds)) → Lists m es cs
-unfolding Lists
-lists_none m es cs h = subst (Lists m es) (append-nil cs) (h [] refl)
+-- cs has, of these entries, those at which something else stands than below
+unfoldable Lists : Coins → Entries → Changes → Type 0
+Lists m [] cs = cs ≡ []
+Lists m (e ∷ es) cs =
+    ((stands e.1 (map.get m e.0) ≡ map.get m e.0) × Lists m es cs)
+    ⊎ ((ds : Changes) × (cs ≡ (e.0, stands e.1 (map.get m e.0)) ∷ ds) × (¬ (stands e.1 (map.get m e.0) ≡ map.get m e.0)) × Lists m es ds)
 
-pub lists_skip : (m : Coins) (es rest : Entries) (k : OutPoint) (e : CacheEntry) (cs : Changes)
-    → stands e (map.get m k) ≡ map.get m k
-    → ((ds : Changes) → Lists m ((k, e) ∷ rest) ds → Lists m es (cs ++ ds))
-    → (ds : Changes) → Lists m rest ds → Lists m es (cs ++ ds)
-unfolding Lists
-lists_skip m es rest k e cs alike h ds l = h ds (inl (alike, l))
+stays : (e : CacheEntry) (below : Option Coin) → IsAsBelow e below → stands e below ≡ below
+stays Clean below h = refl
+stays (Dirty coin) below h = h
+stays (Fresh coin) below h = absurd h
 
-pub lists_push : (m : Coins) (es rest : Entries) (k : OutPoint) (e : CacheEntry) (w : Option Coin) (cs : Changes)
-    → w ≡ stands e (map.get m k) → ¬ (w ≡ map.get m k)
-    → ((ds : Changes) → Lists m ((k, e) ∷ rest) ds → Lists m es (cs ++ ds))
-    → (ds : Changes) → Lists m rest ds → Lists m es ((cs ++ (k, w) ∷ []) ++ ds)
-unfolding Lists
-lists_push m es rest k e w cs now differs h ds l =
-    subst (Lists m es) (sym (append_assoc cs ((k, w) ∷ []) ds))
-    (h ((k, w) ∷ ds) (inr (ds, ap (λ (x : Option Coin). (k, x) ∷ ds) now, (λ x. differs (now ∙ x)), l)))
+moves : (e : CacheEntry) (below : Option Coin) → MarkHolds (Some e) below → ¬ IsAsBelow e below → ¬ (stands e below ≡ below)
+moves Clean below mark h = absurd (h tt)
+moves (Dirty coin) below mark h = h
+moves (Fresh coin) below mark h = λ same_as_below. let no : Some coin ≡ None = same_as_below ∙ mark in cc
+
+own : (e : CacheEntry) (below : Option Coin) → ¬ IsAsBelow e below → own_coin (Some e) ≡ stands e below
+own Clean below h = absurd (h tt)
+own (Dirty coin) below h = refl
+own (Fresh coin) below h = refl
+
+-- what the changing entries name is that list
+lists-named : (m : Coins) (es fs : Entries) → MarksOf m es → AreChanging m es fs → Lists m es (named fs)
+unfolding AreChanging Lists
+lists-named m [] fs marks l = ap named l
+lists-named m (e ∷ es) fs marks l = elim l [
+  | inl h ↦ inl (stays e.1 (map.get m e.0) h.0, lists-named m es fs marks.1 h.1)
+  | inr h ↦ inr (
+    named h.0,
+    ap named h.1 ∙ ap (λ (w : Option Coin). (e.0, w) ∷ named h.0) (own e.1 (map.get m e.0) h.2),
+    moves e.1 (map.get m e.0) marks.0 h.2,
+    lists-named m es h.0 marks.1 h.3,
+  )
+]
 
 -- what the list names at an outpoint, where this stands there now
 abbrev NamesRight : Option Coin → Option Coin → Option (Option Coin) → Type 0
@@ -129,8 +147,8 @@ others_from : (o : Option (Option Coin)) (below now : Option Coin) → NamesRigh
 others_from None below now h e = h
 others_from (Some v) below now h e = cc
 
-pub are_changes : (m : Coins) (es : Entries) (cs : Changes) → IsStrictlySortedBy outpoint_cmp (keys_of es) → Lists m es cs → AreChanges m (over m es) cs
-are_changes m es cs s l =
+changes_of : (m : Coins) (es : Entries) (cs : Changes) → IsStrictlySortedBy outpoint_cmp (keys_of es) → Lists m es cs → AreChanges m (over m es) cs
+changes_of m es cs s l =
     let right : (q : OutPoint) → NamesRight (map.get m q) (map.get (over m es) q) (change_at cs q)
     = λ q. subst (λ (x : Option Coin). NamesRight (map.get m q) x (change_at cs q)) (sym (get-over m es q)) (names_right m es cs q (IsDistinct-from_sorted outpoint_cmp (keys_of es) s) l) in
     record {
@@ -138,3 +156,22 @@ are_changes m es cs s l =
       differ = λ q w e. differ_from (change_at cs q) (map.get m q) (map.get (over m es) q) w (right q) e;
       others = λ q e. others_from (change_at cs q) (map.get m q) (map.get (over m es) q) (right q) e;
     }
+
+pub are_changes : (m : Coins) (es fs : Entries) → IsStrictlySortedBy outpoint_cmp (keys_of es) → IsSound m es → AreChanging m es fs → AreChanges m (over m es) (named fs)
+are_changes m es fs s sound l = changes_of m es (named fs) s (lists-named m es fs (marks-sound m es s sound) l)
+
+by_answer : (b : Bool) (m : Coins) (e : OutPoint × CacheEntry) (es fs gs : Entries) (w : CacheEntry) → (IsTrue (not b) ↔ IsAsBelow e.1 (map.get m e.0))
+    → w ≡ e.1 → fs ≡ cond b ((e.0, w) ∷ gs) gs → AreChanging m es gs → AreChanging m (e ∷ es) fs
+unfolding AreChanging
+by_answer true m e es fs gs w alike same_entry is rest = inr (gs, is ∙ ap (λ (x : CacheEntry). (e.0, x) ∷ gs) same_entry, (λ h. let no : false ≡ true = alike.1 h in cc), rest)
+by_answer false m e es fs gs w alike same_entry is rest = inl (alike.0 refl, subst (AreChanging m es) (sym is) rest)
+
+-- what `retain` leaves of entries, by a test that stays as it was and tells of each whether it changes what is below
+pub changing-from_retain : {F : Type 0} (T : F → OutPoint → CacheEntry → Bool → CacheEntry → F → Type 0) (m : Coins) (f : F)
+    → ((k : OutPoint) (e : CacheEntry) (b : Bool) (w : CacheEntry) (g : F) → T f k e b w g → (IsTrue (not b) ↔ IsAsBelow e (map.get m k)) × (w ≡ e) × (g ≡ f))
+    → (es fs : Entries) → RetainsPairs T f es fs → AreChanging m es fs
+unfolding AreChanging
+changing-from_retain T m f says [] fs r = r
+changing-from_retain T m f says (e ∷ es) fs r =
+    let told = says e.0 e.1 r.0 r.1 r.2 r.4 in
+    by_answer r.0 m e es fs r.3 r.1 told.0 told.1 r.6 (changing-from_retain T m f says es r.3 (subst (λ g. RetainsPairs T g es r.3) told.2 r.5))

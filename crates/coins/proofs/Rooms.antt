@@ -1,5 +1,5 @@
 -- Changes laid over coins.
-use Rattle.std.proofs.Common.{◌≡◌, ℕ, zero, suc, ◌<◌, length, get_or, inl, inr, ◌⊎◌, arith, Bool, true, false, cond, List, [], ◌∷◌, ◌++◌, Option, Some, None, refl, sym, ap, ◌∙◌}
+use Rattle.std.proofs.Common.{◌≡◌, inl, inr, ◌⊎◌, Bool, true, false, cond, List, [], ◌∷◌, ◌++◌, Option, Some, None, refl, sym, ap, ◌∙◌}
 use Rattle.std.specs.Prelude.{is_some, ◌||◌}
 use Rattle.std.specs.List.{list_any, AllByRecursion, IsDistinct}
 use Rattle.std.proofs.lemmas.List.Folds.{list_any-append}
@@ -55,6 +55,14 @@ cover_here (Some w) a b h = refl
 
 pub covered_laid : (m n : Coins) (ws : Changes) → Covered m n ws → after_changes n ws ≡ after_changes m ws
 covered_laid m n ws c = same_coins _ _ (λ q. get-laid n ws q ∙ cover_here (entry_for ws q) (map.get n q) (map.get m q) (c.at q) ∙ sym (get-laid m ws q))
+
+cover_one : (b : Bool) (n m : Option Coin) (o : Option (Option Coin)) → m ≡ cond b None n → (b ≡ true → is_some o ≡ true) → o ≡ None → n ≡ m
+cover_one true n m o h named none = let no : false ≡ true = ap (λ (x : Option (Option Coin)). is_some x) (sym none) ∙ named refl in cc
+cover_one false n m o h named none = sym h
+
+-- what is made ready is named
+pub covered_by : (m n : Coins) (cs : Changes) (added : List OutPoint) → Opened n m added → ((q : OutPoint) → list_any (same q) added ≡ true → is_some (entry_for cs q) ≡ true) → Covered m n cs
+covered_by m n cs added o named = record { at = λ q none. cover_one (list_any (same q) added) (map.get n q) (map.get m q) (entry_for cs q) (o.at q) (named q) none }
 
 or_here : (a b : Bool) (n w : Option Coin) → (b ≡ true → n ≡ None) → cond a None n ≡ cond (a || b) None n
 or_here true b n w h = refl
@@ -155,15 +163,6 @@ pub room_more : (n p : Coins) (cs : Changes) (c : OutPoint × Option Coin) → (
     → (is_some c.1 ≡ true → is_some (map.get p c.0) ≡ true) → HasRoomFor n cs → HasRoomFor p (cs ++ c ∷ [])
 room_more n p cs c keeps here r = record { all = all_push (λ x. is_some x.1 ≡ true → is_some (map.get p x.0) ≡ true) cs c (room_all n p cs keeps r.all) here }
 
-named_on : (b : Bool) (w : Option Coin) (o : Option (Option Coin)) → is_some o ≡ true → is_some (cond b (Some w) o) ≡ true
-named_on true w o h = refl
-named_on false w o h = h
-
-pub named_at : (cs : Changes) (i : ℕ) (d : OutPoint × Option Coin) → i < length cs → is_some (entry_for cs (get_or cs i d).0) ≡ true
-named_at [] i d h = absurd (omega arith)
-named_at (c ∷ cs) zero d h = ap (λ b. is_some (cond b (Some c.1) (entry_for cs c.0))) (same-self c.0)
-named_at (c ∷ cs) (suc i) d h = named_on (same (get_or cs i d).0 c.0) c.1 (entry_for cs (get_or cs i d).0) (named_at cs i d (omega arith))
-
 named_tied : (b : Bool) (cs : Changes) (k q : OutPoint) → same q k ≡ b → is_some (entry_for cs k) ≡ true → b ≡ true → is_some (entry_for cs q) ≡ true
 named_tied true cs k q h n t = ap (λ x. is_some (entry_for cs x)) (same-true q k h) ∙ n
 named_tied false cs k q h n t = cc
@@ -185,7 +184,3 @@ named_more cs added more k e n h q t = elim e [
 pub laid_nothing : (m : Coins) → after_changes m [] ≡ m
 unfolding after_changes
 laid_nothing m = refl
-
-pub no_length : {A : Type 0} (xs : List A) → length xs ≡ 0 → xs ≡ []
-no_length [] h = refl
-no_length (x ∷ xs) h = absurd (omega arith)

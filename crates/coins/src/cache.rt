@@ -7,7 +7,7 @@ ghost use Rattle.coins.specs.Changes.{AreChanges, after_changes};
 ghost use Rattle.coins.specs.Entries.{over, IsSound};
 
 use crate::base::Base;
-use crate::changes::{Changes, list};
+use crate::changes::{Changes, changing};
 use crate::coin::Coin;
 use crate::entry::{CacheEntry, holds_coin, lay_all, make_room, put, take};
 use crate::writes::Writes;
@@ -106,15 +106,14 @@ impl<'a, B: Base> Cache<'a, B> {
     }
 
     /// The outpoints at which the base and this layer differ, in order, each with the coin that stands
-    /// there now, or None where it is gone.
-    pub fn changes(&self, alloc: Global) -> Result<Changes, Memory>
-        ensures differences { IfOk result (λ changes.
-            AreChanges self.now.base self.now.coins changes) }
+    /// there now, or None where it is gone. They stay where the layer has them, so it takes no memory.
+    pub fn into_changes(self) -> Changes
+        ensures differences { AreChanges self.entry.base self.entry.coins result }
         // Laid over the base, they give the coins of this layer.
-        ensures laid { let base = self.now.base in
-            IfOk result (λ changes. after_changes base changes ≡ self.now.coins) }
+        ensures laid { after_changes self.entry.base result ≡ self.entry.coins }
     {
-        Ok(Changes::from_vec(list(alloc, &self.entries, self.base)?))
+        let Cache { base, entries } = self;
+        Changes::from_entries(changing(entries, base))
     }
 
     /// What this layer wrote, without the base.

@@ -1,14 +1,13 @@
 //! Lists of the coins that change.
 
-ghost use Rattle.std.specs.Prelude.{◌≡◌, ◌↔◌, IfOk, IsTrue, MatchOption, Some, [], length};
+ghost use Rattle.std.specs.Prelude.{◌≡◌, ◌↔◌, IfOk, IsTrue, [], length, not};
 ghost use Rattle.std.specs.Option.{option_copied};
 ghost use Rattle.std.specs.List.Sorted.{IsStrictlySortedBy};
 ghost use Rattle.std.specs.Map.{keys_of};
 ghost use Rattle.std.specs.FinMap as map;
 ghost use Rattle.coins.specs.Changes.{IsInOrder};
 ghost use Rattle.coins.specs.Coins.{outpoint_cmp};
-ghost use Rattle.coins.specs.Entries.{MarkHolds, IsSound, stands};
-ghost use Rattle.coins.specs.inside.Changes.{Lists};
+ghost use Rattle.coins.specs.inside.Changes.{named, IsAsBelow, AreChanging};
 
 use crate::base::Base;
 use crate::coin::Coin;
@@ -22,20 +21,21 @@ use wire::Memory;
 /// A coin that changes: its outpoint, and the coin that stands there after, or None where it is gone.
 pub type Change = (OutPoint, Option<Coin>);
 
-/// Coins that change, by rising outpoints. A clause sees their list.
+/// Coins that change, by rising outpoints: the entries of a layer, as they stood in it. A clause sees their list.
 #[derive(Drop)]
 pub struct Changes {
-    list: Vec<Change>,
+    entries: BTreeMap<OutPoint, CacheEntry>,
 }
 
 impl Model for Changes {
     ghost use Rattle.coins.specs.Changes.{Changes, IsInOrder};
+    ghost use Rattle.coins.specs.inside.Changes.{named};
 
     ghost Value = { Changes };
 
-    ghost view = { λ c. c.list.items };
+    ghost view = { λ c. named c.entries.entries };
 
-    ghost invariant = { λ c. IsInOrder c.list.items };
+    ghost invariant = { λ c. IsInOrder (named c.entries.entries) };
 }
 
 impl Changes {
@@ -44,106 +44,88 @@ impl Changes {
         ensures { result ≡ [] }
     {
         Changes {
-            list: Vec::new(alloc),
+            entries: BTreeMap::new(alloc),
         }
     }
 
-    /// The changes of this list, taken over.
-    pub(crate) fn from_vec(list: Vec<Change>) -> Changes
-        requires { IsInOrder list.items }
-        ensures { result ≡ list.items }
+    /// The changes that these entries name, taken over.
+    pub(crate) fn from_entries(entries: BTreeMap<OutPoint, CacheEntry>) -> Changes
+        requires { IsInOrder (named entries.entries) }
+        ensures { result ≡ named entries.entries }
     {
-        Changes { list }
+        Changes { entries }
     }
 
-    /// Their list, given up.
-    pub(crate) fn into_vec(self) -> Vec<Change>
-        ensures items { result.items ≡ self }
-        ensures in_order { IsInOrder result.items }
+    /// Their entries, given up.
+    pub(crate) fn into_entries(self) -> BTreeMap<OutPoint, CacheEntry>
+        ensures named { named result.entries ≡ self }
+        ensures in_order { IsInOrder (named result.entries) }
     {
-        let Changes { list } = self;
-        list
+        let Changes { entries } = self;
+        entries
     }
 
     /// Equal changes.
-    pub fn copy(&self, alloc: Global) -> Result<Changes, Memory>
+    pub fn copy(&self) -> Result<Changes, Memory>
         ensures { IfOk result (λ copy. copy ≡ self.now) }
     {
-        Ok(Changes::from_vec(copy_all(alloc, self.list.as_slice())?))
+        Ok(Changes::from_entries(self.entries.clone()?))
     }
 
-    /// Their list, lent.
-    pub fn as_slice(&self) -> &[Change]
-        ensures { result.now ≡ self.now }
+    /// Their list, copied.
+    pub fn to_vec(&self, alloc: Global) -> Result<Vec<Change>, Memory>
+        ensures { IfOk result (λ list. list.items ≡ self.now) }
     {
-        self.list.as_slice()
+        list(alloc, &self.entries)
     }
 
     /// How many there are.
     pub fn len(&self) -> usize
         ensures { result ≡ length self.now }
     {
-        self.list.len()
+        self.entries.len()
     }
 
     /// Whether there is none.
     pub fn is_empty(&self) -> bool
         ensures { IsTrue result ↔ (self.now ≡ []) }
     {
-        self.list.is_empty()
+        self.entries.is_empty()
     }
 }
 
-fn copy_all(alloc: Global, changes: &[Change]) -> Result<Vec<Change>, Memory>
-    ensures { IfOk result (λ copies. copies.items ≡ changes.now) }
+/// The list that entries name, copied.
+fn list(alloc: Global, entries: &BTreeMap<OutPoint, CacheEntry>) -> Result<Vec<Change>, Memory>
+    ensures { IfOk result (λ list. list.items ≡ named entries.now.entries) }
 {
-    let mut copies = Vec::with_capacity(alloc, changes.len())?;
-    for (at, coin) in changes {
-        copies.push((*at, copy(coin)?))?;
-    }
-    Ok(copies)
-}
-
-/// The changes that these entries make to what is below.
-pub(crate) fn list<B: Base>(
-    alloc: Global,
-    entries: &BTreeMap<OutPoint, CacheEntry>,
-    base: &B,
-) -> Result<Vec<Change>, Memory>
-    requires { IsSound (B.coins base.now) entries.now.entries }
-    ensures ordered { IsStrictlySortedBy outpoint_cmp (keys_of entries.now.entries) }
-    ensures lists { IfOk result (λ changes.
-        Lists (B.coins base.now) entries.now.entries changes.items) }
-{
-    let mut changes = Vec::new(alloc);
+    let mut list = Vec::with_capacity(alloc, entries.len())?;
     for (at, entry) in entries {
-        if let Some(coin) = change(entry, at, base)? {
-            changes.push((*at, coin))?;
-        }
+        list.push((*at, entry.own_coin()?))?;
     }
-    Ok(changes)
+    Ok(list)
 }
 
-/// What stands where an entry is, if that isn't what stands below. Below a fresh entry nobody looks.
-fn change<B: Base>(
-    entry: &CacheEntry,
-    at: &OutPoint,
+/// Those of these entries that change what is below. The others are dropped where they stand, which takes no memory.
+pub(crate) fn changing<B: Base>(
+    entries: BTreeMap<OutPoint, CacheEntry>,
     base: &B,
-) -> Result<Option<Option<Coin>>, Memory>
-    requires { MarkHolds (Some entry.now) (map.get (B.coins base.now) at.now) }
-    ensures { let below = map.get (B.coins base.now) at.now in
-        IfOk result (λ change. MatchOption change (stands entry.now below ≡ below) (λ coin.
-        (coin ≡ stands entry.now below) × (¬ (coin ≡ below)))) }
+) -> BTreeMap<OutPoint, CacheEntry>
+    ensures was_ordered { IsStrictlySortedBy outpoint_cmp (keys_of entries.entries) }
+    ensures changing { AreChanging (B.coins base.now) entries.entries result.entries }
+{
+    let mut kept = entries;
+    kept.retain(|at, entry| differs(entry, at, base));
+    kept
+}
+
+/// Whether an entry changes what is below. Below a fresh entry nobody looks.
+fn differs<B: Base>(entry: &CacheEntry, at: &OutPoint, base: &B) -> bool
+    ensures { IsTrue (not result) ↔ IsAsBelow entry.now (map.get (B.coins base.now) at.now) }
 {
     match entry {
-        CacheEntry::Clean => Ok(None),
-        CacheEntry::Fresh(coin) => Ok(Some(Some(coin.copy()?))),
-        CacheEntry::Dirty(coin) => {
-            if same(coin.as_ref(), base.get(at)) {
-                return Ok(None);
-            }
-            Ok(Some(copy(coin)?))
-        }
+        CacheEntry::Clean => false,
+        CacheEntry::Fresh(_) => true,
+        CacheEntry::Dirty(coin) => !same(coin.as_ref(), base.get(at)),
     }
 }
 
@@ -154,14 +136,5 @@ fn same(a: Option<&Coin>, b: Option<&Coin>) -> bool
         (Some(a), Some(b)) => a.same(b),
         (None, None) => true,
         _ => false,
-    }
-}
-
-fn copy(coin: &Option<Coin>) -> Result<Option<Coin>, Memory>
-    ensures { IfOk result (λ copy. copy ≡ coin.now) }
-{
-    match coin {
-        Some(coin) => Ok(Some(coin.copy()?)),
-        None => Ok(None),
     }
 }

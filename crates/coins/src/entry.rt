@@ -10,6 +10,7 @@ ghost use Rattle.coins.specs.inside.Entries.{added_entry, is_fresh, own_coin, st
 
 use crate::base::Base;
 use crate::coin::Coin;
+use std::alloc::AllocError;
 use std::collections::BTreeMap;
 use std::collections::btree_map::Entry;
 use txn::OutPoint;
@@ -24,6 +25,32 @@ pub enum CacheEntry {
     Dirty(Option<Coin>),
     /// DIRTY and FRESH: a coin where none stands below, so that nothing is left once it is spent.
     Fresh(Coin),
+}
+
+// A clone is the same value, so that a map of entries can be cloned.
+impl Clone for CacheEntry {
+    ghost is_clone = { λ old new. new ≡ old };
+
+    fn clone(&self) -> Result<CacheEntry, AllocError> {
+        match self {
+            CacheEntry::Clean => Ok(CacheEntry::Clean),
+            CacheEntry::Dirty(None) => Ok(CacheEntry::Dirty(None)),
+            CacheEntry::Dirty(Some(coin)) => Ok(CacheEntry::Dirty(Some(coin.clone()?))),
+            CacheEntry::Fresh(coin) => Ok(CacheEntry::Fresh(coin.clone()?)),
+        }
+    }
+}
+
+impl CacheEntry {
+    /// The coin that it holds, copied.
+    pub(crate) fn own_coin(&self) -> Result<Option<Coin>, Memory>
+        ensures { IfOk result (λ coin. coin ≡ own_coin (Some self.now)) }
+    {
+        match self {
+            CacheEntry::Dirty(Some(coin)) | CacheEntry::Fresh(coin) => Ok(Some(coin.copy()?)),
+            _ => Ok(None),
+        }
+    }
 }
 
 /// The entry of a coin that is added: fresh, unless one was spent here.
@@ -57,7 +84,7 @@ fn is_clean(entry: &CacheEntry) -> bool
     matches!(entry, CacheEntry::Clean)
 }
 
-fn coin_of(entry: Option<CacheEntry>) -> Option<Coin>
+pub(crate) fn coin_of(entry: Option<CacheEntry>) -> Option<Coin>
     ensures { result ≡ own_coin entry }
 {
     match entry {

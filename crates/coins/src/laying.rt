@@ -1,16 +1,19 @@
 //! Lists of changes laid over a plain map.
 
-ghost use Rattle.std.specs.Prelude.{◌≡◌, ◌⊎◌, ◌∷◌, [], ◌++◌, IfErr, OnOk, OnErr, true, is_some};
+ghost use Rattle.std.specs.Prelude.{◌≡◌, ◌⊎◌, ◌∷◌, [], ◌++◌, IfErr, OnOk, OnErr, Some, true, is_some};
 ghost use Rattle.std.specs.FinMap as map;
 ghost use Rattle.txn.specs.declared.outpoint.OutPoint.{OutPoint};
 ghost use Rattle.coins.specs.Coins.{Coins};
 ghost use Rattle.coins.specs.Changes.{IsInOrder, after_changes};
-ghost use Rattle.coins.specs.inside.Changes.{Opened, Covered, HasRoomFor};
+ghost use Rattle.coins.specs.inside.Changes.{named, Opened, Covered, HasRoomFor};
+ghost use Rattle.coins.specs.inside.Entries.{own_coin};
 
-use crate::changes::{Change, Changes};
+use crate::changes::Changes;
 use crate::coin::Coin;
 use crate::coin_map::CoinMap;
+use crate::entry::{CacheEntry, coin_of, holds_coin};
 use std::alloc::Global;
+use std::collections::BTreeMap;
 use txn::{OutPoint, Script};
 use wire::Memory;
 
@@ -20,7 +23,7 @@ impl CoinMap {
         ensures ok { OnOk result (self.new ≡ after_changes self.old changes.now) }
         ensures err { OnErr result (self.new ≡ self.old) }
     {
-        match self.lay_taken(alloc, changes.copy(alloc)?) {
+        match self.lay_taken(alloc, changes.copy()?) {
             Ok(()) => Ok(()),
             Err(_) => Err(Memory),
         }
@@ -32,10 +35,11 @@ impl CoinMap {
         ensures err { OnErr result (self.new ≡ self.old) }
         ensures given_back { IfErr result (λ back. back ≡ changes) }
     {
-        if make_room(alloc, self, changes.as_slice()).is_err() {
-            return Err(changes);
+        let entries = changes.into_entries();
+        if make_room(alloc, self, &entries).is_err() {
+            return Err(Changes::from_entries(entries));
         }
-        set_all(self, changes.into_vec());
+        set_all(self, entries);
         Ok(())
     }
 }
@@ -51,14 +55,18 @@ fn nothing(alloc: Global) -> Coin {
 }
 
 /// Has some coin wherever one is going to be written, or leaves the map as it was.
-fn make_room(alloc: Global, coins: &mut CoinMap, changes: &[Change]) -> Result<(), Memory>
-    ensures room { OnOk result (HasRoomFor coins.new changes.now) }
-    ensures others { OnOk result (Covered coins.old coins.new changes.now) }
+fn make_room(
+    alloc: Global,
+    coins: &mut CoinMap,
+    entries: &BTreeMap<OutPoint, CacheEntry>,
+) -> Result<(), Memory>
+    ensures room { OnOk result (HasRoomFor coins.new (named entries.now.entries)) }
+    ensures others { OnOk result (Covered coins.old coins.new (named entries.now.entries)) }
     ensures err { OnErr result (coins.new ≡ coins.old) }
 {
     let mut added = Vec::new(alloc);
-    for (at, coin) in changes {
-        if open(alloc, coins, &mut added, *at, coin).is_err() {
+    for (at, entry) in entries {
+        if open(alloc, coins, &mut added, *at, entry).is_err() {
             close_all(coins, &added);
             return Err(Memory);
         }
@@ -72,7 +80,7 @@ fn open(
     coins: &mut CoinMap,
     added: &mut Vec<OutPoint>,
     at: OutPoint,
-    coin: &Option<Coin>,
+    entry: &CacheEntry,
 ) -> Result<(), Memory>
     ensures opened { (m : Coins) → Opened coins.old m added.old.items →
         Opened coins.new m added.new.items }
@@ -80,9 +88,10 @@ fn open(
         (added.new.items ≡ added.old.items ++ at ∷ []) }
     ensures keeps { (q : OutPoint) → is_some (map.get coins.old q) ≡ true →
         is_some (map.get coins.new q) ≡ true }
-    ensures ready { OnOk result (is_some coin.now ≡ true → is_some (map.get coins.new at) ≡ true) }
+    ensures ready { let coin = own_coin (Some entry.now) in
+        OnOk result (is_some coin ≡ true → is_some (map.get coins.new at) ≡ true) }
 {
-    if coin.is_none() {
+    if !holds_coin(Some(entry)) {
         return Ok(());
     }
     if coins.has(&at) {
@@ -102,13 +111,13 @@ fn close_all(coins: &mut CoinMap, added: &[OutPoint])
     }
 }
 
-/// Writes all changes where there is room for them, which takes no memory.
-fn set_all(coins: &mut CoinMap, changes: Vec<Change>)
-    requires in_order { IsInOrder changes.items }
-    requires room { HasRoomFor coins.old changes.items }
-    ensures { coins.new ≡ after_changes coins.old changes.items }
+/// Writes all that entries name where there is room for it, which takes no memory.
+fn set_all(coins: &mut CoinMap, entries: BTreeMap<OutPoint, CacheEntry>)
+    requires in_order { IsInOrder (named entries.entries) }
+    requires room { HasRoomFor coins.old (named entries.entries) }
+    ensures { coins.new ≡ after_changes coins.old (named entries.entries) }
 {
-    for (at, coin) in changes {
-        coins.set(at, coin);
+    for (at, entry) in entries {
+        coins.set(at, coin_of(Some(entry)));
     }
 }

@@ -1,20 +1,34 @@
 -- What the functions that list and lay changes do.
-use Rattle.std.specs.Prelude.{◌≡◌, ◌⊎◌, true, if◌then◌else◌, List, [], ◌∷◌, Option, None, is_some}
+use Rattle.std.specs.Prelude.{◌≡◌, ◌⊎◌, true, if◌then◌else◌, List, [], ◌∷◌, Option, None, Some, is_some}
 use Rattle.std.specs.List.{list_any, AllByRecursion}
 use Rattle.std.specs.Map.{lookup}
 use Rattle.std.specs.BTreeMap.{is_at}
 use Rattle.std.specs.FinMap as map
 use Rattle.txn.specs.declared.outpoint.OutPoint.{OutPoint}
 use Rattle.coins.specs.Coins.{Coin, Coins, outpoint_cmp, same}
-use Rattle.coins.specs.Entries.{Entries, stands}
+use Rattle.coins.specs.declared.entry.CacheEntry.{CacheEntry}
+use Rattle.coins.specs.declared.entry.CacheEntry.TheVariants.{Clean, Dirty, Fresh}
+use Rattle.coins.specs.Entries.{Entries}
+use Rattle.coins.specs.inside.Entries.{own_coin}
 use Rattle.coins.specs.Changes.{Changes, change_at}
 
--- cs has, of these entries, those at which something else stands than below
-unfoldable pub Lists : Coins → Entries → Changes → Type 0
-Lists m [] cs = cs ≡ []
-Lists m (e ∷ es) cs =
-    ((stands e.1 (map.get m e.0) ≡ map.get m e.0) × Lists m es cs)
-    ⊎ ((ds : Changes) × (cs ≡ (e.0, stands e.1 (map.get m e.0)) ∷ ds) × (¬ (stands e.1 (map.get m e.0) ≡ map.get m e.0)) × Lists m es ds)
+-- the list of changes that entries name, each by the coin that it holds
+abbrev pub named : Entries → Changes
+named [] = []
+named (e ∷ es) = (e.0, own_coin (Some e.1)) ∷ named es
+
+-- where this stands below, an entry changes nothing
+abbrev pub IsAsBelow : CacheEntry → Option Coin → Type 0
+IsAsBelow Clean below = Unit {0}
+IsAsBelow (Dirty coin) below = coin ≡ below
+IsAsBelow (Fresh coin) below = ⊥
+
+-- fs are, of these entries, those that change what is below
+unfoldable pub AreChanging : Coins → Entries → Entries → Type 0
+AreChanging m [] fs = fs ≡ []
+AreChanging m (e ∷ es) fs =
+    (IsAsBelow e.1 (map.get m e.0) × AreChanging m es fs)
+    ⊎ ((gs : Entries) × (fs ≡ e ∷ gs) × (¬ IsAsBelow e.1 (map.get m e.0)) × AreChanging m es gs)
 
 -- m with coins at these outpoints, where it has none, is n
 pub record Opened (n m : Coins) (added : List OutPoint) : Type 0 where

@@ -86,8 +86,8 @@ connect_up-requires-clause-medians g c =
     ∙ ap (take (c.in_ok-path.path.height + 1)) c.requires.branch.medians_are
     ∙ shared c.args.active_branch.now.tree.now.blocks c.args.active_branch.now.active c.args.place c.in_ok-path.path c.in_ok-path.ensures.path c.requires.active
 
-pub returns-in_ok-changes-in-Ok : goal.returns-in_ok-changes-in-Ok
-returns-in_ok-changes-in-Ok g c =
+pub returns-in-Ok : goal.returns-in-Ok
+returns-in-Ok g c =
     let t = c.args.active_branch.now.tree.now.blocks in
     let a = c.args.active_branch.now.active in
     let r = regtest c.args.active_branch.now.params.now c.args.env.now.table.now in
@@ -102,9 +102,9 @@ returns-in_ok-changes-in-Ok g c =
       good = ap (branch_connects r t) (sym e) ∙ top.good;
       undo = top.spent;
       changes =
-          subst (λ (x : Coins). AreChanges x (coins_after t c.args.place) c.in_ok-changes-in-Ok.changes) below
-          (subst (λ (x : Coins). AreChanges c.in-Ok.ascent.layer.base x c.in_ok-changes-in-Ok.changes) after c.in_ok-changes-in-Ok.ensures.differences);
-      laid = ap (λ (x : Coins). after_changes x c.in_ok-changes-in-Ok.changes) (sym below) ∙ c.in_ok-changes-in-Ok.ensures.laid ∙ after;
+          subst (λ (x : Coins). AreChanges x (coins_after t c.args.place) c.into_changes-changes.changes) below
+          (subst (λ (x : Coins). AreChanges c.in-Ok.ascent.layer.base x c.into_changes-changes.changes) after c.into_changes-changes.ensures.differences);
+      laid = ap (λ (x : Coins). after_changes x c.into_changes-changes.changes) (sym below) ∙ c.into_changes-changes.ensures.laid ∙ after;
     }
 
 pub returns-in-Err : goal.returns-in-Err

@@ -9,6 +9,6 @@ pub returns-clause-ok : goal.returns-clause-ok
 returns-clause-ok c =
     let covered = on_not_err c.make_room.result (sym c.if-is_err.ensures.value) c.make_room.ensures.others in
     c.set_all.ensures
-    ∙ ap (λ (xs : Changes). after_changes c.make_room.new.coins xs) c.into_vec.ensures.items
+    ∙ ap (λ (xs : Changes). after_changes c.make_room.new.coins xs) c.into_entries-entries.ensures.named
     ∙ covered_laid c.args.self.now c.make_room.new.coins c.args.changes
-    (subst (λ (xs : Changes). Covered c.args.self.now c.make_room.new.coins xs) c.as_slice.ensures covered)
+    (subst (λ (xs : Changes). Covered c.args.self.now c.make_room.new.coins xs) c.into_entries-entries.ensures.named covered)
