@@ -82,6 +82,7 @@ OURS_ALONE = [
 MEMORY = [
     ("chain", "a block without payments, in a chainstate of one thread", 190, 2 * 190 + 300, [50_000, 100_000]),
     ("chain-heavy", "a block of almost a megabyte, likewise", 999_205, 2 * 999_205 + 300, [20, 60]),
+    ("chain-beside", "a block beside the active branch, likewise", 190, 2 * 190 + 300, [50_000, 100_000]),
     ("keep", "a block without payments, in a node", 190, 2 * 190 + 300, [50_000, 100_000]),
     ("keep-heavy", "a block of almost a megabyte, in a node", 999_205, 2 * 999_205 + 300, [20, 60]),
     ("hold-coins", "a coin with a script of 25 bytes, in a map", 0, 170, [500_000, 1_000_000]),

@@ -436,12 +436,25 @@ static std::string above(Branch branch, size_t height, size_t count) {
     stop();
     return std::to_string(chain.height());
 }
+static Blocks beside(uint32_t count) {
+    Blocks blocks;
+    for (uint32_t i = 0; i < count; i++) blocks.push_back(Branch{i + 10}.grown(1).at(0));
+    return blocks;
+}
+static std::string kept_beside(size_t count) {
+    Blocks blocks = beside(uint32_t(count));
+    Chain chain;
+    start();
+    submit_each(chain, blocks);
+    stop();
+    return std::to_string(chain.height());
+}
 static std::string reorganised(size_t depth) {
     Branch one{1}, other{2};
     Blocks first = one.grown(depth), second = other.grown(depth), last = other.grown(1);
     Chain chain;
     submit_each(chain, first);
-    for (uint32_t i = 0; i < 10000; i++) submit_each(chain, Branch{i + 10}.grown(1));
+    submit_each(chain, beside(10000));
     submit_each(chain, second);
     start();
     submit_each(chain, last);
@@ -483,6 +496,7 @@ int main(int count, char** words) {
         {"connect-4", [](size_t n) { return connected(n, 4); }},
         {"chain", [](size_t n) { return above(Branch{1}, 0, n); }},
         {"chain-heavy", [](size_t n) { return above(Branch{1, 999000}, 0, n); }},
+        {"chain-beside", kept_beside},
         {"blocks-above", [](size_t n) { return above(Branch{1}, n, 100); }},
         {"reorganise", reorganised},
         {"read-map", read_map},

@@ -94,6 +94,18 @@ pub fn blocks_above<R: AllocGlobal + Clock>(rt: &R, size: usize) -> Result<Outco
     above(rt, Branch::new(1), size, TIMED)
 }
 
+/// So many blocks on genesis, of which the first stays the active one and the others stand beside it. The height is the
+/// check.
+pub fn kept_beside<R: AllocGlobal + Clock>(rt: &R, size: usize) -> Result<Outcome, Fault> {
+    let alloc = rt.alloc();
+    let commands = beside(alloc, size)?;
+    let table = Table::new(alloc);
+    let mut chain = Chainstate::new(alloc)?;
+    let begin = Instant::now(rt)?;
+    take_each(alloc, &mut chain, &table, &commands)?;
+    Outcome::since(rt, begin, Check::Count(chain.height() as u64))
+}
+
 /// So many blocks of a branch submitted on a chain of some height.
 fn above<R: AllocGlobal + Clock>(
     rt: &R,

@@ -41,6 +41,7 @@ pub enum Workload {
     EarlyWide,
     Chain,
     ChainHeavy,
+    ChainBeside,
     BlocksAbove,
     Reorganise,
     ReadMap,
@@ -59,7 +60,7 @@ pub enum Workload {
 }
 
 /// Each workload with its name, and the small size at which it is done without words.
-pub const ALL: [(Workload, &str, usize); 60] = [
+pub const ALL: [(Workload, &str, usize); 61] = [
     (Workload::DoubleSha, "double-sha", 3),
     (Workload::Ripemd, "ripemd", 3),
     (Workload::RipemdLong, "ripemd-long", 200),
@@ -90,6 +91,7 @@ pub const ALL: [(Workload, &str, usize); 60] = [
     (Workload::EarlyWide, "early-wide", 5),
     (Workload::Chain, "chain", 20),
     (Workload::ChainHeavy, "chain-heavy", 1),
+    (Workload::ChainBeside, "chain-beside", 20),
     (Workload::BlocksAbove, "blocks-above", 5),
     (Workload::Reorganise, "reorganise", 3),
     (Workload::ReadMap, "read-map", 20),
@@ -164,6 +166,7 @@ impl Workload {
             Workload::EarlyWide => early_work::wide(rt, size),
             Workload::Chain => chain_work::chained(rt, size),
             Workload::ChainHeavy => chain_work::heavily_chained(rt, size),
+            Workload::ChainBeside => chain_work::kept_beside(rt, size),
             Workload::BlocksAbove => chain_work::blocks_above(rt, size),
             Workload::Reorganise => chain_work::reorganised(rt, size),
             _ => self.run_at_node(rt, size),
