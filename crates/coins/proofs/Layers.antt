@@ -7,9 +7,9 @@ use Rattle.txn.specs.declared.outpoint.OutPoint.{OutPoint}
 use Rattle.coins.specs.declared.entry.CacheEntry.{CacheEntry}
 use Rattle.coins.specs.declared.entry.CacheEntry.TheVariants.{Clean, Dirty, Fresh}
 use Rattle.coins.specs.Coins.{Coin, Coins, Layer, same, put}
-use Rattle.coins.specs.Entries.{Entries, stands, over, entry_at, MarkHolds, IsSound}
+use Rattle.coins.specs.Entries.{Entries, stands, over, entry_at, MarkHolds, IsSound, own_coin}
 pub use Rattle.coins.specs.inside.Entries.{stands_at}
-use Rattle.coins.specs.inside.Entries.{Written, added_entry, is_fresh, own_coin, entry_without_coin}
+use Rattle.coins.specs.inside.Entries.{Written, added_entry, is_fresh, entry_without_coin}
 use Rattle.coins.specs.laws.Lookups.{same_coins, same-true, same-sym, get-put}
 
 over_here : (b : Bool) (k q : OutPoint) (m : Coins) (e : CacheEntry) (o : Option CacheEntry) → same q k ≡ b → cond b (stands e (map.get m k)) (stands_at o (map.get m q)) ≡ stands_at (cond b (Some e) o) (map.get m q)

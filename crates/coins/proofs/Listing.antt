@@ -11,10 +11,9 @@ use Rattle.txn.specs.declared.outpoint.OutPoint.{OutPoint}
 use Rattle.coins.specs.declared.entry.CacheEntry.{CacheEntry}
 use Rattle.coins.specs.declared.entry.CacheEntry.TheVariants.{Clean, Dirty, Fresh}
 use Rattle.coins.specs.Coins.{Coin, Coins, outpoint_cmp, same}
-use Rattle.coins.specs.Entries.{Entries, stands, over, entry_at, MarkHolds, IsSound}
+use Rattle.coins.specs.Entries.{Entries, stands, over, entry_at, MarkHolds, IsSound, named, own_coin}
 use Rattle.coins.specs.Changes.{Changes, change_at, AreChanges}
-use Rattle.coins.specs.inside.Changes.{named, IsAsBelow, AreChanging}
-use Rattle.coins.specs.inside.Entries.{own_coin}
+use Rattle.coins.specs.inside.Changes.{IsAsBelow, AreChanging}
 use Rattle.coins.specs.laws.Lookups.{same-true, same-self}
 use Rattle.coins.proofs.Layers.{stands_at, get-over}
 

@@ -7,10 +7,8 @@ use Rattle.std.proofs.lemmas.List.{append-nil}
 use Rattle.txn.specs.declared.outpoint.OutPoint.{OutPoint}
 use Rattle.coins.specs.declared.entry.CacheEntry.{CacheEntry}
 use Rattle.coins.specs.Coins.{Coin, outpoint_cmp, same}
-use Rattle.coins.specs.Entries.{Entries}
+use Rattle.coins.specs.Entries.{Entries, named, own_coin}
 use Rattle.coins.specs.Changes.{Changes, change_at, IsInOrder}
-use Rattle.coins.specs.inside.Changes.{named}
-use Rattle.coins.specs.inside.Entries.{own_coin}
 use Rattle.coins.specs.laws.Lookups.{same-self}
 
 pub named_length : (es : Entries) → length (named es) ≡ length es

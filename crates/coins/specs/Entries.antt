@@ -7,6 +7,7 @@ use Rattle.txn.specs.declared.outpoint.OutPoint.{OutPoint}
 use Rattle.coins.specs.declared.entry.CacheEntry.{CacheEntry}
 use Rattle.coins.specs.declared.entry.CacheEntry.TheVariants.{Clean, Dirty, Fresh}
 use Rattle.coins.specs.Coins.{Coin, Coins, outpoint_cmp, put}
+use Rattle.coins.specs.Changes.{Changes}
 
 abbrev pub Entries : Type 0
 Entries = List (OutPoint × CacheEntry)
@@ -35,3 +36,15 @@ MarkHolds (Some (Fresh coin)) below = below ≡ None
 
 pub record IsSound (m : Coins) (es : Entries) : Type 0 where
   pub marks : (q : OutPoint) → MarkHolds (entry_at es q) (map.get m q)
+
+-- the coin that an entry holds
+abbrev pub own_coin : Option CacheEntry → Option Coin
+own_coin None = None
+own_coin (Some Clean) = None
+own_coin (Some (Dirty coin)) = coin
+own_coin (Some (Fresh coin)) = Some coin
+
+-- the list of changes that entries name, each by the coin that it holds
+abbrev pub named : Entries → Changes
+named [] = []
+named (e ∷ es) = (e.0, own_coin (Some e.1)) ∷ named es

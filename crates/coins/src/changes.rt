@@ -7,7 +7,8 @@ ghost use Rattle.std.specs.Map.{keys_of};
 ghost use Rattle.std.specs.FinMap as map;
 ghost use Rattle.coins.specs.Changes.{IsInOrder};
 ghost use Rattle.coins.specs.Coins.{outpoint_cmp};
-ghost use Rattle.coins.specs.inside.Changes.{named, IsAsBelow, AreChanging};
+ghost use Rattle.coins.specs.Entries.{named};
+ghost use Rattle.coins.specs.inside.Changes.{IsAsBelow, AreChanging};
 
 use crate::base::Base;
 use crate::coin::Coin;
@@ -29,7 +30,7 @@ pub struct Changes {
 
 impl Model for Changes {
     ghost use Rattle.coins.specs.Changes.{Changes, IsInOrder};
-    ghost use Rattle.coins.specs.inside.Changes.{named};
+    ghost use Rattle.coins.specs.Entries.{named};
 
     ghost Value = { Changes };
 

@@ -5,8 +5,8 @@ ghost use Rattle.std.specs.FinMap as map;
 ghost use Rattle.std.specs.Option.{option_copied};
 ghost use Rattle.txn.specs.declared.outpoint.OutPoint.{OutPoint};
 ghost use Rattle.coins.specs.declared.entry.CacheEntry.TheVariants.{Clean};
-ghost use Rattle.coins.specs.Entries.{entry_at};
-ghost use Rattle.coins.specs.inside.Entries.{added_entry, is_fresh, own_coin, stands_at, entry_without_coin, Written, AreReadied, HasRoom, merge_entry, merge_entry_at};
+ghost use Rattle.coins.specs.Entries.{entry_at, own_coin};
+ghost use Rattle.coins.specs.inside.Entries.{added_entry, is_fresh, stands_at, entry_without_coin, Written, AreReadied, HasRoom, merge_entry, merge_entry_at};
 
 use crate::base::Base;
 use crate::coin::Coin;

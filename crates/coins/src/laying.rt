@@ -5,8 +5,8 @@ ghost use Rattle.std.specs.FinMap as map;
 ghost use Rattle.txn.specs.declared.outpoint.OutPoint.{OutPoint};
 ghost use Rattle.coins.specs.Coins.{Coins};
 ghost use Rattle.coins.specs.Changes.{IsInOrder, after_changes};
-ghost use Rattle.coins.specs.inside.Changes.{named, Opened, Covered, HasRoomFor};
-ghost use Rattle.coins.specs.inside.Entries.{own_coin};
+ghost use Rattle.coins.specs.Entries.{named, own_coin};
+ghost use Rattle.coins.specs.inside.Changes.{Opened, Covered, HasRoomFor};
 
 use crate::changes::Changes;
 use crate::coin::Coin;

@@ -1,5 +1,5 @@
 -- What the functions that list and lay changes do.
-use Rattle.std.specs.Prelude.{◌≡◌, ◌⊎◌, true, if◌then◌else◌, List, [], ◌∷◌, Option, None, Some, is_some}
+use Rattle.std.specs.Prelude.{◌≡◌, ◌⊎◌, true, if◌then◌else◌, List, [], ◌∷◌, Option, None, is_some}
 use Rattle.std.specs.List.{list_any, AllByRecursion}
 use Rattle.std.specs.Map.{lookup}
 use Rattle.std.specs.BTreeMap.{is_at}
@@ -9,13 +9,7 @@ use Rattle.coins.specs.Coins.{Coin, Coins, outpoint_cmp, same}
 use Rattle.coins.specs.declared.entry.CacheEntry.{CacheEntry}
 use Rattle.coins.specs.declared.entry.CacheEntry.TheVariants.{Clean, Dirty, Fresh}
 use Rattle.coins.specs.Entries.{Entries}
-use Rattle.coins.specs.inside.Entries.{own_coin}
 use Rattle.coins.specs.Changes.{Changes, change_at}
-
--- the list of changes that entries name, each by the coin that it holds
-abbrev pub named : Entries → Changes
-named [] = []
-named (e ∷ es) = (e.0, own_coin (Some e.1)) ∷ named es
 
 -- where this stands below, an entry changes nothing
 abbrev pub IsAsBelow : CacheEntry → Option Coin → Type 0

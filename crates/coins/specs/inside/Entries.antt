@@ -24,13 +24,6 @@ is_fresh (Some Clean) = false
 is_fresh (Some (Dirty coin)) = false
 is_fresh (Some (Fresh coin)) = true
 
--- the coin that an entry holds
-abbrev pub own_coin : Option CacheEntry → Option Coin
-own_coin None = None
-own_coin (Some Clean) = None
-own_coin (Some (Dirty coin)) = coin
-own_coin (Some (Fresh coin)) = Some coin
-
 -- what stands where there is this entry, or none, by what stands there below
 abbrev pub stands_at : Option CacheEntry → Option Coin → Option Coin
 stands_at None below = below

@@ -1,9 +1,8 @@
 use Rattle.std.proofs.Common.{◌≡◌, [], ◌∷◌, ◌++◌, Option, sym, ap, ◌∙◌}
 use Rattle.std.proofs.lemmas.List.{append_assoc}
 use Rattle.coins.specs.Coins.{Coin}
-use Rattle.coins.specs.Entries.{Entries}
+use Rattle.coins.specs.Entries.{Entries, named}
 use Rattle.coins.specs.Changes.{Changes}
-use Rattle.coins.specs.inside.Changes.{named}
 use Rattle.coins.proofs.Naming.{named_one, all_of}
 use Rattle.coins.proofs.changes.list.Goals as goal
 

@@ -1,6 +1,5 @@
 use Rattle.std.proofs.Common.{◌≡◌, ◌++◌}
-use Rattle.coins.specs.Entries.{Entries}
-use Rattle.coins.specs.inside.Changes.{named}
+use Rattle.coins.specs.Entries.{Entries, named}
 use Rattle.coins.proofs.changes.list.Given as goal
 
 abbrev pub invariant-loop-at : goal.invariant-loop-at

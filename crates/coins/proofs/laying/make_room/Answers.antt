@@ -4,10 +4,9 @@ use Rattle.std.proofs.lemmas.List.{append_assoc}
 use Rattle.std.specs.List.{list_any}
 use Rattle.txn.specs.declared.outpoint.OutPoint.{OutPoint}
 use Rattle.coins.specs.Coins.{same}
-use Rattle.coins.specs.Entries.{Entries}
+use Rattle.coins.specs.Entries.{Entries, named, own_coin}
 use Rattle.coins.specs.Changes.{Changes, change_at}
-use Rattle.coins.specs.inside.Changes.{named, Opened, HasRoomFor}
-use Rattle.coins.specs.inside.Entries.{own_coin}
+use Rattle.coins.specs.inside.Changes.{Opened, HasRoomFor}
 use Rattle.coins.proofs.Layers.{on_not_err}
 use Rattle.coins.proofs.Naming.{named_one, named_in, all_of}
 use Rattle.coins.proofs.Rooms.{opened_back, room_more, named_more, covered_by}

@@ -3,9 +3,9 @@ use Rattle.std.specs.Prelude.{is_some}
 use Rattle.std.specs.List.{list_any}
 use Rattle.txn.specs.declared.outpoint.OutPoint.{OutPoint}
 use Rattle.coins.specs.Coins.{same}
-use Rattle.coins.specs.Entries.{Entries}
+use Rattle.coins.specs.Entries.{Entries, named}
 use Rattle.coins.specs.Changes.{change_at}
-use Rattle.coins.specs.inside.Changes.{named, Opened, HasRoomFor}
+use Rattle.coins.specs.inside.Changes.{Opened, HasRoomFor}
 use Rattle.coins.proofs.laying.make_room.Given as goal
 
 abbrev pub invariant-loop-at : goal.invariant-loop-at

@@ -8,10 +8,9 @@ use Rattle.std.proofs.lemmas.Map.Keys.{IsDistinct-from_sorted}
 use Rattle.txn.specs.declared.outpoint.OutPoint.{OutPoint}
 use Rattle.coins.specs.declared.entry.CacheEntry.{CacheEntry}
 use Rattle.coins.specs.Coins.{Coin, Coins, outpoint_cmp, put, same}
-use Rattle.coins.specs.Entries.{Entries}
+use Rattle.coins.specs.Entries.{Entries, named, own_coin}
 use Rattle.coins.specs.Changes.{after_changes}
-use Rattle.coins.specs.inside.Changes.{named, HasRoomFor}
-use Rattle.coins.specs.inside.Entries.{own_coin}
+use Rattle.coins.specs.inside.Changes.{HasRoomFor}
 use Rattle.coins.proofs.Rooms.{laid_first, laid_nothing, rest_distinct, room_rest, room_here}
 use Rattle.coins.proofs.laying.set_all.Goals as goal
 

@@ -3,7 +3,8 @@ use Rattle.std.specs.List.{IsDistinct}
 use Rattle.std.specs.Map.{keys_of}
 use Rattle.coins.specs.Coins.{same}
 use Rattle.coins.specs.Changes.{after_changes}
-use Rattle.coins.specs.inside.Changes.{named, HasRoomFor}
+use Rattle.coins.specs.Entries.{named}
+use Rattle.coins.specs.inside.Changes.{HasRoomFor}
 use Rattle.coins.proofs.laying.set_all.Given as goal
 
 abbrev pub invariant-loop-at : goal.invariant-loop-at

@@ -2,8 +2,8 @@ use Rattle.std.proofs.Common.{◌≡◌, None, ap, sym, ◌∙◌}
 use Rattle.std.specs.FinMap as map
 use Rattle.std.specs.Prelude.{is_some}
 use Rattle.coins.specs.Coins.{Layer}
-use Rattle.coins.specs.Entries.{entry_at}
-use Rattle.coins.specs.inside.Entries.{own_coin, stands_at}
+use Rattle.coins.specs.Entries.{entry_at, own_coin}
+use Rattle.coins.specs.inside.Entries.{stands_at}
 use Rattle.coins.proofs.Layers.{layer_get, own_stands}
 use Rattle.coins.proofs.cache.Cache.has_above.Goals as goal
 
