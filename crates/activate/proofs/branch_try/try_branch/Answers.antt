@@ -102,9 +102,9 @@ returns-in-Ok g c =
       good = ap (branch_connects r t) (sym e) ∙ top.good;
       undo = top.spent;
       changes =
-          subst (λ (x : Coins). AreChanges x (coins_after t c.args.place) c.into_changes-changes.changes) below
-          (subst (λ (x : Coins). AreChanges c.in-Ok.ascent.layer.base x c.into_changes-changes.changes) after c.into_changes-changes.ensures.differences);
-      laid = ap (λ (x : Coins). after_changes x c.into_changes-changes.changes) (sym below) ∙ c.into_changes-changes.ensures.laid ∙ after;
+          subst (λ (x : Coins). AreChanges x (coins_after t c.args.place) c.into_changes-changes.result) below
+          (subst (λ (x : Coins). AreChanges c.in-Ok.ascent.layer.base x c.into_changes-changes.result) after c.into_changes-changes.ensures.differences);
+      laid = ap (λ (x : Coins). after_changes x c.into_changes-changes.result) (sym below) ∙ c.into_changes-changes.ensures.laid ∙ after;
     }
 
 pub returns-in-Err : goal.returns-in-Err
