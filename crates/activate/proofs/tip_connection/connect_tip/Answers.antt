@@ -15,8 +15,8 @@ returns-in-Err-clause-fault g c =
     ∙ (fault-found (setting c.args.context.now) coins c.args.block.now.txs c.args.env.now.table.now found).0
     (subst (λ (m : Coins). IsConnectFault (setting c.args.context.now) m c.args.block.now.txs c.args.env.now.table.now found) c.over-layer.ensures.coins c.in_ok-reason.ensures.fault)
 
-pub returns-clause-fault : goal.returns-clause-fault
-returns-clause-fault g c =
+pub returns-in-Ok-clause-fault : goal.returns-in-Ok-clause-fault
+returns-in-Ok-clause-fault g c =
     let coins : Coins = g.B.Base.coins c.args.base.now in
     let found : Option Reason = result_err c.in_ok-reason.field-0 in
     ap (λ r. result_err r) (sym c.in-Ok.is)
