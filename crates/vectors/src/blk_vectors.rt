@@ -71,9 +71,8 @@ fn zero_bytes_end_the_file(rt: HostRuntime) -> Result<(), Fail> {
     let file = record(rt.alloc(), &[0, 0])?;
     let mut reader = BlkReader::new(rt.alloc(), SliceSource::new(&file));
     let block = reader.next()?.ok_or("a block")?;
-    assert_eq!(rt; block.as_slice(), GENESIS.as_slice());
-    assert!(rt; reader.next()?.is_none());
-    assert!(rt; reader.next()?.is_none());
+    assert!(rt; block.as_slice() == GENESIS.as_slice());
+    assert!(rt; reader.next()?.is_none() && reader.next()?.is_none());
     Ok(())
 }
 
@@ -82,9 +81,12 @@ fn foreign_bytes_stop_the_reader(rt: HostRuntime) -> Result<(), Fail> {
     let file = record(rt.alloc(), &[0, 0xfa])?;
     let mut reader = BlkReader::new(rt.alloc(), SliceSource::new(&file));
     let block = reader.next()?.ok_or("a block")?;
-    assert_eq!(rt; block.as_slice(), GENESIS.as_slice());
-    assert_eq!(rt; reader.next().err(), Some(BlkFault::Foreign(293)));
-    assert_eq!(rt; reader.next().err(), Some(BlkFault::Stopped));
+    assert!(rt; block.as_slice() == GENESIS.as_slice());
+    let faults = [reader.next().err(), reader.next().err()];
+    assert_eq!(rt;
+        faults,
+        [Some(BlkFault::Foreign(293)), Some(BlkFault::Stopped)]
+    );
     Ok(())
 }
 
@@ -96,19 +98,24 @@ fn records_follow_byte_by_byte(rt: HostRuntime) -> Result<(), Fail> {
     let mut reader = BlkReader::new(rt.alloc(), ByteByByte { inner });
     for _ in 0..2 {
         let block = reader.next()?.ok_or("a block")?;
-        assert_eq!(rt; block.as_slice(), GENESIS.as_slice());
+        assert!(rt; block.as_slice() == GENESIS.as_slice());
     }
     assert!(rt; reader.next()?.is_none());
     Ok(())
 }
 
-/// What the first call answers for the first bytes of the genesis block's record.
-fn fault_of(count: usize) -> Option<BlkFault> {
+/// What the first call answers for so many of the first bytes of the genesis block's record.
+fn answer_of(count: usize) -> Result<bool, BlkFault> {
     match count {
-        0 => None,
-        1..=3 => Some(BlkFault::Foreign(0)),
-        _ => Some(BlkFault::Cut(0)),
+        0 => Ok(false),
+        1..=3 => Err(BlkFault::Foreign(0)),
+        _ => Err(BlkFault::Cut(0)),
     }
+}
+
+/// Whether there is a block at the first call.
+fn answer<S: Source + Drop>(alloc: Global, source: S) -> Result<bool, BlkFault> {
+    Ok(BlkReader::new(alloc, source).next()?.is_some())
 }
 
 #[test]
@@ -116,13 +123,14 @@ fn fronts_of_a_record(rt: HostRuntime) -> Result<(), Fail> {
     let file = record(rt.alloc(), &[])?;
     for count in 0..293 {
         let (front, _) = file.split_at(count.min(file.len()));
-        let mut whole = BlkReader::new(rt.alloc(), SliceSource::new(front));
-        let found = whole.next().map(|found| found.is_none());
-        assert_eq!(rt; found, fault_of(count).map_or(Ok(true), Err));
+        let whole = answer(rt.alloc(), SliceSource::new(front));
         let inner = SliceSource::new(front);
-        let mut bytes = BlkReader::new(rt.alloc(), ByteByByte { inner });
-        let found = bytes.next().map(|found| found.is_none());
-        assert_eq!(rt; found, fault_of(count).map_or(Ok(true), Err));
+        let bytes = answer(rt.alloc(), ByteByByte { inner });
+        let expected = answer_of(count);
+        assert!(rt;
+            [whole, bytes] == [expected, expected],
+            "of {count}: {whole:?}, {bytes:?}"
+        );
     }
     Ok(())
 }
@@ -137,37 +145,41 @@ fn a_failed_read_stops_the_reader(rt: HostRuntime) -> Result<(), Fail> {
             has_failed: false,
         };
         let mut reader = BlkReader::new(rt.alloc(), source);
-        assert_eq!(rt; reader.next().err(), Some(BlkFault::Read));
-        assert_eq!(rt; reader.next().err(), Some(BlkFault::Stopped));
+        let faults = [reader.next().err(), reader.next().err()];
+        assert!(rt;
+            faults == [Some(BlkFault::Read), Some(BlkFault::Stopped)],
+            "{left}: {faults:?}"
+        );
     }
     Ok(())
 }
 
 #[test]
-fn a_length_above_the_limit(rt: HostRuntime) -> Result<(), Fail> {
-    // 33554433, with nothing behind it
-    let file = [0xfa, 0xbf, 0xb5, 0xda, 0x01, 0x00, 0x00, 0x02];
-    let mut reader = BlkReader::new(rt.alloc(), SliceSource::new(&file));
-    assert_eq!(rt; reader.next().err(), Some(BlkFault::TooLong(0)));
-    // 33554432: the record is cut
-    let file = [0xfa, 0xbf, 0xb5, 0xda, 0x00, 0x00, 0x00, 0x02];
-    let mut reader = BlkReader::new(rt.alloc(), SliceSource::new(&file));
-    assert_eq!(rt; reader.next().err(), Some(BlkFault::Cut(0)));
-    Ok(())
+fn a_length_above_the_limit(rt: HostRuntime) {
+    // 33554433, with nothing behind it; and 33554432: that record is cut.
+    let long = [0xfa, 0xbf, 0xb5, 0xda, 0x01, 0x00, 0x00, 0x02];
+    let longest = [0xfa, 0xbf, 0xb5, 0xda, 0x00, 0x00, 0x00, 0x02];
+    let found = [
+        answer(rt.alloc(), SliceSource::new(&long)),
+        answer(rt.alloc(), SliceSource::new(&longest)),
+    ];
+    assert_eq!(rt; found, [Err(BlkFault::TooLong(0)), Err(BlkFault::Cut(0))]);
 }
+
+const TEXTS: [(BlkFault, &[u8]); 6] = [
+    (BlkFault::Foreign(293), b"no record at 293"),
+    (BlkFault::Cut(0), b"the record at 0 ends early"),
+    (BlkFault::TooLong(8), b"the record at 8 is too long"),
+    (BlkFault::Read, b"a read failed"),
+    (BlkFault::Memory, b"out of memory"),
+    (BlkFault::Stopped, b"stopped at an earlier fault"),
+];
 
 #[test]
 fn texts_of_faults(rt: HostRuntime) -> Result<(), Fail> {
-    let faults = [
-        (BlkFault::Foreign(293), "no record at 293"),
-        (BlkFault::Cut(0), "the record at 0 ends early"),
-        (BlkFault::TooLong(8), "the record at 8 is too long"),
-        (BlkFault::Read, "a read failed"),
-        (BlkFault::Memory, "out of memory"),
-        (BlkFault::Stopped, "stopped at an earlier fault"),
-    ];
-    for (fault, text) in faults {
-        assert_eq!(rt; format!(in rt.alloc(); "{fault}")?.as_str(), text);
+    for (fault, text) in TEXTS {
+        let shown = format!(in rt.alloc(); "{fault}")?;
+        assert!(rt; shown.as_bytes() == text, "{fault}");
     }
     Ok(())
 }

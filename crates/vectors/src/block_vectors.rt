@@ -1,8 +1,8 @@
 //! What no clause says of blocks: outside values, and each call once.
 
 use block::{
-    GENESIS, GENESIS_ID, GENESIS_ROOT, GENESIS_TIME, ReadFault, meets_target, merkle, read, size,
-    subsidy, write,
+    GENESIS, GENESIS_ID, GENESIS_ROOT, GENESIS_TIME, Header, ReadFault, meets_target, merkle, read,
+    size, subsidy, write,
 };
 use hash::Id;
 use std::test::*;
@@ -16,23 +16,39 @@ const GENESIS_ROOT_TEXT: &str = "4a5e1e4baab89f3a32518a88c31bc87f618f76673e2cc77
 #[test]
 fn genesis(rt: HostRuntime) -> Result<(), Fail> {
     let block = read(rt.alloc(), &GENESIS)?;
-    assert_eq!(rt; Id::read(GENESIS_ROOT_TEXT.as_bytes()), Some(GENESIS_ROOT));
-    assert_eq!(rt; (block.id(), block.header.root), (GENESIS_ID, GENESIS_ROOT));
+    let expected = Header {
+        version: 1,
+        prev: OutPoint::NULL.id,
+        root: Id::read(GENESIS_ROOT_TEXT.as_bytes()).ok_or("64 digits")?,
+        time: GENESIS_TIME,
+        bits: 0x207f_ffff,
+        nonce: 2,
+    };
+    assert!(rt; block.header == expected);
+    let id = Id::read(GENESIS_ID_TEXT.as_bytes()).ok_or("64 digits")?;
     assert_eq!(rt;
-        (block.header.version, block.header.time),
-        (1, GENESIS_TIME)
+        [block.id(), GENESIS_ID, GENESIS_ROOT],
+        [id, id, expected.root]
     );
-    assert_eq!(rt; (block.header.bits, block.header.nonce), (0x207f_ffff, 2));
-    assert_eq!(rt; block.header.prev, OutPoint::NULL.id);
-    assert!(rt; meets_target(&block.id()));
-    assert_eq!(rt; (block.txs.len(), size(&block)), (1, 285));
-    for tx in block.txs.as_slice() {
-        assert_eq!(rt; tx.id(), GENESIS_ROOT);
-        assert!(rt; tx.is_coinbase());
-    }
+    assert!(rt; meets_target(&block.id()) && size(&block) == 285);
+    Ok(())
+}
+
+#[test]
+fn a_copy_written(rt: HostRuntime) -> Result<(), Fail> {
+    let copy = read(rt.alloc(), &GENESIS)?.copy()?;
     let mut out = Vec::new(rt.alloc());
-    write(&block.copy()?, &mut out)?;
-    assert_eq!(rt; out.as_slice(), GENESIS.as_slice());
+    write(&copy, &mut out)?;
+    assert!(rt; out.as_slice() == GENESIS.as_slice());
+    Ok(())
+}
+
+#[test]
+fn genesis_coinbase(rt: HostRuntime) -> Result<(), Fail> {
+    let block = read(rt.alloc(), &GENESIS)?;
+    let coinbase = block.txs.as_slice().first().ok_or("a coinbase")?;
+    let found = (block.txs.len(), coinbase.id(), coinbase.is_coinbase());
+    assert_eq!(rt; found, (1, GENESIS_ROOT, true));
     Ok(())
 }
 
@@ -40,25 +56,29 @@ fn genesis(rt: HostRuntime) -> Result<(), Fail> {
 fn faults(rt: HostRuntime) -> Result<(), Fail> {
     for count in 0..GENESIS.len() {
         let (front, _) = GENESIS.split_at(count);
-        assert_eq!(rt; read(rt.alloc(), front).err(), Some(ReadFault::Short));
+        assert!(rt;
+            read(rt.alloc(), front).err() == Some(ReadFault::Short),
+            "{count}"
+        );
     }
     let mut more = Vec::from_slice(rt.alloc(), &GENESIS)?;
     more.push(0)?;
-    assert_eq!(rt; read(rt.alloc(), &more).err(), Some(ReadFault::Extra));
+    assert!(rt; read(rt.alloc(), &more).err() == Some(ReadFault::Extra));
+    Ok(())
+}
+
+#[test]
+fn texts_of_faults(rt: HostRuntime) -> Result<(), Fail> {
     let text = format!(in rt.alloc(); "{}; {}", ReadFault::Extra, ReadFault::LongForm)?;
-    assert_eq!(rt;
-        text.as_str(),
-        "bytes stand after the block; a count is spelled in more bytes than it needs"
-    );
+    let expected = "bytes stand after the block; a count is spelled in more bytes than it needs";
+    assert!(rt; text.as_str() == expected);
     Ok(())
 }
 
 #[test]
 fn subsidies(rt: HostRuntime) {
-    assert_eq!(rt; subsidy(149), 5_000_000_000);
-    assert_eq!(rt; subsidy(150), 2_500_000_000);
-    assert_eq!(rt; subsidy(4949), 1);
-    assert_eq!(rt; subsidy(4950), 0);
+    let found = [subsidy(149), subsidy(150), subsidy(4949), subsidy(4950)];
+    assert_eq!(rt; found, [5_000_000_000, 2_500_000_000, 1, 0]);
 }
 
 #[test]
@@ -67,14 +87,28 @@ fn targets(rt: HostRuntime) {
     limit[29] = 0xff;
     limit[30] = 0xff;
     limit[31] = 0x7f;
-    assert!(rt; meets_target(&Id(limit)));
-    limit[0] = 1;
-    assert!(rt; !meets_target(&Id(limit)));
-    limit[31] = 0x7e;
-    assert!(rt; meets_target(&Id(limit)));
+    let mut above = limit;
+    above[0] = 1;
+    let mut below = above;
+    below[31] = 0x7e;
+    let found = [
+        meets_target(&Id(limit)),
+        meets_target(&Id(above)),
+        meets_target(&Id(below)),
+    ];
+    assert_eq!(rt; found, [true, false, true]);
 }
 
-/// Roots of the ids of 32 times 1, 32 times 2 and so on, two, three and five of them, as Python's hashlib gives them.
+/// The ids of 32 times 1, 32 times 2 and so on.
+const IDS: [Id; 5] = [
+    Id([1; 32]),
+    Id([2; 32]),
+    Id([3; 32]),
+    Id([4; 32]),
+    Id([5; 32]),
+];
+
+/// The roots of two, three and five of them, as Python's hashlib gives them.
 const ROOTS: [(usize, &str); 3] = [
     (
         2,
@@ -92,23 +126,30 @@ const ROOTS: [(usize, &str); 3] = [
 
 #[test]
 fn merkle_roots(rt: HostRuntime) -> Result<(), Fail> {
-    let ids = [
-        Id([1; 32]),
-        Id([2; 32]),
-        Id([3; 32]),
-        Id([4; 32]),
-        Id([5; 32]),
-    ];
-    assert_eq!(rt; merkle(rt.alloc(), &[])?, (Id([0; 32]), false));
-    assert_eq!(rt; merkle(rt.alloc(), &ids[..1])?, (ids[0], false));
     for (count, expected) in ROOTS {
         let expected = Id::read(expected.as_bytes()).ok_or("64 digits")?;
-        let (front, _) = ids.split_at(count.min(5));
-        assert_eq!(rt; merkle(rt.alloc(), front)?, (expected, false));
+        let (front, _) = IDS.split_at(count.min(5));
+        assert!(rt;
+            merkle(rt.alloc(), front)? == (expected, false),
+            "of {count}"
+        );
     }
-    // Three ids have the root of four of which the last two are equal: those are the twin.
-    let (three, _) = merkle(rt.alloc(), &ids[..3])?;
-    let twin = [ids[0], ids[1], ids[2], ids[2]];
-    assert_eq!(rt; merkle(rt.alloc(), &twin)?, (three, true));
+    Ok(())
+}
+
+/// No id has the root 0, and one is its own root. Three ids have the root of four of which the last two are equal: those
+/// are the twin.
+#[test]
+fn roots_of_few_ids_and_twins(rt: HostRuntime) -> Result<(), Fail> {
+    let (three, _) = merkle(rt.alloc(), &IDS[..3])?;
+    let found = [
+        merkle(rt.alloc(), &[])?,
+        merkle(rt.alloc(), &IDS[..1])?,
+        merkle(rt.alloc(), &[IDS[0], IDS[1], IDS[2], IDS[2]])?,
+    ];
+    assert_eq!(rt;
+        found,
+        [(Id([0; 32]), false), (IDS[0], false), (three, true)]
+    );
     Ok(())
 }

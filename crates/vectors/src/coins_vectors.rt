@@ -36,8 +36,7 @@ fn a_map(rt: HostRuntime) -> Result<(), Fail> {
     map.insert(place(1), coin(rt.alloc(), 10)?)?;
     map.insert(place(2), coin(rt.alloc(), 20)?)?;
     map.remove(&place(2));
-    assert_eq!(rt; value_at(&map, 1), Some(10));
-    assert_eq!(rt; value_at(&map, 2), None);
+    assert_eq!(rt; [value_at(&map, 1), value_at(&map, 2)], [Some(10), None]);
     assert!(rt; coin(rt.alloc(), 3)?.same(&coin(rt.alloc(), 3)?.copy()?));
     Ok(())
 }
@@ -136,7 +135,7 @@ impl Trial {
         let writes = self.middle(alloc, &layer)?;
         layer.absorb(writes)?;
         self.turns(alloc, &mut layer)?;
-        layer.changes(alloc)
+        Ok(layer.into_changes())
     }
 
     /// Compares a list of changes with the values before and now, place by place, and their sums.
@@ -189,9 +188,9 @@ fn layers_over_layers_by_chance(rt: HostRuntime) -> Result<(), Fail> {
     for round in 0..40u8 {
         let before = trial.values;
         let changes = trial.low(rt.alloc(), &map)?;
-        trial.compare(&before, changes.as_slice());
-        let copy = changes.copy(rt.alloc())?;
-        trial.compare(&before, copy.as_slice());
+        trial.compare(&before, &changes.to_vec(rt.alloc())?);
+        let copy = changes.copy()?;
+        trial.compare(&before, &copy.to_vec(rt.alloc())?);
         assert!(rt; copy.len() == changes.len() && copy.is_empty() == changes.is_empty());
         if round % 2 == 0 {
             map.lay(rt.alloc(), &changes)?;

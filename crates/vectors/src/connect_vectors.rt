@@ -2,6 +2,7 @@
 
 ghost use Rattle.std.specs.Prelude.{◌≡◌, ◌≤◌, All};
 
+use crate::connect_cases::{CASES, FINAL, GOOD, HEIGHT, Payment, SUBSIDY, Spends};
 use crate::queue_vectors::Tally;
 use block::{Block, GENESIS_ID, Header, Txs, meets_target, merkle};
 use coins::{Base, Cache, Coin, CoinMap};
@@ -20,17 +21,8 @@ use std::test::*;
 use txn::{Inputs, OutPoint, Outputs, Reason, Script, Tx, TxIn, TxOut, ids};
 use wire::Memory;
 
-/// Scripts that accept and refuse.
-const GOOD: &[u8] = &[0x51];
-
+/// A script that refuses.
 const BAD: &[u8] = &[0x00];
-
-const HEIGHT: u32 = 120;
-
-const SUBSIDY: i64 = 50 * 100_000_000;
-
-/// No relative lock.
-const FINAL: u32 = 0xffff_ffff;
 
 /// The coins of the tests stand at the outpoints of one id.
 fn at(index: u32) -> OutPoint {
@@ -211,91 +203,53 @@ fn at_height(
     judged(alloc, &mut cache, &context, &block, 1, &Alone)
 }
 
+/// What a payment spends after these others; the null outpoint where there is no such payment.
+fn outpoint(txs: &[Tx], spends: Spends) -> OutPoint {
+    match spends {
+        Spends::Coin(index) => at(index),
+        Spends::Payment(place) => match txs.get(place) {
+            Some(tx) => first_output(tx),
+            None => OutPoint::NULL,
+        },
+    }
+}
+
+/// The transactions of payments, in this order.
+fn paying(alloc: Global, payments: &[Payment]) -> Result<Vec<Tx>, Memory> {
+    let mut txs: Vec<Tx> = Vec::new(alloc);
+    for payment in payments {
+        let prev = outpoint(&txs, payment.spends);
+        let tx = transaction(
+            alloc,
+            payment.version,
+            &[(prev, &[], payment.sequence)],
+            &[(payment.value, payment.script)],
+        )?;
+        txs.push(tx)?;
+    }
+    Ok(txs)
+}
+
+/// The outpoint of a transaction's first output.
+fn first_output(tx: &Tx) -> OutPoint {
+    OutPoint {
+        id: tx.id(),
+        index: 0,
+    }
+}
+
 #[test]
-fn subsidy_and_fees(rt: HostRuntime) -> Result<(), Fail> {
+fn blocks(rt: HostRuntime) -> Result<(), Fail> {
     let alloc = rt.alloc();
     let map = funded(alloc, 2)?;
-    let none = Vec::new(alloc);
-    assert_eq!(rt; answer(alloc, &map, SUBSIDY, none)?, None);
-    let none = Vec::new(alloc);
-    assert_eq!(rt;
-        answer(alloc, &map, SUBSIDY + 1, none)?,
-        Some(Reason::CoinbaseAmount)
-    );
-    let fees = two(
-        alloc,
-        payment(alloc, at(0), 47)?,
-        payment(alloc, at(1), 50)?,
-    )?;
-    assert_eq!(rt; answer(alloc, &map, SUBSIDY + 3, fees)?, None);
-    let fees = two(
-        alloc,
-        payment(alloc, at(0), 47)?,
-        payment(alloc, at(1), 50)?,
-    )?;
-    assert_eq!(rt;
-        answer(alloc, &map, SUBSIDY + 4, fees)?,
-        Some(Reason::CoinbaseAmount)
-    );
-    let halved = at_height(alloc, &map, 150, SUBSIDY / 2 + 1, Vec::new(alloc))?;
-    assert_eq!(rt; halved, Some(Reason::CoinbaseAmount));
-    Ok(())
-}
-
-#[test]
-fn inputs_and_outputs(rt: HostRuntime) -> Result<(), Fail> {
-    let alloc = rt.alloc();
-    let map = funded(alloc, 1)?;
-    let equal = one(alloc, payment(alloc, at(0), 50)?)?;
-    assert_eq!(rt; answer(alloc, &map, 0, equal)?, None);
-    let below = one(alloc, payment(alloc, at(0), 51)?)?;
-    assert_eq!(rt;
-        answer(alloc, &map, 0, below)?,
-        Some(Reason::InputsBelowOutputs)
-    );
-    let missing = one(alloc, payment(alloc, at(1), 50)?)?;
-    assert_eq!(rt;
-        answer(alloc, &map, 0, missing)?,
-        Some(Reason::InputsMissingOrSpent)
-    );
-    let twice = two(
-        alloc,
-        payment(alloc, at(0), 50)?,
-        payment(alloc, at(0), 49)?,
-    )?;
-    assert_eq!(rt;
-        answer(alloc, &map, 0, twice)?,
-        Some(Reason::InputsMissingOrSpent)
-    );
-    Ok(())
-}
-
-#[test]
-fn outputs_of_the_same_block(rt: HostRuntime) -> Result<(), Fail> {
-    let alloc = rt.alloc();
-    let map = funded(alloc, 1)?;
-    let first = payment(alloc, at(0), 50)?;
-    let made = OutPoint {
-        id: first.id(),
-        index: 0,
-    };
-    let forwards = two(alloc, first.copy()?, payment(alloc, made, 50)?)?;
-    assert_eq!(rt; answer(alloc, &map, 0, forwards)?, None);
-    let backwards = two(alloc, payment(alloc, made, 50)?, first)?;
-    assert_eq!(rt;
-        answer(alloc, &map, 0, backwards)?,
-        Some(Reason::InputsMissingOrSpent)
-    );
-    let returns = transaction(alloc, 1, &[(at(0), &[], FINAL)], &[(50, &[0x6a])])?;
-    let nothing = OutPoint {
-        id: returns.id(),
-        index: 0,
-    };
-    let unspendable = two(alloc, returns, payment(alloc, nothing, 50)?)?;
-    assert_eq!(rt;
-        answer(alloc, &map, 0, unspendable)?,
-        Some(Reason::InputsMissingOrSpent)
-    );
+    for case in &CASES {
+        let mut txs = paying(alloc, case.payments)?;
+        if case.is_reversed {
+            txs.reverse();
+        }
+        let found = at_height(alloc, &map, case.height, case.coinbase, txs)?;
+        assert!(rt; found == case.reason, "{}: {found:?}", case.name);
+    }
     Ok(())
 }
 
@@ -303,26 +257,20 @@ fn outputs_of_the_same_block(rt: HostRuntime) -> Result<(), Fail> {
 fn coins_that_are_there(rt: HostRuntime) -> Result<(), Fail> {
     let alloc = rt.alloc();
     let tx = payment(alloc, at(0), 50)?;
-    let made = OutPoint {
-        id: tx.id(),
-        index: 0,
-    };
     let mut map = funded(alloc, 1)?;
-    map.insert(made, coin(alloc, 1, GOOD, 10)?)?;
-    assert_eq!(rt;
-        answer(alloc, &map, 0, one(alloc, tx)?)?,
-        Some(Reason::OverwritesCoin)
-    );
+    map.insert(first_output(&tx), coin(alloc, 1, GOOD, 10)?)?;
+    let of_a_payment = answer(alloc, &map, 0, one(alloc, tx)?)?;
+    let made = first_output(&coinbase(alloc, 0)?);
     let mut map = funded(alloc, 0)?;
-    let beyond = OutPoint {
-        id: coinbase(alloc, 0)?.id(),
-        index: 1,
-    };
-    map.insert(beyond, coin(alloc, 1, GOOD, 10)?)?;
-    assert_eq!(rt; answer(alloc, &map, 0, Vec::new(alloc))?, None);
-    map.insert(OutPoint { index: 0, ..beyond }, coin(alloc, 1, GOOD, 10)?)?;
-    let there = answer(alloc, &map, 0, Vec::new(alloc))?;
-    assert_eq!(rt; there, Some(Reason::OverwritesCoin));
+    map.insert(OutPoint { index: 1, ..made }, coin(alloc, 1, GOOD, 10)?)?;
+    let beyond = answer(alloc, &map, 0, Vec::new(alloc))?;
+    map.insert(made, coin(alloc, 1, GOOD, 10)?)?;
+    let of_the_coinbase = answer(alloc, &map, 0, Vec::new(alloc))?;
+    let overwrites = Some(Reason::OverwritesCoin);
+    assert_eq!(rt;
+        [of_a_payment, beyond, of_the_coinbase],
+        [overwrites, None, overwrites]
+    );
     Ok(())
 }
 
@@ -337,28 +285,10 @@ fn coins_of_coinbases(rt: HostRuntime) -> Result<(), Fail> {
         };
         map.insert(at(0), made)?;
         let spending = one(alloc, payment(alloc, at(0), 50)?)?;
-        assert_eq!(rt; answer(alloc, &map, 0, spending)?, reason);
-    }
-    Ok(())
-}
-
-/// The coin has height 10, so 110 blocks are met and 111 aren't. The median before its block is 900, and the
-/// cutoff 11,900: 21 units of 512 seconds are met, and 22 aren't.
-#[test]
-fn relative_locks(rt: HostRuntime) -> Result<(), Fail> {
-    let alloc = rt.alloc();
-    let map = funded(alloc, 1)?;
-    let time = 1 << 22;
-    for (version, sequence, reason) in [
-        (2, 110, None),
-        (2, 111, Some(Reason::NonFinal)),
-        (1, 111, None),
-        (2, time + 21, None),
-        (2, time + 22, Some(Reason::NonFinal)),
-        (2, 0x8000_0000 + 111, None),
-    ] {
-        let tx = transaction(alloc, version, &[(at(0), &[], sequence)], &[(50, GOOD)])?;
-        assert_eq!(rt; answer(alloc, &map, 0, one(alloc, tx)?)?, reason);
+        assert!(rt;
+            answer(alloc, &map, 0, spending)? == reason,
+            "from {height}"
+        );
     }
     Ok(())
 }
@@ -376,18 +306,20 @@ fn inner(alloc: Global) -> Result<Vec<u8>, Memory> {
     Ok(bytes)
 }
 
+/// The script that pays to the hash of an inner one.
+fn paying_to(alloc: Global, inner: &[u8]) -> Result<Vec<u8>, Memory> {
+    let mut bytes = Vec::from_slice(alloc, &[0xa9, 0x14])?;
+    bytes.extend_from_slice(&hash160(inner))?;
+    bytes.push(0x87)?;
+    Ok(bytes)
+}
+
 /// So many coins that pay to the inner script, spent to an output with so many CHECKSIGs.
-fn counted(alloc: Global, coins: u32, plain: u32) -> Result<Option<Reason>, Memory> {
+fn counted(alloc: Global, coins: u32, plain: usize) -> Result<Option<Reason>, Memory> {
     let inner = inner(alloc)?;
-    let mut spent_script = Vec::from_slice(alloc, &[0xa9, 0x14])?;
-    for byte in hash160(&inner) {
-        spent_script.push(byte)?;
-    }
-    spent_script.push(0x87)?;
+    let spent_script = paying_to(alloc, &inner)?;
     let mut push = Vec::from_slice(alloc, &[0x4c, 203])?;
-    for byte in inner.as_slice() {
-        push.push(*byte)?;
-    }
+    push.extend_from_slice(&inner)?;
     let mut map = CoinMap::new(alloc);
     let mut inputs: Vec<(OutPoint, &[u8], u32)> = Vec::new(alloc);
     for index in 0..coins {
@@ -395,9 +327,7 @@ fn counted(alloc: Global, coins: u32, plain: u32) -> Result<Option<Reason>, Memo
         inputs.push((at(index), push.as_slice(), FINAL))?;
     }
     let mut checks = Vec::new(alloc);
-    for _ in 0..plain {
-        checks.push(0xac)?;
-    }
+    checks.resize(plain, 0xac)?;
     let tx = transaction(alloc, 1, &inputs, &[(50, checks.as_slice())])?;
     answer(alloc, &map, 0, one(alloc, tx)?)
 }
@@ -405,149 +335,96 @@ fn counted(alloc: Global, coins: u32, plain: u32) -> Result<Option<Reason>, Memo
 #[test]
 fn signature_operations(rt: HostRuntime) -> Result<(), Fail> {
     let alloc = rt.alloc();
+    let found = [
+        counted(alloc, 1, 20_001)?,
+        counted(alloc, 5, 0)?,
+        counted(alloc, 6, 0)?,
+        counted(alloc, 5, 100)?,
+        counted(alloc, 5, 101)?,
+    ];
     let many = Some(Reason::TooManySigops);
-    assert_eq!(rt; counted(alloc, 1, 20_001)?, many);
-    assert_eq!(rt; counted(alloc, 5, 0)?, None);
-    assert_eq!(rt; counted(alloc, 6, 0)?, many);
-    assert_eq!(rt; counted(alloc, 5, 100)?, None);
-    assert_eq!(rt; counted(alloc, 5, 101)?, many);
+    assert_eq!(rt; found, [many, None, many, None, many]);
     Ok(())
 }
 
-/// Two transactions of three inputs, of which these scripts refuse: input 2 of the first, or 1 and 2 of the second.
+/// Coins of 50 at six outpoints, of which these have a script that refuses.
+fn refusing(alloc: Global, refused: &[u32]) -> Result<CoinMap, Memory> {
+    let mut map = CoinMap::new(alloc);
+    for index in 0..6u32 {
+        let bytes = if refused.contains(&index) { BAD } else { GOOD };
+        map.insert(at(index), coin(alloc, 50, bytes, 10)?)?;
+    }
+    Ok(map)
+}
+
+/// A transaction that spends three coins from this one on.
+fn of_three(alloc: Global, first: u32) -> Result<Tx, Memory> {
+    let mut spent: Vec<(OutPoint, &[u8], u32)> = Vec::new(alloc);
+    for index in first..first.saturating_add(3) {
+        spent.push((at(index), &[], FINAL))?;
+    }
+    transaction(alloc, 1, &spent, &[(50, GOOD)])
+}
+
+/// The height and the medians where none but the height counts.
+fn context(params: &Params) -> Context<'_> {
+    Context {
+        height: HEIGHT,
+        cutoff: 0,
+        medians: &[],
+        params,
+    }
+}
+
+/// Two transactions of three inputs; the inputs whose scripts refuse, and the place of the first of them: input 2 of the
+/// first, 1 of the second, 0 of the first.
+const REFUSED: [([u32; 3], usize, usize); 3] = [
+    ([2, 9, 9], 1, 2),
+    ([4, 5, 9], 2, 1),
+    ([5, 0, 4], 1, 0),
+];
+
 #[test]
 fn scripts_by_any_crew(rt: HostRuntime) -> Result<(), Fail> {
     let alloc = rt.alloc();
-    for (refused, transaction_place, input) in [
-        ([2, 9, 9], 1, 2),
-        ([4, 5, 9], 2, 1),
-        ([5, 0, 4], 1, 0),
-    ] {
-        let mut map = CoinMap::new(alloc);
-        for index in 0..6u32 {
-            let bytes = if refused.contains(&index) { BAD } else { GOOD };
-            map.insert(at(index), coin(alloc, 50, bytes, 10)?)?;
-        }
-        let first = transaction(
-            alloc,
-            1,
-            &[
-                (at(0), &[], FINAL),
-                (at(1), &[], FINAL),
-                (at(2), &[], FINAL),
-            ],
-            &[(50, GOOD)],
-        )?;
-        let second = transaction(
-            alloc,
-            1,
-            &[
-                (at(3), &[], FINAL),
-                (at(4), &[], FINAL),
-                (at(5), &[], FINAL),
-            ],
-            &[(50, GOOD)],
-        )?;
-        let block = block_of(alloc, 0, two(alloc, first, second)?)?;
-        let params = Params::regtest();
-        let context = Context {
-            height: HEIGHT,
-            cutoff: 0,
-            medians: &[],
-            params: &params,
-        };
-        let reason = Some(Reason::ScriptRefused {
-            transaction: transaction_place,
-            input,
-        });
+    let txs = two(alloc, of_three(alloc, 0)?, of_three(alloc, 3)?)?;
+    let block = block_of(alloc, 0, txs)?;
+    let params = Params::regtest();
+    let context = context(&params);
+    let threaded = Threaded { rt: &rt };
+    for (refused, transaction, input) in REFUSED {
+        let map = refusing(alloc, &refused)?;
         let mut cache = Cache::over(alloc, &map);
-        let alone = judged(alloc, &mut cache, &context, &block, 1, &Alone)?;
-        assert_eq!(rt; alone, reason);
-        let threaded = Threaded { rt: &rt };
-        for workers in [1, 2, 8] {
-            let found = judged(alloc, &mut cache, &context, &block, workers, &threaded)?;
-            assert_eq!(rt; found, reason);
-        }
+        let found = [
+            judged(alloc, &mut cache, &context, &block, 1, &Alone)?,
+            judged(alloc, &mut cache, &context, &block, 1, &threaded)?,
+            judged(alloc, &mut cache, &context, &block, 2, &threaded)?,
+            judged(alloc, &mut cache, &context, &block, 8, &threaded)?,
+        ];
+        let reason = Some(Reason::ScriptRefused { transaction, input });
+        assert!(rt; found == [reason; 4], "{found:?}");
     }
     Ok(())
 }
 
 #[test]
-fn there_and_back(rt: HostRuntime) -> Result<(), Fail> {
+fn there_and_back_again(rt: HostRuntime) -> Result<(), Fail> {
     let alloc = rt.alloc();
     let map = funded(alloc, 1)?;
     let tx = payment(alloc, at(0), 40)?;
-    let made = OutPoint {
-        id: tx.id(),
-        index: 0,
-    };
+    let made = first_output(&tx);
     let block = block_of(alloc, SUBSIDY + 10, one(alloc, tx)?)?;
     let params = Params::regtest();
-    let context = Context {
-        height: HEIGHT,
-        cutoff: 0,
-        medians: &[],
-        params: &params,
-    };
-    let mut cache = Cache::over(alloc, &map);
-    assert!(rt; is_moved(alloc, &mut cache, &context, &block, &made)?);
-    assert!(rt; cache.get(&made).is_none() && cache.get(&at(0)).is_some());
-    assert!(rt; cache.changes(alloc)?.is_empty());
-    Ok(())
-}
-
-/// Whether connecting the block spends the first coin and makes this one. It is taken back again.
-fn is_moved<B: Base>(
-    alloc: Global,
-    cache: &mut Cache<'_, B>,
-    context: &Context,
-    block: &Block,
-    made: &OutPoint,
-) -> Result<bool, Memory> {
-    let table = Table::new(alloc);
-    let env = Env {
-        table: &table,
-        workers: 1,
-        early: &[],
-        crew: &Alone,
-    };
-    let ids = ids(alloc, block.txs.as_slice())?;
-    if block_alone_with(alloc, block, &block.id(), &ids)?.is_some() {
-        return Ok(false);
-    }
-    let Ok(undo) = connect(alloc, cache, context, block, &ids, &env, &Open)? else {
-        return Ok(false);
-    };
-    let moved = cache.get(&at(0)).is_none() && cache.get(made).is_some() && undo.len() == 1;
-    disconnect(alloc, cache, block, &ids, &undo)?;
-    Ok(moved)
-}
-
-#[test]
-fn there_again(rt: HostRuntime) -> Result<(), Fail> {
-    let alloc = rt.alloc();
-    let map = funded(alloc, 1)?;
-    let tx = payment(alloc, at(0), 40)?;
-    let made = OutPoint {
-        id: tx.id(),
-        index: 0,
-    };
-    let block = block_of(alloc, SUBSIDY + 10, one(alloc, tx)?)?;
-    let params = Params::regtest();
-    let context = Context {
-        height: HEIGHT,
-        cutoff: 0,
-        medians: &[],
-        params: &params,
-    };
+    let context = context(&params);
     let mut cache = Cache::over(alloc, &map);
     assert!(rt; is_repeated(alloc, &mut cache, &context, &block, &made)?);
-    assert!(rt; cache.changes(alloc)?.is_empty());
+    assert!(rt; cache.get(&made).is_none() && cache.get(&at(0)).is_some());
+    assert!(rt; cache.into_changes().is_empty());
     Ok(())
 }
 
-/// Whether a block that was connected and taken back can be applied again on a layer, and then spends as much, which is
-/// the first coin, and makes this one.
+/// Whether connecting the block spends the first coin and makes this one; and whether, once it was taken back, it can be
+/// applied again on a layer, and then does the same and spends as much.
 fn is_repeated<B: Base>(
     alloc: Global,
     cache: &mut Cache<'_, B>,
@@ -569,11 +446,13 @@ fn is_repeated<B: Base>(
     let Ok(undo) = connect(alloc, cache, context, block, &ids, &env, &Open)? else {
         return Ok(false);
     };
+    let moved = cache.get(&at(0)).is_none() && cache.get(made).is_some();
     disconnect(alloc, cache, block, &ids, &undo)?;
     let layer = Cache::over(alloc, &*cache);
     let (layer, again) = apply_in_layer(alloc, layer, context.height, block, &ids)?;
-    let moved = layer.get(&at(0)).is_none() && layer.get(made).is_some();
-    Ok(moved && layer.changes(alloc)?.len() == 3 && again.len() == 1 && undo.len() == 1)
+    let moved = moved && layer.get(&at(0)).is_none() && layer.get(made).is_some();
+    let changed = layer.into_changes().len();
+    Ok(moved && changed == 3 && again.len() == 1 && undo.len() == 1)
 }
 
 /// On the layer of a reorganisation a block is taken back and connected again, whose coins stand below the layer.
@@ -581,31 +460,27 @@ fn is_repeated<B: Base>(
 fn back_and_again_in_a_layer(rt: HostRuntime) -> Result<(), Fail> {
     let alloc = rt.alloc();
     let map = funded(alloc, 1)?;
-    let block = block_of(alloc, SUBSIDY + 10, one(alloc, payment(alloc, at(0), 40)?)?)?;
+    let tx = payment(alloc, at(0), 40)?;
+    let made = first_output(&tx);
+    let block = block_of(alloc, SUBSIDY + 10, one(alloc, tx)?)?;
     let params = Params::regtest();
-    let context = Context {
-        height: HEIGHT,
-        cutoff: 0,
-        medians: &[],
-        params: &params,
-    };
+    let context = context(&params);
     let mut cache = Cache::over(alloc, &map);
-    assert_eq!(rt;
-        layer_changes(alloc, &mut cache, &context, &block)?,
-        Some((3, 0))
-    );
-    assert_eq!(rt; cache.changes(alloc)?.len(), 3);
+    let found = layer_changes(alloc, &mut cache, &context, &block, &made)?;
+    assert!(rt; found == Some((true, 0)));
+    assert!(rt; cache.into_changes().len() == 3);
     Ok(())
 }
 
-/// How many coins a layer changes after a block was taken back on it, and after it was connected again there. It was
-/// connected below it before.
+/// Whether a layer on which a block was taken back has the first coin, which it spent, and not this one, which it made;
+/// and how many coins the layer changes after the block was connected again there. It was connected below it before.
 fn layer_changes<B: Base>(
     alloc: Global,
     cache: &mut Cache<'_, B>,
     context: &Context,
     block: &Block,
-) -> Result<Option<(usize, usize)>, Memory> {
+    made: &OutPoint,
+) -> Result<Option<(bool, usize)>, Memory> {
     let table = Table::new(alloc);
     let env = Env {
         table: &table,
@@ -622,11 +497,11 @@ fn layer_changes<B: Base>(
     };
     let layer = Cache::over(alloc, &*cache);
     let layer = disconnect_in_layer(alloc, layer, block, &ids, &undo)?;
-    let back = layer.changes(alloc)?.len();
+    let back = layer.get(&at(0)).is_some() && layer.get(made).is_none();
     let Ok((layer, _)) = connect_in_layer(alloc, layer, context, block, &ids, &env, &Open)? else {
         return Ok(None);
     };
-    Ok(Some((back, layer.changes(alloc)?.len())))
+    Ok(Some((back, layer.into_changes().len())))
 }
 
 /// Blocks that are connected on one layer find what those before them left there.
@@ -634,20 +509,18 @@ fn layer_changes<B: Base>(
 fn blocks_in_one_layer(rt: HostRuntime) -> Result<(), Fail> {
     let alloc = rt.alloc();
     let tx = payment(alloc, at(0), 40)?;
-    let made = outpoint(&tx, 0);
+    let made = first_output(&tx);
     let first = block_of(alloc, SUBSIDY + 10, one(alloc, tx)?)?;
     let spends = block_of(alloc, SUBSIDY, one(alloc, payment(alloc, made, 40)?)?)?;
-    assert_eq!(rt; second_answer(alloc, &first, &spends)?, None);
     let again = block_of(alloc, SUBSIDY, one(alloc, payment(alloc, at(0), 50)?)?)?;
-    assert_eq!(rt;
-        second_answer(alloc, &first, &again)?,
-        Some(Reason::InputsMissingOrSpent)
-    );
     let same_coinbase = block_of(alloc, SUBSIDY + 10, Vec::new(alloc))?;
-    assert_eq!(rt;
+    let found = [
+        second_answer(alloc, &first, &spends)?,
+        second_answer(alloc, &first, &again)?,
         second_answer(alloc, &first, &same_coinbase)?,
-        Some(Reason::OverwritesCoin)
-    );
+    ];
+    let missing = Some(Reason::InputsMissingOrSpent);
+    assert_eq!(rt; found, [None, missing, Some(Reason::OverwritesCoin)]);
     Ok(())
 }
 
@@ -670,12 +543,7 @@ fn left_by<'b, B: Base>(
     block: &Block,
 ) -> Result<Result<Cache<'b, B>, Reason>, Memory> {
     let params = Params::regtest();
-    let context = Context {
-        height: HEIGHT,
-        cutoff: 0,
-        medians: &[],
-        params: &params,
-    };
+    let context = context(&params);
     let table = Table::new(alloc);
     let env = Env {
         table: &table,
@@ -725,29 +593,25 @@ fn a_verdict_got_before(rt: HostRuntime) -> Result<(), Fail> {
     let map = funded(alloc, 2)?;
     let block = block_of(alloc, SUBSIDY, one(alloc, joined(alloc, 100)?)?)?;
     let params = Params::regtest();
-    let context = Context {
-        height: HEIGHT,
-        cutoff: 0,
-        medians: &[],
-        params: &params,
-    };
+    let context = context(&params);
     let table = Table::new(alloc);
     let tally = Tally::new();
     let ids = ids(alloc, block.txs.as_slice())?;
     let jobs = early_jobs(alloc, &map, &block, &ids, params.at(HEIGHT))?;
     let verdicts = [check_early(&rt, alloc, jobs, &table, 2, &tally)?];
-    assert_eq!(rt; verdicts[0].answers(), [true, true].as_slice());
-    assert_eq!(rt; tally.count.load(SeqCst), 2);
-    let mut with = Cache::over(alloc, &map);
-    assert!(rt;
-        is_connected_with(
-            alloc, &mut with, &context, &block, &table, &verdicts, &tally
-        )?
+    assert!(rt; verdicts[0].answers() == [true, true].as_slice());
+    let early = tally.count.load(SeqCst);
+    let mut cache = Cache::over(alloc, &map);
+    let is_connected = is_connected_with(
+        alloc, &mut cache, &context, &block, &table, &verdicts, &tally,
+    )?;
+    assert_eq!(rt;
+        (is_connected, early, tally.count.load(SeqCst)),
+        (true, 2, 2)
     );
-    assert_eq!(rt; tally.count.load(SeqCst), 2);
-    let mut without = Cache::over(alloc, &map);
-    assert!(rt; is_connected_with(alloc, &mut without, &context, &block, &table, &[], &tally)?);
-    assert_eq!(rt; tally.count.load(SeqCst), 4);
+    let mut cache = Cache::over(alloc, &map);
+    let is_connected = is_connected_with(alloc, &mut cache, &context, &block, &table, &[], &tally)?;
+    assert_eq!(rt; (is_connected, tally.count.load(SeqCst)), (true, 4));
     Ok(())
 }
 
@@ -756,16 +620,17 @@ fn a_verdict_got_before(rt: HostRuntime) -> Result<(), Fail> {
 fn inputs_that_are_run_early(rt: HostRuntime) -> Result<(), Fail> {
     let alloc = rt.alloc();
     let first = payment(alloc, at(0), 50)?;
-    let next = payment(alloc, outpoint(&first, 0), 50)?;
+    let next = payment(alloc, first_output(&first), 50)?;
     let lost = payment(alloc, at(1), 50)?;
-    assert_eq!(rt;
+    let found = [
         early_count(alloc, two(alloc, first.copy()?, next.copy()?)?)?,
-        2
-    );
-    assert_eq!(rt; early_count(alloc, two(alloc, next, first.copy()?)?)?, 1);
-    assert_eq!(rt; early_count(alloc, two(alloc, lost, first)?)?, 1);
-    assert_eq!(rt; script_flags(&Params::regtest(), 0), Flags::NONE);
-    assert_eq!(rt; script_flags(&Params::regtest(), 1), Flags::ALL);
+        early_count(alloc, two(alloc, next, first.copy()?)?)?,
+        early_count(alloc, two(alloc, lost, first)?)?,
+    ];
+    assert_eq!(rt; found, [2, 1, 1]);
+    let params = Params::regtest();
+    let flags = [script_flags(&params, 0), script_flags(&params, 1)];
+    assert_eq!(rt; flags, [Flags::NONE, Flags::ALL]);
     Ok(())
 }
 
@@ -776,11 +641,6 @@ fn early_count(alloc: Global, txs: Vec<Tx>) -> Result<usize, Memory> {
     let ids = ids(alloc, block.txs.as_slice())?;
     let jobs = early_jobs(alloc, &map, &block, &ids, Params::regtest().at(HEIGHT))?;
     Ok(jobs.len())
-}
-
-/// The outpoint of an output of a transaction.
-fn outpoint(tx: &Tx, index: u32) -> OutPoint {
-    OutPoint { id: tx.id(), index }
 }
 
 /// One that spends the first two outpoints.

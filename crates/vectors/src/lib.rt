@@ -9,6 +9,8 @@ mod block_vectors;
 #[cfg(test)]
 mod coins_vectors;
 #[cfg(test)]
+mod connect_cases;
+#[cfg(test)]
 mod connect_vectors;
 #[cfg(test)]
 mod curve_vectors;

@@ -39,63 +39,79 @@ fn are_met(tx: &Tx, starts: &[LockStart], height: u32, cutoff: u32) -> Option<bo
 
 #[test]
 fn medians(rt: HostRuntime) {
-    assert_eq!(rt; median(&[5]), 5);
-    assert_eq!(rt; median(&[5, 7]), 7);
-    assert_eq!(rt; median(&[3, 1, 2]), 2);
-    assert_eq!(rt; median(&[1, 1, 9, 9]), 9);
-    assert_eq!(rt; median(&[4, 11, 2, 9, 6, 1, 8, 3, 10, 5, 7]), 6);
+    let found = [
+        median(&[5]),
+        median(&[5, 7]),
+        median(&[3, 1, 2]),
+        median(&[1, 1, 9, 9]),
+        median(&[4, 11, 2, 9, 6, 1, 8, 3, 10, 5, 7]),
+    ];
+    assert_eq!(rt; found, [5, 7, 2, 9, 6]);
 }
+
+/// A lock time, the sequence numbers, a height and a cutoff; and whether the transaction is final there. 499,999,999 is
+/// the greatest height that a lock time can name, and 500,000,000 the least time.
+const FINALITY: [(u32, &[u32], u32, u32, bool); 9] = [
+    (100, &[0], 100, u32::MAX, false),
+    (100, &[0], 101, 0, true),
+    (499_999_999, &[0], 499_999_999, u32::MAX, false),
+    (499_999_999, &[0], 500_000_000, 0, true),
+    (500_000_000, &[0], u32::MAX, 500_000_000, false),
+    (500_000_000, &[0], 0, 500_000_001, true),
+    (0, &[0], 0, 0, true),
+    (100, &[SEQUENCE_FINAL, 0], 100, 0, false),
+    (100, &[SEQUENCE_FINAL, SEQUENCE_FINAL], 100, 0, true),
+];
 
 #[test]
 fn finality(rt: HostRuntime) -> Result<(), Fail> {
-    let at_100 = transaction(rt.alloc(), 1, 100, &[0])?;
-    assert!(rt; !is_final(&at_100, 100, u32::MAX));
-    assert!(rt; is_final(&at_100, 101, 0));
-    // The greatest height that a lock time can name, and the least time.
-    let height = transaction(rt.alloc(), 1, 499_999_999, &[0])?;
-    assert!(rt; !is_final(&height, 499_999_999, u32::MAX));
-    assert!(rt; is_final(&height, 500_000_000, 0));
-    let time = transaction(rt.alloc(), 1, 500_000_000, &[0])?;
-    assert!(rt; !is_final(&time, u32::MAX, 500_000_000));
-    assert!(rt; is_final(&time, 0, 500_000_001));
-    let none = transaction(rt.alloc(), 1, 0, &[0])?;
-    assert!(rt; is_final(&none, 0, 0));
-    let one = transaction(rt.alloc(), 1, 100, &[SEQUENCE_FINAL, 0])?;
-    assert!(rt; !is_final(&one, 100, 0));
-    let all = transaction(rt.alloc(), 1, 100, &[SEQUENCE_FINAL, SEQUENCE_FINAL])?;
-    assert!(rt; is_final(&all, 100, 0));
+    for (lock_time, sequences, height, cutoff, expected) in FINALITY {
+        let tx = transaction(rt.alloc(), 1, lock_time, sequences)?;
+        let found = is_final(&tx, height, cutoff);
+        assert!(rt;
+            found == expected,
+            "{lock_time} {sequences:?} at {height}, {cutoff}"
+        );
+    }
     Ok(())
 }
 
+const START: LockStart = LockStart {
+    height: 10,
+    median: 1000,
+};
+
+const LATER: LockStart = LockStart {
+    height: 13,
+    median: 2000,
+};
+
+/// A version, the sequence numbers, where each lock starts, a height and a cutoff; and whether the relative locks are met
+/// there: three blocks; three times 512 seconds; three blocks, with bits that say nothing; a lock that is disabled; old
+/// and negative versions; and two inputs, each with its own start.
+const RELATIVE: [(i32, &[u32], &[LockStart], u32, u32, bool); 11] = [
+    (2, &[3], &[START], 12, u32::MAX, false),
+    (2, &[3], &[START], 13, 0, true),
+    (2, &[0x0040_0003], &[START], u32::MAX, 2535, false),
+    (2, &[0x0040_0003], &[START], 0, 2536, true),
+    (2, &[0x7fbf_0003], &[START], 13, 0, true),
+    (2, &[0x8000_0003], &[START], 0, 0, true),
+    (1, &[3], &[START], 0, 0, true),
+    (-1, &[3], &[START], 12, 0, false),
+    (2, &[3, 0x0040_0001], &[START, LATER], 13, 2512, true),
+    (2, &[3, 0x0040_0001], &[START, LATER], 13, 2511, false),
+    (2, &[3, 0x0040_0001], &[LATER, START], 13, 2512, false),
+];
+
 #[test]
 fn relative_locks(rt: HostRuntime) -> Result<(), Fail> {
-    let start = LockStart {
-        height: 10,
-        median: 1000,
-    };
-    // Three blocks; then three times 512 seconds; then with bits that say nothing.
-    let blocks = transaction(rt.alloc(), 2, 0, &[3])?;
-    assert_eq!(rt; are_met(&blocks, &[start], 12, u32::MAX), Some(false));
-    assert_eq!(rt; are_met(&blocks, &[start], 13, 0), Some(true));
-    let seconds = transaction(rt.alloc(), 2, 0, &[0x0040_0003])?;
-    assert_eq!(rt; are_met(&seconds, &[start], u32::MAX, 2535), Some(false));
-    assert_eq!(rt; are_met(&seconds, &[start], 0, 2536), Some(true));
-    let spare = transaction(rt.alloc(), 2, 0, &[0x7fbf_0003])?;
-    assert_eq!(rt; are_met(&spare, &[start], 13, 0), Some(true));
-    let disabled = transaction(rt.alloc(), 2, 0, &[0x8000_0003])?;
-    assert_eq!(rt; are_met(&disabled, &[start], 0, 0), Some(true));
-    let old = transaction(rt.alloc(), 1, 0, &[3])?;
-    assert_eq!(rt; are_met(&old, &[start], 0, 0), Some(true));
-    let negative = transaction(rt.alloc(), -1, 0, &[3])?;
-    assert_eq!(rt; are_met(&negative, &[start], 12, 0), Some(false));
-    // Each input has its own start.
-    let two = transaction(rt.alloc(), 2, 0, &[3, 0x0040_0001])?;
-    let later = LockStart {
-        height: 13,
-        median: 2000,
-    };
-    assert_eq!(rt; are_met(&two, &[start, later], 13, 2512), Some(true));
-    assert_eq!(rt; are_met(&two, &[start, later], 13, 2511), Some(false));
-    assert_eq!(rt; are_met(&two, &[later, start], 13, 2512), Some(false));
+    for (version, sequences, starts, height, cutoff, expected) in RELATIVE {
+        let tx = transaction(rt.alloc(), version, 0, sequences)?;
+        let found = are_met(&tx, starts, height, cutoff);
+        assert!(rt;
+            found == Some(expected),
+            "{version} {sequences:?} at {height}, {cutoff}"
+        );
+    }
     Ok(())
 }

@@ -136,9 +136,11 @@ fn each_worker_runs_a_job(rt: HostRuntime) -> Result<(), Fail> {
         assert!(rt; are_ready(&list));
         let gate = Meeting::new(workers as u64);
         let answer = first_failure(&rt, rt.alloc(), &list, &table, workers, &gate)?;
-        assert_eq!(rt; answer, None);
-        assert!(rt; !gate.late.load(SeqCst));
-        assert_eq!(rt; gate.entered.load(SeqCst), workers as u64);
+        let found = (answer, gate.late.load(SeqCst), gate.entered.load(SeqCst));
+        assert!(rt;
+            found == (None, false, workers as u64),
+            "{workers}: {found:?}"
+        );
     }
     Ok(())
 }
@@ -152,6 +154,15 @@ pub(crate) struct Tally {
 }
 
 impl Tally {
+    /// How many began, the sum of their places, and how many ended.
+    fn sums(&self) -> (u64, u64, u64) {
+        (
+            self.count.load(SeqCst),
+            self.places.load(SeqCst),
+            self.ended.load(SeqCst),
+        )
+    }
+
     pub(crate) fn new() -> Tally {
         Tally {
             count: AtomicU64::new(0),
@@ -180,9 +191,7 @@ fn a_job_above_a_failing_one_is_not_run(rt: HostRuntime) -> Result<(), Fail> {
     assert!(rt; are_ready(&list));
     let gate = Tally::new();
     let answer = first_failure(&rt, rt.alloc(), &list, &table, 1, &gate)?;
-    assert_eq!(rt; answer, Some(0));
-    assert_eq!(rt; (gate.count.load(SeqCst), gate.places.load(SeqCst)), (1, 0));
-    assert_eq!(rt; gate.ended.load(SeqCst), 1);
+    assert_eq!(rt; (answer, gate.sums()), (Some(0), (1, 0, 1)));
     Ok(())
 }
 
@@ -194,13 +203,13 @@ fn more_verdicts_than_jobs(rt: HostRuntime) -> Result<(), Fail> {
     let list = early(rt.alloc(), &txs, &[GOOD, BAD, GOOD])?;
     let gate = Tally::new();
     let verdicts = [check_early(&rt, rt.alloc(), list, &table, 2, &gate)?];
-    assert_eq!(rt; verdicts[0].answers(), [true, false, true].as_slice());
-    assert_eq!(rt; (gate.count.load(SeqCst), gate.ended.load(SeqCst)), (3, 3));
+    assert!(rt; verdicts[0].answers() == [true, false, true].as_slice());
+    assert!(rt; gate.sums() == (3, 3, 3));
     let fewer = jobs(rt.alloc(), &txs[0], &[GOOD])?;
     assert!(rt; are_ready(&fewer));
     let threaded = Threaded { rt: &rt };
     let answer = failing_with(&threaded, rt.alloc(), &fewer, &verdicts, &table, 1, &gate)?;
-    assert_eq!(rt; (answer, gate.count.load(SeqCst)), (None, 3));
+    assert!(rt; answer == None && gate.count.load(SeqCst) == 3);
     Ok(())
 }
 
@@ -249,9 +258,15 @@ fn by_threads<R: Threads + Sync>(
 
 #[test]
 fn a_verdict_is_of_an_equal_job_alone(rt: HostRuntime) -> Result<(), Fail> {
-    assert_eq!(rt; answered(&rt, GOOD, Flags::ALL)?, (None, None, 1));
-    assert_eq!(rt; answered(&rt, GOOD, Flags::NONE)?, (None, None, 3));
-    assert_eq!(rt; answered(&rt, BAD, Flags::ALL)?, (Some(0), Some(0), 3));
+    let found = [
+        answered(&rt, GOOD, Flags::ALL)?,
+        answered(&rt, GOOD, Flags::NONE)?,
+        answered(&rt, BAD, Flags::ALL)?,
+    ];
+    assert_eq!(rt;
+        found,
+        [(None, None, 1), (None, None, 3), (Some(0), Some(0), 3)]
+    );
     Ok(())
 }
 
@@ -262,6 +277,18 @@ fn next(state: u64) -> u64 {
     b ^ (b << 17)
 }
 
+/// Scripts by chance, up to 40 of them, and the number after those that were drawn.
+fn draw(alloc: Global, start: u64) -> Result<(u64, Vec<&'static [u8]>), AllocError> {
+    let mut state = next(start);
+    let count = (state % 41) as usize;
+    let mut spent = Vec::new(alloc);
+    for _ in 0..count {
+        state = next(state);
+        spent.push(if state % 8 == 0 { BAD } else { GOOD })?;
+    }
+    Ok((state, spent))
+}
+
 /// 1,000 lists of up to 40 jobs, and the plain loop over each.
 #[test]
 fn random_lists_and_the_plain_loop(rt: HostRuntime) -> Result<(), Fail> {
@@ -269,19 +296,14 @@ fn random_lists_and_the_plain_loop(rt: HostRuntime) -> Result<(), Fail> {
     let tx = transaction(rt.alloc(), 40)?;
     let mut state = 88_172_645_463_325_252;
     for _ in 0..1000 {
-        state = next(state);
-        let count = (state % 41) as usize;
-        let mut spent = Vec::new(rt.alloc());
-        for _ in 0..count {
-            state = next(state);
-            spent.push(if state % 8 == 0 { BAD } else { GOOD })?;
-        }
+        let (after, spent) = draw(rt.alloc(), state)?;
+        state = after;
         let expected = spent.iter().position(|script| *script == BAD);
         let list = jobs(rt.alloc(), &tx, &spent)?;
         assert!(rt; are_ready(&list));
         for workers in [1, 2, 8, 16] {
             let answer = first_failure(&rt, rt.alloc(), &list, &table, workers, &Open)?;
-            assert_eq!(rt; answer, expected);
+            assert!(rt; answer == expected, "{expected:?}, not {answer:?}");
         }
     }
     Ok(())

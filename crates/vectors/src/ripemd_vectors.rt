@@ -41,20 +41,28 @@ const PUBLISHED: [(&[u8], &[u8; 20]); 8] = [
 #[test]
 fn published_digests(rt: HostRuntime) {
     for (message, expected) in PUBLISHED {
-        assert_eq!(rt; digest(message).as_slice(), expected.as_slice());
+        assert!(rt; digest(message) == *expected, "of {message:?}");
     }
+}
+
+/// Whether a message has this digest, wherever it is cut into two pieces.
+fn has_digest(message: &[u8], expected: &[u8; 20]) -> bool {
+    for cut in 0..=message.len() {
+        let (front, back) = message.split_at(cut);
+        let mut hasher = Ripemd160::new();
+        hasher.update(front);
+        hasher.update(back);
+        if hasher.finalize() != *expected {
+            return false;
+        }
+    }
+    true
 }
 
 #[test]
 fn every_cut_into_two_pieces(rt: HostRuntime) {
     for (message, expected) in PUBLISHED {
-        for cut in 0..=message.len() {
-            let (front, back) = message.split_at(cut);
-            let mut hasher = Ripemd160::new();
-            hasher.update(front);
-            hasher.update(back);
-            assert_eq!(rt; hasher.finalize().as_slice(), expected.as_slice());
-        }
+        assert!(rt; has_digest(message, expected), "of {message:?}");
     }
 }
 
@@ -67,5 +75,5 @@ fn a_million_times_a(rt: HostRuntime) {
     }
     let expected =
         b"\x52\x78\x32\x43\xc1\x69\x7b\xdb\xe1\x6d\x37\xf9\x7f\x68\xf0\x83\x25\xdc\x15\x28";
-    assert_eq!(rt; hasher.finalize().as_slice(), expected.as_slice());
+    assert!(rt; hasher.finalize() == *expected);
 }

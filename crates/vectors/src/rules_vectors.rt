@@ -6,11 +6,15 @@ use std::alloc::{AllocError, Global};
 use std::test::*;
 use txn::{Inputs, OutPoint, Outputs, Reason, Script, Tx, TxIn};
 
+const TIME: u32 = 1_296_688_603;
+
+const NOW: u64 = 1_296_688_603;
+
 const HEADER: Header = Header {
     version: 4,
     prev: GENESIS_ID,
     root: GENESIS_ROOT,
-    time: 1_296_688_603,
+    time: TIME,
     bits: 0x207f_ffff,
     nonce: 0,
 };
@@ -55,145 +59,160 @@ fn block(alloc: Global, script: &[u8], lock_time: u32) -> Result<Block, AllocErr
 #[test]
 fn genesis_alone(rt: HostRuntime) -> Result<(), Fail> {
     let genesis = block::read(rt.alloc(), &GENESIS)?;
-    assert_eq!(rt; block_alone(rt.alloc(), &genesis)?, None);
     let empty = Block {
         header: genesis.header,
         txs: Txs::from_vec(Vec::new(rt.alloc())),
     };
-    let found = block_alone(rt.alloc(), &empty)?;
-    assert_eq!(rt; found, Some(Reason::BadMerkleRoot));
+    let found = [
+        block_alone(rt.alloc(), &genesis)?,
+        block_alone(rt.alloc(), &empty)?,
+    ];
+    assert_eq!(rt; found, [None, Some(Reason::BadMerkleRoot)]);
     Ok(())
 }
 
+/// A header's version and bits, the median before it, and the time now; and what is wrong with a header of that time.
+const HEADERS: [(i32, u32, u32, u64, Option<Reason>); 10] = [
+    (4, 0x207f_ffff, TIME - 1, NOW, None),
+    (4, 0x207f_fffe, TIME, 0, Some(Reason::WrongBits)),
+    (4, 0x207f_ffff, TIME, 0, Some(Reason::TimeTooOld)),
+    (
+        4,
+        0x207f_ffff,
+        TIME - 1,
+        NOW - 7201,
+        Some(Reason::TimeTooNew),
+    ),
+    (4, 0x207f_ffff, TIME - 1, NOW - 7200, None),
+    (4, 0x207f_ffff, TIME - 1, u64::MAX, None),
+    (3, 0x207f_ffff, TIME - 1, NOW, Some(Reason::BadVersion)),
+    (0, 0x207f_ffff, TIME - 1, NOW, Some(Reason::BadVersion)),
+    (-1, 0x207f_ffff, TIME - 1, NOW, Some(Reason::BadVersion)),
+    (
+        i32::MIN,
+        0x207f_ffff,
+        TIME - 1,
+        NOW,
+        Some(Reason::BadVersion),
+    ),
+];
+
 #[test]
 fn headers(rt: HostRuntime) {
-    let time = HEADER.time;
-    let now = u64::from(time);
-    assert_eq!(rt;
-        header_context(&HEADER, 1, time - 1, now, &Params::regtest()),
-        None
-    );
-    let bits = Header {
-        bits: 0x207f_fffe,
-        ..HEADER
-    };
-    assert_eq!(rt;
-        header_context(&bits, 1, time, 0, &Params::regtest()),
-        Some(Reason::WrongBits)
-    );
-    assert_eq!(rt;
-        header_context(&HEADER, 1, time, 0, &Params::regtest()),
-        Some(Reason::TimeTooOld)
-    );
-    let ahead = header_context(&HEADER, 1, time - 1, now - 7201, &Params::regtest());
-    assert_eq!(rt; ahead, Some(Reason::TimeTooNew));
-    assert_eq!(rt;
-        header_context(&HEADER, 1, time - 1, now - 7200, &Params::regtest()),
-        None
-    );
-    assert_eq!(rt;
-        header_context(&HEADER, 1, time - 1, u64::MAX, &Params::regtest()),
-        None
-    );
-    for version in [3, 0, -1, i32::MIN] {
-        let old = Header { version, ..HEADER };
-        assert_eq!(rt;
-            header_context(&old, 1, time - 1, now, &Params::regtest()),
-            Some(Reason::BadVersion)
+    let params = Params::regtest();
+    for (version, bits, median, now, expected) in HEADERS {
+        let header = Header {
+            version,
+            bits,
+            ..HEADER
+        };
+        let found = header_context(&header, 1, median, now, &params);
+        assert!(rt;
+            found == expected,
+            "{expected:?}, not {found:?}: {version} {bits} {median} {now}"
         );
     }
 }
 
-#[test]
-fn pushes_of_heights(rt: HostRuntime) -> Result<(), Fail> {
-    let cases: [(u32, &[u8]); 10] = [
-        (1, &[0x51]),
-        (16, &[0x60]),
-        (17, &[0x01, 0x11]),
-        (127, &[0x01, 0x7f]),
-        (128, &[0x02, 0x80, 0x00]),
-        (255, &[0x02, 0xff, 0x00]),
-        (256, &[0x02, 0x00, 0x01]),
-        (32_767, &[0x02, 0xff, 0x7f]),
-        (32_768, &[0x03, 0x00, 0x80, 0x00]),
-        (4_294_967_295, &[0x05, 0xff, 0xff, 0xff, 0xff, 0x00]),
-    ];
+/// Heights, and how a coinbase's script begins there.
+const PUSHES: [(u32, &[u8]); 10] = [
+    (1, &[0x51]),
+    (16, &[0x60]),
+    (17, &[0x01, 0x11]),
+    (127, &[0x01, 0x7f]),
+    (128, &[0x02, 0x80, 0x00]),
+    (255, &[0x02, 0xff, 0x00]),
+    (256, &[0x02, 0x00, 0x01]),
+    (32_767, &[0x02, 0xff, 0x7f]),
+    (32_768, &[0x03, 0x00, 0x80, 0x00]),
+    (4_294_967_295, &[0x05, 0xff, 0xff, 0xff, 0xff, 0x00]),
+];
+
+/// What is wrong with a block whose script goes on after the push, at the height and at the one before; and with one
+/// whose script ends before the push does.
+fn faults_at(alloc: Global, height: u32, push: &[u8]) -> Result<[Option<Reason>; 3], AllocError> {
     let always = Params {
         bip34: 0,
         ..Params::regtest()
     };
-    for (height, push) in cases {
-        let mut script = Vec::from_slice(rt.alloc(), push)?;
-        script.push(0xaa)?;
-        let longer = block(rt.alloc(), &script, 0)?;
-        assert_eq!(rt; block_context(&longer, height, 0, &always), None);
-        let other = block_context(&longer, height - 1, 0, &always);
-        assert_eq!(rt; other, Some(Reason::CoinbaseHeight));
-        let cut = block(rt.alloc(), &push[..push.len() - 1], 0)?;
-        let short = block_context(&cut, height, 0, &always);
-        assert_eq!(rt; short, Some(Reason::CoinbaseHeight));
-    }
-    let byte = block(rt.alloc(), &[0x01, 0x10], 0)?;
-    assert_eq!(rt;
-        block_context(&byte, 16, 0, &always),
-        Some(Reason::CoinbaseHeight)
-    );
-    Ok(())
+    let mut script = Vec::from_slice(alloc, push)?;
+    script.push(0xaa)?;
+    let longer = block(alloc, &script, 0)?;
+    let (front, _) = push.split_at(push.len().saturating_sub(1));
+    let cut = block(alloc, front, 0)?;
+    Ok([
+        block_context(&longer, height, 0, &always),
+        block_context(&longer, height.saturating_sub(1), 0, &always),
+        block_context(&cut, height, 0, &always),
+    ])
 }
 
 #[test]
-fn finality_before_the_height(rt: HostRuntime) -> Result<(), Fail> {
-    let early = block(rt.alloc(), &[0x52], 5)?;
-    assert_eq!(rt;
-        block_context(&early, 5, 0, &Params::regtest()),
-        Some(Reason::NonFinal)
-    );
-    assert_eq!(rt;
-        block_context(&early, 6, 0, &Params::regtest()),
-        Some(Reason::CoinbaseHeight)
-    );
-    let passed = block(rt.alloc(), &[0x56], 5)?;
-    assert_eq!(rt; block_context(&passed, 6, 0, &Params::regtest()), None);
-    let time = block(rt.alloc(), &[0x56], 1_296_688_603)?;
-    assert_eq!(rt;
-        block_context(&time, 6, 1_296_688_603, &Params::regtest()),
-        Some(Reason::NonFinal)
-    );
-    assert_eq!(rt;
-        block_context(&time, 6, 1_296_688_604, &Params::regtest()),
-        None
-    );
+fn pushes_of_heights(rt: HostRuntime) -> Result<(), Fail> {
+    let fault = Some(Reason::CoinbaseHeight);
+    for (height, push) in PUSHES {
+        let found = faults_at(rt.alloc(), height, push)?;
+        assert!(rt; found == [None, fault, fault], "at {height}: {found:?}");
+    }
+    Ok(())
+}
+
+/// A coinbase's script, another transaction's lock time, the block's height and the cutoff; and what is wrong with the
+/// block there. Finality comes before the height, and a byte is no push of the number 16.
+const PLACES: [(&[u8], u32, u32, u32, Option<Reason>); 6] = [
+    (&[0x52], 5, 5, 0, Some(Reason::NonFinal)),
+    (&[0x52], 5, 6, 0, Some(Reason::CoinbaseHeight)),
+    (&[0x56], 5, 6, 0, None),
+    (&[0x56], TIME, 6, TIME, Some(Reason::NonFinal)),
+    (&[0x56], TIME, 6, TIME + 1, None),
+    (&[0x01, 0x10], 0, 16, 0, Some(Reason::CoinbaseHeight)),
+];
+
+#[test]
+fn finality_and_height(rt: HostRuntime) -> Result<(), Fail> {
+    let params = Params::regtest();
+    for (script, lock_time, height, cutoff, expected) in PLACES {
+        let block = block(rt.alloc(), script, lock_time)?;
+        let found = block_context(&block, height, cutoff, &params);
+        assert!(rt;
+            found == expected,
+            "{script:?} {lock_time} at {height}, {cutoff}: {found:?}"
+        );
+    }
     Ok(())
 }
 
 #[test]
 fn rules_by_height(rt: HostRuntime) -> Result<(), Fail> {
     let regtest = Params::regtest();
-    let late = Params {
+    let bip65_late = Params {
         bip65: 5,
+        ..regtest
+    };
+    let bip34_late = Params {
+        bip34: 3,
         ..regtest
     };
     let old = Header {
         version: 3,
         ..HEADER
     };
-    let now = u64::from(HEADER.time);
-    assert_eq!(rt; header_context(&old, 4, 0, now, &late), None);
-    assert_eq!(rt;
-        header_context(&old, 5, 0, now, &late),
-        Some(Reason::BadVersion)
-    );
-    let late = Params {
-        bip34: 3,
-        ..regtest
-    };
     let without = block(rt.alloc(), &[0x00, 0x02], 0)?;
-    assert_eq!(rt; block_context(&without, 2, 0, &late), None);
-    assert_eq!(rt;
-        block_context(&without, 3, 0, &late),
-        Some(Reason::CoinbaseHeight)
-    );
-    assert!(rt; !late.at(2).bip34 && late.at(2).bip65 && late.at(2).bip66 && late.at(2).csv);
+    let found = [
+        header_context(&old, 4, 0, NOW, &bip65_late),
+        header_context(&old, 5, 0, NOW, &bip65_late),
+        block_context(&without, 2, 0, &bip34_late),
+        block_context(&without, 3, 0, &bip34_late),
+    ];
+    let expected = [
+        None,
+        Some(Reason::BadVersion),
+        None,
+        Some(Reason::CoinbaseHeight),
+    ];
+    assert_eq!(rt; found, expected);
+    let at_two = bip34_late.at(2);
+    assert!(rt; !at_two.bip34 && at_two.bip65 && at_two.bip66 && at_two.csv);
     Ok(())
 }
 
@@ -202,17 +221,15 @@ fn rules_by_height(rt: HostRuntime) -> Result<(), Fail> {
 fn locks_by_the_median_or_by_the_time(rt: HostRuntime) -> Result<(), Fail> {
     let regtest = Params::regtest();
     let before = Params { csv: 7, ..regtest };
-    let now = u64::from(HEADER.time);
-    let median = HEADER.time - 2;
-    let locked = block(rt.alloc(), &[0x56], HEADER.time - 1)?;
+    let locked = block(rt.alloc(), &[0x56], TIME - 1)?;
+    let found = [
+        context_fault(&locked, 6, TIME - 2, NOW, &regtest),
+        context_fault(&locked, 6, TIME - 2, NOW, &before),
+        context_fault(&locked, 6, TIME, NOW, &before),
+    ];
     assert_eq!(rt;
-        context_fault(&locked, 6, median, now, &regtest),
-        Some(Reason::NonFinal)
-    );
-    assert_eq!(rt; context_fault(&locked, 6, median, now, &before), None);
-    assert_eq!(rt;
-        context_fault(&locked, 6, HEADER.time, now, &before),
-        Some(Reason::TimeTooOld)
+        found,
+        [Some(Reason::NonFinal), None, Some(Reason::TimeTooOld)]
     );
     Ok(())
 }

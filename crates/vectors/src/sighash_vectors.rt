@@ -43,11 +43,11 @@ const DIGESTS: [(u32, &str); 6] = [
 fn each_kind(rt: HostRuntime) -> Result<(), Fail> {
     let bytes = <[u8; 166]>::from_hex(BYTES)?;
     let tx = txn::read(rt.alloc(), &mut Cursor::new(&bytes))?;
-    assert_eq!(rt; tx.inputs.len(), 3);
+    assert!(rt; tx.inputs.len() == 3);
     let pieces: [&[u8]; 3] = [&[0x76, 0xa9], &[], &[1, 2, 0xac]];
     for (kind, expected) in DIGESTS {
         let expected = <[u8; 32]>::from_hex(expected)?;
-        assert_eq!(rt; digest(&tx, 1, &pieces, kind), expected);
+        assert!(rt; digest(&tx, 1, &pieces, kind) == expected, "of {kind}");
     }
     Ok(())
 }
@@ -59,13 +59,13 @@ fn single_without_an_output(rt: HostRuntime) -> Result<(), Fail> {
     let mut tx = txn::read(rt.alloc(), &mut Cursor::new(&bytes))?;
     tx.inputs = Inputs::from_vec(vec![in rt.alloc(); input(&rt, &tx)?, input(&rt, &tx)?]?);
     tx.outputs = Outputs::from_vec(vec![in rt.alloc(); output(&rt, &tx)?]?);
-    assert_eq!(rt; (tx.inputs.len(), tx.outputs.len()), (2, 1));
+    assert!(rt; tx.inputs.len() == 2 && tx.outputs.len() == 1);
     let mut one = [0; 32];
     one[0] = 1;
     for kind in [3, 35, 67, 131] {
-        assert_eq!(rt; digest(&tx, 1, &[], kind), one);
+        assert!(rt; digest(&tx, 1, &[], kind) == one, "of {kind}");
     }
-    assert_ne!(rt; digest(&tx, 0, &[], 3), one);
+    assert!(rt; digest(&tx, 0, &[], 3) != one);
     Ok(())
 }
 

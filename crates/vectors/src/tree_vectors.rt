@@ -67,39 +67,67 @@ fn mark(tree: &mut Tree, place: usize) {
 #[test]
 fn genesis_alone(rt: HostRuntime) -> Result<(), Fail> {
     let tree = Tree::new(rt.alloc())?;
-    assert_eq!(rt; tree.len(), 1);
-    assert_eq!(rt; tree.find(&GENESIS_ID), Some(0));
-    assert_eq!(rt; tree.find(&Id([7; 32])), None);
-    assert!(rt; is_usable(&tree, 0));
-    assert!(rt; is_seen(&tree, 0));
+    let found = (tree.len(), tree.find(&GENESIS_ID), tree.find(&Id([7; 32])));
+    assert_eq!(rt; found, (1, Some(0), None));
+    assert!(rt; is_usable(&tree, 0) && is_seen(&tree, 0));
     Ok(())
 }
 
-/// Two blocks on the first one, and a third on one of them.
+/// A tree of a block on genesis, and of two blocks on that one.
+fn forked(alloc: Global) -> Result<Tree, Fail> {
+    let mut tree = Tree::new(alloc)?;
+    grow(&mut tree, 0, 1)?;
+    grow(&mut tree, B1, 2)?;
+    grow(&mut tree, B1, 3)?;
+    Ok(tree)
+}
+
+/// The places of its three blocks.
+const B1: usize = 1;
+
+const P2: usize = 2;
+
+const Q2: usize = 3;
+
+/// The first of the two is better, until the second is called precious; and a block on the first is better then.
 #[test]
-fn marks_and_ranks(rt: HostRuntime) -> Result<(), Fail> {
-    let mut tree = Tree::new(rt.alloc())?;
-    let b1 = grow(&mut tree, 0, 1)?;
-    let p2 = grow(&mut tree, b1, 2)?;
-    let q2 = grow(&mut tree, b1, 3)?;
-    assert!(rt; is_better(&tree, p2, q2));
-    assert!(rt; !is_better(&tree, q2, p2));
-    if q2 < tree.len() {
-        tree.precious(q2)?;
+fn ranks(rt: HostRuntime) -> Result<(), Fail> {
+    let mut tree = forked(rt.alloc())?;
+    let by_order = [is_better(&tree, P2, Q2), is_better(&tree, Q2, P2)];
+    call(&mut tree, Q2)?;
+    let by_call = is_better(&tree, Q2, P2);
+    let p3 = grow(&mut tree, P2, 4)?;
+    let found = (by_order, by_call, is_better(&tree, p3, Q2));
+    assert_eq!(rt; found, ([true, false], true, true));
+    Ok(())
+}
+
+fn call(tree: &mut Tree, place: usize) -> Result<(), Memory> {
+    if place < tree.len() {
+        tree.precious(place)?;
     }
-    assert!(rt; is_better(&tree, q2, p2));
-    let p3 = grow(&mut tree, p2, 4)?;
-    assert!(rt; is_better(&tree, p3, q2));
-    mark(&mut tree, p2);
-    assert!(rt; !is_usable(&tree, p3));
-    assert!(rt; is_usable(&tree, q2));
-    if p3 < tree.len() {
-        tree.clear(rt.alloc(), p3)?;
+    Ok(())
+}
+
+fn clear(tree: &mut Tree, alloc: Global, place: usize) -> Result<(), Memory> {
+    if place < tree.len() {
+        tree.clear(alloc, place)?;
     }
+    Ok(())
+}
+
+/// A block on the first of the two: it is marked by its parent, and cleared and seen alone.
+#[test]
+fn marks(rt: HostRuntime) -> Result<(), Fail> {
+    let mut tree = forked(rt.alloc())?;
+    let p3 = grow(&mut tree, P2, 4)?;
+    mark(&mut tree, P2);
+    let marked = [is_usable(&tree, p3), is_usable(&tree, Q2)];
+    clear(&mut tree, rt.alloc(), p3)?;
     see(&mut tree, p3);
-    assert!(rt; is_usable(&tree, p3));
-    assert!(rt; is_seen(&tree, p3));
-    assert!(rt; !is_seen(&tree, p2));
+    let seen = [is_seen(&tree, p3), is_seen(&tree, P2)];
+    let found = (marked, is_usable(&tree, p3), seen);
+    assert_eq!(rt; found, ([false, true], true, [true, false]));
     Ok(())
 }
 
@@ -110,14 +138,15 @@ fn a_branch(rt: HostRuntime) -> Result<(), Fail> {
     grow(&mut tree, 0, 2)?;
     let three = grow(&mut tree, one, 3)?;
     assert!(rt; three < tree.len());
-    if three < tree.len() {
-        let branch = tree.branch(rt.alloc(), three)?;
-        assert_eq!(rt; branch.as_slice(), [3, 1, 0].as_slice());
-        assert_eq!(rt; tree.parent(three), 1);
-        assert_eq!(rt; tree.height(three), 2);
-        assert_eq!(rt; tree.find(&tree.id(three)), Some(3));
-        assert_eq!(rt; Some(tree.block(three).header().prev), id(&tree, 1));
-    }
+    let branch = tree.branch(rt.alloc(), three)?;
+    assert!(rt; branch.as_slice() == [3, 1, 0].as_slice());
+    let found = (
+        tree.parent(three),
+        tree.height(three),
+        tree.find(&tree.id(three)),
+    );
+    assert_eq!(rt; found, (1, 2, Some(3)));
+    assert!(rt; Some(tree.block(three).header().prev) == id(&tree, 1));
     Ok(())
 }
 
@@ -139,20 +168,19 @@ fn mark_and_put_back(
     Ok(marked)
 }
 
-/// Two blocks on the first one, of which one was marked before.
+/// One of the two was marked before.
 #[test]
 fn flags_put_back(rt: HostRuntime) -> Result<(), Fail> {
-    let mut tree = Tree::new(rt.alloc())?;
-    let b1 = grow(&mut tree, 0, 1)?;
-    let p2 = grow(&mut tree, b1, 2)?;
-    let q2 = grow(&mut tree, b1, 3)?;
-    mark(&mut tree, q2);
-    see(&mut tree, b1);
-    assert!(rt; mark_and_put_back(&mut tree, rt.alloc(), b1, p2)?);
-    assert!(rt; is_usable(&tree, p2));
-    assert!(rt; !is_usable(&tree, q2));
-    assert!(rt; is_seen(&tree, b1));
-    assert!(rt; !is_seen(&tree, p2));
+    let mut tree = forked(rt.alloc())?;
+    mark(&mut tree, Q2);
+    see(&mut tree, B1);
+    let meanwhile = mark_and_put_back(&mut tree, rt.alloc(), B1, P2)?;
+    let usable = [is_usable(&tree, P2), is_usable(&tree, Q2)];
+    let seen = [is_seen(&tree, B1), is_seen(&tree, P2)];
+    assert_eq!(rt;
+        (meanwhile, usable, seen),
+        (true, [true, false], [true, false])
+    );
     Ok(())
 }
 
@@ -171,26 +199,21 @@ fn a_call_taken_back(rt: HostRuntime) -> Result<(), Fail> {
     let mut tree = Tree::new(rt.alloc())?;
     let one = grow(&mut tree, 0, 1)?;
     let two = grow(&mut tree, 0, 2)?;
-    if two < tree.len() {
-        tree.precious(two)?;
-    }
+    call(&mut tree, two)?;
     call_and_take_back(&mut tree, one)?;
-    assert!(rt; is_better(&tree, two, one));
+    let after_one = is_better(&tree, two, one);
     call_and_take_back(&mut tree, two)?;
-    assert!(rt; is_better(&tree, two, one));
+    assert_eq!(rt; [after_one, is_better(&tree, two, one)], [true, true]);
     Ok(())
 }
 
 #[test]
 fn the_best_usable_block(rt: HostRuntime) -> Result<(), Fail> {
-    let mut tree = Tree::new(rt.alloc())?;
-    assert_eq!(rt; tree.best_usable(), 0);
-    let b1 = grow(&mut tree, 0, 1)?;
-    let p2 = grow(&mut tree, b1, 2)?;
-    let q2 = grow(&mut tree, b1, 3)?;
-    assert_eq!(rt; tree.best_usable(), p2);
-    mark(&mut tree, p2);
-    assert_eq!(rt; tree.best_usable(), q2);
+    let alone = Tree::new(rt.alloc())?.best_usable();
+    let mut tree = forked(rt.alloc())?;
+    let before = tree.best_usable();
+    mark(&mut tree, P2);
+    assert_eq!(rt; [alone, before, tree.best_usable()], [0, P2, Q2]);
     Ok(())
 }
 
@@ -204,37 +227,46 @@ fn tips(tree: &Tree, alloc: Global, best: usize) -> Result<Vec<Tip>, Memory> {
     tree.tips(alloc, best, active.as_slice())
 }
 
-fn is_tip(tip: Option<&Tip>, id: Option<Id>, height: usize, length: usize, status: Status) -> bool {
-    match (tip, id) {
-        (Some(tip), Some(id)) => {
-            *tip == Tip {
-                id,
-                height,
-                length,
-                status,
-            }
+/// The tip at this place; none where there isn't a block.
+fn tip(tree: &Tree, place: usize, height: usize, length: usize, status: Status) -> Option<Tip> {
+    let id = id(tree, place)?;
+    Some(Tip {
+        id,
+        height,
+        length,
+        status,
+    })
+}
+
+/// Whether the tips beside this active block are these, each with its place, height, length and status.
+fn has_tips(
+    tree: &Tree,
+    alloc: Global,
+    best: usize,
+    expected: &[(usize, usize, usize, Status)],
+) -> Result<bool, Memory> {
+    let list = tips(tree, alloc, best)?;
+    let mut found = list.as_slice().iter();
+    for (place, height, length, status) in expected {
+        let tip = tip(tree, *place, *height, *length, *status);
+        if tip.is_none() || found.next().copied() != tip {
+            return Ok(false);
         }
-        _ => false,
     }
+    Ok(found.next().is_none())
 }
 
 /// A fork of one block, which becomes the active branch by a second one.
 #[test]
 fn tips_of_a_fork(rt: HostRuntime) -> Result<(), Fail> {
-    let mut tree = Tree::new(rt.alloc())?;
-    let b1 = grow(&mut tree, 0, 1)?;
-    let p2 = grow(&mut tree, b1, 2)?;
-    let q2 = grow(&mut tree, b1, 3)?;
-    see(&mut tree, p2);
-    let list = tips(&tree, rt.alloc(), p2)?;
-    assert_eq!(rt; list.len(), 2);
-    assert!(rt; is_tip(list.get(0), id(&tree, p2), 2, 0, Status::Active));
-    assert!(rt; is_tip(list.get(1), id(&tree, q2), 2, 1, Status::ValidHeaders));
-    let q3 = grow(&mut tree, q2, 4)?;
-    let list = tips(&tree, rt.alloc(), q3)?;
-    assert_eq!(rt; list.len(), 2);
-    assert!(rt; is_tip(list.get(0), id(&tree, q3), 3, 0, Status::Active));
-    assert!(rt; is_tip(list.get(1), id(&tree, p2), 2, 1, Status::ValidFork));
+    let mut tree = forked(rt.alloc())?;
+    see(&mut tree, P2);
+    let expected = [(P2, 2, 0, Status::Active), (Q2, 2, 1, Status::ValidHeaders)];
+    let before = has_tips(&tree, rt.alloc(), P2, &expected)?;
+    let q3 = grow(&mut tree, Q2, 4)?;
+    let expected = [(q3, 3, 0, Status::Active), (P2, 2, 1, Status::ValidFork)];
+    let after = has_tips(&tree, rt.alloc(), q3, &expected)?;
+    assert_eq!(rt; [before, after], [true, true]);
     Ok(())
 }
 
@@ -248,15 +280,16 @@ fn tips_above_marks(rt: HostRuntime) -> Result<(), Fail> {
     let x2 = grow(&mut tree, x1, 4)?;
     let x3 = grow(&mut tree, x2, 5)?;
     mark(&mut tree, x2);
-    let list = tips(&tree, rt.alloc(), b2)?;
-    assert_eq!(rt; list.len(), 2);
-    assert!(rt; is_tip(list.get(0), id(&tree, x3), 3, 3, Status::Invalid));
-    assert!(rt; is_tip(list.get(1), id(&tree, b2), 2, 0, Status::Active));
+    let expected = [(x3, 3, 3, Status::Invalid), (b2, 2, 0, Status::Active)];
+    let before = has_tips(&tree, rt.alloc(), b2, &expected)?;
     mark(&mut tree, b2);
-    let list = tips(&tree, rt.alloc(), b1)?;
-    assert_eq!(rt; list.len(), 3);
-    assert!(rt; is_tip(list.get(1), id(&tree, b2), 2, 1, Status::Invalid));
-    assert!(rt; is_tip(list.get(2), id(&tree, b1), 1, 0, Status::Active));
+    let expected = [
+        (x3, 3, 3, Status::Invalid),
+        (b2, 2, 1, Status::Invalid),
+        (b1, 1, 0, Status::Active),
+    ];
+    let after = has_tips(&tree, rt.alloc(), b1, &expected)?;
+    assert_eq!(rt; [before, after], [true, true]);
     Ok(())
 }
 
@@ -282,11 +315,9 @@ fn a_block_taken_back(rt: HostRuntime) -> Result<(), Fail> {
     let b1 = grow(&mut tree, 0, 1)?;
     for parent in 0..2 {
         let gone = add_and_take_back(&mut tree, parent, 2)?;
-        assert_eq!(rt; tree.len(), 2);
-        assert_eq!(rt; tree.find(&gone), None);
-        let list = tips(&tree, rt.alloc(), b1)?;
-        assert_eq!(rt; list.len(), 1);
-        assert!(rt; is_tip(list.get(0), id(&tree, b1), 1, 0, Status::Active));
+        assert!(rt; tree.len() == 2 && tree.find(&gone).is_none());
+        let expected = [(b1, 1, 0, Status::Active)];
+        assert!(rt; has_tips(&tree, rt.alloc(), b1, &expected)?);
     }
     Ok(())
 }
@@ -300,9 +331,7 @@ fn median_time_past(rt: HostRuntime) -> Result<(), Fail> {
         tip = grow(&mut tree, tip, seconds)?;
     }
     assert!(rt; tip < tree.len());
-    if tip < tree.len() {
-        assert_eq!(rt; tree.median(tip), GENESIS_TIME + 7);
-    }
+    assert_eq!(rt; tree.median(tip), GENESIS_TIME + 7);
     Ok(())
 }
 
@@ -313,17 +342,14 @@ fn more_tips_than_a_hundred(rt: HostRuntime) -> Result<(), Fail> {
     for seconds in 1..131 {
         grow(&mut tree, 0, seconds)?;
     }
-    let list = tips(&tree, rt.alloc(), 1)?;
-    assert_eq!(rt; list.len(), 130);
+    assert_eq!(rt; tips(&tree, rt.alloc(), 1)?.len(), 130);
     Ok(())
 }
 
 #[test]
 fn why_a_block_is_not_added(rt: HostRuntime) -> Result<(), Fail> {
-    let full = format!(in rt.alloc(); "{}", AddFault::Full)?;
-    assert_eq!(rt; full.as_str(), "the tree is full");
-    let memory = format!(in rt.alloc(); "{}", AddFault::Memory)?;
-    assert_eq!(rt; memory.as_str(), "out of memory");
+    let text = format!(in rt.alloc(); "{}; {}", AddFault::Full, AddFault::Memory)?;
+    assert!(rt; text.as_str() == "the tree is full; out of memory");
     Ok(())
 }
 
