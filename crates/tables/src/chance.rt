@@ -11,264 +11,77 @@
 //! `slow` takes a third of a second for each, since it replays all branches for each block. A list's number is its
 //! seed.
 
+use crate::recount::Recount;
+use crate::shown::coins_of;
 use crate::stepping::played;
 use activate::Chainstate;
 use chain::{Bytes, Command, Reply, SubmitReply};
-use coins::Base;
-use hash::Id;
 use lists::commands::{Told, define};
 use lists::dealing::Deal;
 use reference::slow;
 use rules::Params;
 use scenario::Definitions;
-use std::alloc::Global;
+use std::alloc::{AllocError, Global};
 use std::process::Abort;
 use std::test::Fail;
-use tree::{Status, Tip};
 
-/// How a block stands that is submitted once more: nothing, where it isn't kept. A valid one may be the active one.
-fn standing(reply: Reply) -> Option<Status> {
-    match reply {
-        Reply::Submit(SubmitReply::Duplicate) => Some(Status::ValidFork),
-        Reply::Submit(SubmitReply::DuplicateInvalid) => Some(Status::Invalid),
-        Reply::Submit(SubmitReply::DuplicateInconclusive) => Some(Status::ValidHeaders),
-        _ => None,
-    }
-}
-
-/// What is known of a block of a list at its end.
-#[derive(Clone, Copy, Debug)]
-struct Known {
-    id: Id,
-    parent: usize,
-    height: usize,
-    standing: Option<Status>,
-    /// Which command it was that the block was kept by.
-    arrival: usize,
-    is_active: bool,
-    has_child: bool,
-}
-
-/// The blocks of a list as they stand at its end, by their places; genesis first.
+/// A list, and what its words stand for.
 #[derive(Drop)]
-struct Recount {
-    blocks: Vec<Known>,
-    active: usize,
+struct Dealt {
+    deal: Deal,
+    definitions: Definitions,
 }
 
-impl Recount {
-    /// From the replies of `slow`, and the active block's id.
-    fn new(
-        alloc: Global,
-        deal: &Deal,
-        definitions: &Definitions,
-        replies: &[Reply],
-        best: Id,
-    ) -> Result<Recount, Fail> {
-        let mut blocks = Vec::new(alloc);
-        for (place, parent) in deal.parents.iter().enumerate() {
-            let name = deal.name(place)?;
-            let block = definitions.find(&name).map_err(|_| Fail::new("a block"))?;
-            blocks.push(Known {
-                id: block.id,
-                parent: *parent,
-                height: block.height as usize,
-                standing: None,
-                arrival: 0,
-                is_active: false,
-                has_child: false,
-            })?;
-        }
-        let active = blocks.iter().position(|block| block.id == best);
-        let mut recount = Recount {
-            blocks,
-            active: active.ok_or("the active block")?,
-        };
-        recount.read(&deal.submitted, replies);
-        recount.join();
-        Ok(recount)
-    }
-
-    /// What the replies say. A block was kept by the last command that didn't find it kept.
-    fn read(&mut self, submitted: &[Option<usize>], replies: &[Reply]) {
-        if let Some(genesis) = self.blocks.first_mut() {
-            genesis.standing = Some(Status::ValidFork);
-        }
-        for (number, (place, reply)) in submitted.iter().zip(replies).enumerate() {
-            let Some(place) = *place else {
-                continue;
-            };
-            if let Some(block) = self.blocks.get_mut(place) {
-                block.standing = standing(*reply);
-                if block.standing.is_none() {
-                    block.arrival = number;
-                }
-            }
-        }
-    }
-
-    /// The parent's place of a block that is kept.
-    fn kept_parent(&self, place: usize) -> Option<usize> {
-        let block = self.blocks.get(place)?;
-        block.standing.map(|_| block.parent)
-    }
-
-    fn add_child(&mut self, place: usize) {
-        if let Some(block) = self.blocks.get_mut(place) {
-            block.has_child = true;
-        }
-    }
-
-    /// Which blocks are active, and which have a child that is kept.
-    fn join(&mut self) {
-        for place in 1..self.blocks.len() {
-            if let Some(parent) = self.kept_parent(place) {
-                self.add_child(parent);
-            }
-        }
-        let mut place = self.active;
-        for _ in 0..self.blocks.len() {
-            if let Some(block) = self.blocks.get_mut(place) {
-                block.is_active = true;
-                place = block.parent;
-            }
-        }
-    }
-
-    /// The block at a place as a tip, if it is one.
-    fn tip(&self, place: usize) -> Option<Tip> {
-        let block = self.blocks.get(place)?;
-        let status = block.standing?;
-        if place == self.active {
-            return Some(Tip {
-                id: block.id,
-                height: block.height,
-                length: 0,
-                status: Status::Active,
-            });
-        }
-        if block.has_child {
-            return None;
-        }
-        Some(Tip {
-            id: block.id,
-            height: block.height,
-            length: self.length(place),
-            status,
-        })
-    }
-
-    /// How many blocks of the branch of a block aren't active.
-    fn length(&self, place: usize) -> usize {
-        let mut place = place;
-        for length in 0..self.blocks.len() {
-            match self.blocks.get(place) {
-                Some(block) if !block.is_active => place = block.parent,
-                _ => return length,
-            }
-        }
-        self.blocks.len()
-    }
-
-    /// All tips, by height downwards, then by arrival.
-    fn tips(&self, alloc: Global) -> Result<Vec<Tip>, Fail> {
-        let mut ranked = Vec::new(alloc);
-        for (place, block) in self.blocks.iter().enumerate() {
-            if let Some(tip) = self.tip(place) {
-                ranked.push((usize::MAX.wrapping_sub(tip.height), block.arrival, place))?;
-            }
-        }
-        ranked.sort()?;
-        let mut tips = Vec::new(alloc);
-        for (_, _, place) in &ranked {
-            tips.push(self.tip(*place).ok_or("a tip")?)?;
-        }
-        Ok(tips)
-    }
-
-    /// The places of the active branch, the highest first, without genesis.
-    fn branch(&self, alloc: Global) -> Result<Vec<usize>, Fail> {
-        let mut places = Vec::new(alloc);
-        let mut place = self.active;
-        for _ in 0..self.blocks.len() {
-            if place == 0 {
-                break;
-            }
-            places.push(place)?;
-            place = self.blocks.get(place).map_or(0, |block| block.parent);
-        }
-        Ok(places)
-    }
-}
-
-/// The active block is seen, and no usable one is higher.
-fn expect_best<R: AllocGlobal + Abort>(rt: &R, recount: &Recount, seed: u64) {
-    let Some(active) = recount.blocks.get(recount.active) else {
-        return;
-    };
-    assert_eq!(rt; active.standing, Some(Status::ValidFork), "seed {seed}");
-    for block in &recount.blocks {
-        match block.standing {
-            None | Some(Status::Invalid) => {}
-            _ => assert!(rt; block.height <= active.height, "seed {seed}"),
-        }
-    }
-}
-
-/// The submissions of the active branch's blocks, from genesis up, at a moment at which none is too new.
-fn climb(
-    alloc: Global,
-    deal: &Deal,
-    definitions: &Definitions,
-    recount: &Recount,
-) -> Result<Vec<Command>, Fail> {
+/// The submissions of these blocks, the last one first, at a moment at which none is too new. Genesis isn't submitted.
+fn climb(alloc: Global, dealt: &Dealt, branch: &[usize]) -> Result<Vec<Command>, Fail> {
     let mut commands = Vec::new(alloc);
-    for place in recount.branch(alloc)?.iter().rev() {
-        let name = deal.name(*place)?;
-        let block = definitions.find(&name).map_err(|_| Fail::new("a block"))?;
+    for place in branch.iter().rev().skip(1) {
+        let block = dealt.definitions.find(&dealt.deal.name(*place)?)?;
         let bytes = Bytes::from_slice(alloc, &block.bytes)?;
         commands.push(Command::Submit(bytes, u64::MAX))?;
     }
     Ok(commands)
 }
 
-/// Compares the coins at an outpoint of a list. A block without a coinbase has no such outpoint.
-fn expect_same_coin<R: AllocGlobal + Abort>(
-    rt: &R,
-    chains: [&Chainstate; 2],
-    definitions: &Definitions,
-    outpoint: &str,
-    seed: u64,
-) {
-    let Ok(at) = definitions.output(outpoint) else {
-        return;
-    };
-    let [one, other] = chains;
-    match (one.coins().get(&at), other.coins().get(&at)) {
-        (Some(one), Some(other)) => assert!(rt; one.same(other), "seed {seed}, {outpoint}"),
-        (one, other) => { assert!(rt; one.is_none() && other.is_none(), "seed {seed}, {outpoint}") }
+/// The outpoints of a list's coinbases and payments.
+fn outpoints(alloc: Global, deal: &Deal) -> Result<String, AllocError> {
+    let mut text = String::new(alloc);
+    for place in 0..deal.parents.len() {
+        write!(text, "{}.cb:0 ", deal.name(place)?)?;
     }
+    for number in 0..deal.transactions {
+        write!(text, "t{number}:0 t{number}:1 ")?;
+    }
+    Ok(text)
 }
 
-/// Compares the coins wherever a list has outputs.
-fn expect_same_coins<R: AllocGlobal + Abort>(
+/// The best block, its height and the coins of a chainstate.
+fn shown(alloc: Global, dealt: &Dealt, chain: &Chainstate) -> Result<String, Fail> {
+    let Dealt { deal, definitions } = dealt;
+    let best = definitions.label(chain.best());
+    let coins = coins_of(alloc, chain, definitions, &outpoints(alloc, deal)?)?;
+    Ok(format!(in alloc; "{best} {}\n{coins}", chain.height())?)
+}
+
+/// A chainstate shows the same as one that takes the blocks of the active branch alone, from genesis up, and accepts
+/// them all.
+fn expect_climb<R: AllocGlobal + Abort>(
     rt: &R,
-    chains: [&Chainstate; 2],
-    deal: &Deal,
-    definitions: &Definitions,
+    dealt: &Dealt,
+    chain: &Chainstate,
+    branch: &[usize],
     seed: u64,
 ) -> Result<(), Fail> {
     let alloc = rt.alloc();
-    for place in 0..deal.parents.len() {
-        let outpoint = format!(in alloc; "{}.cb:0", deal.name(place)?)?;
-        expect_same_coin(rt, chains, definitions, &outpoint, seed);
+    let climb = climb(alloc, dealt, branch)?;
+    let table = dealt.definitions.table();
+    let (other, replies) = played(alloc, Params::regtest(), table, &climb)?;
+    for reply in &replies {
+        assert_eq!(rt; *reply, Reply::Submit(SubmitReply::Accepted), "seed {seed}");
     }
-    for number in 0..deal.transactions {
-        for index in 0..2 {
-            let outpoint = format!(in alloc; "t{number}:{index}")?;
-            expect_same_coin(rt, chains, definitions, &outpoint, seed);
-        }
-    }
+    let one = shown(alloc, dealt, chain)?;
+    let other = shown(alloc, dealt, &other)?;
+    assert_eq!(rt; one.as_str(), other.as_str(), "seed {seed}");
     Ok(())
 }
 
@@ -280,93 +93,82 @@ fn expect_agreement<R: AllocGlobal + Abort>(
     count: usize,
 ) -> Result<(), Fail> {
     let alloc = rt.alloc();
-    let params = Params::regtest();
     let deal = Deal::new(alloc, seed, below, count)?;
     let definitions = define(alloc, &deal.definitions)?;
+    let dealt = Dealt { deal, definitions };
+    let Dealt { deal, definitions } = &dealt;
     let table = definitions.table();
-    let told = Told::from_text(alloc, &definitions, &deal.commands)?;
-    let wanted = slow(alloc, &params, &told.commands, table)?;
-    let (chain, replies) = played(alloc, params, table, &told.commands)?;
+    let told = Told::from_text(alloc, definitions, &deal.commands)?;
+    let wanted = slow(alloc, &Params::regtest(), &told.commands, table)?;
+    let (chain, replies) = played(alloc, Params::regtest(), table, &told.commands)?;
     assert_eq!(rt; replies.as_slice(), wanted.as_slice(), "seed {seed}");
-    let recount = Recount::new(alloc, &deal, &definitions, &wanted, chain.best())?;
-    expect_best(rt, &recount, seed);
+    let recount = Recount::new(alloc, deal, definitions, &wanted, chain.best())?;
+    assert!(rt; recount.is_best_right(), "seed {seed}");
     let tips = chain.tips(alloc)?;
-    assert_eq!(rt;
-        tips.as_slice(),
-        recount.tips(alloc)?.as_slice(),
-        "seed {seed}"
-    );
-    let climb = climb(alloc, &deal, &definitions, &recount)?;
-    let (other, replies) = played(alloc, params, table, &climb)?;
-    for reply in &replies {
-        assert_eq!(rt; *reply, Reply::Submit(SubmitReply::Accepted), "seed {seed}");
-    }
-    assert_eq!(rt;
-        (other.best(), other.height()),
-        (chain.best(), chain.height()),
-        "seed {seed}"
-    );
-    expect_same_coins(rt, [&chain, &other], &deal, &definitions, seed)
+    let recounted = recount.tips(alloc)?;
+    assert_eq!(rt; tips.as_slice(), recounted.as_slice(), "seed {seed}");
+    expect_climb(rt, &dealt, &chain, &recount.branch, seed)
 }
 
-/// The lists of fifty seeds, from genesis on.
-fn expect_on_genesis<R: AllocGlobal + Abort>(rt: &R, first: u64) -> Result<(), Fail> {
-    for seed in first..first.saturating_add(50) {
-        let more = seed as usize % 21;
-        expect_agreement(rt, seed, 0, 20 + more)?;
-    }
-    Ok(())
-}
-
-/// The lists of twenty-five seeds, on a chain of 100 blocks.
-fn expect_on_a_chain<R: AllocGlobal + Abort>(rt: &R, first: u64) -> Result<(), Fail> {
-    for seed in first..first.saturating_add(25) {
-        expect_agreement(rt, seed, 100, 40)?;
+/// The lists of so many seeds.
+fn expect_all<R: AllocGlobal + Abort>(
+    rt: &R,
+    first: u64,
+    end: u64,
+    below: usize,
+) -> Result<(), Fail> {
+    for seed in first..end {
+        let count = if below == 0 {
+            20 + seed as usize % 21
+        } else {
+            40
+        };
+        expect_agreement(rt, seed, below, count)?;
     }
     Ok(())
 }
 
 #[test]
 fn lists_0_to_49_on_genesis(rt: HostRuntime) -> Result<(), Fail> {
-    expect_on_genesis(&rt, 0)
+    expect_all(&rt, 0, 50, 0)
 }
 
 #[test]
 fn lists_50_to_99_on_genesis(rt: HostRuntime) -> Result<(), Fail> {
-    expect_on_genesis(&rt, 50)
+    expect_all(&rt, 50, 100, 0)
 }
 
 #[test]
 fn lists_100_to_149_on_genesis(rt: HostRuntime) -> Result<(), Fail> {
-    expect_on_genesis(&rt, 100)
+    expect_all(&rt, 100, 150, 0)
 }
 
 #[test]
 fn lists_150_to_174_on_a_chain(rt: HostRuntime) -> Result<(), Fail> {
-    expect_on_a_chain(&rt, 150)
+    expect_all(&rt, 150, 175, 100)
 }
 
 #[test]
 fn lists_175_to_199_on_a_chain(rt: HostRuntime) -> Result<(), Fail> {
-    expect_on_a_chain(&rt, 175)
+    expect_all(&rt, 175, 200, 100)
 }
 
 #[test]
 fn lists_200_to_224_on_a_chain(rt: HostRuntime) -> Result<(), Fail> {
-    expect_on_a_chain(&rt, 200)
+    expect_all(&rt, 200, 225, 100)
 }
 
 #[test]
 fn lists_225_to_249_on_a_chain(rt: HostRuntime) -> Result<(), Fail> {
-    expect_on_a_chain(&rt, 225)
+    expect_all(&rt, 225, 250, 100)
 }
 
 #[test]
 fn lists_250_to_274_on_a_chain(rt: HostRuntime) -> Result<(), Fail> {
-    expect_on_a_chain(&rt, 250)
+    expect_all(&rt, 250, 275, 100)
 }
 
 #[test]
 fn lists_275_to_299_on_a_chain(rt: HostRuntime) -> Result<(), Fail> {
-    expect_on_a_chain(&rt, 275)
+    expect_all(&rt, 275, 300, 100)
 }

@@ -3,17 +3,15 @@
 #![tactic(auto)]
 
 #[cfg(test)]
-mod by_chainstate;
-#[cfg(test)]
-mod by_definition;
-#[cfg(test)]
 mod chance;
 #[cfg(test)]
-mod definition_alone;
+mod recount;
 #[cfg(test)]
-mod replies;
+mod scenarios;
 #[cfg(test)]
 mod scripts;
+#[cfg(test)]
+mod shown;
 #[cfg(test)]
 mod stepping;
 #[cfg(test)]

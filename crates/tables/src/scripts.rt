@@ -1,20 +1,21 @@
 //! Scripts, and whether an input may spend what they lock.
 
 use curve::Table;
-use hash::{Id, hash160};
+use hash::Id;
 use interp::{Flags, Job, verify};
 use std::alloc::Global;
-use std::process::Abort;
 use std::test::Fail;
 use txn::{Inputs, OutPoint, Outputs, Script, Tx, TxIn, TxOut};
 
-/// What a script runs with: what the transaction says of its locks, and the rules that are in force.
-#[derive(Drop)]
+/// What a script runs with: what the transaction says of its locks, the rules that are in force, and the signatures
+/// that are valid.
+#[derive(Clone, Copy)]
 struct Setting {
     version: i32,
     lock_time: u32,
     sequence: u32,
     flags: Flags,
+    table: &'static str,
 }
 
 /// A transaction without a lock, with all rules in force.
@@ -23,287 +24,302 @@ const PLAIN: Setting = Setting {
     lock_time: 0,
     sequence: 0,
     flags: Flags::ALL,
+    table: "",
 };
 
-impl Setting {
-    /// A transaction without a lock.
-    fn under(flags: Flags) -> Setting {
-        Setting { flags, ..PLAIN }
-    }
+/// The type SINGLE, without an output of the input's number, signs the number 1.
+const SIGNED: &str =
+    "aa 3006020101020101 0100000000000000000000000000000000000000000000000000000000000000";
 
-    /// A transaction with locks, and all rules in force.
-    fn locked(version: i32, lock_time: u32, sequence: u32) -> Setting {
+/// An input's script and the script that it spends, in hexadecimal, the latter in pieces, each so many times; and
+/// whether that is accepted.
+type Row = (&'static str, &'static str, bool);
+
+const CONDITIONS_AND_NUMBERS: [Row; 11] = [
+    ("", "0063656851", false),
+    ("", "0063626851", true),
+    ("", "00637e6851", false),
+    ("", "0063ba6851", true),
+    ("", "04ffffff7f8b05000000800087", true),
+    ("", "04ffffff7f8b8b", false),
+    ("", "0180", false),
+    ("", "028000", true),
+    ("", "5163", false),
+    ("", "5167", false),
+    ("", "02ff", false),
+];
+
+const HASHES_AND_STACKS: [Row; 11] = [
+    ("", "00a6149c1185a5c5e9fc54612808977ee8f548b2258d3187", true),
+    ("", "00a714da39a3ee5e6b4b0d3255bfef95601890afd8070987", true),
+    ("", "5152537b518853885287", true),
+    ("", "515253545556715288518856885587", true),
+    ("", "515152a5", true),
+    ("", "515251795187", true),
+    ("", "008f820087", true),
+    ("", "5163516700675268", true),
+    ("", "525152a5", false),
+    ("", "514f79", false),
+    ("", "0067", false),
+];
+
+/// Opcodes of signatures without one; counted opcodes; elements on both stacks; and deep conditions.
+const COUNTED: [Row; 16] = [
+    ("", "000000ae", true),
+    ("", "0051ac91", true),
+    ("", "0000515151ae91", true),
+    ("", "00510052515152ae91", true),
+    ("", "0000ae", false),
+    ("", "5151ac91", false),
+    ("", "00000115ae", false),
+    ("", "51 201*61", true),
+    ("", "51 202*61", false),
+    ("", "1000*51", true),
+    ("", "1001*51", false),
+    ("", "1000*51 6b", true),
+    ("", "1000*51 6b 51", false),
+    ("", "100*5163 51 100*68 61", true),
+    ("", "100*5163 51 100*68 2*61", false),
+    ("", "00 100*63 100*68 51", true),
+];
+
+/// Scripts that are pushed by the input; what is spent has the hash of OP_1.
+const SCRIPT_HASHES: [Row; 3] = [
+    (
+        "0151",
+        "a914da1745e9b549bd0bfa1a569971c77eba30cd5a4b87",
+        true,
+    ),
+    (
+        "0161",
+        "a914da1745e9b549bd0bfa1a569971c77eba30cd5a4b87",
+        false,
+    ),
+    (
+        "015161",
+        "a914da1745e9b549bd0bfa1a569971c77eba30cd5a4b87",
+        false,
+    ),
+];
+
+const LOCK_TIMES: [Row; 5] = [
+    ("", "0164b1", true),
+    ("", "0165b1", false),
+    ("", "4fb1", false),
+    ("", "040065cd1db1", false),
+    ("", "b1", false),
+];
+
+const LOCK_TIMES_OF_A_FINAL_INPUT: [Row; 5] = [
+    ("", "0164b1", false),
+    ("", "0165b1", false),
+    ("", "4fb1", false),
+    ("", "040065cd1db1", false),
+    ("", "b1", false),
+];
+
+const RELATIVE_LOCKS: [Row; 5] = [
+    ("", "52b2", true),
+    ("", "53b2", true),
+    ("", "050000008000b2", true),
+    ("", "54b2", false),
+    ("", "03030040b2", false),
+];
+
+/// A false signature check, negated, which is accepted without DERSIG.
+const NEGATED_CHECK: &str = "5151ac91";
+
+/// A negative lock time, which is accepted without CLTV.
+const NEGATIVE_LOCK_TIME: &str = "4fb1";
+
+/// A negative sequence, which is accepted without CSV.
+const NEGATIVE_SEQUENCE: &str = "4fb2";
+
+const IN_FORCE: [Row; 3] = [
+    ("", NEGATED_CHECK, false),
+    ("", NEGATIVE_LOCK_TIME, false),
+    ("", NEGATIVE_SEQUENCE, false),
+];
+
+const OUT_OF_FORCE: [Row; 3] = [
+    ("", NEGATED_CHECK, true),
+    ("", NEGATIVE_LOCK_TIME, true),
+    ("", NEGATIVE_SEQUENCE, true),
+];
+
+const UNDER_DERSIG: [Row; 3] = [
+    ("", NEGATED_CHECK, false),
+    ("", NEGATIVE_LOCK_TIME, true),
+    ("", NEGATIVE_SEQUENCE, true),
+];
+
+const UNDER_CLTV: [Row; 3] = [
+    ("", NEGATED_CHECK, true),
+    ("", NEGATIVE_LOCK_TIME, false),
+    ("", NEGATIVE_SEQUENCE, true),
+];
+
+const UNDER_CSV: [Row; 3] = [
+    ("", NEGATED_CHECK, true),
+    ("", NEGATIVE_LOCK_TIME, true),
+    ("", NEGATIVE_SEQUENCE, false),
+];
+
+/// Settings, and scripts that are run with each.
+const GROUPS: [(Setting, &[Row]); 16] = [
+    (PLAIN, &CONDITIONS_AND_NUMBERS),
+    (PLAIN, &HASHES_AND_STACKS),
+    (PLAIN, &COUNTED),
+    (PLAIN, &SCRIPT_HASHES),
+    (PLAIN, &[("09300602010102010103", "01aaac", false)]),
+    (
         Setting {
-            version,
-            lock_time,
-            sequence,
+            table: SIGNED,
             ..PLAIN
-        }
+        },
+        &[("09300602010102010103", "01aaac", true)],
+    ),
+    (
+        Setting {
+            lock_time: 100,
+            ..PLAIN
+        },
+        &LOCK_TIMES,
+    ),
+    (
+        Setting {
+            lock_time: 100,
+            sequence: 0xffff_ffff,
+            ..PLAIN
+        },
+        &LOCK_TIMES_OF_A_FINAL_INPUT,
+    ),
+    (
+        Setting {
+            version: 2,
+            sequence: 3,
+            ..PLAIN
+        },
+        &RELATIVE_LOCKS,
+    ),
+    (
+        Setting {
+            sequence: 3,
+            ..PLAIN
+        },
+        &[("", "53b2", false), ("", "050000008000b2", true)],
+    ),
+    (
+        Setting {
+            version: -1,
+            sequence: 3,
+            ..PLAIN
+        },
+        &[("", "53b2", true)],
+    ),
+    (PLAIN, &IN_FORCE),
+    (
+        Setting {
+            flags: Flags::NONE,
+            ..PLAIN
+        },
+        &OUT_OF_FORCE,
+    ),
+    (
+        Setting {
+            flags: Flags {
+                dersig: true,
+                ..Flags::NONE
+            },
+            ..PLAIN
+        },
+        &UNDER_DERSIG,
+    ),
+    (
+        Setting {
+            flags: Flags {
+                cltv: true,
+                ..Flags::NONE
+            },
+            ..PLAIN
+        },
+        &UNDER_CLTV,
+    ),
+    (
+        Setting {
+            flags: Flags {
+                csv: true,
+                ..Flags::NONE
+            },
+            ..PLAIN
+        },
+        &UNDER_CSV,
+    ),
+];
+
+/// The bytes of pieces in hexadecimal, each as it is or so many times, as `201*61`.
+fn joined(alloc: Global, pieces: &str) -> Result<Vec<u8>, Fail> {
+    let mut bytes = Vec::new(alloc);
+    for piece in pieces.split_whitespace() {
+        let (times, digits) = piece.split_once('*').unwrap_or(("1", piece));
+        let piece = hex::decode(alloc, digits)?;
+        bytes.extend_from_slice(&piece.repeat(alloc, times.parse()?)?)?;
+    }
+    Ok(bytes)
+}
+
+fn input(setting: &Setting, script: Vec<u8>) -> TxIn {
+    TxIn {
+        prev: OutPoint {
+            id: Id([7; 32]),
+            index: 0,
+        },
+        script: Script::from_vec(script),
+        sequence: setting.sequence,
     }
 }
 
 /// A transaction of two inputs and one output, whose second input has this script.
 fn spender(alloc: Global, setting: &Setting, script: Vec<u8>) -> Result<Tx, Fail> {
-    let mut inputs = Vec::new(alloc);
-    for script in [Vec::new(alloc), script] {
-        let prev = OutPoint {
-            id: Id([7; 32]),
-            index: 0,
-        };
-        inputs.push(TxIn {
-            prev,
-            script: Script::from_vec(script),
-            sequence: setting.sequence,
-        })?;
-    }
-    let mut outputs = Vec::new(alloc);
-    outputs.push(TxOut {
+    let first = input(setting, Vec::new(alloc));
+    let inputs = vec![in alloc; first, input(setting, script)]?;
+    let output = TxOut {
         value: 1,
         script: Script::from_vec(Vec::new(alloc)),
-    })?;
+    };
     Ok(Tx {
         version: setting.version,
         inputs: Inputs::from_vec(inputs),
-        outputs: Outputs::from_vec(outputs),
+        outputs: Outputs::from_vec(vec![in alloc; output]?),
         lock_time: setting.lock_time,
     })
 }
 
 /// Whether the second input of such a transaction is accepted.
-fn is_accepted<R: AllocGlobal + Abort>(
-    rt: &R,
-    setting: &Setting,
-    script: Vec<u8>,
-    spent: &[u8],
-    table: &Table,
-) -> Result<bool, Fail> {
-    let tx = spender(rt.alloc(), setting, script)?;
-    assert_eq!(rt; tx.inputs.len(), 2);
+fn is_accepted(alloc: Global, setting: &Setting, row: &Row) -> Result<bool, Fail> {
+    let (script, spent, _) = *row;
+    let table = Table::from_lines(alloc, setting.table.as_bytes())?;
+    let tx = spender(alloc, setting, hex::decode(alloc, script)?)?;
+    let spent = joined(alloc, spent)?;
+    if tx.inputs.len() != 2 {
+        return Err(Fail::new("two inputs"));
+    }
     let job = Job {
         tx: &tx,
         input: 1,
-        spent,
+        spent: spent.as_slice(),
         flags: setting.flags,
     };
-    Ok(verify(rt.alloc(), &job, table)?)
+    Ok(verify(alloc, &job, &table)?)
 }
 
-/// Scripts in hexadecimal that are spent with an empty input script and no signature, and whether they are accepted.
-fn expect_all<R: AllocGlobal + Abort>(
-    rt: &R,
-    setting: &Setting,
-    rows: &[(&str, bool)],
-) -> Result<(), Fail> {
-    let table = Table::new(rt.alloc());
-    for (digits, expected) in rows {
-        let spent = hex::decode(rt.alloc(), *digits)?;
-        let accepted = is_accepted(rt, setting, Vec::new(rt.alloc()), spent.as_slice(), &table)?;
-        assert_eq!(rt; accepted, *expected, "{digits}");
-    }
-    Ok(())
-}
-
-/// Pieces of a script in hexadecimal, each so many times, and whether the script is accepted.
-fn expect_joined<R: AllocGlobal + Abort>(
-    rt: &R,
-    pieces: &[(usize, &str)],
-    expected: bool,
-) -> Result<(), Fail> {
-    let mut spent = Vec::new(rt.alloc());
-    for (times, digits) in pieces {
-        let piece = hex::decode(rt.alloc(), *digits)?;
-        for _ in 0..*times {
-            spent.extend_from_slice(piece.as_slice())?;
+#[test]
+fn verdicts(rt: HostRuntime) -> Result<(), Fail> {
+    for (setting, rows) in &GROUPS {
+        for row in *rows {
+            let accepted = is_accepted(rt.alloc(), setting, row)?;
+            assert_eq!(rt; accepted, row.2, "{} {}", row.0, row.1);
         }
     }
-    let table = Table::new(rt.alloc());
-    let accepted = is_accepted(rt, &PLAIN, Vec::new(rt.alloc()), spent.as_slice(), &table)?;
-    assert_eq!(rt; accepted, expected);
     Ok(())
-}
-
-const CONDITIONS_AND_NUMBERS: [(&str, bool); 11] = [
-    ("0063656851", false),
-    ("0063626851", true),
-    ("00637e6851", false),
-    ("0063ba6851", true),
-    ("04ffffff7f8b05000000800087", true),
-    ("04ffffff7f8b8b", false),
-    ("0180", false),
-    ("028000", true),
-    ("5163", false),
-    ("5167", false),
-    ("02ff", false),
-];
-
-#[test]
-fn conditions_and_numbers(rt: HostRuntime) -> Result<(), Fail> {
-    expect_all(&rt, &PLAIN, &CONDITIONS_AND_NUMBERS)
-}
-
-const HASHES_AND_STACKS: [(&str, bool); 11] = [
-    ("00a6149c1185a5c5e9fc54612808977ee8f548b2258d3187", true),
-    ("00a714da39a3ee5e6b4b0d3255bfef95601890afd8070987", true),
-    ("5152537b518853885287", true),
-    ("515253545556715288518856885587", true),
-    ("515152a5", true),
-    ("515251795187", true),
-    ("008f820087", true),
-    ("5163516700675268", true),
-    ("525152a5", false),
-    ("514f79", false),
-    ("0067", false),
-];
-
-#[test]
-fn hashes_and_stacks(rt: HostRuntime) -> Result<(), Fail> {
-    expect_all(&rt, &PLAIN, &HASHES_AND_STACKS)
-}
-
-const WITHOUT_SIGNATURES: [(&str, bool); 7] = [
-    ("000000ae", true),
-    ("0051ac91", true),
-    ("0000515151ae91", true),
-    ("00510052515152ae91", true),
-    ("0000ae", false),
-    ("5151ac91", false),
-    ("00000115ae", false),
-];
-
-#[test]
-fn signature_opcodes_without_signatures(rt: HostRuntime) -> Result<(), Fail> {
-    expect_all(&rt, &PLAIN, &WITHOUT_SIGNATURES)
-}
-
-#[test]
-fn counted_opcodes(rt: HostRuntime) -> Result<(), Fail> {
-    expect_joined(&rt, &[(1, "51"), (201, "61")], true)?;
-    expect_joined(&rt, &[(1, "51"), (202, "61")], false)
-}
-
-#[test]
-fn elements_on_both_stacks(rt: HostRuntime) -> Result<(), Fail> {
-    expect_joined(&rt, &[(1000, "51")], true)?;
-    expect_joined(&rt, &[(1001, "51")], false)?;
-    expect_joined(&rt, &[(1000, "51"), (1, "6b")], true)?;
-    expect_joined(&rt, &[(1000, "51"), (1, "6b"), (1, "51")], false)
-}
-
-#[test]
-fn deep_conditions(rt: HostRuntime) -> Result<(), Fail> {
-    let taken: [(usize, &str); 4] = [(100, "5163"), (1, "51"), (100, "68"), (1, "61")];
-    expect_joined(&rt, &taken, true)?;
-    let one_more: [(usize, &str); 4] = [(100, "5163"), (1, "51"), (100, "68"), (2, "61")];
-    expect_joined(&rt, &one_more, false)?;
-    expect_joined(&rt, &[(1, "00"), (100, "63"), (100, "68"), (1, "51")], true)
-}
-
-const INNER_SCRIPTS: [(&str, bool); 3] = [("0151", true), ("0161", false), ("015161", false)];
-
-#[test]
-fn script_hashes(rt: HostRuntime) -> Result<(), Fail> {
-    let table = Table::new(rt.alloc());
-    let mut spent = [0; 23];
-    spent[0] = 0xa9;
-    spent[1] = 20;
-    spent[2..22].copy_from_slice(&hash160(&[0x51]));
-    spent[22] = 0x87;
-    for (digits, expected) in INNER_SCRIPTS {
-        let script = hex::decode(rt.alloc(), digits)?;
-        let accepted = is_accepted(&rt, &PLAIN, script, &spent, &table)?;
-        assert_eq!(rt; accepted, expected, "{digits}");
-    }
-    Ok(())
-}
-
-/// The type SINGLE, without an output of the input's number, signs the number 1.
-#[test]
-fn a_signature(rt: HostRuntime) -> Result<(), Fail> {
-    let alloc = rt.alloc();
-    let mut table = Table::new(alloc);
-    let spent = [0x01, 0xaa, 0xac];
-    let script = hex::decode(alloc, "09300602010102010103")?;
-    assert!(rt; !is_accepted(&rt, &PLAIN, script, &spent, &table)?);
-    let mut digest = [0; 32];
-    digest[0] = 1;
-    table.add(&[0xaa], &[0x30, 6, 2, 1, 1, 2, 1, 1], &digest)?;
-    let script = hex::decode(alloc, "09300602010102010103")?;
-    assert!(rt; is_accepted(&rt, &PLAIN, script, &spent, &table)?);
-    Ok(())
-}
-
-const LOCK_TIMES: [(&str, bool); 5] = [
-    ("0164b1", true),
-    ("0165b1", false),
-    ("4fb1", false),
-    ("040065cd1db1", false),
-    ("b1", false),
-];
-
-#[test]
-fn lock_times(rt: HostRuntime) -> Result<(), Fail> {
-    expect_all(&rt, &Setting::locked(1, 100, 0), &LOCK_TIMES)?;
-    for (digits, _) in LOCK_TIMES {
-        expect_all(
-            &rt,
-            &Setting::locked(1, 100, 0xffff_ffff),
-            &[(digits, false)],
-        )?;
-    }
-    Ok(())
-}
-
-const RELATIVE_LOCKS: [(&str, bool); 5] = [
-    ("52b2", true),
-    ("53b2", true),
-    ("050000008000b2", true),
-    ("54b2", false),
-    ("03030040b2", false),
-];
-
-#[test]
-fn relative_locks(rt: HostRuntime) -> Result<(), Fail> {
-    expect_all(&rt, &Setting::locked(2, 0, 3), &RELATIVE_LOCKS)?;
-    expect_all(
-        &rt,
-        &Setting::locked(1, 0, 3),
-        &[("53b2", false), ("050000008000b2", true)],
-    )?;
-    expect_all(&rt, &Setting::locked(-1, 0, 3), &[("53b2", true)])
-}
-
-/// A false signature check, negated; a negative lock time; a negative sequence.
-const BY_FLAGS: [&str; 3] = ["5151ac91", "4fb1", "4fb2"];
-
-/// Whether these scripts are accepted under some flags.
-fn expect_by_flags<R: AllocGlobal + Abort>(
-    rt: &R,
-    flags: Flags,
-    expected: [bool; 3],
-) -> Result<(), Fail> {
-    let [signature, lock_time, sequence] = BY_FLAGS;
-    let [dersig, cltv, csv] = expected;
-    let rows = [(signature, dersig), (lock_time, cltv), (sequence, csv)];
-    expect_all(rt, &Setting::under(flags), &rows)
-}
-
-#[test]
-fn rules_in_force(rt: HostRuntime) -> Result<(), Fail> {
-    expect_by_flags(&rt, Flags::NONE, [true, true, true])?;
-    expect_by_flags(&rt, Flags::ALL, [false, false, false])?;
-    let dersig = Flags {
-        dersig: true,
-        ..Flags::NONE
-    };
-    expect_by_flags(&rt, dersig, [false, true, true])?;
-    let cltv = Flags {
-        cltv: true,
-        ..Flags::NONE
-    };
-    expect_by_flags(&rt, cltv, [true, false, true])?;
-    let csv = Flags {
-        csv: true,
-        ..Flags::NONE
-    };
-    expect_by_flags(&rt, csv, [true, true, false])
 }

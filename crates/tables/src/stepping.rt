@@ -1,7 +1,7 @@
 //! Commands that a chainstate takes one after the other.
 
 ghost use Rattle.std.specs.Prelude.{◌≡◌, IfOk};
-ghost use Rattle.activate.specs.CoreState.{Follows, IsChainstate, coins_of};
+ghost use Rattle.activate.specs.CoreState.{Follows, coins_of};
 
 use activate::{Chainstate, Core};
 use chain::{Command, Reply};
@@ -13,55 +13,32 @@ use rules::Params;
 use std::alloc::Global;
 use wire::Memory;
 
-/// Takes commands one after the other, and gives their replies.
-pub fn take_each(
-    alloc: Global,
-    chain: &mut Chainstate,
-    table: &Table,
-    commands: &[Command],
-) -> Result<Vec<Reply>, Memory>
-    requires { IsChainstate chain.old table.now }
-    ensures { IsChainstate chain.new table.now }
-{
-    let env = Env {
-        table,
-        workers: 1,
-        early: &[],
-        crew: &Alone,
-    };
-    chain.run(alloc, commands, &env, &Open)
-}
-
 /// The chainstate after some commands from genesis on, and their replies.
 pub fn played(
     alloc: Global,
     params: Params,
     table: &Table,
     commands: &[Command],
-) -> Result<(Chainstate, Vec<Reply>), Memory>
-    ensures { IfOk result (λ done. IsChainstate done.0 table.now) }
-{
+) -> Result<(Chainstate, Vec<Reply>), Memory> {
+    let env = Env {
+        table,
+        workers: 1,
+        early: &[],
+        crew: &Alone,
+    };
     let mut chain = Chainstate::with(alloc, params)?;
-    let replies = take_each(alloc, &mut chain, table, commands)?;
+    let replies = chain.run(alloc, commands, &env, &Open)?;
     Ok((chain, replies))
 }
 
-/// A step over coins that the caller keeps.
-#[derive(Clone, Copy, Debug, PartialEq, Eq)]
-pub struct Lent {
-    pub reply: Reply,
-    /// How many coins the step's list changes.
-    pub changes: usize,
-}
-
-/// Takes a command over coins, and lays the step's list over them.
+/// Takes a command over coins, and lays the step's list over them: the reply, and how many coins that changes.
 fn take_over(
     alloc: Global,
     core: &mut Core,
     coins: &mut CoinMap,
     table: &Table,
     command: &Command,
-) -> Result<Lent, Memory>
+) -> Result<(Reply, usize), Memory>
     requires follows { Follows core.old table.now }
     requires coins { coins.old ≡ coins_of core.old }
     ensures { IfOk result (λ _. Follows core.new table.now × (coins.new ≡ coins_of core.new)) }
@@ -75,20 +52,21 @@ fn take_over(
     let (reply, list) = core.step_over(alloc, &*coins, command, &env, &Open)?;
     let changes = list.len();
     coins.lay(alloc, &list)?;
-    Ok(Lent { reply, changes })
+    Ok((reply, changes))
 }
 
-/// Takes commands from genesis on over coins that are kept beside.
+/// Takes commands from genesis on over coins that are kept beside: a line for each reply, with how many coins changed.
 pub fn played_over(
     alloc: Global,
     table: &Table,
     commands: &[Command],
-) -> Result<(Core, Vec<Lent>), Memory> {
+) -> Result<(Core, String), Memory> {
     let mut core = Core::new(alloc)?;
     let mut coins = CoinMap::new(alloc);
-    let mut steps = Vec::new(alloc);
+    let mut steps = String::new(alloc);
     for command in commands {
-        steps.push(take_over(alloc, &mut core, &mut coins, table, command)?)?;
+        let (reply, changes) = take_over(alloc, &mut core, &mut coins, table, command)?;
+        write!(steps, "{reply} {changes}\n")?;
     }
     Ok((core, steps))
 }
