@@ -2,7 +2,9 @@
 //! before, and what seats answer afterwards.
 
 use hash::Id;
-use node::{Command, Entry, Fault, MarkReply, Node, Open, Params, Seat, Table};
+use node::{Command, Entry, Fault, Node, Open, Params, Seat, Stamped, Table};
+use std::alloc::{AllocError, Global};
+use std::fmt;
 use std::process::Abort;
 use std::sync::{Arc, Wait};
 use std::test::Fail;
@@ -20,57 +22,72 @@ fn opened<'g, R: AllocGlobal + Wait>(
     Ok(Node::open(rt, rt.alloc(), Params::regtest(), table, 1, seats, &Open)?)
 }
 
-/// The id of no block, one for each letter.
-fn unknown(letter: u8) -> Id {
-    Id([letter; 32])
+/// Writes an answer and its stamp, or why there is none.
+fn write_answer<T: fmt::Display + Drop>(
+    text: &mut String,
+    answer: Result<Stamped<T>, Fault>,
+) -> Result<(), Fail> {
+    match answer {
+        Ok(Stamped { at, value }) => write!(text, "{value} @{at}; ")?,
+        Err(fault) => write!(text, "{fault}; ")?,
+    }
+    Ok(())
 }
 
-/// Each seat takes a step, which marks a block that there isn't: what was answered.
+/// Each seat takes a step, which marks a block that there isn't: what is answered. The letter is that of the block's
+/// id.
 fn steps<R: AllocGlobal + Threads + Wait + Sync>(
     rt: &R,
     node: &Node<'_>,
     seats: &mut [Seat<'_>],
     letter: u8,
-) -> Result<Vec<Result<MarkReply, Fault>>, Fail> {
-    let mut replies = Vec::new(rt.alloc());
+) -> Result<String, Fail> {
+    let mut text = String::new(rt.alloc());
     for seat in seats {
-        let reply = seat.invalidate(rt, node, unknown(letter));
-        replies.push(reply.map(|reply| reply.value))?;
+        write_answer(&mut text, seat.invalidate(rt, node, Id([letter; 32])))?;
     }
-    Ok(replies)
+    Ok(text)
 }
 
-/// What the best block's places are that seats answer.
-fn reads<R: AllocGlobal>(
+/// The places of the best block that seats answer.
+fn reads(alloc: Global, node: &Node<'_>, seats: &mut [Seat<'_>]) -> Result<String, Fail> {
+    let mut text = String::new(alloc);
+    for seat in seats {
+        match seat.getbestblockhash(node) {
+            Ok(best) => write!(text, "@{}; ", best.at)?,
+            Err(fault) => write!(text, "{fault}; ")?,
+        }
+    }
+    Ok(text)
+}
+
+/// A history: of each step the seat, and the letter of the block that it marks.
+fn shown(alloc: Global, history: &[Entry]) -> Result<String, AllocError> {
+    let mut text = String::new(alloc);
+    for entry in history {
+        match &entry.command {
+            Command::Invalidate(id) => write!(text, "{} {}; ", entry.seat, id.0[0])?,
+            _ => write!(text, "another command; ")?,
+        }
+    }
+    Ok(text)
+}
+
+/// The history of a node as it ends by `finish` or by `close`, to which these seats are handed; or why there is none.
+fn ended<R: AllocGlobal + Wait>(
     rt: &R,
-    node: &Node<'_>,
+    node: Node<'_>,
     seats: &mut [Seat<'_>],
-) -> Result<Vec<Result<u64, Fault>>, Fail> {
-    let mut places = Vec::new(rt.alloc());
-    for seat in seats {
-        places.push(seat.getbestblockhash(node).map(|best| best.at))?;
-    }
-    Ok(places)
-}
-
-/// A history has a step of each of so many seats, in their order.
-fn expect_steps<R: Abort>(rt: &R, history: &[Entry], seats: usize, letter: u8) {
-    assert_eq!(rt; history.len(), seats);
-    for (place, entry) in history.iter().enumerate() {
-        assert_eq!(rt; entry.seat, place);
-        assert!(rt; matches!(entry.command, Command::Invalidate(id) if id == unknown(letter)));
-    }
-}
-
-/// Each seat takes a step. The history shows it.
-fn step_each<R: AllocGlobal + Threads + Wait + Sync>(
-    rt: &R,
-    node: &Node<'_>,
-    seats: &mut [Seat<'_>],
-    letter: u8,
-) {
-    for seat in seats {
-        let _ = seat.invalidate(rt, node, unknown(letter));
+    closes: bool,
+) -> Result<String, AllocError> {
+    let history = if closes {
+        node.close(rt, seats)
+    } else {
+        node.finish(seats)
+    };
+    match history {
+        Ok(history) => shown(rt.alloc(), &history),
+        Err(fault) => format!(in rt.alloc(); "{fault}"),
     }
 }
 
@@ -82,169 +99,129 @@ fn stepped<'g, R: AllocGlobal + Threads + Wait + Sync>(
     letter: u8,
 ) -> Result<Opened<'g>, Fail> {
     let (node, mut list) = opened(rt, table, seats)?;
-    step_each(rt, &node, list.as_mut_slice(), letter);
+    for seat in &mut list {
+        let _ = seat.invalidate(rt, &node, Id([letter; 32]));
+    }
     Ok((node, list))
 }
 
-/// The first so many seats are handed in at the end.
-fn expect_finish<R: AllocGlobal + Threads + Wait + Sync + Abort>(
+/// A node of three seats ends, to which the first so many are handed, or the last.
+fn end_with<R: AllocGlobal + Threads + Wait + Sync>(
     rt: &R,
-    table: &Arc<Table>,
     handed: usize,
-) -> Result<(), Fail> {
-    let (node, mut seats) = stepped(rt, table, 3, 7)?;
+    closes: bool,
+) -> Result<String, Fail> {
+    let table = Arc::new(rt.alloc(), Table::new(rt.alloc()))?;
+    let (node, mut seats) = stepped(rt, &table, 3, 7)?;
+    if closes {
+        seats.as_mut_slice().reverse();
+    }
     seats.truncate(handed);
-    let history = node.finish(seats.as_mut_slice())?;
-    expect_steps(rt, &history, 3, 7);
-    Ok(())
-}
-
-/// The last so many seats are handed in at the end.
-fn expect_close<R: AllocGlobal + Threads + Wait + Sync + Abort>(
-    rt: &R,
-    table: &Arc<Table>,
-    handed: usize,
-) -> Result<(), Fail> {
-    let (node, mut seats) = stepped(rt, table, 3, 8)?;
-    seats.as_mut_slice().reverse();
-    seats.truncate(handed);
-    let history = node.close(rt, seats.as_mut_slice())?;
-    expect_steps(rt, &history, 3, 8);
-    Ok(())
+    Ok(ended(rt, node, seats.as_mut_slice(), closes)?)
 }
 
 /// Whoever is left out, the whole history comes.
 #[test]
 fn seats_that_are_left_out(rt: HostRuntime) -> Result<(), Fail> {
-    let table = Arc::new(rt.alloc(), Table::new(rt.alloc()))?;
     for handed in 0..4usize {
-        expect_finish(&rt, &table, handed)?;
-        expect_close(&rt, &table, handed)?;
+        for closes in [false, true] {
+            let history = end_with(&rt, handed, closes)?;
+            assert_eq!(rt; history.as_str(), "0 7; 1 7; 2 7; ");
+        }
     }
     Ok(())
 }
 
-/// What a node of two seats that took a step each answers, as these seats are handed in.
-fn finish_with<R: AllocGlobal + Threads + Wait + Sync>(
-    rt: &R,
-    table: &Arc<Table>,
-    seats: &mut [Seat<'_>],
-) -> Result<Option<Fault>, Fail> {
-    let (node, _) = stepped(rt, table, 2, 8)?;
-    Ok(node.finish(seats).err())
-}
-
-/// The same of `close`.
-fn close_with<R: AllocGlobal + Threads + Wait + Sync>(
-    rt: &R,
-    table: &Arc<Table>,
-    seats: &mut [Seat<'_>],
-) -> Result<Option<Fault>, Fail> {
-    let (node, _) = stepped(rt, table, 2, 8)?;
-    Ok(node.close(rt, seats).err())
-}
-
-/// Both are refused.
+/// Both ends of a node of two seats that took a step each are refused to these seats.
 fn expect_refused<R: AllocGlobal + Threads + Wait + Sync + Abort>(
     rt: &R,
     table: &Arc<Table>,
     seats: &mut [Seat<'_>],
 ) -> Result<(), Fail> {
-    assert_eq!(rt; finish_with(rt, table, seats)?, Some(Fault::Closed));
-    assert_eq!(rt; close_with(rt, table, seats)?, Some(Fault::Closed));
-    Ok(())
-}
-
-/// Seats of another node are refused, and lose nothing: they end their own node.
-#[test]
-fn seats_of_another_node(rt: HostRuntime) -> Result<(), Fail> {
-    let table = Arc::new(rt.alloc(), Table::new(rt.alloc()))?;
-    let (node, mut seats) = stepped(&rt, &table, 2, 7)?;
-    let refused = expect_refused(&rt, &table, seats.as_mut_slice());
-    let history = node.finish(seats.as_mut_slice());
-    refused?;
-    expect_steps(&rt, &history?, 2, 7);
-    Ok(())
-}
-
-/// A seat of another node takes a step where both lists are as long, and is owed its reply. The seat of its number is
-/// shut out from then on, and the others aren't.
-#[test]
-fn a_step_at_another_node(rt: HostRuntime) -> Result<(), Fail> {
-    let table = Arc::new(rt.alloc(), Table::new(rt.alloc()))?;
-    let (_, mut others) = opened(&rt, &table, 1)?;
-    let (node, mut seats) = opened(&rt, &table, 2)?;
-    let owed = steps(&rt, &node, others.as_mut_slice(), 7)?;
-    assert_eq!(rt; owed.as_slice(), [Err(Fault::Owed)].as_slice());
-    let after = steps(&rt, &node, seats.as_mut_slice(), 7)?;
-    let wanted = [Err(Fault::Closed), Ok(MarkReply::NotFound)];
-    assert_eq!(rt; after.as_slice(), wanted.as_slice());
-    let again = steps(&rt, &node, others.as_mut_slice(), 7)?;
-    assert_eq!(rt; again.as_slice(), [Err(Fault::Closed)].as_slice());
-    Ok(())
-}
-
-/// What a node of two seats that took so many steps answers to the last seat of another one, which took none.
-fn step_elsewhere<R: AllocGlobal + Threads + Wait + Sync>(
-    rt: &R,
-    table: &Arc<Table>,
-    taken: usize,
-    number: usize,
-) -> Result<Vec<Result<MarkReply, Fault>>, Fail> {
-    let (_, mut others) = opened(rt, table, number)?;
-    others.as_mut_slice().reverse();
-    others.truncate(1);
-    let (node, mut seats) = opened(rt, table, 2)?;
-    seats.truncate(taken);
-    steps(rt, &node, seats.as_mut_slice(), 7)?;
-    steps(rt, &node, others.as_mut_slice(), 8)
-}
-
-/// A node takes no step of a seat whose list isn't as long, or whose number it has none of.
-#[test]
-fn no_step_at_another_node(rt: HostRuntime) -> Result<(), Fail> {
-    let table = Arc::new(rt.alloc(), Table::new(rt.alloc()))?;
-    for (taken, number) in [(1, 2), (0, 3)] {
-        let refused = step_elsewhere(&rt, &table, taken, number)?;
-        assert_eq!(rt; refused.as_slice(), [Err(Fault::Closed)].as_slice());
+    for closes in [false, true] {
+        let (node, _) = stepped(rt, table, 2, 8)?;
+        let history = ended(rt, node, seats, closes)?;
+        assert_eq!(rt; history.as_str(), "closed");
     }
     Ok(())
 }
 
-/// Two seats at a node that isn't theirs: what they read there, and that they take no step.
-fn expect_elsewhere<R: AllocGlobal + Threads + Wait + Sync + Abort>(
+/// A node of two seats ends, as its seats have been refused at another one, where they lost nothing. Then they read and
+/// write at a third one, and are refused there again.
+fn expect_end<R: AllocGlobal + Threads + Wait + Sync + Abort>(
     rt: &R,
-    table: &Arc<Table>,
-    seats: &mut [Seat<'_>],
-    read: Result<u64, Fault>,
+    closes: bool,
+    read: &str,
 ) -> Result<(), Fail> {
-    let (other, _) = opened(rt, table, 2)?;
-    let places = reads(rt, &other, seats)?;
-    assert_eq!(rt; places.as_slice(), [read, read].as_slice());
-    let refused = steps(rt, &other, seats, 7)?;
-    let wanted = [Err(Fault::Closed), Err(Fault::Closed)];
-    assert_eq!(rt; refused.as_slice(), wanted.as_slice());
-    Ok(())
+    let table = Arc::new(rt.alloc(), Table::new(rt.alloc()))?;
+    let (node, mut seats) = stepped(rt, &table, 2, 7)?;
+    let refused = expect_refused(rt, &table, seats.as_mut_slice());
+    let history = ended(rt, node, seats.as_mut_slice(), closes);
+    refused?;
+    assert_eq!(rt; history?.as_str(), "0 7; 1 7; ");
+    let (other, _) = opened(rt, &table, 2)?;
+    let places = reads(rt.alloc(), &other, seats.as_mut_slice())?;
+    assert_eq!(rt; places.as_str(), read);
+    let answers = steps(rt, &other, seats.as_mut_slice(), 7)?;
+    assert_eq!(rt; answers.as_str(), "closed; closed; ");
+    expect_refused(rt, &table, seats.as_mut_slice())
 }
 
 /// After `finish` seats read on. They write nowhere, and end no other node.
 #[test]
 fn after_finish(rt: HostRuntime) -> Result<(), Fail> {
-    let table = Arc::new(rt.alloc(), Table::new(rt.alloc()))?;
-    let (node, mut seats) = stepped(&rt, &table, 2, 7)?;
-    let history = node.finish(seats.as_mut_slice())?;
-    expect_steps(&rt, &history, 2, 7);
-    expect_elsewhere(&rt, &table, seats.as_mut_slice(), Ok(2))?;
-    expect_refused(&rt, &table, seats.as_mut_slice())
+    expect_end(&rt, false, "@2; @2; ")
 }
 
-/// After `close` they don't.
+/// After `close` they don't read either.
 #[test]
 fn after_close(rt: HostRuntime) -> Result<(), Fail> {
+    expect_end(&rt, true, "closed; closed; ")
+}
+
+/// The first so many seats take a step.
+fn step_first<R: AllocGlobal + Threads + Wait + Sync>(
+    rt: &R,
+    node: &Node<'_>,
+    seats: &mut [Seat<'_>],
+    taken: usize,
+) {
+    for seat in seats.iter_mut().take(taken) {
+        let _ = seat.invalidate(rt, node, Id([8; 32]));
+    }
+}
+
+/// What a seat is answered that is the last one of a node of so many, at a node of two seats of which so many took a
+/// step; then what both seats are answered, and what the first one is answered again.
+fn step_elsewhere<R: AllocGlobal + Threads + Wait + Sync>(
+    rt: &R,
+    number: usize,
+    taken: usize,
+) -> Result<String, Fail> {
     let table = Arc::new(rt.alloc(), Table::new(rt.alloc()))?;
-    let (node, mut seats) = stepped(&rt, &table, 2, 7)?;
-    let history = node.close(&rt, seats.as_mut_slice())?;
-    expect_steps(&rt, &history, 2, 7);
-    expect_elsewhere(&rt, &table, seats.as_mut_slice(), Err(Fault::Closed))?;
-    expect_refused(&rt, &table, seats.as_mut_slice())
+    let (_, mut others) = opened(rt, &table, number)?;
+    others.as_mut_slice().reverse();
+    others.truncate(1);
+    let (node, mut seats) = opened(rt, &table, 2)?;
+    step_first(rt, &node, seats.as_mut_slice(), taken);
+    let first = steps(rt, &node, others.as_mut_slice(), 7)?;
+    let then = steps(rt, &node, seats.as_mut_slice(), 7)?;
+    let again = steps(rt, &node, others.as_mut_slice(), 7)?;
+    Ok(format!(in rt.alloc(); "{first}{then}{again}")?)
+}
+
+/// A seat of another node takes a step where both lists are as long, and is owed its reply. The seat of its number is
+/// shut out from then on, and the others aren't. A node takes no step of a seat whose list isn't as long, or whose
+/// number it has none of.
+#[test]
+fn a_step_at_another_node(rt: HostRuntime) -> Result<(), Fail> {
+    for (number, taken, wanted) in [
+        (1, 0, "owed; closed; not-found @2; closed; "),
+        (2, 1, "closed; not-found @2; not-found @3; closed; "),
+        (3, 0, "closed; not-found @1; not-found @2; closed; "),
+    ] {
+        let answers = step_elsewhere(&rt, number, taken)?;
+        assert_eq!(rt; answers.as_str(), wanted);
+    }
+    Ok(())
 }

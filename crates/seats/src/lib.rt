@@ -2,26 +2,24 @@
 #![tactic(auto)]
 
 #[cfg(test)]
-mod asking;
+mod answers;
 #[cfg(test)]
-mod by_chance;
+mod chance;
 #[cfg(test)]
-mod desk;
+mod door;
 #[cfg(test)]
 mod early;
 #[cfg(test)]
 mod ends;
 #[cfg(test)]
-mod free;
-#[cfg(test)]
 mod inside;
 #[cfg(test)]
 mod moved;
+#[cfg(test)]
+mod play;
 #[cfg(test)]
 mod replay;
 #[cfg(test)]
 mod round;
 #[cfg(test)]
-mod shown;
-#[cfg(test)]
-mod turns;
+mod scenarios;

@@ -1,17 +1,19 @@
 //! The chainstate of one thread, which takes the commands of a history.
 
+use crate::answers::{write_line, write_tips};
 use activate::Chainstate;
 use connect::Env;
-use hash::Id;
-use node::{Command, Params, Reply, Table, Tip};
+use node::{Command, Entry, Params, Reply, Table};
 use queue::{Alone, Open};
+use scenario::Definitions;
 use std::alloc::Global;
 use std::marker::Model;
+use std::test::Fail;
 use wire::Memory;
 
 /// A chainstate, and the table of all its steps.
 #[derive(Drop)]
-pub struct Replay<'t> {
+struct Replay<'t> {
     chain: Chainstate,
     table: &'t Table,
 }
@@ -29,13 +31,13 @@ impl<'t> Model for Replay<'t> {
 
 impl<'t> Replay<'t> {
     /// Genesis alone.
-    pub fn new(alloc: Global, params: Params, table: &'t Table) -> Result<Replay<'t>, Memory> {
+    fn new(alloc: Global, params: Params, table: &'t Table) -> Result<Replay<'t>, Memory> {
         let chain = Chainstate::with(alloc, params)?;
         Ok(Replay { chain, table })
     }
 
     /// Takes a step.
-    pub fn step(&mut self, alloc: Global, command: &Command) -> Result<Reply, Memory> {
+    fn step(&mut self, alloc: Global, command: &Command) -> Result<Reply, Memory> {
         let env = Env {
             table: self.table,
             workers: 1,
@@ -44,14 +46,51 @@ impl<'t> Replay<'t> {
         };
         self.chain.step(alloc, command, &env, &Open)
     }
+}
 
-    /// The id of the best block.
-    pub fn best(&self) -> Id {
-        self.chain.best()
-    }
+/// What must be answered after each beginning of a history: lines with stamps.
+#[derive(Drop)]
+pub struct Right {
+    /// To the last step; nothing to none.
+    pub reply: String,
+    pub best: String,
+    pub tips: String,
+}
 
-    /// The tips.
-    pub fn tips(&self, alloc: Global) -> Result<Vec<Tip>, Memory> {
-        self.chain.tips(alloc)
+/// What a chainstate answers after so many steps, and has replied to the last one.
+fn right_after(
+    alloc: Global,
+    definitions: &Definitions,
+    chain: &Chainstate,
+    reply: Option<Reply>,
+    at: u64,
+) -> Result<Right, Memory> {
+    let mut right = Right {
+        reply: String::new(alloc),
+        best: String::new(alloc),
+        tips: String::new(alloc),
+    };
+    if let Some(reply) = reply {
+        write_line(&mut right.reply, reply, at)?;
     }
+    write_line(&mut right.best, definitions.label(chain.best()), at)?;
+    let tips = chain.tips(alloc)?;
+    write_tips(&mut right.tips, definitions, tips.as_slice(), at)?;
+    Ok(right)
+}
+
+/// Takes the steps of a history.
+pub fn replayed(
+    alloc: Global,
+    definitions: &Definitions,
+    history: &[Entry],
+) -> Result<Vec<Right>, Fail> {
+    let mut replay = Replay::new(alloc, Params::regtest(), definitions.table())?;
+    let mut list = vec![in alloc; right_after(alloc, definitions, &replay.chain, None, 0)?]?;
+    for (place, entry) in history.iter().enumerate() {
+        let reply = replay.step(alloc, &entry.command)?;
+        let at = (place as u64).wrapping_add(1);
+        list.push(right_after(alloc, definitions, &replay.chain, Some(reply), at)?)?;
+    }
+    Ok(list)
 }

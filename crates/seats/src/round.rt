@@ -1,8 +1,8 @@
 //! Seats of one node that are asked in turn, each of which is told before what the one before has seen.
 
-use crate::asking::{Answer, asked};
-use node::{Entry, Fault, Gate, Node, Note, Params, Seat, Stamped, Table};
-use scenario::Request;
+use crate::answers::ask;
+use node::{Fault, Gate, Node, Note, Params, Seat, Table};
+use scenario::{Definitions, Request};
 use std::marker::Model;
 use std::sync::{Arc, Wait};
 use std::test::Fail;
@@ -53,34 +53,27 @@ impl<'t> Round<'t> {
     pub fn ask<R: AllocGlobal + Threads + Wait + Sync>(
         &mut self,
         rt: &R,
+        definitions: &Definitions,
         node: &Node<'_>,
         turn: usize,
         request: &Request<'_>,
-    ) -> Result<Stamped<Answer>, Fault> {
-        let place = self.place(turn);
+    ) -> Result<String, Fault> {
+        let place = turn.checked_rem(self.seats.len()).unwrap_or(0);
         if place >= self.seats.len() {
             return Err(Fault::Closed);
         }
+        let mut text = String::new(rt.alloc());
         let seat = &mut self.seats[place];
         seat.told(&self.note);
-        let answer = asked(rt, node, seat, request);
+        let answer = ask(rt, definitions, node, seat, request, &mut text);
         self.note = seat.note();
-        answer
-    }
-
-    /// The number of the seat whose turn it is.
-    pub fn place(&self, turn: usize) -> usize {
-        turn.checked_rem(self.seats.len()).unwrap_or(0)
+        answer?;
+        Ok(text)
     }
 
     /// The seats, which may be asked at once.
     pub fn into_seats(self) -> Vec<Seat<'t>> {
         let Round { seats, .. } = self;
         seats
-    }
-
-    /// The whole history.
-    pub fn finish(mut self, node: Node<'_>) -> Result<Vec<Entry>, Fault> {
-        node.finish(self.seats.as_mut_slice())
     }
 }
