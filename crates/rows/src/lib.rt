@@ -4,7 +4,7 @@
 #[cfg(test)]
 mod command_line;
 #[cfg(test)]
-mod node_seats;
+mod openings;
 #[cfg(test)]
 mod outputs;
 #[cfg(test)]

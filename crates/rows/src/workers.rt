@@ -1,14 +1,12 @@
 //! Workers that meet: each waits in the gate until the others have come.
 
 use crate::play::play_with_gate;
-use node::{Gate, Node, Params, Seat, SubmitReply};
-use scenario::{Definitions, lines};
+use node::Gate;
 use std::process::Abort;
 use std::rt::Files;
+use std::sync::Wait;
 use std::sync::atomic::Ordering::SeqCst;
 use std::sync::atomic::{AtomicBool, AtomicU64};
-use std::sync::{Arc, Wait};
-use std::test::Fail;
 use std::thread::{Threads, yield_now};
 use std::time::Clock;
 
@@ -59,56 +57,7 @@ fn meeting_of(wanted: u64, turns: u32) -> Meeting {
     }
 }
 
-/// A chain of 100, and a block of two payments: two inputs, whose scripts two workers run.
-const DEFINITIONS: &str = "chain c 100 genesis
-tx A 1 0
-in c1.cb:0 -
-out 5000000000 51
-tx B 1 0
-in A:0 -
-out 5000000000 51
-block m0 c100 A B";
-
-/// The moment of the submissions.
-const NOW: u64 = 1_296_688_602;
-
-#[test]
-fn two_workers_meet(rt: HostRuntime) -> Result<(), Fail> {
-    let gate = meeting_of(2, MANY);
-    let text = lines(rt.alloc(), DEFINITIONS.as_bytes())?;
-    let definitions = Definitions::read(rt.alloc(), &text, node::Table::new(rt.alloc()))?;
-    let table = Arc::new(rt.alloc(), definitions.table().copy()?)?;
-    let (node, mut seats) = Node::open(&rt, rt.alloc(), Params::regtest(), &table, 2, 1, &gate)?;
-    for seat in &mut seats {
-        for height in 1..101u64 {
-            let name = format!(in rt.alloc(); "c{height}")?;
-            expect_accepted(&rt, &definitions, &node, seat, name.as_str(), height)?;
-        }
-        expect_accepted(&rt, &definitions, &node, seat, "m0", 101)?;
-    }
-    assert_eq!(rt; (gate.begun.load(SeqCst), gate.ended.load(SeqCst)), (2, 2));
-    assert!(rt; !gate.is_late.load(SeqCst));
-    Ok(())
-}
-
-fn expect_accepted<R>(
-    rt: &R,
-    definitions: &Definitions,
-    node: &Node<'_>,
-    seat: &mut Seat<'_>,
-    name: &str,
-    at: u64,
-) -> Result<(), Fail>
-where
-    R: AllocGlobal + Threads + Wait + Sync + Abort,
-{
-    let block = definitions.find(name).map_err(|_| Fail::new("a block"))?;
-    let reply = seat.submit(rt, node, &block.bytes, NOW)?;
-    assert_eq!(rt; (reply.at, reply.value), (at, SubmitReply::Accepted));
-    Ok(())
-}
-
-/// A block of three payments, so of three inputs whose scripts are run.
+/// A chain of 100, and a block of three payments, so of three inputs whose scripts are run.
 const SCENARIO: &str = "chain c 100 genesis
 tx A 1 0
 in c1.cb:0 -
