@@ -2,24 +2,26 @@
 
 ghost use Rattle.std.specs.Prelude.{◌≡◌, IfOk, Some, [], None};
 ghost use Rattle.block.specs.Decoding.{block_of_bytes};
-ghost use Rattle.block.specs.Stored.{header_alone};
+ghost use Rattle.block.specs.Stored.{genesis_alone};
 
 use crate::block::Block;
 use crate::bytes::Bytes;
 use crate::fault::ReadFault;
+use crate::genesis::{GENESIS_ROOT, GENESIS_TIME};
 use crate::header::Header;
 use crate::reading::read;
 use crate::txs::Txs;
+use hash::Id;
 use std::alloc::Global;
 use std::marker::Model;
 use wire::Memory;
 
 /// A block, kept as the bytes that were handed in for it, and decoded where it is needed (as Bitcoin Core's
-/// `ReadBlockFromDisk`). Its header is at hand. A clause sees the block.
+/// `ReadBlockFromDisk`). Its time is at hand. A clause sees the block.
 #[derive(Debug, Drop)]
 pub struct StoredBlock {
-    header: Header,
-    /// Without them it is a header with no transaction, as genesis is kept.
+    time: u32,
+    /// Without them it is genesis.
     bytes: Option<Bytes>,
 }
 
@@ -30,9 +32,9 @@ impl Model for StoredBlock {
 
     ghost Value = { Block };
 
-    ghost view = { λ s. block_stored s.header s.bytes };
+    ghost view = { λ s. block_stored s.bytes };
 
-    ghost invariant = { λ s. (block_stored s.header s.bytes).header ≡ s.header };
+    ghost invariant = { λ s. (block_stored s.bytes).header.time ≡ s.time };
 }
 
 impl StoredBlock {
@@ -42,26 +44,26 @@ impl StoredBlock {
         ensures { result ≡ block.now }
     {
         StoredBlock {
-            header: block.header,
+            time: block.header.time,
             bytes: Some(bytes),
         }
     }
 
-    /// A block that has this header and no transaction.
-    pub fn header_alone(header: Header) -> StoredBlock
-        ensures { result ≡ header_alone header }
+    /// Regtest's genesis block without its transaction, which makes no coin.
+    pub fn genesis() -> StoredBlock
+        ensures { result ≡ genesis_alone }
     {
         StoredBlock {
-            header,
+            time: GENESIS_TIME,
             bytes: None,
         }
     }
 
-    /// The block's header.
-    pub fn header(&self) -> &Header
-        ensures { result.now ≡ self.now.header }
+    /// The header's time, in seconds since 1970.
+    pub fn time(&self) -> u32
+        ensures { result ≡ self.now.header.time }
     {
-        &self.header
+        self.time
     }
 
     /// The block, decoded.
@@ -75,9 +77,22 @@ impl StoredBlock {
                 Err(_) => {}
             }
         }
-        Ok(Block {
-            header: self.header,
-            txs: Txs::from_vec(Vec::new(alloc)),
-        })
+        Ok(genesis_without_transaction(alloc))
+    }
+}
+
+fn genesis_without_transaction(alloc: Global) -> Block
+    ensures { result ≡ genesis_alone }
+{
+    Block {
+        header: Header {
+            version: 1,
+            prev: Id([0; 32]),
+            root: GENESIS_ROOT,
+            time: GENESIS_TIME,
+            bits: 0x207f_ffff,
+            nonce: 2,
+        },
+        txs: Txs::from_vec(Vec::new(alloc)),
     }
 }

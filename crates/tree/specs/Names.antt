@@ -7,15 +7,16 @@ use Rattle.hash.specs.declared.id.Id.{Id}
 use Rattle.block.specs.declared.block.Block.{Block}
 use Rattle.block.specs.Genesis as block
 use Rattle.block.specs.Identity.{id_of}
+use Rattle.block.specs.Stored.{genesis_alone}
 use Rattle.tree.specs.Naming.{Naming}
 
 -- by the bytes as they are hashed
 abbrev pub id_cmp : Id → Id → Ordering
 id_cmp a b = slice_cmp nat_cmp a.0 b.0
 
--- regtest's; its transaction makes no coin, and nothing is ever asked of it, so it isn't kept
+-- regtest's, without its transaction, which makes no coin; nothing is ever asked of it, so it isn't kept
 abbrev pub genesis : Block
-genesis = record { header = block.header; txs = [] }
+genesis = genesis_alone
 
 abbrev pub names : Naming Block Id
 names = record {

@@ -38,7 +38,7 @@ pub(crate) fn node_on(
         IsNode (kept_of result ∷ t) (length nodes.now) result }
 {
     let height = nodes[parent].height + 1;
-    let median = median_on(nodes, parent, block.header().time);
+    let median = median_on(nodes, parent, block.time());
     let slot = slot_on(nodes, leaves, parent);
     Node {
         block,

@@ -21,7 +21,7 @@ pub(crate) fn median_on(nodes: &[Node], parent: usize, time: u32) -> u32
     let mut times = [time; MEDIAN_TIME_SPAN];
     let mut next = parent;
     for count in 1..MEDIAN_TIME_SPAN {
-        times[count] = nodes[next].block.header().time;
+        times[count] = nodes[next].block.time();
         if next == 0 {
             return median(&times[..count + 1]);
         }

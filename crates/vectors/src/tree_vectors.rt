@@ -4,32 +4,44 @@ ghost use Rattle.std.specs.Prelude.{◌≡◌, ◌≤◌, ◌<◌, suc, length, 
 ghost use Rattle.block.specs.Identity.{id_of};
 ghost use Rattle.tree.specs.Limits.{max_blocks};
 
-use block::{GENESIS_ID, GENESIS_TIME, Header, StoredBlock};
+use block::{Block, Bytes, GENESIS_ID, GENESIS_TIME, Header, StoredBlock, Txs, read, write};
 use hash::Id;
 use std::alloc::Global;
 use std::test::*;
 use tree::{AddFault, Status, Tip, Tree};
 use wire::Memory;
 
-/// A block on the one of this id.
-fn block(prev: Id, time: u32) -> StoredBlock {
-    StoredBlock::header_alone(Header {
+/// A block without transactions on the one of this id, with its own.
+fn block(alloc: Global, prev: Id, time: u32) -> Result<(StoredBlock, Id), Memory>
+    ensures { IfOk result (λ made. made.1 ≡ id_of made.0.header) }
+{
+    let header = Header {
         version: 4,
         prev,
         root: Id([0; 32]),
         time,
         bits: 0x207f_ffff,
         nonce: 0,
-    })
+    };
+    let txs = Txs::from_vec(Vec::new(alloc));
+    let mut bytes = Vec::new(alloc);
+    write(&Block { header, txs }, &mut bytes)?;
+    let bytes = Bytes::from_vec(alloc, bytes)?;
+    match read(alloc, bytes.as_slice()) {
+        Ok(block) => Ok((StoredBlock::of(bytes, &block), block.id())),
+        Err(_) => Err(Memory),
+    }
 }
 
 /// Adds a block so many seconds after genesis; a parent that isn't kept is answered like a full tree.
-fn grow(tree: &mut Tree, parent: usize, seconds: u32) -> Result<usize, AddFault> {
+fn grow(tree: &mut Tree, alloc: Global, parent: usize, seconds: u32) -> Result<usize, AddFault> {
     if parent >= tree.len() {
         return Err(AddFault::Full);
     }
-    let block = block(tree.id(parent), GENESIS_TIME.wrapping_add(seconds));
-    let id = block.header().id();
+    let time = GENESIS_TIME.wrapping_add(seconds);
+    let Ok((block, id)) = block(alloc, tree.id(parent), time) else {
+        return Err(AddFault::Memory);
+    };
     tree.add(block, id, parent)
 }
 
@@ -76,9 +88,9 @@ fn genesis_alone(rt: HostRuntime) -> Result<(), Fail> {
 /// A tree of a block on genesis, and of two blocks on that one.
 fn forked(alloc: Global) -> Result<Tree, Fail> {
     let mut tree = Tree::new(alloc)?;
-    grow(&mut tree, 0, 1)?;
-    grow(&mut tree, B1, 2)?;
-    grow(&mut tree, B1, 3)?;
+    grow(&mut tree, alloc, 0, 1)?;
+    grow(&mut tree, alloc, B1, 2)?;
+    grow(&mut tree, alloc, B1, 3)?;
     Ok(tree)
 }
 
@@ -96,7 +108,7 @@ fn ranks(rt: HostRuntime) -> Result<(), Fail> {
     let by_order = [is_better(&tree, P2, Q2), is_better(&tree, Q2, P2)];
     call(&mut tree, Q2)?;
     let by_call = is_better(&tree, Q2, P2);
-    let p3 = grow(&mut tree, P2, 4)?;
+    let p3 = grow(&mut tree, rt.alloc(), P2, 4)?;
     let found = (by_order, by_call, is_better(&tree, p3, Q2));
     assert_eq!(rt; found, ([true, false], true, true));
     Ok(())
@@ -120,7 +132,7 @@ fn clear(tree: &mut Tree, alloc: Global, place: usize) -> Result<(), Memory> {
 #[test]
 fn marks(rt: HostRuntime) -> Result<(), Fail> {
     let mut tree = forked(rt.alloc())?;
-    let p3 = grow(&mut tree, P2, 4)?;
+    let p3 = grow(&mut tree, rt.alloc(), P2, 4)?;
     mark(&mut tree, P2);
     let marked = [is_usable(&tree, p3), is_usable(&tree, Q2)];
     clear(&mut tree, rt.alloc(), p3)?;
@@ -134,9 +146,9 @@ fn marks(rt: HostRuntime) -> Result<(), Fail> {
 #[test]
 fn a_branch(rt: HostRuntime) -> Result<(), Fail> {
     let mut tree = Tree::new(rt.alloc())?;
-    let one = grow(&mut tree, 0, 1)?;
-    grow(&mut tree, 0, 2)?;
-    let three = grow(&mut tree, one, 3)?;
+    let one = grow(&mut tree, rt.alloc(), 0, 1)?;
+    grow(&mut tree, rt.alloc(), 0, 2)?;
+    let three = grow(&mut tree, rt.alloc(), one, 3)?;
     assert!(rt; three < tree.len());
     let branch = tree.branch(rt.alloc(), three)?;
     assert!(rt; branch.as_slice() == [3, 1, 0].as_slice());
@@ -146,7 +158,8 @@ fn a_branch(rt: HostRuntime) -> Result<(), Fail> {
         tree.find(&tree.id(three)),
     );
     assert_eq!(rt; found, (1, 2, Some(3)));
-    assert!(rt; Some(tree.block(three).header().prev) == id(&tree, 1));
+    let block = tree.block(three).read(rt.alloc())?;
+    assert!(rt; Some(block.header.prev) == id(&tree, 1));
     Ok(())
 }
 
@@ -197,8 +210,8 @@ fn call_and_take_back(tree: &mut Tree, place: usize) -> Result<(), Memory> {
 #[test]
 fn a_call_taken_back(rt: HostRuntime) -> Result<(), Fail> {
     let mut tree = Tree::new(rt.alloc())?;
-    let one = grow(&mut tree, 0, 1)?;
-    let two = grow(&mut tree, 0, 2)?;
+    let one = grow(&mut tree, rt.alloc(), 0, 1)?;
+    let two = grow(&mut tree, rt.alloc(), 0, 2)?;
     call(&mut tree, two)?;
     call_and_take_back(&mut tree, one)?;
     let after_one = is_better(&tree, two, one);
@@ -263,7 +276,7 @@ fn tips_of_a_fork(rt: HostRuntime) -> Result<(), Fail> {
     see(&mut tree, P2);
     let expected = [(P2, 2, 0, Status::Active), (Q2, 2, 1, Status::ValidHeaders)];
     let before = has_tips(&tree, rt.alloc(), P2, &expected)?;
-    let q3 = grow(&mut tree, Q2, 4)?;
+    let q3 = grow(&mut tree, rt.alloc(), Q2, 4)?;
     let expected = [(q3, 3, 0, Status::Active), (P2, 2, 1, Status::ValidFork)];
     let after = has_tips(&tree, rt.alloc(), q3, &expected)?;
     assert_eq!(rt; [before, after], [true, true]);
@@ -274,11 +287,11 @@ fn tips_of_a_fork(rt: HostRuntime) -> Result<(), Fail> {
 #[test]
 fn tips_above_marks(rt: HostRuntime) -> Result<(), Fail> {
     let mut tree = Tree::new(rt.alloc())?;
-    let b1 = grow(&mut tree, 0, 1)?;
-    let b2 = grow(&mut tree, b1, 2)?;
-    let x1 = grow(&mut tree, 0, 3)?;
-    let x2 = grow(&mut tree, x1, 4)?;
-    let x3 = grow(&mut tree, x2, 5)?;
+    let b1 = grow(&mut tree, rt.alloc(), 0, 1)?;
+    let b2 = grow(&mut tree, rt.alloc(), b1, 2)?;
+    let x1 = grow(&mut tree, rt.alloc(), 0, 3)?;
+    let x2 = grow(&mut tree, rt.alloc(), x1, 4)?;
+    let x3 = grow(&mut tree, rt.alloc(), x2, 5)?;
     mark(&mut tree, x2);
     let expected = [(x3, 3, 3, Status::Invalid), (b2, 2, 0, Status::Active)];
     let before = has_tips(&tree, rt.alloc(), b2, &expected)?;
@@ -294,12 +307,19 @@ fn tips_above_marks(rt: HostRuntime) -> Result<(), Fail> {
 }
 
 /// Adds a block and takes it back, and gives its id.
-fn add_and_take_back(tree: &mut Tree, parent: usize, seconds: u32) -> Result<Id, AddFault> {
+fn add_and_take_back(
+    tree: &mut Tree,
+    alloc: Global,
+    parent: usize,
+    seconds: u32,
+) -> Result<Id, AddFault> {
     if parent >= tree.len() {
         return Err(AddFault::Full);
     }
-    let block = block(tree.id(parent), GENESIS_TIME.wrapping_add(seconds));
-    let id = block.header().id();
+    let time = GENESIS_TIME.wrapping_add(seconds);
+    let Ok((block, id)) = block(alloc, tree.id(parent), time) else {
+        return Err(AddFault::Memory);
+    };
     if tree.find(&id).is_some() {
         return Err(AddFault::Full);
     }
@@ -312,9 +332,9 @@ fn add_and_take_back(tree: &mut Tree, parent: usize, seconds: u32) -> Result<Id,
 #[test]
 fn a_block_taken_back(rt: HostRuntime) -> Result<(), Fail> {
     let mut tree = Tree::new(rt.alloc())?;
-    let b1 = grow(&mut tree, 0, 1)?;
+    let b1 = grow(&mut tree, rt.alloc(), 0, 1)?;
     for parent in 0..2 {
-        let gone = add_and_take_back(&mut tree, parent, 2)?;
+        let gone = add_and_take_back(&mut tree, rt.alloc(), parent, 2)?;
         assert!(rt; tree.len() == 2 && tree.find(&gone).is_none());
         let expected = [(b1, 1, 0, Status::Active)];
         assert!(rt; has_tips(&tree, rt.alloc(), b1, &expected)?);
@@ -328,7 +348,7 @@ fn median_time_past(rt: HostRuntime) -> Result<(), Fail> {
     let mut tree = Tree::new(rt.alloc())?;
     let mut tip = 0;
     for seconds in 1..13 {
-        tip = grow(&mut tree, tip, seconds)?;
+        tip = grow(&mut tree, rt.alloc(), tip, seconds)?;
     }
     assert!(rt; tip < tree.len());
     assert_eq!(rt; tree.median(tip), GENESIS_TIME + 7);
@@ -340,7 +360,7 @@ fn median_time_past(rt: HostRuntime) -> Result<(), Fail> {
 fn more_tips_than_a_hundred(rt: HostRuntime) -> Result<(), Fail> {
     let mut tree = Tree::new(rt.alloc())?;
     for seconds in 1..131 {
-        grow(&mut tree, 0, seconds)?;
+        grow(&mut tree, rt.alloc(), 0, seconds)?;
     }
     assert_eq!(rt; tips(&tree, rt.alloc(), 1)?.len(), 130);
     Ok(())
@@ -375,8 +395,7 @@ fn add_within_room(
 #[test]
 fn a_block_where_there_is_room(rt: HostRuntime) -> Result<(), Fail> {
     let mut tree = Tree::new(rt.alloc())?;
-    let block = block(GENESIS_ID, GENESIS_TIME);
-    let id = block.header().id();
+    let (block, id) = block(rt.alloc(), GENESIS_ID, GENESIS_TIME)?;
     assert_eq!(rt; add_within_room(&mut tree, block, id, 0)?, 1);
     Ok(())
 }

@@ -1,6 +1,5 @@
 use Rattle.std.proofs.Common.{◌≡◌, ℕ, suc, ◌+◌, ◌<◌, List, ◌∷◌, length, map, take, get_or, sym, ap, ◌∙◌, subst, arith}
 use Rattle.block.specs.declared.block.Block.{Block}
-use Rattle.block.specs.declared.header.Header.{Header}
 use Rattle.locks.specs.MedianTime.{median_of}
 use Rattle.tree.specs.declared.node.Node.{Node}
 use Rattle.tree.specs.Branches.{Blocks, blocks_at, branch, height}
@@ -50,6 +49,6 @@ returns-clause-node c =
       id = c.requires.id ∙ sym (id_here names (kept_of n) t);
       parent = sym (parent_here (kept_of n) t (omega arith));
       height = omega arith;
-      median = median_new t n c.median_on-median.result (subst (λ (h : Header). c.median_on-median.result ≡ median_of (take 11 (h.time ∷ map time_of (blocks_at names t (branch t p))))) c.header.ensures c.median_on-median.ensures);
+      median = median_new t n c.median_on-median.result (subst (λ (x : ℕ). c.median_on-median.result ≡ median_of (take 11 (x ∷ map time_of (blocks_at names t (branch t p))))) c.time.ensures c.median_on-median.ensures);
       slot = c.slot_on-slot.ensures ∙ sym (slot_here (kept_of n) t);
     })

@@ -17,7 +17,7 @@ returns-then-next-eq0 c =
     let is = get_or_default ns p c.index-nodes-next.result n i.0 in
     let l = i.1 in
     let h = c.loop-count-test.true in
-    let v : c.header.result.now.time ≡ time_of n.block = ap (λ x. x.time) c.header.ensures in
+    let v : c.time.result ≡ time_of n.block = c.time.ensures in
     c.median.ensures.value
     ∙ ap median_of (ap (λ (x : ℕ). take (c.loop-count.count + 1) (set c.loop-count.times c.loop-count.count x)) v
     ∙ all_put c.loop-count.times (c.args.time ∷ times_on t c.args.parent) c.loop-count.count (time_of n.block) (omega arith) l
@@ -38,9 +38,9 @@ loop-count-preserved c =
     let same : (get_or ns p c.index-nodes-next-in-loop-count.result).parent ≡ n.parent = ap (λ x. x.parent) (get_or_default ns p c.index-nodes-next-in-loop-count.result c.index-nodes-next.result g) in
     let b = parent_before ns p n c.requires.nodes (omega arith) g is in
     let low = b.1 in
-    let v : c.header.result.now.time ≡ time_of n.block = ap (λ x. x.time) c.header.ensures in (
+    let v : c.time.result ≡ time_of n.block = c.time.ensures in (
       omega arith,
-      length-set c.loop-count.times c.loop-count.count c.header.result.now.time ∙ l,
+      length-set c.loop-count.times c.loop-count.count c.time.result ∙ l,
       ap (λ (x : ℕ). take (c.loop-count.count + 1) (set c.loop-count.times c.loop-count.count x) ++ times_on t (get_or ns p c.index-nodes-next-in-loop-count.result).parent) v
           ∙ put_next c.loop-count.times (times_on t (get_or ns p c.index-nodes-next-in-loop-count.result).parent) (c.args.time ∷ times_on t c.args.parent) c.loop-count.count (time_of n.block) (omega arith)
           (ap (λ (x : List ℕ). take c.loop-count.count c.loop-count.times ++ x) (ap (λ (q : ℕ). time_of n.block ∷ times_on t q) same ∙ sym (times_down ns p n c.requires.nodes (omega arith) g is)) ∙ i.2),
