@@ -38,6 +38,25 @@ static std::string double_sha_chain(size_t size) {
     stop();
     return hex(digest);
 }
+// The same by each of so many threads, to see how much more the machine's cores do than one.
+static std::string by_threads(size_t size, size_t count) {
+    std::vector<Hash> last(count);
+    std::vector<std::thread> threads;
+    start();
+    for (size_t i = 0; i < count; i++)
+        threads.emplace_back([&, i] {
+            auto message = Filling{1}.bytes<80>();
+            Hash digest{};
+            for (size_t n = 0; n < size; n++) {
+                digest = double_sha(message.data(), message.size());
+                std::copy(digest.begin(), digest.end(), message.begin());
+            }
+            last[i] = digest;
+        });
+    for (std::thread& thread : threads) thread.join();
+    stop();
+    return hex(last[0]);
+}
 static std::string ripemd_chain(size_t size) {
     auto message = Filling{2}.bytes<32>();
     ShortHash digest{};
@@ -251,15 +270,29 @@ static Spends hashes() {
     put_push(input, Bytes(element.begin(), element.end()));
     return one(input, Bytes(200, 0xaa));
 }
+// 66 CHECKSIG of the two elements that the input leaves, in a script of 9,600 opcodes.
+static Bytes long_script() {
+    Bytes script{0, 0x63};
+    script.resize(9401, 0x51);
+    script.push_back(0x68);
+    for (int i = 0; i < 66; i++)
+        for (uint8_t op : {0x6e, 0xac, 0x75}) script.push_back(op);
+    return script;
+}
+// The same of a signature and a key that it pushes itself.
+static Bytes long_script_alone() {
+    Filling filling{17};
+    Bytes key = new_key(filling, 0), script, rest = long_script();
+    put_push(script, new_signature(filling));
+    put_push(script, key);
+    script.insert(script.end(), rest.begin(), rest.end());
+    return script;
+}
 static Spends long_code() {
     Filling filling{11};
-    Bytes key = new_key(filling, 0), signature = new_signature(filling), input, spent{0, 0x63};
+    Bytes key = new_key(filling, 0), signature = new_signature(filling), input, spent = long_script();
     put_push(input, signature);
     put_push(input, key);
-    spent.resize(9401, 0x51);
-    spent.push_back(0x68);
-    for (int i = 0; i < 66; i++)
-        for (uint8_t op : {0x6e, 0xac, 0x75}) spent.push_back(op);
     Spends spends = one(input, spent);
     add(spends.table, key, signature, signature_hash(spends.list[0].first, 0, spent));
     return spends;
@@ -468,6 +501,8 @@ int main(int count, char** words) {
     using Workload = std::function<std::string(size_t)>;
     const std::map<std::string, Workload> workloads{
         {"double-sha", double_sha_chain},
+        {"threads-1", [](size_t n) { return by_threads(n, 1); }},
+        {"threads-4", [](size_t n) { return by_threads(n, 4); }},
         {"ripemd", ripemd_chain},
         {"ripemd-long", ripemd_long},
         {"merkle", merkle_root},

@@ -197,7 +197,7 @@ static std::string branches(size_t size, size_t seats) {
 }
 static std::string worked(size_t size, size_t workers) {
     Start base;
-    base.fan(size, Bytes(200, 0xaa));
+    base.fan(size, long_script_alone());
     return in_turn(base.blocks, paying(base.branch, base.coins, 1), workers);
 }
 static std::string keep(Branch branch, size_t size) {

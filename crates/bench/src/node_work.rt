@@ -7,6 +7,7 @@ use crate::fault::Fault;
 use crate::filling::Filling;
 use crate::payments::script;
 use crate::read_work::{Look, reads, reads_beside, slowest_beside};
+use crate::scripts::long_script_alone;
 use crate::seat_work::{at_once, in_turn, submit_each};
 use crate::start::{Start, TRUE, WORTH, paying};
 use crate::timing::Outcome;
@@ -264,14 +265,15 @@ where
     at_node(rt, seats, 1, blocks, &Work::Branches(branches))
 }
 
-/// A block of so many payments, each of which runs 200 HASH256, submitted to a node of so many workers.
+/// A block of so many payments whose scripts are what costs, each with 66 CHECKSIG over 9,600 opcodes, submitted to a
+/// node of so many workers.
 pub fn worked<R>(rt: &R, size: usize, workers: usize) -> Result<Outcome, Fault>
 where
     R: AllocGlobal + Clock + Threads + Wait + Sync,
 {
     let alloc = rt.alloc();
     let mut start = Start::new(alloc)?;
-    start.fan(alloc, size, &[0xaa; 200])?;
+    start.fan(alloc, size, long_script_alone(alloc)?.as_slice())?;
     let written = paying(alloc, start.branch, start.coins.as_slice(), 1)?;
     let Start { blocks, .. } = start;
     at_node(rt, 1, workers, blocks, &Work::Turns(written))

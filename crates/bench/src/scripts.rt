@@ -110,13 +110,7 @@ pub fn long_code(alloc: Global) -> Result<Spends, Fault> {
     let mut input = Vec::new(alloc);
     put_signature(&mut input, &signature)?;
     put_push(&mut input, key.as_slice())?;
-    let mut spent = vec![in alloc; OP_0, OP_IF]?;
-    spent.resize(9401, OP_1)?;
-    spent.push(OP_ENDIF)?;
-    for _ in 0..66 {
-        spent.extend_from_slice(&[OP_2DUP, OP_CHECKSIG, OP_DROP])?;
-    }
-    let mut spends = one(alloc, input.as_slice(), spent)?;
+    let mut spends = one(alloc, input.as_slice(), long_script(alloc)?)?;
     if let Some(spend) = spends.list.as_slice().first() {
         let digest = digest(&spend.tx, 0, spend.spent.as_slice());
         spends
@@ -124,4 +118,27 @@ pub fn long_code(alloc: Global) -> Result<Spends, Fault> {
             .add(key.as_slice(), signature.as_slice(), &digest)?;
     }
     Ok(spends)
+}
+
+/// 66 CHECKSIG of the two elements that the input leaves, in a script of 9,600 opcodes, nearly all in a branch that
+/// isn't taken. So it is what a signature signs that costs.
+pub fn long_script(alloc: Global) -> Result<Vec<u8>, Memory> {
+    let mut script = vec![in alloc; OP_0, OP_IF]?;
+    script.resize(9401, OP_1)?;
+    script.push(OP_ENDIF)?;
+    for _ in 0..66 {
+        script.extend_from_slice(&[OP_2DUP, OP_CHECKSIG, OP_DROP])?;
+    }
+    Ok(script)
+}
+
+/// The same of a signature and a key that it pushes itself.
+pub fn long_script_alone(alloc: Global) -> Result<Vec<u8>, Memory> {
+    let mut filling = Filling::new(17);
+    let key = key(&mut filling, 0);
+    let mut script = Vec::new(alloc);
+    put_signature(&mut script, &signature(&mut filling))?;
+    put_push(&mut script, key.as_slice())?;
+    script.extend_from_slice(long_script(alloc)?.as_slice())?;
+    Ok(script)
 }
