@@ -27,35 +27,49 @@ static std::string shown(Hash id) {
     return hex(id);
 }
 
-static std::string double_sha_chain(size_t size) {
+static std::string hash_again(size_t size) {
     auto message = Filling{1}.bytes<80>();
     Hash digest{};
-    start();
     for (size_t i = 0; i < size; i++) {
         digest = double_sha(message.data(), message.size());
         std::copy(digest.begin(), digest.end(), message.begin());
     }
-    stop();
     return hex(digest);
+}
+static std::string double_sha_chain(size_t size) {
+    start();
+    std::string last = hash_again(size);
+    stop();
+    return last;
 }
 // The same by each of so many threads, to see how much more the machine's cores do than one.
 static std::string by_threads(size_t size, size_t count) {
-    std::vector<Hash> last(count);
+    std::vector<std::string> last(count);
     std::vector<std::thread> threads;
     start();
-    for (size_t i = 0; i < count; i++)
-        threads.emplace_back([&, i] {
-            auto message = Filling{1}.bytes<80>();
-            Hash digest{};
-            for (size_t n = 0; n < size; n++) {
-                digest = double_sha(message.data(), message.size());
-                std::copy(digest.begin(), digest.end(), message.begin());
-            }
-            last[i] = digest;
-        });
+    for (size_t i = 0; i < count; i++) threads.emplace_back([&, i] { last[i] = hash_again(size); });
     for (std::thread& thread : threads) thread.join();
     stop();
-    return hex(last[0]);
+    return last[0];
+}
+// The longest of so many hashes, each timed by itself, beside a thread that hashes too: what the machine takes away
+// from a thread that waits for nothing.
+static std::string pauses(size_t size) {
+    std::atomic<bool> is_over{false};
+    std::thread other([&] {
+        while (!is_over) hash_again(100);
+    });
+    double most = 0;
+    for (size_t i = 0; i < size; i++) {
+        start();
+        hash_again(1);
+        stop();
+        most = std::max(most, spent_seconds);
+    }
+    is_over = true;
+    other.join();
+    spent_seconds = most;
+    return "0";
 }
 static std::string ripemd_chain(size_t size) {
     auto message = Filling{2}.bytes<32>();
@@ -503,6 +517,7 @@ int main(int count, char** words) {
         {"double-sha", double_sha_chain},
         {"threads-1", [](size_t n) { return by_threads(n, 1); }},
         {"threads-4", [](size_t n) { return by_threads(n, 4); }},
+        {"pauses", pauses},
         {"ripemd", ripemd_chain},
         {"ripemd-long", ripemd_long},
         {"merkle", merkle_root},
