@@ -186,7 +186,7 @@ def measure_node(names, has_sha):
     for name, what, sizes in NODE:
         if names and name not in names:
             continue
-        costs = [(size, least(name, size, sides, 4, 2)) for size in sizes]
+        costs = [(size, least(name, size, sides, 5, 3)) for size in sizes]
         for size, times in costs:
             print(f"{name:14} {size:9} " + " ".join(f"{t:12.6f}" for t in times), flush=True)
         rows.append((name, what, "work", costs))
@@ -247,7 +247,7 @@ def table_of_node(rows, has_sha, machine):
     without = " | baseline without SHA instructions | ratio" if has_sha else ""
     text = [
         "",
-        "A node and its seats, least of 2 to 15 runs:",
+        "A node and its seats, least of 3 to 15 runs:",
         "",
         f"| workload | size | what | ours | baseline | ratio{without} |",
         "|---|---:|---|---:|---:|---:|" + ("---:|---:|" if has_sha else ""),
