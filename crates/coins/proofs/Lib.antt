@@ -1,3 +1,4 @@
+pub mod Gathering
 pub mod Layers
 pub mod Listing
 pub mod Merging

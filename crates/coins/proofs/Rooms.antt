@@ -1,11 +1,11 @@
 -- Changes laid over coins.
-use Rattle.std.proofs.Common.{◌≡◌, inl, inr, ◌⊎◌, Bool, true, false, cond, List, [], ◌∷◌, ◌++◌, Option, Some, None, refl, sym, ap, ◌∙◌}
+use Rattle.std.proofs.Common.{◌≡◌, inl, inr, ◌⊎◌, Bool, true, false, cond, List, [], ◌∷◌, ◌++◌, Option, Some, None, refl, sym, ap, subst, ◌∙◌}
 use Rattle.std.specs.Prelude.{is_some, ◌||◌}
 use Rattle.std.specs.List.{list_any, AllByRecursion, IsDistinct}
 use Rattle.std.proofs.lemmas.List.Folds.{list_any-append}
 use Rattle.std.specs.Map.{keys_of}
 use Rattle.std.specs.FinMap as map
-use Rattle.std.specs.FinMap.{get-insert, get-remove}
+use Rattle.std.specs.FinMap.{get-empty, get-insert, get-remove}
 use Rattle.txn.specs.declared.outpoint.OutPoint.{OutPoint}
 use Rattle.coins.specs.declared.coin.Coin.{Coin}
 use Rattle.coins.specs.Coins.{Coins, outpoint_cmp, same, put}
@@ -184,3 +184,30 @@ named_more cs added more k e n h q t = elim e [
 pub laid_nothing : (m : Coins) → after_changes m [] ≡ m
 unfolding after_changes
 laid_nothing m = refl
+
+-- entries as changes that bring them
+abbrev pub comings : List (OutPoint × Coin) → Changes
+comings [] = []
+comings (e ∷ es) = (e.0, Some e.1) ∷ comings es
+
+brought_here : (b : Bool) (c : Coin) (o : Option (Option Coin)) (below p : Option Coin) → written_at o below ≡ p → written_at (cond b (Some (Some c)) o) below ≡ cond b (Some c) p
+brought_here true c o below p h = refl
+brought_here false c o below p h = h
+
+brought : (es : List (OutPoint × Coin)) (q : OutPoint) → written_at (entry_for (comings es) q) None ≡ entry_for es q
+brought [] q = refl
+brought (e ∷ es) q = brought_here (same q e.0) e.1 (entry_for (comings es) q) None (entry_for es q) (brought es q)
+
+pub comings_laid : (es : List (OutPoint × Coin)) → after_changes map.empty (comings es) ≡ from_entries es
+comings_laid es = same_coins _ _ (λ q.
+    get-laid map.empty (comings es) q
+    ∙ ap (written_at (entry_for (comings es) q)) (get-empty outpoint_cmp q)
+    ∙ brought es q
+    ∙ sym (get-entries es q))
+
+keys_of_comings : (es : List (OutPoint × Coin)) → keys_of (comings es) ≡ keys_of es
+keys_of_comings [] = refl
+keys_of_comings (e ∷ es) = ap (λ (ks : List OutPoint). e.0 ∷ ks) (keys_of_comings es)
+
+pub comings_distinct : (es : List (OutPoint × Coin)) → IsDistinct same (keys_of es) → IsDistinct same (keys_of (comings es))
+comings_distinct es d = subst (IsDistinct same) (sym (keys_of_comings es)) d

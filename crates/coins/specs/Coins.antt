@@ -30,6 +30,11 @@ abbrev pub put : Coins → OutPoint → Option Coin → Coins
 put m at None = map.remove m at
 put m at (Some coin) = map.insert m at coin
 
+-- the coins of a plain map: those of its one map, or of its many, once it has these
+abbrev pub few_or_many : List (OutPoint × Coin) → Option Coins → Coins
+few_or_many few None = map.from_entries few
+few_or_many few (Some many) = many
+
 -- ---- how such values are told apart
 
 abbrev pub coded_outpoint : Coded OutPoint

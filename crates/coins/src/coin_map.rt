@@ -1,6 +1,6 @@
 //! A plain map of coins.
 
-ghost use Rattle.std.specs.Prelude.{◌≡◌, OnOk, OnErr, None, Some, true, is_some, IsSome};
+ghost use Rattle.std.specs.Prelude.{◌≡◌, IfOk, OnOk, OnErr, None, Some, true, is_some, IsSome};
 ghost use Rattle.std.specs.FinMap as map;
 ghost use Rattle.coins.specs.Coins.{put};
 ghost use Rattle.coins.specs.inside.Changes.{Changed};
@@ -8,27 +8,35 @@ ghost use Rattle.coins.specs.laws.Lookups.{entry_for};
 
 use crate::base::Base;
 use crate::coin::Coin;
+use crate::shards::Shards;
 use std::alloc::Global;
 use std::collections::BTreeMap;
 use std::marker::Model;
 use txn::OutPoint;
 use wire::Memory;
 
+/// From so many coins on they stand in many small maps. Below, these would be almost empty, and each takes the memory
+/// of some ten coins.
+const MANY: usize = 262_144;
+
 /// A plain map of coins. A clause sees the finite map.
 #[derive(Drop)]
 pub struct CoinMap {
-    entries: BTreeMap<OutPoint, Coin>,
+    alloc: Global,
+    /// All coins, until there are many.
+    few: BTreeMap<OutPoint, Coin>,
+    /// All coins since then.
+    many: Option<Shards>,
 }
 
 impl Model for CoinMap {
-    ghost use Rattle.std.specs.FinMap as map;
-    ghost use Rattle.coins.specs.Coins.{Coins, coded_coins};
+    ghost use Rattle.coins.specs.Coins.{Coins, coded_coins, few_or_many};
 
     ghost Value = { Coins };
 
     ghost coded = { coded_coins };
 
-    ghost view = { λ c. map.from_entries c.entries.entries };
+    ghost view = { λ c. few_or_many c.few.entries c.many };
 }
 
 impl CoinMap {
@@ -37,7 +45,9 @@ impl CoinMap {
         ensures { result ≡ map.empty }
     {
         CoinMap {
-            entries: BTreeMap::new(alloc),
+            alloc,
+            few: BTreeMap::new(alloc),
+            many: None,
         }
     }
 
@@ -46,21 +56,27 @@ impl CoinMap {
         ensures ok { OnOk result (self.new ≡ map.insert self.old at coin) }
         ensures err { OnErr result (self.new ≡ self.old) }
     {
-        self.entries.insert(at, coin)?;
-        Ok(())
+        self.spread()?;
+        match &mut self.many {
+            Some(shards) => shards.insert(at, coin),
+            None => put(&mut self.few, at, coin),
+        }
     }
 
     /// Takes away the coin at an outpoint, if there is one.
     pub fn remove(&mut self, at: &OutPoint)
         ensures { self.new ≡ map.remove self.old at.now }
     {
-        erase(&mut self.entries, at);
+        match &mut self.many {
+            Some(shards) => shards.remove(at),
+            None => erase(&mut self.few, at),
+        }
     }
 
     pub(crate) fn has(&self, at: &OutPoint) -> bool
         ensures { result ≡ is_some (map.get self.now at.now) }
     {
-        self.entries.contains_key(at)
+        self.get(at).is_some()
     }
 
     /// What is to stand at an outpoint. Where a coin is to come one stands, so it takes no memory.
@@ -69,10 +85,53 @@ impl CoinMap {
         ensures { self.new ≡ put self.old at coin }
     {
         match coin {
-            Some(coin) => replace(&mut self.entries, at, coin),
-            None => erase(&mut self.entries, &at),
+            Some(coin) => self.replace(at, coin),
+            None => self.remove(&at),
         }
     }
+
+    fn replace(&mut self, at: OutPoint, coin: Coin)
+        requires { is_some (map.get self.old at) ≡ true }
+        ensures { self.new ≡ map.insert self.old at coin }
+    {
+        match &mut self.many {
+            Some(shards) => {
+                let _ = shards.insert(at, coin);
+            }
+            None => replace(&mut self.few, at, coin),
+        }
+    }
+
+    /// Where the coins have become many they are copied into as many maps, once.
+    fn spread(&mut self) -> Result<(), Memory>
+        ensures { self.new ≡ self.old }
+    {
+        if self.many.is_some() || self.few.len() < MANY {
+            return Ok(());
+        }
+        self.many = Some(spread(self.alloc, &self.few)?);
+        self.few = BTreeMap::new(self.alloc);
+        Ok(())
+    }
+}
+
+/// The coins of a map, copied into many.
+fn spread(alloc: Global, few: &BTreeMap<OutPoint, Coin>) -> Result<Shards, Memory>
+    ensures { IfOk result (λ shards. shards ≡ map.from_entries few.now.entries) }
+{
+    let mut shards = Shards::new(alloc)?;
+    for (at, coin) in few {
+        shards.insert(*at, coin.copy()?)?;
+    }
+    Ok(shards)
+}
+
+fn put(entries: &mut BTreeMap<OutPoint, Coin>, at: OutPoint, coin: Coin) -> Result<(), Memory>
+    ensures ok { OnOk result (Changed entries.old.entries entries.new.entries at (Some coin)) }
+    ensures err { OnErr result (entries.new.entries ≡ entries.old.entries) }
+{
+    entries.insert(at, coin)?;
+    Ok(())
 }
 
 fn replace(entries: &mut BTreeMap<OutPoint, Coin>, at: OutPoint, coin: Coin)
@@ -92,6 +151,9 @@ impl Base for CoinMap {
     ghost coins = { λ m. m };
 
     fn get(&self, at: &OutPoint) -> Option<&Coin> {
-        self.entries.get(at)
+        match &self.many {
+            Some(shards) => shards.get(at),
+            None => self.few.get(at),
+        }
     }
 }

@@ -9,6 +9,7 @@ mod coin_map;
 mod entry;
 pub mod laws;
 mod laying;
+mod shards;
 mod writes;
 
 pub use base::Base;

@@ -1,16 +1,17 @@
-use Rattle.std.proofs.Common.{ap, sym, cond, ◌∙◌, Some}
+use Rattle.std.proofs.Common.{sym, ap, ◌∙◌, Some}
 use Rattle.std.specs.FinMap as map
-use Rattle.coins.specs.Coins.{same}
-use Rattle.coins.specs.laws.Lookups.{same_coins, same-sym, get-put, get-entries, entry_for}
+use Rattle.coins.specs.Coins.{Coins, few_or_many}
+use Rattle.coins.proofs.Layers.{on_ok}
+use Rattle.coins.proofs.Rooms.{changed_put}
 use Rattle.coins.proofs.coin_map.CoinMap.insert.Goals as goal
 
-pub returns-clause-ok : goal.returns-clause-ok
-returns-clause-ok c =
-    let es = c.self.inside.entries.entries in
-    let fs = c.insert.new.self.entries in
+pub returns-in-None-clause-ok : goal.returns-in-None-clause-ok
+returns-in-None-clause-ok c =
+    let es = c.self.inside.few.entries in
+    let fs = c.put.new.entries.entries in
     let k = c.args.at in
-    let v = Some c.args.coin in
-    same_coins _ _ (λ q. get-entries fs q ∙ c.in_ok-insert.ensures.updates.0 q
-    ∙ ap (λ b. cond b v (entry_for es q)) (same-sym k q)
-    ∙ sym (get-put (map.from_entries es) k v q ∙ ap (cond (same q k) v) (get-entries es q)))
-    ∙ ap (λ m. map.insert m k c.args.coin) c.self.view_is
+    let v = c.args.coin in
+    on_ok c.put.result c.put.ensures.ok (λ h.
+    ap (few_or_many fs) c.in-None.is
+    ∙ changed_put es fs k (Some v) h
+    ∙ ap (λ (m : Coins). map.insert m k v) (ap (few_or_many es) (sym c.in-None.is) ∙ c.self.view_is ∙ c.in_ok-spread.ensures))

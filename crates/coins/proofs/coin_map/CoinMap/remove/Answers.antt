@@ -1,8 +1,14 @@
-use Rattle.std.proofs.Common.{None, ap, ◌∙◌}
+use Rattle.std.proofs.Common.{sym, ap, ◌∙◌, None}
 use Rattle.std.specs.FinMap as map
+use Rattle.coins.specs.Coins.{Coins, few_or_many}
 use Rattle.coins.proofs.Rooms.{changed_put}
-use Rattle.coins.specs.Coins.{Coins}
 use Rattle.coins.proofs.coin_map.CoinMap.remove.Goals as goal
 
-pub returns : goal.returns
-returns c = changed_put c.self.inside.entries.entries c.erase.new.entries.entries c.args.at.now None c.erase.ensures ∙ ap (λ (m : Coins). map.remove m c.args.at.now) c.self.view_is
+pub returns-in-None : goal.returns-in-None
+returns-in-None c =
+    let es = c.self.inside.few.entries in
+    let fs = c.erase.new.entries.entries in
+    let k = c.args.at.now in
+    ap (few_or_many fs) c.in-None.is
+    ∙ changed_put es fs k None c.erase.ensures
+    ∙ ap (λ (m : Coins). map.remove m k) (ap (few_or_many es) (sym c.in-None.is) ∙ c.self.view_is)

@@ -1,7 +1,13 @@
-use Rattle.std.proofs.Common.{ap, sym, ◌∙◌}
+use Rattle.std.proofs.Common.{sym, ap, ◌∙◌, Option}
 use Rattle.std.specs.FinMap as map
+use Rattle.coins.specs.Coins.{Coins, few_or_many}
 use Rattle.coins.specs.laws.Lookups.{get-entries}
 use Rattle.coins.proofs.coin_map.CoinMapBase.get.Goals as goal
 
-pub returns : goal.returns
-returns c = c.get.ensures.value ∙ sym (get-entries c.self.inside.entries.entries c.args.at.now) ∙ ap (λ m. map.get m c.args.at.now) c.self.view_is
+pub returns-in-None : goal.returns-in-None
+returns-in-None c =
+    let es = c.self.inside.few.entries in
+    let q = c.args.at.now in
+    c.get-in-None.ensures.value ∙ sym (get-entries es q)
+    ∙ ap (λ (o : Option Coins). map.get (few_or_many es o) q) (sym c.in-None.is)
+    ∙ ap (λ (m : Coins). map.get m q) c.self.view_is

@@ -1,0 +1,28 @@
+use Rattle.std.proofs.Common.{◌≡◌, sym, ap, subst, ◌∙◌, Some, None, Option}
+use Rattle.std.specs.Prelude.{get_or, slice_set, is_some}
+use Rattle.std.specs.BTreeMap.{BTreeMap}
+use Rattle.std.specs.FinMap as map
+use Rattle.txn.specs.declared.outpoint.OutPoint.{OutPoint}
+use Rattle.coins.specs.Coins.{Coin, Coins}
+use Rattle.coins.specs.inside.Shards.{Maps, AreShards, together}
+use Rattle.coins.specs.laws.Lookups.{entry_for}
+use Rattle.coins.proofs.Gathering.{shards_written, together_written}
+use Rattle.coins.proofs.shards.Shards.remove.Goals as goal
+
+pub invariant_of-self : goal.invariant_of-self
+invariant_of-self c =
+    let ms = c.self.inside.maps.items in
+    let m = c.index_mut.result.now in
+    let n = c.remove.new.self in
+    subst (λ i. AreShards (slice_set ms i n)) (sym c.shard_of.ensures.place)
+    (shards_written ms m n c.args.at.now None c.self.invariant (c.index_mut.ensures.value ∙ ap (λ i. get_or ms i m) c.shard_of.ensures.place) (λ q. c.remove.ensures.updates.0 q))
+
+pub returns : goal.returns
+returns c =
+    let ms = c.self.inside.maps.items in
+    let m = c.index_mut.result.now in
+    let n = c.remove.new.self in
+    let k = c.args.at.now in
+    ap (λ i. together (slice_set ms i n)) c.shard_of.ensures.place
+    ∙ together_written ms m n k None c.self.invariant (c.index_mut.ensures.value ∙ ap (λ i. get_or ms i m) c.shard_of.ensures.place) (λ q. c.remove.ensures.updates.0 q)
+    ∙ ap (λ (x : Coins). map.remove x k) c.self.view_is

@@ -1,0 +1,79 @@
+//! Many small maps of coins, by the first bits of their transactions' ids.
+
+ghost use Rattle.std.specs.Prelude.{◌≡◌, ◌<◌, IfOk, OnOk, OnErr, IsOk, Some, true, is_some};
+ghost use Rattle.std.specs.Option.{option_copied};
+ghost use Rattle.std.specs.FinMap as map;
+ghost use Rattle.coins.specs.inside.Shards.{place};
+
+use crate::coin::Coin;
+use std::alloc::Global;
+use std::collections::BTreeMap;
+use std::marker::Model;
+use txn::OutPoint;
+use wire::Memory;
+
+/// How many maps there are: one for each value of 14 bits.
+const SHARDS: usize = 16_384;
+
+/// Coins in many maps, each with those whose ids begin alike, so that two nodes lead to one of a million. A clause
+/// sees the finite map of all.
+#[derive(Drop)]
+pub(crate) struct Shards {
+    maps: Vec<BTreeMap<OutPoint, Coin>>,
+}
+
+impl Model for Shards {
+    ghost use Rattle.coins.specs.Coins.{Coins, coded_coins};
+    ghost use Rattle.coins.specs.inside.Shards.{together, AreShards};
+
+    ghost Value = { Coins };
+
+    ghost coded = { coded_coins };
+
+    ghost view = { λ s. together s.maps.items };
+
+    ghost invariant = { λ s. AreShards s.maps.items };
+}
+
+impl Shards {
+    /// No coins.
+    pub(crate) fn new(alloc: Global) -> Result<Shards, Memory>
+        ensures { IfOk result (λ shards. shards ≡ map.empty) }
+    {
+        let mut maps = Vec::with_capacity(alloc, SHARDS)?;
+        for _ in 0..SHARDS {
+            maps.push(BTreeMap::new(alloc))?;
+        }
+        Ok(Shards { maps })
+    }
+
+    pub(crate) fn get(&self, at: &OutPoint) -> Option<&Coin>
+        ensures { option_copied result ≡ map.get self.now at.now }
+    {
+        self.maps[shard_of(at)].get(at)
+    }
+
+    /// Puts a coin at an outpoint. Where one stands already, it takes no memory.
+    pub(crate) fn insert(&mut self, at: OutPoint, coin: Coin) -> Result<(), Memory>
+        ensures ok { OnOk result (self.new ≡ map.insert self.old at coin) }
+        ensures err { OnErr result (self.new ≡ self.old) }
+        ensures present { is_some (map.get self.old at) ≡ true → IsOk result }
+    {
+        self.maps[shard_of(&at)].insert(at, coin)?;
+        Ok(())
+    }
+
+    pub(crate) fn remove(&mut self, at: &OutPoint)
+        ensures { self.new ≡ map.remove self.old at.now }
+    {
+        self.maps[shard_of(at)].remove(at);
+    }
+}
+
+/// The place of the map that an outpoint's coin stands in.
+fn shard_of(at: &OutPoint) -> usize
+    ensures place { result ≡ place at.now }
+    ensures below { result < 16384 }
+{
+    (usize::from(at.id.0[0]) * 256 + usize::from(at.id.0[1])) % SHARDS
+}
