@@ -34,8 +34,8 @@ named_none [] h = refl
 named_none (e ∷ es) h = absurd (omega (arith, h))
 
 -- all of them, where none is left
-pub all_of : (es fs gs : Entries) → es ++ fs ≡ gs → fs ≡ [] → es ≡ gs
-all_of es fs gs h n = sym (append-nil es) ∙ ap (λ (x : Entries). es ++ x) (sym n) ∙ h
+pub all_of : {A : Type 0} (es fs gs : List A) → es ++ fs ≡ gs → fs ≡ [] → es ≡ gs
+all_of {A} es fs gs h n = sym (append-nil es) ∙ ap (λ (x : List A). es ++ x) (sym n) ∙ h
 
 named_on : (b : Bool) (w : Option Coin) (o : Option (Option Coin)) → is_some o ≡ true → is_some (cond b (Some w) o) ≡ true
 named_on true w o h = refl

@@ -1,5 +1,5 @@
 -- Changes laid over coins.
-use Rattle.std.proofs.Common.{◌≡◌, inl, inr, ◌⊎◌, Bool, true, false, cond, List, [], ◌∷◌, ◌++◌, Option, Some, None, refl, sym, ap, subst, ◌∙◌}
+use Rattle.std.proofs.Common.{◌≡◌, inl, inr, ◌⊎◌, Bool, true, false, cond, List, [], ◌∷◌, ◌++◌, Option, Some, None, Result, Ok, Err, IsOk, OnOk, refl, sym, ap, subst, ◌∙◌}
 use Rattle.std.specs.Prelude.{is_some, ◌||◌}
 use Rattle.std.specs.List.{list_any, AllByRecursion, IsDistinct}
 use Rattle.std.proofs.lemmas.List.Folds.{list_any-append}
@@ -11,7 +11,7 @@ use Rattle.coins.specs.declared.coin.Coin.{Coin}
 use Rattle.coins.specs.Coins.{Coins, outpoint_cmp, same, put}
 use Rattle.coins.specs.laws.Lookups.{total_order, same_coins, same-true, same-self, same-sym, get-put, entry_for}
 use Rattle.coins.specs.Changes.{Changes, after_changes}
-use Rattle.coins.specs.inside.Changes.{Opened, Covered, HasRoomFor, Changed}
+use Rattle.coins.specs.inside.Changes.{Opened, Covered, HasRoomFor, Changed, comings}
 use Rattle.coins.specs.laws.Changing.{get-laid, written_at}
 use Rattle.coins.specs.laws.Lookups.{get-entries}
 use Rattle.std.specs.FinMap.{from_entries}
@@ -186,10 +186,6 @@ unfolding after_changes
 laid_nothing m = refl
 
 -- entries as changes that bring them
-abbrev pub comings : List (OutPoint × Coin) → Changes
-comings [] = []
-comings (e ∷ es) = (e.0, Some e.1) ∷ comings es
-
 brought_here : (b : Bool) (c : Coin) (o : Option (Option Coin)) (below p : Option Coin) → written_at o below ≡ p → written_at (cond b (Some (Some c)) o) below ≡ cond b (Some c) p
 brought_here true c o below p h = refl
 brought_here false c o below p h = h
@@ -211,3 +207,30 @@ keys_of_comings (e ∷ es) = ap (λ (ks : List OutPoint). e.0 ∷ ks) (keys_of_c
 
 pub comings_distinct : (es : List (OutPoint × Coin)) → IsDistinct same (keys_of es) → IsDistinct same (keys_of (comings es))
 comings_distinct es d = subst (IsDistinct same) (sym (keys_of_comings es)) d
+
+pub comings_more : (es : List (OutPoint × Coin)) (k : OutPoint) (c : Coin) → comings (es ++ (k, c) ∷ []) ≡ comings es ++ (k, Some c) ∷ []
+comings_more [] k c = refl
+comings_more (e ∷ es) k c = ap (λ (cs : Changes). (e.0, Some e.1) ∷ cs) (comings_more es k c)
+
+none_at : (b : Bool) (w : Option Coin) (o : Option (Option Coin)) → cond b (Some w) o ≡ None → (b ≡ false) × (o ≡ None)
+none_at true w o h = cc
+none_at false w o h = (refl, h)
+
+change_more : (cs : Changes) (k : OutPoint) (w : Option Coin) (q : OutPoint) → entry_for (cs ++ (k, w) ∷ []) q ≡ None → (entry_for cs q ≡ None) × (same q k ≡ false)
+change_more [] k w q h = let p = none_at (same q k) w None h in (refl, p.0)
+change_more (c ∷ cs) k w q h =
+    let p = none_at (same q c.0) c.1 (entry_for (cs ++ (k, w) ∷ []) q) h in
+    let r = change_more cs k w q p.1 in
+    (ap (λ b. cond b (Some c.1) (entry_for cs q)) p.0 ∙ r.0, r.1)
+
+-- one more coin, where one is going to be written
+pub covered_more : (m n : Coins) (cs : Changes) (k : OutPoint) (w : Option Coin) (c : Coin) → Covered m n cs → Covered m (map.insert n k c) (cs ++ (k, w) ∷ [])
+covered_more m n cs k w c h = record {
+  at = λ q none.
+      let r = change_more cs k w q none in
+      get-insert total_order n k c q ∙ ap (λ b. cond b (Some c) (map.get n q)) r.1 ∙ h.at q r.0;
+}
+
+pub given_ok : {A E P : Type 0} (r : Result A E) → IsOk r → OnOk r P → P
+given_ok (Ok x) is h = h
+given_ok (Err e) is h = cc

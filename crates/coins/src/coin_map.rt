@@ -3,15 +3,17 @@
 ghost use Rattle.std.specs.Prelude.{◌≡◌, IfOk, OnOk, OnErr, None, Some, true, is_some, IsSome};
 ghost use Rattle.std.specs.FinMap as map;
 ghost use Rattle.coins.specs.Coins.{put};
-ghost use Rattle.coins.specs.inside.Changes.{Changed};
+ghost use Rattle.coins.specs.inside.Changes.{Changed, Covered, HasRoomFor, comings};
 ghost use Rattle.coins.specs.laws.Lookups.{entry_for};
 
 use crate::base::Base;
 use crate::coin::Coin;
+use crate::laying::nothing;
 use crate::shards::Shards;
 use std::alloc::Global;
 use std::collections::BTreeMap;
 use std::marker::Model;
+use std::mem;
 use txn::OutPoint;
 use wire::Memory;
 
@@ -102,28 +104,44 @@ impl CoinMap {
         }
     }
 
-    /// Where the coins have become many they are copied into as many maps, once.
+    /// Where the coins have become many they are moved into as many maps, once.
     fn spread(&mut self) -> Result<(), Memory>
         ensures { self.new ≡ self.old }
     {
         if self.many.is_some() || self.few.len() < MANY {
             return Ok(());
         }
-        self.many = Some(spread(self.alloc, &self.few)?);
-        self.few = BTreeMap::new(self.alloc);
+        let mut shards = rooms(self.alloc, &self.few)?;
+        move_all(
+            &mut shards,
+            mem::replace(&mut self.few, BTreeMap::new(self.alloc)),
+        );
+        self.many = Some(shards);
         Ok(())
     }
 }
 
-/// The coins of a map, copied into many.
-fn spread(alloc: Global, few: &BTreeMap<OutPoint, Coin>) -> Result<Shards, Memory>
-    ensures { IfOk result (λ shards. shards ≡ map.from_entries few.now.entries) }
+/// Many maps with some coin wherever one of these stands.
+fn rooms(alloc: Global, few: &BTreeMap<OutPoint, Coin>) -> Result<Shards, Memory>
+    ensures room { IfOk result (λ shards. HasRoomFor shards (comings few.now.entries)) }
+    ensures others { IfOk result (λ shards. Covered map.empty shards (comings few.now.entries)) }
 {
     let mut shards = Shards::new(alloc)?;
-    for (at, coin) in few {
-        shards.insert(*at, coin.copy()?)?;
+    for (at, _) in few {
+        shards.insert(*at, nothing(alloc))?;
     }
     Ok(shards)
+}
+
+/// Moves coins to where there is room for them, which takes no memory.
+fn move_all(shards: &mut Shards, few: BTreeMap<OutPoint, Coin>)
+    requires room { HasRoomFor shards.old (comings few.entries) }
+    requires others { Covered map.empty shards.old (comings few.entries) }
+    ensures { shards.new ≡ map.from_entries few.entries }
+{
+    for (at, coin) in few {
+        let _ = shards.insert(at, coin);
+    }
 }
 
 fn put(entries: &mut BTreeMap<OutPoint, Coin>, at: OutPoint, coin: Coin) -> Result<(), Memory>

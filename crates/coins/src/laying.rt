@@ -45,7 +45,7 @@ impl CoinMap {
 }
 
 /// A coin that stands where another is to come. It takes no memory of its own.
-fn nothing(alloc: Global) -> Coin {
+pub(crate) fn nothing(alloc: Global) -> Coin {
     Coin {
         value: 0,
         script: Script::from_vec(Vec::new(alloc)),

@@ -1,5 +1,5 @@
 -- What the functions that list and lay changes do.
-use Rattle.std.specs.Prelude.{◌≡◌, ◌⊎◌, true, if◌then◌else◌, List, [], ◌∷◌, Option, None, is_some}
+use Rattle.std.specs.Prelude.{◌≡◌, ◌⊎◌, true, if◌then◌else◌, List, [], ◌∷◌, Option, None, Some, is_some}
 use Rattle.std.specs.List.{list_any, AllByRecursion}
 use Rattle.std.specs.Map.{lookup}
 use Rattle.std.specs.BTreeMap.{is_at}
@@ -39,3 +39,8 @@ pub record HasRoomFor (n : Coins) (cs : Changes) : Type 0 where
 -- fs are es with this, or nothing, at an outpoint
 pub record Changed (es fs : List (OutPoint × Coin)) (k : OutPoint) (w : Option Coin) : Type 0 where
   pub at : (q : OutPoint) → lookup (is_at (outpoint_cmp q)) fs ≡ (if same k q then w else lookup (is_at (outpoint_cmp q)) es)
+
+-- entries as changes that bring them
+abbrev pub comings : List (OutPoint × Coin) → Changes
+comings [] = []
+comings (e ∷ es) = (e.0, Some e.1) ∷ comings es
