@@ -19,7 +19,7 @@ use wire::Memory;
 
 /// From so many coins on they stand in many small maps. Below, these would be almost empty, and each takes the memory
 /// of some ten coins.
-const MANY: usize = 262_144;
+const MANY: usize = 131_072;
 
 /// A plain map of coins. A clause sees the finite map.
 #[derive(Drop)]
