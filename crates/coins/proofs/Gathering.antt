@@ -58,8 +58,8 @@ found_at i (suc n) (m ∷ ms) q d own e below =
     ∙ ap (λ o. or_else o (entry_for (gathered ms) q)) (not_here (entry_for m.entries q) (place q ≡ i) (own.0 q) (λ f. omega (arith, e, f)))
     ∙ found_at (i + 1) n ms q d own.1 (omega (arith, e)) (omega (arith, below))
 
-place_below : (q : OutPoint) → place q < 16384
-place_below q = mod_below _ 16384 (omega arith)
+place_below : (q : OutPoint) → place q < 8192
+place_below q = mod_below _ 8192 (omega arith)
 
 pub found : (ms : Maps) (q : OutPoint) (d : Map) → AreShards ms → map.get (together ms) q ≡ entry_for (get_or ms (place q) d).entries q
 found ms q d are = get-entries (gathered ms) q ∙ found_at 0 (place q) ms q d are.own (omega arith) (subst (λ n. place q < n) (sym are.count) (place_below q))
@@ -155,7 +155,7 @@ own_empty : (i : ℕ) (ms : Maps) → AreEmpty ms → HaveTheirOwn i ms
 own_empty i [] are = tt
 own_empty i (m ∷ ms) are = ((λ q h. let no = sym h ∙ ap (λ (es : Entries). is_some (entry_for es q)) are.0 in cc), own_empty (i + 1) ms are.1)
 
-pub shards_empty : (ms : Maps) → length ms ≡ 16384 → AreEmpty ms → AreShards ms
+pub shards_empty : (ms : Maps) → length ms ≡ 8192 → AreEmpty ms → AreShards ms
 shards_empty ms count are = record { count = count; own = own_empty 0 ms are }
 
 gathered_empty : (ms : Maps) → AreEmpty ms → gathered ms ≡ []

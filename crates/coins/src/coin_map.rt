@@ -17,9 +17,9 @@ use std::mem;
 use txn::OutPoint;
 use wire::Memory;
 
-/// From so many coins on they stand in many small maps. Below, these would be almost empty, and each takes the memory
-/// of some ten coins.
-const MANY: usize = 131_072;
+/// From so many coins on they stand in many small maps, eight in each in the mean. With fewer in each, these would take
+/// more memory than one map does.
+const MANY: usize = 65_536;
 
 /// A plain map of coins. A clause sees the finite map.
 #[derive(Drop)]

@@ -12,8 +12,8 @@ use std::marker::Model;
 use txn::OutPoint;
 use wire::Memory;
 
-/// How many maps there are: one for each value of 14 bits.
-const SHARDS: usize = 16_384;
+/// How many maps there are: one for each value of 13 bits.
+const SHARDS: usize = 8192;
 
 /// Coins in many maps, each with those whose ids begin alike, so that two nodes lead to one of a million. A clause
 /// sees the finite map of all.
@@ -73,7 +73,7 @@ impl Shards {
 /// The place of the map that an outpoint's coin stands in.
 fn shard_of(at: &OutPoint) -> usize
     ensures place { result ≡ place at.now }
-    ensures below { result < 16384 }
+    ensures below { result < 8192 }
 {
     (usize::from(at.id.0[0]) * 256 + usize::from(at.id.0[1])) % SHARDS
 }

@@ -10,9 +10,9 @@ use Rattle.coins.specs.laws.Lookups.{entry_for}
 abbrev pub Maps : Type 0
 Maps = List (BTreeMap OutPoint Coin)
 
--- the place of the map that an outpoint's coin stands in: 14 bits of the id's first two bytes
+-- the place of the map that an outpoint's coin stands in: 13 bits of the id's first two bytes
 abbrev pub place : OutPoint → ℕ
-place q = (slice_index q.id.0 0 * 256 + slice_index q.id.0 1) % 16384
+place q = (slice_index q.id.0 0 * 256 + slice_index q.id.0 1) % 8192
 
 -- the entries of all maps
 abbrev pub gathered : Maps → List (OutPoint × Coin)
@@ -29,5 +29,5 @@ HaveTheirOwn i [] = Unit {0}
 HaveTheirOwn i (m ∷ ms) = ((q : OutPoint) → is_some (entry_for m.entries q) ≡ true → place q ≡ i) × HaveTheirOwn (i + 1) ms
 
 pub record AreShards (ms : Maps) : Type 0 where
-  pub count : length ms ≡ 16384
+  pub count : length ms ≡ 8192
   pub own : HaveTheirOwn 0 ms
