@@ -17,9 +17,9 @@ use std::mem;
 use txn::OutPoint;
 use wire::Memory;
 
-/// From so many coins on they stand in many small maps, eight in each in the mean. With fewer in each, these would take
-/// more memory than one map does.
-const MANY: usize = 65_536;
+/// From so many coins on they stand in many small maps, some twelve in each. A node has room for fifteen, so with fewer
+/// in each much of it would be empty.
+const MANY: usize = 102_400;
 
 /// A plain map of coins. A clause sees the finite map.
 #[derive(Drop)]

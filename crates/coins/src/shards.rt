@@ -15,8 +15,8 @@ use wire::Memory;
 /// How many maps there are: one for each value of 13 bits.
 const SHARDS: usize = 8192;
 
-/// Coins in many maps, each with those whose ids begin alike, so that two nodes lead to one of a million. A clause
-/// sees the finite map of all.
+/// Coins in many maps, each with those whose ids begin alike, so that two nodes lead to one of a million. Who puts coins
+/// in by rising outpoints goes through the maps once. A clause sees the finite map of all.
 #[derive(Drop)]
 pub(crate) struct Shards {
     maps: Vec<BTreeMap<OutPoint, Coin>>,
@@ -70,10 +70,10 @@ impl Shards {
     }
 }
 
-/// The place of the map that an outpoint's coin stands in.
+/// The place of the map that an outpoint's coin stands in: its id's first bits.
 fn shard_of(at: &OutPoint) -> usize
     ensures place { result ≡ place at.now }
     ensures below { result < 8192 }
 {
-    (usize::from(at.id.0[0]) * 256 + usize::from(at.id.0[1])) % SHARDS
+    (usize::from(at.id.0[0]) * 256 + usize::from(at.id.0[1])) / 8 % SHARDS
 }

@@ -1,5 +1,5 @@
 -- Coins in many maps, by the first bits of their ids.
-use Rattle.std.specs.Prelude.{◌≡◌, ℕ, ◌+◌, ◌*◌, ◌%◌, true, List, [], ◌∷◌, ◌++◌, length, is_some}
+use Rattle.std.specs.Prelude.{◌≡◌, ℕ, ◌+◌, ◌*◌, ◌/◌, ◌%◌, true, List, [], ◌∷◌, ◌++◌, length, is_some}
 use Rattle.std.specs.List.{slice_index}
 use Rattle.std.specs.BTreeMap.{BTreeMap}
 use Rattle.std.specs.FinMap as map
@@ -10,9 +10,10 @@ use Rattle.coins.specs.laws.Lookups.{entry_for}
 abbrev pub Maps : Type 0
 Maps = List (BTreeMap OutPoint Coin)
 
--- the place of the map that an outpoint's coin stands in: 13 bits of the id's first two bytes
+-- the place of the map that an outpoint's coin stands in: the id's first 13 bits, so that the maps follow one another
+-- as their outpoints do
 abbrev pub place : OutPoint → ℕ
-place q = (slice_index q.id.0 0 * 256 + slice_index q.id.0 1) % 8192
+place q = (slice_index q.id.0 0 * 256 + slice_index q.id.0 1) / 8 % 8192
 
 -- the entries of all maps
 abbrev pub gathered : Maps → List (OutPoint × Coin)
