@@ -71,7 +71,24 @@ pub fn first_failure_with<R: Threads + Sync, G: Gate + Sync>(
     first_refused(rt, alloc, &list, workers, gate)
 }
 
-/// The least place that is refused.
+/// How many workers have something to run: no more than there are, and than places whose answer isn't known.
+fn busy_workers<C: Places>(list: &C, workers: usize) -> usize
+    requires { 1 ≤ workers }
+    ensures { (1 ≤ result) × (result ≤ workers) }
+{
+    let mut left = 0;
+    for place in 0..list.count_places() {
+        if list.known(place).is_none() {
+            left += 1;
+        }
+        if left >= workers {
+            return workers;
+        }
+    }
+    if left == 0 { 1 } else { left }
+}
+
+/// The least place that is refused. No thread is started for a place whose answer is known.
 pub(crate) fn first_refused<R: Threads + Sync, G: Gate + Sync, C: Places + Sync>(
     rt: &R,
     alloc: Global,
@@ -84,6 +101,10 @@ pub(crate) fn first_refused<R: Threads + Sync, G: Gate + Sync, C: Places + Sync>
     ensures { IfOk result (λ place.
         IsLeastBelow (C.count list.now) (C.accepts list.now) (C.refuses list.now) place) }
 {
+    let workers = busy_workers(list, workers);
+    if workers == 1 {
+        return first_refused_alone(alloc, list, gate);
+    }
     let (table, seat) = Shares::of_words(alloc, &[0, u64::MAX], list)?;
     let words: &Words<C> = &table.shared;
     let (mut seat, found) = in_threads(rt, alloc, list, words, seat, workers, gate);
