@@ -57,12 +57,15 @@ _Static_assert(sizeof(wakotehu_coin) == 24, "as ShownCoin");
 
 enum { FREE = 0, OPEN = 1, IN_USE = 2 };
 
-/* A block that was submitted. Where `bytes` is null there is none. */
+/* A block that the chainstate keeps. Where `bytes` is null there is none. */
 struct block {
     uint8_t id[32], parent[32];
     uint8_t *bytes;
     size_t length;
 };
+
+/* Reasons that a block may be refused for over the coins: these two, and all from the third on. */
+enum { BAD_BLK_SIGOPS = 15, BAD_TXNS_NONFINAL = 22, BAD_TXNS_BIP30 = 24 };
 
 /* Blocks by their ids: each stands where the first bytes of its id say, or in the next place that was free. `room` is 0
  * or a power of two, and at most half of the places are taken. */
@@ -150,11 +153,31 @@ static bool copy_block(struct blocks *blocks, const uint8_t *bytes, size_t lengt
     return true;
 }
 
-/* Whether it was seen that a header's transactions are these: the reasons from 4 on are looked for after that. So all
- * blocks that a chainstate keeps have a copy, and no other bytes have the id. */
-static bool is_whole(const wakotehu_answer *answer) {
-    return answer->reply == WAKOTEHU_ACCEPTED || answer->reply == WAKOTEHU_INCONCLUSIVE
-           || (answer->reply == WAKOTEHU_REJECTED && answer->reason >= 4);
+/* Whether the chainstate keeps the block of these bytes, which had no copy before and was answered so. The bytes of
+ * kept blocks alone are copied, so a block that is refused by itself or by its place leaves nothing behind.
+ *
+ * Kept are those that are accepted or inconclusive, and those that are refused over the coins. Two of these reasons are
+ * given by the block itself or its place too (bad-blk-sigops and bad-txns-nonfinal): there the block is submitted again,
+ * which changes nothing: a kept one is answered duplicate-invalid, and another one is judged as before. Where that finds
+ * no memory the copy is kept: it is right, as said below, though no call asks for it.
+ *
+ * Such a copy is the only list of bytes with its id that passes the rules of a block by itself, so the one that the
+ * chainstate kept. The id names the header, and the header the Merkle root. Of lists of transactions with one root
+ *   - those of one depth differ by repeated ends, and all but one are refused as bad-txns-duplicate;
+ *   - of two depths, the first transaction of the shallower one is 64 bytes, which are two ids of the deeper one's tree.
+ *     It is the coinbase, else the block is refused as bad-cb-missing: its bytes 4 to 36 are a count of 1 and an id of
+ *     32 zero bytes. So the first of those two ids has 28 bytes that are given, which takes 2^224
+ *     hashes to find. (Any other transaction can be such a pair: that takes a second, so a block that is refused before
+ *     its coinbase is looked at may have the id of another one.)
+ * The ids name the bytes of transactions, and counts have one spelling. Otherwise two messages have one SHA-256. */
+static bool is_kept(struct chain *chain, const struct block *copy, uint64_t now, const wakotehu_answer *answer) {
+    wakotehu_answer again = {0};
+    if (answer->reply != WAKOTEHU_REJECTED)
+        return answer->reply == WAKOTEHU_ACCEPTED || answer->reply == WAKOTEHU_INCONCLUSIVE;
+    if (answer->reason != BAD_BLK_SIGOPS && answer->reason != BAD_TXNS_NONFINAL)
+        return answer->reason >= BAD_TXNS_BIP30;
+    return ffi_submit(&chain->slot, copy->bytes, copy->length, now, &again) != WAKOTEHU_OK
+           || again.reply != WAKOTEHU_REJECTED;
 }
 
 static void forget(struct blocks *blocks) {
@@ -209,7 +232,7 @@ static uint32_t submit(struct chain *chain, const uint8_t *bytes, size_t length,
     if (!copy_block(&chain->blocks, bytes, length, &copy))
         return WAKOTEHU_MEMORY;
     uint32_t code = ffi_submit(&chain->slot, bytes, length, now, answer);
-    if (copy.bytes && code == WAKOTEHU_OK && is_whole(answer)) {
+    if (copy.bytes && code == WAKOTEHU_OK && is_kept(chain, &copy, now, answer)) {
         *place_in(&chain->blocks, copy.id) = copy;
         chain->blocks.count++;
     } else

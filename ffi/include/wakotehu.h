@@ -135,15 +135,18 @@ wakotehu_code wakotehu_tip_at(wakotehu_handle handle, size_t place, wakotehu_tip
 wakotehu_code wakotehu_coin_at(wakotehu_handle handle, const uint8_t *id, uint32_t index, wakotehu_coin *coin,
                                uint8_t *script, size_t length);
 
-/* The bytes of a block that was submitted, and how many there are (`needed`); WAKOTEHU_NONE where there is none, and
- * for the genesis block. The first of `bytes`, of `length` bytes, become the block; where it is too short nothing is
- * written there, and the answer is WAKOTEHU_TOO_SMALL. bytes may be null where length is 0. Blocks that are kept are
- * there, and those that were refused, but for blocks whose transactions aren't those of their header. */
+/* The bytes of a block that is kept, and how many there are (`needed`); WAKOTEHU_NONE where there is none, and for the
+ * genesis block. The first of `bytes`, of `length` bytes, become the block; where it is too short nothing is written
+ * there, and the answer is WAKOTEHU_TOO_SMALL. bytes may be null where length is 0. Kept are the blocks that were
+ * accepted or inconclusive, and those that were refused over the coins (they come again as duplicate-invalid). Of a
+ * block that was refused by itself or by its place nothing is kept. */
 wakotehu_code wakotehu_block(wakotehu_handle handle, const uint8_t *id, uint8_t *bytes, size_t length, size_t *needed);
 
 /* Who is called for a coin: with the id of its transaction (32 bytes), the output's number, the coin, and coin->script
- * bytes of its script. What is pointed to lives as long as the call. The handle is in use meanwhile: a call on it
- * answers WAKOTEHU_BUSY. Any other answer than 0 ends the walk. */
+ * bytes of its script. What is pointed to lives as long as the call. Any other answer than 0 ends the walk. The handle
+ * is in use meanwhile: a call on it answers WAKOTEHU_BUSY, and calls on other handles go on. It has to return: one that
+ * leaves by longjmp, by a C++ exception or by ending its thread leaves the handle in use for ever, and memory is lost.
+ * So catch what may be thrown, answer 1, and throw it again when wakotehu_coins has returned. */
 typedef int (*wakotehu_coin_call)(void *context, const uint8_t *id, uint32_t index, const wakotehu_coin *coin,
                                   const uint8_t *script);
 

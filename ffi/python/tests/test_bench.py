@@ -127,7 +127,7 @@ class BenchTest(unittest.TestCase):
         self.assertEqual(bench.branch(), [block_id(it) for it in (*self.blocks, block)])
         early = self.maker.block(bench.best())
         bench.try_submit(early, 1000)
-        self.assertEqual(bench.block(block_id(early)), early)
+        self.assertIsNone(bench.block(block_id(early)))
         self.assertEqual([bench.is_kept(block_id(it)) for it in (block, early)], [True, False])
 
     def test_a_reorganisation_gives_the_coin_back(self):
