@@ -1,9 +1,11 @@
 """The proved chainstate."""
 
 import ctypes
+import operator
+import threading
 import time
 from types import TracebackType
-from typing import Any, Iterator, List, NamedTuple, Optional, Sequence, Tuple, Type, Union
+from typing import Any, Iterator, List, NamedTuple, NoReturn, Optional, Sequence, Tuple, Type, Union
 
 from . import errors
 from .library import Answer, CoinCall, Heights, library
@@ -92,11 +94,12 @@ class Chainstate:
 
     def __init__(self, heights: Sequence[int] = REGTEST, table: Union[str, bytes] = b"") -> None:
         self._handle = 0
+        rules = Heights(*read_heights(heights))
         self._library = library()
         text = table.encode() if isinstance(table, str) else bytes(table)
         handle, line = ctypes.c_uint64(), ctypes.c_uint64()
         code = self._library.wakotehu_open(
-            ctypes.byref(handle), ctypes.byref(Heights(*heights)), text, len(text), ctypes.byref(line)
+            ctypes.byref(handle), ctypes.byref(rules), text, len(text), ctypes.byref(line)
         )
         if code == 3:
             raise errors.BadTable(line.value)
@@ -124,6 +127,10 @@ class Chainstate:
         if getattr(self, "_handle", 0):
             self._library.wakotehu_close(self._handle)
 
+    def __reduce_ex__(self, protocol: object) -> NoReturn:
+        """A chainstate isn't copied and isn't pickled: a copy would close the original's handle."""
+        raise TypeError("a Chainstate can't be copied or pickled")
+
     # ---- commands
 
     def submit(self, block: bytes, now: Optional[int] = None) -> str:
@@ -137,7 +144,7 @@ class Chainstate:
 
     def try_submit(self, block: bytes, now: Optional[int] = None) -> Reply:
         """The same, and a refusal is answered, not raised."""
-        block, moment = bytes(block), int(time.time()) if now is None else now
+        block, moment = bytes(block), int(time.time()) if now is None else _number(now, 64, "a moment")
         return self._command("submit", block, len(block), moment)
 
     def invalidate(self, id: bytes) -> None:
@@ -187,10 +194,11 @@ class Chainstate:
 
     def coin(self, id: bytes, index: int) -> Optional[Coin]:
         """The coin at an outpoint, or None."""
+        id, index = _id(id), _number(index, 32, "the number of an output")
         coin, script = _Coin(), ctypes.create_string_buffer(128)
         for _ in range(2):
             code = self._library.wakotehu_coin_at(
-                self._handle, _id(id), index, ctypes.byref(coin), script, len(script)
+                self._handle, id, index, ctypes.byref(coin), script, len(script)
             )
             if code != 5:
                 break
@@ -201,24 +209,32 @@ class Chainstate:
         return Coin(coin.value, script.raw[: coin.script], coin.height, bool(coin.coinbase))
 
     def coins(self) -> List[Tuple[bytes, int, Coin]]:
-        """All coins, as the id of a transaction, an output's number, and the coin: those of the highest block first."""
-        found: List[Tuple[bytes, int, Coin]] = []
+        """All coins, as the id of a transaction, an output's number, and the coin: those of the highest block first.
 
-        def take(_context: Any, id: Any, index: int, coin: Any, script: Any) -> int:
-            it = coin.contents
-            made = Coin(it.value, ctypes.string_at(script, it.script), it.height, bool(it.coinbase))
-            found.append((ctypes.string_at(id, 32), index, made))
-            return 0
-
-        self._check(self._library.wakotehu_coins(self._handle, CoinCall(take), None))
-        return found
+        An exception, Ctrl-C too, ends the walk and is raised.
+        """
+        walk = _Walk()
+        # On a thread of its own: Python lets Ctrl-C interrupt the main thread alone, and inside a callback it would be
+        # lost.
+        thread = threading.Thread(target=walk.run, args=(self._library, self._handle))
+        try:
+            thread.start()
+            thread.join()
+        finally:
+            walk.stop()
+        if walk.error is not None:
+            raise walk.error
+        self._check(walk.code)
+        return walk.found
 
     def block(self, id: bytes) -> Optional[bytes]:
-        """The bytes of a block that was submitted, or None. None for the genesis block too, and for one whose
-        transactions aren't those of its header. A block that was refused by another rule is there."""
-        needed, data = ctypes.c_size_t(), ctypes.create_string_buffer(4096)
+        """The bytes of a block that is kept, or None; None for the genesis block too.
+
+        Kept are the blocks that were accepted or inconclusive, and those that were refused over the coins.
+        """
+        id, needed, data = _id(id), ctypes.c_size_t(), ctypes.create_string_buffer(4096)
         for _ in range(2):
-            code = self._library.wakotehu_block(self._handle, _id(id), data, len(data), ctypes.byref(needed))
+            code = self._library.wakotehu_block(self._handle, id, data, len(data), ctypes.byref(needed))
             if code != 5:
                 break
             data = ctypes.create_string_buffer(needed.value)
@@ -226,6 +242,14 @@ class Chainstate:
             return None
         self._check(code)
         return data.raw[: needed.value]
+
+    def is_kept(self, id: bytes) -> bool:
+        """Whether `block` has the bytes of a block. It doesn't of genesis."""
+        needed = ctypes.c_size_t()
+        code = self._library.wakotehu_block(self._handle, _id(id), None, 0, ctypes.byref(needed))
+        if code not in (4, 5):
+            self._check(code)
+        return bool(code == 5)
 
     # ---- inside
 
@@ -243,6 +267,55 @@ class Chainstate:
             return
         kinds = {1: MemoryError, 2: errors.Closed, 7: errors.Busy, 8: ValueError, 9: errors.TooMany}
         raise kinds.get(code, errors.Error)(self._library.wakotehu_code_text(code).decode())
+
+
+class _Walk:
+    """A walk over all coins, and what it met."""
+
+    def __init__(self) -> None:
+        self.found: List[Tuple[bytes, int, Coin]] = []
+        self.code = 0
+        self.error: Optional[BaseException] = None
+        self._stopped = False
+        self._running = threading.Lock()
+
+    def run(self, library: ctypes.CDLL, handle: int) -> None:
+        """Walks, unless it was stopped before."""
+        with self._running:
+            if not self._stopped:
+                self.code = library.wakotehu_coins(handle, CoinCall(self.take), None)
+
+    def stop(self) -> None:
+        """Stops the walk, and waits until it has ended."""
+        self._stopped = True
+        with self._running:
+            pass
+
+    def take(self, _context: Any, id: Any, index: int, coin: Any, script: Any) -> int:
+        """Keeps a coin. No exception may leave a callback: it would be printed, and the walk would go on."""
+        try:
+            it = coin.contents
+            made = Coin(it.value, ctypes.string_at(script, it.script), it.height, bool(it.coinbase))
+            self.found.append((ctypes.string_at(id, 32), index, made))
+        except BaseException as error:
+            self.error = error
+        return 1 if self._stopped or self.error is not None else 0
+
+
+def read_heights(heights: Sequence[int]) -> Tuple[int, int, int, int]:
+    """Four heights of 32 bits, or ValueError."""
+    if len(heights) != 4:
+        raise ValueError(f"there are four heights, of BIPs 34, 65, 66 and 68, not {len(heights)}")
+    bip34, bip65, bip66, csv = (_number(height, 32, "a height") for height in heights)
+    return bip34, bip65, bip66, csv
+
+
+def _number(number: int, bits: int, what: str) -> int:
+    """A number without sign of so many bits. C would cut another one to its width."""
+    number = operator.index(number)
+    if not 0 <= number < 2**bits:
+        raise ValueError(f"{what} is from 0 to {2**bits - 1}, not {number}")
+    return number
 
 
 def _id(id: bytes) -> bytes:
