@@ -6,7 +6,7 @@ import unittest
 
 from blocks import NOW, Maker, block_id, signed, spend, with_script
 from wakotehu import Bench, ReplayDiffers, errors
-from wakotehu.encoding import Input, Output, Transaction, push, signature_digest
+from wakotehu.encoding import Input, Output, Transaction, push, read_block, signature_digest
 from wakotehu.signatures import Secp256k1, signed_codes
 
 SECP = Secp256k1()
@@ -156,8 +156,11 @@ class BenchTest(unittest.TestCase):
         learn, bench._learn = bench._learn, lambda data: None
         self.assertEqual(bench.try_submit(block, NOW).text, "blk-bad-inputs 1:0")
         bench._learn = learn
+        other = self.maker.block(block[4:36], [read_block(block).transactions[1]], extra=b"other")
+        before = bench.table, bench.best(), len(bench.journal)
         with self.assertRaises(ReplayDiffers) as caught:
-            bench.submit(block, NOW)
+            bench.submit(other, NOW)
+        self.assertEqual((bench.table, bench.best(), len(bench.journal)), before)
         self.assertEqual(
             (caught.exception.place, caught.exception.given, caught.exception.replayed),
             (101, "blk-bad-inputs 1:0", "accepted"),

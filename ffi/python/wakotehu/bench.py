@@ -2,52 +2,63 @@
 
 import time
 from types import TracebackType
-from typing import Dict, List, NamedTuple, Optional, Sequence, Set, Tuple, Type, Union
+from typing import Dict, List, NamedTuple, NoReturn, Optional, Sequence, Set, Tuple, Type, Union
 
 from . import errors
-from .chainstate import REGTEST, Chainstate, Coin, Reply, Tip
-from .encoding import GENESIS, EncodingError, Transaction, read_block
+from .chainstate import REGTEST, Chainstate, Coin, Reply, Tip, read_heights
+from .encoding import Block, EncodingError, Output, Transaction, read_block, read_transaction
+from .index import Index
+from .screen import may_be_kept
 from .signatures import Secp256k1, Triple, asked
 
 
 class Entry(NamedTuple):
-    """A command of the journal with its reply: "submit" with a block's bytes and a moment, or a mark with an id."""
+    """A command that a replay takes again, with its reply: "submit" of a kept block at a moment, or a mark."""
 
     command: str
-    data: bytes
+    id: bytes
     now: int
     reply: str
+
+
+class Read(NamedTuple):
+    """A block that was submitted: its bytes and what they spell, with the ids of its transactions."""
+
+    data: bytes
+    block: Block
+    ids: List[bytes]
 
 
 class Bench:
     """A chainstate whose table has the real signatures that the submitted blocks bring.
 
-    The chainstate judges by a table that never changes under it. Before a block is submitted, all triples that the
-    scripts of its inputs can ask for are gathered, and libsecp256k1 says which of them are valid. Where the table lacks
-    one, a new chainstate is opened with the larger table and the journal is replayed; a reply that differs from the one
-    that was given raises `ReplayDiffers`. So a block with new signatures costs a replay of all commands.
+    The chainstate judges by a table that never changes under it. Before a block is submitted, triples that the scripts
+    of its inputs can ask for are gathered (`signatures.asked` says which), and libsecp256k1 says which of them are
+    valid. Where the table lacks one, a new chainstate is opened with the larger table and the journal is replayed; a
+    reply that differs from the one that was given raises `ReplayDiffers`. So a block with new signatures costs a replay
+    of all commands. Where a replay fails, nothing has changed.
 
-    Spent scripts are known from all blocks that were ever submitted, on whatever branch. A block that spends an output
-    of a block that comes later is judged without its signatures, and rejected for its inputs anyhow.
+    Of a block that breaks a rule by itself or by its place no signature is gathered, and nothing is kept.
 
     It has the calls of `Chainstate`, and walks over blocks: `parent`, `branch`, `is_kept`.
     """
 
     def __init__(self, heights: Sequence[int] = REGTEST, table: Union[str, bytes] = b"") -> None:
-        self.heights = tuple(heights)
+        self.heights = read_heights(heights)
         self.table = table.encode() if isinstance(table, str) else bytes(table)
-        #: All commands so far, with their replies.
+        #: The submissions of kept blocks and the marks so far, with their replies. Other commands change nothing.
         self.journal: List[Entry] = []
         #: How many replays there were, and how many seconds the last one took.
         self.replays = 0
         self.seconds = 0.0
+        self.index = Index()
         self._secp = Secp256k1()
         self._valid: Set[Triple] = set()
-        self._refused: Set[Triple] = set()
-        self._scripts: Dict[Tuple[bytes, int], bytes] = {}
-        # The parents of all blocks that the chainstate has the bytes of.
-        self._parents: Dict[bytes, bytes] = {}
         self.chain = Chainstate(self.heights, self.table)
+
+    def __reduce_ex__(self, protocol: object) -> NoReturn:
+        """As of a `Chainstate`."""
+        raise TypeError("a Bench can't be copied or pickled")
 
     def close(self) -> None:
         """Closes the chainstate."""
@@ -69,19 +80,27 @@ class Bench:
 
     def try_submit(self, block: bytes, now: Optional[int] = None) -> Reply:
         """As `Chainstate.try_submit`."""
-        block, moment = bytes(block), int(time.time()) if now is None else now
-        id = self._learn(block)
-        reply = self.chain.try_submit(block, moment)
-        self.journal.append(Entry("submit", block, moment, reply.text))
-        if id is not None and id not in self._parents and self.chain.block(id) == block:
-            self._parents[id] = block[4:36]
+        data, moment = bytes(block), int(time.time()) if now is None else now
+        read = _read(data)
+        if read and may_be_kept(read.block, data, read.ids, self.index, moment):
+            self._learn(read)
+        reply = self.chain.try_submit(data, moment)
+        id = read.block.header.id if read else None
+        if id is not None and id not in self.index.blocks and self.chain.is_kept(id):
+            self.index.add(data)
+            self._took(Entry("submit", id, moment, reply.text))
         return reply
 
     def try_mark(self, command: str, id: bytes) -> Reply:
         """As `Chainstate.try_mark`."""
         reply = self.chain.try_mark(command, id)
-        self.journal.append(Entry(command, bytes(id), 0, reply.text))
+        if reply.reply == "done":
+            self._took(Entry(command, bytes(id), 0, reply.text))
         return reply
+
+    def _took(self, entry: Entry) -> None:
+        self.journal.append(entry)
+        self.index.follow(self.chain.best())
 
     def invalidate(self, id: bytes) -> None:
         """As `Chainstate.invalidate`."""
@@ -118,23 +137,32 @@ class Bench:
         return self.chain.block(id)
 
     def parent(self, id: bytes) -> bytes:
-        """The id of the block that a submitted one names as its parent."""
-        return self._parents[bytes(id)]
+        """The id of a kept block's parent."""
+        return self.index.blocks[bytes(id)].header.parent
 
     def branch(self, id: Optional[bytes] = None) -> List[bytes]:
-        """The ids of a block's branch, the block next to genesis first; of the active block by default."""
+        """The ids of a block's branch, the block next to genesis first; of the active block by default. Empty for a
+        block that isn't kept."""
         at = self.best() if id is None else bytes(id)
-        found = []
-        while at in self._parents:
-            found.append(at)
-            at = self._parents[at]
-        return found[::-1]
+        return self.index.branch(at) if at in self.index.blocks else []
 
     def is_kept(self, id: bytes) -> bool:
-        """Whether the chainstate keeps a block, genesis or another: then it is one of a tip's branch."""
-        id = bytes(id)
-        kept = {tip.id for tip in self.tips()}
-        return id == GENESIS.id or id in kept or any(id in self.branch(tip) for tip in kept)
+        """Whether the chainstate keeps a block, genesis or another."""
+        return bytes(id) in self.index.blocks
+
+    def output(self, id: bytes, index: int) -> Optional[Output]:
+        """An output that a kept block made, spent or not, on whatever branch; or None."""
+        tx = self.transaction(id)
+        return tx.outputs[index] if tx and 0 <= index < len(tx.outputs) else None
+
+    def transaction(self, id: bytes) -> Optional[Transaction]:
+        """A transaction of a kept block, or None."""
+        if id not in self.index.transactions:
+            return None
+        block, begin, end = self.index.transactions[id]
+        data = self.chain.block(block)
+        assert data is not None, "blocks of the index are kept"
+        return read_transaction(data[begin:end])
 
     def coins(self) -> List[Tuple[bytes, int, Coin]]:
         """As `Chainstate.coins`."""
@@ -142,51 +170,59 @@ class Bench:
 
     # ---- signatures
 
-    def _learn(self, data: bytes) -> Optional[bytes]:
-        """Gets the valid signatures of a block into the table, by a replay where it lacks one; answers its id."""
-        try:
-            block = read_block(data)
-        except EncodingError:
-            return None
-        for tx in block.transactions:
-            name = tx.id
-            for index, output in enumerate(tx.outputs):
-                self._scripts[name, index] = output.script
-        if self._new_triples(block.transactions):
-            self._replay()
-        return block.header.id
-
-    def _new_triples(self, transactions: List[Transaction]) -> bool:
-        """Puts all valid triples that are new into the table; whether there was one."""
-        lines = []
-        for tx in transactions:
-            for place, spends in enumerate(tx.inputs):
-                spent = self._scripts.get((spends.id, spends.index))
-                if spent is None:
-                    continue
-                for triple in asked(tx, place, spent) - self._valid - self._refused:
-                    if self._secp.valid(triple):
-                        self._valid.add(triple)
-                        lines.append(triple.line)
-                    else:
-                        self._refused.add(triple)
-        self.table += b"" if not self.table or self.table.endswith(b"\n") else b"\n"
-        self.table += "".join(lines).encode()
-        return bool(lines)
-
-    def _replay(self) -> None:
-        """Opens a chainstate with the table as it is now, and takes all commands again."""
+    def _learn(self, read: Read) -> None:
+        """Gets the valid signatures of a block into the table, by a replay where it lacks one."""
+        found = self._new_triples(read)
+        if not found:
+            return
+        between = b"" if not self.table or self.table.endswith(b"\n") else b"\n"
+        table = self.table + between + "".join(sorted(triple.line for triple in found)).encode()
         begun = time.perf_counter()
-        chain = Chainstate(self.heights, self.table)
-        for place, entry in enumerate(self.journal):
-            if entry.command == "submit":
-                reply = chain.try_submit(entry.data, entry.now)
-            else:
-                reply = chain.try_mark(entry.command, entry.data)
-            if reply.text != entry.reply:
-                chain.close()
-                raise errors.ReplayDiffers(place, entry.reply, reply.text)
-        self.chain.close()
-        self.chain = chain
+        chain, old = self._replayed(table), self.chain
+        # From here on nothing fails.
+        self.chain, self.table, self._valid = chain, table, self._valid | found
         self.replays += 1
         self.seconds = time.perf_counter() - begun
+        old.close()
+
+    def _new_triples(self, read: Read) -> Set[Triple]:
+        """All valid triples of a block that the table lacks."""
+        made: Dict[bytes, Transaction] = {}
+        found: Set[Triple] = set()
+        refused: Set[Triple] = set()
+        for id, tx in zip(read.ids, read.block.transactions):
+            for place, spends in enumerate(tx.inputs):
+                spent = made.get(spends.id) or self.transaction(spends.id)
+                if spent is None or spends.index >= len(spent.outputs):
+                    continue
+                new = asked(tx, place, spent.outputs[spends.index].script) - self._valid - found - refused
+                valid = {triple for triple in new if self._secp.valid(triple)}
+                found |= valid
+                refused |= new - valid
+            made[id] = tx
+        return found
+
+    def _replayed(self, table: bytes) -> Chainstate:
+        """A new chainstate of this table that took all commands of the journal."""
+        chain = Chainstate(self.heights, table)
+        try:
+            for place, entry in enumerate(self.journal):
+                if entry.command == "submit":
+                    reply = chain.try_submit(self.chain.block(entry.id) or b"", entry.now)
+                else:
+                    reply = chain.try_mark(entry.command, entry.id)
+                if reply.text != entry.reply:
+                    raise errors.ReplayDiffers(place, entry.reply, reply.text)
+        except BaseException:
+            chain.close()
+            raise
+        return chain
+
+
+def _read(data: bytes) -> Optional[Read]:
+    """The block of these bytes, or None."""
+    try:
+        block = read_block(data)
+    except EncodingError:
+        return None
+    return Read(data, block, [tx.id for tx in block.transactions])

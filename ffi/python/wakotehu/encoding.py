@@ -19,9 +19,14 @@ def double_sha(data: bytes) -> bytes:
     return hashlib.sha256(hashlib.sha256(data).digest()).digest()
 
 
+def hash160(data: bytes) -> bytes:
+    """RIPEMD-160 of SHA-256, by which public keys and scripts are named."""
+    return hashlib.new("ripemd160", hashlib.sha256(data).digest()).digest()
+
+
 class Input(NamedTuple):
     id: bytes
-    index: int
+    index: int  # type: ignore[assignment]  # tuples have a method of this name, which no one asks of an input
     script: bytes
     sequence: int
 
@@ -99,7 +104,7 @@ class _Reader:
         return self.data[self.at - count : self.at]
 
     def number(self, form: str) -> int:
-        return struct.unpack(form, self.take(struct.calcsize(form)))[0]
+        return int(struct.unpack(form, self.take(struct.calcsize(form)))[0])
 
     def count(self) -> int:
         first = self.number("<B")
@@ -138,6 +143,17 @@ def read_block(data: bytes) -> Block:
     found = Block(header, [reader.transaction() for _ in range(reader.count())])
     reader.end()
     return found
+
+
+def transaction_places(data: bytes) -> List[Tuple[int, int]]:
+    """Where each transaction of a block begins and ends."""
+    reader, places = _Reader(data), []
+    reader.header()
+    for _ in range(reader.count()):
+        begin = reader.at
+        reader.transaction()
+        places.append((begin, reader.at))
+    return places
 
 
 # ---- writing

@@ -48,7 +48,7 @@ def asked(tx: Transaction, input: int, spent: bytes) -> Set[Triple]:
     found = {data for script in scripts for data in pushes(script)}
     keys = [data for data in found if len(data) in (33, 65)]
     signatures = sorted(data for data in found if 9 <= len(data) <= 520 and data[0] == 0x30)
-    triples = set()
+    triples: Set[Triple] = set()
     for signature in signatures:
         for code in signed_codes(scripts, signature, signatures):
             digest = signature_digest(tx, input, code, signature[-1])
