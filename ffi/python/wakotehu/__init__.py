@@ -10,8 +10,10 @@ from .errors import (
     BadTable, Busy, Closed, DecodeFailed, Error, Genesis, LibraryMissing, NotFound, Rejected, ReplayDiffers, TooMany,
     TreeFull,
 )  # fmt: skip
+from .version import __version__
 
 __all__ = [
     "REGTEST", "BadTable", "Bench", "Busy", "Chainstate", "Closed", "Coin", "DecodeFailed", "Error", "Genesis",
-    "LibraryMissing", "NotFound", "Rejected", "ReplayDiffers", "Reply", "Tip", "TooMany", "TreeFull", "read_id", "show",
+    "LibraryMissing", "NotFound", "Rejected", "ReplayDiffers", "Reply", "Tip", "TooMany", "TreeFull", "__version__", "read_id",
+    "show",
 ]  # fmt: skip

@@ -156,6 +156,15 @@ def transaction_places(data: bytes) -> List[Tuple[int, int]]:
     return places
 
 
+def block_length(data: bytes) -> int:
+    """How many bytes the block at the front has."""
+    reader = _Reader(data)
+    reader.header()
+    for _ in range(reader.count()):
+        reader.transaction()
+    return reader.at
+
+
 # ---- writing
 
 

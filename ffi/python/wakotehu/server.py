@@ -1,417 +1,194 @@
 """A server on the loopback that answers the calls of bitcoind's JSON-RPC, over a `Bench`.
 
-    python3 -m wakotehu.server --port 18443
+    wakotehu-server -datadir=/tmp/bench
 """
 
 import argparse
-import base64
-import json
-import re
+import os
+import signal
+import sys
+import threading
 import time
-from http.server import BaseHTTPRequestHandler, HTTPServer
 from typing import Any, Callable, Dict, List, Optional, Sequence, Tuple
 
 from .bench import Bench
-from .chainstate import REGTEST, read_id, show
-from .encoding import (
-    GENESIS, GENESIS_BLOCK, EncodingError, Header, Transaction, coinbase, double_sha, mine, read_block,
-    read_transaction, subsidy, write_header, write_transaction,
-)  # fmt: skip
+from .chainstate import REGTEST
+from .errors import Error
+from .rpc import blockchain, control, mining, stats, txs
+from .rpc.auth import Gate, write_cookie
+from .rpc.datadir import BadFolder, Folder
+from .rpc.http import LOOPBACK, Server
+from .rpc.jsonrpc import answer
+from .rpc.node import Node, run
+from .version import __version__
 
-# Bitcoin Core's codes.
-MISC_ERROR, TYPE_ERROR, INVALID_ADDRESS_OR_KEY, INVALID_PARAMETER = -1, -3, -5, -8
-DESERIALIZATION_ERROR, VERIFY_ERROR = -22, -25
-INVALID_REQUEST, METHOD_NOT_FOUND, PARSE_ERROR = -32600, -32601, -32700
-
-
-class RpcError(Exception):
-    """A call that is answered by an error."""
-
-    def __init__(self, code: int, message: str) -> None:
-        super().__init__(message)
-        self.code = code
+#: The modules that put calls into the table.
+MODULES = (blockchain, control, mining, stats, txs)
+#: Names of soft forks for -testactivationheight, by their places in the heights; csv has BIPs 68, 112 and 113.
+FORKS = {"bip34": 0, "cltv": 1, "bip65": 1, "dersig": 2, "bip66": 2, "csv": 3}
 
 
-def _hash(value: Any) -> bytes:
-    if not isinstance(value, str):
-        raise RpcError(TYPE_ERROR, "JSON value is not a string as expected")
-    if len(value) != 64:
-        raise RpcError(INVALID_PARAMETER, f"blockhash must be of length 64 (not {len(value)}, for '{value}')")
-    if not re.fullmatch("[0-9a-fA-F]*", value):
-        raise RpcError(INVALID_PARAMETER, f"blockhash must be hexadecimal string (not '{value}')")
-    return read_id(value)
+def serve(
+    node: Node, gate: Gate, hosts: Sequence[str] = ("127.0.0.1",), port: int = 0,
+    ready: Optional[Callable[[int], None]] = None,
+) -> None:  # fmt: skip
+    """Serves until `stop` is called. Port 0 is any that is free."""
 
+    def answered(body: bytes) -> Tuple[int, bytes]:
+        return answer(lambda method, params: run(node, method, params), body)
 
-def _number(value: Any) -> int:
-    if not isinstance(value, int) or isinstance(value, bool):
-        raise RpcError(TYPE_ERROR, "JSON value is not an integer as expected")
-    return value
-
-
-def _bytes(value: Any, what: str) -> bytes:
-    if not isinstance(value, str):
-        raise RpcError(TYPE_ERROR, "JSON value is not a string as expected")
-    if len(value) % 2 or not re.fullmatch("[0-9a-fA-F]*", value):
-        raise RpcError(DESERIALIZATION_ERROR, f"{what} decode failed")
-    return bytes.fromhex(value)
-
-
-def _coins(satoshis: int) -> "_Amount":
-    return _Amount(satoshis)
-
-
-class _Amount(float):
-    """An amount of bitcoin, printed with eight digits as Bitcoin Core does."""
-
-    def __new__(cls, satoshis: int) -> "_Amount":
-        made = super().__new__(cls, satoshis / 100000000)
-        made.text = f"{satoshis // 100000000}.{satoshis % 100000000:08}"  # type: ignore[attr-defined]
-        return made
-
-    def __repr__(self) -> str:
-        return self.text  # type: ignore[attr-defined]
-
-
-def _base58(text: str) -> bytes:
-    digits = "123456789ABCDEFGHJKLMNPQRSTUVWXYZabcdefghijkmnopqrstuvwxyz"
-    number = 0
-    for digit in text:
-        if digit not in digits:
-            raise RpcError(INVALID_ADDRESS_OR_KEY, "Error: Invalid address or descriptor")
-        number = number * 58 + digits.index(digit)
-    data = number.to_bytes(25, "big") if number < 2**200 else b""
-    if len(data) != 25 or double_sha(data[:21])[:4] != data[21:]:
-        raise RpcError(INVALID_ADDRESS_OR_KEY, "Error: Invalid address or descriptor")
-    return data[:21]
-
-
-def output_script(output: Any) -> bytes:
-    """The script of `raw(HEX)`, or of an address of regtest to a key or a script."""
-    if not isinstance(output, str):
-        raise RpcError(TYPE_ERROR, "JSON value is not a string as expected")
-    raw = re.fullmatch(r"raw\(((?:[0-9a-fA-F]{2})+)\)(#\w{8})?", output)
-    if raw:
-        return bytes.fromhex(raw[1])
-    data = _base58(output)
-    if data[0] == 111:
-        return b"\x76\xa9\x14" + data[1:] + b"\x88\xac"
-    if data[0] == 196:
-        return b"\xa9\x14" + data[1:] + b"\x87"
-    raise RpcError(INVALID_ADDRESS_OR_KEY, "Error: Invalid address or descriptor")
-
-
-class Calls:
-    """The calls, by their names."""
-
-    def __init__(self, bench: Bench) -> None:
-        self.bench = bench
-        self.mocked = 0
-        self.stopped = False
-
-    def call(self, method: Any, params: Any) -> Any:
-        """The result of a call, or an `RpcError`."""
-        if not isinstance(method, str):
-            raise RpcError(INVALID_REQUEST, "Method must be a string")
-        found = getattr(self, f"rpc_{method}", None)
-        if found is None:
-            raise RpcError(METHOD_NOT_FOUND, "Method not found")
-        if params is None:
-            params = []
-        try:
-            return found(**params) if isinstance(params, dict) else found(*params)
-        except TypeError as error:
-            if "positional argument" in str(error) or "keyword argument" in str(error):
-                raise RpcError(MISC_ERROR, f"{method}: wrong arguments")
-            raise
-
-    # ---- helpers
-
-    def _now(self) -> int:
-        return self.mocked or int(time.time())
-
-    def _ids(self) -> List[bytes]:
-        """The active branch, by height."""
-        return [GENESIS.id] + self.bench.branch()
-
-    def _header(self, id: bytes) -> Header:
-        return read_block(self._block(id)).header
-
-    def _block(self, id: bytes) -> bytes:
-        if id == GENESIS.id:
-            return GENESIS_BLOCK
-        data = self.bench.block(id)
-        if data is None or not self.bench.is_kept(id):
-            raise RpcError(INVALID_ADDRESS_OR_KEY, "Block not found")
-        return data
-
-    def _branch(self, id: bytes) -> List[bytes]:
-        return [GENESIS.id] + self.bench.branch(id)
-
-    def _median(self, branch: Sequence[bytes]) -> int:
-        times = sorted(self._header(id).time for id in branch[-11:])
-        return times[len(times) // 2]
-
-    def _header_fields(self, id: bytes) -> Dict[str, Any]:
-        header, branch, active = self._header(id), self._branch(id), self._ids()
-        height = len(branch) - 1
-        is_active = height < len(active) and active[height] == id
-        fields: Dict[str, Any] = {
-            "hash": show(id),
-            "confirmations": len(active) - height if is_active else -1,
-            "height": height,
-            "version": header.version,
-            "versionHex": f"{header.version & 0xFFFFFFFF:08x}",
-            "merkleroot": show(header.root),
-            "time": header.time,
-            "mediantime": self._median(branch),
-            "nonce": header.nonce,
-            "bits": f"{header.bits:08x}",
-            "difficulty": 4.656542373906925e-10,
-            # Each block of regtest counts for 2.
-            "chainwork": f"{2 * len(branch):064x}",
-            "nTx": len(read_block(self._block(id)).transactions),
-        }
-        if height:
-            fields["previousblockhash"] = show(header.parent)
-        if is_active and height + 1 < len(active):
-            fields["nextblockhash"] = show(active[height + 1])
-        return fields
-
-    def _mark(self, command: str, blockhash: Any) -> None:
-        reply = self.bench.try_mark(command, _hash(blockhash))
-        if reply.reply == "not-found":
-            raise RpcError(INVALID_ADDRESS_OR_KEY, "Block not found")
-        if reply.reply == "genesis":
-            raise RpcError(MISC_ERROR, "genesis block can't be marked")
-
-    # ---- the calls
-
-    def rpc_submitblock(self, hexdata: Any, dummy: Any = None) -> Optional[str]:
-        data = _bytes(hexdata, "Block")
-        reply = self.bench.try_submit(data, self._now())
-        if reply.reply == "decode-failed":
-            raise RpcError(DESERIALIZATION_ERROR, "Block decode failed")
-        if reply.reply == "accepted":
-            return None
-        # Bitcoin Core names no input.
-        return reply.reason or reply.reply
-
-    def rpc_getbestblockhash(self) -> str:
-        return show(self.bench.best())
-
-    def rpc_getblockcount(self) -> int:
-        return self.bench.height()
-
-    def rpc_getblockhash(self, height: Any) -> str:
-        ids, height = self._ids(), _number(height)
-        if not 0 <= height < len(ids):
-            raise RpcError(INVALID_PARAMETER, "Block height out of range")
-        return show(ids[height])
-
-    def rpc_getblockheader(self, blockhash: Any, verbose: Any = True) -> Any:
-        id = _hash(blockhash)
-        header = self._header(id)
-        return self._header_fields(id) if verbose else write_header(header).hex()
-
-    def rpc_getblock(self, blockhash: Any, verbosity: Any = 1) -> Any:
-        id = _hash(blockhash)
-        data = self._block(id)
-        if verbosity in (0, False):
-            return data.hex()
-        if verbosity not in (1, True):
-            raise RpcError(INVALID_PARAMETER, "verbosity is 0 or 1")
-        block = read_block(data)
-        size = len(data)
-        return {
-            **self._header_fields(id),
-            "strippedsize": size,
-            "size": size,
-            "weight": 4 * size,
-            "tx": [show(tx.id) for tx in block.transactions],
-        }
-
-    def rpc_getchaintips(self) -> List[Dict[str, Any]]:
-        return [
-            {"height": tip.height, "hash": show(tip.id), "branchlen": tip.length, "status": tip.status}
-            for tip in self.bench.tips()
-        ]
-
-    def rpc_gettxout(self, txid: Any, n: Any, include_mempool: Any = True) -> Optional[Dict[str, Any]]:
-        coin = self.bench.coin(_hash(txid), _number(n)) if _number(n) >= 0 else None
-        if coin is None:
-            return None
-        return {
-            "bestblock": show(self.bench.best()),
-            "confirmations": self.bench.height() - coin.height + 1,
-            "value": _coins(coin.value),
-            "scriptPubKey": {"hex": coin.script.hex()},
-            "coinbase": coin.coinbase,
-        }
-
-    def rpc_invalidateblock(self, blockhash: Any) -> None:
-        self._mark("invalidate", blockhash)
-
-    def rpc_reconsiderblock(self, blockhash: Any) -> None:
-        self._mark("reconsider", blockhash)
-
-    def rpc_preciousblock(self, blockhash: Any) -> None:
-        self._mark("precious", blockhash)
-
-    def rpc_generateblock(self, output: Any, transactions: Any, submit: Any = True) -> Dict[str, Any]:
-        script = output_script(output)
-        if not isinstance(transactions, list):
-            raise RpcError(TYPE_ERROR, "JSON value is not an array as expected")
-        made = [self._raw_transaction(raw) for raw in transactions]
-        ids, height = self._ids(), self.bench.height() + 1
-        block = mine(
-            self.bench.best(),
-            max(self._median(ids) + 1, self._now()),
-            [coinbase(height, subsidy(height) + self._fees(made), script, self._extra()), *made],
-        )
-        if submit:
-            reply = self.bench.try_submit(block, self._now())
-            if reply.reply not in ("accepted", "inconclusive"):
-                raise RpcError(VERIFY_ERROR, f"TestBlockValidity failed: {reply.text}")
-        found = {"hash": show(read_block(block).header.id)}
-        return found if submit else {**found, "hex": block.hex()}
-
-    def _extra(self) -> bytes:
-        """What no coinbase before had, so that two blocks of one parent differ."""
-        return len(self.bench.journal).to_bytes(4, "little")
-
-    def _raw_transaction(self, raw: Any) -> Transaction:
-        try:
-            return read_transaction(_bytes(raw, "Transaction"))
-        except EncodingError:
-            message = f"Transaction decode failed for {raw}. Make sure the tx has at least one input."
-            raise RpcError(DESERIALIZATION_ERROR, message)
-
-    def _fees(self, transactions: Sequence[Transaction]) -> int:
-        """What the transactions leave to the coinbase; nothing where an output that they spend isn't known."""
-        made: Dict[Tuple[bytes, int], int] = {}
-        fees = 0
-        for tx in transactions:
-            for spends in tx.inputs:
-                coin = self.bench.coin(spends.id, spends.index)
-                known = coin.value if coin else made.get((spends.id, spends.index))
-                if known is None:
-                    return 0
-                fees += known
-            name = tx.id
-            for index, out in enumerate(tx.outputs):
-                made[name, index] = out.value
-                fees -= out.value
-        return max(fees, 0)
-
-    def rpc_setmocktime(self, timestamp: Any) -> None:
-        if _number(timestamp) < 0:
-            raise RpcError(INVALID_PARAMETER, "Mocktime must be in the range [0, 9223372036]")
-        self.mocked = timestamp
-
-    def rpc_getblockchaininfo(self) -> Dict[str, Any]:
-        ids = self._ids()
-        return {
-            "chain": "regtest",
-            "blocks": len(ids) - 1,
-            "headers": max(tip.height for tip in self.bench.tips()),
-            "bestblockhash": show(ids[-1]),
-            "difficulty": 4.656542373906925e-10,
-            "time": self._header(ids[-1]).time,
-            "mediantime": self._median(ids),
-            "verificationprogress": 1,
-            "initialblockdownload": False,
-            "chainwork": f"{2 * len(ids):064x}",
-            "size_on_disk": sum(len(self._block(id)) for id in ids),
-            "pruned": False,
-            "warnings": "",
-        }
-
-    def rpc_stop(self) -> str:
-        self.stopped = True
-        return "Wakotehu stopping"
-
-
-class _Encoder(json.JSONEncoder):
-    def iterencode(self, o: Any, _one_shot: bool = False) -> Any:
-        # Amounts are floats with a text of their own.
-        return json.encoder._make_iterencode(  # type: ignore[attr-defined]
-            None, self.default, json.encoder.encode_basestring_ascii, None, lambda f: repr(f), ": ", ", ", False, False,
-            False,
-        )(o, 0)  # fmt: skip
-
-
-def answer(calls: Calls, body: bytes) -> Tuple[int, bytes]:
-    """The HTTP status and the body that answer a request's body: one call, or a list of them."""
+    servers: List[Server] = []
     try:
-        request = json.loads(body)
-    except ValueError:
-        return 500, _written(_reply(None, error=RpcError(PARSE_ERROR, "Parse error")))
-    if isinstance(request, list):
-        return 200, _written([_one(calls, it)[1] for it in request])
-    status, reply = _one(calls, request)
-    return status, _written(reply)
-
-
-def _written(reply: Any) -> bytes:
-    return json.dumps(reply, cls=_Encoder).encode() + b"\n"
-
-
-def _reply(id: Any, result: Any = None, error: Optional[RpcError] = None) -> Dict[str, Any]:
-    return {"result": result, "error": error and {"code": error.code, "message": str(error)}, "id": id}
-
-
-def _one(calls: Calls, request: Any) -> Tuple[int, Dict[str, Any]]:
-    if not isinstance(request, dict):
-        return 400, _reply(None, error=RpcError(INVALID_REQUEST, "Invalid Request object"))
-    id = request.get("id")
-    try:
-        return 200, _reply(id, calls.call(request.get("method"), request.get("params")))
-    except RpcError as error:
-        return {INVALID_REQUEST: 400, METHOD_NOT_FOUND: 404}.get(error.code, 500), _reply(id, error=error)
-
-
-def serve(port: int, calls: Calls, user: str = "", ready: Optional[Callable[[int], None]] = None) -> None:
-    """Serves on the loopback until `stop` is called. `user` is NAME:PASSWORD; without one, anyone on this machine is
-    let in. Port 0 is any that is free."""
-    wanted = base64.b64encode(user.encode()).decode()
-
-    class Handler(BaseHTTPRequestHandler):
-        protocol_version = "HTTP/1.1"
-
-        def do_POST(self) -> None:
-            body = self.rfile.read(int(self.headers.get("Content-Length") or 0))
-            if user and self.headers.get("Authorization") != f"Basic {wanted}":
-                status, written = 401, b""
-            else:
-                status, written = answer(calls, body)
-            self.send_response(status)
-            self.send_header("Content-Type", "application/json")
-            self.send_header("Content-Length", str(len(written)))
-            # One call at a time, and a connection for each: a client that keeps one open holds up no other.
-            self.send_header("Connection", "close")
-            self.end_headers()
-            self.wfile.write(written)
-            self.close_connection = True
-
-        def log_message(self, format: str, *args: Any) -> None:
-            pass
-
-    with HTTPServer(("127.0.0.1", port), Handler) as server:
+        for host in hosts:
+            servers.append(Server(host, port or (servers[0].server_address[1] if servers else 0), gate, answered))
+            servers[-1].stopping = lambda: node.stopped
+        threads = [threading.Thread(target=server.serve_forever, args=(0.1,), daemon=True) for server in servers]
+        for thread in threads:
+            thread.start()
         if ready:
-            ready(server.server_port)
-        while not calls.stopped:
-            server.handle_request()
+            ready(servers[0].server_address[1])
+        with node.turn:
+            while not node.stopped:
+                node.turn.wait()
+        # The answer to `stop` is taken.
+        time.sleep(node.pause + 0.1)
+        for server in servers:
+            server.shutdown()
+    finally:
+        for server in servers:
+            server.server_close()
+        with node.turn:
+            node.stopped = True
+            node.saver.close()
+
+
+# ---- the command line
+
+
+class _Parser(argparse.ArgumentParser):
+    """Flags as bitcoind's: with one bar or two."""
+
+    def parse(self, words: Sequence[str]) -> argparse.Namespace:
+        return self.parse_args(["-" + word if _is_one_bar(word) else word for word in words])
+
+
+def _is_one_bar(word: str) -> bool:
+    return word.startswith("-") and not word.startswith("--") and len(word) > 2
+
+
+def _parser() -> _Parser:
+    parser = _Parser(
+        prog="wakotehu-server",
+        allow_abbrev=False,
+        description="Answers the calls of bitcoind's JSON-RPC on the loopback. Flags have one bar or two.",
+        epilog="A password is never a word of this command, where ps shows it: rpcuser, rpcpassword and rpcauth stand in"
+        " the file of -conf, or in WAKOTEHU_RPCUSER, WAKOTEHU_RPCPASSWORD and WAKOTEHU_RPCAUTH. Without them there is a"
+        " cookie, in the file that is printed.",
+    )
+    add = parser.add_argument
+    add("--datadir", metavar="D", help="keeps all commands in the folder D, and takes them again at the next start")
+    add("--fsync", action="store_true", help="has the disk asked to keep each command")
+    add("--regtest", action="store_true", help="as always")
+    add("--rpcport", "--port", dest="rpcport", metavar="N", help="18443 by default; 0 is any that is free")
+    add("--rpcbind", action="append", default=[], metavar="HOST", help="127.0.0.1, ::1 or localhost; given again for more")
+    add("--testactivationheight", action="append", default=[], metavar="FORK@N", help="bip34, cltv, dersig or csv")
+    add("--conf", metavar="F", help="a file with lines rpcuser=, rpcpassword=, rpcauth=")
+    add("--rpcuser", metavar="NAME", help="who is let in by WAKOTEHU_RPCPASSWORD, or by the password in the file of -conf")
+    add("--rpcpassword", help=argparse.SUPPRESS)
+    add("--rpcauth", action="append", default=[], metavar="NAME:SALT$HASH", help="who is let in, by a salted hash")
+    add("--rpccookiefile", metavar="F", help="where the cookie is written")
+    add("--no-auth", action="store_true", help="lets in everyone on this machine, without a password")
+    add("--version", action="version", version=__version__)
+    return parser
+
+
+def _given(words: Sequence[str]) -> argparse.Namespace:
+    parser = _parser()
+    if any(word.lstrip("-").partition("=")[0] == "port" and not word.startswith("--") for word in words):
+        parser.error("-port is that of bitcoind's peers, of which there are none here: -rpcport is the server's")
+    given = parser.parse(words)
+    if given.rpcpassword is not None:
+        parser.error("-rpcpassword would be shown by ps: put it into the file of -conf or into WAKOTEHU_RPCPASSWORD")
+    given.rpcport = _number(parser, given.rpcport or "18443", "-rpcport", 65535)
+    for host in given.rpcbind:
+        if host.strip("[]") not in LOOPBACK:
+            parser.error(f"-rpcbind={host} isn't an address of the loopback: the server answers this machine alone")
+    heights = list(REGTEST)
+    for it in given.testactivationheight:
+        fork, _, number = it.partition("@")
+        if fork not in FORKS:
+            parser.error(f"-testactivationheight={it}: forks are bip34, cltv (bip65), dersig (bip66) and csv")
+        heights[FORKS[fork]] = _number(parser, number, "-testactivationheight", 2**32 - 1)
+    given.heights = tuple(heights) if given.testactivationheight else None
+    return given
+
+
+def _number(parser: argparse.ArgumentParser, word: str, flag: str, most: int) -> int:
+    if not (word.isascii() and word.isdigit()) or int(word) > most:
+        parser.error(f"{flag} is a number from 0 to {most}")
+    return int(word)
+
+
+def _gate(given: argparse.Namespace) -> Tuple[Gate, Optional[str]]:
+    """Who is let in, and the file of the cookie where there is one."""
+    gate = Gate(anyone=given.no_auth)
+    found = _settings(given.conf)
+    user = given.rpcuser or found["rpcuser"][-1:] or os.environ.get("WAKOTEHU_RPCUSER", "")
+    user = user[0] if isinstance(user, list) else user
+    password = "".join(found["rpcpassword"][-1:]) or os.environ.get("WAKOTEHU_RPCPASSWORD", "")
+    if password:
+        gate.add(user, password)
+    elif user:
+        raise BadFolder("there is a user without a password: see --help")
+    salted = given.rpcauth + found["rpcauth"] + os.environ.get("WAKOTEHU_RPCAUTH", "").split()
+    for line in salted:
+        gate.add_salted(line)
+    if password or salted or given.no_auth:
+        return gate, None
+    folder = given.datadir or os.path.expanduser("~/.wakotehu")
+    path = given.rpccookiefile or os.path.join(folder, ".cookie")
+    os.makedirs(os.path.dirname(path) or ".", mode=0o700, exist_ok=True)
+    gate.add("__cookie__", write_cookie(path))
+    return gate, path
+
+
+def _settings(path: Optional[str]) -> Dict[str, List[str]]:
+    """The lines of a file as bitcoin.conf that are asked for here."""
+    found: Dict[str, List[str]] = {"rpcuser": [], "rpcpassword": [], "rpcauth": []}
+    if path:
+        with open(path, encoding="utf-8") as file:
+            for line in file:
+                name, _, value = line.strip().partition("=")
+                if name.strip() in found:
+                    found[name.strip()].append(value.strip())
+    return found
 
 
 def main(words: Optional[Sequence[str]] = None) -> None:
     """The command."""
-    parser = argparse.ArgumentParser(prog="python3 -m wakotehu.server", description="Answers bitcoind's JSON-RPC.")
-    parser.add_argument("--port", type=int, default=18443, help="on the loopback (18443)")
-    parser.add_argument("--heights", default=",".join(map(str, REGTEST)), help="of BIPs 34, 65, 66 and 68 (1,1,1,1)")
-    parser.add_argument("--user", default="", metavar="NAME:PASSWORD", help="who is let in; anyone, without this")
-    given = parser.parse_args(words)
-    with Bench([int(word) for word in given.heights.split(",")]) as bench:
-        serve(given.port, Calls(bench), given.user, lambda port: print(f"127.0.0.1:{port}", flush=True))
+    given = _given(sys.argv[1:] if words is None else words)
+    cookie = None
+    signal.signal(signal.SIGTERM, signal.default_int_handler)
+    try:
+        folder = Folder(given.datadir, given.fsync) if given.datadir else None
+        gate, cookie = _gate(given)
+        heights = folder.heights(given.heights, REGTEST) if folder else given.heights or REGTEST
+        with Bench(heights, folder.table() if folder else b"") as bench:
+            if folder:
+                print(f"{folder.replay(bench)} commands of {given.datadir} were taken again", flush=True)
+            hosts = list(dict.fromkeys(host.strip("[]") for host in given.rpcbind)) or ["127.0.0.1"]
+
+            def ready(port: int) -> None:
+                print(f"127.0.0.1:{port}" + (f" cookie {cookie}" if cookie else ""), flush=True)
+
+            serve(Node(bench, folder), gate, hosts, given.rpcport, ready)
+    except (BadFolder, Error, OSError, ValueError) as error:
+        sys.exit(f"wakotehu-server: {error}")
+    except KeyboardInterrupt:
+        pass
+    finally:
+        if cookie and os.path.exists(cookie):
+            os.unlink(cookie)
 
 
 if __name__ == "__main__":

@@ -1,0 +1,66 @@
+"""Servers that tests run."""
+
+import base64
+import json
+import socket
+import threading
+
+from wakotehu import Bench
+from wakotehu.rpc.auth import Gate
+from wakotehu.rpc.node import Node
+from wakotehu.server import serve
+
+AUTHORIZATION = "Basic " + base64.b64encode(b"name:password").decode()
+
+
+class Running:
+    """A server on a port that is free, which lets in `name` by `password`."""
+
+    def __init__(self, bench=None, saver=None, gate=None, hosts=("127.0.0.1",)):
+        self.bench = bench or Bench()
+        self.node = Node(self.bench, saver)
+        if gate is None:
+            gate = Gate()
+            gate.add("name", "password")
+        ports, ready = [], threading.Event()
+
+        def told(port):
+            ports.append(port)
+            ready.set()
+
+        self.thread = threading.Thread(target=serve, args=(self.node, gate, hosts, 0, told))
+        self.thread.start()
+        assert ready.wait(10)
+        self.port = ports[0]
+
+    def stop(self):
+        with self.node.turn:
+            self.node.stopped = True
+            self.node.turn.notify_all()
+        self.thread.join()
+        self.bench.close()
+
+    def raw(self, data, timeout=5, close=True):
+        """What is answered to these bytes, until the connection is closed."""
+        with socket.create_connection(("127.0.0.1", self.port), timeout) as connection:
+            connection.sendall(data)
+            if close:
+                connection.shutdown(socket.SHUT_WR)
+            return b"".join(iter(lambda: connection.recv(65536), b""))
+
+    def posted(self, body, **headers):
+        """The status and the body of an answer to a request's body. A header of None isn't sent."""
+        if not isinstance(body, bytes):
+            body = json.dumps(body).encode()
+        named = {"Host": "127.0.0.1", "Authorization": AUTHORIZATION, "Content-Length": str(len(body))}
+        named.update({name.replace("_", "-"): value for name, value in headers.items()})
+        lines = "".join(f"{name}: {value}\r\n" for name, value in named.items() if value is not None)
+        answer = self.raw(f"POST / HTTP/1.1\r\n{lines}\r\n".encode() + body)
+        head, _, rest = answer.partition(b"\r\n\r\n")
+        return int(head.split()[1]), rest
+
+    def call(self, method, *params, **named):
+        """The result of a call, or its error."""
+        _, body = self.posted({"method": method, "params": named or list(params), "id": 1})
+        reply = json.loads(body)
+        return reply["error"] or reply["result"]

@@ -1,0 +1,291 @@
+"""The calls: faults beside those of Bitcoin Core 0.21, what blocks and scripts look like, and chains that are marked.
+
+faults.json has faults as a program of Bitcoin Core 0.21's code answered them (Debian's litecoind 0.21.2.1, on a chain of
+genesis alone): the call, the HTTP status, the code and the text.
+"""
+
+import json
+import os
+import shutil
+import subprocess
+import tempfile
+import unittest
+
+from blocks import Maker, block_id, spend
+from servers import Running
+from wakotehu import show
+from wakotehu.encoding import GENESIS, GENESIS_BLOCK, Input, Output, Transaction, write_transaction
+
+HERE = os.path.dirname(os.path.abspath(__file__))
+
+
+class CallsTest(unittest.TestCase):
+    def setUp(self):
+        self.running = Running()
+        self.addCleanup(self.running.stop)
+        self.call = self.running.call
+        self.maker = Maker()
+
+    def submit(self, block):
+        return self.call("submitblock", block.hex())
+
+    def mined(self, count):
+        return self.call("generatetodescriptor", count, "raw(51)")
+
+
+class FaultsTest(CallsTest):
+    def test_faults_are_those_of_bitcoin_core(self):
+        with open(os.path.join(HERE, "faults.json"), encoding="ascii") as file:
+            rows = json.load(file)
+        self.assertGreater(len(rows), 70)
+        genesis = show(GENESIS.id)
+        for words, status, code, message in rows:
+            with self.subTest(words=words):
+                name, *params = [genesis if word == "GENESIS" else word for word in words]
+                found, body = self.running.posted({"method": name, "params": params})
+                error = json.loads(body)["error"]
+                self.assertEqual((found, error["code"], error["message"]), (status, code, message))
+
+    def test_wrong_counts_of_parameters_are_told_by_the_usage(self):
+        for words in (["getblockhash"], ["getblockhash", 1, 2], ["uptime", 1], ["getblock"], ["gettxout", "00" * 32]):
+            error = self.call(*words)
+            self.assertEqual(error["code"], -1)
+            self.assertTrue(error["message"].startswith(words[0]))
+
+
+class RequestsTest(CallsTest):
+    def test_names_and_nulls(self):
+        genesis = show(GENESIS.id)
+        self.assertEqual(self.call("getblockhash", height=0), genesis)
+        self.assertEqual(self.call("getblock", blockhash=genesis, verbosity=0), GENESIS_BLOCK.hex())
+        self.assertEqual(self.call("getblock", blockhash=genesis, verbose=False), GENESIS_BLOCK.hex())
+        self.assertEqual(self.call("getblock", genesis, None), self.call("getblock", genesis))
+        self.assertEqual(self.call("getblockheader", genesis, None), self.call("getblockheader", genesis, True))
+        self.assertIsNone(self.call("gettxout", "00" * 32, 0, None))
+        self.assertEqual(self.call("uptime", None, None, None), self.call("uptime"))
+
+    def test_versions_and_batches(self):
+        cases = [
+            ({"method": "getblockcount", "id": 1}, 200, {"result": 0, "error": None, "id": 1}),
+            ({"method": "getblockcount"}, 200, {"result": 0, "error": None, "id": None}),
+            ({"jsonrpc": "1.0", "method": "x", "id": "a"}, 404,
+             {"result": None, "error": {"code": -32601, "message": "Method not found"}, "id": "a"}),
+            ({"jsonrpc": "2.0", "method": "getblockcount", "id": 1}, 200, {"jsonrpc": "2.0", "result": 0, "id": 1}),
+            ({"jsonrpc": "2.0", "method": "x", "id": 1}, 200,
+             {"jsonrpc": "2.0", "error": {"code": -32601, "message": "Method not found"}, "id": 1}),
+            ([], 200, []),
+            ([{"method": "getblockcount", "id": 1}, 5], 200,
+             [{"result": 0, "error": None, "id": 1},
+              {"result": None, "error": {"code": -32600, "message": "Invalid Request object"}, "id": None}]),
+        ]  # fmt: skip
+        for request, status, reply in cases:
+            with self.subTest(request=request):
+                found, body = self.running.posted(request)
+                self.assertEqual((found, json.loads(body)), (status, reply))
+        self.assertEqual(self.running.posted({"jsonrpc": "2.0", "method": "getblockcount"}), (204, b""))
+        self.assertEqual(self.running.posted([{"jsonrpc": "2.0", "method": "getblockcount"}]), (204, b""))
+
+
+class SubmitTest(CallsTest):
+    """The part of mining_basic that submits blocks."""
+
+    def test_words(self):
+        b1, b2 = self.maker.chain(2)
+        c1, c2, c3 = self.maker.chain(3, extra=b"c")
+        self.assertIsNone(self.submit(b1))
+        self.assertEqual(self.submit(b1), "duplicate")
+        self.assertEqual(self.submit(c2), "prev-blk-not-found")
+        self.assertEqual(self.submit(c2), "prev-blk-not-found")
+        self.assertEqual(self.submit(c1), "inconclusive")
+        # A block that is kept and was never connected.
+        self.assertEqual(self.submit(c1), "duplicate")
+        bad = self.maker.block(block_id(b1), more=1)
+        self.assertEqual(self.submit(bad), "bad-cb-amount")
+        self.assertEqual(self.submit(bad), "duplicate-invalid")
+        self.assertEqual(self.submit(self.maker.block(block_id(bad))), "bad-prevblk")
+        self.assertIsNone(self.submit(b2))
+
+    def test_bytes(self):
+        [b1] = self.maker.chain(1)
+        for bad in (b"", b1[:-1], b1[:80]):
+            error = self.submit(bad)
+            self.assertEqual((error["code"], error["message"]), (-22, "Block decode failed"))
+        for without in (b1[:80] + b"\0", b1[:80] + b"\1" + write_transaction(spend(bytes(31) + b"\1", 0, 1, b""))):
+            error = self.submit(without)
+            self.assertEqual((error["code"], error["message"]), (-22, "Block does not start with a coinbase"))
+        # What is left over isn't looked at.
+        self.assertIsNone(self.submit(b1 + b"left over"))
+        self.assertEqual(self.call("getblock", show(block_id(b1)), 0), b1.hex())
+
+    def test_headers(self):
+        b1, b2 = self.maker.chain(2)
+        self.assertEqual(self.call("submitheader", b2[:80].hex())["code"], -25)
+        self.assertIn("isn't supported", self.call("submitheader", b1[:80].hex())["message"])
+        self.submit(b1)
+        self.assertIsNone(self.call("submitheader", b1[:80].hex()))
+
+
+class MarksTest(CallsTest):
+    def test_rpc_invalidateblock(self):
+        """As Bitcoin Core's test of this name, on one node."""
+        ids = self.mined(4)
+        other = self.maker.chain(6, extra=b"o")
+        for block in other:
+            self.submit(block)
+        self.assertEqual(self.call("getbestblockhash"), show(block_id(other[5])))
+        self.call("invalidateblock", show(block_id(other[1])))
+        self.assertEqual(self.call("getblockcount"), 4)
+        self.assertEqual(self.call("getbestblockhash"), ids[3])
+        more = self.mined(1)
+        self.assertEqual(self.call("getblockcount"), 5)
+        self.call("invalidateblock", more[0])
+        self.call("invalidateblock", ids[0])
+        self.assertEqual(self.call("getbestblockhash"), show(block_id(other[0])))
+        # A descendant takes the marks from its ancestors, an ancestor from its descendants.
+        self.call("reconsiderblock", show(block_id(other[5])))
+        self.assertEqual(self.call("getblockcount"), 6)
+        self.call("invalidateblock", show(block_id(other[0])))
+        self.call("reconsiderblock", ids[0])
+        self.assertEqual(self.call("getbestblockhash"), more[0])
+
+    def test_rpc_preciousblock(self):
+        """As Bitcoin Core's test of this name: three branches of one height."""
+        branches = [self.maker.chain(2, extra=bytes([number])) for number in range(3)]
+        for block in sum(branches, []):
+            self.submit(block)
+        ends = [show(block_id(branch[-1])) for branch in branches]
+        self.assertEqual(self.call("getbestblockhash"), ends[0])
+        for place in (1, 2, 0, 0, 2):
+            self.assertIsNone(self.call("preciousblock", ends[place]))
+            self.assertEqual(self.call("getbestblockhash"), ends[place])
+        # Of a lower block it changes nothing.
+        self.call("preciousblock", show(block_id(branches[0][0])))
+        self.assertEqual(self.call("getbestblockhash"), ends[2])
+
+    def test_rpc_getchaintips(self):
+        """As Bitcoin Core's test of this name: a short fork beside a long one."""
+        short, long = self.maker.chain(10, extra=b"s"), self.maker.chain(20, extra=b"l")
+        for block in (*short, *long):
+            self.submit(block)
+        tips = self.call("getchaintips")
+        self.assertEqual(
+            tips,
+            [
+                {"height": 20, "hash": show(block_id(long[-1])), "branchlen": 0, "status": "active"},
+                {"height": 10, "hash": show(block_id(short[-1])), "branchlen": 10, "status": "valid-fork"},
+            ],
+        )
+
+
+class ShownTest(CallsTest):
+    def paid(self):
+        """Blocks of which the last one's transaction pays a fee of 1000."""
+        self.call("setmocktime", GENESIS.time + 600 * 200)
+        blocks = self.maker.chain(101)
+        for block in blocks:
+            self.submit(block)
+        coin = self.maker.coinbases[block_id(blocks[0])].id
+        tx = Transaction(2, [Input(coin, 0, b"", 5)], [Output(4999999000 - 7, b"\x52"), Output(7, b"\x6a\x01a")], 0)
+        [block] = [self.maker.block(block_id(blocks[-1]), [tx], more=1000)]
+        self.assertIsNone(self.submit(block))
+        return tx, block
+
+    def test_transactions(self):
+        tx, block = self.paid()
+        id = show(block_id(block))
+        shown = self.call("getblock", id, 2)["tx"][1]
+        self.assertEqual((shown["txid"], shown["fee"], shown["hex"]), (show(tx.id), 0.00001, write_transaction(tx).hex()))
+        self.assertEqual([out["scriptPubKey"]["type"] for out in shown["vout"]], ["nonstandard", "nulldata"])
+        self.assertEqual(shown["vout"][1]["scriptPubKey"]["asm"], "OP_RETURN 97")
+        raw = write_transaction(tx).hex()
+        self.assertEqual(self.call("getrawtransaction", show(tx.id), 0, id), raw)
+        self.assertEqual(self.call("getrawtransaction", show(tx.id), False, id), raw)
+        found = self.call("getrawtransaction", show(tx.id), 1, id)
+        self.assertEqual((found["confirmations"], found["blockhash"], found["in_active_chain"]), (1, id, True))
+        decoded = self.call("decoderawtransaction", raw)
+        self.assertEqual(decoded["vin"], shown["vin"])
+
+    def test_getblockstats(self):
+        tx, block = self.paid()
+        size = len(write_transaction(tx))
+        stats = self.call("getblockstats", 102)
+        wanted = {
+            "txs": 2, "ins": 1, "outs": 3, "totalfee": 1000, "avgfee": 1000, "total_size": size, "maxtxsize": size,
+            "avgfeerate": 1000 // size, "feerate_percentiles": [1000 // size] * 5, "utxo_increase": 2, "height": 102,
+            "subsidy": 5000000000, "total_out": 4999999000, "blockhash": show(block_id(block)),
+        }  # fmt: skip
+        self.assertEqual({name: stats[name] for name in wanted}, wanted)
+        self.assertEqual(self.call("getblockstats", show(block_id(block)), ["txs"]), {"txs": 2})
+        self.assertEqual(self.call("getblockstats", 102, ["x"])["code"], -8)
+
+    def test_all_coins(self):
+        tx, _ = self.paid()
+        info = self.call("gettxoutsetinfo")
+        self.assertEqual((info["txouts"], info["transactions"], info["total_amount"]), (102, 102, 5100 - 7e-8))
+        found = self.call("scantxoutset", "start", ["raw(52)"])
+        self.assertEqual((found["txouts"], len(found["unspents"])), (102, 1))
+        it = found["unspents"][0]
+        self.assertEqual((it["txid"], it["vout"], it["height"]), (show(tx.id), 0, 102))
+
+    def test_the_hash_of_all_coins_is_that_of_bitcoin_core(self):
+        """Of litecoind 0.21.2.1 (Bitcoin Core's code), on its genesis block alone."""
+        from wakotehu import read_id
+        from wakotehu.rpc.blockchain import coins_hash
+
+        best = read_id("530827f38f93b43ed12af0b3ad25a288dc02ed74d6d7857862df51fc56c416f9")
+        wanted = "badaac3f6458cdd07e1071244a498be4d5f5b61fcc2dd62db8c4b770a6aaf61a"
+        self.assertEqual(show(coins_hash(best, [])), wanted)
+
+    def test_scripts(self):
+        key = "02" + "79be667ef9dcbbac55a06295ce870b07029bfcdb2dce28d959f2815b16f81798"
+        table = [
+            ("", "", "nonstandard"), ("51", "1", "nonstandard"), ("4c", "[error]", "nonstandard"),
+            ("21" + key + "ac", key + " OP_CHECKSIG", "pubkey"),
+            ("76a914" + "11" * 20 + "88ac", "OP_DUP OP_HASH160 " + "11" * 20 + " OP_EQUALVERIFY OP_CHECKSIG",
+             "pubkeyhash"),
+            ("a914" + "11" * 20 + "87", "OP_HASH160 " + "11" * 20 + " OP_EQUAL", "scripthash"),
+            ("6a0568656c6c6f", "OP_RETURN 68656c6c6f", "nulldata"),
+            ("5121" + key + "51ae", "1 " + key + " 1 OP_CHECKMULTISIG", "multisig"),
+            ("0014" + "11" * 20, "0 " + "11" * 20, "witness_v0_keyhash"),
+            ("ff04ffffffff4f", "OP_UNKNOWN -2147483647 -1", "nonstandard"),
+        ]  # fmt: skip
+        for script, asm, kind in table:
+            with self.subTest(script=script):
+                found = self.call("decodescript", script)
+                self.assertEqual((found["asm"], found["type"]), (asm, kind))
+        # BIP 380's algorithm; the checksum is Bitcoin Core's.
+        self.assertEqual(self.call("generatetodescriptor", 0, "raw(51)#8lvh9jxk"), [])
+        self.assertEqual(self.call("generatetodescriptor", 0, "raw(51)#8lvh9jxx")["code"], -5)
+        self.assertEqual(self.call("decodescript", "51")["p2sh"], "2ND8PB9RrfCaAcjfjP1Y6nAgFd9zWHYX4DN")
+
+    def test_infos_let_clients_start(self):
+        for name in ("getmempoolinfo", "getnetworkinfo", "getmininginfo", "getblockchaininfo"):
+            self.assertNotIn("code", self.call(name))
+        self.assertEqual([self.call("getrawmempool"), self.call("getpeerinfo"), self.call("getconnectioncount")], [[], [], 0])
+        self.assertIn("getblockhash height", self.call("help"))
+        self.assertTrue(self.call("help", "getblock").startswith("getblock blockhash ( verbosity )"))
+
+
+class CommandLineTest(CallsTest):
+    @unittest.skipUnless(shutil.which("litecoin-cli") or shutil.which("bitcoin-cli"), "no client is installed")
+    def test_a_client_of_bitcoind(self):
+        client = shutil.which("bitcoin-cli") or shutil.which("litecoin-cli")
+        with tempfile.TemporaryDirectory() as folder:
+
+            def asked(*words):
+                command = [client, "-regtest", f"-datadir={folder}", f"-rpcport={self.running.port}"]
+                done = subprocess.run(
+                    [*command, "-rpcuser=name", "-rpcpassword=password", *words], capture_output=True, text=True
+                )
+                self.assertEqual(done.returncode, 0, done.stderr)
+                return done.stdout.strip()
+
+            self.assertEqual(json.loads(asked("-getinfo"))["blocks"], 0)
+            self.assertEqual(len(json.loads(asked("-generate", "3"))["blocks"]), 3)
+            self.assertEqual(asked("getblockcount"), "3")
+            self.assertEqual(asked("-named", "getblockhash", "height=0"), show(GENESIS.id))
+            self.assertIn("== Blockchain ==", asked("help"))
+
+
+if __name__ == "__main__":
+    unittest.main()

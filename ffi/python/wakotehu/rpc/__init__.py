@@ -1,0 +1,1 @@
+"""bitcoind's JSON-RPC over a `Bench`: who is let in, HTTP, requests, and the calls."""

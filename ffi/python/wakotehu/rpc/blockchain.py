@@ -1,0 +1,318 @@
+"""Calls that read and mark the chain."""
+
+import time
+from typing import Any, Callable, Dict, List, Optional
+
+from ..chainstate import show
+from ..encoding import double_sha, read_block, write_header
+from ..index import Kept
+from .errors import INVALID_ADDRESS_OR_KEY, INVALID_PARAMETER, MISC_ERROR, RpcError
+from .node import Node, call
+from .scripts import checksum, descriptor_script, shown
+from .txs import transaction_fields
+from .values import Amount, Object, array, boolean, digits, integer, shortened, text
+
+GROUP = "Blockchain"
+#: Of each block of regtest, whose work is 2.
+DIFFICULTY = 4.656542373906925e-10
+
+
+def work(height: int) -> str:
+    return f"{2 * (height + 1):064x}"
+
+
+@call(GROUP)
+def getbestblockhash(node: Node) -> str:
+    """The hash of the active block."""
+    return show(node.tip().id)
+
+
+@call(GROUP)
+def getblockcount(node: Node) -> int:
+    """The height of the active block."""
+    return node.tip().height
+
+
+@call(GROUP, "height", needed=1)
+def getblockhash(node: Node, height: Any) -> str:
+    """The hash of the active block of a height."""
+    found = node.bench.index.at(integer(height))
+    if found is None:
+        raise RpcError(INVALID_PARAMETER, "Block height out of range")
+    return show(found)
+
+
+def header_fields(node: Node, kept: Kept) -> Object:
+    """A header as calls show it."""
+    index, header, height = node.bench.index, kept.header, kept.height
+    active = index.is_active(kept.id)
+    fields: Object = {
+        "hash": show(kept.id),
+        "confirmations": node.tip().height - height + 1 if active else -1,
+        "height": height,
+        "version": header.version,
+        "versionHex": f"{header.version & 0xFFFFFFFF:08x}",
+        "merkleroot": show(header.root),
+        "time": header.time,
+        "mediantime": kept.median,
+        "nonce": header.nonce,
+        "bits": f"{header.bits:08x}",
+        "difficulty": DIFFICULTY,
+        "chainwork": work(height),
+        "nTx": kept.transactions,
+    }
+    if height:
+        fields["previousblockhash"] = show(header.parent)
+    after = index.at(height + 1) if active else None
+    if after is not None:
+        fields["nextblockhash"] = show(after)
+    return fields
+
+
+@call(GROUP, "blockhash", "verbose", needed=1)
+def getblockheader(node: Node, blockhash: Any, verbose: Any) -> Any:
+    """The header of a kept block; as digits where verbose is false."""
+    kept = node.kept(digits(blockhash, "hash"))
+    if verbose is None or boolean(verbose):
+        return header_fields(node, kept)
+    return write_header(kept.header).hex()
+
+
+@call(GROUP, "blockhash", "verbosity|verbose", needed=1)
+def getblock(node: Node, blockhash: Any, verbosity: Any) -> Any:
+    """A kept block: as digits (0), with the ids of its transactions (1), or with all of them (2)."""
+    id = digits(blockhash, "blockhash")
+    level = 1
+    if verbosity is not None:
+        number = isinstance(verbosity, (int, float)) and not isinstance(verbosity, bool)
+        level = integer(verbosity) if number else int(boolean(verbosity))
+    kept = node.kept(id)
+    data = node.data(id)
+    if level <= 0:
+        return data.hex()
+    txs = read_block(data).transactions
+    fields = header_fields(node, kept)
+    names = ("previousblockhash", "nextblockhash")
+    last = {name: fields.pop(name) for name in names if name in fields}
+    size = len(data)
+    fields.update(strippedsize=size, size=size, weight=4 * size)
+    fields["tx"] = [show(tx.id) if level == 1 else transaction_fields(node, tx, fee=True) for tx in txs]
+    return {**fields, **last}
+
+
+@call(GROUP)
+def getchaintips(node: Node) -> List[Object]:
+    """The tips, by height downwards, then as they came."""
+    return [
+        {"height": tip.height, "hash": show(tip.id), "branchlen": tip.length, "status": tip.status}
+        for tip in node.bench.tips()
+    ]
+
+
+@call(GROUP)
+def getdifficulty(node: Node) -> float:
+    """The difficulty, which is the same of each block of regtest."""
+    return DIFFICULTY
+
+
+@call(GROUP)
+def getblockchaininfo(node: Node) -> Object:
+    """The state of the chain."""
+    tip, index = node.tip(), node.bench.index
+    forks = zip(("bip34", "bip65", "bip66", "csv"), node.bench.heights)
+    return {
+        "chain": "regtest",
+        "blocks": tip.height,
+        "headers": max(found.height for found in node.bench.tips()),
+        "bestblockhash": show(tip.id),
+        "difficulty": DIFFICULTY,
+        "time": tip.header.time,
+        "mediantime": tip.median,
+        "verificationprogress": 1,
+        "initialblockdownload": False,
+        "chainwork": work(tip.height),
+        "size_on_disk": index.active_size,
+        "pruned": False,
+        "softforks": {
+            name: {"type": "buried", "active": tip.height + 1 >= height, "height": height} for name, height in forks
+        },
+        "warnings": "",
+    }
+
+
+@call(GROUP, "txid", "n", "include_mempool", needed=2)
+def gettxout(node: Node, txid: Any, n: Any, include_mempool: Any) -> Optional[Object]:
+    """An output that isn't spent, or null. There is no mempool."""
+    id, index = digits(txid, "txid"), integer(n)
+    if include_mempool is not None:
+        boolean(include_mempool)
+    coin = node.bench.coin(id, index) if index >= 0 else None
+    if coin is None:
+        return None
+    tip = node.tip()
+    return {
+        "bestblock": show(tip.id),
+        "confirmations": tip.height - coin.height + 1,
+        "value": Amount(coin.value),
+        "scriptPubKey": shown(coin.script),
+        "coinbase": coin.coinbase,
+    }
+
+
+# ---- marks
+
+
+def _mark(node: Node, command: str, blockhash: Any) -> None:
+    reply = node.mark(command, digits(blockhash, "blockhash"))
+    if reply.reply == "not-found":
+        raise RpcError(INVALID_ADDRESS_OR_KEY, "Block not found")
+    if reply.reply == "genesis":
+        raise RpcError(MISC_ERROR, "genesis block can't be marked")
+
+
+@call("Hidden", "blockhash", needed=1)
+def invalidateblock(node: Node, blockhash: Any) -> None:
+    """Marks a block as invalid."""
+    _mark(node, "invalidate", blockhash)
+
+
+@call("Hidden", "blockhash", needed=1)
+def reconsiderblock(node: Node, blockhash: Any) -> None:
+    """Takes the marks from a block, its ancestors and its descendants."""
+    _mark(node, "reconsider", blockhash)
+
+
+@call(GROUP, "blockhash", needed=1)
+def preciousblock(node: Node, blockhash: Any) -> None:
+    """Prefers a block to all that are as high."""
+    _mark(node, "precious", blockhash)
+
+
+# ---- waiting
+
+
+def _wait(node: Node, timeout: Any, holds: Callable[[], bool]) -> Object:
+    """Waits until it holds, so many milliseconds at most; without end where that is 0. Other calls go on meanwhile."""
+    limit = 0 if timeout is None else integer(timeout)
+    if limit < 0:
+        raise RpcError(MISC_ERROR, "Negative timeout")
+    until = time.monotonic() + limit / 1000
+    while not holds() and not node.stopped:
+        left = until - time.monotonic() if limit else None
+        if left is not None and left <= 0:
+            break
+        node.turn.wait(left)
+    return {"hash": show(node.tip().id), "height": node.tip().height}
+
+
+@call("Hidden", "timeout")
+def waitfornewblock(node: Node, timeout: Any) -> Object:
+    """Waits until another block is the active one, or for so many milliseconds."""
+    before = node.tip().id
+    return _wait(node, timeout, lambda: node.tip().id != before)
+
+
+@call("Hidden", "blockhash", "timeout", needed=1)
+def waitforblock(node: Node, blockhash: Any, timeout: Any) -> Object:
+    """Waits until a block is the active one, or for so many milliseconds."""
+    id = digits(blockhash, "blockhash")
+    return _wait(node, timeout, lambda: node.tip().id == id)
+
+
+@call("Hidden", "height", "timeout", needed=1)
+def waitforblockheight(node: Node, height: Any, timeout: Any) -> Object:
+    """Waits until the active block has at least a height, or for so many milliseconds."""
+    wanted = integer(height)
+    return _wait(node, timeout, lambda: node.tip().height >= wanted)
+
+
+# ---- all coins
+
+
+@call(GROUP, "hash_type")
+def gettxoutsetinfo(node: Node, hash_type: Any) -> Object:
+    """How many coins there are, their sum, and a hash of them: hash_serialized_2 of Bitcoin Core 0.21, or none."""
+    kind = "hash_serialized_2" if hash_type is None else text(hash_type)
+    if kind not in ("hash_serialized_2", "none"):
+        raise RpcError(INVALID_PARAMETER, f"{shortened(kind)} is not a valid hash_type")
+    tip, coins = node.tip(), sorted(node.bench.coins(), key=lambda it: it[:2])
+    found: Object = {
+        "height": tip.height,
+        "bestblock": show(tip.id),
+        "transactions": len({id for id, _, _ in coins}),
+        "txouts": len(coins),
+        "bogosize": sum(50 + len(coin.script) for _, _, coin in coins),
+    }
+    if kind != "none":
+        found["hash_serialized_2"] = show(coins_hash(tip.id, coins))
+    found["disk_size"] = 0
+    found["total_amount"] = Amount(sum(coin.value for _, _, coin in coins))
+    return found
+
+
+def coins_hash(best: bytes, coins: Any) -> bytes:
+    """SHA-256 of SHA-256 of the best block's id and, for each transaction in the order of ids as bytes: the id, a 1, for
+    each coin its number and 1, its script and its value, and a 0; numbers in Bitcoin Core's VARINT. (The 1 is meant to
+    be the height and the coinbase's mark; Bitcoin Core 0.21 writes a truth value.)"""
+    pieces, last = [best], b""
+    for id, number, coin in coins:
+        if id != last:
+            pieces += [b"\0"] * bool(last) + [id, b"\1"]
+            last = id
+        pieces += [_varint(number + 1), _compact(len(coin.script)), coin.script, _varint(coin.value)]
+    return double_sha(b"".join(pieces) + b"\0" * bool(last))
+
+
+def _varint(number: int) -> bytes:
+    """Bitcoin Core's VARINT: digits of base 128, the highest first, of which all but the last are one less."""
+    digits = [number & 127]
+    while number > 127:
+        number = (number >> 7) - 1
+        digits.append(number & 127 | 128)
+    return bytes(reversed(digits))
+
+
+def _compact(number: int) -> bytes:
+    if number < 253:
+        return bytes([number])
+    return b"\xfd" + number.to_bytes(2, "little") if number < 2**16 else b"\xfe" + number.to_bytes(4, "little")
+
+
+@call(GROUP, "action", "scanobjects", needed=1)
+def scantxoutset(node: Node, action: Any, scanobjects: Any) -> Any:
+    """Finds the coins of descriptors: start with a list of raw(HEX) and addr(ADDRESS); status and abort find no scan."""
+    given = text(action)
+    if given == "status":
+        return None
+    if given == "abort":
+        return False
+    if given != "start":
+        raise RpcError(INVALID_PARAMETER, "Invalid command")
+    if scanobjects is None:
+        raise RpcError(MISC_ERROR, "scanobjects argument is required for the start action")
+    wanted: Dict[bytes, str] = {}
+    for described in array(scanobjects):
+        it = described.get("desc") if isinstance(described, dict) else described
+        if not isinstance(it, str):
+            raise RpcError(INVALID_PARAMETER, "Scan object needs to be either a string or an object")
+        wanted.setdefault(descriptor_script(it), it.partition("#")[0])
+    coins = sorted(node.bench.coins(), key=lambda it: it[:2])
+    found = [it for it in coins if it[2].script in wanted]
+    return {
+        "success": True,
+        "txouts": len(coins),
+        "height": node.tip().height,
+        "bestblock": show(node.tip().id),
+        "unspents": [
+            {
+                "txid": show(id),
+                "vout": number,
+                "scriptPubKey": coin.script.hex(),
+                "desc": f"{wanted[coin.script]}#{checksum(wanted[coin.script])}",
+                "amount": Amount(coin.value),
+                "height": coin.height,
+            }
+            for id, number, coin in found
+        ],
+        "total_amount": Amount(sum(coin.value for _, _, coin in found)),
+    }

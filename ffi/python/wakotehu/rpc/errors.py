@@ -1,0 +1,13 @@
+"""Errors of calls, with Bitcoin Core's codes (src/rpc/protocol.h)."""
+
+MISC_ERROR, TYPE_ERROR, INVALID_ADDRESS_OR_KEY, INVALID_PARAMETER = -1, -3, -5, -8
+DESERIALIZATION_ERROR, VERIFY_ERROR = -22, -25
+INVALID_REQUEST, METHOD_NOT_FOUND, PARSE_ERROR = -32600, -32601, -32700
+
+
+class RpcError(Exception):
+    """A call that is answered by an error."""
+
+    def __init__(self, code: int, message: str) -> None:
+        super().__init__(message)
+        self.code = code

@@ -1,0 +1,118 @@
+"""Requests and replies of JSON-RPC, in the versions 1.0 (with errors as HTTP statuses) and 2.0, one by one and in
+batches."""
+
+import json
+import re
+from typing import Any, Callable, Dict, List, NoReturn, Optional, Tuple
+
+from .errors import INVALID_REQUEST, METHOD_NOT_FOUND, PARSE_ERROR, RpcError
+from .values import Amount
+
+#: How deep objects and arrays may lie in each other, as in Bitcoin Core.
+MAX_DEPTH = 512
+#: How many requests a batch may have.
+MAX_BATCH = 10_000
+
+_BRACKET = re.compile(rb'"(?:[^"\\]|\\.)*"|[\[{]|[\]}]', re.DOTALL)
+
+Call = Callable[[str, Any], Any]
+
+
+def answer(call: Call, body: bytes) -> Tuple[int, bytes]:
+    """The HTTP status and the body that answer a request's body. No body at all answers a 2.0 notification."""
+    try:
+        request = _parsed(body)
+    except (ValueError, RecursionError):
+        return 500, written(_reply({}, error=RpcError(PARSE_ERROR, "Parse error")))
+    if not isinstance(request, (list, dict)):
+        return 500, written(_reply({}, error=RpcError(PARSE_ERROR, "Top-level object parse error")))
+    if isinstance(request, list):
+        if len(request) > MAX_BATCH:
+            return 400, written(_reply({}, error=RpcError(INVALID_REQUEST, "Too many requests in a batch")))
+        replies = [reply for reply in (_one(call, it)[1] for it in request) if reply is not None]
+        return (200, written(replies)) if replies or not request else (204, b"")
+    status, reply = _one(call, request)
+    return status, b"" if reply is None else written(reply)
+
+
+def _one(call: Call, request: Any) -> Tuple[int, Optional[Dict[str, Any]]]:
+    if not isinstance(request, dict):
+        return 400, _reply({}, error=RpcError(INVALID_REQUEST, "Invalid Request object"))
+    second = request.get("jsonrpc") == "2.0"
+    try:
+        reply = _reply(request, call(*_asked(request)))
+        status = 200
+    except RpcError as error:
+        reply = _reply(request, error=error)
+        status = {INVALID_REQUEST: 400, METHOD_NOT_FOUND: 404}.get(error.code, 500)
+    if second and "id" not in request:
+        return 204, None
+    return 200 if second else status, reply
+
+
+def _asked(request: Dict[str, Any]) -> Tuple[str, Any]:
+    method, params = request.get("method"), request.get("params")
+    if method is None:
+        raise RpcError(INVALID_REQUEST, "Missing method")
+    if not isinstance(method, str):
+        raise RpcError(INVALID_REQUEST, "Method must be a string")
+    if params is not None and not isinstance(params, (list, dict)):
+        raise RpcError(INVALID_REQUEST, "Params must be an array or object")
+    return method, [] if params is None else params
+
+
+def _reply(request: Dict[str, Any], result: Any = None, error: Optional[RpcError] = None) -> Dict[str, Any]:
+    told = None if error is None else {"code": error.code, "message": str(error)}
+    id = request.get("id")
+    if request.get("jsonrpc") != "2.0":
+        return {"result": result, "error": told, "id": id}
+    return {"jsonrpc": "2.0", **({"result": result} if told is None else {"error": told}), "id": id}
+
+
+# ---- texts
+
+
+def _parsed(body: bytes) -> Any:
+    if body.count(b"[") + body.count(b"{") > MAX_DEPTH:
+        depth = 0
+        for found in _BRACKET.finditer(body):
+            depth += {b"[": 1, b"{": 1, b"]": -1, b"}": -1}.get(found[0], 0)
+            if depth > MAX_DEPTH:
+                raise ValueError("too deep")
+    return json.loads(body.decode(), parse_constant=_refused, object_pairs_hook=_object)
+
+
+def _refused(word: str) -> NoReturn:
+    raise ValueError(word)
+
+
+def _object(pairs: List[Tuple[str, Any]]) -> Dict[str, Any]:
+    """Of a name that is given twice the first counts, as in Bitcoin Core."""
+    return dict(reversed(pairs))
+
+
+def written(value: Any) -> bytes:
+    """A value as JSON, with an end of line."""
+    try:
+        return json.dumps(value, separators=(",", ":")).encode() + b"\n"
+    except TypeError:
+        # It has amounts, whose zeros at the end are written.
+        return "".join(_pieces(value)).encode() + b"\n"
+
+
+def _pieces(value: Any) -> List[str]:
+    if isinstance(value, Amount):
+        return [str(value)]
+    if isinstance(value, dict):
+        members = [[json.dumps(name), ":", *_pieces(member)] for name, member in value.items()]
+        return ["{", *_joined(members), "}"]
+    if isinstance(value, (list, tuple)):
+        return ["[", *_joined([_pieces(member) for member in value]), "]"]
+    return [json.dumps(value)]
+
+
+def _joined(members: List[List[str]]) -> List[str]:
+    pieces: List[str] = []
+    for member in members:
+        pieces += [",", *member] if pieces else member
+    return pieces

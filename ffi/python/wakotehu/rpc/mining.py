@@ -1,0 +1,160 @@
+"""Calls that submit blocks and make them."""
+
+from typing import Any, Dict, List, Optional, Sequence
+
+from ..chainstate import show
+from ..encoding import (
+    EncodingError, Transaction, block_length, coinbase, double_sha, mine, read_block, subsidy,
+)  # fmt: skip
+from .errors import (
+    DESERIALIZATION_ERROR, INVALID_ADDRESS_OR_KEY, METHOD_NOT_FOUND, MISC_ERROR, VERIFY_ERROR, RpcError,
+)  # fmt: skip
+from .node import Node, call
+from .scripts import address_script, descriptor_script, output_script
+from .txs import raw_transaction
+from .values import Object, array, boolean, hexadecimal, integer, text
+
+GROUP, GENERATING = "Mining", "Generating"
+#: How many blocks one call may make.
+MAX_BLOCKS = 100_000
+#: No transaction may make more, in satoshis.
+MAX_MONEY = 21_000_000 * 100_000_000
+
+
+@call(GROUP, "hexdata", "dummy", needed=1)
+def submitblock(node: Node, hexdata: Any, dummy: Any) -> Optional[str]:
+    """Submits a block: null where it is the active one then, else a word of BIP 22."""
+    data = hexadecimal(hexdata, "Block decode failed")
+    try:
+        # As Bitcoin Core does: what is left over isn't looked at.
+        data = data[: block_length(data)]
+        first = read_block(data).transactions[:1]
+    except EncodingError:
+        raise RpcError(DESERIALIZATION_ERROR, "Block decode failed")
+    if not first or not first[0].is_coinbase:
+        raise RpcError(DESERIALIZATION_ERROR, "Block does not start with a coinbase")
+    reply = node.submit(data)
+    if reply.reply == "decode-failed":
+        raise RpcError(DESERIALIZATION_ERROR, "Block decode failed")
+    if reply.reply == "tree-full":
+        raise RpcError(MISC_ERROR, "no more blocks can be kept")
+    if reply.reply == "accepted":
+        return None
+    if reply.reply == "duplicate-inconclusive":
+        return "duplicate"
+    # Bitcoin Core names no input.
+    return reply.reason or reply.reply
+
+
+@call(GROUP, "hexdata", needed=1)
+def submitheader(node: Node, hexdata: Any) -> None:
+    """Not supported: the chainstate takes whole blocks."""
+    data = hexadecimal(hexdata, "Block header decode failed")
+    if len(data) < 80:
+        raise RpcError(DESERIALIZATION_ERROR, "Block header decode failed")
+    if data[4:36] not in node.bench.index.blocks:
+        raise RpcError(VERIFY_ERROR, f"Must submit previous header ({show(data[4:36])}) first")
+    if double_sha(data[:80]) not in node.bench.index.blocks:
+        raise RpcError(MISC_ERROR, "submitheader isn't supported: submit the whole block")
+
+
+@call(GROUP)
+def getmininginfo(node: Node) -> Object:
+    """What a miner asks first."""
+    return {
+        "blocks": node.tip().height,
+        "difficulty": 4.656542373906925e-10,
+        "networkhashps": 0,
+        "pooledtx": 0,
+        "chain": "regtest",
+        "warnings": "",
+    }
+
+
+# ---- making blocks
+
+
+def _made(node: Node, script: bytes, transactions: Sequence[Transaction]) -> bytes:
+    """A block on the active one, that pays to a script."""
+    tip = node.tip()
+    height = tip.height + 1
+    # What no coinbase before had, so that two blocks of one parent differ.
+    extra = len(node.bench.journal).to_bytes(4, "little")
+    made = coinbase(height, subsidy(height) + _fees(node, transactions), script, extra)
+    # Cut to 32 bits, as Bitcoin Core does: a block that is too old then.
+    when = max(tip.median + 1, node.now())
+    return mine(tip.id, when & 0xFFFFFFFF, [made, *transactions])
+
+
+def _fees(node: Node, transactions: Sequence[Transaction]) -> int:
+    """What transactions leave to the coinbase; nothing where an output that they spend isn't known."""
+    made: Dict[bytes, Transaction] = {}
+    fees = 0
+    for tx in transactions:
+        values = node.input_values(tx, made)
+        if values is None:
+            return 0
+        fees += sum(values) - sum(out.value for out in tx.outputs)
+        made[tx.id] = tx
+    return min(max(fees, 0), MAX_MONEY)
+
+
+def _generate(node: Node, count: int, script: bytes) -> List[str]:
+    if count > MAX_BLOCKS:
+        raise RpcError(MISC_ERROR, f"no more than {MAX_BLOCKS} blocks by one call")
+    found = []
+    for _ in range(count):
+        block = _made(node, script, ())
+        reply = node.submit(block)
+        if reply.reply != "accepted":
+            raise RpcError(MISC_ERROR, f"ProcessNewBlock, block not accepted: {reply.text}")
+        found.append(show(double_sha(block[:80])))
+    return found
+
+
+@call(GENERATING, "nblocks", "address", "maxtries", needed=2)
+def generatetoaddress(node: Node, nblocks: Any, address: Any, maxtries: Any) -> List[str]:
+    """Makes blocks that pay to an address."""
+    count, _ = integer(nblocks), integer(0 if maxtries is None else maxtries)
+    script = address_script(text(address))
+    if script is None:
+        raise RpcError(INVALID_ADDRESS_OR_KEY, "Error: Invalid address")
+    return _generate(node, count, script)
+
+
+@call(GENERATING, "num_blocks", "descriptor", "maxtries", needed=2)
+def generatetodescriptor(node: Node, num_blocks: Any, descriptor: Any, maxtries: Any) -> List[str]:
+    """Makes blocks that pay to raw(HEX) or addr(ADDRESS)."""
+    count, _ = integer(num_blocks), integer(0 if maxtries is None else maxtries)
+    return _generate(node, count, descriptor_script(text(descriptor)))
+
+
+@call(GENERATING)
+def generate(node: Node) -> None:
+    """has been replaced by the -generate cli option. Refer to -help for more information."""
+    raise RpcError(METHOD_NOT_FOUND, f"generate\n{generate.__doc__}")
+
+
+@call(GENERATING, "output", "transactions", "submit", needed=2)
+def generateblock(node: Node, output: Any, transactions: Any, submit: Any) -> Object:
+    """Makes a block of raw transactions that pays to an address or a descriptor; without submitting it where submit is
+    false."""
+    script = output_script(text(output))
+    made = [_raw_transaction(raw) for raw in array(transactions)]
+    wanted = True if submit is None else boolean(submit)
+    block = _made(node, script, made)
+    if wanted:
+        reply = node.submit(block)
+        if reply.reply not in ("accepted", "inconclusive"):
+            raise RpcError(VERIFY_ERROR, f"TestBlockValidity failed: {reply.text}")
+    found = {"hash": show(double_sha(block[:80]))}
+    return found if wanted else {**found, "hex": block.hex()}
+
+
+def _raw_transaction(raw: Any) -> Transaction:
+    given = text(raw)
+    if len(given) == 64:
+        raise RpcError(INVALID_ADDRESS_OR_KEY, f"Transaction {given} not in mempool.")
+    return raw_transaction(
+        given, f"Transaction decode failed for {given[:200]}. Make sure the tx has at least one input."
+    )

@@ -1,0 +1,166 @@
+"""What all calls share: the bench, its clock, and the table of calls."""
+
+import threading
+import time
+from typing import Any, Callable, Dict, List, NamedTuple, Optional, Tuple
+
+from ..bench import Bench
+from ..chainstate import Reply
+from ..encoding import GENESIS, GENESIS_BLOCK, Transaction, double_sha
+from ..errors import Error
+from ..index import Kept
+from .errors import INVALID_ADDRESS_OR_KEY, INVALID_PARAMETER, METHOD_NOT_FOUND, MISC_ERROR, RpcError
+
+
+class Saver:
+    """Who is told of each command. This one does nothing."""
+
+    def after(self, bench: Bench, command: str, id: bytes, data: bytes, now: int, reply: str) -> None:
+        """After a command was taken as a step."""
+
+    def close(self) -> None:
+        """At the end."""
+
+
+class Node:
+    """A bench that calls are made on, one at a time."""
+
+    def __init__(self, bench: Bench, saver: Optional[Saver] = None) -> None:
+        self.bench = bench
+        self.saver = saver or Saver()
+        self.mocked = 0
+        self.started = time.time()
+        self.stopped = False
+        #: How long the server goes on after `stop`, in seconds.
+        self.pause = 0.0
+        self.broken = ""
+        #: Held by the call that runs; told when the best block changes, and at the end.
+        self.turn = threading.Condition()
+
+    def now(self) -> int:
+        return self.mocked or int(time.time())
+
+    # ---- commands
+
+    def submit(self, data: bytes) -> Reply:
+        """Submits a block."""
+        now = self.now()
+        reply = self.bench.try_submit(data, now)
+        if reply.reply != "decode-failed":
+            self._took("submit", double_sha(data[:80]), data, now, reply.text)
+        return reply
+
+    def mark(self, command: str, id: bytes) -> Reply:
+        """Marks a block."""
+        reply = self.bench.try_mark(command, id)
+        self._took(command, id, b"", 0, reply.text)
+        return reply
+
+    def _took(self, command: str, id: bytes, data: bytes, now: int, reply: str) -> None:
+        self.turn.notify_all()
+        try:
+            self.saver.after(self.bench, command, id, data, now, reply)
+        except OSError as error:
+            # As bitcoind does where its disk takes no more: what was answered before is saved, and no more is taken.
+            self.broken = f"A fatal internal error occurred: a command can't be saved: {error}"
+            self.stopped = True
+            raise RpcError(MISC_ERROR, self.broken)
+
+    # ---- reads
+
+    def kept(self, id: bytes, fault: str = "Block not found") -> Kept:
+        """A block that is kept."""
+        found = self.bench.index.blocks.get(id)
+        if found is None:
+            raise RpcError(INVALID_ADDRESS_OR_KEY, fault)
+        return found
+
+    def data(self, id: bytes) -> bytes:
+        """The bytes of a block that is kept."""
+        if id == GENESIS.id:
+            return GENESIS_BLOCK
+        found = self.bench.block(id)
+        assert found is not None, "blocks of the index are kept"
+        return found
+
+    def tip(self) -> Kept:
+        return self.bench.index.blocks[self.bench.index.active[-1]]
+
+    def input_values(self, tx: Transaction, made: Dict[bytes, Transaction]) -> Optional[List[int]]:
+        """What the inputs of a transaction spend, also of transactions that no block has yet; None where one of them
+        spends an unknown output."""
+        values = []
+        for spends in tx.inputs:
+            before = made.get(spends.id) or self.bench.transaction(spends.id)
+            if before is None or spends.index >= len(before.outputs):
+                return None
+            values.append(before.outputs[spends.index].value)
+        return values
+
+
+# ---- the table of calls
+
+
+class Call(NamedTuple):
+    """A call: the names of its parameters, each with its other names after `|`, and how many have to be there."""
+
+    name: str
+    group: str
+    names: Tuple[str, ...]
+    needed: int
+    about: str
+    run: Callable[..., Any]
+
+    @property
+    def usage(self) -> str:
+        """How it is called, as `help` lists it."""
+        names = [name.partition("|")[0] for name in self.names]
+        needed, other = names[: self.needed], names[self.needed :]
+        return " ".join([self.name, *needed, *(["(", *other, ")"] if other else [])])
+
+    def arguments(self, params: Any) -> List[Any]:
+        """The parameters in their order; one that isn't given is None."""
+        found: List[Any] = list(params) if isinstance(params, list) else self._in_order(params)
+        while len(found) > self.needed and found[-1] is None:
+            found.pop()
+        if not self.needed <= len(found) <= len(self.names):
+            raise RpcError(MISC_ERROR, f"{self.usage}\n\n{self.about}\n")
+        return found + [None] * (len(self.names) - len(found))
+
+    def _in_order(self, params: Dict[str, Any]) -> List[Any]:
+        places = {name: place for place, names in enumerate(self.names) for name in names.split("|")}
+        found: Dict[int, Any] = {}
+        for name, value in params.items():
+            if name not in places:
+                raise RpcError(INVALID_PARAMETER, f"Unknown named parameter {name[:100]}")
+            found.setdefault(places[name], value)
+        return [found.get(place) for place in range(max(found, default=-1) + 1)]
+
+
+CALLS: Dict[str, Call] = {}
+
+Run = Callable[..., Any]
+
+
+def call(group: str, *names: str, needed: int = 0) -> Callable[[Run], Run]:
+    """Puts a function into the table under its name. It takes the node, and its parameters by place."""
+
+    def put(run: Run) -> Run:
+        CALLS[run.__name__] = Call(run.__name__, group, names, needed, (run.__doc__ or "").strip(), run)
+        return run
+
+    return put
+
+
+def run(node: Node, method: str, params: Any) -> Any:
+    """The result of a call, or an `RpcError`."""
+    found = CALLS.get(method)
+    if found is None:
+        raise RpcError(METHOD_NOT_FOUND, "Method not found")
+    with node.turn:
+        if node.stopped:
+            raise RpcError(MISC_ERROR, node.broken or "The server is stopping")
+        try:
+            return found.run(node, *found.arguments(params))
+        except (Error, MemoryError, ValueError) as error:
+            raise RpcError(MISC_ERROR, f"{type(error).__name__}: {error}")

@@ -1,0 +1,219 @@
+"""Scripts as calls show them, and addresses and descriptors as calls take them."""
+
+import re
+from typing import Dict, Iterator, List, Optional, Tuple
+
+from ..encoding import double_sha, hash160, operations, push
+from .errors import INVALID_ADDRESS_OR_KEY, RpcError
+
+_DIGITS = "123456789ABCDEFGHJKLMNPQRSTUVWXYZabcdefghijkmnopqrstuvwxyz"
+#: The first bytes of addresses of regtest, to a hash of a key and of a script.
+KEY_PREFIX, SCRIPT_PREFIX = 111, 196
+#: An address has no more characters, nor a descriptor's script more digits.
+MAX_ADDRESS, MAX_RAW = 100, 2 * 1_000_000
+
+_NAMED: Dict[int, str] = {0: "0", 0x4F: "-1", **{0x50 + number: str(number) for number in range(1, 17)}}
+_NAMED[0x50] = "OP_RESERVED"
+_NAMED.update(
+    enumerate(
+        (
+            "NOP VER IF NOTIF VERIF VERNOTIF ELSE ENDIF VERIFY RETURN TOALTSTACK FROMALTSTACK 2DROP 2DUP 3DUP 2OVER"
+            " 2ROT 2SWAP IFDUP DEPTH DROP DUP NIP OVER PICK ROLL ROT SWAP TUCK CAT SUBSTR LEFT RIGHT SIZE INVERT AND"
+            " OR XOR EQUAL EQUALVERIFY RESERVED1 RESERVED2 1ADD 1SUB 2MUL 2DIV NEGATE ABS NOT 0NOTEQUAL ADD SUB MUL"
+            " DIV MOD LSHIFT RSHIFT BOOLAND BOOLOR NUMEQUAL NUMEQUALVERIFY NUMNOTEQUAL LESSTHAN GREATERTHAN"
+            " LESSTHANOREQUAL GREATERTHANOREQUAL MIN MAX WITHIN RIPEMD160 SHA1 SHA256 HASH160 HASH256 CODESEPARATOR"
+            " CHECKSIG CHECKSIGVERIFY CHECKMULTISIG CHECKMULTISIGVERIFY NOP1 CHECKLOCKTIMEVERIFY CHECKSEQUENCEVERIFY"
+            " NOP4 NOP5 NOP6 NOP7 NOP8 NOP9 NOP10"
+        ).split(),
+        0x61,
+    )
+)
+_HASH_TYPES = {1: "ALL", 2: "NONE", 3: "SINGLE", 129: "ALL|ANYONECANPAY", 130: "NONE|ANYONECANPAY",
+               131: "SINGLE|ANYONECANPAY"}  # fmt: skip
+
+
+def asm(script: bytes, signatures: bool = False) -> str:
+    """A script's operations as words (Bitcoin Core's `ScriptToAsmStr`); with `signatures` the hash type of what reads as
+    one is a word."""
+    words, end = [], 0
+    for _, number, data, end in operations(script):
+        if data is None or number == 0:
+            name = _NAMED.get(number)
+            words.append(name if name is None or number <= 0x60 else "OP_" + name)
+            words[-1] = words[-1] or "OP_UNKNOWN"
+        elif len(data) <= 4:
+            words.append(str(_script_number(data)))
+        else:
+            words.append(_signature_words(data) if signatures else data.hex())
+    if end != len(script):
+        words.append("[error]")
+    return " ".join(word for word in words if word)
+
+
+def _script_number(data: bytes) -> int:
+    value = int.from_bytes(data, "little")
+    sign = 1 << (8 * len(data) - 1)
+    return -(value - sign) if data and value & sign else value
+
+
+def _signature_words(data: bytes) -> str:
+    """Data that is a signature of BIP 66's form with a known hash type has that as a word."""
+    kind = _HASH_TYPES.get(data[-1])
+    return f"{data[:-1].hex()}[{kind}]" if kind and _is_strict(data) else data.hex()
+
+
+def _is_strict(data: bytes) -> bool:
+    """BIP 66's form, with the hash type."""
+    if not 9 <= len(data) <= 73 or data[0] != 0x30 or data[1] != len(data) - 3:
+        return False
+    long = data[3]
+    if 5 + long >= len(data):
+        return False
+    short = data[5 + long]
+    if long + short + 7 != len(data) or data[2] != 2 or data[4 + long] != 2 or not long or not short:
+        return False
+    for number in (data[4 : 4 + long], data[6 + long : 6 + long + short]):
+        if number[0] & 0x80 or (len(number) > 1 and number[0] == 0 and not number[1] & 0x80):
+            return False
+    return True
+
+
+def _is_key(data: bytes) -> bool:
+    return (len(data) == 33 and data[0] in (2, 3)) or (len(data) == 65 and data[0] in (4, 6, 7))
+
+
+def _multisig(script: bytes) -> Optional[Tuple[int, List[bytes]]]:
+    """How many signatures a script of keys asks for, and its keys."""
+    found = list(operations(script))
+    if len(found) < 4 or found[-1][3] != len(script) or found[-1][1] != 0xAE:
+        return None
+    needed, most = found[0][1] - 0x50, found[-2][1] - 0x50
+    keys = [data for _, _, data, _ in found[1:-2] if data is not None and _is_key(data)]
+    if not 1 <= needed <= most <= 16 or len(keys) != len(found) - 3 or len(keys) != most:
+        return None
+    return needed, keys
+
+
+def kind_of(script: bytes) -> Tuple[str, int, List[str]]:
+    """A script's type, how many signatures spend it, and the addresses that it pays to (Bitcoin Core's `Solver`)."""
+    if len(script) == 23 and script[:2] == b"\xa9\x14" and script[22:] == b"\x87":
+        return "scripthash", 1, [address(SCRIPT_PREFIX, script[2:22])]
+    if 4 <= len(script) <= 42 and (script[0] == 0 or 0x51 <= script[0] <= 0x60) and script[1] + 2 == len(script):
+        known = {22: "witness_v0_keyhash", 34: "witness_v0_scripthash"} if script[0] == 0 else {}
+        return known.get(len(script), "nonstandard" if script[0] == 0 else "witness_unknown"), 0, []
+    found = list(operations(script))
+    whole = (found[-1][3] if found else 0) == len(script)
+    if script[:1] == b"\x6a" and whole and all(number <= 0x60 for _, number, _, _ in found[1:]):
+        return "nulldata", 0, []
+    if len(found) == 2 and whole and found[1][1] == 0xAC and found[0][2] and _is_key(found[0][2]):
+        return "pubkey", 1, []
+    if len(script) == 25 and script[:3] == b"\x76\xa9\x14" and script[23:] == b"\x88\xac":
+        return "pubkeyhash", 1, [address(KEY_PREFIX, script[3:23])]
+    keys = _multisig(script)
+    if keys:
+        return "multisig", keys[0], [address(KEY_PREFIX, hash160(key)) for key in keys[1]]
+    return "nonstandard", 0, []
+
+
+def shown(script: bytes, with_hex: bool = True) -> Dict[str, object]:
+    """A script as Bitcoin Core 0.21 shows it, with the `address` of later versions beside `addresses`."""
+    kind, needed, addresses = kind_of(script)
+    fields: Dict[str, object] = {"asm": asm(script)}
+    if with_hex:
+        fields["hex"] = script.hex()
+    if addresses:
+        fields["reqSigs"] = needed
+        if kind in ("pubkeyhash", "scripthash"):
+            fields["address"] = addresses[0]
+    fields["type"] = kind
+    if addresses:
+        fields["addresses"] = addresses
+    return fields
+
+
+# ---- addresses and descriptors
+
+
+def address(prefix: int, digest: bytes) -> str:
+    """An address, in base 58 with four bytes of a digest."""
+    data = bytes([prefix]) + digest
+    data += double_sha(data)[:4]
+    number, text = int.from_bytes(data, "big"), ""
+    while number:
+        number, digit = divmod(number, 58)
+        text = _DIGITS[digit] + text
+    return "1" * (len(data) - len(data.lstrip(b"\0"))) + text
+
+
+def address_script(text: str) -> Optional[bytes]:
+    """The script that an address of regtest pays to, or None."""
+    if len(text) > MAX_ADDRESS or not text or any(digit not in _DIGITS for digit in text):
+        return None
+    number = 0
+    for digit in text:
+        number = number * 58 + _DIGITS.index(digit)
+    if number >= 2**200:
+        return None
+    data = number.to_bytes(25, "big")
+    if double_sha(data[:21])[:4] != data[21:]:
+        return None
+    if data[0] == KEY_PREFIX:
+        return b"\x76\xa9" + push(data[1:21]) + b"\x88\xac"
+    return b"\xa9" + push(data[1:21]) + b"\x87" if data[0] == SCRIPT_PREFIX else None
+
+
+_CHARSET = "0123456789()[],'/*abcdefgh@:$%{}IJKLMNOPQRSTUVWXYZ&+-.;<=>?!^_|~ijklmnopqrstuvwxyzABCDEFGH`#\"\\ "
+_CHECKSUM = "qpzry9x8gf2tvdw0s3jn54khce6mua7l"
+_GENERATOR = (0xF5DEE51989, 0xA9FDCA3312, 0x1BAB10E32D, 0x3706B1677A, 0x644D626FFD)
+
+
+def checksum(descriptor: str) -> str:
+    """The checksum of a descriptor (BIP 380); empty where a character has no place in one."""
+    if any(sign not in _CHARSET for sign in descriptor):
+        return ""
+    state = 1
+    for symbol in _symbols([_CHARSET.index(sign) for sign in descriptor]):
+        top = state >> 35
+        state = (state & 0x7FFFFFFFF) << 5 ^ symbol
+        for bit, factor in enumerate(_GENERATOR):
+            state ^= factor if top >> bit & 1 else 0
+    state ^= 1
+    return "".join(_CHECKSUM[state >> 5 * (7 - place) & 31] for place in range(8))
+
+
+def _symbols(places: List[int]) -> Iterator[int]:
+    """The low five bits of each sign, and behind three signs their high ones; then eight zeros."""
+    for begin in range(0, len(places), 3):
+        group = places[begin : begin + 3]
+        yield from (place & 31 for place in group)
+        high = 0
+        for place in group:
+            high = high * 3 + (place >> 5)
+        yield high
+    yield from [0] * 8
+
+
+def descriptor_script(descriptor: str) -> bytes:
+    """The script of `raw(HEX)` or `addr(ADDRESS)`, with or without a checksum."""
+    text, mark, check = descriptor.partition("#")
+    if mark and check != checksum(text):
+        raise RpcError(INVALID_ADDRESS_OR_KEY, f"Provided checksum '{check[:100]}' does not match computed checksum")
+    found = re.fullmatch(r"(raw|addr)\((.*)\)", text, re.DOTALL)
+    if not found:
+        raise RpcError(INVALID_ADDRESS_OR_KEY, f"{text[:100]} is not a valid descriptor function")
+    if found[1] == "raw":
+        if len(found[2]) > MAX_RAW or len(found[2]) % 2 or not re.fullmatch("[0-9a-fA-F]*", found[2]):
+            raise RpcError(INVALID_ADDRESS_OR_KEY, "Raw script is not hex")
+        return bytes.fromhex(found[2])
+    script = address_script(found[2])
+    if script is None:
+        raise RpcError(INVALID_ADDRESS_OR_KEY, "Address is not valid")
+    return script
+
+
+def output_script(output: str) -> bytes:
+    """The script of a descriptor, or of an address."""
+    try:
+        return address_script(output) or descriptor_script(output)
+    except RpcError:
+        raise RpcError(INVALID_ADDRESS_OR_KEY, "Error: Invalid address or descriptor")

@@ -1,0 +1,127 @@
+"""getblockstats."""
+
+from typing import Any, List, Sequence, Tuple
+
+from ..chainstate import show
+from ..encoding import Transaction, read_block, subsidy, write_transaction
+from ..index import Kept
+from .errors import INVALID_PARAMETER, MISC_ERROR, RpcError
+from .node import Node, call
+from .values import Object, array, digits, integer, text
+
+#: What an output takes beside its script, in bytes, as Bitcoin Core counts it: outpoint, height and mark, and value.
+PER_OUTPUT = 41
+
+
+@call("Blockchain", "hash_or_height", "stats", needed=1)
+def getblockstats(node: Node, hash_or_height: Any, stats: Any) -> Object:
+    """Sizes and fees of a block of the active branch, in satoshis; all of them, or those that are named."""
+    kept = _asked(node, hash_or_height)
+    wanted = None if stats is None else [text(name) for name in array(stats)]
+    found = _stats(node, kept)
+    for name in wanted or ():
+        if name not in found:
+            raise RpcError(INVALID_PARAMETER, f"Invalid selected statistic {name[:100]}")
+    return {name: value for name, value in found.items() if not wanted or name in wanted}
+
+
+def _asked(node: Node, given: Any) -> Kept:
+    height = node.tip().height
+    if isinstance(given, (int, float)) and not isinstance(given, bool):
+        number = integer(given)
+        if number < 0:
+            raise RpcError(INVALID_PARAMETER, f"Target block height {number} is negative")
+        if number > height:
+            raise RpcError(INVALID_PARAMETER, f"Target block height {number} after current tip {height}")
+        return node.bench.index.blocks[node.bench.index.active[number]]
+    kept = node.kept(digits(given, "hash_or_height"))
+    if not node.bench.index.is_active(kept.id):
+        raise RpcError(INVALID_PARAMETER, f"Block is not in chain regtest: {show(kept.id)}")
+    if kept.height == 0:
+        raise RpcError(MISC_ERROR, "Can't read undo data from disk")
+    return kept
+
+
+def _stats(node: Node, kept: Kept) -> Object:
+    if kept.height == 0:
+        raise RpcError(MISC_ERROR, "Can't read undo data from disk")
+    txs = read_block(node.data(kept.id)).transactions
+    others = txs[1:]
+    sizes = [len(write_transaction(tx)) for tx in others]
+    spent = [_spent(node, tx) for tx in others]
+    fees = [sum(out[0] for out in outs) - sum(out.value for out in tx.outputs) for tx, outs in zip(others, spent)]
+    # Without witnesses a byte weighs 4: a rate by virtual bytes is one by bytes.
+    rates = [fee // size for fee, size in zip(fees, sizes)]
+    made = [out for tx in txs for out in tx.outputs]
+    made_size = sum(_output_size(len(out.script)) for out in made)
+    gone_size = sum(_output_size(out[1]) for outs in spent for out in outs)
+    ins = sum(len(tx.inputs) for tx in others)
+    return {
+        "avgfee": sum(fees) // len(fees) if fees else 0,
+        "avgfeerate": sum(fees) // sum(sizes) if sizes else 0,
+        "avgtxsize": sum(sizes) // len(sizes) if sizes else 0,
+        "blockhash": show(kept.id),
+        "feerate_percentiles": _percentiles(list(zip(rates, (4 * size for size in sizes)))),
+        "height": kept.height,
+        "ins": ins,
+        "maxfee": max(fees, default=0),
+        "maxfeerate": max(rates, default=0),
+        "maxtxsize": max(sizes, default=0),
+        "medianfee": _median(fees),
+        "mediantime": kept.median,
+        "mediantxsize": _median(sizes),
+        "minfee": min(fees, default=0),
+        "minfeerate": min(rates, default=0),
+        "mintxsize": min(sizes, default=0),
+        "outs": len(made),
+        "subsidy": subsidy(kept.height),
+        "swtotal_size": 0,
+        "swtotal_weight": 0,
+        "swtxs": 0,
+        "time": kept.header.time,
+        "total_out": sum(out.value for tx in others for out in tx.outputs),
+        "total_size": sum(sizes),
+        "total_weight": 4 * sum(sizes),
+        "totalfee": sum(fees),
+        "txs": len(txs),
+        "utxo_increase": len(made) - ins,
+        "utxo_size_inc": made_size - gone_size,
+    }
+
+
+def _spent(node: Node, tx: Transaction) -> List[Tuple[int, int]]:
+    """The value and the length of the script of each output that a transaction of a valid block spends."""
+    found = []
+    for spends in tx.inputs:
+        out = node.bench.output(spends.id, spends.index)
+        assert out is not None, "a valid block spends outputs of kept blocks"
+        found.append((out.value, len(out.script)))
+    return found
+
+
+def _output_size(script: int) -> int:
+    return 8 + (1 if script < 253 else 3 if script < 2**16 else 5) + script + PER_OUTPUT
+
+
+def _median(numbers: Sequence[int]) -> int:
+    """Of an even count the two in the middle are halved together."""
+    if not numbers:
+        return 0
+    found, half = sorted(numbers), len(numbers) // 2
+    return found[half] if len(found) % 2 else (found[half - 1] + found[half]) // 2
+
+
+def _percentiles(rates: List[Tuple[int, int]]) -> List[int]:
+    """The fee rates at 10, 25, 50, 75 and 90 percent of the weight."""
+    if not rates:
+        return [0] * 5
+    rates.sort()
+    total = sum(weight for _, weight in rates)
+    marks = [total / 10.0, total / 4.0, total / 2.0, total * 3.0 / 4.0, total * 9.0 / 10.0]
+    found: List[int] = []
+    passed = 0
+    for rate, weight in rates:
+        passed += weight
+        while len(found) < 5 and passed >= marks[len(found)]:
+            found.append(rate)
+    return found + [rates[-1][0]] * (5 - len(found))
