@@ -6,7 +6,7 @@ from typing import Dict, List, NamedTuple, NoReturn, Optional, Sequence, Set, Tu
 
 from . import errors
 from .chainstate import REGTEST, Chainstate, Coin, Reply, Tip, read_heights
-from .encoding import Block, EncodingError, Output, Transaction, read_block, read_transaction
+from .encoding import EncodingError, Output, Spelled, Transaction, block_at_front, double_sha, read_transaction
 from .index import Index
 from .screen import may_be_kept
 from .signatures import Secp256k1, Triple, asked
@@ -19,14 +19,6 @@ class Entry(NamedTuple):
     id: bytes
     now: int
     reply: str
-
-
-class Read(NamedTuple):
-    """A block that was submitted: its bytes and what they spell, with the ids of its transactions."""
-
-    data: bytes
-    block: Block
-    ids: List[bytes]
 
 
 class Bench:
@@ -81,14 +73,22 @@ class Bench:
     def try_submit(self, block: bytes, now: Optional[int] = None) -> Reply:
         """As `Chainstate.try_submit`."""
         data, moment = bytes(block), int(time.time()) if now is None else now
-        read = _read(data)
-        if read and may_be_kept(read.block, data, read.ids, self.index, moment):
-            self._learn(read)
-        reply = self.chain.try_submit(data, moment)
-        id = read.block.header.id if read else None
-        if id is not None and id not in self.index.blocks and self.chain.is_kept(id):
-            self.index.add(data)
-            self._took(Entry("submit", id, moment, reply.text))
+        try:
+            spelled = block_at_front(data)
+        except EncodingError:
+            return self.chain.try_submit(data, moment)
+        return self.try_submit_spelled(spelled, moment) if spelled.data == data else self.chain.try_submit(data, moment)
+
+    def try_submit_spelled(self, spelled: Spelled, now: int) -> Reply:
+        """The same of a block that was read already."""
+        id = double_sha(spelled.data[:80])
+        # Of a coinbase alone there is no signature to gather.
+        if len(spelled.ids) > 1 and may_be_kept(id, spelled, self.index, now):
+            self._learn(spelled)
+        reply = self.chain.try_submit(spelled.data, now)
+        if id not in self.index.blocks and self.chain.is_kept(id):
+            self.index.add(id, spelled)
+            self._took(Entry("submit", id, now, reply.text))
         return reply
 
     def try_mark(self, command: str, id: bytes) -> Reply:
@@ -170,9 +170,9 @@ class Bench:
 
     # ---- signatures
 
-    def _learn(self, read: Read) -> None:
+    def _learn(self, spelled: Spelled) -> None:
         """Gets the valid signatures of a block into the table, by a replay where it lacks one."""
-        found = self._new_triples(read)
+        found = self._new_triples(spelled)
         if not found:
             return
         between = b"" if not self.table or self.table.endswith(b"\n") else b"\n"
@@ -185,12 +185,12 @@ class Bench:
         self.seconds = time.perf_counter() - begun
         old.close()
 
-    def _new_triples(self, read: Read) -> Set[Triple]:
+    def _new_triples(self, spelled: Spelled) -> Set[Triple]:
         """All valid triples of a block that the table lacks."""
         made: Dict[bytes, Transaction] = {}
         found: Set[Triple] = set()
         refused: Set[Triple] = set()
-        for id, tx in zip(read.ids, read.block.transactions):
+        for id, tx in zip(spelled.ids, spelled.block.transactions):
             for place, spends in enumerate(tx.inputs):
                 spent = made.get(spends.id) or self.transaction(spends.id)
                 if spent is None or spends.index >= len(spent.outputs):
@@ -217,12 +217,3 @@ class Bench:
             chain.close()
             raise
         return chain
-
-
-def _read(data: bytes) -> Optional[Read]:
-    """The block of these bytes, or None."""
-    try:
-        block = read_block(data)
-    except EncodingError:
-        return None
-    return Read(data, block, [tx.id for tx in block.transactions])

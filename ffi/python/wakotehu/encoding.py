@@ -103,27 +103,27 @@ class _Reader:
         self.at += count
         return self.data[self.at - count : self.at]
 
-    def number(self, form: str) -> int:
-        return int(struct.unpack(form, self.take(struct.calcsize(form)))[0])
+    def number(self, width: int, signed: bool = False) -> int:
+        return int.from_bytes(self.take(width), "little", signed=signed)
 
     def count(self) -> int:
-        first = self.number("<B")
-        return first if first < 253 else self.number({253: "<H", 254: "<I", 255: "<Q"}[first])
+        first = self.number(1)
+        return first if first < 253 else self.number({253: 2, 254: 4, 255: 8}[first])
 
     def text(self) -> bytes:
         return self.take(self.count())
 
     def transaction(self) -> Transaction:
-        version = self.number("<i")
+        version = self.number(4, signed=True)
         inputs = [
-            Input(self.take(32), self.number("<I"), self.text(), self.number("<I")) for _ in range(self.count())
+            Input(self.take(32), self.number(4), self.text(), self.number(4)) for _ in range(self.count())
         ]
-        outputs = [Output(self.number("<q"), self.text()) for _ in range(self.count())]
-        return Transaction(version, inputs, outputs, self.number("<I"))
+        outputs = [Output(self.number(8, signed=True), self.text()) for _ in range(self.count())]
+        return Transaction(version, inputs, outputs, self.number(4))
 
     def header(self) -> Header:
-        numbers = self.number("<i"), self.take(32), self.take(32)
-        return Header(*numbers, self.number("<I"), self.number("<I"), self.number("<I"))
+        numbers = self.number(4, signed=True), self.take(32), self.take(32)
+        return Header(*numbers, self.number(4), self.number(4), self.number(4))
 
     def end(self) -> None:
         if self.at != len(self.data):
@@ -145,24 +145,27 @@ def read_block(data: bytes) -> Block:
     return found
 
 
-def transaction_places(data: bytes) -> List[Tuple[int, int]]:
-    """Where each transaction of a block begins and ends."""
-    reader, places = _Reader(data), []
-    reader.header()
+class Spelled(NamedTuple):
+    """A block with its bytes, and of each transaction the id and the place of its bytes."""
+
+    data: bytes
+    block: Block
+    ids: List[bytes]
+    places: List[Tuple[int, int]]
+
+
+def block_at_front(data: bytes) -> Spelled:
+    """The block at the front of bytes; what is left over isn't part of it."""
+    reader = _Reader(data)
+    header = reader.header()
+    found, places = [], []
     for _ in range(reader.count()):
         begin = reader.at
-        reader.transaction()
+        found.append(reader.transaction())
         places.append((begin, reader.at))
-    return places
-
-
-def block_length(data: bytes) -> int:
-    """How many bytes the block at the front has."""
-    reader = _Reader(data)
-    reader.header()
-    for _ in range(reader.count()):
-        reader.transaction()
-    return reader.at
+    # Counts that aren't spelled shortest are read here and in no chainstate: only there the bytes aren't the id's.
+    ids = [double_sha(data[begin:end]) for begin, end in places]
+    return Spelled(data[: reader.at], Block(header, found), ids, places)
 
 
 # ---- writing

@@ -2,7 +2,7 @@
 
 from typing import Dict, List, NamedTuple, Optional, Tuple
 
-from .encoding import GENESIS, GENESIS_BLOCK, Header, double_sha, read_block, transaction_places
+from .encoding import GENESIS, GENESIS_BLOCK, Header, Spelled
 
 
 class Kept(NamedTuple):
@@ -32,17 +32,17 @@ class Index:
         self.active_size = len(GENESIS_BLOCK)
         #: A block that has the transaction of an id, and the place of its bytes in that. An id names the bytes.
         self.transactions: Dict[bytes, Tuple[bytes, int, int]] = {}
+        #: The height of the highest block.
+        self.highest = 0
         self.blocks[GENESIS.id] = Kept(GENESIS.id, 0, GENESIS, GENESIS.time, 1, len(GENESIS_BLOCK))
 
-    def add(self, data: bytes) -> Kept:
-        """Adds a block of these bytes, whose parent is there."""
-        header, places = read_block(data).header, transaction_places(data)
-        id = header.id
-        kept = Kept(id, self.blocks[header.parent].height + 1, header, self._median(header), len(places), len(data))
-        for begin, end in places:
-            self.transactions.setdefault(double_sha(data[begin:end]), (id, begin, end))
-        self.blocks[id] = kept
-        return kept
+    def add(self, id: bytes, spelled: Spelled) -> None:
+        """Adds a block of this id, whose parent is there."""
+        header, height = spelled.block.header, self.blocks[spelled.block.header.parent].height + 1
+        self.highest = max(self.highest, height)
+        for tx, (begin, end) in zip(spelled.ids, spelled.places):
+            self.transactions.setdefault(tx, (id, begin, end))
+        self.blocks[id] = Kept(id, height, header, self._median(header), len(spelled.ids), len(spelled.data))
 
     def _median(self, header: Header) -> int:
         times, at = [header.time], header.parent

@@ -123,7 +123,7 @@ def getblockchaininfo(node: Node) -> Object:
     return {
         "chain": "regtest",
         "blocks": tip.height,
-        "headers": max(found.height for found in node.bench.tips()),
+        "headers": index.highest,
         "bestblockhash": show(tip.id),
         "difficulty": DIFFICULTY,
         "time": tip.header.time,

@@ -6,6 +6,7 @@ import socketserver
 import threading
 import time
 from collections import OrderedDict
+from http import HTTPStatus
 from http.server import BaseHTTPRequestHandler
 from typing import Any, Callable, Optional, Set, Tuple
 
@@ -106,17 +107,17 @@ class Handler(BaseHTTPRequestHandler):
 
     def _answer(self, status: int, body: bytes, last: bool = False) -> None:
         self.connection.settimeout(TIMEOUT)
-        self.send_response_only(status)
-        self.send_header("Content-Type", "application/json" if status in (200, 400, 404, 500) else "text/plain")
+        kind = "application/json" if status in (200, 400, 404, 500) else "text/plain"
+        lines = [f"HTTP/1.1 {status} {HTTPStatus(status).phrase}", f"Content-Type: {kind}"]
         if status == 401:
-            self.send_header("WWW-Authenticate", 'Basic realm="jsonrpc"')
+            lines.append('WWW-Authenticate: Basic realm="jsonrpc"')
         if status != 204:
-            self.send_header("Content-Length", str(len(body)))
+            lines.append(f"Content-Length: {len(body)}")
         if last:
-            self.send_header("Connection", "close")
+            lines.append("Connection: close")
             self.close_connection = True
-        self.end_headers()
-        self.wfile.write(body)
+        # In one piece, which is one packet where it is short.
+        self.wfile.write("\r\n".join([*lines, "", ""]).encode() + body)
 
     def log_message(self, format: str, *words: Any) -> None:
         """Nothing is logged."""

@@ -4,7 +4,7 @@ from typing import Any, Dict, List, Optional, Sequence
 
 from ..chainstate import show
 from ..encoding import (
-    EncodingError, Transaction, block_length, coinbase, double_sha, mine, read_block, subsidy,
+    EncodingError, Transaction, block_at_front, coinbase, double_sha, mine, subsidy,
 )  # fmt: skip
 from .errors import (
     DESERIALIZATION_ERROR, INVALID_ADDRESS_OR_KEY, METHOD_NOT_FOUND, MISC_ERROR, VERIFY_ERROR, RpcError,
@@ -27,13 +27,13 @@ def submitblock(node: Node, hexdata: Any, dummy: Any) -> Optional[str]:
     data = hexadecimal(hexdata, "Block decode failed")
     try:
         # As Bitcoin Core does: what is left over isn't looked at.
-        data = data[: block_length(data)]
-        first = read_block(data).transactions[:1]
+        spelled = block_at_front(data)
     except EncodingError:
         raise RpcError(DESERIALIZATION_ERROR, "Block decode failed")
+    first = spelled.block.transactions[:1]
     if not first or not first[0].is_coinbase:
         raise RpcError(DESERIALIZATION_ERROR, "Block does not start with a coinbase")
-    reply = node.submit(data)
+    reply = node.submit(spelled)
     if reply.reply == "decode-failed":
         raise RpcError(DESERIALIZATION_ERROR, "Block decode failed")
     if reply.reply == "tree-full":
@@ -105,7 +105,7 @@ def _generate(node: Node, count: int, script: bytes) -> List[str]:
     found = []
     for _ in range(count):
         block = _made(node, script, ())
-        reply = node.submit(block)
+        reply = node.submit(block_at_front(block))
         if reply.reply != "accepted":
             raise RpcError(MISC_ERROR, f"ProcessNewBlock, block not accepted: {reply.text}")
         found.append(show(double_sha(block[:80])))
@@ -144,7 +144,7 @@ def generateblock(node: Node, output: Any, transactions: Any, submit: Any) -> Ob
     wanted = True if submit is None else boolean(submit)
     block = _made(node, script, made)
     if wanted:
-        reply = node.submit(block)
+        reply = node.submit(block_at_front(block))
         if reply.reply not in ("accepted", "inconclusive"):
             raise RpcError(VERIFY_ERROR, f"TestBlockValidity failed: {reply.text}")
     found = {"hash": show(double_sha(block[:80]))}

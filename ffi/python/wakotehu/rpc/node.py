@@ -6,7 +6,7 @@ from typing import Any, Callable, Dict, List, NamedTuple, Optional, Tuple
 
 from ..bench import Bench
 from ..chainstate import Reply
-from ..encoding import GENESIS, GENESIS_BLOCK, Transaction, double_sha
+from ..encoding import GENESIS, GENESIS_BLOCK, Spelled, Transaction, double_sha
 from ..errors import Error
 from ..index import Kept
 from .errors import INVALID_ADDRESS_OR_KEY, INVALID_PARAMETER, METHOD_NOT_FOUND, MISC_ERROR, RpcError
@@ -42,10 +42,11 @@ class Node:
 
     # ---- commands
 
-    def submit(self, data: bytes) -> Reply:
+    def submit(self, spelled: Spelled) -> Reply:
         """Submits a block."""
         now = self.now()
-        reply = self.bench.try_submit(data, now)
+        data = spelled.data
+        reply = self.bench.try_submit_spelled(spelled, now)
         if reply.reply != "decode-failed":
             self._took("submit", double_sha(data[:80]), data, now, reply.text)
         return reply
