@@ -26,6 +26,10 @@
 extern "C" {
 #endif
 
+/* The version of this header. The library of another WAKOTEHU_VERSION_MAJOR has another soname. */
+#define WAKOTEHU_VERSION_MAJOR 0
+#define WAKOTEHU_VERSION_MINOR 1
+
 /* A chainstate. 0 is never one. */
 typedef uint64_t wakotehu_handle;
 

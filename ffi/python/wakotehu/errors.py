@@ -82,23 +82,133 @@ class Rejected(Error):
         return f"{self.reason} {self.transaction}:{self.input}"
 
 
-def _name(reason: str) -> str:
-    return "".join(part[:1].upper() + part[1:] for part in reason.split("-"))
+class HighHash(Rejected):
+    reason = "high-hash"
 
+
+class BadTxnmrklroot(Rejected):
+    reason = "bad-txnmrklroot"
+
+
+class BadTxnsDuplicate(Rejected):
+    reason = "bad-txns-duplicate"
+
+
+class BadBlkLength(Rejected):
+    reason = "bad-blk-length"
+
+
+class BadCbMissing(Rejected):
+    reason = "bad-cb-missing"
+
+
+class BadCbMultiple(Rejected):
+    reason = "bad-cb-multiple"
+
+
+class BadTxnsVinEmpty(Rejected):
+    reason = "bad-txns-vin-empty"
+
+
+class BadTxnsVoutEmpty(Rejected):
+    reason = "bad-txns-vout-empty"
+
+
+class BadTxnsVoutNegative(Rejected):
+    reason = "bad-txns-vout-negative"
+
+
+class BadTxnsVoutToolarge(Rejected):
+    reason = "bad-txns-vout-toolarge"
+
+
+class BadTxnsTxouttotalToolarge(Rejected):
+    reason = "bad-txns-txouttotal-toolarge"
+
+
+class BadTxnsInputsDuplicate(Rejected):
+    reason = "bad-txns-inputs-duplicate"
+
+
+class BadCbLength(Rejected):
+    reason = "bad-cb-length"
+
+
+class BadTxnsPrevoutNull(Rejected):
+    reason = "bad-txns-prevout-null"
+
+
+class BadBlkSigops(Rejected):
+    reason = "bad-blk-sigops"
+
+
+class PrevBlkNotFound(Rejected):
+    reason = "prev-blk-not-found"
+
+
+class BadPrevblk(Rejected):
+    reason = "bad-prevblk"
+
+
+class BadDiffbits(Rejected):
+    reason = "bad-diffbits"
+
+
+class TimeTooOld(Rejected):
+    reason = "time-too-old"
+
+
+class TimeTooNew(Rejected):
+    reason = "time-too-new"
+
+
+class BadVersion(Rejected):
+    reason = "bad-version"
+
+
+class BadTxnsNonfinal(Rejected):
+    reason = "bad-txns-nonfinal"
+
+
+class BadCbHeight(Rejected):
+    reason = "bad-cb-height"
+
+
+class BadTxnsBIP30(Rejected):
+    reason = "bad-txns-BIP30"
+
+
+class BadTxnsInputsMissingorspent(Rejected):
+    reason = "bad-txns-inputs-missingorspent"
+
+
+class BadTxnsPrematureSpendOfCoinbase(Rejected):
+    reason = "bad-txns-premature-spend-of-coinbase"
+
+
+class BadTxnsInBelowout(Rejected):
+    reason = "bad-txns-in-belowout"
+
+
+class BadCbAmount(Rejected):
+    reason = "bad-cb-amount"
+
+
+class BlkBadInputs(Rejected):
+    reason = "blk-bad-inputs"
+
+
+#: The exceptions of the reasons, in the order of their numbers, from 1.
+_KINDS: List[Type[Rejected]] = [
+    HighHash, BadTxnmrklroot, BadTxnsDuplicate, BadBlkLength, BadCbMissing, BadCbMultiple, BadTxnsVinEmpty,
+    BadTxnsVoutEmpty, BadTxnsVoutNegative, BadTxnsVoutToolarge, BadTxnsTxouttotalToolarge, BadTxnsInputsDuplicate,
+    BadCbLength, BadTxnsPrevoutNull, BadBlkSigops, PrevBlkNotFound, BadPrevblk, BadDiffbits, TimeTooOld, TimeTooNew,
+    BadVersion, BadTxnsNonfinal, BadCbHeight, BadTxnsBIP30, BadTxnsInputsMissingorspent,
+    BadTxnsPrematureSpendOfCoinbase, BadTxnsInBelowout, BadCbAmount, BlkBadInputs,
+]  # fmt: skip
 
 #: The reasons by their numbers; "" stands at 0.
-REASONS: List[str] = (
-    " high-hash bad-txnmrklroot bad-txns-duplicate bad-blk-length bad-cb-missing bad-cb-multiple bad-txns-vin-empty"
-    " bad-txns-vout-empty bad-txns-vout-negative bad-txns-vout-toolarge bad-txns-txouttotal-toolarge"
-    " bad-txns-inputs-duplicate bad-cb-length bad-txns-prevout-null bad-blk-sigops prev-blk-not-found bad-prevblk"
-    " bad-diffbits time-too-old time-too-new bad-version bad-txns-nonfinal bad-cb-height bad-txns-BIP30"
-    " bad-txns-inputs-missingorspent bad-txns-premature-spend-of-coinbase bad-txns-in-belowout bad-cb-amount"
-    " blk-bad-inputs"
-).split(" ")
+REASONS: List[str] = ["", *(kind.reason for kind in _KINDS)]
 
 #: The exception of each reason.
-BY_REASON: Dict[str, Type[Rejected]] = {
-    reason: type(_name(reason), (Rejected,), {"reason": reason, "__doc__": f"{reason}.", "__module__": __name__})
-    for reason in REASONS[1:]
-}
-globals().update({kind.__name__: kind for kind in BY_REASON.values()})
+BY_REASON: Dict[str, Type[Rejected]] = {kind.reason: kind for kind in _KINDS}

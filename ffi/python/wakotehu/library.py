@@ -46,10 +46,7 @@ _CALLS = {
 
 def _places() -> Iterator[str]:
     """Where the library may be, the likeliest place first."""
-    named = os.environ.get("WAKOTEHU_LIBRARY")
-    if named:
-        yield named
-        return
+    yield os.path.join(os.path.dirname(os.path.abspath(__file__)), "libwakotehu.so.0")
     try:
         asked = ["pkg-config", "--variable=libdir", "wakotehu"]
         folder = subprocess.run(asked, capture_output=True, text=True, check=True).stdout.strip()
@@ -68,15 +65,19 @@ _loaded: Optional[ctypes.CDLL] = None
 def library() -> ctypes.CDLL:
     """The library, with its calls' types.
 
-    It is looked for where WAKOTEHU_LIBRARY names it; else by pkg-config, where the linker looks, and in /usr/local/lib.
+    It is looked for where WAKOTEHU_LIBRARY names it, and nowhere else then; else in the package, by pkg-config, where
+    the linker looks, and in /usr/local/lib.
     """
     global _loaded
     if _loaded is not None:
         return _loaded
-    for place in _places():
+    named = os.environ.get("WAKOTEHU_LIBRARY")
+    for place in [named] if named else _places():
         try:
             loaded = ctypes.CDLL(place)
-        except OSError:
+        except OSError as error:
+            if named:
+                raise LibraryMissing(f"WAKOTEHU_LIBRARY={named} can't be loaded: {error}") from error
             continue
         for name, types in _CALLS.items():
             call = getattr(loaded, f"wakotehu_{name}")
