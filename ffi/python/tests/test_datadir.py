@@ -3,6 +3,7 @@
 import base64
 import json
 import os
+import shutil
 import signal
 import stat
 import subprocess
@@ -158,6 +159,12 @@ class FolderTest(unittest.TestCase):
         self.assertEqual(stat.S_IMODE(os.stat(server.cookie).st_mode), 0o600)
         self.assertEqual(server.call("getblockcount", user="__cookie__:x"), 401)
         self.assertEqual(server.call("getblockcount"), 0)
+        client = shutil.which("bitcoin-cli") or shutil.which("litecoin-cli")
+        if client:
+            port = server.url.rstrip("/").rpartition(":")[2]
+            command = [client, "-regtest", f"-datadir={self.folder}", f"-rpcport={port}", "getblockcount"]
+            done = subprocess.run(command, capture_output=True, text=True)
+            self.assertEqual((done.stdout, done.stderr), ("0\n", ""))
         server.end(signal.SIGTERM)
         self.assertFalse(os.path.exists(server.cookie))
 

@@ -149,7 +149,17 @@ def _gate(given: argparse.Namespace) -> Tuple[Gate, Optional[str]]:
     path = given.rpccookiefile or os.path.join(folder, ".cookie")
     os.makedirs(os.path.dirname(path) or ".", mode=0o700, exist_ok=True)
     gate.add("__cookie__", write_cookie(path))
+    if given.datadir and not given.rpccookiefile:
+        _link_cookie(given.datadir)
     return gate, path
+
+
+def _link_cookie(folder: str) -> None:
+    """Has `bitcoin-cli -regtest -datadir=FOLDER` find the cookie: it looks into the folder `regtest` there."""
+    os.makedirs(os.path.join(folder, "regtest"), mode=0o700, exist_ok=True)
+    link = os.path.join(folder, "regtest", ".cookie")
+    if not os.path.lexists(link):
+        os.symlink(os.path.join("..", ".cookie"), link)
 
 
 def _settings(path: Optional[str]) -> Dict[str, List[str]]:
