@@ -146,6 +146,26 @@ class HeldUpTest(unittest.TestCase):
                     pass
             self.assertLess(time.perf_counter() - begun, 2)
 
+    def test_both_addresses_of_the_loopback(self):
+        try:
+            socket.create_server(("::1", 0), family=socket.AF_INET6).close()
+        except OSError:
+            self.skipTest("this machine has no IPv6")
+        running = Running(hosts=("127.0.0.1", "::1"))
+        self.addCleanup(running.stop)
+        self.assertEqual(running.call("getblockcount"), 0)
+        with socket.create_connection(("::1", running.port), 5) as connection:
+            head = f"POST / HTTP/1.1\r\nHost: [::1]\r\nAuthorization: {AUTHORIZATION}\r\nContent-Length: {len(COUNT)}\r\n"
+            connection.sendall(head.encode() + b"\r\n" + COUNT)
+            self.assertEqual(connection.recv(65536).split()[1], b"200")
+
+    def test_a_fault_of_ours_is_answered(self):
+        running = Running()
+        self.addCleanup(running.stop)
+        with mock.patch.object(running.bench, "tips", side_effect=AssertionError("ours")):
+            error = running.call("getchaintips")
+        self.assertEqual((error["code"], error["message"]), (-1, "AssertionError: ours"))
+
     def test_waiting_calls_let_others_in(self):
         running = Running()
         self.addCleanup(running.stop)

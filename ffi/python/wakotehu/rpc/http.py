@@ -156,7 +156,10 @@ class Server(socketserver.TCPServer):
                 self.shutdown_request(request)
                 return
             self._waiting[request] = None
-        threading.Thread(target=self._serve, args=(request, client_address), daemon=True).start()
+        try:
+            threading.Thread(target=self._serve, args=(request, client_address), daemon=True).start()
+        except RuntimeError:  # The system has no thread.
+            self._ended(request)
 
     def _close_one(self) -> bool:
         """Closes the connection that waits longest; false where none waits. Its thread ends soon."""
@@ -175,10 +178,13 @@ class Server(socketserver.TCPServer):
         except (OSError, ValueError):
             pass  # The client is gone, or was too slow.
         finally:
-            with self._lock:
-                self._waiting.pop(request, None)
-                self._busy.discard(request)
-            self.shutdown_request(request)
+            self._ended(request)
+
+    def _ended(self, request: socket.socket) -> None:
+        with self._lock:
+            self._waiting.pop(request, None)
+            self._busy.discard(request)
+        self.shutdown_request(request)
 
     def takes(self, request: socket.socket) -> None:
         """A request of this connection came."""

@@ -7,7 +7,6 @@ from typing import Any, Callable, Dict, List, NamedTuple, Optional, Tuple
 from ..bench import Bench
 from ..chainstate import Reply
 from ..encoding import GENESIS, GENESIS_BLOCK, Spelled, Transaction, double_sha
-from ..errors import Error
 from ..index import Kept
 from .errors import INVALID_ADDRESS_OR_KEY, INVALID_PARAMETER, METHOD_NOT_FOUND, MISC_ERROR, RpcError
 
@@ -163,5 +162,8 @@ def run(node: Node, method: str, params: Any) -> Any:
             raise RpcError(MISC_ERROR, node.broken or "The server is stopping")
         try:
             return found.run(node, *found.arguments(params))
-        except (Error, MemoryError, ValueError) as error:
-            raise RpcError(MISC_ERROR, f"{type(error).__name__}: {error}")
+        except RpcError:
+            raise
+        except Exception as error:
+            # Whatever goes wrong is answered, as Bitcoin Core does with exceptions of C++.
+            raise RpcError(MISC_ERROR, f"{type(error).__name__}: {error}") from error
