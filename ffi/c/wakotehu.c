@@ -442,6 +442,15 @@ const char *wakotehu_code_text(wakotehu_code code) {
     case WAKOTEHU_BUSY: return "another call is using the handle";
     case WAKOTEHU_NULL: return "a pointer is null, or a length is too large";
     case WAKOTEHU_TOO_MANY: return "too many chainstates are open";
+    case WAKOTEHU_SHORT: return "the bytes end too early";
+    case WAKOTEHU_LONG_FORM: return "a count is spelled in more bytes than it needs";
+    case WAKOTEHU_TOO_LARGE: return "a count is above 33554432";
+    case WAKOTEHU_EXTRA: return "bytes stand after the block";
+    case WAKOTEHU_NO_INPUT: return "there is no such input";
+    case WAKOTEHU_MISMATCH: return "another number of them is wanted";
+    case WAKOTEHU_FOREIGN: return "there is no record";
+    case WAKOTEHU_CUT: return "the record ends early";
+    case WAKOTEHU_TOO_LONG: return "the record is too long";
     }
     return "";
 }

@@ -43,7 +43,16 @@ typedef enum {
     WAKOTEHU_TOO_SMALL = 5, /* the room is too small; what is needed was told */
     WAKOTEHU_BUSY = 7,      /* another call is using the handle */
     WAKOTEHU_NULL = 8,      /* a pointer is null, or a length is above 2^63 - 1 */
-    WAKOTEHU_TOO_MANY = 9   /* WAKOTEHU_MOST chainstates are open */
+    WAKOTEHU_TOO_MANY = 9,  /* WAKOTEHU_MOST chainstates are open */
+    WAKOTEHU_SHORT = 20,    /* the bytes end too early */
+    WAKOTEHU_LONG_FORM = 21, /* a count is spelled in more bytes than it needs */
+    WAKOTEHU_TOO_LARGE = 22, /* a count is above 33,554,432 */
+    WAKOTEHU_EXTRA = 23,    /* bytes stand behind the block */
+    WAKOTEHU_NO_INPUT = 24, /* the transaction has no input of this number */
+    WAKOTEHU_MISMATCH = 25, /* another number of them is wanted */
+    WAKOTEHU_FOREIGN = 26,  /* no record of a blk file, and not zero bytes alone */
+    WAKOTEHU_CUT = 27,      /* the record ends early */
+    WAKOTEHU_TOO_LONG = 28  /* the record says a length above 33,554,432 */
 } wakotehu_code;
 
 /* So many chainstates can be open at once. */
@@ -169,6 +178,134 @@ const char *wakotehu_reply_text(uint32_t reply);
 
 /* A sentence for a code. */
 const char *wakotehu_code_text(wakotehu_code code);
+
+/* ---- The rules by themselves. These calls need no chainstate, keep nothing, and may be made from any threads at once.
+ * Where the answer isn't WAKOTEHU_OK nothing is written but what is said. `yes` and flags are 1 or 0. */
+
+/* A transaction, but for its parts: its id, its bytes, how many inputs and outputs it has, its signature operations
+ * (each script counted plainly), whether it is a coinbase, and the number of the first rule that it breaks by itself (7
+ * to 14, see wakotehu_reason_text), 0 where there is none. */
+typedef struct {
+    uint8_t id[32];
+    uint64_t size, inputs, outputs, sigops;
+    int32_t version;
+    uint32_t lock_time, coinbase, reason;
+} wakotehu_transaction;
+
+/* From where the relative lock of an input counts: its coin's height, and the median time past of the block before. */
+typedef struct {
+    uint32_t height, median;
+} wakotehu_start;
+
+/* A block, but for its transactions: its id, the fields of its header, the Merkle root of its transactions and whether
+ * another list has that root too (twin), its bytes, how many transactions it has, whether its id meets regtest's
+ * target, and the number of the first rule that it breaks by itself (1 to 15), 0 where there is none. */
+typedef struct {
+    uint8_t id[32], parent[32], root[32], merkle[32];
+    uint64_t size, transactions;
+    int32_t version;
+    uint32_t time, bits, nonce, twin, target, reason;
+} wakotehu_block_shown;
+
+/* A transaction of a block: its id, and how many outputs it has. */
+typedef struct {
+    uint8_t id[32];
+    uint64_t outputs;
+} wakotehu_made;
+
+/* An opcode: how many bytes it has, how many of these it pushes (the last ones), and its number. */
+typedef struct {
+    uint64_t length, pushed;
+    uint32_t number;
+} wakotehu_opcode;
+
+/* A script: its signature operations counted plainly and accurately, and whether it is wholly readable and only pushes,
+ * pays to a script's hash (BIP 16), and can never be spent. */
+typedef struct {
+    uint64_t plain, accurate;
+    uint32_t push_only, p2sh, unspendable;
+} wakotehu_script_shown;
+
+/* Which rules of scripts are in force: BIP 66, BIP 65, BIP 112. BIP 16 always is. */
+typedef struct {
+    uint32_t dersig, cltv, csv;
+} wakotehu_flags;
+
+/* Reads the transaction at the front of the bytes; `size` says how many it takes. */
+wakotehu_code wakotehu_read_transaction(const uint8_t *bytes, size_t length, wakotehu_transaction *shown);
+
+/* Whether the transaction at the front may stand in a block of a height; cutoff: the median time past of the block's
+ * parent (Bitcoin Core's IsFinalTx). */
+wakotehu_code wakotehu_is_final(const uint8_t *bytes, size_t length, uint32_t height, uint32_t cutoff, uint32_t *yes);
+
+/* Whether its relative locks are met there (BIP 68): a start for each input, else WAKOTEHU_MISMATCH. */
+wakotehu_code wakotehu_locks_met(const uint8_t *bytes, size_t length, const wakotehu_start *starts, size_t count,
+                                 uint32_t height, uint32_t cutoff, uint32_t *yes);
+
+/* Reads the block that all the bytes spell. */
+wakotehu_code wakotehu_read_block(const uint8_t *bytes, size_t length, wakotehu_block_shown *shown);
+
+/* Its transactions, in order, at the front of `rows`, and how many they are, which is told where the room is too small
+ * as well; WAKOTEHU_NONE where the bytes are no block. */
+wakotehu_code wakotehu_block_transactions(const uint8_t *bytes, size_t length, wakotehu_made *rows, size_t most,
+                                          uint64_t *count);
+
+/* The number of the first rule that a block breaks by its place (18 to 23), 0 where there is none: at a height, with its
+ * parent's median time past, at a moment. */
+wakotehu_code wakotehu_block_place(const uint8_t *bytes, size_t length, uint32_t height, uint32_t median, uint64_t now,
+                                   const wakotehu_heights *heights, uint32_t *reason);
+
+/* How many bytes the block has of the record at the front of a blk file's bytes; it stands behind the record's first 8.
+ * WAKOTEHU_NONE at the end: zero bytes alone. */
+wakotehu_code wakotehu_record(const uint8_t *bytes, size_t length, uint64_t *block);
+
+/* The new coins of a block of this height on regtest, in satoshis. */
+int64_t wakotehu_subsidy(uint32_t height);
+
+/* Whether an id meets regtest's target. */
+wakotehu_code wakotehu_meets_target(const uint8_t *id, uint32_t *yes);
+
+/* The median of 1 to 11 times (Bitcoin Core's GetMedianTimePast), else WAKOTEHU_MISMATCH. */
+wakotehu_code wakotehu_median(const uint32_t *times, size_t count, uint32_t *median);
+
+/* The opcode at the front of a script; WAKOTEHU_NONE where none is: what is left is nothing, or a push cut short. */
+wakotehu_code wakotehu_next_opcode(const uint8_t *script, size_t length, wakotehu_opcode *shown);
+
+/* A script's kind and signature operations. */
+wakotehu_code wakotehu_script(const uint8_t *script, size_t length, wakotehu_script_shown *shown);
+
+/* The signature operations of the inner script of an input script and the script that it spends (BIP 16). */
+wakotehu_code wakotehu_p2sh_sigops(const uint8_t *input, size_t length, const uint8_t *spent, size_t spent_length,
+                                   uint64_t *count);
+
+/* The number that at most `most` bytes (and at most 8) spell (CScriptNum); WAKOTEHU_NONE where there are more. */
+wakotehu_code wakotehu_read_number(const uint8_t *bytes, size_t length, uint64_t most, int64_t *value);
+
+/* A number's shortest spelling, of at most 9 bytes; `count` is written where the room is too small as well. */
+wakotehu_code wakotehu_number_bytes(int64_t value, uint8_t *bytes, size_t length, uint64_t *count);
+
+/* Whether a signature with its hash type is strictly encoded (BIP 66), or has no byte. */
+wakotehu_code wakotehu_strict_signature(const uint8_t *bytes, size_t length, uint32_t *yes);
+
+/* The 32 bytes that a signature of an input signs, for a code and a hash type of four bytes. */
+wakotehu_code wakotehu_signature_digest(const uint8_t *bytes, size_t length, uint64_t input, const uint8_t *code,
+                                        size_t code_length, uint32_t kind, uint8_t *digest);
+
+/* Whether an input of the transaction at the front of the bytes may spend a script (Bitcoin Core's VerifyScript). table:
+ * lines of valid signatures, as wakotehu_open takes them; line: as there, may be null. */
+wakotehu_code wakotehu_verify(const uint8_t *bytes, size_t length, uint64_t input, const uint8_t *spent,
+                              size_t spent_length, const wakotehu_flags *flags, const char *table,
+                              size_t table_length, uint64_t *line, uint32_t *accepted);
+
+/* RIPEMD-160 and HASH160 (20 bytes), and SHA-256 twice (32 bytes). */
+wakotehu_code wakotehu_ripemd160(const uint8_t *bytes, size_t length, uint8_t *digest);
+wakotehu_code wakotehu_hash160(const uint8_t *bytes, size_t length, uint8_t *digest);
+wakotehu_code wakotehu_double_sha(const uint8_t *bytes, size_t length, uint8_t *digest);
+
+/* The 64 digits of an id as programs print it, without a zero byte at the end; and the id of 64 digits, else
+ * WAKOTEHU_NONE. */
+wakotehu_code wakotehu_show_id(const uint8_t *id, char *digits);
+wakotehu_code wakotehu_read_id(const char *text, size_t length, uint8_t *id);
 
 #ifdef __cplusplus
 }

@@ -1,6 +1,10 @@
 pub mod Answers
+pub mod BlockRules
 pub mod Blocks
 pub mod Codes
 pub mod Keeping
+pub mod Refusals
+pub mod Scripts
 pub mod SessionState
+pub mod Transactions
 pub mod inside

@@ -21,6 +21,10 @@ pub(crate) const NONE: u32 = 4;
 pub(crate) const TOO_SMALL: u32 = 5;
 /// The slot holds a session already.
 pub(crate) const FULL: u32 = 6;
+/// The transaction has no input of this number.
+pub(crate) const NO_INPUT: u32 = 24;
+/// As many are wanted as there are inputs, or 1 to 11 times.
+pub(crate) const MISMATCH: u32 = 25;
 
 /// An id, in the order in which it is hashed and sent.
 #[repr(C)]

@@ -2,11 +2,16 @@
 #![tactic(auto)]
 
 mod answers;
+mod block_rules;
 mod blocks;
 mod exports;
+mod hashes;
 mod kept;
+mod scripts;
 mod session;
+mod shown;
 mod slot;
+mod transactions;
 mod unboxed;
 
 pub use answers::{Answer, Heights, Made, Name, Place, ShownCoin, ShownTip};

@@ -1,0 +1,63 @@
+//! Hashes, and how ids are printed.
+
+ghost use Rattle.std.specs.Prelude.{◌≡◌, ◌⊎◌, reverse, Ok};
+ghost use Rattle.hash.specs.Double.{double_sha};
+ghost use Rattle.hash.specs.Id.{hex_of_id};
+ghost use Rattle.hash.specs.KeyHash.{hash160};
+ghost use Rattle.hex.specs.Hex.{decode_of};
+ghost use Rattle.ripemd.specs.Ripemd160.{ripemd160};
+ghost use Rattle.ffi.specs.Answers.{id_of};
+
+use crate::answers::{DONE, NONE, Name};
+use crate::shown::{Digits, KeyName};
+use hash::{Id, double_sha, hash160};
+
+#[unsafe(no_mangle)]
+pub extern "C" fn ffi_ripemd160(bytes: &[u8], found: &mut KeyName)
+    ensures { found.new.bytes ≡ ripemd160 bytes.now }
+{
+    let digest = ripemd::digest(bytes);
+    found.bytes = digest;
+}
+
+#[unsafe(no_mangle)]
+pub extern "C" fn ffi_hash160(bytes: &[u8], found: &mut KeyName)
+    ensures { found.new.bytes ≡ hash160 bytes.now }
+{
+    let digest = hash160(bytes);
+    found.bytes = digest;
+}
+
+#[unsafe(no_mangle)]
+pub extern "C" fn ffi_double_sha(bytes: &[u8], found: &mut Name)
+    ensures { found.new.bytes ≡ double_sha bytes.now }
+{
+    let digest = double_sha(bytes);
+    found.bytes = digest;
+}
+
+/// An id's digits, as it is printed.
+#[unsafe(no_mangle)]
+pub extern "C" fn ffi_id_show(id: &Name, digits: &mut Digits)
+    ensures { digits.new.bytes ≡ hex_of_id (id_of id.now) }
+{
+    let bytes = id.bytes;
+    let shown = Id(bytes).show();
+    digits.bytes = shown;
+}
+
+/// The id that is printed so, if these are 64 digits.
+#[unsafe(no_mangle)]
+pub extern "C" fn ffi_id_read(text: &[u8], id: &mut Name) -> u32
+    ensures { ((result ≡ 0) × (decode_of text.now ≡ Ok (reverse id.new.bytes)))
+        ⊎ ((result ≡ 4) × (id.new ≡ id.old)) }
+{
+    match Id::read(text) {
+        None => NONE,
+        Some(found) => {
+            let bytes = found.0;
+            id.bytes = bytes;
+            DONE
+        }
+    }
+}

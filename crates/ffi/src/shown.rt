@@ -1,0 +1,91 @@
+//! What the calls without a chainstate take and tell.
+
+use crate::answers::Name;
+
+/// A transaction, but for its parts: its id, its bytes, how many inputs and outputs it has, its signature operations,
+/// and the first rule that it breaks by itself, 0 where there is none.
+#[repr(C)]
+#[derive(Clone, Copy, Drop)]
+pub struct ShownTx {
+    pub id: Name,
+    pub size: u64,
+    pub inputs: u64,
+    pub outputs: u64,
+    pub sigops: u64,
+    pub version: i32,
+    pub lock_time: u32,
+    pub coinbase: u32,
+    pub reason: u32,
+}
+
+/// From where the lock of an input counts: its coin's height, and the median time past of the block before that one.
+#[repr(C)]
+#[derive(Clone, Copy, Drop)]
+pub struct Start {
+    pub height: u32,
+    pub median: u32,
+}
+
+/// A block, but for its transactions: its header's fields, its id, the root of its transactions' ids and whether
+/// another list has it too, how many they are, its bytes, whether its id meets the target, and the first rule that it
+/// breaks by itself, 0 where there is none.
+#[repr(C)]
+#[derive(Clone, Copy, Drop)]
+pub struct ShownBlock {
+    pub id: Name,
+    pub parent: Name,
+    pub root: Name,
+    pub merkle: Name,
+    pub size: u64,
+    pub transactions: u64,
+    pub version: i32,
+    pub time: u32,
+    pub bits: u32,
+    pub nonce: u32,
+    pub twin: u32,
+    pub target: u32,
+    pub reason: u32,
+}
+
+/// An opcode: its number, all its bytes, and how many of these it pushes, which are the last.
+#[repr(C)]
+#[derive(Clone, Copy, Drop)]
+pub struct ShownOp {
+    pub length: u64,
+    pub pushed: u64,
+    pub number: u32,
+}
+
+/// A script's signature operations, counted plainly and accurately, and its kind.
+#[repr(C)]
+#[derive(Clone, Copy, Drop)]
+pub struct ShownScript {
+    pub plain: u64,
+    pub accurate: u64,
+    pub push_only: u32,
+    pub p2sh: u32,
+    pub unspendable: u32,
+}
+
+/// Which rules of scripts are in force: those whose number isn't 0.
+#[repr(C)]
+#[derive(Clone, Copy, Drop)]
+pub struct ShownFlags {
+    pub dersig: u32,
+    pub cltv: u32,
+    pub csv: u32,
+}
+
+/// A digest of 20 bytes.
+#[repr(C)]
+#[derive(Clone, Copy, Drop)]
+pub struct KeyName {
+    pub bytes: [u8; 20],
+}
+
+/// The digits of an id.
+#[repr(C)]
+#[derive(Clone, Copy, Drop)]
+pub struct Digits {
+    pub bytes: [u8; 64],
+}

@@ -1,0 +1,209 @@
+/*
+ * The rules as calls without a chainstate. This file is trusted: nothing proves it. It tests pointers and lengths; the
+ * proved functions ffi_* of crates/ffi do the work. What it owes them: each pointer points to what its type says, and
+ * to nothing that another argument points to. Nothing is kept between two calls.
+ */
+#include "wakotehu.h"
+
+#include <stdbool.h>
+#include <string.h>
+
+uint32_t ffi_tx(const uint8_t *bytes, size_t length, wakotehu_transaction *shown);
+uint32_t ffi_tx_final(const uint8_t *bytes, size_t length, uint32_t height, uint32_t cutoff, uint32_t *yes);
+uint32_t ffi_tx_locks(const uint8_t *bytes, size_t length, const wakotehu_start *starts, size_t count, uint32_t height,
+                      uint32_t cutoff, uint32_t *yes);
+uint32_t ffi_block(const uint8_t *bytes, size_t length, wakotehu_block_shown *shown);
+uint32_t ffi_block_place(const uint8_t *bytes, size_t length, uint32_t height, uint32_t median, uint64_t now,
+                         const wakotehu_heights *heights, uint32_t *reason);
+uint32_t ffi_record(const uint8_t *bytes, size_t length, uint64_t *block);
+int64_t ffi_subsidy(uint32_t height);
+uint32_t ffi_meets_target(const uint8_t *id);
+uint32_t ffi_median(const uint32_t *times, size_t count, uint32_t *median);
+uint32_t ffi_op(const uint8_t *script, size_t length, wakotehu_opcode *shown);
+uint32_t ffi_script(const uint8_t *script, size_t length, wakotehu_script_shown *shown);
+uint64_t ffi_p2sh_sigops(const uint8_t *input, size_t length, const uint8_t *spent, size_t spent_length);
+uint32_t ffi_number(const uint8_t *bytes, size_t length, uint64_t most, int64_t *value);
+uint32_t ffi_number_bytes(int64_t value, uint8_t *bytes, size_t length, uint64_t *count);
+uint32_t ffi_strict(const uint8_t *bytes, size_t length);
+uint32_t ffi_digest(const uint8_t *bytes, size_t length, uint64_t input, const uint8_t *code, size_t code_length,
+                    uint32_t kind, uint8_t *digest);
+uint32_t ffi_verify(const uint8_t *bytes, size_t length, uint64_t input, const uint8_t *spent, size_t spent_length,
+                    const wakotehu_flags *flags, const uint8_t *table, size_t table_length, uint64_t *line,
+                    uint32_t *accepted);
+void ffi_ripemd160(const uint8_t *bytes, size_t length, uint8_t *digest);
+void ffi_hash160(const uint8_t *bytes, size_t length, uint8_t *digest);
+void ffi_double_sha(const uint8_t *bytes, size_t length, uint8_t *digest);
+void ffi_id_show(const uint8_t *id, uint8_t *digits);
+uint32_t ffi_id_read(const uint8_t *text, size_t length, uint8_t *id);
+uint32_t ffi_transactions(const uint8_t *bytes, size_t length, wakotehu_made *rows, size_t most, uint64_t *count);
+
+_Static_assert(sizeof(wakotehu_transaction) == 80 && offsetof(wakotehu_transaction, reason) == 76, "as ShownTx");
+_Static_assert(sizeof(wakotehu_block_shown) == 176 && offsetof(wakotehu_block_shown, reason) == 168, "as ShownBlock");
+_Static_assert(sizeof(wakotehu_opcode) == 24 && sizeof(wakotehu_script_shown) == 32, "as ShownOp and ShownScript");
+_Static_assert(sizeof(wakotehu_start) == 8 && sizeof(wakotehu_flags) == 12, "as Start and ShownFlags");
+_Static_assert(sizeof(wakotehu_made) == 40, "as Made");
+
+/* Where no byte is meant some address that isn't null is passed on, aligned for any row. */
+static _Alignas(8) uint8_t nothing[8];
+
+static bool readable(const void *bytes, size_t length) { return (bytes || !length) && length <= PTRDIFF_MAX; }
+
+static bool rows_fit(const void *rows, size_t count, size_t size) {
+    return (rows || !count) && count <= PTRDIFF_MAX / size;
+}
+
+#define AT(bytes, length) ((length) ? (bytes) : (const void *)nothing)
+
+wakotehu_code wakotehu_read_transaction(const uint8_t *bytes, size_t length, wakotehu_transaction *shown) {
+    if (!readable(bytes, length) || !shown)
+        return WAKOTEHU_NULL;
+    return (wakotehu_code)ffi_tx(AT(bytes, length), length, shown);
+}
+
+wakotehu_code wakotehu_is_final(const uint8_t *bytes, size_t length, uint32_t height, uint32_t cutoff, uint32_t *yes) {
+    if (!readable(bytes, length) || !yes)
+        return WAKOTEHU_NULL;
+    return (wakotehu_code)ffi_tx_final(AT(bytes, length), length, height, cutoff, yes);
+}
+
+wakotehu_code wakotehu_locks_met(const uint8_t *bytes, size_t length, const wakotehu_start *starts, size_t count,
+                                 uint32_t height, uint32_t cutoff, uint32_t *yes) {
+    if (!readable(bytes, length) || !rows_fit(starts, count, sizeof *starts) || !yes)
+        return WAKOTEHU_NULL;
+    return (wakotehu_code)ffi_tx_locks(AT(bytes, length), length, AT(starts, count), count, height, cutoff, yes);
+}
+
+wakotehu_code wakotehu_read_block(const uint8_t *bytes, size_t length, wakotehu_block_shown *shown) {
+    if (!readable(bytes, length) || !shown)
+        return WAKOTEHU_NULL;
+    return (wakotehu_code)ffi_block(AT(bytes, length), length, shown);
+}
+
+wakotehu_code wakotehu_block_transactions(const uint8_t *bytes, size_t length, wakotehu_made *rows, size_t most,
+                                          uint64_t *count) {
+    if (!readable(bytes, length) || !rows_fit(rows, most, sizeof *rows) || !count)
+        return WAKOTEHU_NULL;
+    return (wakotehu_code)ffi_transactions(AT(bytes, length), length, most ? rows : (void *)nothing, most, count);
+}
+
+wakotehu_code wakotehu_block_place(const uint8_t *bytes, size_t length, uint32_t height, uint32_t median, uint64_t now,
+                                   const wakotehu_heights *heights, uint32_t *reason) {
+    if (!readable(bytes, length) || !heights || !reason)
+        return WAKOTEHU_NULL;
+    return (wakotehu_code)ffi_block_place(AT(bytes, length), length, height, median, now, heights, reason);
+}
+
+wakotehu_code wakotehu_record(const uint8_t *bytes, size_t length, uint64_t *block) {
+    if (!readable(bytes, length) || !block)
+        return WAKOTEHU_NULL;
+    return (wakotehu_code)ffi_record(AT(bytes, length), length, block);
+}
+
+int64_t wakotehu_subsidy(uint32_t height) { return ffi_subsidy(height); }
+
+wakotehu_code wakotehu_meets_target(const uint8_t *id, uint32_t *yes) {
+    if (!id || !yes)
+        return WAKOTEHU_NULL;
+    *yes = ffi_meets_target(id);
+    return WAKOTEHU_OK;
+}
+
+wakotehu_code wakotehu_median(const uint32_t *times, size_t count, uint32_t *median) {
+    if (!rows_fit(times, count, sizeof *times) || !median)
+        return WAKOTEHU_NULL;
+    return (wakotehu_code)ffi_median(AT(times, count), count, median);
+}
+
+wakotehu_code wakotehu_next_opcode(const uint8_t *script, size_t length, wakotehu_opcode *shown) {
+    if (!readable(script, length) || !shown)
+        return WAKOTEHU_NULL;
+    return (wakotehu_code)ffi_op(AT(script, length), length, shown);
+}
+
+wakotehu_code wakotehu_script(const uint8_t *script, size_t length, wakotehu_script_shown *shown) {
+    if (!readable(script, length) || !shown)
+        return WAKOTEHU_NULL;
+    return (wakotehu_code)ffi_script(AT(script, length), length, shown);
+}
+
+wakotehu_code wakotehu_p2sh_sigops(const uint8_t *input, size_t length, const uint8_t *spent, size_t spent_length,
+                                   uint64_t *count) {
+    if (!readable(input, length) || !readable(spent, spent_length) || !count)
+        return WAKOTEHU_NULL;
+    *count = ffi_p2sh_sigops(AT(input, length), length, AT(spent, spent_length), spent_length);
+    return WAKOTEHU_OK;
+}
+
+wakotehu_code wakotehu_read_number(const uint8_t *bytes, size_t length, uint64_t most, int64_t *value) {
+    if (!readable(bytes, length) || !value)
+        return WAKOTEHU_NULL;
+    return (wakotehu_code)ffi_number(AT(bytes, length), length, most, value);
+}
+
+wakotehu_code wakotehu_number_bytes(int64_t value, uint8_t *bytes, size_t length, uint64_t *count) {
+    if (!readable(bytes, length) || !count)
+        return WAKOTEHU_NULL;
+    return (wakotehu_code)ffi_number_bytes(value, length ? bytes : nothing, length, count);
+}
+
+wakotehu_code wakotehu_strict_signature(const uint8_t *bytes, size_t length, uint32_t *yes) {
+    if (!readable(bytes, length) || !yes)
+        return WAKOTEHU_NULL;
+    *yes = ffi_strict(AT(bytes, length), length);
+    return WAKOTEHU_OK;
+}
+
+wakotehu_code wakotehu_signature_digest(const uint8_t *bytes, size_t length, uint64_t input, const uint8_t *code,
+                                        size_t code_length, uint32_t kind, uint8_t *digest) {
+    if (!readable(bytes, length) || !readable(code, code_length) || !digest)
+        return WAKOTEHU_NULL;
+    return (wakotehu_code)ffi_digest(AT(bytes, length), length, input, AT(code, code_length), code_length, kind,
+                                     digest);
+}
+
+wakotehu_code wakotehu_verify(const uint8_t *bytes, size_t length, uint64_t input, const uint8_t *spent,
+                              size_t spent_length, const wakotehu_flags *flags, const char *table,
+                              size_t table_length, uint64_t *line, uint32_t *accepted) {
+    uint64_t bad_line = 0;
+    if (!readable(bytes, length) || !readable(spent, spent_length) || !flags || !readable(table, table_length)
+        || !accepted)
+        return WAKOTEHU_NULL;
+    uint32_t code = ffi_verify(AT(bytes, length), length, input, AT(spent, spent_length), spent_length, flags,
+                               AT(table, table_length), table_length, &bad_line, accepted);
+    if (line && code == WAKOTEHU_BAD_TABLE)
+        *line = bad_line;
+    return (wakotehu_code)code;
+}
+
+static wakotehu_code hash(void (*call)(const uint8_t *, size_t, uint8_t *), const uint8_t *bytes, size_t length,
+                          uint8_t *digest) {
+    if (!readable(bytes, length) || !digest)
+        return WAKOTEHU_NULL;
+    call(AT(bytes, length), length, digest);
+    return WAKOTEHU_OK;
+}
+
+wakotehu_code wakotehu_ripemd160(const uint8_t *bytes, size_t length, uint8_t *digest) {
+    return hash(ffi_ripemd160, bytes, length, digest);
+}
+
+wakotehu_code wakotehu_hash160(const uint8_t *bytes, size_t length, uint8_t *digest) {
+    return hash(ffi_hash160, bytes, length, digest);
+}
+
+wakotehu_code wakotehu_double_sha(const uint8_t *bytes, size_t length, uint8_t *digest) {
+    return hash(ffi_double_sha, bytes, length, digest);
+}
+
+wakotehu_code wakotehu_show_id(const uint8_t *id, char *digits) {
+    if (!id || !digits)
+        return WAKOTEHU_NULL;
+    ffi_id_show(id, (uint8_t *)digits);
+    return WAKOTEHU_OK;
+}
+
+wakotehu_code wakotehu_read_id(const char *text, size_t length, uint8_t *id) {
+    if (!readable(text, length) || !id)
+        return WAKOTEHU_NULL;
+    return (wakotehu_code)ffi_id_read(AT(text, length), length, id);
+}

@@ -1,0 +1,383 @@
+"""The rules by themselves, without a chainstate: transactions, blocks, scripts, digests and hashes, as proved.
+
+Bytes go in and plain values come out. Ids are bytes in the order in which they are hashed; `show` and `read_id` turn
+them into text and back. What can't be read raises `Refused`, whose `fault` names why. See docs/CONSENSUS.md.
+"""
+
+import ctypes
+from ctypes import POINTER, c_char_p, c_int, c_int64, c_size_t, c_uint8, c_uint32, c_uint64
+from dataclasses import dataclass
+from typing import Any, Iterable, Iterator, List, Optional, Sequence, Tuple
+
+from .errors import REASONS, BadTable, Error
+from .library import Heights, library
+
+#: Why bytes are refused, by the numbers of the codes.
+FAULTS = {
+    20: "short", 21: "long form", 22: "too large", 23: "extra", 24: "no such input", 25: "mismatch",
+    26: "foreign", 27: "cut", 28: "too long",
+}  # fmt: skip
+#: All rules of scripts that came by soft forks.
+ALL = frozenset({"DERSIG", "CLTV", "CSV"})
+
+
+class Refused(Error):
+    """The bytes, or what was asked of them, are refused; `fault` says why, by a word of `FAULTS`."""
+
+    def __init__(self, fault: str) -> None:
+        self.fault = fault
+        super().__init__(fault)
+
+
+class _Transaction(ctypes.Structure):
+    _fields_ = [
+        ("id", c_uint8 * 32), ("size", c_uint64), ("inputs", c_uint64), ("outputs", c_uint64), ("sigops", c_uint64),
+        ("version", ctypes.c_int32), ("lock_time", c_uint32), ("coinbase", c_uint32), ("reason", c_uint32),
+    ]  # fmt: skip
+
+
+class _Block(ctypes.Structure):
+    _fields_ = [
+        ("id", c_uint8 * 32), ("parent", c_uint8 * 32), ("root", c_uint8 * 32), ("merkle", c_uint8 * 32),
+        ("size", c_uint64), ("transactions", c_uint64), ("version", ctypes.c_int32), ("time", c_uint32),
+        ("bits", c_uint32), ("nonce", c_uint32), ("twin", c_uint32), ("target", c_uint32), ("reason", c_uint32),
+    ]  # fmt: skip
+
+
+class _Made(ctypes.Structure):
+    _fields_ = [("id", c_uint8 * 32), ("outputs", c_uint64)]
+
+
+class _Opcode(ctypes.Structure):
+    _fields_ = [("length", c_uint64), ("pushed", c_uint64), ("number", c_uint32)]
+
+
+class _Script(ctypes.Structure):
+    _fields_ = [
+        ("plain", c_uint64), ("accurate", c_uint64), ("push_only", c_uint32), ("p2sh", c_uint32),
+        ("unspendable", c_uint32),
+    ]  # fmt: skip
+
+
+class _Flags(ctypes.Structure):
+    _fields_ = [("dersig", c_uint32), ("cltv", c_uint32), ("csv", c_uint32)]
+
+
+class _Start(ctypes.Structure):
+    _fields_ = [("height", c_uint32), ("median", c_uint32)]
+
+
+_BYTES = [c_char_p, c_size_t]
+_YES = [POINTER(c_uint32)]
+_CALLS = {
+    "read_transaction": _BYTES + [POINTER(_Transaction)],
+    "is_final": _BYTES + [c_uint32, c_uint32] + _YES,
+    "locks_met": _BYTES + [POINTER(_Start), c_size_t, c_uint32, c_uint32] + _YES,
+    "read_block": _BYTES + [POINTER(_Block)],
+    "block_transactions": _BYTES + [POINTER(_Made), c_size_t, POINTER(c_uint64)],
+    "block_place": _BYTES + [c_uint32, c_uint32, c_uint64, POINTER(Heights), POINTER(c_uint32)],
+    "record": _BYTES + [POINTER(c_uint64)],
+    "meets_target": [c_char_p] + _YES,
+    "median": [POINTER(c_uint32), c_size_t, POINTER(c_uint32)],
+    "next_opcode": _BYTES + [POINTER(_Opcode)],
+    "script": _BYTES + [POINTER(_Script)],
+    "p2sh_sigops": _BYTES + _BYTES + [POINTER(c_uint64)],
+    "read_number": _BYTES + [c_uint64, POINTER(c_int64)],
+    "number_bytes": [c_int64, c_char_p, c_size_t, POINTER(c_uint64)],
+    "strict_signature": _BYTES + _YES,
+    "signature_digest": _BYTES + [c_uint64] + _BYTES + [c_uint32, c_char_p],
+    "verify": _BYTES + [c_uint64] + _BYTES + [POINTER(_Flags)] + _BYTES + [POINTER(c_uint64)] + _YES,
+    "ripemd160": _BYTES + [c_char_p],
+    "hash160": _BYTES + [c_char_p],
+    "double_sha": _BYTES + [c_char_p],
+    "show_id": [c_char_p, c_char_p],
+    "read_id": _BYTES + [c_char_p],
+}
+_ready: Optional[ctypes.CDLL] = None
+
+
+def _call(name: str, *args: Any) -> int:
+    """The code that a call answers; lack of memory is a `MemoryError`, a fault a `Refused`."""
+    global _ready
+    if _ready is None:
+        loaded = library()
+        for call, types in _CALLS.items():
+            getattr(loaded, f"wakotehu_{call}").argtypes = types
+            getattr(loaded, f"wakotehu_{call}").restype = c_int
+        loaded.wakotehu_subsidy.argtypes, loaded.wakotehu_subsidy.restype = [c_uint32], c_int64
+        _ready = loaded
+    code = int(getattr(_ready, f"wakotehu_{name}")(*args))
+    if code == 1:
+        raise MemoryError
+    if code in FAULTS:
+        raise Refused(FAULTS[code])
+    if code == 8:
+        raise ValueError("a length is too large")
+    return code
+
+
+def _sized(data: bytes) -> Tuple[bytes, int]:
+    return bytes(data), len(data)
+
+
+def _word(value: int, bits: int = 32) -> int:
+    if not 0 <= value < 1 << bits:
+        raise ValueError(f"{value} isn't a number of {bits} bits")
+    return value
+
+
+# ---- transactions
+
+
+@dataclass(frozen=True)
+class Transaction:
+    """A transaction, but for its parts. `reason` is the first rule that it breaks by itself, "" for none."""
+
+    id: bytes
+    size: int
+    inputs: int
+    outputs: int
+    sigops: int
+    version: int
+    lock_time: int
+    coinbase: bool
+    reason: str
+
+
+def transaction(data: bytes) -> Transaction:
+    """The transaction at the front of bytes; `size` of them are its."""
+    f = _Transaction()
+    _call("read_transaction", *_sized(data), f)
+    return Transaction(
+        bytes(f.id), f.size, f.inputs, f.outputs, f.sigops, f.version, f.lock_time, bool(f.coinbase), REASONS[f.reason]
+    )
+
+
+def is_final(data: bytes, height: int, cutoff: int) -> bool:
+    """Whether the transaction may stand in a block of a height; the cutoff is its parent's median time past."""
+    yes = c_uint32()
+    _call("is_final", *_sized(data), _word(height), _word(cutoff), yes)
+    return bool(yes.value)
+
+
+def locks_met(data: bytes, starts: Sequence[Tuple[int, int]], height: int, cutoff: int) -> bool:
+    """Whether its relative locks are met there (BIP 68), given each input's coin height and median time past."""
+    yes = c_uint32()
+    rows = (_Start * len(starts))(*((_word(high), _word(median)) for high, median in starts))
+    _call("locks_met", *_sized(data), rows, len(starts), _word(height), _word(cutoff), yes)
+    return bool(yes.value)
+
+
+# ---- blocks
+
+
+@dataclass(frozen=True)
+class Block:
+    """A block, but for its transactions. `merkle` is the root of its transactions, which another list has too where
+    `twin` is true; `reason` is the first rule that it breaks by itself, "" for none."""
+
+    id: bytes
+    parent: bytes
+    root: bytes
+    merkle: bytes
+    size: int
+    transactions: int
+    version: int
+    time: int
+    bits: int
+    nonce: int
+    twin: bool
+    target: bool
+    reason: str
+
+
+def block(data: bytes) -> Block:
+    """The block that all of these bytes spell."""
+    f = _Block()
+    _call("read_block", *_sized(data), f)
+    return Block(
+        bytes(f.id), bytes(f.parent), bytes(f.root), bytes(f.merkle), f.size, f.transactions, f.version, f.time,
+        f.bits, f.nonce, bool(f.twin), bool(f.target), REASONS[f.reason],
+    )  # fmt: skip
+
+
+def block_ids(data: bytes) -> List[bytes]:
+    """The ids of a block's transactions, in order."""
+    count = block(data).transactions
+    rows, found = (_Made * count)(), c_uint64()
+    _call("block_transactions", *_sized(data), rows, count, found)
+    return [bytes(row.id) for row in rows]
+
+
+def block_place(
+    data: bytes, height: int, median: int, now: int, heights: Sequence[int] = (1, 1, 1, 1)
+) -> str:
+    """The first rule that a block breaks by its place, "" for none: at a height, with its parent's median time past, at
+    a moment, where the soft forks of BIPs 34, 65, 66 and 68 are in force from these heights on."""
+    reason = c_uint32()
+    _call(
+        "block_place", *_sized(data), _word(height), _word(median), _word(now, 64), Heights(*map(_word, heights)), reason
+    )
+    return REASONS[reason.value]
+
+
+def records(data: bytes) -> Iterator[bytes]:
+    """The blocks of a blk file of regtest, one by one."""
+    at, size = 0, c_uint64()
+    while _call("record", *_sized(data[at:]), size) == 0:
+        yield data[at + 8 : at + 8 + size.value]
+        at += 8 + size.value
+
+
+def subsidy(height: int) -> int:
+    """The new coins of a block of this height on regtest, in satoshis."""
+    _call("double_sha", b"", 0, ctypes.create_string_buffer(32))
+    return int(library().wakotehu_subsidy(_word(height)))
+
+
+def meets_target(id: bytes) -> bool:
+    """Whether an id meets regtest's target."""
+    yes = c_uint32()
+    _call("meets_target", _id(id), yes)
+    return bool(yes.value)
+
+
+def median(times: Sequence[int]) -> int:
+    """The median of 1 to 11 times."""
+    found = c_uint32()
+    _call("median", (c_uint32 * len(times))(*map(_word, times)), len(times), found)
+    return found.value
+
+
+# ---- scripts
+
+
+@dataclass(frozen=True)
+class Opcode:
+    """An opcode: where it begins, its number, and what it pushes."""
+
+    offset: int
+    number: int
+    data: bytes
+
+
+def opcodes(script: bytes) -> Tuple[List[Opcode], bytes]:
+    """A script's opcodes, and the rest: nothing, or a push that is cut short."""
+    found, at, shown = [], 0, _Opcode()
+    while _call("next_opcode", *_sized(script[at:]), shown) == 0:
+        end = at + shown.length
+        found.append(Opcode(at, shown.number, script[end - shown.pushed : end]))
+        at = end
+    return found, script[at:]
+
+
+@dataclass(frozen=True)
+class Script:
+    """A script's signature operations, counted plainly and accurately, and its kind."""
+
+    plain: int
+    accurate: int
+    push_only: bool
+    p2sh: bool
+    unspendable: bool
+
+
+def script(data: bytes) -> Script:
+    """What a script is."""
+    f = _Script()
+    _call("script", *_sized(data), f)
+    return Script(f.plain, f.accurate, bool(f.push_only), bool(f.p2sh), bool(f.unspendable))
+
+
+def p2sh_sigops(input: bytes, spent: bytes) -> int:
+    """The signature operations of the inner script of an input script and the script that it spends (BIP 16)."""
+    count = c_uint64()
+    _call("p2sh_sigops", *_sized(input), *_sized(spent), count)
+    return count.value
+
+
+def read_number(data: bytes, most: int = 4) -> Optional[int]:
+    """The number that at most so many bytes spell, or None."""
+    value = c_int64()
+    return None if _call("read_number", *_sized(data), _word(most, 64), value) else value.value
+
+
+def number_bytes(value: int) -> bytes:
+    """The shortest spelling of a number of 64 bits."""
+    _word(value + (1 << 63), 64)
+    room, count = ctypes.create_string_buffer(9), c_uint64()
+    _call("number_bytes", value, room, 9, count)
+    return room.raw[: count.value]
+
+
+def strict_signature(data: bytes) -> bool:
+    """Whether a signature with its hash type is strictly encoded (BIP 66), or has no byte."""
+    yes = c_uint32()
+    _call("strict_signature", *_sized(data), yes)
+    return bool(yes.value)
+
+
+def signature_digest(data: bytes, input: int, code: bytes, kind: int) -> bytes:
+    """What a signature of an input signs, for a code and a hash type."""
+    found = ctypes.create_string_buffer(32)
+    _call("signature_digest", *_sized(data), _word(input, 64), *_sized(code), _word(kind), found)
+    return found.raw
+
+
+def verify(data: bytes, input: int, spent: bytes, flags: Iterable[str] = ALL, table: bytes = b"") -> bool:
+    """Whether an input of a transaction may spend a script under some of "DERSIG", "CLTV" and "CSV". The table's lines
+    are the signatures that are valid, as `Table` makes them."""
+    names = set(flags)
+    if not names <= ALL:
+        raise ValueError(f"no such flags: {sorted(names - ALL)}")
+    forced = _Flags(*(int(name in names) for name in ("DERSIG", "CLTV", "CSV")))
+    line, yes = c_uint64(), c_uint32()
+    code = _call(
+        "verify", *_sized(data), _word(input, 64), *_sized(spent), forced, *_sized(table), line, yes
+    )
+    if code == 3:
+        raise BadTable(line.value)
+    return bool(yes.value)
+
+
+# ---- hashes
+
+
+def _hash(name: str, data: bytes, length: int) -> bytes:
+    found = ctypes.create_string_buffer(length)
+    _call(name, *_sized(data), found)
+    return found.raw
+
+
+def ripemd160(data: bytes) -> bytes:
+    """RIPEMD-160."""
+    return _hash("ripemd160", data, 20)
+
+
+def hash160(data: bytes) -> bytes:
+    """RIPEMD-160 of SHA-256."""
+    return _hash("hash160", data, 20)
+
+
+def double_sha(data: bytes) -> bytes:
+    """SHA-256 of SHA-256."""
+    return _hash("double_sha", data, 32)
+
+
+def _id(id: bytes) -> bytes:
+    if len(id) != 32:
+        raise ValueError("an id has 32 bytes")
+    return bytes(id)
+
+
+def show(id: bytes) -> str:
+    """An id as it is printed."""
+    digits = ctypes.create_string_buffer(64)
+    _call("show_id", _id(id), digits)
+    return digits.raw.decode()
+
+
+def read_id(text: str) -> Optional[bytes]:
+    """The id that is printed so, or None."""
+    found = ctypes.create_string_buffer(32)
+    return None if _call("read_id", *_sized(text.encode()), found) else found.raw
