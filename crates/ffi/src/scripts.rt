@@ -227,11 +227,17 @@ fn tell_verdict(
         Ok(table) => match judge(alloc, tx, input, spent, flags, &table) {
             Err(_) => MEMORY,
             Ok(yes) => {
-                *accepted = yes as u32;
+                *accepted = told(yes);
                 DONE
             }
         },
     }
+}
+
+fn told(yes: bool) -> u32
+    ensures { result ≡ bit yes }
+{
+    yes as u32
 }
 
 fn judge(

@@ -177,10 +177,16 @@ fn starts_of(alloc: Global, starts: &[Start]) -> Result<Vec<LockStart>, Memory>
 {
     let mut list = Vec::new(alloc);
     for start in starts {
-        list.push(LockStart {
-            height: start.height,
-            median: start.median,
-        })?;
+        list.push(lock_start(start))?;
     }
     Ok(list)
+}
+
+fn lock_start(start: &Start) -> LockStart
+    ensures { result ≡ start_of start.now }
+{
+    LockStart {
+        height: start.height,
+        median: start.median,
+    }
 }
