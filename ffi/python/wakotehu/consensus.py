@@ -163,7 +163,7 @@ def is_final(data: bytes, height: int, cutoff: int) -> bool:
 def locks_met(data: bytes, starts: Sequence[Tuple[int, int]], height: int, cutoff: int) -> bool:
     """Whether its relative locks are met there (BIP 68), given each input's coin height and median time past."""
     yes = c_uint32()
-    rows = (_Start * len(starts))(*((_word(high), _word(median)) for high, median in starts))
+    rows = (_Start * len(starts))(*(_Start(_word(high), _word(middle)) for high, middle in starts))
     _call("locks_met", *_sized(data), rows, len(starts), _word(height), _word(cutoff), yes)
     return bool(yes.value)
 
