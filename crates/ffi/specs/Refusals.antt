@@ -5,8 +5,6 @@
 use Rattle.std.specs.Prelude.{◌≡◌, ℕ, ◌⊎◌, Bool, true, false, List, Option, None, Some, Result, Ok, Err}
 use Rattle.wire.specs.declared.fault.WireFault.{WireFault}
 use Rattle.wire.specs.declared.fault.WireFault.TheVariants as wire
-use Rattle.txn.specs.declared.fault.TxFault.{TxFault}
-use Rattle.txn.specs.declared.fault.TxFault.TheVariants as txn
 use Rattle.txn.specs.declared.reason.Reason.{Reason}
 use Rattle.txn.specs.Reason.{number_of}
 use Rattle.block.specs.declared.block.Block.{Block}
@@ -19,12 +17,6 @@ abbrev pub wire_number : WireFault → ℕ
 wire_number wire.Short = 20
 wire_number wire.LongForm = 21
 wire_number wire.TooLarge = 22
-
-abbrev pub tx_number : TxFault → ℕ
-tx_number txn.Short = 20
-tx_number txn.LongForm = 21
-tx_number txn.TooLarge = 22
-tx_number txn.Memory = 1
 
 abbrev pub read_number : ReadFault → ℕ
 read_number block.Short = 20
@@ -49,11 +41,6 @@ broken_number (Some reason) = number_of reason
 abbrev pub bit : Bool → ℕ
 bit true = 1
 bit false = 0
-
--- why a part isn't read: for its fault, or for lack of memory
-abbrev pub IsRefusal : {X : Type 0} → Result (X × List ℕ) WireFault → ℕ → Type 0
-IsRefusal (Ok found) code = code ≡ 1
-IsRefusal (Err fault) code = (code ≡ wire_number fault) ⊎ (code ≡ 1)
 
 -- What is answered about a part at the front of bytes. Where bytes have none, its fault is told and nothing is
 -- written. Memory may always run out, and nothing is written then either.

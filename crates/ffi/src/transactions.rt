@@ -5,7 +5,8 @@ ghost use Rattle.txn.specs.Grammar.{transaction};
 ghost use Rattle.txn.specs.computed.Reading.{tx_at};
 ghost use Rattle.rules.specs.Alone.{tx_sigops};
 ghost use Rattle.locks.specs.Finality.{is_final};
-ghost use Rattle.ffi.specs.Refusals.{IsRefusal, IsTold, bit, broken_number, tx_number};
+ghost use Rattle.ffi.specs.Refusals.{IsTold, bit, broken_number};
+ghost use Rattle.ffi.specs.inside.Parts.{IsRefusal, tx_number};
 ghost use Rattle.ffi.specs.Transactions.{AreLocksTold, ShowsTx, counted, start_of};
 
 use crate::answers::{DONE, MEMORY, MISMATCH, Name};
