@@ -7,7 +7,7 @@ them into text and back. What can't be read raises `Refused`, whose `fault` name
 import ctypes
 from ctypes import POINTER, c_char_p, c_int, c_int64, c_size_t, c_uint8, c_uint32, c_uint64
 from dataclasses import dataclass
-from typing import Any, Iterable, Iterator, List, Optional, Sequence, Tuple
+from typing import Any, Callable, Iterable, Iterator, List, Optional, Sequence, Tuple
 
 from .errors import REASONS, BadTable, Error
 from .library import Heights, library
@@ -94,6 +94,12 @@ _CALLS = {
     "read_id": _BYTES + [c_char_p],
 }
 _ready: Optional[ctypes.CDLL] = None
+
+
+def _rest_of(data: bytes) -> Callable[[int], Tuple[c_char_p, int]]:
+    """The bytes from a place on, and how many they are, without a copy. `data` has to live as long as they are used."""
+    begin = ctypes.cast(c_char_p(data), ctypes.c_void_p).value or 0
+    return lambda at: (c_char_p(begin + at), len(data) - at)
 
 
 def _call(name: str, *args: Any) -> int:
@@ -223,8 +229,9 @@ def block_place(
 
 def records(data: bytes) -> Iterator[bytes]:
     """The blocks of a blk file of regtest, one by one."""
-    at, size = 0, c_uint64()
-    while _call("record", *_sized(data[at:]), size) == 0:
+    data = bytes(data)
+    rest, at, size = _rest_of(data), 0, c_uint64()
+    while _call("record", *rest(at), size) == 0:
         yield data[at + 8 : at + 8 + size.value]
         at += 8 + size.value
 
@@ -263,8 +270,9 @@ class Opcode:
 
 def opcodes(script: bytes) -> Tuple[List[Opcode], bytes]:
     """A script's opcodes, and the rest: nothing, or a push that is cut short."""
-    found, at, shown = [], 0, _Opcode()
-    while _call("next_opcode", *_sized(script[at:]), shown) == 0:
+    script = bytes(script)
+    rest, found, at, shown = _rest_of(script), [], 0, _Opcode()
+    while _call("next_opcode", *rest(at), shown) == 0:
         end = at + shown.length
         found.append(Opcode(at, shown.number, script[end - shown.pushed : end]))
         at = end
