@@ -1,5 +1,7 @@
 //! A node of some seats, over a chain that was made for it.
 
+ghost use Rattle.std.specs.Prelude.{◌≡◌};
+
 use crate::branch::Branch;
 use crate::chain_work::{DATA, NOW};
 use crate::check::Check;
@@ -12,8 +14,9 @@ use crate::seat_work::{at_once, in_turn, submit_each};
 use crate::start::{Start, TRUE, WORTH, paying};
 use crate::timing::Outcome;
 use coins::{Base, Coin, CoinMap};
-use node::{Node, Open, Params, Seat, Table};
+use node::{Naming, Node, Open, Opening, Params, Seat, Table};
 use std::alloc::Global;
+use std::marker::Brand;
 use std::rt::Clock;
 use std::sync::{Arc, Wait};
 use std::thread::Threads;
@@ -66,20 +69,34 @@ fn at_node<R>(
 where
     R: AllocGlobal + Clock + Threads + Wait + Sync,
 {
-    let alloc = rt.alloc();
-    let table = Arc::new(alloc, Table::new(alloc))?;
-    let params = Params::regtest();
-    let (node, mut seats) = Node::open(rt, alloc, params, &table, workers, seats, &Open)?;
+    let table = Arc::new(rt.alloc(), Table::new(rt.alloc()))?;
+    let opening = Opening::new(Params::regtest(), &table, seats);
+    on_node::<Brand, R>(rt, opening, workers, below, work)
+}
+
+/// Opens a node, does the work on it, and ends it.
+fn on_node<J: Naming, R>(
+    rt: &R,
+    opening: Opening<'_>,
+    workers: usize,
+    below: Vec<Vec<u8>>,
+    work: &Work,
+) -> Result<Outcome, Fault>
+where
+    R: AllocGlobal + Clock + Threads + Wait + Sync,
+    requires { opening ≡ J.origin }
+{
+    let (node, mut seats) = Node::<J>::open(rt, rt.alloc(), opening, workers, &Open)?;
     let outcome = prepared(rt, &node, seats.as_mut_slice(), below, work);
     let history = node.finish(seats.as_mut_slice());
     history?;
     outcome
 }
 
-fn prepared<R>(
+fn prepared<J: Naming, R>(
     rt: &R,
-    node: &Node<'_>,
-    seats: &mut [Seat<'_>],
+    node: &Node<'_, J>,
+    seats: &mut [Seat<'_, J>],
     below: Vec<Vec<u8>>,
     work: &Work,
 ) -> Result<Outcome, Fault>
@@ -96,7 +113,12 @@ where
     done(rt, node, seats, work)
 }
 
-fn done<R>(rt: &R, node: &Node<'_>, seats: &mut [Seat<'_>], work: &Work) -> Result<Outcome, Fault>
+fn done<J: Naming, R>(
+    rt: &R,
+    node: &Node<'_, J>,
+    seats: &mut [Seat<'_, J>],
+    work: &Work,
+) -> Result<Outcome, Fault>
 where
     R: AllocGlobal + Clock + Threads + Wait + Sync,
 {
@@ -118,10 +140,10 @@ where
 }
 
 /// Submits blocks without payments, each as it is made. Those that stand are counted.
-fn kept<R>(
+fn kept<J: Naming, R>(
     rt: &R,
-    node: &Node<'_>,
-    seat: &mut Seat<'_>,
+    node: &Node<'_, J>,
+    seat: &mut Seat<'_, J>,
     branch: Branch,
     count: usize,
 ) -> Result<Outcome, Fault>

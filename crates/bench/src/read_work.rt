@@ -4,7 +4,7 @@ use crate::chain_work::NOW;
 use crate::check::Check;
 use crate::fault::Fault;
 use crate::timing::Outcome;
-use node::{Node, Seat};
+use node::{Naming, Node, Seat};
 use std::rt::Clock;
 use std::sync::Wait;
 use std::sync::atomic::Ordering::SeqCst;
@@ -27,10 +27,10 @@ pub enum Look {
 }
 
 /// One read.
-fn read<R: AllocGlobal>(
+fn read<J: Naming, R: AllocGlobal>(
     rt: &R,
-    node: &Node<'_>,
-    seat: &mut Seat<'_>,
+    node: &Node<'_, J>,
+    seat: &mut Seat<'_, J>,
     at: &OutPoint,
     look: Look,
 ) -> Result<u64, Fault> {
@@ -46,10 +46,10 @@ fn read<R: AllocGlobal>(
     }
 }
 
-fn read_each<R: AllocGlobal>(
+fn read_each<J: Naming, R: AllocGlobal>(
     rt: &R,
-    node: &Node<'_>,
-    seat: &mut Seat<'_>,
+    node: &Node<'_, J>,
+    seat: &mut Seat<'_, J>,
     places: &[OutPoint],
     look: Look,
 ) -> Result<u64, Fault> {
@@ -61,18 +61,18 @@ fn read_each<R: AllocGlobal>(
 }
 
 /// Each seat reads each place, on a thread of its own. The time is that of all; all that was read is summed.
-pub fn reads<R>(
+pub fn reads<J: Naming, R>(
     rt: &R,
-    node: &Node<'_>,
+    node: &Node<'_, J>,
     places: &[OutPoint],
     look: Look,
-    seats: &mut [Seat<'_>],
+    seats: &mut [Seat<'_, J>],
 ) -> Result<Outcome, Fault>
 where
     R: AllocGlobal + Clock + Threads + Sync,
 {
     let sum = AtomicU64::new(0);
-    let ask = |_place: usize, seat: &mut Seat<'_>| {
+    let ask = |_place: usize, seat: &mut Seat<'_, J>| {
         let own = read_each(rt, node, seat, places, look);
         sum.fetch_add(own.unwrap_or(0), SeqCst);
     };
@@ -82,12 +82,12 @@ where
 }
 
 /// Submits blocks until it is told to end.
-fn submit_until<R>(
+fn submit_until<J: Naming, R>(
     rt: &R,
-    node: &Node<'_>,
+    node: &Node<'_, J>,
     blocks: &[Vec<u8>],
     is_over: &AtomicBool,
-    seat: &mut Seat<'_>,
+    seat: &mut Seat<'_, J>,
 ) -> Result<(), Fault>
 where
     R: Threads + Wait + Sync,
@@ -102,10 +102,10 @@ where
 }
 
 /// The same while the first seat submits blocks.
-pub fn reads_beside<R>(
+pub fn reads_beside<J: Naming, R>(
     rt: &R,
-    node: &Node<'_>,
-    seats: &mut [Seat<'_>],
+    node: &Node<'_, J>,
+    seats: &mut [Seat<'_, J>],
     places: &[OutPoint],
     blocks: &[Vec<u8>],
 ) -> Result<Outcome, Fault>
@@ -129,11 +129,11 @@ where
 }
 
 /// The slowest of so many rounds of reads, and what was read.
-fn slowest_of<R>(
+fn slowest_of<J: Naming, R>(
     rt: &R,
-    node: &Node<'_>,
+    node: &Node<'_, J>,
     places: &[OutPoint],
-    seat: &mut Seat<'_>,
+    seat: &mut Seat<'_, J>,
 ) -> Result<Outcome, Fault>
 where
     R: AllocGlobal + Clock,
@@ -157,10 +157,10 @@ where
 }
 
 /// The slowest read of the second seat while the first submits blocks.
-pub fn slowest_beside<R>(
+pub fn slowest_beside<J: Naming, R>(
     rt: &R,
-    node: &Node<'_>,
-    seats: &mut [Seat<'_>],
+    node: &Node<'_, J>,
+    seats: &mut [Seat<'_, J>],
     places: &[OutPoint],
     blocks: &[Vec<u8>],
 ) -> Result<Outcome, Fault>

@@ -4,7 +4,7 @@ use crate::chain_work::NOW;
 use crate::check::Check;
 use crate::fault::Fault;
 use crate::timing::Outcome;
-use node::{Node, Seat, SubmitReply};
+use node::{Naming, Node, Seat, SubmitReply};
 use std::rt::Clock;
 use std::sync::Wait;
 use std::sync::atomic::AtomicU64;
@@ -14,10 +14,10 @@ use std::thread::Threads;
 use std::time::Instant;
 
 /// Submits blocks at a seat, and counts those that are kept.
-pub fn submit_each<R>(
+pub fn submit_each<J: Naming, R>(
     rt: &R,
-    node: &Node<'_>,
-    seat: &mut Seat<'_>,
+    node: &Node<'_, J>,
+    seat: &mut Seat<'_, J>,
     blocks: &[Vec<u8>],
 ) -> Result<u64, Fault>
 where
@@ -36,10 +36,10 @@ fn is_kept(reply: &SubmitReply) -> bool {
 }
 
 /// Submits each block at the seat whose turn it is. Those that are kept are counted.
-pub fn in_turn<R>(
+pub fn in_turn<J: Naming, R>(
     rt: &R,
-    node: &Node<'_>,
-    seats: &mut [Seat<'_>],
+    node: &Node<'_, J>,
+    seats: &mut [Seat<'_, J>],
     blocks: &[Vec<u8>],
 ) -> Result<Outcome, Fault>
 where
@@ -58,10 +58,10 @@ where
 }
 
 /// Submits several branches, which the seats share, each on a thread of its own. The blocks that are kept are counted.
-pub fn at_once<R>(
+pub fn at_once<J: Naming, R>(
     rt: &R,
-    node: &Node<'_>,
-    seats: &mut [Seat<'_>],
+    node: &Node<'_, J>,
+    seats: &mut [Seat<'_, J>],
     branches: &[Vec<Vec<u8>>],
 ) -> Result<Outcome, Fault>
 where
@@ -69,7 +69,7 @@ where
 {
     let threads = seats.len().max(1);
     let kept = AtomicU64::new(0);
-    let submit = |place: usize, seat: &mut Seat<'_>| {
+    let submit = |place: usize, seat: &mut Seat<'_, J>| {
         let own = submit_shared(rt, node, seat, branches, place, threads);
         kept.fetch_add(own.unwrap_or(0), SeqCst);
     };
@@ -79,10 +79,10 @@ where
 }
 
 /// Submits each of the branches that are a seat's own.
-fn submit_shared<R>(
+fn submit_shared<J: Naming, R>(
     rt: &R,
-    node: &Node<'_>,
-    seat: &mut Seat<'_>,
+    node: &Node<'_, J>,
+    seat: &mut Seat<'_, J>,
     branches: &[Vec<Vec<u8>>],
     place: usize,
     seats: usize,

@@ -1,7 +1,6 @@
 pub mod Calls
 pub mod Opening
 pub mod Pass
-pub mod Terms
 pub mod Told
 pub mod inside
 pub mod laws

@@ -4,6 +4,7 @@ ghost use Rattle.std.specs.Prelude.{◌≡◌, IfOk, IfSome};
 ghost use Rattle.view.specs.ViewState.{IsExact};
 ghost use Rattle.txn.specs.Identity.{ids_of};
 
+use crate::naming::Naming;
 use crate::node::Node;
 use crate::seat::Seat;
 use chain::{PreparedCommand, SubmittedBlock};
@@ -36,7 +37,7 @@ fn jobs_over<'c>(
     Ok(if jobs.is_empty() { None } else { Some(jobs) })
 }
 
-impl<'t> Seat<'t> {
+impl<'t, J: Naming> Seat<'t, J> {
     ghost use Rattle.node.specs.Pass.{IsLater, IsOwn};
 
     /// The scripts that can be run before the lock is taken: those of a block that breaks no rule by itself, and whose
@@ -74,7 +75,7 @@ impl<'t> Seat<'t> {
     pub(crate) fn early_verdicts<'c, R: Threads + Sync>(
         &mut self,
         rt: &R,
-        node: &Node<'_>,
+        node: &Node<'_, J>,
         command: &'c PreparedCommand,
         table: &'c Table,
     ) -> Result<Option<Verdicts<'c>>, Memory>

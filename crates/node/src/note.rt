@@ -2,24 +2,21 @@
 
 ghost use Rattle.std.specs.Prelude.{◌≡◌};
 
-use curve::Table;
-use rules::Params;
-use std::marker::Model;
+use crate::naming::Naming;
+use std::marker::{Model, PhantomData};
 
-/// What a seat has seen of the history. It may be handed to another thread, whose seat is told it.
+/// What a seat has seen of the history. It may go to another thread, through a channel or a lock, whose seat is told it.
 #[derive(Drop)]
-pub struct Note<'t> {
-    pub(crate) params: Params,
-    pub(crate) table: &'t Table,
-    pub(crate) seats: usize,
+pub struct Note<J: Naming> {
     pub(crate) seen: view::Note,
+    pub(crate) of: PhantomData<J>,
 }
 
-impl<'t> Model for Note<'t> {
+impl<J: Naming> Model for Note<J> {
+    ghost use Rattle.std.specs.Prelude.{◌≡◌};
     ghost use Rattle.std.specs.Coded.{codes};
     ghost use Rattle.std.specs.FinSet as set;
     ghost use Rattle.curve.specs.Triple.{triple_cmp, coded_triple};
-    ghost use Rattle.view.specs.Origin.{origin};
     ghost use Rattle.view.specs.ViewState.{IsLegal};
     ghost use Rattle.node.specs.Pass.{Heard};
 
@@ -27,9 +24,7 @@ impl<'t> Model for Note<'t> {
 
     ghost coded = { Prim.hlevel (codes, set.code {R = triple_cmp} coded_triple) };
 
-    ghost view = { λ n. let o = origin n.seen.book n.params n.table.now n.seats in
-        record { origin = o; seen = n.seen.entries } };
+    ghost view = { λ n. record { origin = J.origin; seen = n.seen.entries } };
 
-    ghost invariant = { λ n. let o = origin n.seen.book n.params n.table.now n.seats in
-        IsLegal o n.seen.entries };
+    ghost invariant = { λ n. (n.seen.book ≡ J.origin.book) × IsLegal J.origin n.seen.entries };
 }

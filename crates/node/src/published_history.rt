@@ -8,7 +8,6 @@ ghost use Rattle.chain.specs.declared.entry.Entry.{Entry as EntryValue};
 ghost use Rattle.chain.specs.Prepared.{command_of};
 ghost use Rattle.activate.specs.CoreState.{Follows, genesis_alone};
 ghost use Rattle.view.specs.Beginning.{count_of};
-ghost use Rattle.view.specs.Origin.{origin};
 ghost use Rattle.view.specs.ViewState.{IsLegal};
 ghost use Rattle.node.specs.inside.Keeping.{is_step};
 ghost use Rattle.node.specs.inside.PublishedState.{IsStepAnswer, IsTaken, Shows, opening_state, entry_with_reply};
@@ -18,10 +17,11 @@ mod lent_step;
 mod opening;
 mod writer_home;
 
+use crate::naming::{Naming, SeatToken};
 use crate::published_history::attempt::{Attempt, attempt_to_publish};
 pub(crate) use crate::published_history::lent_step::Refusal;
 use crate::published_history::lent_step::{chain_info, step_by_reader};
-pub(crate) use crate::published_history::opening::{Opening, open_history};
+pub(crate) use crate::published_history::opening::{Opened, open_history};
 use crate::published_history::writer_home::WriterHome;
 use activate::Core;
 use chain::{Entry, PreparedCommand, Reply, SubmitReply};
@@ -29,9 +29,8 @@ use coins::Changes;
 use connect::Env;
 use curve::Table;
 use queue::{Crew, Gate, Verdicts};
-use rules::Params;
 use std::alloc::Global;
-use std::marker::Model;
+use std::marker::{Model, PhantomData};
 use std::mem::replace;
 use std::sync::atomic::Ordering;
 use std::sync::{Arc, Wait};
@@ -39,12 +38,9 @@ use view::{Hub, Note, Publication, ViewReader};
 
 /// The history, with the chainstate after it but its coins. A step is owed that is taken and not yet published.
 #[derive(Drop)]
-pub(crate) struct PublishedHistory {
+pub(crate) struct PublishedHistory<J: Naming> {
     alloc: Global,
-    params: Params,
     table: Arc<Table>,
-    /// How many seats there are.
-    seats: usize,
     core: Core,
     hub: Arc<Hub>,
     /// The history that is published.
@@ -58,35 +54,36 @@ pub(crate) struct PublishedHistory {
     /// Both are away only inside a call.
     home: Option<WriterHome>,
     reader: Option<ViewReader>,
+    of: PhantomData<J>,
 }
 
-impl Model for PublishedHistory {
-    ghost use Rattle.std.specs.Prelude.{◌≡◌, Some, IfSome, drop};
-    ghost use Rattle.std.specs.Arc.{arc_value};
+impl<J: Naming> Model for PublishedHistory<J> {
     ghost use Rattle.std.specs.Coded.{codes};
     ghost use Rattle.std.specs.FinSet as set;
     ghost use Rattle.curve.specs.Triple.{triple_cmp, coded_triple};
+    ghost use Rattle.std.specs.Prelude.{◌≡◌, Some, IfSome, drop};
+    ghost use Rattle.std.specs.Arc.{arc_value};
     ghost use Rattle.left_right.specs.Sides.{view as known};
     ghost use Rattle.view.specs.Beginning.{count_of};
-    ghost use Rattle.view.specs.Origin.{origin};
     ghost use Rattle.node.specs.inside.PublishedState.{PublishedState, IsCoreOf, IsJournal, Shows, AreDue};
 
     ghost Value = { PublishedState };
 
     ghost coded = { Prim.hlevel (codes, set.code {R = triple_cmp} coded_triple) };
 
-    ghost view = { λ s. let o = origin s.note.book s.params (arc_value s.table) s.seats in
-        record { origin = o; journal = s.journal.items; owed = s.owed } };
+    ghost view = { λ s. record { origin = J.origin; journal = s.journal.items; owed = s.owed } };
 
-    ghost invariant = { λ s. let o = origin s.note.book s.params (arc_value s.table) s.seats in
+    ghost invariant = { λ s. let o = J.origin in
         IsCoreOf o s.core s.journal.items
-        × ((arc_value s.hub).counter ≡ count_of s.note.book)
+        × ((arc_value s.hub).counter ≡ count_of o.book)
         × IsJournal s.owed s.note.entries s.journal.items
         × IfSome s.reader (λ r. known r.place ≡ Some o)
         × IfSome s.home (λ h. let x = h.writer.desk.shown.value in
         let pending = drop h.writer.behind h.writer.log.items in
         Shows x o s.note.entries
-        × AreDue s.owed s.is_new x pending s.journal.items s.changes) };
+        × AreDue s.owed s.is_new x pending s.journal.items s.changes)
+        × (s.note.book ≡ o.book)
+        × (arc_value s.table ≡ o.triples) };
 }
 
 /// Whether it is the reply to what takes a step.
@@ -117,34 +114,30 @@ fn put_reply(journal: &mut Vec<Entry>, reply: Option<Reply>)
     }
 }
 
-impl PublishedHistory {
+impl<J: Naming> PublishedHistory<J> {
     /// No step was taken yet.
     pub(crate) fn new(
         alloc: Global,
-        params: Params,
         table: Arc<Table>,
-        seats: usize,
         core: Core,
         hub: Arc<Hub>,
         note: Note,
         home: WriterHome,
         reader: ViewReader,
-    ) -> PublishedHistory
-        requires core { (core ≡ genesis_alone params) × Follows core (arc_value table) }
-        requires hub { (arc_value hub).counter ≡ count_of note.book }
+    ) -> PublishedHistory<J>
+        requires core { (core ≡ genesis_alone J.origin.params) × Follows core J.origin.triples }
+        requires hub { (arc_value hub).counter ≡ count_of J.origin.book }
         requires empty { note.entries ≡ [] }
-        requires reader { let o = origin note.book params (arc_value table) seats in
-            known reader.place ≡ Some o }
-        requires shown { let o = origin note.book params (arc_value table) seats in
-            Shows home.writer.desk.shown.value o [] }
+        requires book { note.book ≡ J.origin.book }
+        requires table { arc_value table ≡ J.origin.triples }
+        requires reader { known reader.place ≡ Some J.origin }
+        requires shown { Shows home.writer.desk.shown.value J.origin [] }
         requires pending { drop home.writer.behind home.writer.log.items ≡ [] }
-        ensures { result ≡ opening_state (origin note.book params (arc_value table) seats) }
+        ensures { result ≡ opening_state J.origin }
     {
         PublishedHistory {
             alloc,
-            params,
             table,
-            seats,
             core,
             hub,
             note,
@@ -154,6 +147,7 @@ impl PublishedHistory {
             changes: Changes::new(alloc),
             home: Some(home),
             reader: Some(reader),
+            of: PhantomData,
         }
     }
 
@@ -162,29 +156,6 @@ impl PublishedHistory {
         ensures { result ≡ length self.now.journal }
     {
         self.journal.len() as u64
-    }
-
-    /// How many seats there are.
-    pub(crate) fn seats(&self) -> usize
-        ensures { result ≡ self.now.origin.seats }
-    {
-        self.seats
-    }
-
-    /// Whether its table has just the valid signatures of this one.
-    pub(crate) fn has_table(&self, table: &Table) -> bool
-        ensures { Decides result (self.now.origin.triples ≡ table.now) }
-    {
-        self.table.same(table)
-    }
-
-    /// Whether it is of these heights of soft forks, this table and so many seats.
-    pub(crate) fn is_of(&self, params: &Params, table: &Table, seats: usize) -> bool
-        ensures { let o = self.now.origin in
-            (result ≡ true) →
-            (o.params ≡ params.now) × (o.triples ≡ table.now) × (o.seats ≡ seats) }
-    {
-        self.params == *params && self.has_table(table) && self.seats == seats
     }
 
     /// The entries, given away. What is published is kept for ever.
@@ -209,7 +180,7 @@ impl PublishedHistory {
     /// The entries.
     pub(crate) fn journal(&self) -> &[Entry]
         ensures journal { result.now ≡ self.now.journal }
-        ensures legal { IsLegal self.now.origin self.now.journal }
+        ensures legal { IsLegal J.origin self.now.journal }
     {
         self.journal.as_slice()
     }
@@ -217,7 +188,7 @@ impl PublishedHistory {
     /// Takes a step, which is owed then. Bytes that are no block take none.
     fn take_step<C: Crew>(
         &mut self,
-        number: usize,
+        token: &SeatToken<J>,
         command: &PreparedCommand,
         workers: usize,
         early: &[Verdicts<'_>],
@@ -225,12 +196,11 @@ impl PublishedHistory {
         gate: &(dyn Gate + Sync),
     ) -> Result<Reply, Refusal>
         requires shown { self.old.owed ≡ false }
-        requires seat { number < self.old.origin.seats }
         requires ready { C.is_ready crew.now }
         requires workers { (1 ≤ workers) × (workers ≤ 16) }
-        requires same_table { All (λ v. v.triples ≡ self.old.origin.triples) early.now }
+        requires same_table { All (λ v. v.triples ≡ J.origin.triples) early.now }
         ensures takes { let c = command_of command.now in
-            IfOk result (λ reply. IsTaken self.old self.new number c reply) }
+            IfOk result (λ reply. IsTaken self.old self.new token.now c reply) }
         ensures err { OnErr result (self.new ≡ self.old) }
     {
         if self.journal.reserve(1).is_err() {
@@ -258,7 +228,7 @@ impl PublishedHistory {
             return Ok(reply);
         }
         self.journal.push_reserved(Entry {
-            seat: number,
+            seat: token.number(),
             command: asked,
             reply: None,
         });
@@ -360,7 +330,7 @@ impl PublishedHistory {
     pub(crate) fn step<R: Wait, C: Crew>(
         &mut self,
         rt: &R,
-        number: usize,
+        token: &SeatToken<J>,
         command: &PreparedCommand,
         workers: usize,
         early: &[Verdicts<'_>],
@@ -368,15 +338,14 @@ impl PublishedHistory {
         gate: &(dyn Gate + Sync),
     ) -> Result<Option<Reply>, Refusal>
         requires shown { self.old.owed ≡ false }
-        requires seat { number < self.old.origin.seats }
         requires ready { C.is_ready crew.now }
         requires workers { (1 ≤ workers) × (workers ≤ 16) }
-        requires same_table { All (λ v. v.triples ≡ self.old.origin.triples) early.now }
+        requires same_table { All (λ v. v.triples ≡ J.origin.triples) early.now }
         ensures step { let c = command_of command.now in
-            IfOk result (λ answer. IsStepAnswer self.old self.new number c answer) }
+            IfOk result (λ answer. IsStepAnswer self.old self.new token.now c answer) }
         ensures err { OnErr result (self.new ≡ self.old) }
     {
-        let reply = self.take_step(number, command, workers, early, crew, gate)?;
+        let reply = self.take_step(token, command, workers, early, crew, gate)?;
         if !is_step(&reply) || self.publish_owed(rt, Some(reply)) {
             return Ok(Some(reply));
         }
@@ -385,8 +354,8 @@ impl PublishedHistory {
 }
 
 /// It may be given to other threads, as a lock asks.
-fn crosses_threads() {
-    is_sent::<PublishedHistory>();
+fn crosses_threads<J: Naming>() {
+    is_sent::<PublishedHistory<J>>();
 }
 
 fn is_sent<T: Send>() {}

@@ -7,6 +7,7 @@ ghost use Rattle.node.specs.Told.{output_at, shown_tips};
 
 use crate::answer::{Stamped, UnspentOutput};
 use crate::fault::Fault;
+use crate::naming::Naming;
 use crate::node::Node;
 use crate::seat::Seat;
 use hash::Id;
@@ -37,7 +38,7 @@ fn tips(alloc: Global, view: &View) -> Result<Vec<Tip>, Memory>
     Ok(Vec::from_slice(alloc, view.tips())?)
 }
 
-impl<'t> Seat<'t> {
+impl<'t, J: Naming> Seat<'t, J> {
     ghost use Rattle.node.specs.Calls.{IsReadFault, IsClosedFault};
     ghost use Rattle.node.specs.Pass.{IsLater, IsOwn, IsRead};
 
@@ -48,7 +49,7 @@ impl<'t> Seat<'t> {
     pub fn gettxout(
         &mut self,
         alloc: Global,
-        _node: &Node<'_>,
+        _node: &Node<'_, J>,
         outpoint: &OutPoint,
     ) -> Result<Stamped<Option<UnspentOutput>>, Fault>
         ensures later { IsLater self.old self.new }
@@ -71,7 +72,7 @@ impl<'t> Seat<'t> {
     /// The id of the best block, after all that the seat has then seen. It takes no memory.
     ///
     /// Seat and node are of one [`Node::open`](crate::Node::open).
-    pub fn getbestblockhash(&mut self, _node: &Node<'_>) -> Result<Stamped<Id>, Fault>
+    pub fn getbestblockhash(&mut self, _node: &Node<'_, J>) -> Result<Stamped<Id>, Fault>
         ensures later { IsLater self.old self.new }
         ensures answer { let m = machine self.old.origin in
             IfOk result (λ r. IsRead self.old self.new m.best r.at r.value) }
@@ -92,7 +93,7 @@ impl<'t> Seat<'t> {
     pub fn getchaintips(
         &mut self,
         alloc: Global,
-        _node: &Node<'_>,
+        _node: &Node<'_, J>,
     ) -> Result<Stamped<Vec<Tip>>, Fault>
         ensures later { IsLater self.old self.new }
         ensures answer { let tips = shown_tips self.old.origin in

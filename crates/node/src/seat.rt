@@ -1,29 +1,27 @@
 //! Seats: a caller's place at the history.
 
-ghost use Rattle.std.specs.Prelude.{◌≡◌, ◌<◌, [], true, Some, IfSome, length};
+ghost use Rattle.std.specs.Prelude.{◌≡◌, [], true, Some, IfSome, length};
 ghost use mathlib.Core.List.{IsPrefix};
 ghost use Rattle.left_right.specs.Sides.{view as known};
-ghost use Rattle.view.specs.Origin.{origin};
 
 use crate::looks::enter_from;
+use crate::naming::{Naming, SeatToken};
 use crate::note::Note;
 use crate::own::{begins, own_are};
 use chain::{Command, Entry};
 use curve::Table;
 use rules::Params;
 use std::alloc::Global;
-use std::marker::Model;
+use std::marker::{Model, PhantomData};
 use view::{ViewReader, ViewReading};
 
 /// A caller's place at the history. A clause sees its pass: what the seat has seen, and what of it is its
 /// own.
 #[derive(Drop)]
-pub struct Seat<'t> {
+pub struct Seat<'t, J: Naming> {
     pub(crate) params: Params,
     pub(crate) table: &'t Table,
-    /// How many seats there are.
-    seats: usize,
-    pub(crate) number: usize,
+    pub(crate) token: SeatToken<J>,
     /// What it has seen.
     pub(crate) seen: view::Note,
     /// The place of its last own entry whose reply it was told, from 1; 0 where there is none.
@@ -34,60 +32,53 @@ pub struct Seat<'t> {
     pub(crate) reader: Option<ViewReader>,
 }
 
-impl<'t> Model for Seat<'t> {
-    ghost use Rattle.std.specs.Prelude.{◌≡◌, ◌<◌, ◌≤◌, ◌++◌, Some, IfSome, take, length, map};
+impl<'t, J: Naming> Model for Seat<'t, J> {
     ghost use Rattle.std.specs.Coded.{codes};
     ghost use Rattle.std.specs.FinSet as set;
-    ghost use Rattle.left_right.specs.Sides.{view as known};
     ghost use Rattle.curve.specs.Triple.{triple_cmp, coded_triple};
+    ghost use Rattle.std.specs.Prelude.{◌≡◌, ◌≤◌, ◌++◌, Some, IfSome, take, length, map};
+    ghost use Rattle.left_right.specs.Sides.{view as known};
     ghost use Rattle.chain.specs.History.{own_of};
-    ghost use Rattle.view.specs.Origin.{origin};
     ghost use Rattle.view.specs.ViewState.{IsLegal};
     ghost use Rattle.node.specs.Pass.{Pass, owed_entry};
+    ghost use Rattle.node.specs.inside.Seats.{IsAt};
 
     ghost Value = { Pass };
 
     ghost coded = { Prim.hlevel (codes, set.code {R = triple_cmp} coded_triple) };
 
     ghost view = { λ s. let before = take s.answered s.seen.entries in record {
-      number = s.number;
-      origin = origin s.seen.book s.params s.table.now s.seats;
+      number = s.token;
+      origin = J.origin;
       seen = s.seen.entries;
-      mine = own_of s.number before ++ map (owed_entry s.number) s.owed.items;
+      mine = own_of s.token before ++ map (owed_entry s.token) s.owed.items;
     } };
 
-    ghost invariant = { λ s. let o = origin s.seen.book s.params s.table.now s.seats in
-        IsLegal o s.seen.entries
+    ghost invariant = { λ s. IsAt J.origin s.params s.table.now s.seen
         × (s.answered ≤ length s.seen.entries)
-        × (s.number < s.seats)
-        × IfSome s.reader (λ r. known r.place ≡ Some o) };
+        × IfSome s.reader (λ r. known r.place ≡ Some J.origin) };
 }
 
-impl<'t> Seat<'t> {
+impl<'t, J: Naming> Seat<'t, J> {
     ghost use Rattle.node.specs.Pass.{IsLater, IsLonger, IsOwn, IsStanding, opening_pass};
-    ghost use Rattle.node.specs.inside.Seats.{IsFound};
+    ghost use Rattle.node.specs.inside.Seats.{IsAt, IsFound};
 
     /// What this seat has seen. It takes no memory, and waits for nobody.
     #[tactic(auto, using(crate::proofs::Owning::own_begins))]
-    pub fn note(&self) -> Note<'t>
+    pub fn note(&self) -> Note<J>
         ensures origin { result.origin ≡ self.now.origin }
         ensures seen { result.seen ≡ self.now.seen }
         ensures own { IsOwn self.now }
     {
         Note {
-            params: self.params,
-            table: self.table,
-            seats: self.seats,
             seen: self.seen.copy(),
+            of: PhantomData,
         }
     }
 
     /// From now on the seat has seen that too. It takes no memory, and waits for nobody.
-    ///
-    /// Seat and note are of one [`Node::open`](crate::Node::open).
     #[tactic(auto, using(crate::proofs::Owning::own_begins))]
-    pub fn told(&mut self, note: &Note<'_>)
-        requires origin { note.now.origin ≡ self.old.origin }
+    pub fn told(&mut self, note: &Note<J>)
         ensures later { IsLater self.old self.new }
         ensures mine { self.new.mine ≡ self.old.mine }
         ensures longer { IsLonger self.old.seen note.now.seen self.new.seen }
@@ -99,10 +90,7 @@ impl<'t> Seat<'t> {
     }
 
     /// Both have seen what either had. It takes no memory, and waits for nobody.
-    ///
-    /// Both seats are of one [`Node::open`](crate::Node::open).
-    pub fn meet(&mut self, other: &mut Seat<'_>)
-        requires origin { other.old.origin ≡ self.old.origin }
+    pub fn meet(&mut self, other: &mut Seat<'_, J>)
         ensures later { IsLater self.old self.new × IsLater other.old other.new }
         ensures mine { (self.new.mine ≡ self.old.mine) × (other.new.mine ≡ other.old.mine) }
         ensures longer { IsLonger self.old.seen other.old.seen self.new.seen }
@@ -118,21 +106,19 @@ impl<'t> Seat<'t> {
         alloc: Global,
         params: Params,
         table: &'t Table,
-        seats: usize,
-        number: usize,
+        token: SeatToken<J>,
         seen: view::Note,
         reader: ViewReader,
-    ) -> Seat<'t>
-        requires number { number < seats }
+    ) -> Seat<'t, J>
         requires empty { seen.entries ≡ [] }
-        requires reader { known reader.place ≡ Some (origin seen.book params table.now seats) }
-        ensures { result ≡ opening_pass (origin seen.book params table.entry.now seats) number }
+        requires reader { known reader.place ≡ Some J.origin }
+        requires at { IsAt J.origin params table.now seen }
+        ensures { result ≡ opening_pass J.origin token }
     {
         Seat {
             params,
             table,
-            seats,
-            number,
+            token,
             seen,
             answered: 0,
             owed: Vec::new(alloc),
@@ -203,6 +189,6 @@ impl<'t> Seat<'t> {
         if !is_beginning || from > journal.len() {
             return false;
         }
-        own_are(&journal[from..], self.number, self.owed.as_slice())
+        own_are(&journal[from..], self.token.number(), self.owed.as_slice())
     }
 }

@@ -1,19 +1,20 @@
 //! A seat's writing calls. Each takes its step under the lock, and sees it published.
 
-ghost use Rattle.std.specs.Prelude.{◌≡◌, ◌⊎◌, true, false, IfOk, IfErr, IfSome};
+ghost use Rattle.std.specs.Prelude.{◌≡◌, true, false, IfOk, IfErr, IfSome, OnErr};
 ghost use Rattle.chain.specs.Prepared.{command_of};
 ghost use Rattle.chain.specs.declared.command.Command.TheVariants as command;
 ghost use Rattle.chain.specs.declared.reply.Reply.TheVariants as reply;
-ghost use Rattle.node.specs.inside.Keeping.{IsReplyTo, IsUndecodable, is_step};
+ghost use Rattle.node.specs.inside.Keeping.{IsUndecodable};
+ghost use Rattle.node.specs.inside.PublishedState.{IsStepAnswer};
 
 use crate::answer::Stamped;
 use crate::fault::Fault;
 use crate::looks::{look_after, look_before};
+use crate::naming::{Naming, SeatToken};
 use crate::node::Node;
 use crate::published_history::{PublishedHistory, Refusal};
 use crate::seat::Seat;
 use chain::{Bytes, Entry, MarkReply, PreparedCommand, Reply, Submission, SubmitReply};
-use curve::Table;
 use hash::Id;
 use queue::{Threaded, Verdicts};
 use std::sync::Wait;
@@ -30,39 +31,33 @@ fn is_undecodable(command: &PreparedCommand) -> bool
     }
 }
 
-/// Takes a step under the lock, for the seat of this number. The verdicts are used if they are of the lock's table.
-fn step_under_lock<R: Threads + Wait + Sync>(
+/// Takes a step under the lock, by a seat's token. The verdicts are of scripts that were run before the lock.
+fn step_under_lock<J: Naming, R: Threads + Wait + Sync>(
     rt: &R,
-    node: &Node<'_>,
-    history: &mut PublishedHistory,
-    number: usize,
+    node: &Node<'_, J>,
+    history: &mut PublishedHistory<J>,
+    token: &SeatToken<J>,
     command: &PreparedCommand,
     early: Option<Verdicts<'_>>,
-    table: &Table,
 ) -> Result<Option<Reply>, Refusal>
     requires shown { history.old.owed ≡ false }
-    requires table { IfSome early (λ v. v.triples ≡ table.now) }
-    ensures { let c = command_of command.now in
-        IfOk result (λ answer. IfSome answer (λ r.
-        ((is_step r ≡ true) × IsReplyTo c r) ⊎ IsUndecodable c)) }
+    requires table { IfSome early (λ v. v.triples ≡ J.origin.triples) }
+    ensures step { let c = command_of command.now in
+        IfOk result (λ answer. IsStepAnswer history.old history.new token.now c answer) }
+    ensures err { OnErr result (history.new ≡ history.old) }
 {
-    if number >= history.seats() {
-        return Err(Refusal::Closed);
-    }
     let crew = Threaded { rt };
     let (workers, gate) = (node.workers, node.gate);
     match early {
-        Some(verdicts) if history.has_table(table) => {
-            history.step(rt, number, command, workers, &[verdicts], &crew, gate)
-        }
-        _ => history.step(rt, number, command, workers, &[], &crew, gate),
+        Some(verdicts) => history.step(rt, token, command, workers, &[verdicts], &crew, gate),
+        None => history.step(rt, token, command, workers, &[], &crew, gate),
     }
 }
 
-impl<'t> Seat<'t> {
+impl<'t, J: Naming> Seat<'t, J> {
     ghost use Rattle.node.specs.Calls.{IsSubmitAnswer, IsWriteFault};
     ghost use Rattle.node.specs.Pass.{IsLater, IsOwn, IsWrite};
-    ghost use Rattle.node.specs.inside.Writing.{IsWriteAnswer, IsMark};
+    ghost use Rattle.node.specs.inside.Writing.{IsWriteAnswer, IsLeftBy, IsMark};
 
     /// Submits the bytes of a block, at a moment in seconds since 1970 (Bitcoin Core's `submitblock`).
     ///
@@ -71,7 +66,7 @@ impl<'t> Seat<'t> {
     pub fn submit<R: Threads + Wait + Sync>(
         &mut self,
         rt: &R,
-        node: &Node<'_>,
+        node: &Node<'_, J>,
         bytes: &[u8],
         now: u64,
     ) -> Result<Stamped<SubmitReply>, Fault>
@@ -99,7 +94,7 @@ impl<'t> Seat<'t> {
     pub fn invalidate<R: Threads + Wait + Sync>(
         &mut self,
         rt: &R,
-        node: &Node<'_>,
+        node: &Node<'_, J>,
         id: Id,
     ) -> Result<Stamped<MarkReply>, Fault>
         ensures later { IsLater self.old self.new }
@@ -117,7 +112,7 @@ impl<'t> Seat<'t> {
     pub fn reconsider<R: Threads + Wait + Sync>(
         &mut self,
         rt: &R,
-        node: &Node<'_>,
+        node: &Node<'_, J>,
         id: Id,
     ) -> Result<Stamped<MarkReply>, Fault>
         ensures later { IsLater self.old self.new }
@@ -135,7 +130,7 @@ impl<'t> Seat<'t> {
     pub fn precious<R: Threads + Wait + Sync>(
         &mut self,
         rt: &R,
-        node: &Node<'_>,
+        node: &Node<'_, J>,
         id: Id,
     ) -> Result<Stamped<MarkReply>, Fault>
         ensures later { IsLater self.old self.new }
@@ -151,7 +146,7 @@ impl<'t> Seat<'t> {
     fn mark<R: Threads + Wait + Sync>(
         &mut self,
         rt: &R,
-        node: &Node<'_>,
+        node: &Node<'_, J>,
         command: &PreparedCommand,
     ) -> Result<Stamped<MarkReply>, Fault>
         requires mark { IsMark (command_of command.now) }
@@ -169,16 +164,15 @@ impl<'t> Seat<'t> {
         }
     }
 
-    /// Takes the step of a command under the lock, and sees it. A step that is owed is published first.
-    #[tactic(auto, using(crate::proofs::Owning::own_begins))]
+    /// Takes the lock, and there the step of a command.
     fn write<R: Threads + Wait + Sync>(
         &mut self,
         rt: &R,
-        node: &Node<'_>,
+        node: &Node<'_, J>,
         command: &PreparedCommand,
         early: Option<Verdicts<'_>>,
     ) -> Result<Stamped<Reply>, Fault>
-        requires table { IfSome early (λ v. v.triples ≡ self.old.origin.triples) }
+        requires table { IfSome early (λ v. v.triples ≡ J.origin.triples) }
         ensures later { IsLater self.old self.new }
         ensures answer { let IsAnswer = IsWriteAnswer self.old self.new (command_of command.now) in
             IfOk result (λ r. IsAnswer r.at r.value) }
@@ -186,11 +180,34 @@ impl<'t> Seat<'t> {
         ensures fault { let c = command_of command.now in
             IfErr result (λ fault. IsWriteFault self.old self.new c fault) }
     {
+        let mut history = node.history.lock(rt);
+        self.write_under_lock(rt, node, &mut history, command, early)
+    }
+
+    /// Takes the step of a command, and sees it. A step that is owed is published first.
+    #[tactic(auto, using(crate::proofs::Owning::own_begins))]
+    fn write_under_lock<R: Threads + Wait + Sync>(
+        &mut self,
+        rt: &R,
+        node: &Node<'_, J>,
+        history: &mut PublishedHistory<J>,
+        command: &PreparedCommand,
+        early: Option<Verdicts<'_>>,
+    ) -> Result<Stamped<Reply>, Fault>
+        requires table { IfSome early (λ v. v.triples ≡ J.origin.triples) }
+        ensures later { IsLater self.old self.new }
+        ensures answer { let IsAnswer = IsWriteAnswer self.old self.new (command_of command.now) in
+            IfOk result (λ r. IsAnswer r.at r.value) }
+        ensures own { IsOwn self.new }
+        ensures fault { let c = command_of command.now in
+            IfErr result (λ fault. IsWriteFault self.old self.new c fault) }
+        ensures held { let number = self.old.number in let c = command_of command.now in
+            IfErr result (λ fault. IsLeftBy history.old history.new number c fault) }
+    {
         if self.owed.reserve(1).is_err() {
             return Err(Fault::Memory);
         }
         let asked = command.command()?;
-        let mut history = node.history.lock(rt);
         if !history.settle(rt) {
             return Err(Fault::Memory);
         }
@@ -204,15 +221,14 @@ impl<'t> Seat<'t> {
         let Some(reader) = self.reader.take() else {
             return Err(Fault::Closed);
         };
-        let (len, number) = (history.len(), self.number);
+        let (len, number) = (history.len(), self.token.number());
         let owed = self.owed.as_slice();
         let (reader, found) = look_before(reader, &self.seen, len, number, self.answered, owed);
         let Some(before) = found else {
             self.reader = Some(reader);
             return Err(Fault::Closed);
         };
-        let table = self.table;
-        let reply = match step_under_lock(rt, node, &mut history, number, command, early, table) {
+        let reply = match step_under_lock(rt, node, history, &self.token, command, early) {
             Ok(Some(reply)) => reply,
             Ok(None) => {
                 self.reader = Some(reader);

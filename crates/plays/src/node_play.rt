@@ -1,6 +1,8 @@
 //! A list of commands at the seats of a node, in turn, each told the note of the one before. What is refused is asked
 //! again.
 
+ghost use Rattle.std.specs.Prelude.{◌≡◌};
+
 use crate::allocations::{begin, end};
 use crate::history::expect_history;
 use crate::setting::Setting;
@@ -9,8 +11,9 @@ use crate::tally::{Kind, Tally};
 use crate::trouble::Trouble;
 use crate::turns::Turns;
 use crate::wanted::Wanted;
-use node::{Entry, Fault, Gate, Node, OpenFault, Seat, Stamped, SubmitReply};
+use node::{Entry, Fault, Gate, Naming, Node, OpenFault, Opening, Seat, Stamped, SubmitReply};
 use scenario::{Call, Request};
+use std::marker::Brand;
 use std::rt::Env;
 use std::sync::{Arc, Wait};
 use std::thread::Threads;
@@ -33,32 +36,54 @@ where
     let Setting { params, seats, .. } = *setting;
     let table = Arc::new(rt.alloc(), setting.definitions.table().copy()?)?;
     for _ in 0..MOST_TRIES {
-        begin(rt, setting.skipped == 0);
-        let opened = Node::open(rt, rt.alloc(), params, &table, 1, seats, gate);
-        let refused = end(rt);
-        tally.call(Kind::Open, refused.unwrap_or(0));
-        match opened {
-            Ok((node, list)) => {
-                tally.answered(refused.unwrap_or(0));
-                let turns = Turns::new(params, &table, seats, list);
-                return play_calls(rt, setting, node, turns, closes, tally);
-            }
-            Err(OpenFault::Memory) if refused != Some(0) => tally.memory(Kind::Open),
-            Err(fault) => {
-                let text = format!(in rt.alloc(); "open is answered {fault}")?;
-                return Err(Trouble::Difference(text));
-            }
+        let opening = Opening::new(params, &table, seats);
+        if play_opening::<Brand, R>(rt, setting, opening, gate, closes, tally)? {
+            return Ok(());
         }
     }
     Err(endless(rt, "open")?)
 }
 
-/// Makes the calls, ends the node and compares its history.
-fn play_calls<R>(
+/// Opens a node and plays the list on it: whether memory sufficed to open it.
+fn play_opening<J: Naming, R>(
     rt: &R,
     setting: &Setting<'_>,
-    node: Node<'_>,
-    turns: Option<Turns<'_>>,
+    opening: Opening<'_>,
+    gate: &(dyn Gate + Sync),
+    closes: bool,
+    tally: &mut Tally,
+) -> Result<bool, Trouble>
+where
+    R: AllocGlobal + Env + Threads + Wait + Sync,
+    requires { opening ≡ J.origin }
+{
+    begin(rt, setting.skipped == 0);
+    let opened = Node::<J>::open(rt, rt.alloc(), opening, 1, gate);
+    let refused = end(rt);
+    tally.call(Kind::Open, refused.unwrap_or(0));
+    match opened {
+        Ok((node, list)) => {
+            tally.answered(refused.unwrap_or(0));
+            play_calls(rt, setting, node, Turns::new(list), closes, tally)?;
+            Ok(true)
+        }
+        Err(OpenFault::Memory) if refused != Some(0) => {
+            tally.memory(Kind::Open);
+            Ok(false)
+        }
+        Err(fault) => {
+            let text = format!(in rt.alloc(); "open is answered {fault}")?;
+            Err(Trouble::Difference(text))
+        }
+    }
+}
+
+/// Makes the calls, ends the node and compares its history.
+fn play_calls<J: Naming, R>(
+    rt: &R,
+    setting: &Setting<'_>,
+    node: Node<'_, J>,
+    turns: Option<Turns<'_, J>>,
     closes: bool,
     tally: &mut Tally,
 ) -> Result<(), Trouble>
@@ -77,7 +102,7 @@ where
 
 /// The end of a node that has no seat. It takes the node: where one path drops a node and another hands it on, nothing
 /// is proved.
-fn without_seats(node: Node<'_>) -> Trouble {
+fn without_seats<J: Naming>(node: Node<'_, J>) -> Trouble {
     let _ = node.finish(&mut []);
     Trouble::Unreadable
 }
@@ -89,11 +114,11 @@ fn endless<R: AllocGlobal>(rt: &R, call: &str) -> Result<Trouble, Trouble> {
 }
 
 /// Makes all calls, the seats in turn: for each whether its reply is owed.
-fn answer_all<R>(
+fn answer_all<J: Naming, R>(
     rt: &R,
     setting: &Setting<'_>,
-    node: &Node<'_>,
-    turns: &mut Turns<'_>,
+    node: &Node<'_, J>,
+    turns: &mut Turns<'_, J>,
     tally: &mut Tally,
 ) -> Result<Vec<bool>, Trouble>
 where
@@ -129,12 +154,12 @@ struct Turn<'p> {
 }
 
 /// Makes a call as often as it is answered Memory: whether its reply is owed.
-fn answer<R>(
+fn answer<J: Naming, R>(
     rt: &R,
     setting: &Setting<'_>,
     turn: &Turn<'_>,
-    node: &Node<'_>,
-    turns: &mut Turns<'_>,
+    node: &Node<'_, J>,
+    turns: &mut Turns<'_, J>,
     tally: &mut Tally,
 ) -> Result<bool, Trouble>
 where
@@ -171,12 +196,12 @@ where
 }
 
 /// Submits no bytes until that is answered, which shows the step that is owed. So many steps were told before.
-fn show<R>(
+fn show<J: Naming, R>(
     rt: &R,
     turn: &Turn<'_>,
     seen: u64,
-    node: &Node<'_>,
-    turns: &mut Turns<'_>,
+    node: &Node<'_, J>,
+    turns: &mut Turns<'_, J>,
     tally: &mut Tally,
 ) -> Result<(), Trouble>
 where
@@ -245,10 +270,10 @@ fn kind_of(request: &Request<'_>) -> Kind {
 }
 
 /// Ends the node, by either of the two calls, which take no memory: the history.
-fn end_node<R>(
+fn end_node<J: Naming, R>(
     rt: &R,
-    node: Node<'_>,
-    seats: &mut [Seat<'_>],
+    node: Node<'_, J>,
+    seats: &mut [Seat<'_, J>],
     closes: bool,
     tally: &mut Tally,
 ) -> Result<Vec<Entry>, Trouble>

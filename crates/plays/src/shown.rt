@@ -1,8 +1,8 @@
 //! What a seat answers, as the table of scenarios has it.
 
-ghost use Rattle.std.specs.Prelude.{◌≡◌};
-
-use node::{Fault, MarkReply, Node, Seat, Stamped, Status, SubmitReply, Tip, UnspentOutput};
+use node::{
+    Fault, MarkReply, Naming, Node, Seat, Stamped, Status, SubmitReply, Tip, UnspentOutput,
+};
 use scenario::{Definitions, Label, Request};
 use std::fmt;
 use std::sync::Wait;
@@ -19,16 +19,15 @@ pub enum Shown<'d> {
 }
 
 /// Makes a call of a seat.
-pub fn ask<'d, R>(
+pub fn ask<'d, J: Naming, R>(
     rt: &R,
     definitions: &'d Definitions,
     request: &Request<'_>,
-    node: &Node<'_>,
-    seat: &mut Seat<'_>,
+    node: &Node<'_, J>,
+    seat: &mut Seat<'_, J>,
 ) -> Result<Stamped<Shown<'d>>, Fault>
 where
     R: AllocGlobal + Threads + Wait + Sync,
-    ensures { seat.new.origin ≡ seat.old.origin }
 {
     let alloc = rt.alloc();
     Ok(match request {

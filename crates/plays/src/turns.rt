@@ -1,48 +1,22 @@
 //! The seats of a node, which make calls in turn: each is told before what the one before it has seen.
 
-ghost use Rattle.std.specs.Prelude.{◌≡◌};
-
 use crate::setting::Setting;
 use crate::shown::{Shown, ask};
-use node::{Fault, Node, Note, Params, Seat, Stamped, SubmitReply, Table};
+use node::{Fault, Naming, Node, Note, Seat, Stamped, SubmitReply};
 use scenario::Request;
-use std::marker::Model;
-use std::sync::{Arc, Wait};
+use std::sync::Wait;
 use std::thread::Threads;
 
 /// The seats of one opening, and the note of the one that made the last call.
 #[derive(Drop)]
-pub struct Turns<'t> {
-    seats: Vec<Seat<'t>>,
-    note: Note<'t>,
+pub struct Turns<'t, J: Naming> {
+    seats: Vec<Seat<'t, J>>,
+    note: Note<J>,
 }
 
-impl<'t> Model for Turns<'t> {
-    ghost use Rattle.std.specs.Prelude.{◌≡◌, ℕ, All};
-
-    ghost Value = { ℕ };
-
-    ghost view = { λ _. 0 };
-
-    ghost invariant = { λ t. All (λ p. p.origin ≡ t.note.origin) t.seats.items };
-}
-
-impl<'t> Turns<'t> {
-    ghost use Rattle.std.specs.Arc.{arc_value};
-    ghost use Rattle.logbook.specs.Pages.{Book};
-    ghost use Rattle.view.specs.Origin.{origin};
-    ghost use Rattle.node.specs.Pass.{opening_passes};
-
-    /// The seats of a node that was opened with these, none of which was asked yet; `None` if there is none.
-    pub fn new(
-        params: Params,
-        table: &Arc<Table>,
-        count: usize,
-        seats: Vec<Seat<'t>>,
-    ) -> Option<Turns<'t>>
-        requires opened { (b : Book) × (seats.items
-            ≡ opening_passes (origin b params (arc_value table.now) count) count) }
-    {
+impl<'t, J: Naming> Turns<'t, J> {
+    /// The seats of a node, none of which was asked yet; `None` if there is none.
+    pub fn new(seats: Vec<Seat<'t, J>>) -> Option<Turns<'t, J>> {
         let note = match seats.first() {
             Some(seat) => seat.note(),
             None => return None,
@@ -55,7 +29,7 @@ impl<'t> Turns<'t> {
         &mut self,
         rt: &R,
         setting: &Setting<'d>,
-        node: &Node<'_>,
+        node: &Node<'_, J>,
         number: usize,
         request: &Request<'_>,
     ) -> Result<Stamped<Shown<'d>>, Fault> {
@@ -73,7 +47,7 @@ impl<'t> Turns<'t> {
     pub fn submit_nothing<R: Threads + Wait + Sync>(
         &mut self,
         rt: &R,
-        node: &Node<'_>,
+        node: &Node<'_, J>,
         number: usize,
     ) -> Result<Stamped<SubmitReply>, Fault> {
         if number >= self.seats.len() {
@@ -86,7 +60,7 @@ impl<'t> Turns<'t> {
     }
 
     /// The seats, when all calls are made.
-    pub fn into_seats(self) -> Vec<Seat<'t>> {
+    pub fn into_seats(self) -> Vec<Seat<'t, J>> {
         let Turns { seats, .. } = self;
         seats
     }

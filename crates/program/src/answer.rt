@@ -1,7 +1,7 @@
 //! The answers of a client's seat.
 
 use crate::told::{Tips, Told};
-use node::{Fault, Node, Seat, Stamped};
+use node::{Fault, Naming, Node, Seat, Stamped};
 use scenario::{Definitions, Request};
 use std::alloc::{AllocError, Global};
 use std::fmt;
@@ -40,12 +40,12 @@ impl Answer {
 }
 
 /// What a seat answers to a request.
-pub fn asked<'d, R>(
+pub fn asked<'d, J: Naming, R>(
     rt: &R,
     definitions: &'d Definitions,
     request: &Request<'_>,
-    node: &Node<'_>,
-    seat: &mut Seat<'_>,
+    node: &Node<'_, J>,
+    seat: &mut Seat<'_, J>,
 ) -> Result<Stamped<Told<'d>>, Fault>
 where
     R: AllocGlobal + Threads + Wait + Sync,
@@ -72,10 +72,10 @@ where
 }
 
 /// What a seat answers to the submission of these bytes.
-pub fn submitted<'d, R>(
+pub fn submitted<'d, J: Naming, R>(
     rt: &R,
-    node: &Node<'_>,
-    seat: &mut Seat<'_>,
+    node: &Node<'_, J>,
+    seat: &mut Seat<'_, J>,
     bytes: &[u8],
     now: u64,
 ) -> Result<Stamped<Told<'d>>, Fault>

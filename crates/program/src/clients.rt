@@ -4,7 +4,7 @@ use crate::answer::{Answer, asked, submitted};
 use crate::fault::Fault;
 use block::BlkFault;
 use journal::Records;
-use node::{Node, Seat};
+use node::{Naming, Node, Seat};
 use scenario::{Client, Definitions, Request};
 use std::alloc::{AllocError, AllocFailed};
 use std::sync::Wait;
@@ -71,12 +71,12 @@ impl Sink for Vec<Answer> {
 }
 
 /// Runs a client's commands on its seat.
-pub fn answer_all<R, S>(
+pub fn answer_all<J: Naming, R, S>(
     rt: &R,
     definitions: &Definitions,
-    node: &Node<'_>,
+    node: &Node<'_, J>,
     client: &Client<'_, '_>,
-    seat: &mut Seat<'_>,
+    seat: &mut Seat<'_, J>,
     sink: &mut S,
 ) -> Result<(), Ended>
 where
@@ -93,11 +93,11 @@ where
 }
 
 /// Submits the records of a blk file in their order, until one can't be read.
-pub fn submit_all<R, S>(
+pub fn submit_all<J: Naming, R, S>(
     rt: &R,
-    node: &Node<'_>,
+    node: &Node<'_, J>,
     records: &mut Records<'_>,
-    seat: &mut Seat<'_>,
+    seat: &mut Seat<'_, J>,
     sink: &mut S,
 ) -> Result<(), Ended>
 where

@@ -1,5 +1,7 @@
 //! The run of a scenario: its files, its clients, what is printed, and what is saved.
 
+ghost use Rattle.std.specs.Prelude.{◌≡◌};
+
 use crate::fault::Fault;
 use crate::files::{read_file, read_scenario, read_table};
 use crate::options::RunOptions;
@@ -12,10 +14,11 @@ use crate::text::{Text, read_definitions};
 use crate::writer::Writer;
 use curve::Table;
 use journal::read_heights;
-use node::{Gate, Node, Params};
+use node::{Entry, Gate, Naming, Node, Opening, Params};
 use scenario::{BLK, Client, Definitions, number_after, read_clients};
 use std::alloc::Global;
 use std::io::{IsTerminal, Read, Write};
+use std::marker::Brand;
 use std::rt::Files;
 use std::sync::{Arc, Wait};
 use std::thread::Threads;
@@ -167,7 +170,51 @@ where
     let Setting { params, workers } = setting;
     let names = names(alloc, clients, blk.is_some())?;
     let table = Arc::new(alloc, definitions.table().copy()?)?;
-    let (node, mut seats) = Node::open(rt, alloc, params, &table, workers, names.len(), gate)?;
+    let opening = Opening::new(params, &table, names.len());
+    let Ran { entries, written } = run_at_node::<Brand, R, E, O>(
+        rt,
+        opening,
+        workers,
+        gate,
+        definitions,
+        clients,
+        blk,
+        writer,
+    )?;
+    match written {
+        Ok(()) | Err(Fault::CannotWrite(_)) => Ok(Played {
+            report: Report::new(alloc, definitions, names, entries)?,
+            written,
+        }),
+        Err(fault) => Err(fault),
+    }
+}
+
+/// The history of a run, and whether its answers were written.
+#[derive(Drop)]
+struct Ran<'f> {
+    entries: Vec<Entry>,
+    written: Result<(), Fault<'f>>,
+}
+
+/// Runs the clients on a node of this opening. The prover picks the node's name where this is called.
+fn run_at_node<'f, J: Naming, R, E, O>(
+    rt: &R,
+    opening: Opening<'_>,
+    workers: usize,
+    gate: &(dyn Gate + Sync),
+    definitions: &Definitions,
+    clients: &[Client<'_, '_>],
+    blk: Option<&[u8]>,
+    writer: &mut Writer<'_, '_, '_, R, E, O>,
+) -> Result<Ran<'f>, Fault<'f>>
+where
+    R: AllocGlobal + Clock + Threads + Wait + Sync,
+    O: Write,
+    E: Write,
+    requires { opening ≡ J.origin }
+{
+    let (node, mut seats) = Node::<J>::open(rt, rt.alloc(), opening, workers, gate)?;
     let lone = usize::from(blk.is_some()).min(seats.len());
     let (first, others) = seats.split_at_mut(lone);
     let submitted = match (blk, first) {
@@ -179,13 +226,7 @@ where
         Err(fault) => Err(fault),
     };
     let entries = node.close(rt, seats.as_mut_slice())?;
-    match written {
-        Ok(()) | Err(Fault::CannotWrite(_)) => Ok(Played {
-            report: Report::new(alloc, definitions, names, entries)?,
-            written,
-        }),
-        Err(fault) => Err(fault),
-    }
+    Ok(Ran { entries, written })
 }
 
 /// The client of each seat.

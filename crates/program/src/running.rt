@@ -5,7 +5,7 @@ use crate::clients::{Ended, answer_all, ended_by, submit_all};
 use crate::fault::Fault;
 use crate::writer::Writer;
 use journal::Records;
-use node::{Node, Seat};
+use node::{Naming, Node, Seat};
 use scenario::{BLK, Client, Definitions};
 use std::alloc::Global;
 use std::io::Write;
@@ -16,12 +16,12 @@ use std::time::Clock;
 
 /// Runs the clients, each on a seat of its own. The answers of the first are written as they come, those of each other
 /// one when it and all before it have ended.
-pub fn run_clients<R, E, O>(
+pub fn run_clients<J: Naming, R, E, O>(
     rt: &R,
     definitions: &Definitions,
     clients: &[Client<'_, '_>],
-    node: &Node<'_>,
-    seats: &mut [Seat<'_>],
+    node: &Node<'_, J>,
+    seats: &mut [Seat<'_, J>],
     writer: &mut Writer<'_, '_, '_, R, E, O>,
 ) -> Result<(), Fault<'static>>
 where
@@ -54,12 +54,12 @@ where
 }
 
 /// Runs the first client, and writes each answer when it comes.
-fn run_first<R, E, O>(
+fn run_first<J: Naming, R, E, O>(
     rt: &R,
     definitions: &Definitions,
     client: &Client<'_, '_>,
-    node: &Node<'_>,
-    seat: &mut Seat<'_>,
+    node: &Node<'_, J>,
+    seat: &mut Seat<'_, J>,
     writer: &mut Writer<'_, '_, '_, R, E, O>,
 ) -> Result<(), Fault<'static>>
 where
@@ -96,18 +96,18 @@ impl Desk {
 }
 
 /// Runs several clients at once, each on a thread of its own where one can be made.
-fn run_at_once<'x, R>(
+fn run_at_once<'x, J: Naming, R>(
     rt: &'x R,
     definitions: &'x Definitions,
     clients: &'x [Client<'_, '_>],
-    node: &'x Node<'_>,
-    seats: &mut [Seat<'_>],
+    node: &'x Node<'_, J>,
+    seats: &mut [Seat<'_, J>],
     desks: &'x [Desk],
 )
 where
     R: AllocGlobal + Threads + Wait + Sync,
 {
-    let run_one = |place: usize, seat: &mut Seat<'_>| {
+    let run_one = |place: usize, seat: &mut Seat<'_, J>| {
         if let (Some(client), Some(desk)) = (clients.get(place), desks.get(place)) {
             desk.lay(rt, collected(rt, definitions, node, client, seat));
         }
@@ -116,12 +116,12 @@ where
 }
 
 /// All answers of a client.
-fn collected<R>(
+fn collected<J: Naming, R>(
     rt: &R,
     definitions: &Definitions,
-    node: &Node<'_>,
+    node: &Node<'_, J>,
     client: &Client<'_, '_>,
-    seat: &mut Seat<'_>,
+    seat: &mut Seat<'_, J>,
 ) -> Result<Vec<Answer>, Ended>
 where
     R: AllocGlobal + Threads + Wait + Sync,
@@ -132,11 +132,11 @@ where
 }
 
 /// The client of a blk file, whose answers are written as they come. The file's fault comes before that of the output.
-pub fn run_records<R, E, O>(
+pub fn run_records<J: Naming, R, E, O>(
     rt: &R,
     file: &[u8],
-    node: &Node<'_>,
-    seat: &mut Seat<'_>,
+    node: &Node<'_, J>,
+    seat: &mut Seat<'_, J>,
     writer: &mut Writer<'_, '_, '_, R, E, O>,
 ) -> Result<(), Fault<'static>>
 where

@@ -1,25 +1,34 @@
 //! What a node can't be opened with, and its texts.
 
-use node::{Fault, Node, Open, OpenFault, Params, Seat, Table};
+ghost use Rattle.std.specs.Prelude.{◌≡◌};
+
+use node::{Fault, Naming, Node, Open, OpenFault, Opening, Params, Table};
+use std::marker::Brand;
 use std::sync::{Arc, Wait};
 use std::test::Fail;
 
-/// A node of so many workers and seats.
-fn opened<'g, R: AllocGlobal + Wait>(
+/// How many seats a node of so many workers has.
+fn count_seats<J: Naming, R: AllocGlobal + Wait>(
     rt: &R,
-    table: &'g Arc<Table>,
+    opening: Opening<'_>,
+    workers: usize,
+) -> Result<usize, OpenFault>
+    requires { opening ≡ J.origin }
+{
+    let (node, seats) = Node::<J>::open(rt, rt.alloc(), opening, workers, &Open)?;
+    let _ = node.finish(&mut []);
+    Ok(seats.len())
+}
+
+/// The same, of a node that wants so many seats.
+fn opened<R: AllocGlobal + Wait>(
+    rt: &R,
+    table: &Arc<Table>,
     workers: usize,
     seats: usize,
-) -> Result<(Node<'g>, Vec<Seat<'g>>), OpenFault> {
-    Node::open(
-        rt,
-        rt.alloc(),
-        Params::regtest(),
-        table,
-        workers,
-        seats,
-        &Open,
-    )
+) -> Result<usize, OpenFault> {
+    let opening = Opening::new(Params::regtest(), table, seats);
+    count_seats::<Brand, R>(rt, opening, workers)
 }
 
 /// Numbers of workers and of seats, and why they are refused.
@@ -36,9 +45,7 @@ fn openings(rt: HostRuntime) -> Result<(), Fail> {
     for (workers, seats, fault) in REFUSED {
         assert_eq!(rt; opened(&rt, &table, workers, seats).err(), Some(fault));
     }
-    let (node, seats) = opened(&rt, &table, 16, 16)?;
-    assert_eq!(rt; seats.len(), 16);
-    assert!(rt; node.finish(&mut [])?.is_empty());
+    assert_eq!(rt; opened(&rt, &table, 16, 16)?, 16);
     Ok(())
 }
 

@@ -1,2 +1,1 @@
 pub mod OpeningViews
-pub mod Openings

@@ -1,8 +1,6 @@
 //! What a seat is asked, whichever call it is, and what it answers, as a text.
 
-ghost use Rattle.std.specs.Prelude.{◌≡◌};
-
-use node::{Fault, Node, Seat, Status, Tip, UnspentOutput};
+use node::{Fault, Naming, Node, Seat, Status, Tip, UnspentOutput};
 use scenario::{Call, Definitions, Request};
 use std::fmt;
 use std::sync::Wait;
@@ -10,16 +8,14 @@ use std::thread::Threads;
 use wire::Memory;
 
 /// Writes a line with what a seat answers, and its stamp.
-pub fn ask<R: AllocGlobal + Threads + Wait + Sync>(
+pub fn ask<J: Naming, R: AllocGlobal + Threads + Wait + Sync>(
     rt: &R,
     definitions: &Definitions,
-    node: &Node<'_>,
-    seat: &mut Seat<'_>,
+    node: &Node<'_, J>,
+    seat: &mut Seat<'_, J>,
     request: &Request<'_>,
     text: &mut String,
-) -> Result<(), Fault>
-    ensures { seat.new.origin ≡ seat.old.origin }
-{
+) -> Result<(), Fault> {
     match request {
         Request::Submit(bytes, now) => {
             let reply = seat.submit(rt, node, bytes.as_slice(), *now)?;
@@ -105,11 +101,11 @@ fn write_output(text: &mut String, output: Option<UnspentOutput>, at: u64) -> Re
 }
 
 /// What a seat answers to these calls.
-pub fn ask_all<R: AllocGlobal + Threads + Wait + Sync>(
+pub fn ask_all<J: Naming, R: AllocGlobal + Threads + Wait + Sync>(
     rt: &R,
     definitions: &Definitions,
-    node: &Node<'_>,
-    seat: &mut Seat<'_>,
+    node: &Node<'_, J>,
+    seat: &mut Seat<'_, J>,
     calls: &[Call<'_, '_>],
 ) -> Result<String, Fault> {
     let mut text = String::new(rt.alloc());

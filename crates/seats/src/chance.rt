@@ -121,6 +121,7 @@ fn two_thousand_commands(rt: HostRuntime) -> Result<(), Fail> {
         in_a_row: 3,
         is_moved: false,
         threads: 1,
+        is_ring: false,
     };
     let played = play(&rt, &definitions, &text, &setting, &Door::new(0))?;
     assert_eq!(rt; played.history.len(), COUNT);
@@ -164,11 +165,16 @@ fn expect_seat<R: Abort>(
     Ok(())
 }
 
-/// Four clients that share commands, and ask for the best block behind each, after one that asks nothing.
-fn clients(alloc: Global, commands: &str) -> Result<String, AllocError> {
-    let mut text = String::from_str(alloc, "client p\n")?;
-    for first in 0..4usize {
-        write_client(&mut text, commands, first, 4, "best\n")?;
+/// So many clients that share commands, and ask for the best block behind each, after others.
+fn clients(
+    alloc: Global,
+    commands: &str,
+    count: usize,
+    others: &str,
+) -> Result<String, AllocError> {
+    let mut text = String::from_str(alloc, others)?;
+    for first in 0..count {
+        write_client(&mut text, commands, first, count, "best\n")?;
     }
     Ok(text)
 }
@@ -190,8 +196,9 @@ fn expect<R: AllocGlobal + Threads + Wait + Sync + Abort>(
         in_a_row: 1,
         is_moved: false,
         threads: 4,
+        is_ring: false,
     };
-    let text = clients(alloc, &deal.commands)?;
+    let text = clients(alloc, &deal.commands, 4, "client p\n")?;
     let played = play(rt, &definitions, &text, &setting, &Door::new(0))?;
     let history = played.history.as_slice();
     let given = replies(alloc, history)?;
@@ -242,4 +249,51 @@ fn lists_150_to_199_on_genesis(rt: HostRuntime) -> Result<(), Fail> {
 #[test]
 fn lists_200_to_209_on_a_chain(rt: HostRuntime) -> Result<(), Fail> {
     expect_lists(&rt, 200, 210, 100, 100)
+}
+
+/// Fifteen running threads in a ring, as many as a text has clients, share 2,000 commands: no stamp lies below a note that its seat was told. The
+/// replies of a shorter list are those of the definition as a program, those of the whole one the chainstate's.
+fn expect_ring<R: AllocGlobal + Threads + Wait + Sync + Abort>(
+    rt: &R,
+    seed: u64,
+    below: usize,
+    count: usize,
+    by_definition: bool,
+) -> Result<(), Fail> {
+    let alloc = rt.alloc();
+    let deal = Deal::new(alloc, seed, below, count)?;
+    let definitions = define(alloc, &deal.definitions)?;
+    let setting = Setting {
+        params: Params::regtest(),
+        workers: 2,
+        seats: 15,
+        in_a_row: 1,
+        is_moved: false,
+        threads: 15,
+        is_ring: true,
+    };
+    let text = clients(alloc, &deal.commands, 15, "")?;
+    let played = play(rt, &definitions, &text, &setting, &Door::new(0))?;
+    let history = played.history.as_slice();
+    let rights = replayed(alloc, &definitions, history)?;
+    expect_replies(rt, history, &rights)?;
+    if by_definition {
+        let given = replies(alloc, history)?;
+        let wanted = replies_of_slow(alloc, &definitions, history)?;
+        assert_eq!(rt; given.as_str(), wanted.as_str());
+    }
+    for (number, answers) in played.apart.iter().enumerate() {
+        expect_seat(rt, answers, number, history, &rights)?;
+    }
+    Ok(())
+}
+
+#[test]
+fn a_ring_of_two_thousand_commands(rt: HostRuntime) -> Result<(), Fail> {
+    expect_ring(&rt, 2_001, 100, 2_000, false)
+}
+
+#[test]
+fn a_ring_by_the_definition(rt: HostRuntime) -> Result<(), Fail> {
+    expect_ring(&rt, 211, 0, 144, true)
 }

@@ -91,6 +91,7 @@ fn expect<R: AllocGlobal + Threads + Wait + Sync + Abort>(rt: &R, row: &Row) -> 
         in_a_row: 1,
         is_moved: false,
         threads: row.threads,
+        is_ring: false,
     };
     let door = Door::new(row.wanted);
     let played = play(rt, &definitions, row.clients, &setting, &door)?;

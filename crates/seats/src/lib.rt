@@ -12,6 +12,8 @@ mod early;
 #[cfg(test)]
 mod ends;
 #[cfg(test)]
+mod handover;
+#[cfg(test)]
 mod inside;
 #[cfg(test)]
 mod moved;
@@ -19,6 +21,8 @@ mod moved;
 mod play;
 #[cfg(test)]
 mod replay;
+#[cfg(test)]
+mod ring;
 #[cfg(test)]
 mod round;
 #[cfg(test)]

@@ -1,46 +1,36 @@
 //! Seats of one node that are asked in turn, each of which is told before what the one before has seen.
 
+ghost use Rattle.std.specs.Prelude.{◌≡◌};
+
 use crate::answers::ask;
-use node::{Fault, Gate, Node, Note, Params, Seat, Table};
+use node::{Fault, Gate, Naming, Node, Note, Opening, Seat};
 use scenario::{Definitions, Request};
-use std::marker::Model;
-use std::sync::{Arc, Wait};
+use std::sync::Wait;
 use std::test::Fail;
 use std::thread::Threads;
 
-/// The seats of a node, and what the one that was asked last has seen: all of one opening.
+/// The seats of a node, and what the one that was asked last has seen.
 #[derive(Drop)]
-pub struct Round<'t> {
-    seats: Vec<Seat<'t>>,
-    note: Note<'t>,
-}
-
-impl<'t> Model for Round<'t> {
-    ghost use Rattle.std.specs.Prelude.{◌≡◌, ℕ, All};
-
-    ghost Value = { ℕ };
-
-    ghost view = { λ _. 0 };
-
-    ghost invariant = { λ r. All (λ p. p.origin ≡ r.note.origin) r.seats.items };
+pub struct Round<'t, J: Naming> {
+    seats: Vec<Seat<'t, J>>,
+    note: Note<J>,
 }
 
 /// That a node has no seat. It takes the node: where one path drops a node and another hands it on, nothing is proved.
-fn lost(_node: Node<'_>) -> Fail {
+fn lost<J: Naming>(_node: Node<'_, J>) -> Fail {
     Fail::new("a seat")
 }
 
 /// A node, and its seats.
-pub fn open<'g, R: AllocGlobal + Wait>(
+pub fn open<'g, J: Naming, R: AllocGlobal + Wait>(
     rt: &R,
-    params: Params,
-    table: &'g Arc<Table>,
+    opening: Opening<'g>,
     workers: usize,
-    seats: usize,
     gate: &'g (dyn Gate + Sync),
-) -> Result<(Node<'g>, Round<'g>), Fail> {
-    let opened = Node::open(rt, rt.alloc(), params, table, workers, seats, gate)?;
-    let (node, seats) = opened;
+) -> Result<(Node<'g, J>, Round<'g, J>), Fail>
+    requires { opening ≡ J.origin }
+{
+    let (node, seats) = Node::<J>::open(rt, rt.alloc(), opening, workers, gate)?;
     let note = match seats.first() {
         Some(seat) => seat.note(),
         None => return Err(lost(node)),
@@ -48,13 +38,13 @@ pub fn open<'g, R: AllocGlobal + Wait>(
     Ok((node, Round { seats, note }))
 }
 
-impl<'t> Round<'t> {
+impl<'t, J: Naming> Round<'t, J> {
     /// What the seat whose turn it is answers.
     pub fn ask<R: AllocGlobal + Threads + Wait + Sync>(
         &mut self,
         rt: &R,
         definitions: &Definitions,
-        node: &Node<'_>,
+        node: &Node<'_, J>,
         turn: usize,
         request: &Request<'_>,
     ) -> Result<String, Fault> {
@@ -72,7 +62,7 @@ impl<'t> Round<'t> {
     }
 
     /// The seats, which may be asked at once.
-    pub fn into_seats(self) -> Vec<Seat<'t>> {
+    pub fn into_seats(self) -> Vec<Seat<'t, J>> {
         let Round { seats, .. } = self;
         seats
     }

@@ -152,6 +152,7 @@ fn expect_all<R: AllocGlobal + Threads + Wait + Sync + Abort>(
         in_a_row: 1,
         is_moved,
         threads: 1,
+        is_ring: false,
     };
     expect_each(rt, &BRANCHES, &setting)?;
     expect_each(rt, &SPENDS, &setting)?;

@@ -1,49 +1,114 @@
-//! The library, call by call: two threads submit a block to a node, read it, and it gives its history.
+//! The library, call by call: one thread submits a block and hands a note to another, which reads the coin after it.
 #![tactic(auto)]
+
+ghost use Rattle.std.specs.Prelude.{◌≡◌, ◌≤◌, IfOk, length};
 
 mod sample;
 
-use node::{Gate, Node, Open, Params, Seat, Table};
+use crossbeam_channel::{Receiver, Sender};
+use node::{
+    Fault, Gate, Naming, Node, Note, Open, Opening, Params, Seat, Stamped, Table, UnspentOutput,
+};
 use sample::{BLOCK, COIN, NOW};
+use std::alloc::Global;
+use std::marker::Brand;
 use std::sync::{Arc, Wait};
 use std::thread;
 use std::thread::Threads;
 
 fn main(rt: HostRuntime) -> anyhow::Result<()> {
-    run(&rt, &Open)
+    let table = Arc::new(rt.alloc(), Table::new(rt.alloc()))?; // no signature is valid
+    run::<Brand, _>(&rt, Opening::new(Params::regtest(), &table, 2), &Open)
 }
 
-fn run<R>(rt: &R, gate: &(dyn Gate + Sync)) -> anyhow::Result<()>
+/// Opens a node of two seats, which two threads use, and prints its history.
+fn run<J: Naming, R>(rt: &R, opening: Opening<'_>, gate: &(dyn Gate + Sync)) -> anyhow::Result<()>
 where
     R: AllocGlobal + Print + Threads + Wait + Sync,
+    requires { opening ≡ J.origin }
 {
     let alloc = rt.alloc();
-    let table = Arc::new(alloc, Table::new(alloc))?; // no signature is valid
-    let (node, mut seats) = Node::open(rt, alloc, Params::regtest(), &table, 2, 2, gate)?;
-    let looked = ask(rt, &node, seats.as_mut_slice());
+    let (node, mut seats) = Node::<J>::open(rt, alloc, opening, 2, gate)?;
+    let used = use_seats(rt, &node, seats.as_mut_slice());
     let history = node.close(rt, seats.as_mut_slice())?;
-    looked?;
+    used?;
     for entry in history.as_slice() {
         println!(rt; "history: {:?}", entry.reply)?;
     }
     Ok(())
 }
 
-/// Each seat submits the block, on a thread of its own, and one of them is first. Then each is asked.
-fn ask<R>(rt: &R, node: &Node<'_>, seats: &mut [Seat<'_>]) -> anyhow::Result<()>
+/// Gives each of two seats to a thread, and a channel for notes to both.
+fn use_seats<J: Naming, R>(
+    rt: &R,
+    node: &Node<'_, J>,
+    seats: &mut [Seat<'_, J>],
+) -> anyhow::Result<()>
 where
     R: AllocGlobal + Print + Threads + Wait + Sync,
 {
-    let submit = |_place: usize, seat: &mut Seat<'_>| {
-        let _ = seat.submit(rt, node, BLOCK, NOW);
+    let alloc = rt.alloc();
+    let (to, from) = crossbeam_channel::unbounded(alloc)?;
+    let Some((first, others)) = seats.split_first_mut() else {
+        return Ok(());
     };
-    thread::for_each_mut(rt, seats, 2, &submit);
-    for seat in seats {
-        let best = seat.getbestblockhash(node)?;
-        println!(rt; "best: {}, after {} steps", best.value, best.at)?;
-        if let Some(coin) = seat.gettxout(rt.alloc(), node, &COIN)?.value {
-            println!(rt; "coin: {} satoshis", coin.value)?;
-        }
+    let Some(second) = others.first_mut() else {
+        return Ok(());
+    };
+    let (submitted, coin) = thread::join(
+        rt,
+        || submit(rt, node, first, to),
+        || wait_for_coin(rt, alloc, node, second, from),
+    );
+    submitted?;
+    if let Some(
+        Stamped {
+            at,
+            value: Some(coin),
+        },
+    ) = coin?
+    {
+        println!(rt; "coin: {} satoshis, after {} steps", coin.value, at)?;
     }
     Ok(())
+}
+
+/// Submits the block, and sends a note of all that the seat has seen then.
+fn submit<J: Naming, R: Threads + Wait + Sync>(
+    rt: &R,
+    node: &Node<'_, J>,
+    seat: &mut Seat<'_, J>,
+    to: Sender<Note<J>>,
+) -> Result<(), Fault> {
+    seat.submit(rt, node, BLOCK, NOW)?;
+    let _ = to.send(rt, seat.note()); // nobody may wait for it any more
+    Ok(())
+}
+
+/// Waits for a note, and reads the coin after it.
+fn wait_for_coin<J: Naming, R: Wait>(
+    rt: &R,
+    alloc: Global,
+    node: &Node<'_, J>,
+    seat: &mut Seat<'_, J>,
+    from: Receiver<Note<J>>,
+) -> Result<Option<Stamped<Option<UnspentOutput>>>, Fault> {
+    let Ok(note) = from.recv(rt) else {
+        return Ok(None);
+    };
+    Ok(Some(coin_after(alloc, node, seat, &note)?))
+}
+
+/// The coin, read no earlier than what the note's seat had seen.
+#[tactic(auto, using(crate::proofs::Told::no_earlier))]
+fn coin_after<J: Naming>(
+    alloc: Global,
+    node: &Node<'_, J>,
+    seat: &mut Seat<'_, J>,
+    note: &Note<J>,
+) -> Result<Stamped<Option<UnspentOutput>>, Fault>
+    ensures { IfOk result (λ read. length note.now.seen ≤ read.at) }
+{
+    seat.told(note);
+    seat.gettxout(alloc, node, &COIN)
 }

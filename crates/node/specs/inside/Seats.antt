@@ -1,10 +1,12 @@
 -- What a seat finds as it enters the published view.
 use Rattle.std.specs.Prelude.{◌≡◌, List}
 use mathlib.Core.List.{IsPrefix}
+use Rattle.curve.specs.Triple.{Triples}
+use Rattle.rules.specs.declared.params.Params.{Params}
 use Rattle.chain.specs.declared.entry.Entry.{Entry}
 use Rattle.view.specs.Beginning.{Beginning}
 use Rattle.view.specs.Origin.{Origin}
-use Rattle.view.specs.ViewState.{ViewState, IsExact}
+use Rattle.view.specs.ViewState.{ViewState, IsExact, IsLegal}
 
 -- the view is exact, of this origin, and goes on from these entries; the note has all of its own
 pub record IsFound (o : Origin) (seen : List Entry) (x : ViewState) (note : Beginning) : Type 0 where
@@ -13,3 +15,10 @@ pub record IsFound (o : Origin) (seen : List Entry) (x : ViewState) (note : Begi
   pub book_is : note.book ≡ o.book
   pub entries_are : note.entries ≡ x.journal
   pub grows : IsPrefix seen note.entries
+
+-- what is kept beside a seat is of this origin, and what was seen is legal
+pub record IsAt (o : Origin) (params : Params) (triples : Triples) (seen : Beginning) : Type 0 where
+  pub params_are : params ≡ o.params
+  pub triples_are : triples ≡ o.triples
+  pub book_is : seen.book ≡ o.book
+  pub legal : IsLegal o seen.entries

@@ -1,11 +1,15 @@
 -- What a seat's writing calls answer, before the answer is told apart by the call.
-use Rattle.std.specs.Prelude.{ℕ}
+use Rattle.std.specs.Prelude.{◌≡◌, ◌⊎◌, ℕ, false, [], ◌∷◌, ◌++◌, Option}
 use Rattle.chain.specs.declared.command.Command.{Command}
 use Rattle.chain.specs.declared.command.Command.TheVariants as command
 use Rattle.chain.specs.declared.reply.Reply.{Reply}
 use Rattle.chain.specs.declared.reply.Reply.TheVariants as reply
+use Rattle.chain.specs.History.{entry_of}
+use Rattle.node.specs.declared.fault.Fault.{Fault}
+use Rattle.node.specs.declared.fault.Fault.TheVariants.{Memory, Owed, Closed}
 use Rattle.node.specs.Pass.{Pass, IsWrite}
 use Rattle.node.specs.Calls.{IsSubmitAnswer}
+use Rattle.node.specs.inside.PublishedState.{PublishedState}
 
 -- a submission has a reply to submissions, and a mark or a preference one to marks
 abbrev pub IsWriteAnswer : Pass → Pass → Command → ℕ → Reply → Type 0
@@ -18,3 +22,13 @@ IsWriteAnswer p q c at (reply.Mark value) = IsWrite p q c at (reply.Mark value)
 abbrev pub IsMark : Command → Type 0
 IsMark (command.Submit bytes now) = ⊥
 IsMark c = Unit {0}
+
+-- what lies under the lock stays, but that the step that was owed before may have been published
+abbrev pub IsSettledAtMost : PublishedState → PublishedState → Type 0
+IsSettledAtMost h k = (k ≡ h) ⊎ (k ≡ record h { owed = false })
+
+-- what a refused write leaves under the lock: where it is owed, the seat's step alone is new
+abbrev pub IsLeftBy : PublishedState → PublishedState → ℕ → Command → Fault → Type 0
+IsLeftBy h k number c Memory = IsSettledAtMost h k
+IsLeftBy h k number c Owed = (r : Option Reply) × (k.journal ≡ h.journal ++ entry_of number c r ∷ [])
+IsLeftBy h k number c Closed = IsSettledAtMost h k

@@ -3,9 +3,11 @@
 ghost use Rattle.std.specs.Prelude.{◌≡◌, ◌≤◌, [], All, Some, IfOk, IfSome, length, drop};
 ghost use Rattle.std.specs.Arc.{arc_value};
 ghost use Rattle.left_right.specs.Sides.{view as known};
+ghost use Rattle.view.specs.Beginning.{count_of};
 ghost use Rattle.view.specs.Origin.{Origin, origin};
 ghost use Rattle.node.specs.inside.PublishedState.{opening_state};
 
+use crate::naming::Naming;
 use crate::published_history::PublishedHistory;
 use crate::published_history::lent_step::chain_info;
 use crate::published_history::writer_home::WriterHome;
@@ -15,38 +17,40 @@ use rules::Params;
 use std::alloc::Global;
 use std::sync::atomic::AtomicU64;
 use std::sync::{Arc, Wait};
-use view::{Hub, Note, View, ViewReader, ViewWriter, another_reader, open_writer, publish_opening};
+use view::{
+    EntryCount, Hub, Note, View, ViewReader, ViewWriter, another_reader, open_writer,
+    publish_opening,
+};
 use wire::Memory;
 
-/// A history without entries, its note, and a reader for each seat.
+/// A history without entries, and a reader for each seat.
 #[derive(Drop)]
-pub(crate) struct Opening {
-    pub(crate) history: PublishedHistory,
-    pub(crate) note: Note,
+pub(crate) struct Opened<J: Naming> {
+    pub(crate) history: PublishedHistory<J>,
     pub(crate) readers: Vec<ViewReader>,
 }
 
-/// Opens a history.
-pub(crate) fn open_history<R: Wait>(
+/// Opens a history, of a note without entries and the word that counts them.
+pub(crate) fn open_history<J: Naming, R: Wait>(
     rt: &R,
     alloc: Global,
     params: Params,
     table: Arc<Table>,
     seats: usize,
-) -> Result<Opening, Memory>
-    requires { seats ≤ 16 }
-    ensures history { IfOk result (λ new.
-        new.history ≡ opening_state (origin new.note.book params (arc_value table) seats)) }
-    ensures note { IfOk result (λ new. new.note.entries ≡ []) }
+    counter: EntryCount,
+    note: Note,
+) -> Result<Opened<J>, Memory>
+    requires few { seats ≤ 16 }
+    requires empty { note.entries ≡ [] }
+    requires counter { counter ≡ count_of note.book }
+    requires of { origin note.book params (arc_value table) seats ≡ J.origin }
+    ensures history { IfOk result (λ new. new.history ≡ opening_state J.origin) }
     ensures readers { IfOk result (λ new. length new.readers.items ≡ seats) }
-    ensures knows { IfOk result (λ new.
-        let o = origin new.note.book params (arc_value table) seats in
-        All (λ r. known r.place ≡ Some o) new.readers.items) }
+    ensures knows { IfOk result (λ new. All (λ r. known r.place ≡ Some J.origin) new.readers.items) }
 {
     let core = Core::with(alloc, params)?;
     let info = chain_info(alloc, &core)?;
     let same = info.clone()?;
-    let (counter, note) = Note::open();
     let hub = Arc::new(
         alloc,
         Hub {
@@ -71,13 +75,8 @@ pub(crate) fn open_history<R: Wait>(
         return Err(Memory);
     };
     let home = WriterHome { writer };
-    let seen = note.copy();
-    let history = PublishedHistory::new(alloc, params, table, seats, core, hub, note, home, reader);
-    Ok(Opening {
-        history,
-        note: seen,
-        readers,
-    })
+    let history = PublishedHistory::new(alloc, table, core, hub, note, home, reader);
+    Ok(Opened { history, readers })
 }
 
 /// A reader for each seat, each of which knows what the writer knows.

@@ -7,7 +7,7 @@ use Rattle.node.specs.Pass.{Pass, IsStanding}
 use Rattle.node.proofs.node.all_fit.Goals as goal
 
 pub loop-k-preserved : goal.loop-k-preserved
-loop-k-preserved c =
+loop-k-preserved g c =
     let i = c.loop-k.invariant in
     let k = c.loop-k.k in
     let seats = c.args.seats.now in
@@ -22,6 +22,6 @@ loop-k-preserved c =
     }
 
 pub returns-clause-standing : goal.returns-clause-standing
-returns-clause-standing c _ k p e =
+returns-clause-standing g c _ k p e =
     let within : k < length c.args.seats.now = slice_get_within c.args.seats.now k p e in
     c.loop-k.invariant.standing k p (omega arith) e

@@ -1,11 +1,10 @@
 use Rattle.std.proofs.Common.{rules, ◌≡◌, ◌++◌, ◌∷◌, [], true, Some, None, length, ◌-◌, drop, refl, ap, sym, ◌∙◌, subst}
-use Rattle.std.specs.Arc.{arc_value}
 use Rattle.std.specs.Prelude.{slice_get}
 use Rattle.chain.specs.declared.command.Command.{Command}
 use Rattle.chain.specs.declared.entry.Entry.{Entry}
 use Rattle.chain.specs.History.{entry_of}
 use Rattle.view.specs.Beginning.{Beginning}
-use Rattle.view.specs.Origin.{Origin, origin}
+use Rattle.view.specs.Origin.{Origin}
 use Rattle.view.specs.ViewState.{IsLegal}
 use Rattle.node.specs.inside.PublishedState.{PublishedState, IsJournal, entry_with_reply}
 use Rattle.node.proofs.Owing.{of_owed, replied_core}
@@ -16,7 +15,7 @@ pub attempt_to_publish-left-requires-clause-follows : goal.attempt_to_publish-le
 attempt_to_publish-left-requires-clause-follows g c =
     let i = c.self.invariant in
     let s = c.self.inside in
-    let o : Origin = origin s.note.book s.params (arc_value s.table) s.seats in
+    let o : Origin = g.J.Naming.origin in
     let owed : s.owed ≡ true = ap (λ (h : PublishedState). h.owed) c.self.view_is ∙ c.requires.owed in
     let t : IsJournal true s.note.entries s.journal.items = rw owed at i.2 in
     let at : s.home ≡ Some c.in-Some-take.found = sym c.take.ensures.value ∙ c.in-Some-take.is in
@@ -32,15 +31,15 @@ attempt_to_publish-left-requires-clause-follows g c =
     let may = c.may_bring.ensures c.if-not-may_bring.false in
     rw c.into_writer-writer.ensures (
     follows s.is_new c.in-Some-take.found.writer.desk.shown.value (drop c.in-Some-take.found.writer.behind c.in-Some-take.found.writer.log.items) o s.note.entries s.journal.items t.0 s.changes _ k.0 k.1 t.1
-    (of_owed o s.core s.note.entries s.journal.items t.0 c.args.reply i.0 t.1 legal s.is_new s.changes _ refl (ap (λ (x : Beginning). x.book) c.copy-2.ensures) (ap (λ (x : Beginning). x.entries) c.copy-2.ensures) entry may c.replace.ensures.value
-    (c.in-Ok.ensures.best (arc_value s.table) core) (c.in-Ok.ensures.height (arc_value s.table) core) (c.in-Ok.ensures.tips (arc_value s.table) core))
+    (of_owed o s.core s.note.entries s.journal.items t.0 c.args.reply i.0 t.1 legal s.is_new s.changes _ refl (ap (λ (x : Beginning). x.book) c.copy-2.ensures ∙ i.5) (ap (λ (x : Beginning). x.entries) c.copy-2.ensures) entry may c.replace.ensures.value
+    (c.in-Ok.ensures.best o.triples core) (c.in-Ok.ensures.height o.triples core) (c.in-Ok.ensures.tips o.triples core))
     )
 
 pub invariant_of-self-then-still : goal.invariant_of-self-then-still
 invariant_of-self-then-still g c =
     let i = c.self.invariant in
     let s = c.self.inside in
-    let o : Origin = origin s.note.book s.params (arc_value s.table) s.seats in
+    let o : Origin = g.J.Naming.origin in
     let owed : s.owed ≡ true = ap (λ (h : PublishedState). h.owed) c.self.view_is ∙ c.requires.owed in
     let t : IsJournal true s.note.entries s.journal.items = rw owed at i.2 in
     let at : s.home ≡ Some c.in-Some-take.found = sym c.take.ensures.value ∙ c.in-Some-take.is in
@@ -57,20 +56,21 @@ invariant_of-self-then-still g c =
     let still = c.if-still.true in
     let seen : c.attempt_to_publish-left.result.note.entries ≡ s.note.entries = rw still at c.attempt_to_publish-left.ensures.note ∙ before in
     let shown = rw of at c.attempt_to_publish-left.ensures.shown in
-    let due = rw whole at c.attempt_to_publish-left.ensures.due in
-    rw book (
+    let due = rw whole at c.attempt_to_publish-left.ensures.due in (
       i.0,
       i.1,
       rw (still, seen) t,
       i.3,
       both_some _ _ _ c.attempt_to_publish-left.result.home (λ h a b. (a, b)) shown due,
+      book ∙ i.5,
+      i.6,
     )
 
 pub invariant_of-self-2 : goal.invariant_of-self-2
 invariant_of-self-2 g c =
     let i = c.self.invariant in
     let s = c.self.inside in
-    let o : Origin = origin s.note.book s.params (arc_value s.table) s.seats in
+    let o : Origin = g.J.Naming.origin in
     let owed : s.owed ≡ true = ap (λ (h : PublishedState). h.owed) c.self.view_is ∙ c.requires.owed in
     let t : IsJournal true s.note.entries s.journal.items = rw owed at i.2 in
     let at : s.home ≡ Some c.in-Some-take.found = sym c.take.ensures.value ∙ c.in-Some-take.is in
@@ -93,10 +93,12 @@ invariant_of-self-2 g c =
     let items : c.put_reply.new.journal.items ≡ s.note.entries ++ entry_with_reply t.0 c.args.reply ∷ [] = c.put_reply.ensures s.note.entries (entry_with_reply t.0 None) t.1 in
     let shown = rw of at c.attempt_to_publish-left.ensures.shown in
     let due = rw done at c.attempt_to_publish-left.ensures.due in
-    rw (book, items) (
+    rw items (
       replied_core o s.core s.note.entries s.journal.items t.0 c.args.reply i.0 t.1 legal,
       i.1,
       rw done (sym seen),
       i.3,
       both_some _ _ _ c.attempt_to_publish-left.result.home (λ h a b. (a, rw done b)) shown due,
+      book ∙ i.5,
+      i.6,
     )

@@ -27,10 +27,13 @@ publish_opening-requires-clause-exact g c =
     subst IsExact (sym same) exact
 
 pub new-history-requires-clause-core : goal.new-history-requires-clause-core
-new-history-requires-clause-core g c = (c.in_ok-core.ensures.value, (c.in_ok-core.ensures.follows (arc_value c.args.table)).0)
+new-history-requires-clause-core g c _ _ =
+    let o : Origin = g.J.Naming.origin in
+    let params : c.args.params ≡ o.params = ap (λ (x : Origin). x.params) c.requires.of in
+    (rw params at c.in_ok-core.ensures.value, (c.in_ok-core.ensures.follows o.triples).0)
 
 pub new-history-requires-clause-shown : goal.new-history-requires-clause-shown
-new-history-requires-clause-shown g c =
+new-history-requires-clause-shown g c _ _ =
     let t = arc_value c.in_ok-one.one in
     let f = c.in_ok-core.ensures.follows t in
     let n = c.in_ok-info.ensures in
@@ -38,10 +41,11 @@ new-history-requires-clause-shown g c =
     let first : ViewState = opening_view o c.in_ok-info.info in
     let exact : IsExact first = opening_shown o c.in_ok-core.core c.in_ok-info.info c.in_ok-core.ensures.value f.0 f.1 (n.best t f.0) (n.height t f.0) (n.tips t f.0) in
     let triples : t ≡ arc_value c.args.table = search rules in
+    let is : o ≡ g.J.Naming.origin = (λ i. origin (c.copy.ensures i).book c.args.params (triples i) c.args.seats) ∙ c.requires.of in
     let same : c.all_readers.new.writer.desk.shown.value ≡ first =
     ap (λ d. d.value) (c.in-Some-all_readers.ensures.shown ∙ c.in-Ok.ensures.shown) ∙ c.in-Some.ensures.shown ∙ c.in_ok-writer.ensures.shown ∙ c.new-first.ensures in
     record {
-      origin_is = ap (λ (x : ViewState). x.origin) same ∙ (λ i. origin (c.copy.ensures i).book c.args.params (triples i) c.args.seats);
+      origin_is = ap (λ (x : ViewState). x.origin) same ∙ is;
       journal_is = ap (λ (x : ViewState). x.journal) same;
       exact = subst IsExact (sym same) exact;
     }
@@ -50,8 +54,7 @@ pub returns-clause-knows : goal.returns-clause-knows
 returns-clause-knows g c =
     let t = arc_value c.in_ok-one.one in
     let triples : t ≡ arc_value c.args.table = search rules in
-    let o : Origin = origin c.copy-seen.result.book c.args.params (arc_value c.args.table) c.args.seats in
-    let note : c.copy.result ≡ c.copy-seen.result = c.copy.ensures ∙ sym c.copy-seen.ensures in
+    let o : Origin = g.J.Naming.origin in
     let is : c.in_ok-writer.writer.desk.shown.value.origin ≡ o =
-    ap (λ (x : ViewState). x.origin) (c.in_ok-writer.ensures.shown ∙ c.new-first.ensures) ∙ (λ i. origin (note i).book c.args.params (triples i) c.args.seats) in
+    ap (λ (x : ViewState). x.origin) (c.in_ok-writer.ensures.shown ∙ c.new-first.ensures) ∙ (λ i. origin (c.copy.ensures i).book c.args.params (triples i) c.args.seats) ∙ c.requires.of in
     c.in-Some-all_readers.ensures.knows o (c.in-Ok.ensures.kept ∙ c.in-Some.ensures.known ∙ ap Some is)

@@ -4,16 +4,16 @@ use Rattle.node.proofs.Owning.{own_begins}
 use Rattle.node.proofs.seat.Seat.early_jobs.Goals as goal
 
 pub returns-in_default-block-clause-own : goal.returns-in_default-block-clause-own
-returns-in_default-block-clause-own c = let s = c.self.inside in rw (← c.self.view_is) (own_begins s.number s.answered s.seen.entries s.owed.items)
+returns-in_default-block-clause-own g c = let s = c.self.inside in rw (← c.self.view_is) (own_begins s.token s.answered s.seen.entries s.owed.items)
 
 pub returns-then-is_some-clause-own : goal.returns-then-is_some-clause-own
-returns-then-is_some-clause-own c = let s = c.self.inside in rw (← c.self.view_is) (own_begins s.number s.answered s.seen.entries s.owed.items)
+returns-then-is_some-clause-own g c = let s = c.self.inside in rw (← c.self.view_is) (own_begins s.token s.answered s.seen.entries s.owed.items)
 
 pub returns-in_default : goal.returns-in_default
-returns-in_default c =
+returns-in_default g c =
     let s = c.self.inside in
     rw (← c.self.view_is) (record {
       same = refl;
-      later = record { number = refl; origin = refl; grows = ([], append-nil s.seen.entries); legal = c.self.invariant.0 };
-      own = own_begins s.number s.answered s.seen.entries s.owed.items;
+      later = record { number = refl; origin = refl; grows = ([], append-nil s.seen.entries); legal = c.self.invariant.0.legal };
+      own = own_begins s.token s.answered s.seen.entries s.owed.items;
     })

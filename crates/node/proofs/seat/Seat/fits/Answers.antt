@@ -1,4 +1,4 @@
-use Rattle.std.proofs.Common.{◌≡◌, ◌-◌, List, length, take, drop, map, ap, sym, ◌∙◌, subst, arith, length-drop, take_all}
+use Rattle.std.proofs.Common.{◌≡◌, ℕ, ◌-◌, List, length, take, drop, map, ap, sym, ◌∙◌, subst, arith, length-drop, take_all}
 use mathlib.Core.List.{IsPrefix}
 use Rattle.chain.specs.declared.entry.Entry.{Entry}
 use Rattle.chain.specs.History.{own_of}
@@ -7,10 +7,10 @@ use Rattle.node.proofs.Owning.{own_all, begins_whole}
 use Rattle.node.proofs.seat.Seat.fits.Goals as goal
 
 pub returns-clause-standing : goal.returns-clause-standing
-returns-clause-standing c equal =
+returns-clause-standing g c equal =
     let s = c.self.inside in
     let journal = c.args.journal.now in
-    let n = s.number in
+    let n = s.token in
     let place = s.answered in
     let f = c.in-Some.ensures.found in
     let shown : c.journal.result.now ≡ c.in-Some._found.entries = c.journal.ensures ∙ ap (λ v. v.journal) c.get.ensures ∙ sym f.entries_are in
@@ -19,5 +19,7 @@ returns-clause-standing c equal =
     let same = c.self.view_is ∙ c.stay.ensures.same ∙ c.enter.ensures.same in
     let begins : IsPrefix s.seen.entries journal = subst (λ (p : Pass). IsPrefix p.seen journal) (sym same) whole in
     let all : take (length journal - place) (drop place journal) ≡ drop place journal = take_all _ (drop place journal) (omega (arith, length-drop place journal)) in
-    let rest : own_of n (drop place journal) ≡ map (owed_entry n) s.owed.items = ap (own_of n) (sym all) ∙ c.own_are.ensures equal ∙ ap (map (owed_entry n)) c.as_slice.ensures.value in
+    let m = c.number.result in
+    let asked : own_of m (drop place journal) ≡ map (owed_entry m) s.owed.items = ap (own_of m) (sym all) ∙ c.own_are.ensures equal ∙ ap (map (owed_entry m)) c.as_slice.ensures.value in
+    let rest : own_of n (drop place journal) ≡ map (owed_entry n) s.owed.items = subst (λ (k : ℕ). own_of k (drop place journal) ≡ map (owed_entry k) s.owed.items) c.number.ensures.is asked in
     subst (λ (p : Pass). IsStanding journal p) same (record { begins = begins; own = own_all n place s.seen.entries journal s.owed.items c.self.invariant.1 begins rest })

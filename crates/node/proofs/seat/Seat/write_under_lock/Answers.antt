@@ -1,4 +1,4 @@
-use Rattle.std.proofs.Common.{◌≡◌, true, List, [], ◌∷◌, ◌++◌, take, drop, map, Some, inl, inr, refl, ap, sym, ◌∙◌, subst, arith, take_all}
+use Rattle.std.proofs.Common.{◌≡◌, ℕ, true, List, [], ◌∷◌, ◌++◌, take, drop, map, Some, inl, inr, refl, ap, sym, ◌∙◌, subst, arith, take_all}
 use Rattle.std.proofs.lemmas.List.{append-nil}
 use mathlib.Core.List.{IsPrefix}
 use Rattle.left_right.specs.Sides.{view as known}
@@ -12,43 +12,42 @@ use Rattle.node.specs.inside.Keeping.{IsReplyTo, is_step}
 use Rattle.node.specs.Pass.{owed_entry}
 use Rattle.node.proofs.Answering.{answer_step}
 use Rattle.node.proofs.Owning.{begins_whole, own_wrote}
-use Rattle.node.proofs.seat.Seat.write.Given.{Over}
-use Rattle.node.proofs.seat.Seat.write.Goals.{After-drop-history-2}
-use Rattle.node.proofs.seat.Seat.write.Goals as goal
+use Rattle.node.proofs.seat.Seat.write_under_lock.Given.{Over}
+use Rattle.node.proofs.seat.Seat.write_under_lock.Goals.{After-drop-before-inside-2}
+use Rattle.node.proofs.seat.Seat.write_under_lock.Goals as goal
 
 pub look_before-reader-requires : goal.look_before-reader-requires
 look_before-reader-requires g c =
     let s = c.self.inside in
     let at : s.reader ≡ Some c.in-Some.reader = sym c.take.ensures.value ∙ c.in-Some.is in
-    let o : Origin = origin s.seen.book s.params s.table.now s.seats in
-    (o, rw at at c.self.invariant.3, refl)
+    (g.J.Naming.origin, rw at at c.self.invariant.2, sym c.self.invariant.0.book_is)
 
 pub look_after-reader-requires : goal.look_after-reader-requires
 look_after-reader-requires g c =
     let s = c.self.inside in
     let at : s.reader ≡ Some c.in-Some.reader = sym c.take.ensures.value ∙ c.in-Some.is in
-    let o : Origin = origin s.seen.book s.params s.table.now s.seats in
-    let knows : known c.in-Some.reader.place ≡ Some o = rw at at c.self.invariant.3 in
+    let knows : known c.in-Some.reader.place ≡ Some g.J.Naming.origin = rw at at c.self.invariant.2 in
     let book : c.in-Some-found.before.book ≡ s.seen.book = rw c.in-Some-found.is at c.look_before-reader.ensures.book in
-    (o, c.look_before-reader.ensures.same ∙ knows, sym book)
+    (g.J.Naming.origin, c.look_before-reader.ensures.same ∙ knows, sym (book ∙ c.self.invariant.0.book_is))
 
-module _ (g : Over) (c : After-drop-history-2 g) where
+module _ (g : Over) (c : After-drop-before-inside-2 g) where
   abbrev o : Origin
-  o = origin c.self.inside.seen.book c.self.inside.params c.self.inside.table.now c.self.inside.seats
+  o = g.J.Naming.origin
 
   knows : known c.in-Some.reader.place ≡ Some o
   knows =
       let at : c.self.inside.reader ≡ Some c.in-Some.reader = sym c.take.ensures.value ∙ c.in-Some.is in
-      rw at at c.self.invariant.3
+      rw at at c.self.invariant.2
 
   -- what the seat found before its step
   grows : IsPrefix c.self.inside.seen.entries c.in-Some-found.before.entries
   grows = rw c.in-Some-found.is at c.look_before-reader.ensures.grows
 
-  rest : own_of c.self.inside.number (drop c.self.inside.answered c.in-Some-found.before.entries) ≡ map (owed_entry c.self.inside.number) c.self.inside.owed.items
+  rest : own_of c.self.inside.token (drop c.self.inside.answered c.in-Some-found.before.entries) ≡ map (owed_entry c.self.inside.token) c.self.inside.owed.items
   rest =
-      let owed : own_of c.self.inside.number (drop c.self.inside.answered c.in-Some-found.before.entries) ≡ map (owed_entry c.self.inside.number) c.as_slice-owed.result.now = rw c.in-Some-found.is at c.look_before-reader.ensures.own in
-      owed ∙ ap (map (owed_entry c.self.inside.number)) (c.as_slice-owed.ensures.value ∙ c.reserve.ensures.items)
+      let m = c.number-number.result in
+      let owed : own_of m (drop c.self.inside.answered c.in-Some-found.before.entries) ≡ map (owed_entry m) c.as_slice-owed.result.now = rw c.in-Some-found.is at c.look_before-reader.ensures.own in
+      subst (λ (k : ℕ). own_of k (drop c.self.inside.answered c.in-Some-found.before.entries) ≡ map (owed_entry k) c.self.inside.owed.items) c.number-number.ensures.is (owed ∙ ap (map (owed_entry m)) (c.as_slice-owed.ensures.value ∙ c.reserve.ensures.items))
 
   -- and after it
   place : known c.look_before-reader.result.0.place ≡ Some o
@@ -66,41 +65,46 @@ module _ (g : Over) (c : After-drop-history-2 g) where
   asked : Command
   asked = command_of c.args.command.now
 
-  last : c.in-Some-found-2.seen.entries ≡ c.in-Some-found.before.entries ++ entry_of c.self.inside.number (command_of c.args.command.now) (Some c.in-Ok-Some.reply) ∷ []
+  last : c.in-Some-found-2.seen.entries ≡ c.in-Some-found.before.entries ++ entry_of c.self.inside.token (command_of c.args.command.now) (Some c.in-Ok-Some.reply) ∷ []
   last =
-      let found : c.in-Some-found-2.seen.entries ≡ c.in-Some-found.before.entries ++ entry_of c.self.inside.number c.in_ok-asked.asked (Some c.in-Ok-Some.reply) ∷ [] = rw c.in-Some-found-2.is at c.look_after-reader.ensures.last in
-      found ∙ ap (λ (k : Command). c.in-Some-found.before.entries ++ entry_of c.self.inside.number k (Some c.in-Ok-Some.reply) ∷ []) c.in_ok-asked.ensures
+      let found : c.in-Some-found-2.seen.entries ≡ c.in-Some-found.before.entries ++ entry_of c.number-number.result c.in_ok-asked.asked (Some c.in-Ok-Some.reply) ∷ [] = rw c.in-Some-found-2.is at c.look_after-reader.ensures.last in
+      found ∙ ap (λ (n : ℕ). c.in-Some-found.before.entries ++ entry_of n c.in_ok-asked.asked (Some c.in-Ok-Some.reply) ∷ []) c.number-number.ensures.is
+      ∙ ap (λ (k : Command). c.in-Some-found.before.entries ++ entry_of c.self.inside.token k (Some c.in-Ok-Some.reply) ∷ []) c.in_ok-asked.ensures
 
   -- the reply is that of a step
   replies : (is_step c.in-Ok-Some.reply ≡ true) × IsReplyTo (command_of c.args.command.now) c.in-Ok-Some.reply
-  replies = elim (rw c.in-Ok-Some.field-0-is at c.in-Ok-Some.ensures) [
-    | inl h ↦ h
-    | inr u ↦ absurd (c.is_undecodable.ensures.no c.if-is_undecodable.false u)
+  replies = elim (rw c.in-Ok-Some.field-0-is at c.in-Ok-Some.ensures.step) [
+    | inl h ↦ (h.0, h.1)
+    | inr u ↦ absurd (c.is_undecodable.ensures.no c.if-is_undecodable.false u.1)
   ]
 
 pub invariant_of-self-2 : goal.invariant_of-self-2
 invariant_of-self-2 g c = (
-  subst (λ b. IsLegal (origin b c.self.inside.params c.self.inside.table.now c.self.inside.seats) c.in-Some-found-2.seen.entries) (sym (book g c)) (legal g c),
+  record {
+    params_are = c.self.invariant.0.params_are;
+    triples_are = c.self.invariant.0.triples_are;
+    book_is = book g c ∙ c.self.invariant.0.book_is;
+    legal = legal g c;
+  },
   omega (arith, c.len-at.ensures),
-  c.self.invariant.2,
-  c.look_after-reader.ensures.same ∙ place g c ∙ ap (λ b. Some (origin b c.self.inside.params c.self.inside.table.now c.self.inside.seats)) (sym (book g c)),
+  c.look_after-reader.ensures.same ∙ place g c,
 )
 
 pub returns-clause-later : goal.returns-clause-later
 returns-clause-later g c =
-    let e : Entry = entry_of c.self.inside.number (command_of c.args.command.now) (Some c.in-Ok-Some.reply) in
+    let e : Entry = entry_of c.self.inside.token (command_of c.args.command.now) (Some c.in-Ok-Some.reply) in
     let whole : IsPrefix c.self.inside.seen.entries c.in-Some-found-2.seen.entries = begins_whole _ _ _ (grows g c) (e ∷ [], sym (last g c)) in
     rw (← c.self.view_is) (record {
       number = refl;
-      origin = ap (λ b. origin b c.self.inside.params c.self.inside.table.now c.self.inside.seats) (book g c);
+      origin = refl;
       grows = whole;
-      legal = subst (λ b. IsLegal (origin b c.self.inside.params c.self.inside.table.now c.self.inside.seats) c.in-Some-found-2.seen.entries) (sym (book g c)) (legal g c);
+      legal = legal g c;
     })
 
 pub returns-clause-answer : goal.returns-clause-answer
 returns-clause-answer g c =
     let s = c.self.inside in
-    let n = s.number in
+    let n = s.token in
     let k : Command = command_of c.args.command.now in
     let r = c.in-Ok-Some.reply in
     let xs = c.in-Some-found.before.entries in

@@ -1,0 +1,83 @@
+//! What a node is opened from, and the name that its types then have.
+
+ghost use Rattle.std.specs.Prelude.{◌≡◌};
+ghost use Rattle.std.specs.Arc.{arc_value};
+ghost use Rattle.view.specs.Origin.{Origin, origin};
+
+mod seat_token;
+
+pub(crate) use crate::naming::seat_token::{SeatToken, SeatTokens};
+use curve::Table;
+use rules::Params;
+use std::marker::{Brand, Model};
+use std::sync::Arc;
+use view::EntryCount;
+
+/// Which history it is, and what that is of. It is the type parameter of a node, its seats and their notes, so that
+/// only those of one [`Opening`] fit each other. No program implements it: `Brand` stands for any.
+pub trait Naming: Send + Sync {
+    ghost use Rattle.view.specs.Origin.{Origin};
+
+    ghost origin: { Origin };
+}
+
+impl Naming for Brand {
+    ghost use Rattle.std.specs.FinSet as set;
+
+    ghost origin = { record {
+      book = record { number = 0; log_name = 0; cells_name = 0 };
+      params = record { bip34 = 0; bip65 = 0; bip66 = 0; csv = 0 };
+      triples = set.empty;
+      seats = 0;
+    } };
+}
+
+/// What a node is opened from: a history that has no entry and no name yet. A clause sees what it is of.
+#[derive(Drop)]
+pub struct Opening<'g> {
+    pub(crate) params: Params,
+    pub(crate) table: &'g Arc<Table>,
+    pub(crate) seats: usize,
+    pub(crate) tokens: SeatTokens,
+    pub(crate) counter: EntryCount,
+    pub(crate) note: view::Note,
+}
+
+impl<'g> Model for Opening<'g> {
+    ghost use Rattle.std.specs.Prelude.{◌≡◌, []};
+    ghost use Rattle.std.specs.Arc.{arc_value};
+    ghost use Rattle.std.specs.Coded.{codes};
+    ghost use Rattle.std.specs.FinSet as set;
+    ghost use Rattle.curve.specs.Triple.{triple_cmp, coded_triple};
+    ghost use Rattle.view.specs.Beginning.{count_of};
+    ghost use Rattle.view.specs.Origin.{Origin, origin};
+
+    ghost Value = { Origin };
+
+    ghost coded = { Prim.hlevel (codes, set.code {R = triple_cmp} coded_triple) };
+
+    ghost view = { λ o. origin o.note.book o.params (arc_value o.table.now) o.seats };
+
+    ghost invariant = { λ o. (o.note.entries ≡ []) × (o.counter ≡ count_of o.note.book) × (o.tokens ≡ 0) };
+}
+
+impl<'g> Opening<'g> {
+    ghost use Rattle.logbook.specs.Pages.{Book};
+
+    /// A new history under these heights of soft forks and valid signatures, for so many seats. It takes no memory;
+    /// the table isn't copied.
+    pub fn new(params: Params, table: &'g Arc<Table>, seats: usize) -> Opening<'g>
+        ensures { let triples = arc_value table.entry.now in
+            (b : Book) × (result ≡ origin b params triples seats) }
+    {
+        let (counter, note) = view::Note::open();
+        Opening {
+            params,
+            table,
+            seats,
+            tokens: SeatTokens::new(),
+            counter,
+            note,
+        }
+    }
+}
