@@ -86,7 +86,7 @@ where
     R: AllocGlobal + Clock + Threads + Wait + Sync,
     requires { opening ≡ J.origin }
 {
-    let (node, mut seats) = Node::<J>::open(rt, rt.alloc(), opening, workers, &Open)?;
+    let (node, mut seats) = Node::<J>::open(rt.alloc(), opening, workers, &Open)?;
     let outcome = prepared(rt, &node, seats.as_mut_slice(), below, work);
     let history = node.finish(seats.as_mut_slice());
     history?;

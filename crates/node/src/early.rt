@@ -4,7 +4,6 @@ ghost use Rattle.std.specs.Prelude.{◌≡◌, IfOk, IfSome};
 ghost use Rattle.view.specs.ViewState.{IsExact};
 ghost use Rattle.txn.specs.Identity.{ids_of};
 
-use crate::naming::Naming;
 use crate::node::Node;
 use crate::seat::Seat;
 use chain::{PreparedCommand, SubmittedBlock};
@@ -14,7 +13,7 @@ use queue::{EarlyJobs, Gate, Verdicts, check_early};
 use rules::Params;
 use std::alloc::Global;
 use std::thread::Threads;
-use view::View;
+use view::{Naming, View};
 use wire::Memory;
 
 /// The scripts of a block, where its parent is the best block of a view: of each input whose coin the view or the block
@@ -62,11 +61,11 @@ impl<'t, J: Naming> Seat<'t, J> {
         if block.fault.is_some() {
             return Ok(None);
         }
-        let Some((reading, _found)) = self.enter() else {
+        let Some((reading, _found)) = self.reader.enter_from(&self.seen) else {
             return Ok(None);
         };
         let jobs = jobs_over(alloc, reading.get(), &self.params, block);
-        self.stay(reading);
+        self.reader.leave(reading);
         jobs
     }
 

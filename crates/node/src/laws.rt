@@ -1,9 +1,9 @@
 //! What holds of the node's handles.
 
-use crate::naming::Naming;
 use crate::node::NodeOf;
 use crate::note::Note;
 use crate::seat::Seat;
+use view::Naming;
 
 /// Seats and notes may be given to other threads, and notes be shared with them.
 pub fn handles_cross_threads<J: Naming>() {

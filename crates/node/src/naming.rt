@@ -1,4 +1,4 @@
-//! What a node is opened from, and the name that its types then have.
+//! What a node is opened from.
 
 ghost use Rattle.std.specs.Prelude.{◌≡◌};
 ghost use Rattle.std.specs.Arc.{arc_value};
@@ -9,28 +9,9 @@ mod seat_token;
 pub(crate) use crate::naming::seat_token::{SeatToken, SeatTokens};
 use curve::Table;
 use rules::Params;
-use std::marker::{Brand, Model};
+use std::marker::Model;
 use std::sync::Arc;
 use view::EntryCount;
-
-/// Which history it is, and what that is of. It is the type parameter of a node, its seats and their notes, so that
-/// only those of one [`Opening`] fit each other. No program implements it: `Brand` stands for any.
-pub trait Naming: Send + Sync {
-    ghost use Rattle.view.specs.Origin.{Origin};
-
-    ghost origin: { Origin };
-}
-
-impl Naming for Brand {
-    ghost use Rattle.std.specs.FinSet as set;
-
-    ghost origin = { record {
-      book = record { number = 0; log_name = 0; cells_name = 0 };
-      params = record { bip34 = 0; bip65 = 0; bip66 = 0; csv = 0 };
-      triples = set.empty;
-      seats = 0;
-    } };
-}
 
 /// What a node is opened from: a history that has no entry and no name yet. A clause sees what it is of.
 #[derive(Drop)]

@@ -1,8 +1,7 @@
 //! The node: what the seats share.
 
-ghost use Rattle.std.specs.Prelude.{◌≡◌, ℕ, ◌<◌, ◌≤◌, [], true, All, Some, length, slice_get};
-ghost use Rattle.std.specs.Prelude.{IfOk, IfErr, OnOk, IfSome};
-ghost use Rattle.left_right.specs.Sides.{view as known};
+ghost use Rattle.std.specs.Prelude.{◌≡◌, ℕ, ◌≤◌, [], true, Some, length, slice_get};
+ghost use Rattle.std.specs.Prelude.{IfOk, IfErr, OnOk};
 ghost use Rattle.view.specs.Origin.{origin};
 ghost use Rattle.view.specs.ViewState.{IsLegal};
 ghost use Rattle.node.specs.Pass.{Pass, IsStanding, opening_passes};
@@ -10,7 +9,7 @@ ghost use Rattle.node.specs.Opening.{IsWorkerCount, IsSeatCount, IsOpenFault};
 ghost use Rattle.node.specs.declared.fault.Fault.TheVariants as faults;
 
 use crate::fault::{Fault, OpenFault};
-use crate::naming::{Naming, Opening, SeatTokens};
+use crate::naming::{Opening, SeatTokens};
 use crate::published_history::{Opened, PublishedHistory, open_history};
 use crate::seat::Seat;
 use chain::Entry;
@@ -19,7 +18,7 @@ use queue::Gate;
 use rules::Params;
 use std::alloc::Global;
 use std::sync::{Arc, Mutex, Wait};
-use view::ViewReader;
+use view::{Naming, ViewReader};
 use wire::Memory;
 
 /// The most workers that check scripts.
@@ -45,9 +44,8 @@ impl<'g, J: Naming> NodeOf<&'g (dyn Gate + Sync), J> {
     /// A node and its seats, numbered from 0: 1 to 16 of them, and as many workers.
     ///
     /// Scripts are run by so many workers at a time, and the gate is called round each. The table of valid signatures
-    /// isn't copied.
-    pub fn open<R: Wait>(
-        rt: &R,
+    /// isn't copied. It waits for nobody.
+    pub fn open(
         alloc: Global,
         opening: Opening<'g>,
         workers: usize,
@@ -64,7 +62,7 @@ impl<'g, J: Naming> NodeOf<&'g (dyn Gate + Sync), J> {
         if opening.seats < 1 || opening.seats > MAX_SEATS {
             return Err(OpenFault::Seats);
         }
-        let Ok((history, list)) = history_and_seats(rt, alloc, opening) else {
+        let Ok((history, list)) = history_and_seats(alloc, opening) else {
             return Err(OpenFault::Memory);
         };
         let node = NodeOf {
@@ -119,8 +117,7 @@ impl<'g, J: Naming> NodeOf<&'g (dyn Gate + Sync), J> {
 }
 
 /// A new history, and its seats.
-fn history_and_seats<'g, J: Naming, R: Wait>(
-    rt: &R,
+fn history_and_seats<'g, J: Naming>(
     alloc: Global,
     opening: Opening<'g>,
 ) -> Result<(PublishedHistory<J>, Vec<Seat<'g, J>>), Memory>
@@ -138,9 +135,8 @@ fn history_and_seats<'g, J: Naming, R: Wait>(
     } = opening;
     let shared = Arc::try_clone(table)?;
     let seen = note.copy();
-    let Opened { history, readers } = open_history(
-        rt, alloc, params, shared, seats, counter, note,
-    )?;
+    let Opened { history, readers } =
+        open_history(alloc, params, shared, seats, counter, note)?;
     let list = seat_list(alloc, params, table, seats, tokens, &seen, readers)?;
     Ok((history, list))
 }
@@ -153,14 +149,13 @@ fn seat_list<'t, J: Naming>(
     seats: usize,
     tokens: SeatTokens,
     note: &view::Note,
-    readers: Vec<ViewReader>,
+    readers: Vec<ViewReader<J>>,
 ) -> Result<Vec<Seat<'t, J>>, Memory>
     requires empty { note.now.entries ≡ [] }
     requires first { tokens ≡ 0 }
     requires few { seats ≤ 16 }
     requires enough { length readers.items ≡ seats }
     requires of { origin note.now.book params table.now seats ≡ J.origin }
-    requires knows { All (λ r. known r.place ≡ Some J.origin) readers.items }
     ensures { IfOk result (λ list. list.items ≡ opening_passes J.origin seats) }
 {
     let mut readers = readers;

@@ -2,8 +2,8 @@
 
 ghost use Rattle.std.specs.Prelude.{◌≡◌};
 
-use crate::naming::Naming;
 use std::marker::{Model, PhantomData};
+use view::Naming;
 
 /// What a seat has seen of the history. It may go to another thread, through a channel or a lock, whose seat is told it.
 #[derive(Drop)]

@@ -1,6 +1,6 @@
 //! A seat's own entries among others, and whether entries are the same.
 
-ghost use Rattle.std.specs.Prelude.{◌≡◌, ◌≤◌, ◌++◌, ◌∷◌, [], true, IfSome, length, map, take};
+ghost use Rattle.std.specs.Prelude.{◌≡◌, ◌≤◌, ◌<◌, ◌++◌, ◌∷◌, [], Decides, MatchOption, length, map, take};
 ghost use mathlib.Core.List.{IsPrefix};
 ghost use Rattle.chain.specs.History.{own_of};
 ghost use Rattle.node.specs.Pass.{owed_entry};
@@ -10,7 +10,7 @@ use txn::Reason;
 
 /// Whether the entries of a seat among these are owed, and of these commands.
 pub(crate) fn own_are(entries: &[Entry], number: usize, owed: &[Command]) -> bool
-    ensures { (result ≡ true) → own_of number entries.now ≡ map (owed_entry number) owed.now }
+    ensures { Decides result (own_of number entries.now ≡ map (owed_entry number) owed.now) }
 {
     let mut count = 0;
     for entry in entries {
@@ -25,9 +25,11 @@ pub(crate) fn own_are(entries: &[Entry], number: usize, owed: &[Command]) -> boo
 /// How many of the commands were met with this entry too, if it is another seat's or the next of them.
 fn next_own(entry: &Entry, number: usize, owed: &[Command], count: usize) -> Option<usize>
     requires { count ≤ length owed.now }
-    ensures { IfSome result (λ n. (n ≤ length owed.now)
-        × (map (owed_entry number) (take n owed.now)
-        ≡ map (owed_entry number) (take count owed.now) ++ own_of number (entry.now ∷ []))) }
+    ensures { let before = map (owed_entry number) (take count owed.now) in
+        let with = before ++ own_of number (entry.now ∷ []) in
+        MatchOption result
+        (IsPrefix with (map (owed_entry number) owed.now) → ⊥)
+        (λ n. (n ≤ length owed.now) × (map (owed_entry number) (take n owed.now) ≡ with)) }
 {
     if entry.seat != number {
         return Some(count);
@@ -40,7 +42,7 @@ fn next_own(entry: &Entry, number: usize, owed: &[Command], count: usize) -> Opt
 
 /// Whether these entries begin others.
 pub(crate) fn begins(entries: &[Entry], others: &[Entry]) -> bool
-    ensures { (result ≡ true) → IsPrefix entries.now others.now }
+    ensures { Decides result (IsPrefix entries.now others.now) }
 {
     if entries.len() > others.len() {
         return false;
@@ -55,7 +57,7 @@ pub(crate) fn begins(entries: &[Entry], others: &[Entry]) -> bool
 
 /// Whether two entries are the same.
 pub(crate) fn is_same(entry: &Entry, other: &Entry) -> bool
-    ensures { (result ≡ true) → entry.now ≡ other.now }
+    ensures { Decides result (entry.now ≡ other.now) }
 {
     entry.seat == other.seat
         && is_same_command(&entry.command, &other.command)
@@ -64,7 +66,7 @@ pub(crate) fn is_same(entry: &Entry, other: &Entry) -> bool
 
 /// Whether two commands are the same.
 fn is_same_command(command: &Command, other: &Command) -> bool
-    ensures { (result ≡ true) → command.now ≡ other.now }
+    ensures { Decides result (command.now ≡ other.now) }
 {
     match (command, other) {
         (Command::Submit(bytes, now), Command::Submit(others, then)) => {
@@ -79,7 +81,7 @@ fn is_same_command(command: &Command, other: &Command) -> bool
 
 /// Whether two replies are the same, or both are owed.
 fn is_same_answer(reply: &Option<Reply>, other: &Option<Reply>) -> bool
-    ensures { (result ≡ true) → reply.now ≡ other.now }
+    ensures { Decides result (reply.now ≡ other.now) }
 {
     match (reply, other) {
         (Some(Reply::Submit(reply)), Some(Reply::Submit(other))) => is_same_reply(reply, other),
@@ -91,7 +93,7 @@ fn is_same_answer(reply: &Option<Reply>, other: &Option<Reply>) -> bool
 
 /// Whether two replies to marks are the same.
 fn is_same_mark(reply: &MarkReply, other: &MarkReply) -> bool
-    ensures { (result ≡ true) → reply.now ≡ other.now }
+    ensures { Decides result (reply.now ≡ other.now) }
 {
     matches!(
         (reply, other),
@@ -103,7 +105,7 @@ fn is_same_mark(reply: &MarkReply, other: &MarkReply) -> bool
 
 /// Whether two replies to submissions are the same.
 fn is_same_reply(reply: &SubmitReply, other: &SubmitReply) -> bool
-    ensures { (result ≡ true) → reply.now ≡ other.now }
+    ensures { Decides result (reply.now ≡ other.now) }
 {
     match (reply, other) {
         (SubmitReply::Rejected(reason), SubmitReply::Rejected(other)) => {
@@ -122,7 +124,7 @@ fn is_same_reply(reply: &SubmitReply, other: &SubmitReply) -> bool
 
 /// Whether two reasons are the same.
 fn is_same_reason(reason: &Reason, other: &Reason) -> bool
-    ensures { (result ≡ true) → reason.now ≡ other.now }
+    ensures { Decides result (reason.now ≡ other.now) }
 {
     match (reason, other) {
         (

@@ -1,9 +1,8 @@
 //! The history of a node of many seats, as it lies under the lock: the journal, the chainstate after it, and the
 //! writer that publishes both. The coins lie in what is published alone.
 
-ghost use Rattle.std.specs.Prelude.{◌≡◌, ◌<◌, ◌≤◌, ◌∷◌, ◌++◌, [], true, false, All, Some, None, IfOk, IfSome, OnErr, Decides, List, drop, length};
+ghost use Rattle.std.specs.Prelude.{◌≡◌, ◌<◌, ◌≤◌, ◌∷◌, ◌++◌, [], true, false, All, Some, None, IfOk, OnErr, List, drop, length};
 ghost use Rattle.std.specs.Arc.{arc_value};
-ghost use Rattle.left_right.specs.Sides.{view as known};
 ghost use Rattle.chain.specs.declared.entry.Entry.{Entry as EntryValue};
 ghost use Rattle.chain.specs.Prepared.{command_of};
 ghost use Rattle.activate.specs.CoreState.{Follows, genesis_alone};
@@ -17,12 +16,13 @@ mod lent_step;
 mod opening;
 mod writer_home;
 
-use crate::naming::{Naming, SeatToken};
+use crate::naming::SeatToken;
 use crate::published_history::attempt::{Attempt, attempt_to_publish};
 pub(crate) use crate::published_history::lent_step::Refusal;
 use crate::published_history::lent_step::{chain_info, step_by_reader};
 pub(crate) use crate::published_history::opening::{Opened, open_history};
 use crate::published_history::writer_home::WriterHome;
+use crate::reader_home::ReaderHome;
 use activate::Core;
 use chain::{Entry, PreparedCommand, Reply, SubmitReply};
 use coins::Changes;
@@ -34,7 +34,7 @@ use std::marker::{Model, PhantomData};
 use std::mem::replace;
 use std::sync::atomic::Ordering;
 use std::sync::{Arc, Wait};
-use view::{Hub, Note, Publication, ViewReader};
+use view::{Hub, Naming, Note, Publication, ViewReader};
 
 /// The history, with the chainstate after it but its coins. A step is owed that is taken and not yet published.
 #[derive(Drop)]
@@ -51,9 +51,9 @@ pub(crate) struct PublishedHistory<J: Naming> {
     /// The owed step is in no pending publication, and then these are its changes.
     is_new: bool,
     changes: Changes,
-    /// Both are away only inside a call.
-    home: Option<WriterHome>,
-    reader: Option<ViewReader>,
+    /// None once what is published has no note: nothing more is published then.
+    home: Option<WriterHome<J>>,
+    reader: ReaderHome<J>,
     of: PhantomData<J>,
 }
 
@@ -61,9 +61,8 @@ impl<J: Naming> Model for PublishedHistory<J> {
     ghost use Rattle.std.specs.Coded.{codes};
     ghost use Rattle.std.specs.FinSet as set;
     ghost use Rattle.curve.specs.Triple.{triple_cmp, coded_triple};
-    ghost use Rattle.std.specs.Prelude.{◌≡◌, Some, IfSome, drop};
+    ghost use Rattle.std.specs.Prelude.{◌≡◌, true, IfSome, drop};
     ghost use Rattle.std.specs.Arc.{arc_value};
-    ghost use Rattle.left_right.specs.Sides.{view as known};
     ghost use Rattle.view.specs.Beginning.{count_of};
     ghost use Rattle.node.specs.inside.PublishedState.{PublishedState, IsCoreOf, IsJournal, Shows, AreDue};
 
@@ -77,7 +76,7 @@ impl<J: Naming> Model for PublishedHistory<J> {
         IsCoreOf o s.core s.journal.items
         × ((arc_value s.hub).counter ≡ count_of o.book)
         × IsJournal s.owed s.note.entries s.journal.items
-        × IfSome s.reader (λ r. known r.place ≡ Some o)
+        × (s.reader ≡ true)
         × IfSome s.home (λ h. let x = h.writer.desk.shown.value in
         let pending = drop h.writer.behind h.writer.log.items in
         Shows x o s.note.entries
@@ -122,15 +121,14 @@ impl<J: Naming> PublishedHistory<J> {
         core: Core,
         hub: Arc<Hub>,
         note: Note,
-        home: WriterHome,
-        reader: ViewReader,
+        home: WriterHome<J>,
+        reader: ViewReader<J>,
     ) -> PublishedHistory<J>
         requires core { (core ≡ genesis_alone J.origin.params) × Follows core J.origin.triples }
         requires hub { (arc_value hub).counter ≡ count_of J.origin.book }
         requires empty { note.entries ≡ [] }
         requires book { note.book ≡ J.origin.book }
         requires table { arc_value table ≡ J.origin.triples }
-        requires reader { known reader.place ≡ Some J.origin }
         requires shown { Shows home.writer.desk.shown.value J.origin [] }
         requires pending { drop home.writer.behind home.writer.log.items ≡ [] }
         ensures { result ≡ opening_state J.origin }
@@ -146,7 +144,7 @@ impl<J: Naming> PublishedHistory<J> {
             is_new: false,
             changes: Changes::new(alloc),
             home: Some(home),
-            reader: Some(reader),
+            reader: ReaderHome::of(reader),
             of: PhantomData,
         }
     }

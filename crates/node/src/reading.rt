@@ -7,14 +7,13 @@ ghost use Rattle.node.specs.Told.{output_at, shown_tips};
 
 use crate::answer::{Stamped, UnspentOutput};
 use crate::fault::Fault;
-use crate::naming::Naming;
 use crate::node::Node;
 use crate::seat::Seat;
 use hash::Id;
 use std::alloc::Global;
 use tree::Tip;
 use txn::OutPoint;
-use view::View;
+use view::{Naming, View};
 use wire::Memory;
 
 /// The output at an outpoint of a view, if it isn't spent.
@@ -46,6 +45,7 @@ impl<'t, J: Naming> Seat<'t, J> {
     /// `gettxout`).
     ///
     /// Seat and node are of one [`Node::open`](crate::Node::open).
+    #[tactic(auto, using(crate::proofs::Owning::own_begins))]
     pub fn gettxout(
         &mut self,
         alloc: Global,
@@ -58,20 +58,20 @@ impl<'t, J: Naming> Seat<'t, J> {
         ensures own { IsOwn self.new }
         ensures fault { IfErr result (λ fault. IsReadFault self.old self.new fault) }
     {
-        let Some((reading, found)) = self.enter() else {
+        let Some((reading, found)) = self.reader.enter_from(&self.seen) else {
             return Err(Fault::Closed);
         };
-        let Ok(value) = output(alloc, reading.get(), outpoint) else {
-            self.stay(reading);
-            return Err(Fault::Memory);
-        };
-        let at = self.leave(reading, found);
+        let value = output(alloc, reading.get(), outpoint);
+        self.reader.leave(reading);
+        let value = value?;
+        let at = self.see(found);
         Ok(Stamped { at, value })
     }
 
     /// The id of the best block, after all that the seat has then seen. It takes no memory.
     ///
     /// Seat and node are of one [`Node::open`](crate::Node::open).
+    #[tactic(auto, using(crate::proofs::Owning::own_begins))]
     pub fn getbestblockhash(&mut self, _node: &Node<'_, J>) -> Result<Stamped<Id>, Fault>
         ensures later { IsLater self.old self.new }
         ensures answer { let m = machine self.old.origin in
@@ -79,17 +79,19 @@ impl<'t, J: Naming> Seat<'t, J> {
         ensures own { IsOwn self.new }
         ensures fault { IfErr result (λ fault. IsClosedFault self.old self.new fault) }
     {
-        let Some((reading, found)) = self.enter() else {
+        let Some((reading, found)) = self.reader.enter_from(&self.seen) else {
             return Err(Fault::Closed);
         };
         let value = reading.get().best();
-        let at = self.leave(reading, found);
+        self.reader.leave(reading);
+        let at = self.see(found);
         Ok(Stamped { at, value })
     }
 
     /// The tips of the tree, by height downwards, then by arrival, after all that the seat has then seen.
     ///
     /// Seat and node are of one [`Node::open`](crate::Node::open).
+    #[tactic(auto, using(crate::proofs::Owning::own_begins))]
     pub fn getchaintips(
         &mut self,
         alloc: Global,
@@ -101,14 +103,13 @@ impl<'t, J: Naming> Seat<'t, J> {
         ensures own { IsOwn self.new }
         ensures fault { IfErr result (λ fault. IsReadFault self.old self.new fault) }
     {
-        let Some((reading, found)) = self.enter() else {
+        let Some((reading, found)) = self.reader.enter_from(&self.seen) else {
             return Err(Fault::Closed);
         };
-        let Ok(value) = tips(alloc, reading.get()) else {
-            self.stay(reading);
-            return Err(Fault::Memory);
-        };
-        let at = self.leave(reading, found);
+        let value = tips(alloc, reading.get());
+        self.reader.leave(reading);
+        let value = value?;
+        let at = self.see(found);
         Ok(Stamped { at, value })
     }
 }

@@ -1,19 +1,19 @@
 //! Seats: a caller's place at the history.
 
-ghost use Rattle.std.specs.Prelude.{◌≡◌, [], true, Some, IfSome, length};
+ghost use Rattle.std.specs.Prelude.{◌≡◌, [], true, length};
 ghost use mathlib.Core.List.{IsPrefix};
-ghost use Rattle.left_right.specs.Sides.{view as known};
+ghost use Rattle.view.specs.ViewState.{IsLegal};
 
-use crate::looks::enter_from;
-use crate::naming::{Naming, SeatToken};
+use crate::naming::SeatToken;
 use crate::note::Note;
 use crate::own::{begins, own_are};
+use crate::reader_home::ReaderHome;
 use chain::{Command, Entry};
 use curve::Table;
 use rules::Params;
 use std::alloc::Global;
 use std::marker::{Model, PhantomData};
-use view::{ViewReader, ViewReading};
+use view::{Naming, ViewReader};
 
 /// A caller's place at the history. A clause sees its pass: what the seat has seen, and what of it is its
 /// own.
@@ -28,16 +28,14 @@ pub struct Seat<'t, J: Naming> {
     pub(crate) answered: u64,
     /// The commands of its own steps since then, whose replies are owed.
     pub(crate) owed: Vec<Command>,
-    /// It is away only inside a call.
-    pub(crate) reader: Option<ViewReader>,
+    pub(crate) reader: ReaderHome<J>,
 }
 
 impl<'t, J: Naming> Model for Seat<'t, J> {
     ghost use Rattle.std.specs.Coded.{codes};
     ghost use Rattle.std.specs.FinSet as set;
     ghost use Rattle.curve.specs.Triple.{triple_cmp, coded_triple};
-    ghost use Rattle.std.specs.Prelude.{◌≡◌, ◌≤◌, ◌++◌, Some, IfSome, take, length, map};
-    ghost use Rattle.left_right.specs.Sides.{view as known};
+    ghost use Rattle.std.specs.Prelude.{◌≡◌, ◌≤◌, ◌++◌, true, take, length, map};
     ghost use Rattle.chain.specs.History.{own_of};
     ghost use Rattle.view.specs.ViewState.{IsLegal};
     ghost use Rattle.node.specs.Pass.{Pass, owed_entry};
@@ -56,12 +54,12 @@ impl<'t, J: Naming> Model for Seat<'t, J> {
 
     ghost invariant = { λ s. IsAt J.origin s.params s.table.now s.seen
         × (s.answered ≤ length s.seen.entries)
-        × IfSome s.reader (λ r. known r.place ≡ Some J.origin) };
+        × (s.reader ≡ true) };
 }
 
 impl<'t, J: Naming> Seat<'t, J> {
     ghost use Rattle.node.specs.Pass.{IsLater, IsLonger, IsOwn, IsStanding, opening_pass};
-    ghost use Rattle.node.specs.inside.Seats.{IsAt, IsFound};
+    ghost use Rattle.node.specs.inside.Seats.{IsAt};
 
     /// What this seat has seen. It takes no memory, and waits for nobody.
     #[tactic(auto, using(crate::proofs::Owning::own_begins))]
@@ -108,10 +106,9 @@ impl<'t, J: Naming> Seat<'t, J> {
         table: &'t Table,
         token: SeatToken<J>,
         seen: view::Note,
-        reader: ViewReader,
+        reader: ViewReader<J>,
     ) -> Seat<'t, J>
         requires empty { seen.entries ≡ [] }
-        requires reader { known reader.place ≡ Some J.origin }
         requires at { IsAt J.origin params table.now seen }
         ensures { result ≡ opening_pass J.origin token }
     {
@@ -122,54 +119,22 @@ impl<'t, J: Naming> Seat<'t, J> {
             seen,
             answered: 0,
             owed: Vec::new(alloc),
-            reader: Some(reader),
+            reader: ReaderHome::of(reader),
         }
     }
 
-    /// Enters the published view, if it goes on from what the seat has seen: the view, and a note of all of it. The
-    /// reading is handed back by `leave` or `stay`.
+    /// Has seen this too, which goes on from what it had seen: how many entries that has.
     #[tactic(auto, using(crate::proofs::Owning::own_begins))]
-    pub(crate) fn enter(&mut self) -> Option<(ViewReading, view::Note)>
-        ensures same { self.new ≡ self.old }
-        ensures later { IsLater self.old self.new }
-        ensures own { IsOwn self.new }
-        ensures knows { let o = self.old.origin in
-            IfSome result (λ r. known r.0.place ≡ Some o) }
-        ensures found { let o = self.old.origin in let seen = self.old.seen in
-            IfSome result (λ r. IsFound o seen r.0.part.value r.1) }
-    {
-        match enter_from(self.reader.take()?, &self.seen) {
-            Ok(found) => Some(found),
-            Err(reader) => {
-                self.reader = Some(reader);
-                None
-            }
-        }
-    }
-
-    /// Leaves a view, and has seen no more than before.
-    #[tactic(auto, using(crate::proofs::Owning::own_begins))]
-    pub(crate) fn stay(&mut self, reading: ViewReading)
-        requires { known reading.place ≡ Some self.old.origin }
-        ensures same { self.new ≡ self.old }
-        ensures later { IsLater self.old self.new }
-        ensures own { IsOwn self.new }
-    {
-        self.reader = Some(reading.leave());
-    }
-
-    /// Leaves a view that it has seen then: how many entries that has.
-    #[tactic(auto, using(crate::proofs::Owning::own_begins))]
-    pub(crate) fn leave(&mut self, reading: ViewReading, found: view::Note) -> u64
-        requires knows { known reading.place ≡ Some self.old.origin }
-        requires found { IsFound self.old.origin self.old.seen reading.part.value found }
+    pub(crate) fn see(&mut self, found: view::Note) -> u64
+        requires book { found.book ≡ J.origin.book }
+        requires grows { IsPrefix self.old.seen found.entries }
+        requires legal { IsLegal J.origin found.entries }
         ensures later { IsLater self.old self.new }
         ensures mine { self.new.mine ≡ self.old.mine }
         ensures seen { self.new.seen ≡ found.entries }
         ensures at { result ≡ length found.entries }
         ensures own { IsOwn self.new }
     {
-        self.reader = Some(reading.leave());
         self.seen = found;
         self.seen.len()
     }
@@ -180,11 +145,11 @@ impl<'t, J: Naming> Seat<'t, J> {
         ensures same { self.new ≡ self.old }
         ensures standing { (result ≡ true) → IsStanding journal.now self.old }
     {
-        let Some((reading, _found)) = self.enter() else {
+        let Some((reading, _found)) = self.reader.enter_from(&self.seen) else {
             return false;
         };
         let is_beginning = begins(reading.get().journal(), journal);
-        self.stay(reading);
+        self.reader.leave(reading);
         let from = self.answered as usize;
         if !is_beginning || from > journal.len() {
             return false;

@@ -10,7 +10,7 @@ ghost use Rattle.node.specs.inside.PublishedState.{IsStepAnswer};
 use crate::answer::Stamped;
 use crate::fault::Fault;
 use crate::looks::{look_after, look_before};
-use crate::naming::{Naming, SeatToken};
+use crate::naming::SeatToken;
 use crate::node::Node;
 use crate::published_history::{PublishedHistory, Refusal};
 use crate::seat::Seat;
@@ -19,6 +19,7 @@ use hash::Id;
 use queue::{Threaded, Verdicts};
 use std::sync::Wait;
 use std::thread::Threads;
+use view::Naming;
 
 /// Whether it is a submission of bytes that are no block.
 fn is_undecodable(command: &PreparedCommand) -> bool
@@ -218,36 +219,21 @@ impl<'t, J: Naming> Seat<'t, J> {
                 value,
             });
         }
-        let Some(reader) = self.reader.take() else {
-            return Err(Fault::Closed);
-        };
         let (len, number) = (history.len(), self.token.number());
-        let owed = self.owed.as_slice();
-        let (reader, found) = look_before(reader, &self.seen, len, number, self.answered, owed);
-        let Some(before) = found else {
-            self.reader = Some(reader);
+        let (seen, place, owed) = (&self.seen, self.answered, self.owed.as_slice());
+        let Some(before) = look_before(&mut self.reader, seen, len, number, place, owed) else {
             return Err(Fault::Closed);
         };
-        let reply = match step_under_lock(rt, node, history, &self.token, command, early) {
-            Ok(Some(reply)) => reply,
-            Ok(None) => {
-                self.reader = Some(reader);
-                self.owed.push_reserved(asked);
-                return Err(Fault::Owed);
-            }
-            Err(refusal) => {
-                self.reader = Some(reader);
-                return Err(refusal.into());
-            }
+        let Some(reply) = step_under_lock(rt, node, history, &self.token, command, early)? else {
+            self.owed.push_reserved(asked);
+            return Err(Fault::Owed);
         };
         let entry = Entry {
             seat: number,
             command: asked,
             reply: Some(reply),
         };
-        let (reader, found) = look_after(reader, &before, &entry);
-        self.reader = Some(reader);
-        let Some(seen) = found else {
+        let Some(seen) = look_after(&mut self.reader, &before, &entry) else {
             self.owed.push_reserved(entry.command);
             return Err(Fault::Owed);
         };

@@ -58,7 +58,7 @@ where
     requires { opening ≡ J.origin }
 {
     begin(rt, setting.skipped == 0);
-    let opened = Node::<J>::open(rt, rt.alloc(), opening, 1, gate);
+    let opened = Node::<J>::open(rt.alloc(), opening, 1, gate);
     let refused = end(rt);
     tally.call(Kind::Open, refused.unwrap_or(0));
     match opened {

@@ -214,7 +214,7 @@ where
     E: Write,
     requires { opening ≡ J.origin }
 {
-    let (node, mut seats) = Node::<J>::open(rt, rt.alloc(), opening, workers, gate)?;
+    let (node, mut seats) = Node::<J>::open(rt.alloc(), opening, workers, gate)?;
     let lone = usize::from(blk.is_some()).min(seats.len());
     let (first, others) = seats.split_at_mut(lone);
     let submitted = match (blk, first) {

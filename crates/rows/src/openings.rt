@@ -3,32 +3,33 @@
 ghost use Rattle.std.specs.Prelude.{◌≡◌};
 
 use node::{Fault, Naming, Node, Open, OpenFault, Opening, Params, Table};
+use std::alloc::Global;
 use std::marker::Brand;
-use std::sync::{Arc, Wait};
+use std::sync::Arc;
 use std::test::Fail;
 
 /// How many seats a node of so many workers has.
-fn count_seats<J: Naming, R: AllocGlobal + Wait>(
-    rt: &R,
+fn count_seats<J: Naming>(
+    alloc: Global,
     opening: Opening<'_>,
     workers: usize,
 ) -> Result<usize, OpenFault>
     requires { opening ≡ J.origin }
 {
-    let (node, seats) = Node::<J>::open(rt, rt.alloc(), opening, workers, &Open)?;
+    let (node, seats) = Node::<J>::open(alloc, opening, workers, &Open)?;
     let _ = node.finish(&mut []);
     Ok(seats.len())
 }
 
 /// The same, of a node that wants so many seats.
-fn opened<R: AllocGlobal + Wait>(
-    rt: &R,
+fn opened(
+    alloc: Global,
     table: &Arc<Table>,
     workers: usize,
     seats: usize,
 ) -> Result<usize, OpenFault> {
     let opening = Opening::new(Params::regtest(), table, seats);
-    count_seats::<Brand, R>(rt, opening, workers)
+    count_seats::<Brand>(alloc, opening, workers)
 }
 
 /// Numbers of workers and of seats, and why they are refused.
@@ -43,9 +44,9 @@ const REFUSED: [(usize, usize, OpenFault); 4] = [
 fn openings(rt: HostRuntime) -> Result<(), Fail> {
     let table = Arc::new(rt.alloc(), Table::new(rt.alloc()))?;
     for (workers, seats, fault) in REFUSED {
-        assert_eq!(rt; opened(&rt, &table, workers, seats).err(), Some(fault));
+        assert_eq!(rt; opened(rt.alloc(), &table, workers, seats).err(), Some(fault));
     }
-    assert_eq!(rt; opened(&rt, &table, 16, 16)?, 16);
+    assert_eq!(rt; opened(rt.alloc(), &table, 16, 16)?, 16);
     Ok(())
 }
 

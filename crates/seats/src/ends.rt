@@ -50,7 +50,7 @@ fn end_with<J: Naming, R: AllocGlobal + Threads + Wait + Sync>(
 ) -> Result<String, Fail>
     requires { opening ≡ J.origin }
 {
-    let (node, mut seats) = Node::<J>::open(rt, rt.alloc(), opening, 1, &Open)?;
+    let (node, mut seats) = Node::<J>::open(rt.alloc(), opening, 1, &Open)?;
     for seat in &mut seats {
         let _ = seat.invalidate(rt, &node, Id([7; 32]));
     }

@@ -113,7 +113,7 @@ fn handed_over<J: Naming, R: AllocGlobal + Threads + Wait + Sync>(
 {
     let (to, from) = crossbeam_channel::unbounded(rt.alloc())?;
     let (done, ended) = crossbeam_channel::unbounded(rt.alloc())?;
-    let (node, mut seats) = Node::<J>::open(rt, rt.alloc(), opening, 1, door)?;
+    let (node, mut seats) = Node::<J>::open(rt.alloc(), opening, 1, door)?;
     let mut last = seats.pop().ok_or("a seat")?;
     let mut reader = seats.pop().ok_or("a seat")?;
     let mut writer = seats.pop().ok_or("a seat")?;

@@ -2,18 +2,21 @@
 //!
 //! No public call of a node holds a reader inside, so the view is opened here by itself.
 
-ghost use Rattle.std.specs.Prelude.{◌≡◌, [], IfOk, drop, map};
+ghost use Rattle.std.specs.Prelude.{◌≡◌, [], IfOk, IfSome, drop, map};
+ghost use Rattle.std.specs.Arc.{arc_value};
 ghost use Rattle.curve.specs.Triple.{Triples};
 ghost use Rattle.tree.specs.Branches.{height};
 ghost use Rattle.tree.specs.Tips.{tip_of_id};
 ghost use Rattle.chain.specs.Regtest.{regtest};
 ghost use Rattle.chain.specs.Settle.{active, best, tips};
 ghost use Rattle.activate.specs.CoreState.{Follows};
-ghost use Rattle.view.specs.ViewState.{IsExact};
+ghost use Rattle.view.specs.Origin.{origin};
 
 use activate::Core;
-use node::{Params, Table};
+use crossbeam_utils::rule::Outcome;
+use node::{Naming, Params, Table};
 use std::alloc::Global;
+use std::marker::Brand;
 use std::process::Abort;
 use std::sync::atomic::Ordering::SeqCst;
 use std::sync::atomic::{AtomicBool, AtomicU64};
@@ -21,8 +24,7 @@ use std::sync::{Arc, Wait};
 use std::test::Fail;
 use std::thread::{Threads, spawn, yield_now};
 use view::{
-    ChainInfo, Hub, Note, Tips, View, ViewReader, ViewWriter, another_reader, enter, open_writer,
-    publish_opening,
+    ChainInfo, Note, Tips, View, ViewReader, ViewWriter, another_reader, enter, open_writer,
 };
 use wire::Memory;
 
@@ -85,45 +87,65 @@ fn opening_info(alloc: Global, core: &Core) -> Result<ChainInfo, Memory>
 }
 
 /// A writer over two opening views.
-fn open_views(alloc: Global) -> Result<ViewWriter, Memory>
-    ensures exact { IfOk result (λ w. IsExact w.desk.shown.value) }
-    ensures pending { IfOk result (λ w. drop w.behind w.log.items ≡ []) }
+fn open_views<J: Naming>(
+    alloc: Global,
+    params: Params,
+    table: Arc<Table>,
+    note: Note,
+) -> Result<ViewWriter<J>, Memory>
+    requires empty { note.entries ≡ [] }
+    requires of { origin note.book params (arc_value table) 1 ≡ J.origin }
+    ensures { IfOk result (λ w. drop w.behind w.log.items ≡ []) }
 {
-    let params = Params::regtest();
-    let table = Arc::new(alloc, Table::new(alloc))?;
     let core = Core::with(alloc, params)?;
     let info = opening_info(alloc, &core)?;
     let same = info.clone()?;
-    let (counter, note) = Note::open();
     let other = Arc::try_clone(&table)?;
     let first = View::new(alloc, params, table, 1, note.copy(), info);
-    let second = View::new(alloc, params, other, 1, note.copy(), same);
+    let second = View::new(alloc, params, other, 1, note, same);
     let writer = open_writer(alloc, first, second, 2)?;
     Ok(writer)
 }
 
 /// A reader that stays inside, and another one.
-fn two_readers(writer: &mut ViewWriter) -> Option<(ViewReader, ViewReader)>
-    ensures shown { writer.new.desk.shown ≡ writer.old.desk.shown }
-    ensures pending { drop writer.new.behind writer.new.log.items
-        ≡ drop writer.old.behind writer.old.log.items }
+fn two_readers<J: Naming>(
+    writer: &ViewWriter<J>,
+) -> Result<(ViewReader<J>, ViewReader<J>), Memory> {
+    Ok((another_reader(writer)?, another_reader(writer)?))
+}
+
+/// A publication that tells its writer nothing.
+struct Again;
+
+impl Outcome<View, ()> for Again {
+    ghost then = { λ v before after w. Unit {0} };
+}
+
+/// Shows readers what they see already, from the other copy.
+fn publish_again<J: Naming, R: Wait>(rt: &R, writer: ViewWriter<J>) -> Option<ViewWriter<J>>
+    requires { drop writer.behind writer.log.items ≡ [] }
+    ensures { IfSome result (λ w. drop w.behind w.log.items ≡ []) }
 {
-    let first = another_reader(writer).ok()?;
-    let second = another_reader(writer).ok()?;
-    Some((first, second))
+    let (writer, shown) = writer.publish_as::<Again, R>(rt);
+    match shown {
+        Ok(()) => Some(writer),
+        Err(_) => {
+            drop(writer.take(rt));
+            None
+        }
+    }
 }
 
 /// Publishes twice, as soon as the reader is inside, and lets the views go.
-fn publish_twice<R: Wait>(rt: &R, writer: ViewWriter, told: &Told) -> bool
-    requires exact { IsExact writer.desk.shown.value }
-    requires pending { drop writer.behind writer.log.items ≡ [] }
+fn publish_twice<J: Naming, R: Wait>(rt: &R, writer: ViewWriter<J>, told: &Told) -> bool
+    requires { drop writer.behind writer.log.items ≡ [] }
 {
     let has_come = told.wait_for_the_reader();
-    let Some(writer) = publish_opening(rt, writer) else {
+    let Some(writer) = publish_again(rt, writer) else {
         return false;
     };
     told.published.store(1, SeqCst);
-    let Some(writer) = publish_opening(rt, writer) else {
+    let Some(writer) = publish_again(rt, writer) else {
         return false;
     };
     told.published.store(2, SeqCst);
@@ -132,7 +154,11 @@ fn publish_twice<R: Wait>(rt: &R, writer: ViewWriter, told: &Told) -> bool
 }
 
 /// Enters, and leaves when another reader has come and gone many times: how often was published meanwhile.
-fn stay_inside(first: ViewReader, second: ViewReader, told: &Told) -> Option<u64> {
+fn stay_inside<J: Naming>(
+    first: ViewReader<J>,
+    second: ViewReader<J>,
+    told: &Told,
+) -> Option<u64> {
     let inside = enter(first).ok()?;
     told.is_inside.store(true, SeqCst);
     let has_come = told.wait_for_the_writer();
@@ -143,7 +169,7 @@ fn stay_inside(first: ViewReader, second: ViewReader, told: &Told) -> Option<u64
 }
 
 /// How often a reader came and went.
-fn come_and_go(reader: ViewReader) -> u32 {
+fn come_and_go<J: Naming>(reader: ViewReader<J>) -> u32 {
     let mut reader = reader;
     for done in 0..OTHERS {
         match enter(reader) {
@@ -159,18 +185,28 @@ fn come_and_go(reader: ViewReader) -> u32 {
 /// has left, that one ends too.
 #[test]
 fn a_reader_that_stays(rt: HostRuntime) -> Result<(), Fail> {
-    expect_waiting(&rt)
+    let table = Arc::new(rt.alloc(), Table::new(rt.alloc()))?;
+    let (_counter, note) = Note::open();
+    expect_waiting::<Brand, _>(&rt, Params::regtest(), table, note)
 }
 
-fn expect_waiting<R: AllocGlobal + Threads + Wait + Sync + Abort>(rt: &R) -> Result<(), Fail> {
+fn expect_waiting<J: Naming, R: AllocGlobal + Threads + Wait + Sync + Abort>(
+    rt: &R,
+    params: Params,
+    table: Arc<Table>,
+    note: Note,
+) -> Result<(), Fail>
+    requires empty { note.entries ≡ [] }
+    requires of { origin note.book params (arc_value table) 1 ≡ J.origin }
+{
     let told = Told {
         is_inside: AtomicBool::new(false),
         published: AtomicU64::new(0),
     };
     let told = Arc::new(rt.alloc(), told)?;
     let theirs = Arc::try_clone(&told)?;
-    let mut writer = open_views(rt.alloc())?;
-    let Some((first, second)) = two_readers(&mut writer) else {
+    let writer: ViewWriter<J> = open_views(rt.alloc(), params, table, note)?;
+    let Ok((first, second)) = two_readers(&writer) else {
         drop(writer.take(rt));
         return Err(Memory.into());
     };

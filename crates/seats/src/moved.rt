@@ -43,7 +43,7 @@ fn is_seen<J: Naming, R: AllocGlobal + Threads + Wait + Sync>(
 ) -> Result<bool, Fail>
     requires { opening ≡ J.origin }
 {
-    let (node, mut seats) = Node::<J>::open(rt, rt.alloc(), opening, 1, &Open)?;
+    let (node, mut seats) = Node::<J>::open(rt.alloc(), opening, 1, &Open)?;
     let mut reader = seats.pop().ok_or("a seat")?;
     let mut writer = seats.pop().ok_or("a seat")?;
     Ok(sees_each(rt, &node, &mut writer, &mut reader)?)

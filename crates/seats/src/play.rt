@@ -235,7 +235,7 @@ fn play_on<J: Naming, R: AllocGlobal + Threads + Wait + Sync>(
 ) -> Result<Played, Fail>
     requires { opening ≡ J.origin }
 {
-    let (node, round) = open::<J, R>(rt, opening, setting.workers, door)?;
+    let (node, round) = open::<J>(rt.alloc(), opening, setting.workers, door)?;
     match ask_clients(rt, definitions, &node, round, clients, setting, door) {
         Err(why) => Err(lost(node, why)),
         Ok(

@@ -5,6 +5,7 @@ ghost use Rattle.std.specs.Prelude.{◌≡◌};
 use crate::answers::ask;
 use node::{Fault, Gate, Naming, Node, Note, Opening, Seat};
 use scenario::{Definitions, Request};
+use std::alloc::Global;
 use std::sync::Wait;
 use std::test::Fail;
 use std::thread::Threads;
@@ -22,15 +23,15 @@ fn lost<J: Naming>(_node: Node<'_, J>) -> Fail {
 }
 
 /// A node, and its seats.
-pub fn open<'g, J: Naming, R: AllocGlobal + Wait>(
-    rt: &R,
+pub fn open<'g, J: Naming>(
+    alloc: Global,
     opening: Opening<'g>,
     workers: usize,
     gate: &'g (dyn Gate + Sync),
 ) -> Result<(Node<'g, J>, Round<'g, J>), Fail>
     requires { opening ≡ J.origin }
 {
-    let (node, seats) = Node::<J>::open(rt, rt.alloc(), opening, workers, gate)?;
+    let (node, seats) = Node::<J>::open(alloc, opening, workers, gate)?;
     let note = match seats.first() {
         Some(seat) => seat.note(),
         None => return Err(lost(node)),

@@ -1,5 +1,5 @@
 -- The exchange that adds an entry keeps the rule of the history.
-use Rattle.std.proofs.Common.{◌≡◌, ℕ, ◌+◌, ◌<◌, ◌==◌, Bool, true, false, List, [], ◌∷◌, ◌++◌, length, refl, ap, sym, subst, arith, inl, length-append, None}
+use Rattle.std.proofs.Common.{◌≡◌, ℕ, ◌+◌, ◌<◌, ◌≤◌, ◌==◌, Bool, true, false, List, [], ◌∷◌, ◌++◌, length, refl, ap, sym, ◌∙◌, subst, arith, inl, length-append, None}
 use Rattle.std.proofs.lemmas.List.{append-nil}
 use Rattle.std.proofs.lemmas.Bool.Decides.{nat_tests}
 use mathlib.Core.List.{IsPrefix}
@@ -29,19 +29,23 @@ adds_goes log v e old len pre true is =
       tt,
       ap (λ (k : ℕ). (k, true) ∷ (0, true) ∷ []) n,
       inl (refl, refl),
-      λ _. ap (λ w. w ++ e ∷ []) (sym same),
+      ((λ _. ap (λ w. w ++ e ∷ []) (sym same)), (λ apart. absurd (apart here))),
     )
 adds_goes log v e old len pre false is =
     let all : log ++ [] ≡ log = append-nil log in
     let apart : length log ≡ old → ⊥ = λ h. grind (arith, nat_tests) in
-    let n : either (length log == old) (old + 1) (length log) ≡ length (log ++ []) = rw is (ap length (sym all)) in (
+    let n : either (length log == old) (old + 1) (length log) ≡ length (log ++ []) = rw is (ap length (sym all)) in
+    let no_longer : length v ≤ length log = omega (arith, ap length pre.1, length-append v pre.0) in
+    let differs : ¬ (length log ≡ length v) = λ h. apart (h ∙ len) in
+    let whole : length log ≡ length (log ++ []) = ap length (sym all) in
+    let longer : length v < length (log ++ []) = omega (arith, no_longer, differs, whole) in (
       keeps,
       [],
       None,
       tt,
       ap (λ (k : ℕ). (k, true) ∷ (0, true) ∷ []) n,
       inl (refl, refl),
-      λ h. absurd (apart h),
+      ((λ h. absurd (apart h)), (λ _. (ap length (sym all), longer))),
     )
 
 -- whatever the book is, the exchange adds the entry to all that was seen, or finds another number of entries

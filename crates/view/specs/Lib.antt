@@ -1,5 +1,6 @@
 pub mod Beginning
 pub mod Following
+pub mod Limits
 pub mod Origin
 pub mod Rule
 pub mod ViewState

@@ -1,3 +1,2 @@
 -- What private clauses alone cite.
 pub mod Adding
-pub mod Turns

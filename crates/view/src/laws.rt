@@ -8,6 +8,7 @@ ghost use Rattle.view.specs.ViewState.{ViewState, IsExact, IsInfo, after_publica
 ghost use Rattle.view.specs.declared.chain_info.ChainInfo.{ChainInfo};
 ghost use Rattle.view.specs.declared.publication.Publication.{Publication};
 
+use crate::naming::Naming;
 use crate::note::Note;
 use crate::publishing::{ViewReader, ViewWriter};
 
@@ -29,11 +30,11 @@ pub fn what_is_published_only_grows()
 {}
 
 /// Notes, readers and the writer may be given to other threads, and notes be shared with them.
-pub fn handles_cross_threads() {
+pub fn handles_cross_threads<J: Naming>() {
     is_sent::<Note>();
     is_shared::<Note>();
-    is_sent::<ViewReader>();
-    is_sent::<ViewWriter>();
+    is_sent::<ViewReader<J>>();
+    is_sent::<ViewWriter<J>>();
 }
 
 fn is_sent<T: Send>() {}

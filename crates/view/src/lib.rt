@@ -5,6 +5,7 @@ mod chain_info;
 mod history_view;
 mod hub;
 pub mod laws;
+mod naming;
 mod note;
 mod publication;
 mod publishing;
@@ -14,10 +15,10 @@ mod rule;
 pub use chain_info::{ChainInfo, Tips};
 pub use history_view::View;
 pub use hub::Hub;
+pub use naming::Naming;
 pub use note::{EntryCount, HistoryRule, Note};
 pub use publication::Publication;
 pub use publishing::{
     ViewReader, ViewReading, ViewWriter, another_reader, enter, open_writer, publish,
-    publish_opening,
 };
-pub use rule::{KnownOrigin, ViewRule};
+pub use rule::ViewRule;

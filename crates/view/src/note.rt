@@ -3,6 +3,7 @@
 ghost use Rattle.std.specs.Prelude.{◌≡◌, ◌⊎◌, ◌<◌, ◌^◌, ◌++◌, ◌∷◌, [], length, MatchBool};
 ghost use mathlib.Core.List.{IsPrefix};
 ghost use Rattle.view.specs.Beginning.{count_of};
+ghost use Rattle.view.specs.inside.Adding.{IsShorter};
 
 use chain::Entry;
 use logbook::{Gain, Offer, Plain, Play, Rule, Seen, Start, Word};
@@ -138,13 +139,13 @@ impl Note {
         *other = self.copy();
     }
 
-    /// Adds an entry to all that there is. It doesn't where the history is longer than this.
+    /// Adds an entry to all that there is. Where the history is longer than this it hears of that instead.
     pub(crate) fn add(&mut self, counter: &EntryCount, entry: &Entry) -> bool
         requires room { length self.old.entries < 2 ^ 62 }
         requires counter { counter.now ≡ count_of self.old.book }
         ensures book { self.new.book ≡ self.old.book }
         ensures entries { let es = self.old.entries in
-            MatchBool result (self.new.entries ≡ es ++ entry.now ∷ []) (self.new.entries ≡ es) }
+            MatchBool result (self.new.entries ≡ es ++ entry.now ∷ []) (IsShorter es self.new.entries) }
     {
         let mut seen = self.seen.again();
         let mut offer: Offer<Entry, u64, HistoryRule, Nothing> = seen.plain::<
@@ -161,11 +162,8 @@ impl Note {
             &mut offer,
             &mut pen,
         );
-        if found != count {
-            return false;
-        }
         self.seen = seen;
-        self.count = count + 1;
-        true
+        self.count = if found == count { count + 1 } else { found };
+        found == count
     }
 }

@@ -1,8 +1,9 @@
 //! Operations on what is published: one entry more, with what it changes.
 
-ghost use Rattle.std.specs.Prelude.{◌≡◌, ◌++◌, ◌∷◌, [], IfSome};
+ghost use Rattle.std.specs.Prelude.{◌≡◌, ◌++◌, ◌∷◌, [], IfSome, IfOk, IfErr};
 ghost use Rattle.std.specs.Arc.{arc_value};
 ghost use Rattle.view.specs.Beginning.{count_of};
+ghost use Rattle.view.specs.inside.Adding.{IsNoPlace};
 
 use crate::chain_info::ChainInfo;
 use crate::hub::Hub;
@@ -12,8 +13,17 @@ use coins::Changes;
 use std::sync::Arc;
 use std::sync::atomic::Ordering;
 
-/// The most entries that a history may have.
+/// The most entries that a history may have. They take more memory than any machine of today can name.
 const MAX_ENTRIES: u64 = 1 << 60;
+
+/// Why an entry gets no place in the history.
+#[derive(Drop)]
+pub(crate) enum NoPlace {
+    /// The history has another entry there: it is this.
+    Taken(Note),
+    /// It has as many entries as it may have.
+    Full,
+}
 
 /// An entry, what it changes and what stands after it. It is put behind the others, or, where it is none more, in
 /// place of the last.
@@ -34,19 +44,30 @@ pub struct Publication {
 }
 
 impl Publication {
-    /// The history with the entry, which gets its place there. None where a later attempt was made.
+    /// The history with the entry, which gets its place there. None where a later attempt was made, or it gets none.
     pub(crate) fn note(&self) -> Option<Note>
         ensures { let b = self.now.before in IfSome result (λ n.
             (n.book ≡ b.book) × (n.entries ≡ b.entries ++ self.now.entry ∷ [])) }
     {
-        let hub = &self.hub;
-        if hub.attempt.load(Ordering::SeqCst) != self.attempt || self.before.len() >= MAX_ENTRIES {
+        if self.hub.attempt.load(Ordering::SeqCst) != self.attempt {
             return None;
         }
-        let mut note = self.before.copy();
-        if note.add(&hub.counter, &self.entry) {
-            return Some(note);
+        self.place().ok()
+    }
+
+    /// Gives the entry its place in the history.
+    fn place(&self) -> Result<Note, NoPlace>
+        ensures ok { let b = self.now.before in IfOk result (λ n.
+            (n.book ≡ b.book) × (n.entries ≡ b.entries ++ self.now.entry ∷ [])) }
+        ensures err { IfErr result (λ why. IsNoPlace self.now.before why) }
+    {
+        if self.before.len() >= MAX_ENTRIES {
+            return Err(NoPlace::Full);
         }
-        None
+        let mut note = self.before.copy();
+        if note.add(&self.hub.counter, &self.entry) {
+            return Ok(note);
+        }
+        Err(NoPlace::Taken(note))
     }
 }

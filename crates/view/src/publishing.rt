@@ -1,15 +1,14 @@
 //! What the readers and the writer of the view do.
 
-ghost use Rattle.std.specs.Prelude.{◌≡◌, ◌<◌, ◌^◌, [], None, Some, ◌∷◌, ◌++◌, IfOk, IfErr, IfSome, MatchResult, if◌then◌else◌, drop};
+ghost use Rattle.std.specs.Prelude.{◌≡◌, ◌<◌, ◌^◌, [], ◌∷◌, ◌++◌, IfOk, IfErr, MatchResult, if◌then◌else◌, drop};
 ghost use mathlib.Core.List.{IsPrefix};
-ghost use Rattle.left_right.specs.Sides.{view as known};
 ghost use Rattle.view.specs.ViewState.{IsExact, after_publications};
 ghost use Rattle.view.specs.Following.{AllFollow};
-ghost use Rattle.view.specs.Rule.{IsOfKnown};
 
 use crate::history_view::View;
+use crate::naming::Naming;
 use crate::publication::Publication;
-use crate::rule::{Entering, KnownOrigin, Publishing, Telling, ViewRule};
+use crate::rule::{Turning, ViewRule};
 use left_right::reader::{Reader, Reading};
 use left_right::writer::Writer;
 use std::alloc::Global;
@@ -17,67 +16,46 @@ use std::sync::Wait;
 use wire::Memory;
 
 /// A reader that has no view entered.
-pub type ViewReader = Reader<View, KnownOrigin, ViewRule>;
+pub type ViewReader<J> = Reader<View, (), ViewRule<J>>;
 
 /// A reader in the view that it entered. While it stays there the next publication but one waits for it.
-pub type ViewReading = Reading<View, KnownOrigin, ViewRule>;
+pub type ViewReading<J> = Reading<View, (), ViewRule<J>>;
 
 /// The writer, who alone publishes.
-pub type ViewWriter = Writer<View, Publication, KnownOrigin, ViewRule>;
+pub type ViewWriter<J> = Writer<View, Publication, (), ViewRule<J>>;
 
 /// A writer over two equal views, with room for so many readers.
-pub fn open_writer(
+pub fn open_writer<J: Naming>(
     alloc: Global,
     first: View,
     second: View,
     readers: usize,
-) -> Result<ViewWriter, Memory>
+) -> Result<ViewWriter<J>, Memory>
     requires readers { (0 < readers) × (readers < 2 ^ 32) }
     requires alike { second ≡ first }
     requires exact { IsExact first }
-    ensures known { IfOk result (λ w. known w.desk.place ≡ None) }
+    requires origin { first.origin ≡ J.origin }
     ensures shown { IfOk result (λ w. w.desk.shown.value ≡ first) }
     ensures pending { IfOk result (λ w. drop w.behind w.log.items ≡ []) }
 {
     Ok(Writer::new(alloc, first, second, readers)?)
 }
 
-/// Publishes what readers see already, so that the writer knows its origin. None where it couldn't.
-pub fn publish_opening<R: Wait>(rt: &R, writer: ViewWriter) -> Option<ViewWriter>
-    requires pending { drop writer.behind writer.log.items ≡ [] }
-    requires exact { IsExact writer.desk.shown.value }
-    ensures known { IfSome result (λ w.
-        known w.desk.place ≡ Some writer.desk.shown.value.origin) }
-    ensures shown { IfSome result (λ w. w.desk.shown.value ≡ writer.desk.shown.value) }
-    ensures pending { IfSome result (λ w. drop w.behind w.log.items ≡ []) }
-{
-    let (writer, shown) = writer.publish_as::<Publishing, R>(rt);
-    match shown {
-        Ok(()) => Some(writer),
-        Err(_) => {
-            drop(writer.take(rt));
-            None
-        }
-    }
-}
-
 /// Enters the view that was published last. The reader comes back where the writer is gone.
-pub fn enter(reader: ViewReader) -> Result<ViewReading, ViewReader>
-    ensures known { let k = known reader.place in
-        MatchResult result (λ r. known r.place ≡ k) (λ r. known r.place ≡ k) }
+pub fn enter<J: Naming>(reader: ViewReader<J>) -> Result<ViewReading<J>, ViewReader<J>>
     ensures exact { IfOk result (λ r. IsExact r.part.value) }
-    ensures origin { IfOk result (λ r. IsOfKnown (known reader.place) r.part.value) }
+    ensures origin { IfOk result (λ r. r.part.value.origin ≡ J.origin) }
 {
-    reader.enter_as::<Entering>()
+    reader.enter_as::<Turning<J>>()
 }
 
 /// Publishes what is pending, and then this: true. Or it is pending too (false), or comes back where there is no room
 /// for it; then readers see what they saw.
-pub fn publish<R: Wait>(
+pub fn publish<J: Naming, R: Wait>(
     rt: &R,
-    writer: ViewWriter,
+    writer: ViewWriter<J>,
     publication: Publication,
-) -> (ViewWriter, Result<bool, Publication>)
+) -> (ViewWriter<J>, Result<bool, Publication>)
     requires exact { IsExact writer.desk.shown.value }
     requires follows { let pending = drop writer.behind writer.log.items in
         AllFollow writer.desk.shown.value (pending ++ publication ∷ []) }
@@ -93,29 +71,19 @@ pub fn publish<R: Wait>(
         MatchResult result.1
         (λ done. left ≡ (if done then [] else pending ++ publication ∷ [])) (λ _. left ≡ pending) }
     ensures given_back { IfErr result.1 (λ back. back ≡ publication) }
-    ensures known { let o = writer.desk.shown.value.origin in
-        known writer.desk.place ≡ Some o → known result.0.desk.place ≡ Some o }
 {
     let mut writer = writer;
     if let Err(publication) = writer.append(publication) {
         return (writer, Err(publication));
     }
-    let (writer, shown) = writer.publish_as::<Publishing, R>(rt);
+    let (writer, shown) = writer.publish_as::<Turning<J>, R>(rt);
     match shown {
         Ok(()) => (writer, Ok(true)),
         Err(_) => (writer, Ok(false)),
     }
 }
 
-/// One reader more, which knows what the writer knows.
-pub fn another_reader(writer: &mut ViewWriter) -> Result<ViewReader, Memory>
-    ensures known { IfOk result (λ r. known r.place ≡ known writer.old.desk.place) }
-    ensures kept { known writer.new.desk.place ≡ known writer.old.desk.place }
-    ensures shown { writer.new.desk.shown ≡ writer.old.desk.shown }
-    ensures pending { drop writer.new.behind writer.new.log.items
-        ≡ drop writer.old.behind writer.old.log.items }
-{
-    let mut reader = writer.factory().reader()?;
-    reader.learn::<Telling>(writer.tell::<Telling>());
-    Ok(reader)
+/// One reader more.
+pub fn another_reader<J: Naming>(writer: &ViewWriter<J>) -> Result<ViewReader<J>, Memory> {
+    Ok(writer.factory().reader()?)
 }

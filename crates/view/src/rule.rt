@@ -1,69 +1,30 @@
-//! The rule of what is published, and the steps that keep it.
+//! The rule of what is published, and the step that keeps it.
 
 use crate::history_view::View;
-use atomic_table::{Join, Split};
+use crate::naming::Naming;
 use crossbeam_utils::rule::{Outcome, Protocol};
-use std::marker::Model;
-
-/// What a reader or the writer knows of what is published: its origin, or nothing. No value of it is made.
-pub struct KnownOrigin {
-    nothing: (),
-}
-
-impl Model for KnownOrigin {
-    ghost use Rattle.std.specs.Prelude.{Option, None};
-    ghost use Rattle.std.specs.Coded.{codes};
-    ghost use Rattle.std.specs.FinSet as set;
-    ghost use Rattle.curve.specs.Triple.{triple_cmp, coded_triple};
-    ghost use Rattle.view.specs.Origin.{Origin};
-
-    ghost Value = { Option Origin };
-
-    ghost coded = { Prim.hlevel (codes, set.code {R = triple_cmp} coded_triple) };
-
-    ghost view = { λ k. None };
-}
+use std::marker::PhantomData;
 
 /// The rule of what is published. No value of it is made.
-pub struct ViewRule;
-
-impl Protocol<View, KnownOrigin> for ViewRule {
-    ghost use Rattle.std.specs.Prelude.{None};
-    ghost use Rattle.view.specs.Rule.{Keeps};
-
-    ghost holds = { Keeps };
-
-    ghost first = { None };
+pub struct ViewRule<J: Naming> {
+    of: PhantomData<J>,
 }
 
-pub(crate) struct Entering;
+impl<J: Naming> Protocol<View, ()> for ViewRule<J> {
+    ghost use Rattle.view.specs.Rule.{IsExactOf};
 
-impl Outcome<View, KnownOrigin> for Entering {
-    ghost use Rattle.view.specs.inside.Turns.{Sees};
+    ghost holds = { λ x all. IsExactOf J.origin x };
 
-    ghost then = { Sees };
+    ghost first = { tt };
 }
 
-pub(crate) struct Publishing;
-
-impl Outcome<View, KnownOrigin> for Publishing {
-    ghost use Rattle.view.specs.inside.Turns.{Publishes};
-
-    ghost then = { Publishes };
+/// What a step of a reader or of the writer leaves published. No value of it is made.
+pub(crate) struct Turning<J: Naming> {
+    of: PhantomData<J>,
 }
 
-pub(crate) struct Telling;
+impl<J: Naming> Outcome<View, ()> for Turning<J> {
+    ghost use Rattle.view.specs.Rule.{IsExactOf};
 
-impl Split<KnownOrigin> for Telling {
-    ghost left = { λ v. v };
-
-    ghost right = { λ v. v };
-}
-
-impl Join<KnownOrigin> for Telling {
-    ghost use Rattle.std.specs.Prelude.{None};
-
-    ghost both = { λ v w. w };
-
-    ghost spent = { None };
+    ghost then = { λ v before after w. IsExactOf J.origin after };
 }

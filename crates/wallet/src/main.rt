@@ -28,7 +28,7 @@ where
     requires { opening ≡ J.origin }
 {
     let alloc = rt.alloc();
-    let (node, mut seats) = Node::<J>::open(rt, alloc, opening, 2, gate)?;
+    let (node, mut seats) = Node::<J>::open(alloc, opening, 2, gate)?;
     let used = use_seats(rt, &node, seats.as_mut_slice());
     let history = node.close(rt, seats.as_mut_slice())?;
     used?;

@@ -2,8 +2,8 @@
 
 ghost use Rattle.std.specs.Prelude.{◌≡◌, ◌<◌, ◌+◌};
 
-use crate::naming::Naming;
 use std::marker::{Model, PhantomData};
+use view::Naming;
 
 /// The right to enter steps under a seat's number. An opening gives one for each number, and none is copied: so a step
 /// is entered by its seat alone.

@@ -9,13 +9,13 @@ use crate::published_history::writer_home::WriterHome;
 use coins::Changes;
 use std::alloc::Global;
 use std::sync::Wait;
-use view::{Note, Publication, ViewWriter, publish};
+use view::{Naming, Note, Publication, ViewWriter, publish};
 
 /// What there is after the attempt.
 #[derive(Drop)]
-pub(crate) struct Attempt {
+pub(crate) struct Attempt<J: Naming> {
     /// None where what is published has no note: nothing more is published then.
-    pub(crate) home: Option<WriterHome>,
+    pub(crate) home: Option<WriterHome<J>>,
     /// The history that is published.
     pub(crate) note: Note,
     /// Whether the entry is still owed.
@@ -26,12 +26,12 @@ pub(crate) struct Attempt {
 }
 
 /// Publishes an entry that is owed.
-pub(crate) fn attempt_to_publish<R: Wait>(
+pub(crate) fn attempt_to_publish<J: Naming, R: Wait>(
     rt: &R,
     alloc: Global,
-    writer: ViewWriter,
+    writer: ViewWriter<J>,
     publication: Publication,
-) -> Attempt
+) -> Attempt<J>
     requires exact { IsExact writer.desk.shown.value }
     requires before { publication.before.entries ≡ writer.desk.shown.value.journal }
     requires book { publication.before.book ≡ writer.desk.shown.value.origin.book }

@@ -1,7 +1,6 @@
 //! A step over the coins that are published, as a reader finds them.
 
-ghost use Rattle.std.specs.Prelude.{◌≡◌, ◌≤◌, true, All, IfOk, IfSome, OnErr, Some, map};
-ghost use Rattle.left_right.specs.Sides.{view as known};
+ghost use Rattle.std.specs.Prelude.{◌≡◌, ◌≤◌, All, IfOk, OnErr, Decides, map};
 ghost use Rattle.coins.specs.Changes.{AreChanges};
 ghost use Rattle.curve.specs.Triple.{Triples};
 ghost use Rattle.tree.specs.Branches.{height};
@@ -11,16 +10,16 @@ ghost use Rattle.chain.specs.Prepared.{command_of};
 ghost use Rattle.chain.specs.Regtest.{regtest};
 ghost use Rattle.chain.specs.Settle.{active, best, tips};
 ghost use Rattle.activate.specs.CoreState.{Follows, coins_of};
-ghost use Rattle.view.specs.Origin.{Origin};
 ghost use Rattle.view.specs.ViewState.{IsExact, state_of};
 
+use crate::reader_home::ReaderHome;
 use activate::Core;
 use chain::{PreparedCommand, Reply};
 use coins::Changes;
 use connect::Env;
 use queue::{Crew, Gate};
 use std::alloc::Global;
-use view::{ChainInfo, Note, Tips, View, ViewReader, enter};
+use view::{ChainInfo, Naming, Note, Tips, View};
 use wire::Memory;
 
 /// Why no step was taken.
@@ -31,14 +30,12 @@ pub(crate) enum Refusal {
     Closed,
 }
 
-/// Whether another beginning of the same history is just as long. Then it is the same.
+/// Whether another beginning of the same history is just as long. Then it is the same, as one of them begins the other.
 fn is_whole(note: &Note, found: &Note) -> bool
     requires { found.now.book ≡ note.now.book }
-    ensures { (result ≡ true) → found.now.entries ≡ note.now.entries }
+    ensures { Decides result (found.now.entries ≡ note.now.entries) }
 {
-    if !note.begins(found) {
-        return false;
-    }
+    let _either = note.begins(found);
     note.len() == found.len()
 }
 
@@ -82,21 +79,21 @@ fn step_over_view<C: Crew>(
 }
 
 /// Takes a command over the coins that the reader finds, if just this history is published.
-pub(crate) fn step_by_reader<C: Crew>(
+pub(crate) fn step_by_reader<J: Naming, C: Crew>(
     alloc: Global,
-    home: &mut Option<ViewReader>,
+    home: &mut ReaderHome<J>,
     note: &Note,
     core: &mut Core,
     command: &PreparedCommand,
     env: &Env<'_, C>,
     gate: &(dyn Gate + Sync),
 ) -> Result<(Reply, Changes), Refusal>
-    requires origin { (o : Origin) × IfSome home.old (λ r. known r.place ≡ Some o)
-        × (note.now.book ≡ o.book) × (core.old.params ≡ o.params)
-        × (env.now.table.now ≡ o.triples) × (core.old.state ≡ state_of o note.now.entries) }
+    requires book { note.now.book ≡ J.origin.book }
+    requires params { core.old.params ≡ J.origin.params }
+    requires table { env.now.table.now ≡ J.origin.triples }
+    requires state { core.old.state ≡ state_of J.origin note.now.entries }
     requires follows { Follows core.old env.now.table.now }
-    ensures home { (o : Origin) → IfSome home.old (λ r. known r.place ≡ Some o)
-        → IfSome home.new (λ r. known r.place ≡ Some o) }
+    ensures home { home.new ≡ home.old }
     ensures outcome { IfOk result (λ done.
         (core.new.state, done.0)
         ≡ outcome (regtest core.old.params env.now.table.now) core.old.state
@@ -107,18 +104,11 @@ pub(crate) fn step_by_reader<C: Crew>(
     ensures follows { Follows core.new env.now.table.now }
     ensures err { OnErr result (core.new ≡ core.old) }
 {
-    let Some(reader) = home.take() else {
+    let Some(reading) = home.enter() else {
         return Err(Refusal::Closed);
     };
-    let reading = match enter(reader) {
-        Ok(reading) => reading,
-        Err(reader) => {
-            *home = Some(reader);
-            return Err(Refusal::Closed);
-        }
-    };
     let done = step_over_view(alloc, reading.get(), note, core, command, env, gate);
-    *home = Some(reading.leave());
+    home.leave(reading);
     done
 }
 

@@ -6,19 +6,10 @@ use Rattle.seats.proofs.OpeningViews.{exact_at_first}
 use Rattle.seats.proofs.inside.open_views.Goals as goal
 
 pub open_writer-requires-clause-exact : goal.open_writer-requires-clause-exact
-open_writer-requires-clause-exact c =
-    let t = arc_value c.in_ok-table.table in
+open_writer-requires-clause-exact g c =
+    let t = arc_value c.args.table in
     let f = (c.in_ok-core.ensures.follows t).0 in
     let n = c.in_ok-info.ensures in
-    let o : Origin = origin c.copy.result.book c.regtest-params.result t 1 in
+    let o : Origin = origin c.copy.result.book c.args.params t 1 in
     let exact : IsExact (opening_view o c.in_ok-info.info) = exact_at_first o c.in_ok-core.core c.in_ok-info.info c.in_ok-core.ensures.value (n.best t f) (n.height t f) (n.tips t f) in
     subst IsExact (sym c.new-first.ensures) exact
-
-pub returns-clause-exact : goal.returns-clause-exact
-returns-clause-exact c =
-    let t = arc_value c.in_ok-table.table in
-    let f = (c.in_ok-core.ensures.follows t).0 in
-    let n = c.in_ok-info.ensures in
-    let o : Origin = origin c.copy.result.book c.regtest-params.result t 1 in
-    let exact : IsExact (opening_view o c.in_ok-info.info) = exact_at_first o c.in_ok-core.core c.in_ok-info.info c.in_ok-core.ensures.value (n.best t f) (n.height t f) (n.tips t f) in
-    subst IsExact (sym (c.in_ok-writer.ensures.shown ∙ c.new-first.ensures)) exact

@@ -1,11 +1,5 @@
-use Rattle.view.proofs.Turns.{admits, tells, learns}
+use Rattle.view.proofs.Turns.{admits}
 use Rattle.view.proofs.publishing.another_reader.Goals as goal
 
 pub reader-requires : goal.reader-requires
-reader-requires c = admits
-
-pub tell-requires : goal.tell-requires
-tell-requires c = tells _ _
-
-pub learn-requires-clause-rule : goal.learn-requires-clause-rule
-learn-requires-clause-rule c = learns _ _ _ _
+reader-requires g c = admits _

@@ -1,12 +1,10 @@
-use Rattle.std.proofs.Common.{rules, ◌≡◌, List, [], ◌∷◌, ◌++◌, drop, sym, ap, subst, Some, ◌∙◌}
+use Rattle.std.proofs.Common.{rules, ◌≡◌, List, [], ◌∷◌, ◌++◌, drop, sym, ap, subst}
 use Rattle.std.proofs.lemmas.List.{append-nil}
-use Rattle.left_right.specs.Sides.{view as known}
 use mathlib.Core.List.{IsPrefix}
 use Rattle.view.specs.declared.publication.Publication.{Publication}
 use Rattle.view.specs.Following.{AllFollow}
 use Rattle.view.specs.ViewState.{ViewState, IsExact, after_publications}
-use Rattle.view.specs.Origin.{Origin}
-use Rattle.view.specs.laws.Exact.{only_grows, same_origin}
+use Rattle.view.specs.laws.Exact.{only_grows}
 use Rattle.view.proofs.Turns.{publishes_next}
 use Rattle.view.proofs.publishing.publish.Goals as goal
 
@@ -15,7 +13,7 @@ publish_as-writer-requires g c next is =
     let e = c.in_default.ensures in
     let here = ap (λ d. d.shown.value) e.desk in
     let all : List Publication = drop c.args.writer.behind c.args.writer.log.items ++ c.args.publication ∷ [] in
-    publishes_next _ _ _ next all (drop c.append.new.self.behind c.append.new.self.log.items) is e.pending
+    publishes_next _ _ _ _ next all (drop c.append.new.self.behind c.append.new.self.log.items) is e.pending
     (subst IsExact (sym here) c.requires.exact)
     (subst (λ (x : ViewState). AllFollow x all) (sym here) c.requires.follows)
 
@@ -37,12 +35,3 @@ pub returns-in-Err-shown-clause-grows : goal.returns-in-Err-shown-clause-grows
 returns-in-Err-shown-clause-grows g c =
     let same : c.publish_as-writer.result.0.desk.shown.value ≡ c.args.writer.desk.shown.value = search rules in
     same_grows c.args.writer.desk.shown.value c.publish_as-writer.result.0.desk.shown.value same
-
-pub returns-in-Ok-clause-known : goal.returns-in-Ok-clause-known
-returns-in-Ok-clause-known g c _ =
-    let was : ViewState = c.args.writer.desk.shown.value in
-    let now : ViewState = c.publish_as-writer.result.0.desk.shown.value in
-    let all : List Publication = drop c.args.writer.behind c.args.writer.log.items ++ c.args.publication ∷ [] in
-    let same : now ≡ after_publications was all = search rules in
-    let told : known c.publish_as-writer.result.0.desk.place ≡ Some now.origin = search rules in
-    told ∙ ap (λ (x : ViewState). Some x.origin) same ∙ ap (λ (o : Origin). Some o) (same_origin was all c.requires.follows)

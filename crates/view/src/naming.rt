@@ -1,0 +1,22 @@
+//! Which history a view is of, as the types say it.
+
+use std::marker::Brand;
+
+/// Which history it is, and what that is of. It is the type parameter of readers, of the writer, and of all that stands
+/// on them, so that only those of one history fit each other. No program implements it: `Brand` stands for any.
+pub trait Naming: Send + Sync {
+    ghost use Rattle.view.specs.Origin.{Origin};
+
+    ghost origin: { Origin };
+}
+
+impl Naming for Brand {
+    ghost use Rattle.std.specs.FinSet as set;
+
+    ghost origin = { record {
+      book = record { number = 0; log_name = 0; cells_name = 0 };
+      params = record { bip34 = 0; bip65 = 0; bip66 = 0; csv = 0 };
+      triples = set.empty;
+      seats = 0;
+    } };
+}

@@ -1,0 +1,292 @@
+"""Pairs of input and output scripts by chance, put to both: does the one spend the other?"""
+
+import random
+import struct
+from dataclasses import dataclass
+from typing import Callable, Iterator, List, NamedTuple, Sequence, Set, Tuple
+
+from wakotehu import consensus
+from wakotehu.encoding import (
+    Block, Header, Input, Output, Transaction, coinbase, hash160, merkle_root, push, push_number, signature_digest, subsidy,
+    write_block, write_transaction,
+)  # fmt: skip
+from wakotehu.signatures import Secp256k1, asked
+
+from .spelling import BITS
+from .trees import FINAL, TRUE
+
+#: Which rules are in force in blocks of a height, by the peer's heights.
+def flags_at(height: int) -> Set[str]:
+    return {name for name, first in (("CSV", 432), ("DERSIG", 1251), ("CLTV", 1351)) if height >= first}
+
+
+class Pair(NamedTuple):
+    """A spend: what is spent, and the transaction that spends it alone."""
+
+    spent: bytes
+    tx: Transaction
+
+
+#: Numbers round the edges of script numbers and of locks.
+EDGES = (
+    0, 1, -1, 2, 16, 17, 75, 76, 127, 128, -127, -128, 255, 256, 32767, 32768, -32768, 65535, 499999999, 500000000,
+    2**31 - 1, -(2**31 - 1), 2**31, -(2**31), 2**32, 2**39 - 1, 2**40,
+)  # fmt: skip
+
+SECRETS = [n.to_bytes(32, "big") for n in (3, 5, 7)]
+
+
+def number(value: int) -> bytes:
+    """A script number, spelled shortest."""
+    if value == 0:
+        return b""
+    size = abs(value)
+    out = bytearray(size.to_bytes((size.bit_length() + 7) // 8, "little"))
+    if out[-1] & 128:
+        out.append(0)
+    if value < 0:
+        out[-1] |= 128
+    return bytes(out)
+
+
+@dataclass
+class Author:
+    """Writes script pairs at random."""
+
+    chance: random.Random
+
+    def __post_init__(self) -> None:
+        self.secp = Secp256k1()
+        self.keys = [self.secp.public_key(s, compressed) for s in SECRETS for compressed in (True, False)]
+
+    # ---- pieces
+
+    def data(self) -> bytes:
+        kind = self.chance.random()
+        if kind < 0.5:
+            value = number(self.chance.choice(EDGES))
+            return value + b"\0" if kind < 0.03 else value
+        if kind < 0.6:
+            return self.chance.choice((b"\x80", b"\x00", b"\x00\x80", b"\x01\x00", b"\x00\x00\x80"))
+        if kind < 0.97:
+            return self.chance.randbytes(self.chance.choice((1, 2, 4, 5, 20, 32, 33)))
+        return self.chance.randbytes(self.chance.choice((75, 76, 255, 256, 519, 520, 521)))
+
+    def pushed(self) -> bytes:
+        data = self.data()
+        if data and len(data) < 5 and self.chance.random() < 0.1:
+            wide = self.chance.choice((1, 2, 4))
+            return bytes([{1: 0x4C, 2: 0x4D, 4: 0x4E}[wide]]) + len(data).to_bytes(wide, "little") + data
+        if len(data) == 1 and 1 <= data[0] <= 16 and self.chance.random() < 0.7:
+            return bytes([0x50 + data[0]])
+        return push(data) if data else b"\x00"
+
+    def any_code(self) -> bytes:
+        """Any opcodes."""
+        out = b""
+        for _ in range(self.chance.randrange(1, 14)):
+            out += self.pushed() if self.chance.random() < 0.5 else bytes([self.chance.randrange(0x4F, 0xBC)])
+        return out
+
+    def counted_code(self) -> bytes:
+        """Operations with as many elements as they take, most often."""
+        out = b""
+        for _ in range(self.chance.randrange(1, 5)):
+            takes, code = self.chance.choice(OPERATIONS)
+            takes += self.chance.choice((0, 0, 0, 0, -1, 1))
+            out += b"".join(self.pushed() for _ in range(max(takes, 0))) + bytes([code])
+        return out
+
+    def branching_code(self) -> bytes:
+        out, depth = b"", 0
+        for _ in range(self.chance.randrange(2, 16)):
+            draw = self.chance.random()
+            if draw < 0.3:
+                out += self.pushed() + self.chance.choice((b"\x63", b"\x64"))
+                depth += 1
+            elif draw < 0.45:
+                out += b"\x67"
+            elif draw < 0.65 and depth:
+                out += b"\x68"
+                depth -= 1
+            elif draw < 0.75:
+                out += bytes([self.chance.choice((0x50, 0x62, 0x65, 0x66, 0x7E, 0x89, 0x6A, 0xBA, 0xFF, 0xAB))])
+            else:
+                out += self.pushed()
+        return out + b"\x68" * (depth if self.chance.random() < 0.9 else depth - 1)
+
+    def long_code(self) -> bytes:
+        """At the limits: operations, elements, bytes."""
+        kind = self.chance.randrange(5)
+        if kind == 0:
+            return b"\x61" * self.chance.choice((200, 201, 202)) + b"\x51"
+        if kind == 1:
+            return b"\x51" * self.chance.choice((999, 1000, 1001))
+        if kind == 2:
+            return push(bytes(self.chance.choice((519, 520, 521)))) + b"\x75\x51"
+        if kind == 3:
+            count = self.chance.choice((998, 999, 1000))
+            return b"\x51" * count + b"\x6b" * self.chance.choice((0, 1, 2)) + b"\x76"
+        rest = self.chance.choice((9999, 10000, 10001)) - 1
+        return (push(bytes(500)) + b"\x75") * (rest // 504) + b"\x61" * (rest % 504 % 200) + b"\x51"
+
+    def lock_code(self) -> bytes:
+        value = self.chance.choice(EDGES + (100, 1296688602, 1 << 22, (1 << 22) | 5, 1 << 31))
+        return (push(number(value)) if value else b"\x00") + self.chance.choice((b"\xb1", b"\xb2")) + b"\x75\x51"
+
+    def code(self) -> bytes:
+        writers: Sequence[Callable[[], bytes]] = (
+            self.any_code, self.any_code, self.counted_code, self.counted_code, self.branching_code, self.lock_code,
+        )  # fmt: skip
+        if self.chance.random() < 0.03:
+            return self.long_code()
+        code = self.chance.choice(writers)()
+        if self.chance.random() < 0.5:
+            code += b"\x51"
+        return code[: self.chance.randrange(len(code) + 1)] if self.chance.random() < 0.05 else code
+
+    # ---- outputs
+
+    def output(self) -> bytes:
+        """What is spent."""
+        draw = self.chance.random()
+        if draw < 0.35:
+            return self.signed_output()
+        code = self.code()
+        if draw < 0.45 and len(code) <= 520:
+            return b"\xa9\x14" + hash160(code) + b"\x87"
+        return code[:10000]
+
+    def signed_output(self) -> bytes:
+        kind = self.chance.randrange(5)
+        key = self.key()
+        if kind == 0:
+            return push(key) + b"\xac"
+        if kind == 1:
+            return b"\x76\xa9\x14" + hash160(key) + b"\x88\xac"
+        if kind == 2:
+            return push(key) + b"\xad" + self.chance.choice((b"\xab", b"")) + push(self.key()) + b"\xac"
+        if kind == 3:
+            return push(key) + self.chance.choice((b"\xab\xac", b"\x00\x63\xab\x68\xac", b"\xac\x91", b"\xac\xab"))
+        keys = [self.key() for _ in range(self.chance.choice((1, 2, 3, 3, 5)))]
+        wanted = self.chance.randrange(len(keys) + 1)
+        count = len(keys) + self.chance.choice((0, 0, 0, 0, 0, 0, 1, -1))
+        return push_number(wanted) + b"".join(map(push, keys)) + push_number(max(count, 0)) + self.chance.choice((b"\xae", b"\xaf\x51"))
+
+    def key(self) -> bytes:
+        key = self.chance.choice(self.keys)
+        draw = self.chance.random()
+        if draw < 0.03:
+            return b"\x06" + key[1:] if len(key) == 65 else b"\x05" + key[1:]
+        return key[:-1] if draw < 0.05 else key
+
+    # ---- inputs
+
+    def spend(self, spent: bytes, outpoint: Tuple[bytes, int], value: int, height: int, time: int) -> Transaction:
+        """A transaction that spends an output, and is final at a height."""
+        version = self.chance.choice((1, 2, 2, 3, -1))
+        sequence = self.chance.choice((FINAL, FINAL - 1, 0, 1, 5, 1 << 22, (1 << 22) | 5, 1 << 31, 65535))
+        lock = self.chance.choice((0, 0, 1, 100, height - 1, time - 100000)) if sequence != FINAL else self.chance.choice((0, 2**32 - 1, 600000000))
+        if height >= 432 and version in (2, 3, -1) and not sequence & 1 << 31:
+            # The lock of BIP 68 has to be met by a coin of the block below.
+            sequence &= 1 << 22 | 1 if self.chance.random() < 0.9 else FINAL
+            sequence &= ~(1 << 22)
+        outputs = [Output(value // 2, TRUE)] * self.chance.choice((1, 1, 2))
+        tx = Transaction(version, [Input(*outpoint, b"", sequence)], outputs, lock)
+        return tx._replace(inputs=[tx.inputs[0]._replace(script=self.input(spent, tx))])
+
+    def input(self, spent: bytes, tx: Transaction) -> bytes:
+        if b"\xac" in spent[-3:] or spent[-1:] == b"\xae" or spent[-2:-1] in (b"\xaf", b"\xac"):
+            if self.chance.random() < 0.95:
+                return self.signatures(spent, tx)
+        draw = self.chance.random()
+        if draw < 0.4:
+            return b""
+        if draw < 0.9:
+            return b"".join(self.pushed() for _ in range(self.chance.randrange(4)))
+        return self.code()
+
+    def signatures(self, spent: bytes, tx: Transaction) -> bytes:
+        count = 1
+        out = b""
+        if spent[-1:] == b"\xae" or spent[-2:-1] == b"\xaf":
+            count = spent[0] - 0x50 if 0x51 <= spent[0] <= 0x60 else 0
+            out = self.chance.choice((b"\x00", b"\x00", b"\x00", b"\x51", b""))
+        if b"\xad" in spent:
+            count = 2
+        count += self.chance.choice((0,) * 12 + (1, -1))
+        secrets = sorted(self.chance.choices(SECRETS, k=max(count, 0)))
+        for secret in secrets:
+            out += self.signature(spent, tx, secret)
+        if spent[:1] == b"\x76":
+            out += push(self.chance.choice(self.keys))
+        return out
+
+    def signature(self, spent: bytes, tx: Transaction, secret: bytes) -> bytes:
+        kind = self.chance.choice((1, 1, 2, 3, 0x81, 0x82, 0x83, self.chance.randrange(256)))
+        code = spent
+        if b"\xab" in spent and self.chance.random() < 0.5:
+            code = spent[spent.index(b"\xab") + 1 :]
+        signature = self.secp.sign(secret, signature_digest(tx, 0, code, kind))
+        draw = self.chance.random()
+        if draw < 0.25:
+            signature = self.altered(signature)
+        full = signature + bytes([kind])
+        if draw > 0.97:
+            full = self.chance.choice((b"", full[:-1], full + b"\0", b"\x30"))
+        return push(full) if full else b"\x00"
+
+    def altered(self, signature: bytes) -> bytes:
+        """Another spelling, or another signature."""
+        data = bytearray(signature)
+        kind = self.chance.randrange(6)
+        if kind == 0:
+            data[self.chance.randrange(len(data))] ^= 1 << self.chance.randrange(8)
+        elif kind == 1:
+            data.append(0)
+        elif kind == 2:
+            length = data[3]
+            data[3] += 1
+            data[1] += 1
+            data[4:4] = b"\0"
+            if self.chance.random() < 0.3:
+                data[3] = length
+        elif kind == 3:
+            data[1:2] = b"\x81" + data[1:2]
+        elif kind == 4:
+            length = data[3]
+            order = 0xFFFFFFFFFFFFFFFFFFFFFFFFFFFFFFFEBAAEDCE6AF48A03BBFD25E8CD0364141
+            low = int.from_bytes(data[6 + length :], "big")
+            high = number(order - low)[::-1]
+            data[5 + length :] = bytes([len(high)]) + high
+            data[1] = len(data) - 2
+        else:
+            data[0] ^= 1
+        return bytes(data)
+
+
+#: Operations, each with how many elements it takes.
+OPERATIONS: Tuple[Tuple[int, int], ...] = (
+    (1, 0x69), (0, 0x6A), (1, 0x6B), (0, 0x6C), (2, 0x6D), (2, 0x6E), (3, 0x6F), (4, 0x70), (6, 0x71), (4, 0x72), (1, 0x73),
+    (0, 0x74), (1, 0x75), (1, 0x76), (2, 0x77), (2, 0x78), (3, 0x79), (3, 0x7A), (3, 0x7B), (2, 0x7C), (2, 0x7D), (1, 0x82),
+    (2, 0x87), (2, 0x88), (1, 0x8B), (1, 0x8C), (1, 0x8F), (1, 0x90), (1, 0x91), (1, 0x92), (2, 0x93), (2, 0x94), (2, 0x9A),
+    (2, 0x9B), (2, 0x9C), (2, 0x9D), (2, 0x9E), (2, 0x9F), (2, 0xA0), (2, 0xA1), (2, 0xA2), (2, 0xA3), (2, 0xA4), (3, 0xA5),
+    (1, 0xA6), (1, 0xA7), (1, 0xA8), (1, 0xA9), (1, 0xAA), (2, 0xAC), (2, 0xAD), (0, 0x61), (0, 0xB0), (0, 0xB3),
+)  # fmt: skip
+
+
+def table_of(pair: Pair, secp: Secp256k1) -> bytes:
+    """The signatures that are valid, of those that the scripts can ask for."""
+    return "".join(triple.line for triple in asked(pair.tx, 0, pair.spent) if secp.valid(triple)).encode()
+
+
+def ours(pair: Pair, height: int, secp: Secp256k1) -> bool:
+    """Whether ours accepts the spend in a block of a height."""
+    return consensus.verify(write_transaction(pair.tx), 0, pair.spent, flags_at(height), table_of(pair, secp))
+
+
+def proposal(pair: Pair, value: int, height: int, time: int, parent: bytes) -> bytes:
+    """A block with the spend on the peer's best block, without work."""
+    fees = value - sum(out.value for out in pair.tx.outputs)
+    txs = [coinbase(height, subsidy(height) + fees), pair.tx]
+    return write_block(Block(Header(4, parent, merkle_root([tx.id for tx in txs]), time, BITS, 0), txs))

@@ -1,0 +1,82 @@
+"""Blocks that stand in two chains: the same transactions, versions, times and faults, with each chain's own header."""
+
+import hashlib
+from dataclasses import dataclass, field
+from typing import Callable, Dict, List, Optional, Tuple
+
+from wakotehu.encoding import GENESIS, Block, Header, Transaction, double_sha, merkle_root, write_block, write_header
+
+from .peer import GENESIS_ID, has_work
+
+#: The genesis block, as the parent of a block.
+ROOT = -1
+
+BITS = 0x207FFFFF
+
+
+def has_work_here(header: bytes) -> bool:
+    """Whether a header meets the target of regtest by double SHA-256."""
+    return int.from_bytes(double_sha(header), "little") <= 0x7FFFFF << 232
+
+
+@dataclass
+class Logical:
+    """A block without its chain: which block it stands on (its number, or ROOT), and what its header has."""
+
+    parent: int
+    time: int
+    transactions: List[Transaction]
+    version: int = 4
+    bits: int = BITS
+    #: None for the root of the transactions.
+    root: Optional[bytes] = None
+    #: Whether its header meets the target.
+    works: bool = True
+    #: Bytes in the place of the transactions as they are written; what a fault of bytes needs.
+    body: Optional[bytes] = None
+    #: What stands behind the block.
+    behind: bytes = b""
+
+
+class Chain:
+    """The spellings of logical blocks in one chain."""
+
+    def __init__(self, genesis: bytes, works: Callable[[bytes], bool]) -> None:
+        self.genesis, self._works = genesis, works
+        self._spelled: Dict[int, Tuple[bytes, bytes]] = {}
+
+    def copy(self) -> "Chain":
+        """The same, so that other blocks may come behind those that were spelled."""
+        chain = Chain(self.genesis, self._works)
+        chain._spelled = dict(self._spelled)
+        return chain
+
+    def spell(self, blocks: List[Logical], number: int) -> Tuple[bytes, bytes]:
+        """A block's id and bytes."""
+        if number not in self._spelled:
+            block = blocks[number]
+            parent = self.genesis if block.parent == ROOT else self.spell(blocks, block.parent)[0]
+            self._spelled[number] = self._write(block, parent)
+        return self._spelled[number]
+
+    def id(self, blocks: List[Logical], number: int) -> bytes:
+        return self.genesis if number == ROOT else self.spell(blocks, number)[0]
+
+    def _write(self, block: Logical, parent: bytes) -> Tuple[bytes, bytes]:
+        root = merkle_root([tx.id for tx in block.transactions]) if block.root is None else block.root
+        header = Header(block.version, parent, root, block.time, block.bits, 0)
+        while self._works(write_header(header)) != block.works:
+            header = header._replace(nonce=header.nonce + 1)
+        spelled = write_header(header)
+        body = write_block(Block(header, block.transactions))[80:] if block.body is None else block.body
+        return double_sha(spelled), spelled + body + block.behind
+
+
+def ours() -> Chain:
+    """The chain of this project: Bitcoin's regtest."""
+    return Chain(GENESIS.id, has_work_here)
+
+
+def theirs() -> Chain:
+    """The chain of the peer."""
+    return Chain(GENESIS_ID, has_work)
