@@ -1,7 +1,8 @@
 -- A seat's own entries in a history that grows.
-use Rattle.std.proofs.Common.{◌&&◌, set, get_or, ◌≡◌, ℕ, zero, suc, ◌≤◌, Bool, true, false, cond, List, [], ◌∷◌, ◌++◌, length, take, drop, map, refl, ap, sym, ◌∙◌, subst, append_assoc}
+use Rattle.std.proofs.Common.{arith, ◌&&◌, ◌==◌, set, get_or, ◌≡◌, ℕ, zero, suc, ◌≤◌, Bool, true, false, cond, List, [], ◌∷◌, ◌++◌, length, take, drop, map, refl, ap, sym, ◌∙◌, subst, append_assoc}
 use Rattle.std.proofs.lemmas.List.{take-append-le, take-append-drop}
-use Rattle.std.specs.Prelude.{is_none, Some}
+use Rattle.std.proofs.lemmas.Bool.Decides.{nat_tests}
+use Rattle.std.specs.Prelude.{is_none, slice_get, Some}
 use mathlib.Core.List.{IsPrefix}
 use Rattle.chain.specs.declared.command.Command.{Command}
 use Rattle.chain.specs.declared.reply.Reply.{Reply}
@@ -71,3 +72,16 @@ own_begins n place seen owed =
     let xs = own_of n (take place seen) in
     let front : IsPrefix xs (own_of n seen) = (own_of n (drop place seen), sym (own_of-append n (take place seen) (drop place seen)) ∙ ap (own_of n) (take-append-drop place seen)) in
     subst (λ (l : List Entry). IsPrefix l (own_of n seen)) (sym (answered_behind xs (map (owed_entry n) owed) (owed_only n owed))) (begins_whole _ _ _ (answered_begin xs) front)
+
+-- what stands next among the owed ones, where it and those before it begin them
+next_owed : (n k : ℕ) (owed : List Command) (e : Entry) → k ≤ length owed → IsPrefix (map (owed_entry n) (take k owed) ++ e ∷ []) (map (owed_entry n) owed) → (c : Command) × (slice_get owed k ≡ Some c) × (e ≡ owed_entry n c)
+next_owed n zero [] e le p = absurd (cc (p.1))
+next_owed n zero (c ∷ cs) e le p = (c, refl, cc (p.1))
+next_owed n (suc k) [] e le p = absurd (omega arith)
+next_owed n (suc k) (c ∷ cs) e le p = next_owed n k cs e (omega arith) (p.0, cc (p.1))
+
+pub own_next : (n k : ℕ) (owed : List Command) (e : Entry) → k ≤ length owed → e.seat ≡ n → IsPrefix (map (owed_entry n) (take k owed) ++ own_of n (e ∷ [])) (map (owed_entry n) owed) → (c : Command) × (slice_get owed k ≡ Some c) × (e ≡ owed_entry n c)
+own_next n k owed e le same p =
+    let test : (e.seat == n) ≡ true = grind (arith, nat_tests) in
+    let one : own_of n (e ∷ []) ≡ e ∷ [] = ap (λ (b : Bool). cond b (e ∷ []) []) test in
+    next_owed n k owed e le (subst (λ (es : List Entry). IsPrefix (map (owed_entry n) (take k owed) ++ es) (map (owed_entry n) owed)) one p)

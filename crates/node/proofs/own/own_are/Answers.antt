@@ -1,8 +1,9 @@
-use Rattle.std.proofs.Common.{◌≡◌, ◌+◌, ◌++◌, ◌∷◌, [], take, ap, sym, ◌∙◌, arith}
-use Rattle.std.proofs.lemmas.List.{take_more}
+use Rattle.std.proofs.Common.{◌≡◌, ◌+◌, ◌++◌, ◌∷◌, [], take, drop, map, ap, sym, ◌∙◌, arith}
+use Rattle.std.proofs.lemmas.List.{take_more, take-append-drop}
 use Rattle.chain.specs.declared.entry.Entry.{Entry}
 use Rattle.chain.specs.History.{own_of}
 use Rattle.chain.specs.laws.History.{own_of-append}
+use Rattle.node.specs.Pass.{owed_entry}
 use Rattle.node.proofs.own.own_are.Goals as goal
 
 pub loop-entry-preserved : goal.loop-entry-preserved
@@ -17,3 +18,17 @@ loop-entry-preserved c =
       within = f.0;
       same = ap (own_of n) more ∙ own_of-append n before (e ∷ []) ∙ ap (λ l. l ++ own_of n (e ∷ [])) c.loop-entry.invariant.same ∙ sym f.1;
     }
+
+pub returns-in_default : goal.returns-in_default
+returns-in_default c =
+    let n = c.args.number in
+    let es = c.args.entries.now in
+    let i = c.loop-entry.entry-index in
+    let e = c.entry-item.result in
+    let before = take i es in
+    let more : take (i + 1) es ≡ before ++ e ∷ [] = take_more es i e (omega arith) ∙ ap (λ (x : Entry). before ++ x ∷ []) (sym c.entry-item.is) in
+    let with : own_of n (take (i + 1) es) ≡ map (owed_entry n) (take c.loop-entry.count c.args.owed.now) ++ own_of n (e ∷ []) =
+    ap (own_of n) more ∙ own_of-append n before (e ∷ []) ∙ ap (λ l. l ++ own_of n (e ∷ [])) c.loop-entry.invariant.same in
+    let split : own_of n (take (i + 1) es) ++ own_of n (drop (i + 1) es) ≡ own_of n es =
+    sym (own_of-append n (take (i + 1) es) (drop (i + 1) es)) ∙ ap (own_of n) (take-append-drop (i + 1) es) in
+    (λ h. absurd (cc h), λ equal. absurd (c.in_default.ensures (own_of n (drop (i + 1) es), ap (λ l. l ++ own_of n (drop (i + 1) es)) (sym with) ∙ split ∙ equal)))

@@ -12,7 +12,7 @@ use Rattle.node.proofs.Publications.{both_some, follows, last_found}
 use Rattle.node.proofs.published_history.PublishedHistory.publish_owed.Goals as goal
 
 pub attempt_to_publish-left-requires-clause-follows : goal.attempt_to_publish-left-requires-clause-follows
-attempt_to_publish-left-requires-clause-follows g c =
+attempt_to_publish-left-requires-clause-follows g c _ _ =
     let i = c.self.invariant in
     let s = c.self.inside in
     let o : Origin = g.J.Naming.origin in

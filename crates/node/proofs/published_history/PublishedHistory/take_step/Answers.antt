@@ -16,14 +16,17 @@ use Rattle.node.proofs.Kept.{Stepped, stayed_kept, stayed_reply, stayed_bytes, t
 use Rattle.node.proofs.Publications.{due_taken, if_some}
 use Rattle.node.proofs.published_history.PublishedHistory.take_step.Goals as goal
 
-pub step_by_reader-requires-clause-origin : goal.step_by_reader-requires-clause-origin
-step_by_reader-requires-clause-origin g c =
+pub step_by_reader-requires-clause-table : goal.step_by_reader-requires-clause-table
+step_by_reader-requires-clause-table g c _ _ = c.deref.ensures ∙ c.self.invariant.6
+
+pub step_by_reader-requires-clause-state : goal.step_by_reader-requires-clause-state
+step_by_reader-requires-clause-state g c _ _ =
     let i = c.self.invariant in
     let s = c.self.inside in
     let o : Origin = g.J.Naming.origin in
     let owed : s.owed ≡ false = ap (λ (h : PublishedState). h.owed) c.self.view_is ∙ c.requires.shown in
     let log : s.journal.items ≡ s.note.entries = rw owed at i.2 in
-    (o, i.3, i.5, i.0.params_are, c.deref.ensures ∙ i.6, i.0.state_is ∙ ap (λ (l : List Entry). state_of o l) log)
+    i.0.state_is ∙ ap (λ (l : List Entry). state_of o l) log
 
 pub invariant_of-self-then-not-is_step : goal.invariant_of-self-then-not-is_step
 invariant_of-self-then-not-is_step g c =
@@ -42,7 +45,7 @@ invariant_of-self-then-not-is_step g c =
       stayed_kept n (with_its_coins s.core) (with_its_coins core) s.journal.items c.args.token.now k r i.0 did none s.journal.items refl,
       i.1,
       i.2,
-      c.in_ok-reply.ensures.home o i.3,
+      c.in_ok-reply.ensures.home ∙ i.3,
       i.4,
       i.5,
       i.6,
@@ -92,7 +95,7 @@ invariant_of-self-2 g c =
       owed_core o s.core core s.journal.items c.args.token.now k r i.0 did some seat,
       i.1,
       (e, ap (λ (l : List Entry). l ++ e ∷ []) log),
-      c.in_ok-reply.ensures.home o i.3,
+      c.in_ok-reply.ensures.home ∙ i.3,
       if_some _ _ s.home (λ h p. (p.0, due_taken s.is_new h.writer.desk.shown.value _ o s.note.entries s.journal.items (s.journal.items ++ e ∷ []) s.changes c.in_ok-reply.changes p.0 (rw owed at p.1) log changes)) i.4,
       i.5,
       i.6,
