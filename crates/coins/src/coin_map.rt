@@ -1,9 +1,10 @@
 //! A plain map of coins.
 
-ghost use Rattle.std.specs.Prelude.{◌≡◌, IfOk, OnOk, OnErr, None, Some, true, is_some, IsSome};
+ghost use Rattle.std.specs.Prelude.{◌≡◌, ◌↔◌, ◌⊎◌, ◌≤◌, IfOk, IsTrue, OnOk, OnErr, None, Some, true, is_some, length, IsSome};
 ghost use Rattle.std.specs.FinMap as map;
-ghost use Rattle.coins.specs.Coins.{put};
+ghost use Rattle.coins.specs.Coins.{put, few_or_many};
 ghost use Rattle.coins.specs.inside.Changes.{Changed, Covered, HasRoomFor, comings};
+ghost use Rattle.coins.specs.inside.Shards.{many_from};
 ghost use Rattle.coins.specs.laws.Lookups.{entry_for};
 
 use crate::base::Base;
@@ -17,8 +18,8 @@ use std::mem;
 use txn::OutPoint;
 use wire::Memory;
 
-/// From so many coins on they stand in many small maps, some twelve in each. A node has room for fifteen, so with fewer
-/// in each much of it would be empty.
+/// A coin that comes where one map holds so many has them moved into many small maps, some twelve in each. A node has
+/// room for fifteen, so with fewer in each much of it would be empty.
 const MANY: usize = 102_400;
 
 /// A plain map of coins. A clause sees the finite map.
@@ -58,7 +59,7 @@ impl CoinMap {
         ensures ok { OnOk result (self.new ≡ map.insert self.old at coin) }
         ensures err { OnErr result (self.new ≡ self.old) }
     {
-        self.spread()?;
+        spread(self.alloc, &mut self.few, &mut self.many)?;
         match &mut self.many {
             Some(shards) => shards.insert(at, coin),
             None => put(&mut self.few, at, coin),
@@ -103,22 +104,28 @@ impl CoinMap {
             None => replace(&mut self.few, at, coin),
         }
     }
+}
 
-    /// Where the coins have become many they are moved into as many maps, once.
-    fn spread(&mut self) -> Result<(), Memory>
-        ensures { self.new ≡ self.old }
-    {
-        if self.many.is_some() || self.few.len() < MANY {
-            return Ok(());
-        }
-        let mut shards = rooms(self.alloc, &self.few)?;
-        move_all(
-            &mut shards,
-            mem::replace(&mut self.few, BTreeMap::new(self.alloc)),
-        );
-        self.many = Some(shards);
-        Ok(())
+/// Before a coin is put in: where the one map holds [`MANY`] coins or more, they are moved into many maps, once.
+fn spread(
+    alloc: Global,
+    few: &mut BTreeMap<OutPoint, Coin>,
+    many: &mut Option<Shards>,
+) -> Result<(), Memory>
+    ensures coins { few_or_many few.new.entries many.new ≡ few_or_many few.old.entries many.old }
+    // They stand in many maps from then on, and not before.
+    ensures moved { OnOk result (IsTrue (is_some many.new) ↔
+        (IsTrue (is_some many.old) ⊎ (many_from ≤ length few.old.entries))) }
+    ensures err { OnErr result
+        ((few.new.entries ≡ few.old.entries) × (many.new ≡ many.old)) }
+{
+    if many.is_some() || few.len() < MANY {
+        return Ok(());
     }
+    let mut shards = rooms(alloc, few)?;
+    move_all(&mut shards, mem::replace(few, BTreeMap::new(alloc)));
+    *many = Some(shards);
+    Ok(())
 }
 
 /// Many maps with some coin wherever one of these stands.

@@ -10,6 +10,10 @@ use Rattle.coins.specs.laws.Lookups.{entry_for}
 abbrev pub Maps : Type 0
 Maps = List (BTreeMap OutPoint Coin)
 
+-- a coin that comes where one map holds so many, or more, has them moved into many
+abbrev pub many_from : ℕ
+many_from = 102400
+
 -- the place of the map that an outpoint's coin stands in: the id's first 13 bits, so that the maps follow one another
 -- as their outpoints do
 abbrev pub place : OutPoint → ℕ
