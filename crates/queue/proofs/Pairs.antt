@@ -1,20 +1,28 @@
 -- Jobs and the verdicts that are of them.
-use Rattle.std.proofs.Common.{◌≡◌, inl, inr, ℕ, zero, suc, ◌-◌, Bool, List, [], ◌∷◌, ◌++◌, length, map, Option, Some, refl, sym, ap, subst, ◌∙◌, ⊎_elim}
-use Rattle.std.specs.Prelude.{◌⊎◌, IfSome, slice_get}
-use Rattle.std.specs.Option.{option_map}
-use Rattle.std.proofs.lemmas.Option.{slice_get-map}
+use Rattle.std.proofs.Common.{◌≡◌, inl, inr, ℕ, zero, suc, ◌-◌, ◌+◌, ◌<◌, ◌≤◌, Bool, true, false, cond, List, [], ◌∷◌, ◌++◌, length, get_or, map, Option, None, Some, refl, sym, ap, subst, ◌∙◌, ⊎_elim, arith}
+use Rattle.std.specs.Prelude.{◌⊎◌, IfSome, IfNone, IsSome, is_some, slice_get, slice_index_or}
+use Rattle.std.specs.Option.{option_map, option_and_then}
+use Rattle.std.proofs.lemmas.Option.{slice_get-map, slice_get_past, slice_get_read, get_or_from_slice_get}
+use Rattle.std.proofs.lemmas.Bool.{cases_eq}
+use Rattle.txn.specs.declared.input.TxIn.{TxIn}
 use Rattle.txn.specs.declared.tx.Tx.{Tx}
 use Rattle.curve.specs.Triple.{Triples}
 use Rattle.interp.specs.declared.flags.Flags.{Flags}
 use Rattle.interp.specs.declared.job.Job.{Job}
 use Rattle.queue.specs.declared.early_jobs.Listed.{Listed}
-use Rattle.queue.specs.declared.index.Start.{Start}
+use Rattle.queue.specs.declared.index.Key.{Key}
+use Rattle.queue.specs.declared.index.Slot.{Slot}
 use Rattle.queue.specs.Jobs.{Question, question, question_of, IsAnswer, AreNumbered, Spending, Batch, tx_at, questions, Answered}
-use Rattle.queue.specs.inside.Pairing.{spending_of, IsOf, BeginsWith, AreKnown}
+use Rattle.queue.specs.inside.Pairing.{spending_of, Fits, IsOfSame, Covers, first_outpoint, key_of, slot_for, AreKnown, AreAllKnown, answer_at}
 use Rattle.queue.proofs.Answering.{test_of}
 
-some_is : {A : Type 0} (x y : A) → ◌≡◌ {A = Option A} (Some x) (Some y) → x ≡ y
+pub some_is : {A : Type 0} (x y : A) → ◌≡◌ {A = Option A} (Some x) (Some y) → x ≡ y
 some_is x y h = cc
+
+below_or : (a b : ℕ) → (a < b) ⊎ (b ≤ a)
+below_or a zero = inr (omega arith)
+below_or zero (suc b) = inl (omega arith)
+below_or (suc a) (suc b) = ⊎_elim (λ h. inl (omega (arith, h))) (λ h. inr (omega (arith, h))) (below_or a b)
 
 -- an element of a list with one more
 pub slice_get-push : {A : Type 0} (xs : List A) (x : A) (k : ℕ) (y : A) → slice_get (xs ++ x ∷ []) k ≡ Some y → (slice_get xs k ≡ Some y) ⊎ ((k ≡ length xs) × (x ≡ y))
@@ -23,22 +31,94 @@ slice_get-push [] x (suc k) y h = absurd cc
 slice_get-push (z ∷ xs) x zero y h = inl h
 slice_get-push (z ∷ xs) x (suc k) y h = ⊎_elim (λ is. inl is) (λ (is : (k ≡ length xs) × (x ≡ y)). inr (ap (λ n. suc n) is.0, is.1)) (slice_get-push xs x k y h)
 
+-- what stood in it stays, and the one more stands last
+pub slice_get-before : {A : Type 0} (xs : List A) (x : A) (k : ℕ) → k < length xs → slice_get (xs ++ x ∷ []) k ≡ slice_get xs k
+slice_get-before [] x k h = absurd (omega arith)
+slice_get-before (z ∷ xs) x zero h = refl
+slice_get-before (z ∷ xs) x (suc k) h = slice_get-before xs x k (omega arith)
+
+pub slice_get-last : {A : Type 0} (xs : List A) (x : A) → slice_get (xs ++ x ∷ []) (length xs) ≡ Some x
+slice_get-last [] x = refl
+slice_get-last (z ∷ xs) x = slice_get-last xs x
+
 -- ---- what is listed
 
 abbrev pub batch_of : List Tx → Flags → List Listed → Batch
 batch_of txs flags items = record { txs = txs; flags = flags; spendings = map spending_of items }
 
--- what is found asks what the job asks
-pub question_found : (txs : List Tx) (flags : Flags) (items : List Listed) (begin at : ℕ) (first listed : Listed) (job : Job)
-    → slice_get items begin ≡ Some first → slice_get items at ≡ Some listed → listed.place ≡ first.place → listed.input ≡ job.input → listed.spent.items ≡ job.spent.now → flags ≡ job.flags
-    → IsOf (batch_of txs flags items) begin job.tx.now → slice_get (questions (batch_of txs flags items)) at ≡ Some (question_of job)
-question_found txs flags items begin at first listed job at_first at_listed place input spent rules of =
-    let q : Spending → Question = (λ s. question (tx_at txs s.place) s.input s.spent flags) in
-    let tx : tx_at txs listed.place ≡ job.tx.now = ap (tx_at txs) place ∙ of (spending_of first) (slice_get-map spending_of items begin ∙ ap (option_map spending_of) at_first) in
-    let same : q (spending_of listed) ≡ question_of job = (λ i. question (tx i) (input i) (spent i) (rules i)) in
-    slice_get-map q (map spending_of items) at
-    ∙ ap (option_map q) (slice_get-map spending_of items at ∙ ap (option_map spending_of) at_listed)
-    ∙ ap (λ (x : Question). Some x) same
+abbrev pub asks : Batch → Spending → Question
+asks batch s = question (tx_at batch.txs s.place) s.input s.spent batch.flags
+
+-- what is asked at a place is asked by what is listed there
+pub asked_at : (batch : Batch) (at : ℕ) (q : Question) → slice_get (questions batch) at ≡ Some q → (s : Spending) × (slice_get batch.spendings at ≡ Some s) × (asks batch s ≡ q)
+asked_at batch at q h = by (slice_get batch.spendings at) refl
+  where
+    by : (s : Option Spending) → slice_get batch.spendings at ≡ s → (s : Spending) × (slice_get batch.spendings at ≡ Some s) × (asks batch s ≡ q)
+    by (Some s) is = (s, is, some_is (asks batch s) q (sym (slice_get-map (asks batch) batch.spendings at ∙ ap (option_map (asks batch)) is) ∙ h))
+    by None is =
+        let both : ◌≡◌ {A = Option Question} None (Some q) = sym (slice_get-map (asks batch) batch.spendings at ∙ ap (option_map (asks batch)) is) ∙ h in absurd cc
+
+pub listed_asks : (batch : Batch) (at : ℕ) (s : Spending) → slice_get batch.spendings at ≡ Some s → slice_get (questions batch) at ≡ Some (asks batch s)
+listed_asks batch at s is = slice_get-map (asks batch) batch.spendings at ∙ ap (option_map (asks batch)) is
+
+-- it asks what the job asks, but maybe of another transaction
+abbrev pub AsksButForTx : Batch → ℕ → Job → Type 0
+AsksButForTx batch at job = (s : Spending) × (slice_get batch.spendings at ≡ Some s) × (s.input ≡ job.input) × (s.spent ≡ job.spent.now) × (batch.flags ≡ job.flags)
+
+abbrev pub IsOf : Batch → ℕ → Tx → Type 0
+IsOf batch at tx = (s : Spending) × (slice_get batch.spendings at ≡ Some s) × (tx_at batch.txs s.place ≡ tx)
+
+pub fits_from : (batch : Batch) (at : ℕ) (job : Job) → AsksButForTx batch at job → IsOf batch at job.tx.now → slice_get (questions batch) at ≡ Some (question_of job)
+fits_from batch at job h of =
+    let same : of.0 ≡ h.0 = some_is of.0 h.0 (sym of.1 ∙ h.1) in
+    let tx : tx_at batch.txs h.0.place ≡ job.tx.now = subst (λ (s : Spending). tx_at batch.txs s.place ≡ job.tx.now) same of.2 in
+    let is : asks batch h.0 ≡ question_of job = (λ i. question (tx i) (h.2 i) (h.3 i) (h.4 i)) in
+    listed_asks batch at h.0 h.1 ∙ ap (λ (x : Question). Some x) is
+
+pub fits_parts : (batch : Batch) (at : ℕ) (job : Job) → slice_get (questions batch) at ≡ Some (question_of job) → AsksButForTx batch at job × IsOf batch at job.tx.now
+fits_parts batch at job h =
+    let a = asked_at batch at (question_of job) h in (
+      (a.0, a.1, ap (λ (q : Question). q.input) a.2, ap (λ (q : Question). q.spent) a.2, ap (λ (q : Question). q.flags) a.2),
+      (a.0, a.1, ap (λ (q : Question). q.tx) a.2),
+    )
+
+-- of the transaction of another place
+pub fits_like : (batch : Batch) (one at : ℕ) (q : Question) (job : Job) → slice_get (questions batch) one ≡ Some q → q.tx ≡ job.tx.now
+    → ((s t : Spending) → slice_get batch.spendings one ≡ Some s → slice_get batch.spendings at ≡ Some t → s.place ≡ t.place)
+    → AsksButForTx batch at job → slice_get (questions batch) at ≡ Some (question_of job)
+fits_like batch one at q job there tx same h =
+    let a = asked_at batch one q there in
+    fits_from batch at job h (h.0, h.1, ap (tx_at batch.txs) (sym (same a.0 h.0 a.1 h.1)) ∙ ap (λ (x : Question). x.tx) a.2 ∙ tx)
+
+-- ---- the slots of all verdicts
+
+-- of the verdicts of the first so many lists
+abbrev pub CoversBelow : List Answered → ℕ → List (Key × Slot) → Type 0
+CoversBelow verdicts n entries = (slot : Slot) (q : Question) → slot.verdicts < n → Fits verdicts slot q → IsSome (slot_for entries (key_of q))
+
+pub covers_next : (verdicts : List Answered) (old new : List (Key × Slot)) (n : ℕ) (own : Answered) → slice_get verdicts n ≡ Some own
+    → ((place : ℕ) (q : Question) → slice_get (questions own.batch) place ≡ Some q → IsSome (slot_for new (key_of q)))
+    → ((key : Key) → IsSome (slot_for old key) → IsSome (slot_for new key))
+    → CoversBelow verdicts n old → CoversBelow verdicts (n + 1) new
+covers_next verdicts old new n own there its others before slot q low fits =
+    ⊎_elim
+    (λ (e : slot.verdicts ≡ n).
+    let same : fits.own ≡ own = some_is fits.own own (sym fits.there ∙ ap (slice_get verdicts) e ∙ there) in
+    its slot.place q (subst (λ (a : Answered). slice_get (questions a.batch) slot.place ≡ Some q) same fits.asked))
+    (λ (other : slot.verdicts ≡ n → ⊥). others (key_of q) (before slot q (omega (arith, low, other)) fits))
+    (cases_eq slot.verdicts n)
+
+pub covers_all : (verdicts : List Answered) (entries : List (Key × Slot)) (n : ℕ) → length verdicts ≤ n → CoversBelow verdicts n entries → Covers verdicts entries
+covers_all verdicts entries n all below slot q fits =
+    ⊎_elim
+    (λ (h : slot.verdicts < n). below slot q h fits)
+    (λ (h : n ≤ slot.verdicts). let none : ◌≡◌ {A = Option Answered} None (Some fits.own) = sym (slice_get_past verdicts slot.verdicts (omega (arith, h, all))) ∙ fits.there in absurd cc)
+    (below_or slot.verdicts n)
+
+-- an entry stays, or another comes in its place
+pub stays_some : {A : Type 0} (b : Bool) (v : A) (o : Option A) → IsSome o → IsSome (cond b (Some v) o)
+stays_some true v o h = refl
+stays_some false v o h = h
 
 -- ---- answers in order
 
@@ -54,10 +134,117 @@ known_next triples jobs known place job answer are count is right k other said a
     test_of triples other said (subst (λ (j : Job). IsAnswer (question_of j) triples said) same (subst (λ (o : Option Bool). IfSome o (λ b. IsAnswer (question_of job) triples b)) last.1 right)))
     (slice_get-push known answer k (Some said) known_k)
 
+-- of the first so many jobs, each that a verdict fits has its answer
+abbrev pub AllKnownBelow : List Answered → List Job → ℕ → List (Option Bool) → Type 0
+AllKnownBelow verdicts jobs n known =
+    (place : ℕ) (job : Job) (slot : Slot) → place < n → slice_get jobs place ≡ Some job → Fits verdicts slot (question_of job) → IsSome (answer_at known place)
+
+pub all_next : (verdicts : List Answered) (jobs : List Job) (known : List (Option Bool)) (n : ℕ) (job : Job) (answer : Option Bool)
+    → length known ≡ n → slice_get jobs n ≡ Some job → ((slot : Slot) → Fits verdicts slot (question_of job) → IsSome answer)
+    → AllKnownBelow verdicts jobs n known → AllKnownBelow verdicts jobs (n + 1) (known ++ answer ∷ [])
+all_next verdicts jobs known n job answer count is found below place other slot low there fits =
+    ⊎_elim
+    (λ (e : place ≡ n).
+    let same : other ≡ job = some_is other job (sym there ∙ ap (slice_get jobs) e ∙ is) in
+    let some : IsSome answer = found slot (subst (λ (j : Job). Fits verdicts slot (question_of j)) same fits) in
+    subst (λ (o : Option (Option Bool)). IsSome (option_and_then (λ a. a) o)) (sym (ap (slice_get (known ++ answer ∷ [])) (e ∙ sym count) ∙ slice_get-last known answer)) some)
+    (λ (ne : place ≡ n → ⊥).
+    subst (λ (o : Option (Option Bool)). IsSome (option_and_then (λ a. a) o)) (sym (slice_get-before known answer place (omega (arith, low, ne, count))))
+    (below place other slot (omega (arith, low, ne)) there fits))
+    (cases_eq place n)
+
+pub all_known : (verdicts : List Answered) (jobs : List Job) (known : List (Option Bool)) (n : ℕ) → length jobs ≤ n → AllKnownBelow verdicts jobs n known → AreAllKnown verdicts jobs known
+all_known verdicts jobs known n all below place job slot there fits =
+    ⊎_elim
+    (λ (h : place < n). below place job slot h there fits)
+    (λ (h : n ≤ place). let none : ◌≡◌ {A = Option Job} None (Some job) = sym (slice_get_past jobs place (omega (arith, h, all))) ∙ there in absurd cc)
+    (below_or place n)
+
+-- without verdicts none fits
+pub none_fits : (verdicts : List Answered) (jobs : List Job) (known : List (Option Bool)) → verdicts ≡ [] → AreAllKnown verdicts jobs known
+none_fits verdicts jobs known none place job slot there fits =
+    let h : ◌≡◌ {A = Option Answered} None (Some fits.own) = sym (slice_get_past verdicts slot.verdicts (subst (λ (l : List Answered). length l ≤ slot.verdicts) (sym none) (omega arith))) ∙ fits.there in absurd cc
+
 -- a job that goes on is of the transaction of the job before it
-pub same_start : (verdicts : List Answered) (numbers : List ℕ) (jobs : List Job) (place number : ℕ) (start : Option Start) (before job : Job)
+pub same_tx : (verdicts : List Answered) (numbers : List ℕ) (jobs : List Job) (place number : ℕ) (slot : Option Slot) (before job : Job)
     → AreNumbered numbers jobs → slice_get numbers (place - 1) ≡ Some number → slice_get numbers place ≡ Some number
     → slice_get jobs (place - 1) ≡ Some before → slice_get jobs place ≡ Some job
-    → IfSome start (λ s. BeginsWith verdicts s before.tx.now) → IfSome start (λ s. BeginsWith verdicts s job.tx.now)
-same_start verdicts numbers jobs place number start before job numbered at_before at_place is_before is h =
-    subst (λ (tx : Tx). IfSome start (λ s. BeginsWith verdicts s tx)) (numbered (place - 1) place number before job is_before is at_before at_place) h
+    → IfSome slot (λ s. Fits verdicts s (question_of before)) → IfSome slot (λ s. IsOfSame verdicts s job.tx.now)
+same_tx verdicts numbers jobs place number None before job numbered at_before at_place is_before is h = tt
+same_tx verdicts numbers jobs place number (Some s) before job numbered at_before at_place is_before is h =
+    (question_of before, h, numbered (place - 1) place number before job is_before is at_before at_place)
+
+-- ---- tests of what is listed
+
+-- a transaction that is read
+pub tx_read : (txs : List Tx) (place : ℕ) (tx : Tx) → place < length txs → tx ≡ get_or txs place tx → tx_at txs place ≡ tx
+tx_read txs place tx within is = get_or_from_slice_get txs place tx _ (slice_get_read txs (length txs) place tx refl within is)
+
+-- where a test tells of what is listed at a place all that it has to be, it tells of the place
+pub test_at : (batch : Batch) (at : ℕ) (s : Spending) (P : Spending → Type 0) (test : Bool) → slice_get batch.spendings at ≡ Some s → (test ≡ true → P s) → (P s → test ≡ true)
+    → (test ≡ true → (x : Spending) × (slice_get batch.spendings at ≡ Some x) × P x) × (((x : Spending) × (slice_get batch.spendings at ≡ Some x) × P x) → test ≡ true)
+test_at batch at s P test there to from = (
+  λ t. (s, there, to t),
+  λ h. from (subst P (some_is h.0 s (sym h.1 ∙ there)) h.2),
+)
+
+-- the first of some inputs
+pub first_of : (inputs : List TxIn) (input : TxIn) → 0 < length inputs → (slice_index_or inputs 0 input).prev ≡ first_outpoint inputs
+first_of [] input h = absurd (omega arith)
+first_of (i ∷ inputs) input h = refl
+
+-- a slot that was looked for is found where a verdict fits
+pub some_where_fits : (verdicts : List Answered) (q : Question) (slot : Option Slot) (answer : Option Bool) → IfNone slot ((s : Slot) → ¬ Fits verdicts s q) → (IsSome slot → IsSome answer)
+    → (s : Slot) → Fits verdicts s q → IsSome answer
+some_where_fits verdicts q None answer none some s fits = absurd (none s fits)
+some_where_fits verdicts q (Some found) answer none some s fits = some refl
+
+-- where no slot has a job's key, no verdict fits it
+pub none_without_slot : (verdicts : List Answered) (entries : List (Key × Slot)) (q : Question) (key : Key) → Covers verdicts entries → ◌≡◌ {A = Key} key (key_of q) → slot_for entries key ≡ None
+    → (slot : Slot) → ¬ Fits verdicts slot q
+none_without_slot verdicts entries q key covers is none slot fits =
+    let some : IsSome (slot_for entries (key_of q)) = covers slot q fits in
+    let both : false ≡ true = sym (ap is_some (ap (slot_for entries) (sym is) ∙ none)) ∙ some in cc
+
+pub if_none : {A : Type 0} (o : Option A) (P : Type 0) → P → IfNone o P
+if_none None P p = p
+if_none (Some x) P p = tt
+
+-- of the first so many lists and one more
+pub none_next : (verdicts : List Answered) (n : ℕ) (own : Answered) (q : Question) → slice_get verdicts n ≡ Some own → ((at : ℕ) → ¬ (slice_get (questions own.batch) at ≡ Some q))
+    → ((slot : Slot) → slot.verdicts < n → ¬ Fits verdicts slot q) → (slot : Slot) → slot.verdicts < n + 1 → ¬ Fits verdicts slot q
+none_next verdicts n own q there none before slot low fits =
+    ⊎_elim
+    (λ (e : slot.verdicts ≡ n).
+    let same : fits.own ≡ own = some_is fits.own own (sym fits.there ∙ ap (slice_get verdicts) e ∙ there) in
+    none slot.place (subst (λ (a : Answered). slice_get (questions a.batch) slot.place ≡ Some q) same fits.asked))
+    (λ (other : slot.verdicts ≡ n → ⊥). before slot (omega (arith, low, other)) fits)
+    (cases_eq slot.verdicts n)
+
+pub none_all : (verdicts : List Answered) (n : ℕ) (q : Question) → length verdicts ≤ n → ((slot : Slot) → slot.verdicts < n → ¬ Fits verdicts slot q) → (slot : Slot) → ¬ Fits verdicts slot q
+none_all verdicts n q all before slot fits =
+    ⊎_elim
+    (λ (h : slot.verdicts < n). before slot h fits)
+    (λ (h : n ≤ slot.verdicts). let none : ◌≡◌ {A = Option Answered} None (Some fits.own) = sym (slice_get_past verdicts slot.verdicts (omega (arith, h, all))) ∙ fits.there in absurd cc)
+    (below_or slot.verdicts n)
+
+-- of the first so many places and one more
+pub own_next : (batch : Batch) (n : ℕ) (key : Key) (new : List (Key × Slot)) → ((q : Question) → slice_get (questions batch) n ≡ Some q → ◌≡◌ {A = Key} key (key_of q)) → IsSome (slot_for new key)
+    → ((at : ℕ) (q : Question) → at < n → slice_get (questions batch) at ≡ Some q → IsSome (slot_for new (key_of q)))
+    → (at : ℕ) (q : Question) → at < n + 1 → slice_get (questions batch) at ≡ Some q → IsSome (slot_for new (key_of q))
+own_next batch n key new is some before at q low asked =
+    ⊎_elim
+    (λ (e : at ≡ n). subst (λ (k : Key). IsSome (slot_for new k)) (is q (sym (ap (slice_get (questions batch)) e) ∙ asked)) some)
+    (λ (other : at ≡ n → ⊥). before at q (omega (arith, low, other)) asked)
+    (cases_eq at n)
+
+pub own_all : (batch : Batch) (n : ℕ) (new : List (Key × Slot)) → length batch.spendings ≤ n
+    → ((at : ℕ) (q : Question) → at < n → slice_get (questions batch) at ≡ Some q → IsSome (slot_for new (key_of q)))
+    → (at : ℕ) (q : Question) → slice_get (questions batch) at ≡ Some q → IsSome (slot_for new (key_of q))
+own_all batch n new all before at q asked =
+    ⊎_elim
+    (λ (h : at < n). before at q h asked)
+    (λ (h : n ≤ at).
+    let a = asked_at batch at q asked in
+    let none : ◌≡◌ {A = Option Spending} None (Some a.0) = sym (slice_get_past batch.spendings at (omega (arith, h, all))) ∙ a.1 in absurd cc)
+    (below_or at n)

@@ -96,6 +96,7 @@ impl Crew for Alone {
         let known = known_answers(alloc, jobs, numbers, verdicts, table)?;
         let list = JobList {
             jobs,
+            verdicts,
             table,
             known: &known,
         };

@@ -1,6 +1,6 @@
 //! Answers that are got before they are asked for.
 
-ghost use Rattle.std.specs.Prelude.{◌≡◌, ℕ, Bool, ◌<◌, ◌≤◌, ◌^◌, IfOk, IfSome, MatchBool, Some, length, map, slice_get, vec_len};
+ghost use Rattle.std.specs.Prelude.{◌≡◌, ℕ, Bool, ◌<◌, ◌≤◌, ◌^◌, IfOk, IfSome, MatchBool, None, Some, length, map, slice_get, vec_len};
 ghost use Rattle.queue.specs.Jobs.{AreAnswers, questions};
 
 use crate::early_jobs::EarlyJobs;
@@ -51,6 +51,7 @@ fn early_answers<R: Threads + Sync, G: Gate + Sync>(
     let jobs = jobs.jobs(alloc)?;
     let list = JobList {
         jobs: &jobs,
+        verdicts: &[],
         table,
         known: &[],
     };
@@ -80,7 +81,8 @@ fn answers<R: Threads + Sync, G: Gate + Sync, C: Places + Sync>(
     workers: usize,
     gate: &G,
 ) -> Result<Vec<Option<bool>>, Memory>
-    requires { 0 < workers }
+    requires workers { 0 < workers }
+    requires unknown { (place : ℕ) → C.known_at list.now place ≡ None }
     ensures len { IfOk result (λ found. vec_len found ≡ C.count list.now) }
     ensures each { IfOk result (λ found. (place : ℕ) (yes : Bool) → slice_get found.items place ≡
         Some (Some yes) → MatchBool yes (C.accepts list.now place) (C.refuses list.now place)) }
@@ -91,7 +93,7 @@ fn answers<R: Threads + Sync, G: Gate + Sync, C: Places + Sync>(
         found.as_mut_slice(),
         workers,
         &|place: usize, slot: &mut Option<bool>|
-            requires { place < C.count list.now }
+            requires { (place < C.count list.now) × (C.known_at list.now place ≡ None) }
             ensures { IfSome slot.exit.now (λ yes.
                 MatchBool yes (C.accepts list.entry.now place) (C.refuses list.entry.now place)) }
         { *slot = run(alloc, list, place, gate).ok() },

@@ -1,11 +1,13 @@
 //! Inputs whose scripts are to be run before their block is connected.
 
-ghost use Rattle.std.specs.Prelude.{◌≡◌, ◌↔◌, [], ◌∷◌, ◌++◌, All, IfOk, IfSome, IsTrue, OnOk, OnErr, Some, length, map, slice_get};
+ghost use Rattle.std.specs.Prelude.{◌≡◌, ◌↔◌, ℕ, ◌<◌, [], ◌∷◌, ◌++◌, All, IfOk, IfSome, IsTrue, OnOk, OnErr, Some, length, map, slice_get};
+ghost use Rattle.std.specs.Option.{IfNone};
 
+use crate::index::Key;
 use interp::{Flags, Job};
 use std::alloc::Global;
 use std::marker::Model;
-use txn::{OutPoint, Tx};
+use txn::Tx;
 use wire::Memory;
 
 /// Inputs of transactions, each with a script of its own that it spends, under the same rules.
@@ -27,12 +29,12 @@ pub(crate) struct Listed {
 }
 
 impl Listed {
-    /// Whether it is of the transaction at this place, and of the input and the script of the job.
-    fn fits(&self, place: usize, job: &Job) -> bool
-        ensures { IsTrue result ↔ ((self.now.place ≡ place) ×
-            (self.now.input ≡ job.now.input) × (self.now.spent.items ≡ job.now.spent.now)) }
+    /// Whether it is of the input and the script of the job.
+    fn asks(&self, job: &Job) -> bool
+        ensures { IsTrue result ↔
+            ((self.now.input ≡ job.now.input) × (self.now.spent.items ≡ job.now.spent.now)) }
     {
-        self.place == place && self.input == job.input && self.spent.as_slice() == job.spent
+        self.input == job.input && self.spent.as_slice() == job.spent
     }
 }
 
@@ -56,8 +58,8 @@ impl<'t> Model for EarlyJobs<'t> {
 }
 
 impl<'t> EarlyJobs<'t> {
-    ghost use Rattle.queue.specs.Jobs.{HasInput, question_of, questions, spending, IsThere};
-    ghost use Rattle.queue.specs.inside.Pairing.{IsOf};
+    ghost use Rattle.queue.specs.Jobs.{HasInput, Question, Spending, question_of, questions, spending, tx_at, IsThere};
+    ghost use Rattle.queue.specs.inside.Pairing.{key_of};
 
     /// No input of these transactions.
     pub fn new(alloc: Global, txs: &'t [Tx], flags: Flags) -> EarlyJobs<'t>
@@ -117,20 +119,42 @@ impl<'t> EarlyJobs<'t> {
         Ok(jobs)
     }
 
-    /// The first outpoint that the transaction of the input at a place spends, if the input before it isn't of the
-    /// same transaction.
-    pub(crate) fn begins(&self, at: usize) -> Option<OutPoint> {
-        let place = self.list.get(at)?.place;
-        if at > 0 && self.list.get(at - 1)?.place == place {
-            return None;
+    /// By what the verdict on the input at a place is found.
+    pub(crate) fn key(&self, at: usize) -> Key
+        requires { at < length self.now.spendings }
+        ensures { (q : Question) → slice_get (questions self.now) at ≡ Some q → result ≡ key_of q }
+    {
+        let listed = &self.list[at];
+        Key {
+            outpoint: self.txs[listed.place].inputs.as_slice()[0].prev,
+            input: listed.input,
         }
-        let first = self.txs.get(place)?.inputs.as_slice().first()?;
-        Some(first.prev)
+    }
+
+    /// Whether the input at a place asks what the job asks: of an equal transaction the same input, which spends the same
+    /// script, under the same rules.
+    pub(crate) fn fits(&self, at: usize, job: &Job) -> bool
+        ensures { IsTrue result ↔ (slice_get (questions self.now) at ≡ Some (question_of job.now)) }
+    {
+        self.asks_but_for_tx(at, job) && self.is_of(at, job.tx)
+    }
+
+    /// The same, but of any transaction.
+    pub(crate) fn asks_but_for_tx(&self, at: usize, job: &Job) -> bool
+        ensures { IsTrue result ↔ ((s : Spending) × (slice_get self.now.spendings at ≡ Some s) ×
+            (s.input ≡ job.now.input) × (s.spent ≡ job.now.spent.now) ×
+            (self.now.flags ≡ job.now.flags)) }
+    {
+        let Some(listed) = self.list.get(at) else {
+            return false;
+        };
+        listed.asks(job) && self.flags == job.flags
     }
 
     /// Whether the input at a place is of an equal transaction.
-    pub(crate) fn is_of(&self, at: usize, tx: &Tx) -> bool
-        ensures { IsTrue result → IsOf self.now at tx.now }
+    fn is_of(&self, at: usize, tx: &Tx) -> bool
+        ensures { IsTrue result ↔ ((s : Spending) × (slice_get self.now.spendings at ≡ Some s) ×
+            (tx_at self.now.txs s.place ≡ tx.now)) }
     {
         let Some(listed) = self.list.get(at) else {
             return false;
@@ -138,21 +162,29 @@ impl<'t> EarlyJobs<'t> {
         self.txs[listed.place] == *tx
     }
 
-    /// The place of an input that asks what the job asks, among those of the transaction that begin at a place.
-    pub(crate) fn find(&self, begin: usize, job: &Job) -> Option<usize>
-        requires { IsOf self.now begin job.now.tx.now }
-        ensures { IfSome result (λ at. slice_get (questions self.now) at
-            ≡ Some (question_of job.now)) }
+    /// Whether the inputs at two places are of one transaction.
+    pub(crate) fn are_of_one(&self, one: usize, other: usize) -> bool
+        ensures { IsTrue result → (s t : Spending) → slice_get self.now.spendings one ≡ Some s →
+            slice_get self.now.spendings other ≡ Some t → s.place ≡ t.place }
     {
-        let place = self.list.get(begin)?.place;
-        let before = (place, job.input);
-        let at = self
-            .list
-            .partition_point(|listed| (listed.place, listed.input) < before);
-        let listed = self.list.get(at)?;
-        if !listed.fits(place, job) || self.flags != job.flags {
-            return None;
+        match (self.list.get(one), self.list.get(other)) {
+            (Some(one), Some(other)) => one.place == other.place,
+            _ => false,
         }
-        Some(at)
+    }
+
+    /// The place of an input that asks what the job asks, looked for among all.
+    pub(crate) fn find(&self, job: &Job) -> Option<usize>
+        ensures found { IfSome result (λ at.
+            slice_get (questions self.now) at ≡ Some (question_of job.now)) }
+        ensures none { IfNone result ((at : ℕ) →
+            ¬ (slice_get (questions self.now) at ≡ Some (question_of job.now))) }
+    {
+        for at in 0..self.list.len() {
+            if self.fits(at, job) {
+                return Some(at);
+            }
+        }
+        None
     }
 }

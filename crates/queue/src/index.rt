@@ -1,30 +1,40 @@
-//! Verdicts, found by the transactions that they are of.
+//! Verdicts, found by what they answer.
 
-ghost use Rattle.std.specs.Prelude.{◌≡◌, IfOk, IfSome, IsTrue, All};
+ghost use Rattle.std.specs.Prelude.{◌≡◌, ℕ, All, IfOk, IfSome, IsSome, IsTrue, OnOk, Some, slice_get};
+ghost use Rattle.std.specs.Option.{IfNone};
 ghost use Rattle.std.proofs.Props.{props};
-ghost use Rattle.queue.specs.Jobs.{IsAnswer, question_of};
-ghost use Rattle.queue.specs.inside.Pairing.{BeginsWith};
+ghost use Rattle.queue.specs.declared.index.Key.{Key};
+ghost use Rattle.queue.specs.declared.index.Slot.{Slot};
+ghost use Rattle.queue.specs.Jobs.{HasInput, IsAnswer, Question, question_of, questions};
+ghost use Rattle.queue.specs.inside.Pairing.{Covers, Fits, IsOfSame, key_of, slot_for};
 
 use crate::verdicts::Verdicts;
 use curve::Table;
 use interp::Job;
 use std::alloc::Global;
-use txn::{OutPoint, Tx};
+use std::collections::BTreeMap;
+use txn::OutPoint;
 use wire::Memory;
 
-/// Where the verdicts of a transaction begin: in which of the lists, and at which place of it.
+/// By what a verdict is found: the first outpoint that its transaction spends, and the number of the input.
 #[derive(Clone, Copy, Debug, PartialEq, Eq, PartialOrd, Ord)]
-pub struct Start {
-    verdicts: usize,
-    place: usize,
+pub struct Key {
+    pub outpoint: OutPoint,
+    pub input: usize,
 }
 
-/// Verdicts under a table, and where those of each transaction begin, by the first outpoint that it spends.
+/// A verdict: in which of the lists, and at which place of it.
+#[derive(Clone, Copy, Debug, PartialEq, Eq)]
+pub struct Slot {
+    pub verdicts: usize,
+    pub place: usize,
+}
+
+/// Verdicts under a table, and of each key that some have one of them.
 #[derive(Drop)]
 pub struct Index<'a> {
     verdicts: &'a [Verdicts<'a>],
-    /// In order.
-    starts: Vec<(OutPoint, Start)>,
+    slots: BTreeMap<Key, Slot>,
     table: &'a Table,
     ghost same_table: { All (λ v. v.triples ≡ table.now) verdicts.now } by { Prim.hlevel props },
 }
@@ -38,71 +48,123 @@ impl<'a> Index<'a> {
     ) -> Result<Index<'a>, Memory>
         requires { All (λ v. v.triples ≡ table.now) verdicts.now }
         ensures table { IfOk result (λ index. index.table.now ≡ table.entry.now) }
+        ensures verdicts { IfOk result (λ index. index.verdicts.now ≡ verdicts.entry.now) }
+        ensures covers { IfOk result (λ index.
+            Covers verdicts.entry.now index.slots.entries) }
     {
-        let mut starts = Vec::new(alloc);
-        for (place, own) in verdicts.iter().enumerate() {
-            add_starts(&mut starts, place, own)?;
+        let mut slots = BTreeMap::new(alloc);
+        for list in 0..verdicts.len() {
+            add_slots(&mut slots, list, &verdicts[list])?;
         }
-        starts.sort_unstable();
         Ok(Index {
             verdicts,
-            starts,
+            slots,
             table,
         })
     }
 
-    /// Where the verdicts of an equal transaction begin, if there are any.
+    /// A verdict that fits a job. There is one where any of them fits it.
     ///
-    /// Transactions are compared whole, once for each whose first outpoint is the same.
-    pub fn find(&self, tx: &Tx) -> Option<Start>
-        ensures { IfSome result (λ start. BeginsWith self.now.verdicts.now start tx.now) }
+    /// Where the verdict that fitted the job before is handed in, and both jobs are of one transaction, that isn't
+    /// compared again.
+    pub fn find(&self, before: Option<Slot>, job: &Job) -> Option<Slot>
+        requires input { HasInput job.now }
+        requires covers { Covers self.now.verdicts.now self.now.slots.entries }
+        requires before { IfSome before (λ slot.
+            IsOfSame self.now.verdicts.now slot job.now.tx.now) }
+        ensures found { IfSome result (λ slot.
+            Fits self.now.verdicts.now slot (question_of job.now)) }
+        ensures none { IfNone result
+            ((slot : Slot) → ¬ Fits self.now.verdicts.now slot (question_of job.now)) }
     {
-        let outpoint = tx.inputs.as_slice().first()?.prev;
-        let first = self.starts.partition_point(|own| own.0 < outpoint);
-        for (other, start) in &self.starts[first..] {
-            if *other != outpoint {
-                return None;
+        let slot = *self.slots.get(&key_of(job))?;
+        if self.fits(slot, before, job) {
+            return Some(slot);
+        }
+        // Verdicts of one key ask different things: rare enough to look at all.
+        self.search(job)
+    }
+
+    /// Whether the verdict in a slot fits a job.
+    fn fits(&self, slot: Slot, before: Option<Slot>, job: &Job) -> bool
+        requires before { IfSome before (λ slot.
+            IsOfSame self.now.verdicts.now slot job.now.tx.now) }
+        ensures { IsTrue result → Fits self.now.verdicts.now slot (question_of job.now) }
+    {
+        let Some(own) = self.verdicts.get(slot.verdicts) else {
+            return false;
+        };
+        match before {
+            Some(other)
+                if other.verdicts == slot.verdicts
+                    && own.jobs().are_of_one(other.place, slot.place) => {
+                own.jobs().asks_but_for_tx(slot.place, job)
             }
-            if self.begins_with(*start, tx) {
-                return Some(*start);
+            _ => own.fits(slot.place, job),
+        }
+    }
+
+    /// A verdict that fits a job, looked for among all.
+    fn search(&self, job: &Job) -> Option<Slot>
+        ensures found { IfSome result (λ slot.
+            Fits self.now.verdicts.now slot (question_of job.now)) }
+        ensures none { IfNone result
+            ((slot : Slot) → ¬ Fits self.now.verdicts.now slot (question_of job.now)) }
+    {
+        for list in 0..self.verdicts.len() {
+            if let Some(place) = self.verdicts[list].find(job) {
+                return Some(Slot {
+                    verdicts: list,
+                    place,
+                });
             }
         }
         None
     }
 
-    /// Whether an equal transaction's verdicts begin there.
-    fn begins_with(&self, start: Start, tx: &Tx) -> bool
-        ensures { IsTrue result → BeginsWith self.now.verdicts.now start tx.now }
+    /// The answer of the verdict in a slot.
+    pub fn answer(&self, slot: Slot, job: &Job) -> Option<bool>
+        requires { Fits self.now.verdicts.now slot (question_of job.now) }
+        ensures right { IfSome result (λ yes.
+            IsAnswer (question_of job.now) self.now.table.now yes) }
+        ensures some { IsSome result }
     {
-        match self.verdicts.get(start.verdicts) {
-            Some(own) => own.jobs().is_of(start.place, tx),
-            None => false,
-        }
-    }
-
-    /// The answer to a job of the transaction whose verdicts begin there, if this script was run under these rules.
-    pub fn answer(&self, start: Option<Start>, job: &Job) -> Option<bool>
-        requires { IfSome start (λ begin.
-            BeginsWith self.now.verdicts.now begin job.now.tx.now) }
-        ensures { IfSome result (λ yes. IsAnswer (question_of job.now) self.now.table.now yes) }
-    {
-        let start = start?;
-        let own = self.verdicts.get(start.verdicts)?;
-        let at = own.jobs().find(start.place, job)?;
-        own.answers().get(at).copied()
+        self.verdicts
+            .get(slot.verdicts)?
+            .answers()
+            .get(slot.place)
+            .copied()
     }
 }
 
-/// Adds where the verdicts of each transaction of a list begin.
-fn add_starts(
-    starts: &mut Vec<(OutPoint, Start)>,
-    verdicts: usize,
-    own: &Verdicts,
-) -> Result<(), Memory> {
+/// By what the verdict is found that answers a job.
+fn key_of(job: &Job) -> Key
+    requires { HasInput job.now }
+    ensures { result ≡ key_of (question_of job.now) }
+{
+    Key {
+        outpoint: job.tx.inputs.as_slice()[0].prev,
+        input: job.input,
+    }
+}
+
+/// Puts the verdicts of one list into their slots. Of two with the same key the later one is kept.
+fn add_slots(slots: &mut BTreeMap<Key, Slot>, list: usize, own: &Verdicts) -> Result<(), Memory>
+    ensures own { OnOk result ((place : ℕ) (q : Question) →
+        slice_get (questions own.now.batch) place ≡ Some q →
+        IsSome (slot_for slots.new.entries (key_of q))) }
+    ensures others { OnOk result ((key : Key) →
+        IsSome (slot_for slots.old.entries key) → IsSome (slot_for slots.new.entries key)) }
+{
     for place in 0..own.jobs().len() {
-        if let Some(outpoint) = own.jobs().begins(place) {
-            starts.push((outpoint, Start { verdicts, place }))?;
-        }
+        let key = own.jobs().key(place);
+        slots.insert(
+            key,
+            Slot {
+                verdicts: list,
+                place,
+            },
+        )?;
     }
     Ok(())
 }

@@ -3,21 +3,24 @@
 ghost use Rattle.std.specs.Prelude.{◌≡◌, All, length};
 ghost use Rattle.std.proofs.Props.{props};
 ghost use Rattle.queue.specs.Jobs.{AcceptsAt, FailsAt, HasInput};
-ghost use Rattle.queue.specs.inside.Pairing.{AreKnown};
+ghost use Rattle.queue.specs.inside.Pairing.{AreAllKnown, AreKnown, answer_at};
 
 use crate::places::Places;
+use crate::verdicts::Verdicts;
 use curve::Table;
 use interp::{Job, verify};
 use std::alloc::Global;
 use wire::Memory;
 
-/// The jobs of a list by place, and the answers that are known under the same table, for the first of them or none.
+/// The jobs of a list by place, and the answers that are known under the same table: of each job that a verdict fits.
 #[derive(Clone, Copy)]
 pub struct JobList<'a> {
     pub jobs: &'a [Job<'a>],
+    pub verdicts: &'a [Verdicts<'a>],
     pub table: &'a Table,
     pub known: &'a [Option<bool>],
     pub ghost right: { AreKnown table.now jobs.now known.now } by { Prim.hlevel props },
+    pub ghost all: { AreAllKnown verdicts.now jobs.now known.now } by { Prim.hlevel props },
     pub ghost inputs: { All HasInput jobs.now } by { Prim.hlevel props },
 }
 
@@ -27,6 +30,8 @@ impl<'a> Places for JobList<'a> {
     ghost accepts = { λ list. AcceptsAt list.table.now list.jobs.now };
 
     ghost refuses = { λ list. FailsAt list.table.now list.jobs.now };
+
+    ghost known_at = { λ list place. answer_at list.known.now place };
 
     fn count_places(&self) -> usize {
         self.jobs.len()

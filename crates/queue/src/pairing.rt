@@ -1,20 +1,20 @@
 //! Answers that are known before jobs are run.
 
-ghost use Rattle.std.specs.Prelude.{◌≡◌, ◌-◌, ◌<◌, ◌≤◌, ℕ, All, IfOk, IfSome, IsTrue, Some, length, slice_get};
+ghost use Rattle.std.specs.Prelude.{◌≡◌, ◌-◌, ◌<◌, ◌≤◌, ℕ, All, IfOk, IfSome, IsSome, IsTrue, Some, length, slice_get};
 ghost use Rattle.interp.specs.declared.job.Job.{Job};
-ghost use Rattle.queue.specs.Jobs.{AreNumbered};
-ghost use Rattle.queue.specs.inside.Pairing.{AreKnown, BeginsWith};
+ghost use Rattle.queue.specs.Jobs.{AreNumbered, HasInput, IsAnswer, question_of};
+ghost use Rattle.queue.specs.inside.Pairing.{AreAllKnown, AreKnown, Covers, Fits, IsOfSame};
 
-use crate::index::{Index, Start};
+use crate::index::{Index, Slot};
 use crate::verdicts::Verdicts;
 use curve::Table;
 use interp::Job;
 use std::alloc::Global;
 use wire::Memory;
 
-/// Of each job its answer, where a verdict has it. Without any verdict it is no list at all.
+/// Of each job its answer, where a verdict fits it. Without any verdict it is no list at all.
 ///
-/// A job whose number is that of the job before it is of the same transaction, which isn't looked for again.
+/// A job whose number is that of the job before it is of the same transaction, which isn't compared again.
 pub(crate) fn known_answers(
     alloc: Global,
     jobs: &[Job],
@@ -22,9 +22,12 @@ pub(crate) fn known_answers(
     verdicts: &[Verdicts],
     table: &Table,
 ) -> Result<Vec<Option<bool>>, Memory>
+    requires inputs { All HasInput jobs.now }
     requires numbered { AreNumbered numbers.now jobs.now }
     requires same_table { All (λ v. v.triples ≡ table.now) verdicts.now }
-    ensures { IfOk result (λ known. AreKnown table.now jobs.now known.items) }
+    ensures right { IfOk result (λ known. AreKnown table.now jobs.now known.items) }
+    // Each job that a verdict fits has its answer, so none of them is run.
+    ensures all { IfOk result (λ known. AreAllKnown verdicts.now jobs.now known.items) }
 {
     if verdicts.is_empty() {
         return Ok(Vec::new(alloc));
@@ -33,44 +36,60 @@ pub(crate) fn known_answers(
     answers_in(alloc, jobs, numbers, &index)
 }
 
-/// Of each job its answer, where the index has it.
+/// Of each job its answer, where a verdict of the index fits it.
 fn answers_in(
     alloc: Global,
     jobs: &[Job],
     numbers: &[usize],
     index: &Index,
 ) -> Result<Vec<Option<bool>>, Memory>
+    requires inputs { All HasInput jobs.now }
     requires numbered { AreNumbered numbers.now jobs.now }
-    ensures { IfOk result (λ known. AreKnown index.now.table.now jobs.now known.items) }
+    requires covers { Covers index.now.verdicts.now index.now.slots.entries }
+    ensures right { IfOk result (λ known. AreKnown index.now.table.now jobs.now known.items) }
+    ensures all { IfOk result (λ known.
+        AreAllKnown index.now.verdicts.now jobs.now known.items) }
 {
     let mut known = Vec::with_capacity(alloc, jobs.len())?;
-    let mut start = None;
+    let mut slot = None;
     for place in 0..jobs.len() {
-        start = start_of(jobs, numbers, index, place, start);
-        known.push(index.answer(start, &jobs[place]))?;
+        let job = &jobs[place];
+        let before = slot_before(jobs, numbers, index, place, slot);
+        slot = index.find(before, job);
+        known.push(answer_in(index, slot, job))?;
     }
     Ok(known)
 }
 
-/// Where the verdicts of a job's transaction begin, by where those of the job before it do.
-fn start_of(
+/// The slot of the job before this one, if both are of one transaction.
+fn slot_before(
     jobs: &[Job],
     numbers: &[usize],
     index: &Index,
     place: usize,
-    before: Option<Start>,
-) -> Option<Start>
+    before: Option<Slot>,
+) -> Option<Slot>
     requires place { place < length jobs.now }
     requires numbered { AreNumbered numbers.now jobs.now }
     requires before { (job : Job) → 1 ≤ place → slice_get jobs.now (place - 1) ≡ Some job →
-        IfSome before (λ start. BeginsWith index.now.verdicts.now start job.tx.now) }
+        IfSome before (λ slot. Fits index.now.verdicts.now slot (question_of job)) }
     ensures { (job : Job) → slice_get jobs.now place ≡ Some job →
-        IfSome result (λ start. BeginsWith index.now.verdicts.now start job.tx.now) }
+        IfSome result (λ slot. IsOfSame index.now.verdicts.now slot job.tx.now) }
 {
     if goes_on(numbers, place) {
         return before;
     }
-    index.find(jobs[place].tx)
+    None
+}
+
+/// The answer of the verdict in a slot, if there is one.
+fn answer_in(index: &Index, slot: Option<Slot>, job: &Job) -> Option<bool>
+    requires { IfSome slot (λ slot. Fits index.now.verdicts.now slot (question_of job.now)) }
+    ensures right { IfSome result (λ yes.
+        IsAnswer (question_of job.now) index.now.table.now yes) }
+    ensures some { IsSome slot → IsSome result }
+{
+    index.answer(slot?, job)
 }
 
 /// Whether the number at a place is that of the place before it.

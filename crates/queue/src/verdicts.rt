@@ -1,9 +1,11 @@
 //! Answers that were got before they are asked for.
 
-ghost use Rattle.std.specs.Prelude.{◌≡◌, length};
+ghost use Rattle.std.specs.Prelude.{◌≡◌, ◌↔◌, ℕ, IfSome, IsTrue, Some, length, slice_get};
+ghost use Rattle.std.specs.Option.{IfNone};
 
 use crate::early_jobs::EarlyJobs;
 use curve::Table;
+use interp::Job;
 use std::marker::Model;
 
 /// The answers to early jobs under a table. A clause sees what they ask, the table's triples, and the answers.
@@ -38,7 +40,7 @@ impl<'t> Model for Verdicts<'t> {
 }
 
 impl<'t> Verdicts<'t> {
-    ghost use Rattle.queue.specs.Jobs.{AreAnswers, questions};
+    ghost use Rattle.queue.specs.Jobs.{AreAnswers, question_of, questions};
 
     /// The verdicts with these answers.
     pub(crate) fn of(jobs: EarlyJobs<'t>, table: &'t Table, answers: Vec<bool>) -> Verdicts<'t>
@@ -64,6 +66,27 @@ impl<'t> Verdicts<'t> {
         ensures right { AreAnswers (questions self.now.batch) self.now.triples result.now }
     {
         self.answers.as_slice()
+    }
+
+    /// Whether the verdict at a place fits a job: whether it was asked of an equal transaction, for the same input, which
+    /// spends the same script, under the same rules. At a place without a verdict none fits.
+    ///
+    /// Such a job isn't run again where these verdicts are handed in ([`crate::first_failure_with`]).
+    pub fn fits(&self, place: usize, job: &Job) -> bool
+        ensures { IsTrue result ↔
+            (slice_get (questions self.now.batch) place ≡ Some (question_of job.now)) }
+    {
+        self.jobs.fits(place, job)
+    }
+
+    /// The place of a verdict that fits a job, looked for among all.
+    pub(crate) fn find(&self, job: &Job) -> Option<usize>
+        ensures found { IfSome result (λ at.
+            slice_get (questions self.now.batch) at ≡ Some (question_of job.now)) }
+        ensures none { IfNone result ((at : ℕ) →
+            ¬ (slice_get (questions self.now.batch) at ≡ Some (question_of job.now))) }
+    {
+        self.jobs.find(job)
     }
 
     /// What they answer.

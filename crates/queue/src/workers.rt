@@ -1,6 +1,6 @@
 //! The workers: each claims the next place of the list, until there is none.
 
-ghost use Rattle.std.specs.Prelude.{◌≡◌, ◌<◌, ◌≤◌, ◌^◌, [], ◌∷◌, length, All, IfOk, MatchBool};
+ghost use Rattle.std.specs.Prelude.{◌≡◌, ◌<◌, ◌≤◌, ◌^◌, [], ◌∷◌, length, All, IfOk, MatchBool, None};
 ghost use Rattle.queue.specs.Jobs.{HasInput, AreNumbered, IsFirstFailure};
 ghost use Rattle.queue.specs.inside.Report.{IsCounter, Sits, IsLeastOf, IsLeastBelow, Reports};
 
@@ -36,6 +36,7 @@ pub fn first_failure<R: Threads + Sync, G: Gate + Sync>(
 {
     let list = JobList {
         jobs,
+        verdicts: &[],
         table,
         known: &[],
     };
@@ -65,6 +66,7 @@ pub fn first_failure_with<R: Threads + Sync, G: Gate + Sync>(
     let known = known_answers(alloc, jobs, numbers, verdicts, table)?;
     let list = JobList {
         jobs,
+        verdicts,
         table,
         known: &known,
     };
@@ -263,14 +265,15 @@ fn answer<G: Gate, C: Places>(
     run(alloc, list, place, gate)
 }
 
-/// Runs a place, with the gate round it.
+/// Runs a place whose answer isn't known, with the gate round it.
 pub(crate) fn run<G: Gate, C: Places>(
     alloc: Global,
     list: &C,
     place: usize,
     gate: &G,
 ) -> Result<bool, Memory>
-    requires { place < C.count list.now }
+    requires place { place < C.count list.now }
+    requires unknown { C.known_at list.now place ≡ None }
     ensures { IfOk result (λ yes.
         MatchBool yes (C.accepts list.now place) (C.refuses list.now place)) }
 {

@@ -1,23 +1,67 @@
 -- Answers that are known before jobs are run.
-use Rattle.std.specs.Prelude.{◌≡◌, ℕ, Bool, List, Option, Some, slice_get}
+use Rattle.std.specs.Prelude.{◌≡◌, ℕ, Bool, List, [], ◌∷◌, Option, Some, IsSome, slice_get}
+use Rattle.std.specs.Option.{option_and_then}
+use Rattle.std.specs.Map.{lookup}
+use Rattle.std.specs.BTreeMap.{is_at}
+use Rattle.std.specs.declared.cmp.Ordering.{Ordering}
+use Rattle.std.specs.Ordering.{nat_cmp, ordering_then}
+use Rattle.std.specs.Cmp.Lexicographic.{slice_cmp}
+use Rattle.txn.specs.declared.outpoint.OutPoint.{OutPoint}
+use Rattle.txn.specs.declared.input.TxIn.{TxIn}
 use Rattle.txn.specs.declared.tx.Tx.{Tx}
 use Rattle.curve.specs.Triple.{Triples}
 use Rattle.interp.specs.computed.Verifying.{accepts}
 use Rattle.interp.specs.declared.job.Job.{Job}
 use Rattle.queue.specs.declared.early_jobs.Listed.{Listed}
-use Rattle.queue.specs.Jobs.{Spending, spending, Batch, tx_at, Answered}
-use Rattle.queue.specs.declared.index.Start.{Start}
+use Rattle.queue.specs.declared.index.Key.{Key}
+use Rattle.queue.specs.declared.index.Slot.{Slot}
+use Rattle.queue.specs.Jobs.{Spending, spending, Question, question_of, questions, Answered}
 
 abbrev pub spending_of : Listed → Spending
 spending_of listed = spending listed.place listed.input listed.spent.items
 
--- what is listed at this place, if anything, is of an equal transaction
-abbrev pub IsOf : Batch → ℕ → Tx → Type 0
-IsOf batch place tx = (s : Spending) → slice_get batch.spendings place ≡ Some s → tx_at batch.txs s.place ≡ tx
+-- ---- the verdict that fits
 
--- the verdicts that begin there, if there are any, are of an equal transaction
-abbrev pub BeginsWith : List Answered → Start → Tx → Type 0
-BeginsWith verdicts start tx = (v : Answered) → slice_get verdicts start.verdicts ≡ Some v → IsOf v.batch start.place tx
+-- a verdict of some lists, in a slot, answers this question
+pub record Fits (verdicts : List Answered) (slot : Slot) (q : Question) : Type 0 where
+  pub own : Answered
+  pub there : slice_get verdicts slot.verdicts ≡ Some own
+  pub asked : slice_get (questions own.batch) slot.place ≡ Some q
+
+-- it is of an equal transaction
+abbrev pub IsOfSame : List Answered → Slot → Tx → Type 0
+IsOfSame verdicts slot tx = (q : Question) × Fits verdicts slot q × (q.tx ≡ tx)
+
+-- the outpoint that the first of these inputs spends
+abbrev pub first_outpoint : List TxIn → OutPoint
+first_outpoint [] = record { id = record { 0 = [] }; index = 0 }
+first_outpoint (input ∷ inputs) = input.prev
+
+-- by what the verdict is found that answers a question
+abbrev pub key_of : Question → Key
+key_of q = record { outpoint = first_outpoint q.tx.inputs; input = q.input }
+
+abbrev pub key_cmp : Key → Key → Ordering
+key_cmp a b =
+    ordering_then (ordering_then (slice_cmp nat_cmp a.outpoint.id.0 b.outpoint.id.0) (nat_cmp a.outpoint.index b.outpoint.index)) (nat_cmp a.input b.input)
+
+abbrev pub slot_for : List (Key × Slot) → Key → Option Slot
+slot_for entries key = lookup (is_at (key_cmp key)) entries
+
+-- each key of a verdict has a slot
+abbrev pub Covers : List Answered → List (Key × Slot) → Type 0
+Covers verdicts entries = (slot : Slot) (q : Question) → Fits verdicts slot q → IsSome (slot_for entries (key_of q))
+
+-- ---- answers that are known
+
+-- the answer at a place, if it is known
+abbrev pub answer_at : List (Option Bool) → ℕ → Option Bool
+answer_at known place = option_and_then (λ answer. answer) (slice_get known place)
+
+-- of each job that a verdict fits it is known
+abbrev pub AreAllKnown : List Answered → List Job → List (Option Bool) → Type 0
+AreAllKnown verdicts jobs known =
+    (place : ℕ) (job : Job) (slot : Slot) → slice_get jobs place ≡ Some job → Fits verdicts slot (question_of job) → IsSome (answer_at known place)
 
 -- whether the job is accepted, as a test
 abbrev pub is_accepted : Triples → Job → Bool

@@ -1,0 +1,44 @@
+use Rattle.std.proofs.Common.{rules, ◌≡◌, ◌<◌, Option, Some, get_or, length, refl, sym, ap, ◌∙◌, subst}
+use Rattle.std.specs.Prelude.{IfSome, slice_get}
+use Rattle.std.proofs.lemmas.Option.{slice_get_read}
+use Rattle.queue.specs.declared.index.Slot.{Slot}
+use Rattle.queue.specs.Jobs.{Answered, Batch, Spending, questions}
+use Rattle.queue.specs.inside.Pairing.{IsOfSame}
+use Rattle.queue.proofs.Pairs.{fits_like, some_is}
+use Rattle.queue.proofs.index.Index.fits.Goals as goal
+
+pub returns-in-Some-before : goal.returns-in-Some-before
+returns-in-Some-before c t =
+    let verdicts = c.args.self.now.verdicts.now in
+    let slot = c.args.slot in
+    let job = c.args.job.now in
+    let own : Answered = c.in-Some.own.now in
+    let other : Slot = c.in-Some-before.other in
+    let within : slot.verdicts < length verdicts = search rules in
+    let same : own ≡ get_or verdicts slot.verdicts own = search rules in
+    let there : slice_get verdicts slot.verdicts ≡ Some own = slice_get_read verdicts (length verdicts) slot.verdicts own refl within same in
+    let before : IsOfSame verdicts other job.tx.now = subst (λ (o : Option Slot). IfSome o (λ s. IsOfSame verdicts s job.tx.now)) c.in-Some-before.is c.requires.before in
+    let list : other.verdicts ≡ slot.verdicts = search rules in
+    let its : before.1.own ≡ own = some_is before.1.own own (sym before.1.there ∙ ap (slice_get verdicts) list ∙ there) in
+    let lent : c.jobs.result.now ≡ own.batch = c.jobs.ensures in
+    let lent_again : c.jobs-in-Some-before.result.now ≡ own.batch = c.jobs-in-Some-before.ensures in
+    let one : (a b : Spending) → slice_get own.batch.spendings other.place ≡ Some a → slice_get own.batch.spendings slot.place ≡ Some b → a.place ≡ b.place = subst (λ (x : Batch). (a b : Spending) → slice_get x.spendings other.place ≡ Some a → slice_get x.spendings slot.place ≡ Some b → a.place ≡ b.place) lent (c.are_of_one.ensures c.if-are_of_one.true) in
+    record {
+      own = own;
+      there = there;
+      asked = fits_like own.batch other.place slot.place before.0 job (subst (λ (a : Answered). slice_get (questions a.batch) other.place ≡ Some before.0) its before.1.asked) before.2 one
+          (subst (λ (x : Batch). (s : Spending) × (slice_get x.spendings slot.place ≡ Some s) × (s.input ≡ job.input) × (s.spent ≡ job.spent.now) × (x.flags ≡ job.flags)) lent_again (c.asks_but_for_tx.ensures.0 t));
+    }
+
+pub returns-in_default-before : goal.returns-in_default-before
+returns-in_default-before c t =
+    let verdicts = c.args.self.now.verdicts.now in
+    let slot = c.args.slot in
+    let own : Answered = c.in-Some.own.now in
+    let within : slot.verdicts < length verdicts = search rules in
+    let same : own ≡ get_or verdicts slot.verdicts own = search rules in
+    record {
+      own = own;
+      there = slice_get_read verdicts (length verdicts) slot.verdicts own refl within same;
+      asked = c.fits.ensures.0 t;
+    }

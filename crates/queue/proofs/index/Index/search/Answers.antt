@@ -1,0 +1,28 @@
+use Rattle.std.proofs.Common.{rules, ◌<◌, get_or, length}
+use Rattle.std.proofs.lemmas.Option.{slice_get-get_or}
+use Rattle.queue.specs.Jobs.{question_of}
+use Rattle.queue.proofs.Pairs.{none_all, none_next}
+use Rattle.queue.proofs.index.Index.search.Goals as goal
+
+pub returns-in-Some-clause-found : goal.returns-in-Some-clause-found
+returns-in-Some-clause-found c =
+    let verdicts = c.args.self.now.verdicts.now in
+    let within : c.loop-list.list < length verdicts = search rules in
+    record {
+      own = get_or verdicts c.loop-list.list c.index-self-list.result;
+      there = slice_get-get_or verdicts c.loop-list.list c.index-self-list.result within;
+      asked = c.in-Some.ensures.found;
+    }
+
+pub loop-list-preserved : goal.loop-list-preserved
+loop-list-preserved c =
+    let verdicts = c.args.self.now.verdicts.now in
+    let within : c.loop-list.list < length verdicts = search rules in
+    none_next verdicts c.loop-list.list (get_or verdicts c.loop-list.list c.index-self-list.result) (question_of c.args.job.now)
+    (slice_get-get_or verdicts c.loop-list.list c.index-self-list.result within)
+    c.in_default.ensures.none c.loop-list.invariant
+
+pub returns-clause-none : goal.returns-clause-none
+returns-clause-none c =
+    let verdicts = c.args.self.now.verdicts.now in
+    none_all verdicts c.loop-list.list (question_of c.args.job.now) (search rules) c.loop-list.invariant
