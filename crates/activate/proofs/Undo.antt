@@ -1,4 +1,4 @@
--- How much undo is kept where a block on the active one becomes active.
+-- How much undo is kept where another block becomes active.
 use Rattle.std.proofs.Common.{◌≡◌, ℕ, suc, ◌+◌, ◌-◌, ◌<◌, ◌≤◌, List, [], ◌∷◌, length, Bool, true, cond, refl, inl, inr, sym, ap, ◌∙◌, subst, arith}
 use Rattle.std.proofs.lemmas.Bool.{ne_eqb}
 use Rattle.std.proofs.lemmas.Bool.Decides.{leb_tells}
@@ -6,19 +6,27 @@ use Rattle.hash.specs.declared.id.Id.{Id}
 use Rattle.block.specs.declared.block.Block.{Block}
 use Rattle.tree.specs.Branches.{Blocks, first_of, rest_of, branch, before, height, on, parent_at}
 use Rattle.tree.specs.State.{State, with_mark}
-use Rattle.tree.specs.laws.Above.{above, above-end, above-step, IsShared}
+use Rattle.tree.specs.Tips.{last_shared}
+use Rattle.tree.specs.laws.Above.{above, above-end, above-step, IsShared, last-shared}
 use Rattle.tree.specs.laws.Branches.{on-bounds, on-itself}
 use Rattle.tree.specs.laws.Parents.{on-parent, parent-below}
+use Rattle.tree.specs.laws.Walks.{shared_here}
 use Rattle.activate.specs.declared.path.BranchPath.{BranchPath}
 use Rattle.activate.specs.declared.prepared.Prepared.{Prepared}
 use Rattle.activate.specs.declared.prepared.Completion.{Completion}
 use Rattle.activate.specs.declared.prepared.Completion.TheVariants.{Nothing, Mark, Activate}
+use Rattle.curve.specs.Triple.{Triples}
+use Rattle.chain.specs.declared.command.Command.{Command}
+use Rattle.chain.specs.Regtest.{regtest}
 use Rattle.chain.specs.Rules.{Rules}
 use Rattle.chain.specs.Submission.{Outcome}
+use Rattle.chain.specs.laws.Actives.{active_kept}
 use Rattle.chain.specs.laws.Tries.{tried-blocks}
-use Rattle.activate.specs.CoreState.{CoreState, HasOneMore, lesser_of, most_undo}
+use Rattle.activate.specs.CoreState.{CoreState, Follows, HasOneMore, UndoFollows, lesser_of, most_undo}
 use Rattle.activate.specs.inside.Paths.{IsPath}
-use Rattle.activate.specs.inside.Preparation.{IsPreparationFor, IsReady, core_after_commit, undo_after}
+use Rattle.activate.specs.inside.Preparation.{IsPreparation, IsPreparationFor, IsReady, core_after_commit, undo_after}
+use Rattle.activate.specs.laws.Turning.{come}
+use Rattle.activate.proofs.Outcomes.{follows-plan}
 
 -- the path to a block on the active one
 module _ (t : Blocks Block) (a p : ℕ) (path : BranchPath) (is : IsPath t a p path) (kept : p ≤ length t) (some : 0 < p) (parent : parent_at t p ≡ a) where
@@ -76,3 +84,61 @@ after-commit r a b (Activate p path undo) ready same kept z h =
 pub more-undo : (r : Rules Block Id) (a b : CoreState) (after : Outcome Block) (prepared : Prepared) → IsPreparationFor r a after b prepared → HasOneMore a (core_after_commit r b prepared.rest)
 more-undo r a b after prepared is =
     after-commit r a b prepared.rest is.ready (ap (λ (x : CoreState). x.active) is.back_is) (ap (λ (x : CoreState). x.undo_kept) is.back_is)
+
+-- ---- where any block becomes active
+
+-- two last blocks of the same branches are one
+same-shared : (t : Blocks Block) (a p f g : ℕ) → IsShared t a p f → IsShared t a p g → f ≡ g
+same-shared t a p f g one other =
+    let low = (on-bounds t f g (one.last g other.here other.there)).0 in
+    let high = (on-bounds t g f (other.last f one.here one.there)).0 in
+    omega arith
+
+-- along a path
+along : (t : Blocks Block) (a p n : ℕ) (path : BranchPath) → a ≤ length t → p ≤ length t → IsPath t a p path
+    → undo_after t a n path ≡ lesser_of most_undo ((n - (height t a - height t (last_shared t a p))) + (height t p - height t (last_shared t a p)))
+along t a p n path h k is =
+    let e = is.high ∙ ap (height t) (same-shared t a p path.fork (last_shared t a p) is.shared (last-shared t a p k)) in
+    let c = come t a p h k path is in
+    ap (lesser_of most_undo) {x = (n - (height t a - path.height)) + length path.up.items} {y = (n - (height t a - height t (last_shared t a p))) + (height t p - height t (last_shared t a p))} (omega arith)
+
+-- where the active block stays
+lesser-few : (n : ℕ) → n ≤ most_undo → lesser_of most_undo n ≡ n
+lesser-few n few = elim (leb_tells most_undo n) [
+  | inl h ↦ ap (λ (b : Bool). cond b most_undo n) h.0 ∙ omega (arith, h.1)
+  | inr h ↦ ap (λ (b : Bool). cond b most_undo n) h.0
+]
+
+stays : (t : Blocks Block) (a n : ℕ) → a ≤ length t → n ≤ most_undo
+    → n ≡ lesser_of most_undo ((n - (height t a - height t (last_shared t a a))) + (height t a - height t (last_shared t a a)))
+stays t a n h few =
+    let e = ap (height t) (shared_here t a a h (on-itself t a h)) in
+    sym (lesser-few n few) ∙ ap (lesser_of most_undo) {x = n} {y = (n - (height t a - height t (last_shared t a a))) + (height t a - height t (last_shared t a a))} (omega arith)
+
+module _ (a b : CoreState) (same : b.active ≡ a.active) (kept : b.undo_kept ≡ a.undo_kept) (few : a.undo_kept ≤ most_undo) where
+  left-by : (r : Rules Block Id) (rest : Completion) → IsReady r b rest → (core_after_commit r b rest).active ≤ length (core_after_commit r b rest).state.blocks → UndoFollows a (core_after_commit r b rest)
+  left-by r Nothing ready high =
+      kept ∙ stays b.state.blocks a.active a.undo_kept (omega (arith, high, same)) few
+      ∙ ap (λ (p : ℕ). lesser_of most_undo ((a.undo_kept - (height b.state.blocks a.active - height b.state.blocks (last_shared b.state.blocks a.active p))) + (height b.state.blocks p - height b.state.blocks (last_shared b.state.blocks a.active p)))) (sym same)
+  left-by r (Mark p) ready high =
+      kept ∙ stays b.state.blocks a.active a.undo_kept (omega (arith, high, same)) few
+      ∙ ap (λ (p : ℕ). lesser_of most_undo ((a.undo_kept - (height b.state.blocks a.active - height b.state.blocks (last_shared b.state.blocks a.active p))) + (height b.state.blocks p - height b.state.blocks (last_shared b.state.blocks a.active p)))) (sym same)
+  left-by r (Activate p path undo) ready high =
+      along b.state.blocks b.active p b.undo_kept path ready.can.kept ready.kept ready.is_way
+      ∙ ap (λ (x : ℕ). lesser_of most_undo ((b.undo_kept - (height b.state.blocks x - height b.state.blocks (last_shared b.state.blocks x p))) + (height b.state.blocks p - height b.state.blocks (last_shared b.state.blocks x p)))) same
+      ∙ ap (λ (n : ℕ). lesser_of most_undo ((n - (height b.state.blocks a.active - height b.state.blocks (last_shared b.state.blocks a.active p))) + (height b.state.blocks p - height b.state.blocks (last_shared b.state.blocks a.active p)))) kept
+      ∙ ap (λ (u : Blocks Block). lesser_of most_undo ((a.undo_kept - (height u a.active - height u (last_shared u a.active p))) + (height u p - height u (last_shared u a.active p)))) (sym (tried-blocks r b.state p))
+
+-- how much undo stands after a command
+pub undo-follows : (a b : CoreState) (triples : Triples) (c : Command) (prepared : Prepared) → Follows a triples → IsPreparation (regtest a.params triples) a c b prepared → a.undo_kept ≤ most_undo
+    → UndoFollows a (core_after_commit (regtest a.params triples) b prepared.rest)
+undo-follows a b triples c prepared follows is few =
+    let r = regtest a.params triples in
+    let f : CoreState = core_after_commit r b prepared.rest in
+    let after = (follows-plan a b triples c prepared follows is).1 in
+    let high : f.active ≤ length f.state.blocks = subst (λ (p : ℕ). p ≤ length f.state.blocks) (sym after.active_is) (active_kept (regtest f.params triples) f.state after.sound.genesis) in
+    left-by a b (ap (λ (x : CoreState). x.active) is.back_is) (ap (λ (x : CoreState). x.undo_kept) is.back_is) few r prepared.rest is.ready high
+
+-- what is kept is few, as is told
+pub few-of : (told n : ℕ) → told ≡ n → told ≤ most_undo → n ≤ most_undo
+few-of told n is few = omega arith

@@ -1,10 +1,11 @@
 -- A chainstate without its coins: the tree, which of its blocks is active, and the heights of soft forks.
-use Rattle.std.specs.Prelude.{◌≡◌, ℕ, suc, ◌<◌, nat_le, if◌then◌else◌, List}
+use Rattle.std.specs.Prelude.{◌≡◌, ℕ, suc, ◌+◌, ◌-◌, ◌<◌, nat_le, if◌then◌else◌, List}
 use Rattle.block.specs.declared.block.Block.{Block}
 use Rattle.curve.specs.Triple.{Triples}
 use Rattle.coins.specs.Coins.{Coins}
 use Rattle.rules.specs.declared.params.Params.{Params}
-use Rattle.tree.specs.Branches.{Blocks, branch, parent_at, blocks_at}
+use Rattle.tree.specs.Branches.{Blocks, branch, height, parent_at, blocks_at}
+use Rattle.tree.specs.Tips.{last_shared}
 use Rattle.tree.specs.State.{State, opening}
 use Rattle.tree.specs.Names.{names}
 use Rattle.chain.specs.Settle.{active}
@@ -67,3 +68,11 @@ lesser_of a b = if nat_le a b then a else b
 abbrev pub HasOneMore : CoreState → CoreState → Type 0
 HasOneMore a b =
     0 < b.active → parent_at b.state.blocks b.active ≡ a.active → b.undo_kept ≡ lesser_of most_undo (suc a.undo_kept)
+
+-- after the active block of b took the place of that of a: what was kept of the blocks that both branches share, and that
+-- of each block above them, up to that many
+abbrev pub UndoFollows : CoreState → CoreState → Type 0
+UndoFollows a b =
+    let t = b.state.blocks in
+    let shared = height t (last_shared t a.active b.active) in
+    b.undo_kept ≡ lesser_of most_undo ((a.undo_kept - (height t a.active - shared)) + (height t b.active - shared))

@@ -11,8 +11,9 @@ ghost use Rattle.chain.specs.Prepared.{command_of};
 ghost use Rattle.chain.specs.Regtest.{ledger, regtest};
 ghost use Rattle.chain.specs.Replay.{coins};
 ghost use Rattle.chain.specs.Settle.{active, best, tips};
-ghost use Rattle.activate.specs.CoreState.{HasOneMore, IsChainstate, genesis_alone, most_undo};
+ghost use Rattle.activate.specs.CoreState.{HasOneMore, IsChainstate, UndoFollows, genesis_alone, most_undo};
 
+use crate::active_branch::MOST_UNDO;
 use crate::core_state::Core;
 use crate::prepared::Prepared;
 use chain::{Command, PreparedCommand, Reply};
@@ -86,6 +87,7 @@ impl Chainstate {
         ensures params { self.new.core.params ≡ self.old.core.params }
         ensures is_chainstate { IsChainstate self.new env.now.table.now }
         ensures undo { OnOk result (HasOneMore self.old.core self.new.core) }
+        ensures undo_kept { OnOk result (UndoFollows self.old.core self.new.core) }
         ensures err { OnErr result (self.new ≡ self.old) }
     {
         let prepared = PreparedCommand::of(alloc, command)?;
@@ -108,8 +110,12 @@ impl Chainstate {
         ensures params { self.new.core.params ≡ self.old.core.params }
         ensures is_chainstate { IsChainstate self.new env.now.table.now }
         ensures undo { OnOk result (HasOneMore self.old.core self.new.core) }
+        ensures undo_kept { OnOk result (UndoFollows self.old.core self.new.core) }
         ensures err { OnErr result (self.new ≡ self.old) }
     {
+        // The clause on undo rests on it.
+        let few = self.core.undo_kept() <= MOST_UNDO;
+        prove!(few);
         let Prepared {
             reply,
             rollback,

@@ -5,8 +5,9 @@ ghost use Rattle.coins.specs.Changes.{AreChanges, after_changes};
 ghost use Rattle.chain.specs.Commands.{outcome};
 ghost use Rattle.chain.specs.Prepared.{command_of};
 ghost use Rattle.chain.specs.Regtest.{regtest};
-ghost use Rattle.activate.specs.CoreState.{HasOneMore, Follows, coins_of};
+ghost use Rattle.activate.specs.CoreState.{HasOneMore, Follows, UndoFollows, coins_of};
 
+use crate::active_branch::MOST_UNDO;
 use crate::core_state::Core;
 use crate::prepared::Prepared;
 use chain::{Command, PreparedCommand, Reply};
@@ -41,6 +42,8 @@ impl Core {
         ensures params { self.new.params ≡ self.old.params }
         // A block on the active one, if it becomes active, has its undo kept beside that of the highest before.
         ensures undo { OnOk result (HasOneMore self.old self.new) }
+        // Whatever becomes active: no undo is kept of blocks that were taken back.
+        ensures undo_kept { OnOk result (UndoFollows self.old self.new) }
         ensures follows { Follows self.new env.now.table.now }
         ensures err { OnErr result (self.new ≡ self.old) }
     {
@@ -71,9 +74,14 @@ impl Core {
         ensures params { self.new.params ≡ self.old.params }
         // A block on the active one, if it becomes active, has its undo kept beside that of the highest before.
         ensures undo { OnOk result (HasOneMore self.old self.new) }
+        // Whatever becomes active: no undo is kept of blocks that were taken back.
+        ensures undo_kept { OnOk result (UndoFollows self.old self.new) }
         ensures follows { Follows self.new env.now.table.now }
         ensures err { OnErr result (self.new ≡ self.old) }
     {
+        // The clause on undo rests on it.
+        let few = self.undo_kept() <= MOST_UNDO;
+        prove!(few);
         let prepared = self.prepare(alloc, base, command, env, gate)?;
         let Prepared {
             reply,
