@@ -1,1 +1,5 @@
 pub mod AsBox
+pub mod Fronts
+pub mod Opcodes
+pub mod Rows
+pub mod Slots

@@ -1,17 +1,23 @@
 -- What each call answers: what was in the slot before, what is in it after, what was written, and the number.
 --     0 done    1 no memory    2 no session in the slot    3 a line of the table can't be read
 --     4 there is no such thing    5 the room is too small    6 there is a session in the slot
-use Rattle.std.specs.Prelude.{◌≡◌, ℕ, ◌<◌, ◌⊎◌, List, length, take, Option, None, Some}
+use Rattle.std.specs.Prelude.{◌≡◌, ℕ, ◌⊎◌, List, length, map, Option, None, Some, slice_get}
+use Rattle.std.specs.FinMap as coin_map
 use Rattle.hash.specs.declared.id.Id.{Id}
 use Rattle.txn.specs.declared.outpoint.OutPoint.{OutPoint}
 use Rattle.curve.specs.Triple.{Triples}
-use Rattle.curve.specs.Lines.{IsTableOf}
+use Rattle.curve.specs.Lines.{IsFirstBad, IsTableOf}
 use Rattle.coins.specs.declared.coin.Coin.{Coin}
 use Rattle.rules.specs.declared.params.Params.{Params}
 use Rattle.tree.specs.declared.tip.Tip.{Tip}
 use Rattle.chain.specs.declared.command.Command.{Command}
 use Rattle.chain.specs.declared.reply.Reply.{Reply}
+use Rattle.tree.specs.Branches.{height as height_of}
+use Rattle.tree.specs.Tips.{tip_of_id}
 use Rattle.chain.specs.Commands.{outcome}
+use Rattle.chain.specs.Regtest.{ledger}
+use Rattle.chain.specs.Replay.{coins}
+use Rattle.chain.specs.Settle.{active, best, tips}
 use Rattle.ffi.specs.declared.answers.Answer.{Answer}
 use Rattle.ffi.specs.declared.answers.Heights.{Heights}
 use Rattle.ffi.specs.declared.answers.Name.{Name}
@@ -19,6 +25,7 @@ use Rattle.ffi.specs.declared.answers.Place.{Place}
 use Rattle.ffi.specs.declared.answers.ShownCoin.{ShownCoin}
 use Rattle.ffi.specs.declared.answers.ShownTip.{ShownTip}
 use Rattle.ffi.specs.Codes.{coinbase_number, input_number, reason_number, reply_number, status_number, transaction_number}
+use Rattle.ffi.specs.Room.{IsFilled}
 use Rattle.ffi.specs.SessionState.{KeepsRules, SessionState, new_session, rules_of, state_of}
 
 abbrev pub params_of : Heights → Params
@@ -38,6 +45,20 @@ pub record IsOpenedBy (params : Params) (ls : List (List ℕ)) (after : Option S
   pub after_is : after ≡ Some (new_session params triples)
   pub table : IsTableOf ls triples
 
+-- A slot that is full stays so. Into another one a session comes; or a line can't be read, which alone is told; or there
+-- was no memory.
+abbrev pub IsOpened : Params → List (List ℕ) → Option SessionState → Option SessionState → ℕ → ℕ → ℕ → Type 0
+IsOpened params ls (Some s) after line told result = (result ≡ 6) × (after ≡ Some s) × (told ≡ line)
+IsOpened params ls None after line told result =
+    ((result ≡ 0) × IsOpenedBy params ls after × (told ≡ line))
+    ⊎ ((result ≡ 3) × (after ≡ None) × IsFirstBad ls told)
+    ⊎ ((result ≡ 1) × (after ≡ None) × (told ≡ line))
+
+-- a slot is closed exactly once
+abbrev pub close_number : Option SessionState → ℕ
+close_number None = 2
+close_number (Some s) = 0
+
 -- ---- steps
 
 -- a reply as C is told it
@@ -56,7 +77,22 @@ pub record IsTaken (s : SessionState) (after : Option SessionState) (c : Command
   pub rules : KeepsRules s next
   pub told : IsTold reply a
 
--- ---- reads
+-- The step is taken; or there was no memory, or no session, and the slot and what is told stay as they were.
+abbrev pub IsAnswered : Option SessionState → Option SessionState → Command → Answer → Answer → ℕ → Type 0
+IsAnswered None after c before told result = (result ≡ 2) × (after ≡ None) × (told ≡ before)
+IsAnswered (Some s) after c before told result =
+    ((result ≡ 0) × IsTaken s after c told)
+    ⊎ ((result ≡ 1) × (after ≡ Some s) × (told ≡ before))
+
+-- ---- reads: what isn't told stays as it was
+
+pub record ShowsBest (s : SessionState) (id : Name) (height : ℕ) : Type 0 where
+  pub id_is : id.bytes ≡ (best (rules_of s) (state_of s)).0
+  pub height_is : height ≡ height_of (state_of s).blocks (active (rules_of s) (state_of s))
+
+abbrev pub IsBestShown : Option SessionState → Name → ℕ → Type 0 → ℕ → Type 0
+IsBestShown None id height kept result = (result ≡ 2) × kept
+IsBestShown (Some s) id height kept result = (result ≡ 0) × ShowsBest s id height
 
 pub record ShowsTip (tip : Tip) (shown : ShownTip) : Type 0 where
   pub id : shown.id.bytes ≡ tip.id.0
@@ -65,9 +101,15 @@ pub record ShowsTip (tip : Tip) (shown : ShownTip) : Type 0 where
   pub status : shown.status ≡ status_number tip.status
 
 -- the tip is shown, or there was no memory; or there is none
-abbrev pub IsTipShown : Option Tip → ShownTip → ℕ → Type 0
-IsTipShown None shown result = (result ≡ 4) ⊎ (result ≡ 1)
-IsTipShown (Some tip) shown result = ((result ≡ 0) × ShowsTip tip shown) ⊎ (result ≡ 1)
+abbrev pub IsTipShown : Option Tip → ShownTip → Type 0 → ℕ → Type 0
+IsTipShown None shown kept result = ((result ≡ 4) ⊎ (result ≡ 1)) × kept
+IsTipShown (Some tip) shown kept result = ((result ≡ 0) × ShowsTip tip shown) ⊎ ((result ≡ 1) × kept)
+
+-- of the session's list of tips the one at a place
+abbrev pub IsTipTold : Option SessionState → ℕ → ShownTip → Type 0 → ℕ → Type 0
+IsTipTold None index shown kept result = (result ≡ 2) × kept
+IsTipTold (Some s) index shown kept result =
+    IsTipShown (slice_get (map tip_of_id (tips (rules_of s) (state_of s))) index) shown kept result
 
 pub record ShowsCoin (coin : Coin) (shown : ShownCoin) : Type 0 where
   pub value : shown.value ≡ coin.value
@@ -75,10 +117,13 @@ pub record ShowsCoin (coin : Coin) (shown : ShownCoin) : Type 0 where
   pub coinbase : shown.coinbase ≡ coinbase_number coin.coinbase
   pub script : shown.script ≡ length coin.script
 
--- the coin is shown, and its script where there is room; or there is none
-abbrev pub IsCoinShown : Option Coin → ShownCoin → List ℕ → ℕ → Type 0
-IsCoinShown None shown script result = result ≡ 4
-IsCoinShown (Some coin) shown script result =
-    ShowsCoin coin shown
-    × (((result ≡ 0) × (take (length coin.script) script ≡ coin.script))
-    ⊎ ((result ≡ 5) × (length script < length coin.script)))
+-- the coin is shown, and its script where there is room for it; or there is none
+abbrev pub IsCoinShown : Option Coin → ShownCoin → ShownCoin → List ℕ → List ℕ → ℕ → Type 0
+IsCoinShown None before shown room script result = (result ≡ 4) × (shown ≡ before) × (script ≡ room)
+IsCoinShown (Some coin) before shown room script result = ShowsCoin coin shown × IsFilled coin.script room script result
+
+-- of the session's coins the one at an outpoint
+abbrev pub IsCoinTold : Option SessionState → OutPoint → ShownCoin → ShownCoin → List ℕ → List ℕ → ℕ → Type 0
+IsCoinTold None at before shown room script result = (result ≡ 2) × (shown ≡ before) × (script ≡ room)
+IsCoinTold (Some s) at before shown room script result =
+    IsCoinShown (coin_map.get (coins (rules_of s) ledger (state_of s)) at) before shown room script result

@@ -1,5 +1,5 @@
 -- What is told of a block by the rules.
-use Rattle.std.specs.Prelude.{◌≡◌, ℕ, length}
+use Rattle.std.specs.Prelude.{◌≡◌, ℕ, ◌≤◌, ◌<◌, ◌⊎◌, List, length}
 use Rattle.txn.specs.First.{first_broken}
 use Rattle.txn.specs.Identity.{ids_of}
 use Rattle.block.specs.declared.block.Block.{Block}
@@ -7,6 +7,7 @@ use Rattle.block.specs.Identity.{id_of}
 use Rattle.block.specs.Merkle.{root, twin}
 use Rattle.block.specs.Sizes.{size_of}
 use Rattle.block.specs.Target.{meets_target}
+use Rattle.locks.specs.MedianTime.{median_of}
 use Rattle.rules.specs.Alone.{alone_rules}
 use Rattle.ffi.specs.declared.shown.ShownBlock.{ShownBlock}
 use Rattle.ffi.specs.Refusals.{bit, broken_number}
@@ -26,3 +27,9 @@ pub record ShowsBlock (b : Block) (shown : ShownBlock) : Type 0 where
   pub twin_is : shown.twin ≡ bit (twin (ids_of b.txs))
   pub target : shown.target ≡ bit (meets_target (id_of b.header))
   pub reason : shown.reason ≡ broken_number (first_broken (alone_rules b))
+
+-- the median of 1 to 11 times; of none, or of more, nothing is told
+abbrev pub IsMedianTold : List ℕ → ℕ → ℕ → ℕ → Type 0
+IsMedianTold times before middle result =
+    ((1 ≤ length times) × (length times ≤ 11) × (result ≡ 0) × (middle ≡ median_of times))
+    ⊎ (((length times ≡ 0) ⊎ (11 < length times)) × (result ≡ 25) × (middle ≡ before))

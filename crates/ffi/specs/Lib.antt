@@ -2,9 +2,13 @@ pub mod Answers
 pub mod BlockRules
 pub mod Blocks
 pub mod Codes
+pub mod Hashes
 pub mod Keeping
+pub mod Parts
 pub mod Refusals
+pub mod Room
 pub mod Scripts
 pub mod SessionState
+pub mod Tables
 pub mod Transactions
 pub mod inside

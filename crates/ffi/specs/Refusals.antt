@@ -2,11 +2,13 @@
 --     20 the bytes end too early    21 a count in more bytes than it needs    22 a count above the limit
 --     23 bytes behind the block     24 no such input    25 as many are wanted as there are inputs
 --     26 no record    27 a record that is cut short    28 a record above the limit
-use Rattle.std.specs.Prelude.{◌≡◌, ℕ, ◌⊎◌, Bool, true, false, List, Option, None, Some, Result, Ok, Err}
+use Rattle.std.specs.Prelude.{◌≡◌, ℕ, ◌⊎◌, Bool, true, false, List, length, Option, None, Some, Result, Ok, Err}
 use Rattle.wire.specs.declared.fault.WireFault.{WireFault}
 use Rattle.wire.specs.declared.fault.WireFault.TheVariants as wire
 use Rattle.txn.specs.declared.reason.Reason.{Reason}
 use Rattle.txn.specs.Reason.{number_of}
+use Rattle.block.specs.Blk.{IsEnd, IsFault, IsOutside, IsRecord}
+use Rattle.block.specs.Whole.{Faulty}
 use Rattle.block.specs.declared.block.Block.{Block}
 use Rattle.block.specs.declared.fault.ReadFault.{ReadFault}
 use Rattle.block.specs.declared.fault.ReadFault.TheVariants as block
@@ -48,11 +50,20 @@ abbrev pub IsTold : {X : Type 0} → Result (X × List ℕ) WireFault → (X →
 IsTold (Ok found) told kept result = told found.0 ⊎ ((result ≡ 1) × kept)
 IsTold (Err fault) told kept result = ((result ≡ wire_number fault) ⊎ (result ≡ 1)) × kept
 
--- The same of a block that bytes spell, all of them. That no block is spelled is told by one of four faults.
-abbrev pub IsBlockTold : Option Block → (Block → Type 0) → Type 0 → ℕ → Type 0
-IsBlockTold (Some b) told kept result = told b ⊎ ((result ≡ 1) × kept)
-IsBlockTold None told kept result = kept
+-- The same of a block that bytes spell, all of them. That no block is spelled is told by the fault that they have.
+abbrev pub IsBlockTold : List ℕ → Option Block → (Block → Type 0) → Type 0 → ℕ → Type 0
+IsBlockTold bytes (Some b) told kept result = told b ⊎ ((result ≡ 1) × kept)
+IsBlockTold bytes None told kept result =
+    (((fault : ReadFault) × Faulty fault bytes × (result ≡ read_number fault)) ⊎ (result ≡ 1)) × kept
 
 -- the bytes have this fault, so it is told
 abbrev pub IsFaultTold : ReadFault → ℕ → Type 0
 IsFaultTold fault result = (result ≡ read_number fault) ⊎ (result ≡ 1)
+
+-- what stands at the front of a blk file's bytes: a record, the end, or a fault; or there is no memory for the record
+abbrev pub IsRecordTold : List ℕ → ℕ → ℕ → ℕ → Type 0
+IsRecordTold bytes before size result =
+    ((block : List ℕ) × (after : List ℕ) × IsRecord block bytes after × (result ≡ 0) × (size ≡ length block))
+    ⊎ ((IsEnd bytes × (result ≡ 4) × (size ≡ before))
+    ⊎ (((fault : BlkFault) × IsFault 0 bytes fault × (IsOutside fault → ⊥) × (result ≡ blk_number fault) × (size ≡ before))
+    ⊎ ((result ≡ 1) × (size ≡ before))))

@@ -9,12 +9,11 @@ ghost use Rattle.block.specs.Target.{meets_target};
 ghost use Rattle.block.specs.Whole.{Faulty};
 ghost use Rattle.block.specs.declared.blk_fault.BlkFault.{BlkFault};
 ghost use Rattle.block.specs.declared.fault.ReadFault.{ReadFault};
-ghost use Rattle.locks.specs.MedianTime.{median_of};
 ghost use Rattle.rules.specs.Context.{context_rules};
 ghost use Rattle.rules.specs.Params.{at};
 ghost use Rattle.ffi.specs.Answers.{id_of, params_of};
-ghost use Rattle.ffi.specs.BlockRules.{ShowsBlock};
-ghost use Rattle.ffi.specs.Refusals.{IsBlockTold, IsFaultTold, bit, blk_number, broken_number, read_number};
+ghost use Rattle.ffi.specs.BlockRules.{IsMedianTold, ShowsBlock};
+ghost use Rattle.ffi.specs.Refusals.{IsBlockTold, IsFaultTold, IsRecordTold, bit, blk_number, broken_number, read_number};
 
 use crate::answers::{DONE, Heights, MEMORY, MISMATCH, NONE, Name};
 use crate::shown::ShownBlock;
@@ -44,7 +43,7 @@ fn refusal(fault: ReadFault) -> u32
 /// The block that all these bytes spell, with its id, its root and the first rule that it breaks by itself.
 #[unsafe(no_mangle)]
 pub extern "C" fn ffi_block(alloc: Global, bytes: &[u8], shown: &mut ShownBlock) -> u32
-    ensures told { IsBlockTold (block_of_bytes bytes.now) (λ b. (result ≡ 0) × ShowsBlock b shown.new)
+    ensures told { IsBlockTold bytes.now (block_of_bytes bytes.now) (λ b. (result ≡ 0) × ShowsBlock b shown.new)
         (shown.new ≡ shown.old) result }
     ensures fault { (e : ReadFault) → Faulty e bytes.now → IsFaultTold e result }
 {
@@ -104,7 +103,7 @@ pub extern "C" fn ffi_block_place(
     heights: &Heights,
     reason: &mut u32,
 ) -> u32
-    ensures told { IsBlockTold (block_of_bytes bytes.now) (λ b. (result ≡ 0) × (reason.new
+    ensures told { IsBlockTold bytes.now (block_of_bytes bytes.now) (λ b. (result ≡ 0) × (reason.new
         ≡ broken_number (first_broken (context_rules (at (params_of heights.now) height) b height median now))))
         (reason.new ≡ reason.old) result }
     ensures fault { (e : ReadFault) → Faulty e bytes.now → IsFaultTold e result }
@@ -127,6 +126,7 @@ pub extern "C" fn ffi_block_place(
 /// How many bytes the block has of the record at the front of a blk file's bytes: it stands behind the record's first 8.
 #[unsafe(no_mangle)]
 pub extern "C" fn ffi_record(alloc: Global, bytes: &[u8], size: &mut u64) -> u32
+    ensures told { IsRecordTold bytes.now size.old size.new result }
     ensures record { (block after : List ℕ) → IsRecord block bytes.now after
         → ((result ≡ 0) × (size.new ≡ length block)) ⊎ ((result ≡ 1) × (size.new ≡ size.old)) }
     ensures end { IsEnd bytes.now → ((result ≡ 4) ⊎ (result ≡ 1)) × (size.new ≡ size.old) }
@@ -176,8 +176,7 @@ pub extern "C" fn ffi_meets_target(id: &Name) -> u32
 /// The median of 1 to 11 times.
 #[unsafe(no_mangle)]
 pub extern "C" fn ffi_median(times: &[u32], middle: &mut u32) -> u32
-    ensures { ((result ≡ 0) × (middle.new ≡ median_of times.now))
-        ⊎ ((result ≡ 25) × (middle.new ≡ middle.old)) }
+    ensures { IsMedianTold times.now middle.old middle.new result }
 {
     if times.is_empty() || times.len() > 11 {
         return MISMATCH;

@@ -1,11 +1,13 @@
 //! What C asks of a block's bytes, of which it keeps a copy. No chainstate is looked at.
 
-ghost use Rattle.std.specs.Prelude.{◌≡◌, ◌⊎◌, ◌<◌, IfOk, length, map, take, Some};
+ghost use Rattle.std.specs.Prelude.{◌≡◌, ◌<◌, IfOk, length, map, Some};
 ghost use Rattle.block.specs.Decoding.{block_of_bytes};
 ghost use Rattle.block.specs.declared.block.Block.{Block};
-ghost use Rattle.ffi.specs.Blocks.{AreListed, IsHeaderShown, IsListed, made_of};
+ghost use Rattle.ffi.specs.Blocks.{IsHeaderShown, IsHeaderTold, IsListed, made_of};
+ghost use Rattle.ffi.specs.Room.{IsCounted};
 
-use crate::answers::{DONE, MEMORY, Made, NONE, Name, TOO_SMALL};
+use crate::answers::{DONE, MEMORY, Made, NONE, Name};
+use crate::room::fill;
 use block::{ReadFault, header_of, read};
 use std::alloc::Global;
 use txn::Tx;
@@ -14,7 +16,9 @@ use wire::Memory;
 /// The id of the block that these bytes spell, and its parent's. Their first 80 alone are looked at.
 #[unsafe(no_mangle)]
 pub extern "C" fn ffi_header(bytes: &[u8], id: &mut Name, parent: &mut Name) -> u32
-    ensures { (b : Block) → block_of_bytes bytes.now ≡ Some b
+    ensures told { IsHeaderTold bytes.now id.new parent.new
+        ((id.new ≡ id.old) × (parent.new ≡ parent.old)) result }
+    ensures of_block { (b : Block) → block_of_bytes bytes.now ≡ Some b
         → IsHeaderShown b.header id.new parent.new result }
 {
     match header_of(bytes) {
@@ -38,7 +42,7 @@ pub extern "C" fn ffi_transactions(
     rows: &mut [Made],
     count: &mut u64,
 ) -> u32
-    ensures { IsListed (block_of_bytes bytes.now) rows.new count.new result }
+    ensures { IsListed (block_of_bytes bytes.now) rows.old rows.new count.old count.new result }
 {
     match read(alloc, bytes) {
         Err(ReadFault::Memory) => MEMORY,
@@ -48,18 +52,13 @@ pub extern "C" fn ffi_transactions(
 }
 
 fn list(alloc: Global, txs: &[Tx], rows: &mut [Made], count: &mut u64) -> u32
-    ensures { AreListed txs.now rows.new count.new result }
+    ensures { IsCounted (map made_of txs.now) rows.old rows.new count.old count.new result }
 {
-    *count = txs.len() as u64;
     let Ok(made) = made_by(alloc, txs) else {
         return MEMORY;
     };
-    let made = made.as_slice();
-    if made.len() > rows.len() {
-        return TOO_SMALL;
-    }
-    rows[..made.len()].copy_from_slice(made);
-    DONE
+    *count = made.len() as u64;
+    fill(made.as_slice(), rows)
 }
 
 fn made_by(alloc: Global, txs: &[Tx]) -> Result<Vec<Made>, Memory>

@@ -1,21 +1,19 @@
 //! The calls, as C names them. A slot that holds no session is answered by a number, and nothing changes.
 
-ghost use Rattle.std.specs.Prelude.{◌≡◌, ◌⊎◌, IsSome, None, Some, map, slice_get};
+ghost use Rattle.std.specs.Prelude.{◌≡◌, None, Some};
 ghost use Rattle.std.specs.FinMap as coin_map;
-ghost use Rattle.curve.specs.Lines.{IsFirstBad, lines};
+ghost use Rattle.curve.specs.Lines.{lines};
 ghost use Rattle.chain.specs.declared.command.Command.TheVariants as command;
 ghost use Rattle.chain.specs.Regtest.{ledger};
 ghost use Rattle.chain.specs.Replay.{coins};
-ghost use Rattle.chain.specs.Settle.{active, best, tips};
-ghost use Rattle.tree.specs.Branches.{height as height_of};
-ghost use Rattle.tree.specs.Tips.{tip_of_id};
-ghost use Rattle.ffi.specs.Answers.{IsCoinShown, IsOpenedBy, IsTaken, IsTipShown, id_of, outpoint_of, params_of};
-ghost use Rattle.ffi.specs.SessionState.{SessionState, rules_of, state_of};
+ghost use Rattle.ffi.specs.Answers.{IsAnswered, IsBestShown, IsCoinShown, IsCoinTold, IsOpened, IsTipTold, close_number, id_of, outpoint_of, params_of};
+ghost use Rattle.ffi.specs.SessionState.{rules_of, state_of};
 
 use crate::answers::{
     Answer, BAD_TABLE, CLOSED, DONE, FULL, Heights, MEMORY, NONE, Name, Place, ShownCoin, ShownTip,
-    TOO_SMALL, as_told, shown_tip,
+    as_told, shown_tip,
 };
+use crate::room::fill;
 use crate::session::Session;
 use crate::slot::{Slot, put, take};
 use block::Bytes;
@@ -35,14 +33,9 @@ pub extern "C" fn ffi_open(
     table: &[u8],
     line: &mut u64,
 ) -> u32
-    ensures opened { result ≡ 0
-        → IsOpenedBy (params_of heights.now) (lines table.now) slot.new.kept.value }
-    ensures was_empty { result ≡ 0 → slot.old.kept.value ≡ None }
-    ensures refused { (result ≡ 0) ⊎ (slot.new.kept.value ≡ slot.old.kept.value) }
-    ensures bad_line { result ≡ 3 → IsFirstBad (lines table.now) line.new }
-    ensures full { result ≡ 6 → IsSome slot.old.kept.value }
+    ensures { IsOpened (params_of heights.now) (lines table.now) slot.old.kept.value
+        slot.new.kept.value line.old line.new result }
 {
-    *line = 0;
     if slot.is_full() {
         return FULL;
     }
@@ -71,7 +64,8 @@ pub extern "C" fn ffi_open(
 /// Gives the session's memory back.
 #[unsafe(no_mangle)]
 pub extern "C" fn ffi_close(alloc: Global, slot: &mut Slot) -> u32
-    ensures { slot.new.kept.value ≡ None }
+    ensures away { slot.new.kept.value ≡ None }
+    ensures code { result ≡ close_number slot.old.kept.value }
 {
     match take(alloc, slot) {
         None => CLOSED,
@@ -84,12 +78,8 @@ pub extern "C" fn ffi_close(alloc: Global, slot: &mut Slot) -> u32
 
 /// One step of the session in a slot.
 fn step(alloc: Global, slot: &mut Slot, asked: &Command, reply: &mut Answer) -> u32
-    ensures closed { slot.old.kept.value ≡ None → result ≡ 2 }
-    ensures taken { (s : SessionState) → slot.old.kept.value ≡ Some s → result ≡ 0
-        → IsTaken s slot.new.kept.value asked.now reply.new }
-    ensures refused { (result ≡ 0) ⊎ (slot.new.kept.value ≡ slot.old.kept.value) }
-    ensures answers { (s : SessionState) → slot.old.kept.value ≡ Some s
-        → (result ≡ 0) ⊎ (result ≡ 1) }
+    ensures { IsAnswered slot.old.kept.value slot.new.kept.value asked.now
+        reply.old reply.new result }
 {
     let Some(mut session) = take(alloc, slot) else {
         return CLOSED;
@@ -114,12 +104,8 @@ pub extern "C" fn ffi_submit(
     now: u64,
     reply: &mut Answer,
 ) -> u32
-    ensures closed { slot.old.kept.value ≡ None → result ≡ 2 }
-    ensures taken { (s : SessionState) → slot.old.kept.value ≡ Some s → result ≡ 0
-        → IsTaken s slot.new.kept.value (command.Submit bytes.now now) reply.new }
-    ensures refused { (result ≡ 0) ⊎ (slot.new.kept.value ≡ slot.old.kept.value) }
-    ensures answers { (s : SessionState) → slot.old.kept.value ≡ Some s
-        → (result ≡ 0) ⊎ (result ≡ 1) }
+    ensures { IsAnswered slot.old.kept.value slot.new.kept.value (command.Submit bytes.now now)
+        reply.old reply.new result }
 {
     if !slot.is_full() {
         return CLOSED;
@@ -138,12 +124,8 @@ pub extern "C" fn ffi_invalidate(
     id: &Name,
     reply: &mut Answer,
 ) -> u32
-    ensures closed { slot.old.kept.value ≡ None → result ≡ 2 }
-    ensures taken { (s : SessionState) → slot.old.kept.value ≡ Some s → result ≡ 0
-        → IsTaken s slot.new.kept.value (command.Invalidate (id_of id.now)) reply.new }
-    ensures refused { (result ≡ 0) ⊎ (slot.new.kept.value ≡ slot.old.kept.value) }
-    ensures answers { (s : SessionState) → slot.old.kept.value ≡ Some s
-        → (result ≡ 0) ⊎ (result ≡ 1) }
+    ensures { IsAnswered slot.old.kept.value slot.new.kept.value (command.Invalidate (id_of id.now))
+        reply.old reply.new result }
 {
     let bytes = id.bytes;
     step(alloc, slot, &Command::Invalidate(Id(bytes)), reply)
@@ -157,12 +139,8 @@ pub extern "C" fn ffi_reconsider(
     id: &Name,
     reply: &mut Answer,
 ) -> u32
-    ensures closed { slot.old.kept.value ≡ None → result ≡ 2 }
-    ensures taken { (s : SessionState) → slot.old.kept.value ≡ Some s → result ≡ 0
-        → IsTaken s slot.new.kept.value (command.Reconsider (id_of id.now)) reply.new }
-    ensures refused { (result ≡ 0) ⊎ (slot.new.kept.value ≡ slot.old.kept.value) }
-    ensures answers { (s : SessionState) → slot.old.kept.value ≡ Some s
-        → (result ≡ 0) ⊎ (result ≡ 1) }
+    ensures { IsAnswered slot.old.kept.value slot.new.kept.value (command.Reconsider (id_of id.now))
+        reply.old reply.new result }
 {
     let bytes = id.bytes;
     step(alloc, slot, &Command::Reconsider(Id(bytes)), reply)
@@ -171,12 +149,8 @@ pub extern "C" fn ffi_reconsider(
 /// Prefers the block of this id to all that are as high.
 #[unsafe(no_mangle)]
 pub extern "C" fn ffi_precious(alloc: Global, slot: &mut Slot, id: &Name, reply: &mut Answer) -> u32
-    ensures closed { slot.old.kept.value ≡ None → result ≡ 2 }
-    ensures taken { (s : SessionState) → slot.old.kept.value ≡ Some s → result ≡ 0
-        → IsTaken s slot.new.kept.value (command.Precious (id_of id.now)) reply.new }
-    ensures refused { (result ≡ 0) ⊎ (slot.new.kept.value ≡ slot.old.kept.value) }
-    ensures answers { (s : SessionState) → slot.old.kept.value ≡ Some s
-        → (result ≡ 0) ⊎ (result ≡ 1) }
+    ensures { IsAnswered slot.old.kept.value slot.new.kept.value (command.Precious (id_of id.now))
+        reply.old reply.new result }
 {
     let bytes = id.bytes;
     step(alloc, slot, &Command::Precious(Id(bytes)), reply)
@@ -186,12 +160,8 @@ pub extern "C" fn ffi_precious(alloc: Global, slot: &mut Slot, id: &Name, reply:
 #[unsafe(no_mangle)]
 pub extern "C" fn ffi_best(alloc: Global, slot: &mut Slot, id: &mut Name, height: &mut u64) -> u32
     ensures kept { slot.new.kept.value ≡ slot.old.kept.value }
-    ensures closed { slot.old.kept.value ≡ None → result ≡ 2 }
-    ensures best_is { (s : SessionState) → slot.old.kept.value ≡ Some s
-        → id.new.bytes ≡ (best (rules_of s) (state_of s)).0 }
-    ensures height_is { (s : SessionState) → slot.old.kept.value ≡ Some s
-        → height.new ≡ height_of (state_of s).blocks (active (rules_of s) (state_of s)) }
-    ensures done { (s : SessionState) → slot.old.kept.value ≡ Some s → result ≡ 0 }
+    ensures told { IsBestShown slot.old.kept.value id.new height.new
+        ((id.new ≡ id.old) × (height.new ≡ height.old)) result }
 {
     let Some(session) = take(alloc, slot) else {
         return CLOSED;
@@ -207,10 +177,7 @@ pub extern "C" fn ffi_best(alloc: Global, slot: &mut Slot, id: &mut Name, height
 #[unsafe(no_mangle)]
 pub extern "C" fn ffi_tip(alloc: Global, slot: &mut Slot, index: u64, tip: &mut ShownTip) -> u32
     ensures kept { slot.new.kept.value ≡ slot.old.kept.value }
-    ensures closed { slot.old.kept.value ≡ None → result ≡ 2 }
-    ensures tip_is { (s : SessionState) → slot.old.kept.value ≡ Some s
-        → IsTipShown (slice_get (map tip_of_id (tips (rules_of s) (state_of s))) index) tip.new
-        result }
+    ensures told { IsTipTold slot.old.kept.value index tip.new (tip.new ≡ tip.old) result }
 {
     let Some(session) = take(alloc, slot) else {
         return CLOSED;
@@ -239,10 +206,8 @@ pub extern "C" fn ffi_coin(
     script: &mut [u8],
 ) -> u32
     ensures kept { slot.new.kept.value ≡ slot.old.kept.value }
-    ensures closed { slot.old.kept.value ≡ None → result ≡ 2 }
-    ensures coin_is { (s : SessionState) → slot.old.kept.value ≡ Some s
-        → IsCoinShown (coin_map.get (coins (rules_of s) ledger (state_of s)) (outpoint_of at.now))
-        coin.new script.new result }
+    ensures told { IsCoinTold slot.old.kept.value (outpoint_of at.now) coin.old coin.new
+        script.old script.new result }
 {
     let Some(session) = take(alloc, slot) else {
         return CLOSED;
@@ -254,7 +219,8 @@ pub extern "C" fn ffi_coin(
 
 fn show_coin(session: &Session, at: &Place, shown: &mut ShownCoin, script: &mut [u8]) -> u32
     ensures { let s = session.now in let o = outpoint_of at.now in
-        IsCoinShown (coin_map.get (coins (rules_of s) ledger (state_of s)) o) shown.new script.new result }
+        IsCoinShown (coin_map.get (coins (rules_of s) ledger (state_of s)) o) shown.old shown.new
+        script.old script.new result }
 {
     let bytes = at.id.bytes;
     let outpoint = OutPoint {
@@ -271,9 +237,5 @@ fn show_coin(session: &Session, at: &Place, shown: &mut ShownCoin, script: &mut 
         height: coin.height,
         coinbase: coin.coinbase as u32,
     };
-    if bytes.len() > script.len() {
-        return TOO_SMALL;
-    }
-    script[..bytes.len()].copy_from_slice(bytes);
-    DONE
+    fill(bytes, script)
 }

@@ -1,12 +1,12 @@
 //! Hashes, and how ids are printed.
 
-ghost use Rattle.std.specs.Prelude.{◌≡◌, ◌⊎◌, reverse, Ok};
+ghost use Rattle.std.specs.Prelude.{◌≡◌};
 ghost use Rattle.hash.specs.Double.{double_sha};
 ghost use Rattle.hash.specs.Id.{hex_of_id};
 ghost use Rattle.hash.specs.KeyHash.{hash160};
-ghost use Rattle.hex.specs.Hex.{decode_of};
 ghost use Rattle.ripemd.specs.Ripemd160.{ripemd160};
 ghost use Rattle.ffi.specs.Answers.{id_of};
+ghost use Rattle.ffi.specs.Hashes.{IsIdRead};
 
 use crate::answers::{DONE, NONE, Name};
 use crate::shown::{Digits, KeyName};
@@ -49,8 +49,7 @@ pub extern "C" fn ffi_id_show(id: &Name, digits: &mut Digits)
 /// The id that is printed so, if these are 64 digits.
 #[unsafe(no_mangle)]
 pub extern "C" fn ffi_id_read(text: &[u8], id: &mut Name) -> u32
-    ensures { ((result ≡ 0) × (decode_of text.now ≡ Ok (reverse id.new.bytes)))
-        ⊎ ((result ≡ 4) × (id.new ≡ id.old)) }
+    ensures { IsIdRead text.now id.old id.new result }
 {
     match Id::read(text) {
         None => NONE,

@@ -5,12 +5,16 @@ mod answers;
 mod block_rules;
 mod blocks;
 mod exports;
+mod front;
 mod hashes;
 mod kept;
+mod parts;
+mod room;
 mod scripts;
 mod session;
 mod shown;
 mod slot;
+mod tables;
 mod transactions;
 mod unboxed;
 

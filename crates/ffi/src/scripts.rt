@@ -1,7 +1,7 @@
 //! What is asked of scripts, and of an input that spends one.
 
-ghost use Rattle.std.specs.Prelude.{◌≡◌, ◌↔◌, ◌⊎◌, ◌<◌, ◌∷◌, ℕ, [], min, length, IsTrue, IfOk, MatchOption};
-ghost use Rattle.curve.specs.Lines.{IsFirstBad, lines};
+ghost use Rattle.std.specs.Prelude.{◌≡◌, ◌↔◌, ◌<◌, ◌∷◌, [], min, length, IsTrue, IfOk};
+ghost use Rattle.curve.specs.Lines.{lines};
 ghost use Rattle.curve.specs.computed.Shape.{is_strict};
 ghost use Rattle.interp.specs.Rules.{Accepts};
 ghost use Rattle.script.specs.Num.{operand, shortest_bytes};
@@ -10,13 +10,16 @@ ghost use Rattle.script.specs.Signatures.{p2sh_sigops};
 ghost use Rattle.sighash.specs.Digest.{digest_of};
 ghost use Rattle.txn.specs.computed.Reading.{tx_at};
 ghost use Rattle.ffi.specs.Refusals.{IsTold, bit};
-ghost use Rattle.ffi.specs.Scripts.{IsFilled, IsNumberTold, IsOfInput, IsInputJudged, IsJudged, IsOpShown, ShowsScript, flags_of};
+ghost use Rattle.ffi.specs.Room.{IsCounted};
+ghost use Rattle.ffi.specs.Scripts.{IsNumberTold, IsOfInput, IsInputJudged, IsJudged, IsOpShown, ShowsScript, flags_of};
 ghost use Rattle.ffi.specs.Transactions.{counted};
 
-use crate::answers::{BAD_TABLE, DONE, MEMORY, NO_INPUT, NONE, Name, TOO_SMALL};
-use crate::shown::{ShownFlags, ShownOp, ShownScript};
+use crate::answers::{DONE, MEMORY, NO_INPUT, NONE, Name};
+use crate::room::fill;
+use crate::shown::{ShownFlags, ShownOp, ShownScript, bit};
+use crate::tables::table_of;
 use crate::transactions::{counted, front};
-use curve::{Table, TableFault, der_shape};
+use curve::{Table, der_shape};
 use interp::{Flags, Job, verify};
 use script::{
     Counting, Num, Ops, is_p2sh, number, p2sh_sigops, push_only, pushed, sigops, unspendable,
@@ -29,7 +32,7 @@ use wire::{Cursor, Memory};
 /// The opcode at the front of a script.
 #[unsafe(no_mangle)]
 pub extern "C" fn ffi_op(script: &[u8], shown: &mut ShownOp) -> u32
-    ensures { IsOpShown (ops script.now) shown.new (shown.new ≡ shown.old) result }
+    ensures { IsOpShown script.now (ops script.now) shown.new (shown.new ≡ shown.old) result }
 {
     let mut ops = Ops::new(script);
     match ops.next() {
@@ -91,24 +94,15 @@ pub extern "C" fn ffi_number_bytes(
     bytes: &mut [u8],
     count: &mut u64,
 ) -> u32
-    ensures { IsFilled (shortest_bytes value) bytes.new count.new (bytes.new ≡ bytes.old) result
-        ⊎ ((result ≡ 1) × ((bytes.new ≡ bytes.old) × (count.new ≡ count.old))) }
+    ensures { IsCounted (shortest_bytes value) bytes.old bytes.new count.old count.new result }
 {
     match Num(value).spell(alloc) {
         Err(_) => MEMORY,
-        Ok(spelled) => fill(spelled.as_slice(), bytes, count),
+        Ok(spelled) => {
+            *count = spelled.len() as u64;
+            fill(spelled.as_slice(), bytes)
+        }
     }
-}
-
-fn fill(found: &[u8], bytes: &mut [u8], count: &mut u64) -> u32
-    ensures { IsFilled found.now bytes.new count.new (bytes.new ≡ bytes.old) result }
-{
-    *count = found.len() as u64;
-    if found.len() > bytes.len() {
-        return TOO_SMALL;
-    }
-    bytes[..found.len()].copy_from_slice(found);
-    DONE
 }
 
 /// 1 where a signature with its hash type is strictly encoded (BIP 66) or has no byte, and else 0.
@@ -116,7 +110,7 @@ fn fill(found: &[u8], bytes: &mut [u8], count: &mut u64) -> u32
 pub extern "C" fn ffi_strict(bytes: &[u8]) -> u32
     ensures { result ≡ bit (is_strict bytes.now) }
 {
-    der_shape(bytes) as u32
+    bit(der_shape(bytes))
 }
 
 /// What a signature of an input signs, for this code and hash type.
@@ -177,10 +171,10 @@ pub extern "C" fn ffi_verify(
     line: &mut u64,
     accepted: &mut u32,
 ) -> u32
-    ensures bad_line { result ≡ 3 → IsFirstBad (lines table.now) line.new }
-    ensures told { IsTold (tx_at bytes.now) (λ tx. IsInputJudged tx input spent.now
-        (flags_of flags.now) (lines table.now) accepted.new (accepted.new ≡ accepted.old) result)
-        (accepted.new ≡ accepted.old) result }
+    ensures { let kept = accepted.new ≡ accepted.old in
+        IsTold (tx_at bytes.now) (λ tx. IsInputJudged tx input spent.now (flags_of flags.now)
+        (lines table.now) line.old line.new accepted.new kept result)
+        ((line.new ≡ line.old) × kept) result }
 {
     let mut cursor = Cursor::new(bytes);
     match front(alloc, &mut cursor) {
@@ -214,30 +208,19 @@ fn tell_verdict(
     accepted: &mut u32,
 ) -> u32
     requires { input < length tx.now.inputs }
-    ensures bad_line { result ≡ 3 → IsFirstBad (lines table.now) line.new }
-    ensures told { IsJudged tx.now input spent.now (flags_of flags.now) (lines table.now)
-        accepted.new (accepted.new ≡ accepted.old) result }
+    ensures { IsJudged tx.now input spent.now (flags_of flags.now) (lines table.now)
+        line.old line.new accepted.new (accepted.new ≡ accepted.old) result }
 {
-    match Table::from_lines(alloc, table) {
-        Err(TableFault::Memory) => MEMORY,
-        Err(TableFault::BadLine(number)) => {
-            *line = number as u64;
-            BAD_TABLE
-        }
+    match table_of(alloc, table, line) {
+        Err(code) => code,
         Ok(table) => match judge(alloc, tx, input, spent, flags, &table) {
             Err(_) => MEMORY,
             Ok(yes) => {
-                *accepted = told(yes);
+                *accepted = bit(yes);
                 DONE
             }
         },
     }
-}
-
-fn told(yes: bool) -> u32
-    ensures { result ≡ bit yes }
-{
-    yes as u32
 }
 
 fn judge(

@@ -1,6 +1,16 @@
 //! What the calls without a chainstate take and tell.
 
+ghost use Rattle.std.specs.Prelude.{◌≡◌};
+ghost use Rattle.ffi.specs.Refusals.{bit};
+
 use crate::answers::Name;
+
+/// A yes or a no as a number.
+pub(crate) fn bit(yes: bool) -> u32
+    ensures { result ≡ bit yes }
+{
+    yes as u32
+}
 
 /// A transaction, but for its parts: its id, its bytes, how many inputs and outputs it has, its signature operations,
 /// and the first rule that it breaks by itself, 0 where there is none.
@@ -16,6 +26,24 @@ pub struct ShownTx {
     pub lock_time: u32,
     pub coinbase: u32,
     pub reason: u32,
+}
+
+/// An input: the output that it spends, how many bytes its script has, and its sequence number.
+#[repr(C)]
+#[derive(Clone, Copy, Drop)]
+pub struct InputRow {
+    pub id: Name,
+    pub script: u64,
+    pub index: u32,
+    pub sequence: u32,
+}
+
+/// An output: its value, and how many bytes its script has.
+#[repr(C)]
+#[derive(Clone, Copy, Drop)]
+pub struct OutputRow {
+    pub value: i64,
+    pub script: u64,
 }
 
 /// From where the lock of an input counts: its coin's height, and the median time past of the block before that one.

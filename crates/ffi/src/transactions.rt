@@ -18,7 +18,7 @@ use txn::{Reason, Tx, TxFault, check, read};
 use wire::{Cursor, Memory};
 
 /// Why there is no transaction, by its number.
-fn refusal(fault: TxFault) -> u32
+pub(crate) fn refusal(fault: TxFault) -> u32
     ensures { result ≡ tx_number fault }
 {
     match fault {

@@ -1,10 +1,17 @@
--- The session that was opened is the one that is put into the slot.
-use Rattle.std.proofs.Common.{Some, ap, ◌∙◌}
+-- The session that was opened is the one that is put into the slot, which had none.
+use Rattle.std.proofs.Common.{Some, inl, refl, sym, ap, ◌∙◌}
+use Rattle.ffi.proofs.Slots.{empty}
 use Rattle.ffi.proofs.exports.ffi_open.Goals as goal
 
-pub returns-clause-opened : goal.returns-clause-opened
-returns-clause-opened c done = record {
-  triples = c.in-Ok.session.triples;
-  after_is = c.put.ensures ∙ ap Some (c.in-Ok-new.ensures.ok ∙ c.in-Ok.ensures.found.0);
-  table = c.in-Ok.ensures.found.1;
-}
+pub returns : goal.returns
+returns c =
+    let none = empty c.args.slot.now.kept.value (sym c.is_full.ensures ∙ c.if-is_full.false) in
+    rw none (inl (
+      refl,
+      record {
+        triples = c.in-Ok.session.triples;
+        after_is = c.put.ensures ∙ ap Some (c.in-Ok-new.ensures.ok ∙ c.in-Ok.ensures.found.0);
+        table = c.in-Ok.ensures.found.1;
+      },
+      refl,
+    ))
