@@ -12,7 +12,13 @@ uint32_t ffi_tx(const uint8_t *bytes, size_t length, wakotehu_transaction *shown
 uint32_t ffi_tx_final(const uint8_t *bytes, size_t length, uint32_t height, uint32_t cutoff, uint32_t *yes);
 uint32_t ffi_tx_locks(const uint8_t *bytes, size_t length, const wakotehu_start *starts, size_t count, uint32_t height,
                       uint32_t cutoff, uint32_t *yes);
+uint32_t ffi_tx_parts(const uint8_t *bytes, size_t length, wakotehu_input *inputs, size_t most_inputs,
+                      wakotehu_output *outputs, size_t most_outputs, uint8_t *scripts, size_t most_scripts);
+uint32_t ffi_tx_write(int32_t version, uint32_t lock_time, const wakotehu_input *inputs, size_t input_count,
+                      const wakotehu_output *outputs, size_t output_count, const uint8_t *scripts, size_t scripts_length,
+                      uint8_t *bytes, size_t most, uint64_t *length);
 uint32_t ffi_block(const uint8_t *bytes, size_t length, wakotehu_block_shown *shown);
+uint32_t ffi_block_size(const uint8_t *bytes, size_t length, uint64_t *size);
 uint32_t ffi_block_place(const uint8_t *bytes, size_t length, uint32_t height, uint32_t median, uint64_t now,
                          const wakotehu_heights *heights, uint32_t *reason);
 uint32_t ffi_record(const uint8_t *bytes, size_t length, uint64_t *block);
@@ -30,6 +36,12 @@ uint32_t ffi_digest(const uint8_t *bytes, size_t length, uint64_t input, const u
 uint32_t ffi_verify(const uint8_t *bytes, size_t length, uint64_t input, const uint8_t *spent, size_t spent_length,
                     const wakotehu_flags *flags, const uint8_t *table, size_t table_length, uint64_t *line,
                     uint32_t *accepted);
+uint32_t ffi_table(const uint8_t *table, size_t length, uint64_t *line);
+uint32_t ffi_table_has(const uint8_t *table, size_t length, const uint8_t *key, size_t key_length,
+                       const uint8_t *signature, size_t signature_length, const uint8_t *digest, uint64_t *line,
+                       uint32_t *yes);
+uint32_t ffi_table_line(const uint8_t *key, size_t key_length, const uint8_t *signature, size_t signature_length,
+                        const uint8_t *digest, uint8_t *line, size_t most, uint64_t *length);
 void ffi_ripemd160(const uint8_t *bytes, size_t length, uint8_t *digest);
 void ffi_hash160(const uint8_t *bytes, size_t length, uint8_t *digest);
 void ffi_double_sha(const uint8_t *bytes, size_t length, uint8_t *digest);
@@ -42,6 +54,8 @@ _Static_assert(sizeof(wakotehu_block_shown) == 176 && offsetof(wakotehu_block_sh
 _Static_assert(sizeof(wakotehu_opcode) == 24 && sizeof(wakotehu_script_shown) == 32, "as ShownOp and ShownScript");
 _Static_assert(sizeof(wakotehu_start) == 8 && sizeof(wakotehu_flags) == 12, "as Start and ShownFlags");
 _Static_assert(sizeof(wakotehu_made) == 40, "as Made");
+_Static_assert(sizeof(wakotehu_input) == 48 && offsetof(wakotehu_input, sequence) == 44, "as InputRow");
+_Static_assert(sizeof(wakotehu_output) == 16, "as OutputRow");
 
 /* Where no byte is meant some address that isn't null is passed on, aligned for any row. */
 static _Alignas(8) uint8_t nothing[8];
@@ -53,6 +67,7 @@ static bool rows_fit(const void *rows, size_t count, size_t size) {
 }
 
 #define AT(bytes, length) ((length) ? (bytes) : (const void *)nothing)
+#define INTO(room, length) ((length) ? (room) : (void *)nothing)
 
 wakotehu_code wakotehu_read_transaction(const uint8_t *bytes, size_t length, wakotehu_transaction *shown) {
     if (!readable(bytes, length) || !shown)
@@ -73,6 +88,35 @@ wakotehu_code wakotehu_locks_met(const uint8_t *bytes, size_t length, const wako
     return (wakotehu_code)ffi_tx_locks(AT(bytes, length), length, AT(starts, count), count, height, cutoff, yes);
 }
 
+wakotehu_code wakotehu_transaction_parts(const uint8_t *bytes, size_t length, wakotehu_input *inputs,
+                                         size_t most_inputs, wakotehu_output *outputs, size_t most_outputs,
+                                         uint8_t *scripts, size_t most_scripts) {
+    if (!readable(bytes, length) || !rows_fit(inputs, most_inputs, sizeof *inputs)
+        || !rows_fit(outputs, most_outputs, sizeof *outputs) || !readable(scripts, most_scripts))
+        return WAKOTEHU_NULL;
+    return (wakotehu_code)ffi_tx_parts(AT(bytes, length), length, INTO(inputs, most_inputs), most_inputs,
+                                       INTO(outputs, most_outputs), most_outputs, INTO(scripts, most_scripts),
+                                       most_scripts);
+}
+
+wakotehu_code wakotehu_write_transaction(int32_t version, uint32_t lock_time, const wakotehu_input *inputs,
+                                         size_t input_count, const wakotehu_output *outputs, size_t output_count,
+                                         const uint8_t *scripts, size_t scripts_length, uint8_t *bytes, size_t most,
+                                         uint64_t *length) {
+    if (!rows_fit(inputs, input_count, sizeof *inputs) || !rows_fit(outputs, output_count, sizeof *outputs)
+        || !readable(scripts, scripts_length) || !readable(bytes, most) || !length)
+        return WAKOTEHU_NULL;
+    return (wakotehu_code)ffi_tx_write(version, lock_time, AT(inputs, input_count), input_count,
+                                       AT(outputs, output_count), output_count, AT(scripts, scripts_length),
+                                       scripts_length, INTO(bytes, most), most, length);
+}
+
+wakotehu_code wakotehu_block_size(const uint8_t *bytes, size_t length, uint64_t *size) {
+    if (!readable(bytes, length) || !size)
+        return WAKOTEHU_NULL;
+    return (wakotehu_code)ffi_block_size(AT(bytes, length), length, size);
+}
+
 wakotehu_code wakotehu_read_block(const uint8_t *bytes, size_t length, wakotehu_block_shown *shown) {
     if (!readable(bytes, length) || !shown)
         return WAKOTEHU_NULL;
@@ -83,7 +127,7 @@ wakotehu_code wakotehu_block_transactions(const uint8_t *bytes, size_t length, w
                                           uint64_t *count) {
     if (!readable(bytes, length) || !rows_fit(rows, most, sizeof *rows) || !count)
         return WAKOTEHU_NULL;
-    return (wakotehu_code)ffi_transactions(AT(bytes, length), length, most ? rows : (void *)nothing, most, count);
+    return (wakotehu_code)ffi_transactions(AT(bytes, length), length, INTO(rows, most), most, count);
 }
 
 wakotehu_code wakotehu_block_place(const uint8_t *bytes, size_t length, uint32_t height, uint32_t median, uint64_t now,
@@ -143,7 +187,7 @@ wakotehu_code wakotehu_read_number(const uint8_t *bytes, size_t length, uint64_t
 wakotehu_code wakotehu_number_bytes(int64_t value, uint8_t *bytes, size_t length, uint64_t *count) {
     if (!readable(bytes, length) || !count)
         return WAKOTEHU_NULL;
-    return (wakotehu_code)ffi_number_bytes(value, length ? bytes : nothing, length, count);
+    return (wakotehu_code)ffi_number_bytes(value, INTO(bytes, length), length, count);
 }
 
 wakotehu_code wakotehu_strict_signature(const uint8_t *bytes, size_t length, uint32_t *yes) {
@@ -164,14 +208,44 @@ wakotehu_code wakotehu_signature_digest(const uint8_t *bytes, size_t length, uin
 wakotehu_code wakotehu_verify(const uint8_t *bytes, size_t length, uint64_t input, const uint8_t *spent,
                               size_t spent_length, const wakotehu_flags *flags, const char *table,
                               size_t table_length, uint64_t *line, uint32_t *accepted) {
-    uint64_t bad_line = 0;
+    uint64_t unasked;
     if (!readable(bytes, length) || !readable(spent, spent_length) || !flags || !readable(table, table_length)
         || !accepted)
         return WAKOTEHU_NULL;
-    uint32_t code = ffi_verify(AT(bytes, length), length, input, AT(spent, spent_length), spent_length, flags,
-                               AT(table, table_length), table_length, &bad_line, accepted);
-    if (line && code == WAKOTEHU_BAD_TABLE)
-        *line = bad_line;
+    return (wakotehu_code)ffi_verify(AT(bytes, length), length, input, AT(spent, spent_length), spent_length, flags,
+                                     AT(table, table_length), table_length, line ? line : &unasked, accepted);
+}
+
+wakotehu_code wakotehu_table_read(const char *table, size_t length, uint64_t *line) {
+    uint64_t unasked;
+    if (!readable(table, length))
+        return WAKOTEHU_NULL;
+    return (wakotehu_code)ffi_table(AT(table, length), length, line ? line : &unasked);
+}
+
+wakotehu_code wakotehu_table_has(const char *table, size_t length, const uint8_t *key, size_t key_length,
+                                 const uint8_t *signature, size_t signature_length, const uint8_t *digest,
+                                 uint64_t *line, uint32_t *yes) {
+    uint64_t unasked;
+    if (!readable(table, length) || !readable(key, key_length) || !readable(signature, signature_length) || !digest
+        || !yes)
+        return WAKOTEHU_NULL;
+    return (wakotehu_code)ffi_table_has(AT(table, length), length, AT(key, key_length), key_length,
+                                        AT(signature, signature_length), signature_length, digest,
+                                        line ? line : &unasked, yes);
+}
+
+wakotehu_code wakotehu_table_add(char *table, size_t room, size_t *length, const uint8_t *key, size_t key_length,
+                                 const uint8_t *signature, size_t signature_length, const uint8_t *digest) {
+    uint64_t added = 0;
+    if (!readable(table, room) || !length || *length > room || !readable(key, key_length)
+        || !readable(signature, signature_length) || !digest)
+        return WAKOTEHU_NULL;
+    size_t left = room - *length;
+    uint32_t code = ffi_table_line(AT(key, key_length), key_length, AT(signature, signature_length), signature_length,
+                                   digest, left ? (uint8_t *)table + *length : nothing, left, &added);
+    if (code == WAKOTEHU_OK)
+        *length += added;
     return (wakotehu_code)code;
 }
 

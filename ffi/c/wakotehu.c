@@ -191,7 +191,7 @@ static void forget(struct blocks *blocks) {
 
 wakotehu_code wakotehu_open(wakotehu_handle *handle, const wakotehu_heights *heights, const char *table,
                             size_t length, uint64_t *line) {
-    uint64_t bad_line = 0;
+    uint64_t unasked;
     if (!handle || !heights || !readable(table, length))
         return WAKOTEHU_NULL;
     for (uint64_t place = 0; place < WAKOTEHU_MOST; place++) {
@@ -202,9 +202,7 @@ wakotehu_code wakotehu_open(wakotehu_handle *handle, const wakotehu_heights *hei
         if (!atomic_compare_exchange_strong(&chains[place].word, &word, word_of(made, IN_USE)))
             continue;
         uint32_t code = ffi_open(&chains[place].slot, heights, length ? (const uint8_t *)table : no_bytes, length,
-                                 &bad_line);
-        if (line)
-            *line = bad_line;
+                                 line ? line : &unasked);
         if (code == WAKOTEHU_OK)
             *handle = made;
         atomic_store(&chains[place].word, word_of(made, code == WAKOTEHU_OK ? OPEN : FREE));
@@ -247,7 +245,6 @@ wakotehu_code wakotehu_submit(wakotehu_handle handle, const uint8_t *bytes, size
     wakotehu_code code = enter(handle);
     if (code != WAKOTEHU_OK)
         return code;
-    memset(answer, 0, sizeof *answer);
     return leave(handle, submit(chain_of(handle), length ? bytes : no_bytes, length, now, answer));
 }
 
@@ -260,7 +257,6 @@ static wakotehu_code mark(wakotehu_handle handle, const uint8_t *id, wakotehu_an
     if (code != WAKOTEHU_OK)
         return code;
     memcpy(copy, id, sizeof copy);
-    memset(answer, 0, sizeof *answer);
     return leave(handle, call(slot_of(handle), copy, answer));
 }
 
@@ -299,7 +295,6 @@ wakotehu_code wakotehu_tip_at(wakotehu_handle handle, size_t place, wakotehu_tip
     wakotehu_code code = enter(handle);
     if (code != WAKOTEHU_OK)
         return code;
-    memset(tip, 0, sizeof *tip);
     return leave(handle, ffi_tip(slot_of(handle), place, tip));
 }
 
@@ -314,7 +309,6 @@ wakotehu_code wakotehu_coin_at(wakotehu_handle handle, const uint8_t *id, uint32
         return code;
     memcpy(at.id, id, sizeof at.id);
     at.index = index;
-    memset(coin, 0, sizeof *coin);
     return leave(handle, ffi_coin(slot_of(handle), &at, coin, length ? script : none, length));
 }
 

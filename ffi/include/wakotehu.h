@@ -10,6 +10,7 @@
  *   - A null pointer where one has to be is answered WAKOTEHU_NULL. Pointers have to point to what the call says: that
  *     can't be tested. What a call writes and what it reads may not overlap.
  *   - WAKOTEHU_MEMORY: there was no memory, and nothing changed.
+ *   - Where a call doesn't answer WAKOTEHU_OK, what its pointers lead to stays as it was, but for what is said of a code.
  *   - All memory that is handed in stays the caller's. The library hands out none: there is nothing to free but the
  *     handle, by wakotehu_close.
  *   - An id is 32 bytes in the order in which they are hashed and sent; programs print them the other way round.
@@ -148,8 +149,8 @@ wakotehu_code wakotehu_tip_at(wakotehu_handle handle, size_t place, wakotehu_tip
 wakotehu_code wakotehu_coin_at(wakotehu_handle handle, const uint8_t *id, uint32_t index, wakotehu_coin *coin,
                                uint8_t *script, size_t length);
 
-/* The bytes of a block that is kept, and how many there are (`needed`); WAKOTEHU_NONE where there is none, and for the
- * genesis block. The first of `bytes`, of `length` bytes, become the block; where it is too short nothing is written
+/* The bytes of a block that is kept, and how many there are (`needed`); WAKOTEHU_NONE, and 0, where there is none, and for
+ * the genesis block. The first of `bytes`, of `length` bytes, become the block; where it is too short nothing is written
  * there, and the answer is WAKOTEHU_TOO_SMALL. bytes may be null where length is 0. Kept are the blocks that were
  * accepted or inconclusive, and those that were refused over the coins (they come again as duplicate-invalid). Of a
  * block that was refused by itself or by its place nothing is kept. */
@@ -180,7 +181,7 @@ const char *wakotehu_reply_text(uint32_t reply);
 const char *wakotehu_code_text(wakotehu_code code);
 
 /* ---- The rules by themselves. These calls need no chainstate, keep nothing, and may be made from any threads at once.
- * Where the answer isn't WAKOTEHU_OK nothing is written but what is said. `yes` and flags are 1 or 0. */
+ * `yes` and flags are 1 or 0. */
 
 /* A transaction, but for its parts: its id, its bytes, how many inputs and outputs it has, its signature operations
  * (each script counted plainly), whether it is a coinbase, and the number of the first rule that it breaks by itself (7
@@ -191,6 +192,18 @@ typedef struct {
     int32_t version;
     uint32_t lock_time, coinbase, reason;
 } wakotehu_transaction;
+
+/* An input: the output that it spends, how many bytes its script has, and its sequence number. And an output. */
+typedef struct {
+    uint8_t id[32];
+    uint64_t script;
+    uint32_t index, sequence;
+} wakotehu_input;
+
+typedef struct {
+    int64_t value;
+    uint64_t script;
+} wakotehu_output;
 
 /* From where the relative lock of an input counts: its coin's height, and the median time past of the block before. */
 typedef struct {
@@ -234,6 +247,22 @@ typedef struct {
 /* Reads the transaction at the front of the bytes; `size` says how many it takes. */
 wakotehu_code wakotehu_read_transaction(const uint8_t *bytes, size_t length, wakotehu_transaction *shown);
 
+/* The parts of the transaction at the front: its inputs, its outputs, and their scripts one after the other (those of the
+ * inputs first). wakotehu_read_transaction says how many inputs and outputs there are, and its `size` is room enough for
+ * the scripts. WAKOTEHU_TOO_SMALL where one of the rooms is too small: then nothing is written to any. A pointer may be
+ * null where its room is 0. */
+wakotehu_code wakotehu_transaction_parts(const uint8_t *bytes, size_t length, wakotehu_input *inputs,
+                                         size_t most_inputs, wakotehu_output *outputs, size_t most_outputs,
+                                         uint8_t *scripts, size_t most_scripts);
+
+/* The bytes of the transaction of these parts, at the front of `bytes`, of `most` bytes, and how many they are; that is
+ * told where the room is too small as well (WAKOTEHU_TOO_SMALL). WAKOTEHU_MISMATCH where the scripts have another length
+ * than the rows say. What is written is read again where no list and no script is above 33,554,432. */
+wakotehu_code wakotehu_write_transaction(int32_t version, uint32_t lock_time, const wakotehu_input *inputs,
+                                         size_t input_count, const wakotehu_output *outputs, size_t output_count,
+                                         const uint8_t *scripts, size_t scripts_length, uint8_t *bytes, size_t most,
+                                         uint64_t *length);
+
 /* Whether the transaction at the front may stand in a block of a height; cutoff: the median time past of the block's
  * parent (Bitcoin Core's IsFinalTx). */
 wakotehu_code wakotehu_is_final(const uint8_t *bytes, size_t length, uint32_t height, uint32_t cutoff, uint32_t *yes);
@@ -244,6 +273,9 @@ wakotehu_code wakotehu_locks_met(const uint8_t *bytes, size_t length, const wako
 
 /* Reads the block that all the bytes spell. */
 wakotehu_code wakotehu_read_block(const uint8_t *bytes, size_t length, wakotehu_block_shown *shown);
+
+/* How many bytes the block at the front takes; the others are left. */
+wakotehu_code wakotehu_block_size(const uint8_t *bytes, size_t length, uint64_t *size);
 
 /* Its transactions, in order, at the front of `rows`, and how many they are, which is told where the room is too small
  * as well; WAKOTEHU_NONE where the bytes are no block. */
@@ -292,10 +324,24 @@ wakotehu_code wakotehu_signature_digest(const uint8_t *bytes, size_t length, uin
                                         size_t code_length, uint32_t kind, uint8_t *digest);
 
 /* Whether an input of the transaction at the front of the bytes may spend a script (Bitcoin Core's VerifyScript). table:
- * lines of valid signatures, as wakotehu_open takes them; line: as there, may be null. */
+ * lines of valid signatures, as wakotehu_open takes them, and read anew by each call; line: as there, may be null. */
 wakotehu_code wakotehu_verify(const uint8_t *bytes, size_t length, uint64_t input, const uint8_t *spent,
                               size_t spent_length, const wakotehu_flags *flags, const char *table,
                               size_t table_length, uint64_t *line, uint32_t *accepted);
+
+/* A table of valid signatures is its text. Whether each line can be read, else WAKOTEHU_BAD_TABLE and the line's number,
+ * from 1 (line may be null). */
+wakotehu_code wakotehu_table_read(const char *table, size_t length, uint64_t *line);
+
+/* Whether a table has a key, a signature without its hash type, and a digest of 32 bytes. */
+wakotehu_code wakotehu_table_has(const char *table, size_t length, const uint8_t *key, size_t key_length,
+                                 const uint8_t *signature, size_t signature_length, const uint8_t *digest,
+                                 uint64_t *line, uint32_t *yes);
+
+/* Adds them: a line is put behind the first `length` of the table's `room` bytes, and `length` grows by its bytes, at most
+ * 2 * (key_length + signature_length) + 69. Where there is no room for it, WAKOTEHU_TOO_SMALL, and nothing changes. */
+wakotehu_code wakotehu_table_add(char *table, size_t room, size_t *length, const uint8_t *key, size_t key_length,
+                                 const uint8_t *signature, size_t signature_length, const uint8_t *digest);
 
 /* RIPEMD-160 and HASH160 (20 bytes), and SHA-256 twice (32 bytes). */
 wakotehu_code wakotehu_ripemd160(const uint8_t *bytes, size_t length, uint8_t *digest);
