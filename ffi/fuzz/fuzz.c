@@ -1,31 +1,113 @@
-/* A libFuzzer target: the bytes as a script, a transaction, a block and a blk file, for faults that the sanitizers see.
- *     clang -g -fsanitize=fuzzer,address,undefined -Iinclude fuzz/fuzz.c c/rules.c out/libwakotehu.a -lpthread */
+/* A libFuzzer target: the bytes as a script, a transaction, a block, a blk file, a table and a text, for faults that the
+ * sanitizers see and for answers that contradict each other. ffi/check builds it and runs it for some seconds:
+ *     CC=clang CFLAGS="-g -fsanitize=fuzzer-no-link,address,undefined" OUT=/tmp/fuzz ffi/build --again
+ *     clang -g -fsanitize=fuzzer,address,undefined -Iffi/include ffi/fuzz/fuzz.c /tmp/fuzz/libwakotehu.a -lpthread -o fuzz
+ *     ./fuzz CORPUS */
 #include "wakotehu.h"
 
 #include <stdlib.h>
+#include <string.h>
 
 int LLVMFuzzerTestOneInput(const uint8_t *bytes, size_t length);
 
-int LLVMFuzzerTestOneInput(const uint8_t *bytes, size_t length) {
-    wakotehu_transaction transaction;
-    wakotehu_block_shown block;
+#define EXPECT(holds) ((holds) ? (void)0 : abort())
+
+static void as_script(const uint8_t *bytes, size_t length) {
     wakotehu_script_shown script;
     wakotehu_opcode opcode;
-    wakotehu_flags flags = {1, 1, 1};
-    uint64_t size = 0, line = 0;
-    uint32_t yes = 0;
-    uint8_t digest[32];
+    int64_t number;
+    uint64_t count;
+    uint32_t yes;
+    uint8_t room[9];
     for (size_t at = 0; wakotehu_next_opcode(bytes + at, length - at, &opcode) == WAKOTEHU_OK; at += opcode.length)
-        if (opcode.length == 0 || opcode.length > length - at || opcode.pushed > opcode.length)
-            abort();
-    wakotehu_script(bytes, length, &script);
-    if (wakotehu_read_transaction(bytes, length, &transaction) == WAKOTEHU_OK) {
-        if (transaction.size > length)
-            abort();
-        wakotehu_signature_digest(bytes, length, 0, bytes, length, 1, digest);
-        wakotehu_verify(bytes, length, 0, bytes, length, &flags, NULL, 0, &line, &yes);
+        EXPECT(opcode.length > 0 && opcode.length <= length - at && opcode.pushed < opcode.length);
+    EXPECT(wakotehu_script(bytes, length, &script) == WAKOTEHU_OK && script.accurate <= script.plain);
+    EXPECT(wakotehu_p2sh_sigops(bytes, length, bytes, length, &count) == WAKOTEHU_OK);
+    EXPECT(wakotehu_strict_signature(bytes, length, &yes) == WAKOTEHU_OK && yes <= 1);
+    if (wakotehu_read_number(bytes, length, 8, &number) == WAKOTEHU_OK) {
+        int64_t again;
+        EXPECT(wakotehu_number_bytes(number, room, sizeof room, &count) == WAKOTEHU_OK && count <= length);
+        EXPECT(wakotehu_read_number(room, count, 8, &again) == WAKOTEHU_OK && again == number);
     }
-    wakotehu_read_block(bytes, length, &block);
+}
+
+/* What is read of a transaction is written again. */
+static void as_parts(const uint8_t *bytes, const wakotehu_transaction *shown) {
+    wakotehu_input *inputs = malloc((shown->inputs + 1) * sizeof *inputs);
+    wakotehu_output *outputs = malloc((shown->outputs + 1) * sizeof *outputs);
+    uint8_t *scripts = malloc(shown->size), *again = malloc(shown->size);
+    uint64_t length = 0, scripts_length = 0;
+    EXPECT(inputs && outputs && scripts && again);
+    EXPECT(wakotehu_transaction_parts(bytes, shown->size, inputs, shown->inputs, outputs, shown->outputs, scripts,
+                                      shown->size) == WAKOTEHU_OK);
+    for (uint64_t n = 0; n < shown->inputs; n++)
+        scripts_length += inputs[n].script;
+    for (uint64_t n = 0; n < shown->outputs; n++)
+        scripts_length += outputs[n].script;
+    EXPECT(scripts_length < shown->size);
+    EXPECT(wakotehu_write_transaction(shown->version, shown->lock_time, inputs, shown->inputs, outputs, shown->outputs,
+                                      scripts, scripts_length, again, shown->size, &length) == WAKOTEHU_OK);
+    EXPECT(length == shown->size && memcmp(again, bytes, length) == 0);
+    free(inputs), free(outputs), free(scripts), free(again);
+}
+
+static void as_transaction(const uint8_t *bytes, size_t length) {
+    static const wakotehu_flags flags = {1, 1, 1};
+    wakotehu_transaction shown;
+    wakotehu_start start = {1, 1};
+    uint64_t line;
+    uint32_t yes;
+    uint8_t digest[32];
+    if (wakotehu_read_transaction(bytes, length, &shown) != WAKOTEHU_OK)
+        return;
+    EXPECT(shown.size <= length);
+    as_parts(bytes, &shown);
+    wakotehu_is_final(bytes, length, 1, 1, &yes);
+    wakotehu_locks_met(bytes, length, &start, 1, 1, 1, &yes);
+    wakotehu_signature_digest(bytes, length, 0, bytes, length, 1, digest);
+    wakotehu_verify(bytes, length, 0, bytes, length, &flags, NULL, 0, &line, &yes);
+}
+
+static void as_block(const uint8_t *bytes, size_t length) {
+    static const wakotehu_heights regtest = {1, 1, 1, 1};
+    wakotehu_block_shown shown;
+    wakotehu_made rows[4];
+    uint64_t size = 0, count = 0;
+    uint32_t reason;
+    wakotehu_code front = wakotehu_block_size(bytes, length, &size), whole = wakotehu_read_block(bytes, length, &shown);
+    EXPECT(whole == (front == WAKOTEHU_OK && size < length ? WAKOTEHU_EXTRA : front));
+    EXPECT(whole != WAKOTEHU_OK || (shown.size == length && size == length));
+    wakotehu_block_transactions(bytes, length, rows, 4, &count);
+    wakotehu_block_place(bytes, length, 1, 1, 1, &regtest, &reason);
     wakotehu_record(bytes, length, &size);
+}
+
+static void as_texts(const uint8_t *bytes, size_t length) {
+    static const uint8_t digest[32] = {1};
+    const char *text = (const char *)bytes;
+    uint64_t line = 0;
+    uint32_t yes;
+    uint8_t id[32];
+    char digits[64];
+    if (wakotehu_table_read(text, length, &line) == WAKOTEHU_OK) {
+        size_t size = length, room = length + 4 * length + 69;
+        char *table = malloc(room);
+        EXPECT(table);
+        if (length)
+            memcpy(table, text, length);
+        EXPECT(wakotehu_table_add(table, room, &size, bytes, length, bytes, length, digest) == WAKOTEHU_OK);
+        EXPECT(wakotehu_table_has(table, size, bytes, length, bytes, length, digest, &line, &yes) == WAKOTEHU_OK && yes);
+        free(table);
+    } else
+        EXPECT(line > 0);
+    if (wakotehu_read_id(text, length, id) == WAKOTEHU_OK)
+        EXPECT(length == 64 && wakotehu_show_id(id, digits) == WAKOTEHU_OK);
+}
+
+int LLVMFuzzerTestOneInput(const uint8_t *bytes, size_t length) {
+    as_script(bytes, length);
+    as_transaction(bytes, length);
+    as_block(bytes, length);
+    as_texts(bytes, length);
     return 0;
 }

@@ -1,64 +1,413 @@
-/* The rules as calls: null and hostile lengths, each allocation refused, and 10^6 verifications that leak nothing. Linked
- * with --wrap=malloc,--wrap=calloc,--wrap=realloc. */
-#include "wakotehu.h"
-
+/* The rules as calls: each with each of its allocations refused in turn, with null and with hostile lengths and counts, and
+ * many verifications, which leave no memory behind. Nothing that isn't told is written. Linked with
+ * --wrap=malloc,--wrap=calloc,--wrap=realloc,--wrap=free; the first word on the command line is how many verifications. */
 #include <stdio.h>
 #include <stdlib.h>
 #include <string.h>
+#include <wakotehu.h>
 
-static long left = -1;
-static int refuse(void) { return left >= 0 && left-- == 0; }
-void *__real_malloc(size_t), *__real_calloc(size_t, size_t), *__real_realloc(void *, size_t);
-void *__wrap_malloc(size_t n) { return refuse() ? NULL : __real_malloc(n); }
-void *__wrap_calloc(size_t n, size_t m) { return refuse() ? NULL : __real_calloc(n, m); }
-void *__wrap_realloc(void *p, size_t n) { return refuse() ? NULL : __real_realloc(p, n); }
+#include "../examples/blocks.h"
 
-#define MUST(test) ((test) ? (void)0 : (printf("line %d: %s\n", __LINE__, #test), exit(1)))
+static long left = -1; /* so many allocations until one is refused; below 0: none is */
 
-int main(int count, char **words) {
-    /* An input with the script 51 52, and an output without a script. */
-    uint8_t tx[63] = {1, 0, 0, 0, 1};
-    const uint8_t spent[] = {0x93, 0x53, 0x9c};
-    long rounds = count > 1 ? atol(words[1]) : 1000000, refused = 0;
-    wakotehu_transaction shown;
-    wakotehu_block_shown block;
-    wakotehu_flags flags = {1, 1, 1};
-    uint32_t yes = 7;
-    uint64_t size = 9;
+void *__real_malloc(size_t size);
+void *__real_calloc(size_t count, size_t size);
+void *__real_realloc(void *old, size_t size);
+void __real_free(void *old);
+
+static long live; /* so many pieces of memory are in use */
+
+static int is_refused(void) { return left >= 0 && left-- == 0; }
+
+static void *counted(void *made) {
+    live += made != NULL;
+    return made;
+}
+
+void *__wrap_malloc(size_t size) { return is_refused() ? NULL : counted(__real_malloc(size)); }
+void *__wrap_calloc(size_t count, size_t size) { return is_refused() ? NULL : counted(__real_calloc(count, size)); }
+
+void *__wrap_realloc(void *old, size_t size) {
+    if (is_refused())
+        return NULL;
+    return old ? __real_realloc(old, size) : counted(__real_realloc(old, size));
+}
+
+void __wrap_free(void *old) {
+    live -= old != NULL;
+    __real_free(old);
+}
+
+#define EXPECT(holds)                                                          \
+    do {                                                                       \
+        if (!(holds)) {                                                        \
+            fprintf(stderr, "%s:%d: %s\n", __FILE__, __LINE__, #holds);        \
+            exit(1);                                                           \
+        }                                                                      \
+    } while (0)
+
+/* An input with the script 51 52, and an output of 1 without a script. */
+static uint8_t *tx;
+enum { TX = 62 };
+/* A record of a blk file, of the block b1. */
+static uint8_t *record;
+enum { RECORD = 8 + sizeof b1 };
+
+static const uint8_t spent[] = {0x93, 0x53, 0x9c}; /* ADD 3 NUMEQUAL */
+static const wakotehu_flags flags = {1, 1, 1};
+static const wakotehu_heights regtest = {1, 1, 1, 1};
+static const wakotehu_start start = {1, 1};
+static const uint8_t key[] = {0xaa}, signature[] = {0x30, 6, 2, 1, 1, 2, 1, 1}, digest[32] = {1};
+static const char table[] = "# key, signature, digest\n\naa 3006020101020101 "
+                            "0100000000000000000000000000000000000000000000000000000000000000\n";
+enum { TABLE = sizeof table - 1 };
+
+static void make_inputs(void) {
+    const uint8_t magic[8] = {0xfa, 0xbf, 0xb5, 0xda, sizeof b1 & 255, sizeof b1 >> 8, 0, 0};
+    /* Each in memory of its own, so that the sanitizer sees a read behind its end. */
+    tx = calloc(1, TX);
+    record = malloc(RECORD);
+    EXPECT(tx && record);
+    tx[0] = 1, tx[4] = 1;
     memset(tx + 5, 7, 32);
     tx[41] = 2, tx[42] = 0x51, tx[43] = 0x52, tx[48] = 1, tx[49] = 1;
-    MUST(wakotehu_read_transaction(tx, sizeof tx, &shown) == WAKOTEHU_OK && shown.size == 62 && shown.reason == 0);
-    /* null and hostile lengths */
-    MUST(wakotehu_read_transaction(NULL, 1, &shown) == WAKOTEHU_NULL);
-    MUST(wakotehu_read_transaction(tx, (size_t)-1, &shown) == WAKOTEHU_NULL);
-    MUST(wakotehu_read_transaction(tx, sizeof tx, NULL) == WAKOTEHU_NULL);
-    MUST(wakotehu_read_transaction(NULL, 0, &shown) == WAKOTEHU_SHORT);
-    MUST(wakotehu_locks_met(tx, sizeof tx, NULL, (size_t)-1 / 4, 0, 0, &yes) == WAKOTEHU_NULL && yes == 7);
-    MUST(wakotehu_locks_met(tx, sizeof tx, NULL, 0, 0, 0, &yes) == WAKOTEHU_MISMATCH && yes == 7);
-    MUST(wakotehu_verify(tx, sizeof tx, UINT64_MAX, spent, 3, &flags, NULL, 0, NULL, &yes) == WAKOTEHU_NO_INPUT);
-    MUST(wakotehu_verify(tx, sizeof tx, 0, spent, 3, NULL, NULL, 0, NULL, &yes) == WAKOTEHU_NULL && yes == 7);
-    MUST(wakotehu_read_block(NULL, 0, &block) == WAKOTEHU_SHORT);
-    MUST(wakotehu_block_transactions(tx, sizeof tx, NULL, 0, &size) == WAKOTEHU_NONE);
-    MUST(wakotehu_median(NULL, 0, &yes) == WAKOTEHU_MISMATCH && yes == 7);
-    MUST(wakotehu_number_bytes(INT64_MIN, NULL, 0, &size) == WAKOTEHU_TOO_SMALL && size == 9);
-    /* counts as large as can be: no memory is taken for them */
-    uint8_t many[100] = {0};
-    many[4] = 254, many[8] = 2;
-    MUST(wakotehu_read_transaction(many, sizeof many, &shown) == WAKOTEHU_SHORT);
-    /* each allocation refused in turn */
-    for (long n = 0;; n++) {
-        yes = 7;
-        left = n;
-        wakotehu_code code = wakotehu_verify(tx, sizeof tx, 0, spent, 3, &flags, NULL, 0, NULL, &yes);
-        left = -1;
-        if (code == WAKOTEHU_OK)
-            break;
-        MUST(code == WAKOTEHU_MEMORY && yes == 7);
-        refused++;
+    memcpy(record, magic, sizeof magic);
+    memcpy(record + 8, b1, sizeof b1);
+}
+
+/* All that calls write. */
+struct told {
+    wakotehu_transaction transaction;
+    wakotehu_block_shown block;
+    wakotehu_opcode opcode;
+    wakotehu_script_shown script;
+    wakotehu_input inputs[2];
+    wakotehu_output outputs[2];
+    wakotehu_made rows[2];
+    int64_t value;
+    uint64_t count, line;
+    uint32_t yes;
+    uint8_t bytes[128];
+    char text[256];
+    size_t length;
+};
+
+/* What lies behind a last field is no one's. */
+#define CLEAR_TAIL(shown, last)                                                                      \
+    memset((char *)(shown) + offsetof(__typeof__(*(shown)), last) + sizeof (shown)->last, 0,         \
+           sizeof *(shown)-offsetof(__typeof__(*(shown)), last) - sizeof (shown)->last)
+
+static int is_same(struct told *one, struct told *other) {
+    struct told *both[] = {one, other};
+    for (int n = 0; n < 2; n++) {
+        CLEAR_TAIL(&both[n]->block, reason);
+        CLEAR_TAIL(&both[n]->opcode, number);
+        CLEAR_TAIL(&both[n]->script, unspendable);
     }
-    MUST(refused > 2);
+    return memcmp(one, other, sizeof *one) == 0;
+}
+
+static struct told nothing_told(void) {
+    struct told it;
+    memset(&it, 0xa5, sizeof it);
+    it.length = 0;
+    return it;
+}
+
+/* Each call that may take memory, then those that take none; the numbers are those of `MEMORY_FREE` on. */
+enum { MEMORY_FREE = 15, CALLS = 22 };
+
+static wakotehu_code nth_call(int call, struct told *it) {
+    static const wakotehu_input input = {{7}, 2, 0, 0};
+    static const wakotehu_output output = {1, 0};
+    static const uint8_t scripts[] = {0x51, 0x52};
+    static const uint32_t times[] = {5, 7, 6};
+    switch (call) {
+    case 0: return wakotehu_read_transaction(tx, TX, &it->transaction);
+    case 1: return wakotehu_transaction_parts(tx, TX, it->inputs, 2, it->outputs, 2, it->bytes, 128);
+    case 2: return wakotehu_write_transaction(1, 9, &input, 1, &output, 1, scripts, 2, it->bytes, 128, &it->count);
+    case 3: return wakotehu_is_final(tx, TX, 5, 5, &it->yes);
+    case 4: return wakotehu_locks_met(tx, TX, &start, 1, 5, 5, &it->yes);
+    case 5: return wakotehu_read_block(b1, sizeof b1, &it->block);
+    case 6: return wakotehu_block_size(b1, sizeof b1, &it->count);
+    case 7: return wakotehu_block_transactions(b1, sizeof b1, it->rows, 2, &it->count);
+    case 8: return wakotehu_block_place(b1, sizeof b1, 1, 1, 1, &regtest, &it->yes);
+    case 9: return wakotehu_record(record, RECORD, &it->count);
+    case 10: return wakotehu_signature_digest(tx, TX, 0, spent, 3, 1, it->bytes);
+    case 11: return wakotehu_verify(tx, TX, 0, spent, 3, &flags, table, TABLE, &it->line, &it->yes);
+    case 12: return wakotehu_table_read(table, TABLE, &it->line);
+    case 13: return wakotehu_table_has(table, TABLE, key, 1, signature, 8, digest, &it->line, &it->yes);
+    case 14: return wakotehu_table_add(it->text, 256, &it->length, key, 1, signature, 8, digest);
+    /* MEMORY_FREE */
+    case 15: return wakotehu_next_opcode(spent, 3, &it->opcode);
+    case 16: return wakotehu_script(spent, 3, &it->script);
+    case 17: return wakotehu_read_number(spent, 3, 4, &it->value);
+    case 18: return wakotehu_median(times, 3, &it->yes);
+    case 19: return wakotehu_strict_signature(signature, 8, &it->yes);
+    case 20: return wakotehu_hash160(spent, 3, it->bytes);
+    default: return wakotehu_read_id("00", 2, it->bytes) == WAKOTEHU_NONE ? WAKOTEHU_OK : WAKOTEHU_NULL;
+    }
+}
+
+static void refused_allocations(void) {
+    for (int call = 0; call < CALLS; call++) {
+        struct told right = nothing_told(), before = nothing_told();
+        EXPECT(nth_call(call, &right) == WAKOTEHU_OK);
+        for (long n = 0;; n++) {
+            struct told it = nothing_told();
+            left = n;
+            wakotehu_code code = nth_call(call, &it);
+            int met = left < 0;
+            left = -1;
+            EXPECT(code == (met ? WAKOTEHU_MEMORY : WAKOTEHU_OK));
+            EXPECT(is_same(&it, met ? &before : &right));
+            EXPECT(met || (n > 0) == (call < MEMORY_FREE));
+            if (!met)
+                break;
+        }
+    }
+    /* A number of one byte or more takes memory, and 0 none. */
+    struct told it = nothing_told(), before = nothing_told();
+    left = 0;
+    EXPECT(wakotehu_number_bytes(1, it.bytes, 128, &it.count) == WAKOTEHU_MEMORY);
+    left = -1;
+    EXPECT(is_same(&it, &before));
+}
+
+/* What the calls say of these inputs. */
+static void values(void) {
+    struct told it = nothing_told();
+    for (int call = 0; call < CALLS; call++)
+        EXPECT(nth_call(call, &it) == WAKOTEHU_OK);
+    EXPECT(it.transaction.size == TX && it.transaction.reason == 0 && it.transaction.inputs == 1);
+    EXPECT(it.inputs[0].script == 2 && it.inputs[0].id[31] == 7 && it.outputs[0].value == 1);
+    EXPECT(it.block.reason == 0 && it.block.size == sizeof b1 && it.block.transactions == 1);
+    EXPECT(memcmp(it.rows[0].id, b1_coinbase, 32) == 0 && it.rows[0].outputs == 1);
+    EXPECT(it.value == -(0x1c5393));
+    /* read and written back */
+    uint8_t scripts[TX], bytes[TX];
+    uint64_t length = 0;
+    EXPECT(wakotehu_transaction_parts(tx, TX, it.inputs, 1, it.outputs, 1, scripts, 2) == WAKOTEHU_OK);
+    EXPECT(wakotehu_write_transaction(1, 0, it.inputs, 1, it.outputs, 1, scripts, 2, bytes, TX, &length) == WAKOTEHU_OK);
+    EXPECT(length == TX && memcmp(bytes, tx, TX) == 0);
+    /* a table that grows */
+    char text[TABLE + 200];
+    size_t size = TABLE;
+    uint32_t yes = 7;
+    memcpy(text, table, TABLE);
+    EXPECT(wakotehu_table_has(text, size, key, 1, NULL, 0, digest, NULL, &yes) == WAKOTEHU_OK && yes == 0);
+    EXPECT(wakotehu_table_add(text, TABLE + 69, &size, key, 1, NULL, 0, digest) == WAKOTEHU_TOO_SMALL && size == TABLE);
+    EXPECT(wakotehu_table_add(text, TABLE + 70, &size, key, 1, NULL, 0, digest) == WAKOTEHU_OK && size == TABLE + 70);
+    EXPECT(wakotehu_table_has(text, size, key, 1, NULL, 0, digest, NULL, &yes) == WAKOTEHU_OK && yes == 1);
+    EXPECT(wakotehu_table_has(text, size, key, 1, signature, 8, digest, NULL, &yes) == WAKOTEHU_OK && yes == 1);
+}
+
+/* Answers that write nothing but what is said of them. */
+static void refusals(void) {
+    struct told it = nothing_told(), before = nothing_told();
+    uint64_t count = 7;
+    uint8_t bytes[1] = {9};
+    EXPECT(wakotehu_read_transaction(tx, TX - 1, &it.transaction) == WAKOTEHU_SHORT);
+    EXPECT(wakotehu_read_transaction(NULL, 0, &it.transaction) == WAKOTEHU_SHORT);
+    EXPECT(wakotehu_transaction_parts(tx, TX, it.inputs, 0, it.outputs, 2, it.bytes, 128) == WAKOTEHU_TOO_SMALL);
+    EXPECT(wakotehu_transaction_parts(tx, TX, it.inputs, 2, it.outputs, 0, it.bytes, 128) == WAKOTEHU_TOO_SMALL);
+    EXPECT(wakotehu_transaction_parts(tx, TX, it.inputs, 2, it.outputs, 2, it.bytes, 1) == WAKOTEHU_TOO_SMALL);
+    EXPECT(wakotehu_transaction_parts(tx, TX - 1, it.inputs, 2, it.outputs, 2, it.bytes, 128) == WAKOTEHU_SHORT);
+    EXPECT(wakotehu_write_transaction(1, 0, NULL, 0, NULL, 0, tx, 1, it.bytes, 128, &it.count) == WAKOTEHU_MISMATCH);
+    EXPECT(wakotehu_locks_met(tx, TX, NULL, 0, 0, 0, &it.yes) == WAKOTEHU_MISMATCH);
+    EXPECT(wakotehu_is_final(tx, 4, 0, 0, &it.yes) == WAKOTEHU_SHORT);
+    EXPECT(wakotehu_read_block(NULL, 0, &it.block) == WAKOTEHU_SHORT);
+    EXPECT(wakotehu_block_size(b1, sizeof b1 - 1, &it.count) == WAKOTEHU_SHORT);
+    EXPECT(wakotehu_block_transactions(tx, TX, it.rows, 2, &it.count) == WAKOTEHU_NONE);
+    EXPECT(wakotehu_block_place(tx, TX, 0, 0, 0, &regtest, &it.yes) == WAKOTEHU_SHORT);
+    EXPECT(wakotehu_record(record, RECORD - 1, &it.count) == WAKOTEHU_CUT);
+    EXPECT(wakotehu_record(record, 3, &it.count) == WAKOTEHU_FOREIGN);
+    EXPECT(wakotehu_record(NULL, 0, &it.count) == WAKOTEHU_NONE);
+    EXPECT(wakotehu_median(NULL, 0, &it.yes) == WAKOTEHU_MISMATCH);
+    EXPECT(wakotehu_next_opcode((const uint8_t[]){2, 1}, 2, &it.opcode) == WAKOTEHU_NONE);
+    EXPECT(wakotehu_read_number(spent, 3, 2, &it.value) == WAKOTEHU_NONE);
+    EXPECT(wakotehu_signature_digest(tx, TX, 1, spent, 3, 1, it.bytes) == WAKOTEHU_NO_INPUT);
+    EXPECT(wakotehu_verify(tx, TX, UINT64_MAX, spent, 3, &flags, NULL, 0, &it.line, &it.yes) == WAKOTEHU_NO_INPUT);
+    EXPECT(wakotehu_verify(tx, TX - 1, 0, spent, 3, &flags, NULL, 0, &it.line, &it.yes) == WAKOTEHU_SHORT);
+    EXPECT(wakotehu_table_add(it.text, 69, &it.length, key, 1, signature, 8, digest) == WAKOTEHU_TOO_SMALL);
+    EXPECT(wakotehu_read_id("0", 1, it.bytes) == WAKOTEHU_NONE);
+    EXPECT(is_same(&it, &before));
+    /* What is wanted is told where a room is too small, and which line is bad; no more. */
+    EXPECT(wakotehu_block_transactions(b1, sizeof b1, NULL, 0, &count) == WAKOTEHU_TOO_SMALL && count == 1);
+    EXPECT(wakotehu_number_bytes(INT64_MIN, bytes, 1, &count) == WAKOTEHU_TOO_SMALL && count == 9 && bytes[0] == 9);
+    EXPECT(wakotehu_write_transaction(1, 0, NULL, 0, NULL, 0, NULL, 0, bytes, 1, &count) == WAKOTEHU_TOO_SMALL);
+    EXPECT(count == 10 && bytes[0] == 9);
+    EXPECT(wakotehu_verify(tx, TX, 0, spent, 3, &flags, "#\n00\n", 5, &it.line, &it.yes) == WAKOTEHU_BAD_TABLE);
+    EXPECT(it.line == 2 && it.yes == before.yes);
+    EXPECT(wakotehu_table_has("0", 1, key, 1, key, 1, digest, &it.line, &it.yes) == WAKOTEHU_BAD_TABLE);
+    EXPECT(it.line == 1 && it.yes == before.yes);
+    EXPECT(wakotehu_table_read("\n\n1 2 3", 7, &it.line) == WAKOTEHU_BAD_TABLE && it.line == 3);
+    EXPECT(wakotehu_table_read("0", 1, NULL) == WAKOTEHU_BAD_TABLE);
+}
+
+/* Null where something has to be, and lengths that no memory has. */
+static void null_and_hostile_lengths(void) {
+    static const size_t hostile[] = {(size_t)PTRDIFF_MAX + 1, SIZE_MAX};
+    struct told it = nothing_told(), before = nothing_told();
+    for (size_t n = 0; n < 2; n++) {
+        size_t l = hostile[n];
+        EXPECT(wakotehu_read_transaction(tx, l, &it.transaction) == WAKOTEHU_NULL);
+        EXPECT(wakotehu_transaction_parts(tx, l, it.inputs, 2, it.outputs, 2, it.bytes, 128) == WAKOTEHU_NULL);
+        EXPECT(wakotehu_transaction_parts(tx, TX, it.inputs, l / 32, it.outputs, 2, it.bytes, 128) == WAKOTEHU_NULL);
+        EXPECT(wakotehu_transaction_parts(tx, TX, it.inputs, 2, it.outputs, l / 8, it.bytes, 128) == WAKOTEHU_NULL);
+        EXPECT(wakotehu_transaction_parts(tx, TX, it.inputs, 2, it.outputs, 2, it.bytes, l) == WAKOTEHU_NULL);
+        EXPECT(wakotehu_write_transaction(1, 0, it.inputs, l / 32, NULL, 0, NULL, 0, it.bytes, 128, &it.count) == WAKOTEHU_NULL);
+        EXPECT(wakotehu_write_transaction(1, 0, NULL, 0, it.outputs, l / 8, NULL, 0, it.bytes, 128, &it.count) == WAKOTEHU_NULL);
+        EXPECT(wakotehu_write_transaction(1, 0, NULL, 0, NULL, 0, tx, l, it.bytes, 128, &it.count) == WAKOTEHU_NULL);
+        EXPECT(wakotehu_write_transaction(1, 0, NULL, 0, NULL, 0, NULL, 0, it.bytes, l, &it.count) == WAKOTEHU_NULL);
+        EXPECT(wakotehu_is_final(tx, l, 0, 0, &it.yes) == WAKOTEHU_NULL);
+        EXPECT(wakotehu_locks_met(tx, l, &start, 1, 0, 0, &it.yes) == WAKOTEHU_NULL);
+        EXPECT(wakotehu_locks_met(tx, TX, &start, l / 4, 0, 0, &it.yes) == WAKOTEHU_NULL);
+        EXPECT(wakotehu_read_block(b1, l, &it.block) == WAKOTEHU_NULL);
+        EXPECT(wakotehu_block_size(b1, l, &it.count) == WAKOTEHU_NULL);
+        EXPECT(wakotehu_block_transactions(b1, l, it.rows, 2, &it.count) == WAKOTEHU_NULL);
+        EXPECT(wakotehu_block_transactions(b1, sizeof b1, it.rows, l / 32, &it.count) == WAKOTEHU_NULL);
+        EXPECT(wakotehu_block_place(b1, l, 0, 0, 0, &regtest, &it.yes) == WAKOTEHU_NULL);
+        EXPECT(wakotehu_record(record, l, &it.count) == WAKOTEHU_NULL);
+        EXPECT(wakotehu_median(&it.yes, l / 2, &it.yes) == WAKOTEHU_NULL);
+        EXPECT(wakotehu_next_opcode(spent, l, &it.opcode) == WAKOTEHU_NULL);
+        EXPECT(wakotehu_script(spent, l, &it.script) == WAKOTEHU_NULL);
+        EXPECT(wakotehu_p2sh_sigops(spent, l, spent, 3, &it.count) == WAKOTEHU_NULL);
+        EXPECT(wakotehu_p2sh_sigops(spent, 3, spent, l, &it.count) == WAKOTEHU_NULL);
+        EXPECT(wakotehu_read_number(spent, l, 4, &it.value) == WAKOTEHU_NULL);
+        EXPECT(wakotehu_number_bytes(1, it.bytes, l, &it.count) == WAKOTEHU_NULL);
+        EXPECT(wakotehu_strict_signature(signature, l, &it.yes) == WAKOTEHU_NULL);
+        EXPECT(wakotehu_signature_digest(tx, l, 0, spent, 3, 1, it.bytes) == WAKOTEHU_NULL);
+        EXPECT(wakotehu_signature_digest(tx, TX, 0, spent, l, 1, it.bytes) == WAKOTEHU_NULL);
+        EXPECT(wakotehu_verify(tx, l, 0, spent, 3, &flags, NULL, 0, NULL, &it.yes) == WAKOTEHU_NULL);
+        EXPECT(wakotehu_verify(tx, TX, 0, spent, l, &flags, NULL, 0, NULL, &it.yes) == WAKOTEHU_NULL);
+        EXPECT(wakotehu_verify(tx, TX, 0, spent, 3, &flags, table, l, NULL, &it.yes) == WAKOTEHU_NULL);
+        EXPECT(wakotehu_table_read(table, l, &it.line) == WAKOTEHU_NULL);
+        EXPECT(wakotehu_table_has(table, l, key, 1, key, 1, digest, &it.line, &it.yes) == WAKOTEHU_NULL);
+        EXPECT(wakotehu_table_has(table, TABLE, key, l, key, 1, digest, &it.line, &it.yes) == WAKOTEHU_NULL);
+        EXPECT(wakotehu_table_has(table, TABLE, key, 1, key, l, digest, &it.line, &it.yes) == WAKOTEHU_NULL);
+        EXPECT(wakotehu_table_add(it.text, l, &it.length, key, 1, key, 1, digest) == WAKOTEHU_NULL);
+        EXPECT(wakotehu_table_add(it.text, 256, &it.length, key, l, key, 1, digest) == WAKOTEHU_NULL);
+        EXPECT(wakotehu_table_add(it.text, 256, &it.length, key, 1, key, l, digest) == WAKOTEHU_NULL);
+        EXPECT(wakotehu_ripemd160(spent, l, it.bytes) == WAKOTEHU_NULL);
+        EXPECT(wakotehu_hash160(spent, l, it.bytes) == WAKOTEHU_NULL);
+        EXPECT(wakotehu_double_sha(spent, l, it.bytes) == WAKOTEHU_NULL);
+        EXPECT(wakotehu_read_id("00", l, it.bytes) == WAKOTEHU_NULL);
+    }
+    EXPECT(wakotehu_read_transaction(NULL, 1, &it.transaction) == WAKOTEHU_NULL);
+    EXPECT(wakotehu_read_transaction(tx, TX, NULL) == WAKOTEHU_NULL);
+    EXPECT(wakotehu_transaction_parts(NULL, 1, it.inputs, 2, it.outputs, 2, it.bytes, 128) == WAKOTEHU_NULL);
+    EXPECT(wakotehu_transaction_parts(tx, TX, NULL, 1, it.outputs, 2, it.bytes, 128) == WAKOTEHU_NULL);
+    EXPECT(wakotehu_transaction_parts(tx, TX, it.inputs, 2, NULL, 1, it.bytes, 128) == WAKOTEHU_NULL);
+    EXPECT(wakotehu_transaction_parts(tx, TX, it.inputs, 2, it.outputs, 2, NULL, 1) == WAKOTEHU_NULL);
+    EXPECT(wakotehu_write_transaction(1, 0, NULL, 1, NULL, 0, NULL, 0, it.bytes, 128, &it.count) == WAKOTEHU_NULL);
+    EXPECT(wakotehu_write_transaction(1, 0, NULL, 0, NULL, 1, NULL, 0, it.bytes, 128, &it.count) == WAKOTEHU_NULL);
+    EXPECT(wakotehu_write_transaction(1, 0, NULL, 0, NULL, 0, NULL, 1, it.bytes, 128, &it.count) == WAKOTEHU_NULL);
+    EXPECT(wakotehu_write_transaction(1, 0, NULL, 0, NULL, 0, NULL, 0, NULL, 1, &it.count) == WAKOTEHU_NULL);
+    EXPECT(wakotehu_write_transaction(1, 0, NULL, 0, NULL, 0, NULL, 0, it.bytes, 128, NULL) == WAKOTEHU_NULL);
+    EXPECT(wakotehu_is_final(NULL, 1, 0, 0, &it.yes) == WAKOTEHU_NULL);
+    EXPECT(wakotehu_is_final(tx, TX, 0, 0, NULL) == WAKOTEHU_NULL);
+    EXPECT(wakotehu_locks_met(NULL, 1, &start, 1, 0, 0, &it.yes) == WAKOTEHU_NULL);
+    EXPECT(wakotehu_locks_met(tx, TX, NULL, 1, 0, 0, &it.yes) == WAKOTEHU_NULL);
+    EXPECT(wakotehu_locks_met(tx, TX, &start, 1, 0, 0, NULL) == WAKOTEHU_NULL);
+    EXPECT(wakotehu_read_block(NULL, 1, &it.block) == WAKOTEHU_NULL);
+    EXPECT(wakotehu_read_block(b1, sizeof b1, NULL) == WAKOTEHU_NULL);
+    EXPECT(wakotehu_block_size(NULL, 1, &it.count) == WAKOTEHU_NULL);
+    EXPECT(wakotehu_block_size(b1, sizeof b1, NULL) == WAKOTEHU_NULL);
+    EXPECT(wakotehu_block_transactions(NULL, 1, it.rows, 2, &it.count) == WAKOTEHU_NULL);
+    EXPECT(wakotehu_block_transactions(b1, sizeof b1, NULL, 1, &it.count) == WAKOTEHU_NULL);
+    EXPECT(wakotehu_block_transactions(b1, sizeof b1, it.rows, 2, NULL) == WAKOTEHU_NULL);
+    EXPECT(wakotehu_block_place(NULL, 1, 0, 0, 0, &regtest, &it.yes) == WAKOTEHU_NULL);
+    EXPECT(wakotehu_block_place(b1, sizeof b1, 0, 0, 0, NULL, &it.yes) == WAKOTEHU_NULL);
+    EXPECT(wakotehu_block_place(b1, sizeof b1, 0, 0, 0, &regtest, NULL) == WAKOTEHU_NULL);
+    EXPECT(wakotehu_record(NULL, 1, &it.count) == WAKOTEHU_NULL);
+    EXPECT(wakotehu_record(record, RECORD, NULL) == WAKOTEHU_NULL);
+    EXPECT(wakotehu_meets_target(NULL, &it.yes) == WAKOTEHU_NULL);
+    EXPECT(wakotehu_meets_target(digest, NULL) == WAKOTEHU_NULL);
+    EXPECT(wakotehu_median(NULL, 1, &it.yes) == WAKOTEHU_NULL);
+    EXPECT(wakotehu_median(&it.yes, 1, NULL) == WAKOTEHU_NULL);
+    EXPECT(wakotehu_next_opcode(NULL, 1, &it.opcode) == WAKOTEHU_NULL);
+    EXPECT(wakotehu_next_opcode(spent, 3, NULL) == WAKOTEHU_NULL);
+    EXPECT(wakotehu_script(NULL, 1, &it.script) == WAKOTEHU_NULL);
+    EXPECT(wakotehu_script(spent, 3, NULL) == WAKOTEHU_NULL);
+    EXPECT(wakotehu_p2sh_sigops(NULL, 1, spent, 3, &it.count) == WAKOTEHU_NULL);
+    EXPECT(wakotehu_p2sh_sigops(spent, 3, NULL, 1, &it.count) == WAKOTEHU_NULL);
+    EXPECT(wakotehu_p2sh_sigops(spent, 3, spent, 3, NULL) == WAKOTEHU_NULL);
+    EXPECT(wakotehu_read_number(NULL, 1, 4, &it.value) == WAKOTEHU_NULL);
+    EXPECT(wakotehu_read_number(spent, 3, 4, NULL) == WAKOTEHU_NULL);
+    EXPECT(wakotehu_number_bytes(1, NULL, 1, &it.count) == WAKOTEHU_NULL);
+    EXPECT(wakotehu_number_bytes(1, it.bytes, 128, NULL) == WAKOTEHU_NULL);
+    EXPECT(wakotehu_strict_signature(NULL, 1, &it.yes) == WAKOTEHU_NULL);
+    EXPECT(wakotehu_strict_signature(signature, 8, NULL) == WAKOTEHU_NULL);
+    EXPECT(wakotehu_signature_digest(NULL, 1, 0, spent, 3, 1, it.bytes) == WAKOTEHU_NULL);
+    EXPECT(wakotehu_signature_digest(tx, TX, 0, NULL, 1, 1, it.bytes) == WAKOTEHU_NULL);
+    EXPECT(wakotehu_signature_digest(tx, TX, 0, spent, 3, 1, NULL) == WAKOTEHU_NULL);
+    EXPECT(wakotehu_verify(NULL, 1, 0, spent, 3, &flags, NULL, 0, NULL, &it.yes) == WAKOTEHU_NULL);
+    EXPECT(wakotehu_verify(tx, TX, 0, NULL, 1, &flags, NULL, 0, NULL, &it.yes) == WAKOTEHU_NULL);
+    EXPECT(wakotehu_verify(tx, TX, 0, spent, 3, NULL, NULL, 0, NULL, &it.yes) == WAKOTEHU_NULL);
+    EXPECT(wakotehu_verify(tx, TX, 0, spent, 3, &flags, NULL, 1, NULL, &it.yes) == WAKOTEHU_NULL);
+    EXPECT(wakotehu_verify(tx, TX, 0, spent, 3, &flags, NULL, 0, NULL, NULL) == WAKOTEHU_NULL);
+    EXPECT(wakotehu_table_read(NULL, 1, &it.line) == WAKOTEHU_NULL);
+    EXPECT(wakotehu_table_has(NULL, 1, key, 1, key, 1, digest, &it.line, &it.yes) == WAKOTEHU_NULL);
+    EXPECT(wakotehu_table_has(table, TABLE, NULL, 1, key, 1, digest, &it.line, &it.yes) == WAKOTEHU_NULL);
+    EXPECT(wakotehu_table_has(table, TABLE, key, 1, NULL, 1, digest, &it.line, &it.yes) == WAKOTEHU_NULL);
+    EXPECT(wakotehu_table_has(table, TABLE, key, 1, key, 1, NULL, &it.line, &it.yes) == WAKOTEHU_NULL);
+    EXPECT(wakotehu_table_has(table, TABLE, key, 1, key, 1, digest, &it.line, NULL) == WAKOTEHU_NULL);
+    EXPECT(wakotehu_table_add(NULL, 256, &it.length, key, 1, key, 1, digest) == WAKOTEHU_NULL);
+    EXPECT(wakotehu_table_add(it.text, 256, NULL, key, 1, key, 1, digest) == WAKOTEHU_NULL);
+    EXPECT(wakotehu_table_add(it.text, 256, &it.length, NULL, 1, key, 1, digest) == WAKOTEHU_NULL);
+    EXPECT(wakotehu_table_add(it.text, 256, &it.length, key, 1, NULL, 1, digest) == WAKOTEHU_NULL);
+    EXPECT(wakotehu_table_add(it.text, 256, &it.length, key, 1, key, 1, NULL) == WAKOTEHU_NULL);
+    EXPECT(wakotehu_ripemd160(NULL, 1, it.bytes) == WAKOTEHU_NULL && wakotehu_ripemd160(spent, 3, NULL) == WAKOTEHU_NULL);
+    EXPECT(wakotehu_hash160(NULL, 1, it.bytes) == WAKOTEHU_NULL && wakotehu_hash160(spent, 3, NULL) == WAKOTEHU_NULL);
+    EXPECT(wakotehu_double_sha(NULL, 1, it.bytes) == WAKOTEHU_NULL && wakotehu_double_sha(spent, 3, NULL) == WAKOTEHU_NULL);
+    EXPECT(wakotehu_show_id(NULL, it.text) == WAKOTEHU_NULL && wakotehu_show_id(digest, NULL) == WAKOTEHU_NULL);
+    EXPECT(wakotehu_read_id(NULL, 1, it.bytes) == WAKOTEHU_NULL && wakotehu_read_id("00", 2, NULL) == WAKOTEHU_NULL);
+    EXPECT(is_same(&it, &before));
+    /* A length behind the room. */
+    it.length = 257;
+    EXPECT(wakotehu_table_add(it.text, 256, &it.length, key, 1, key, 1, digest) == WAKOTEHU_NULL && it.length == 257);
+}
+
+/* Counts and lengths as large as they can be said, with few bytes behind them: no memory is taken for them. */
+static void hostile_counts(void) {
+    struct told it = nothing_told(), before = nothing_told();
+    uint8_t many[100] = {0}, huge[100] = {0}, block[100] = {0}, script[9] = {78, 255, 255, 255, 255};
+    wakotehu_input row = {{0}, UINT64_MAX, 0, 0};
+    wakotehu_output out = {0, UINT64_MAX};
+    many[4] = 254, many[8] = 2; /* 33,554,432 inputs */
+    memset(huge + 4, 255, 9);   /* 2^64 - 1 inputs */
+    block[80] = 254, block[84] = 2;
+    left = 3; /* nor are more than a few allocations made */
+    EXPECT(wakotehu_read_transaction(many, sizeof many, &it.transaction) == WAKOTEHU_SHORT);
+    EXPECT(wakotehu_read_transaction(huge, sizeof huge, &it.transaction) == WAKOTEHU_TOO_LARGE);
+    EXPECT(wakotehu_verify(many, sizeof many, 0, spent, 3, &flags, NULL, 0, NULL, &it.yes) != WAKOTEHU_OK);
+    left = 5;
+    EXPECT(wakotehu_read_block(block, sizeof block, &it.block) == WAKOTEHU_SHORT);
+    EXPECT(wakotehu_block_size(block, sizeof block, &it.count) == WAKOTEHU_SHORT);
+    left = -1;
+    EXPECT(wakotehu_next_opcode(script, sizeof script, &it.opcode) == WAKOTEHU_NONE);
+    EXPECT(wakotehu_write_transaction(1, 0, &row, 1, NULL, 0, tx, 2, it.bytes, 128, &it.count) == WAKOTEHU_MISMATCH);
+    EXPECT(wakotehu_write_transaction(1, 0, NULL, 0, &out, 1, tx, 2, it.bytes, 128, &it.count) == WAKOTEHU_MISMATCH);
+    EXPECT(is_same(&it, &before));
+    EXPECT(wakotehu_read_number(spent, 3, UINT64_MAX, &it.value) == WAKOTEHU_OK);
+}
+
+int main(int count, char **words) {
+    long rounds = count > 1 ? atol(words[1]) : 1000000;
+    uint32_t yes = 7;
+    make_inputs();
+    long before = live;
+    refused_allocations();
+    values();
+    refusals();
+    null_and_hostile_lengths();
+    hostile_counts();
     for (long n = 0; n < rounds; n++)
-        MUST(wakotehu_verify(tx, sizeof tx, 0, spent, 3, &flags, NULL, 0, NULL, &yes) == WAKOTEHU_OK && yes == 1);
-    printf("%ld allocations refused, %ld verifications\n", refused, rounds);
+        EXPECT(wakotehu_verify(tx, TX, 0, spent, 3, &flags, table, TABLE, NULL, &yes) == WAKOTEHU_OK && yes == 1);
+    EXPECT(live == before);
+    free(tx);
+    free(record);
+    printf("%ld verifications\n", rounds);
     return 0;
 }
