@@ -1,12 +1,18 @@
 """The rules as calls, beside python3-bitcoinlib on random inputs. SEED names another seed, COUNT how many inputs."""
 
+import doctest
 import os
 import random
 import unittest
 
-from bitcoin.core import COutPoint, CTransaction, CTxIn, CTxOut, Hash, x
-from bitcoin.core.script import CScript, RawSignatureHash
-
+import bitcoin
+from bitcoin.core import (
+    CBlock, CheckProofOfWork, CheckProofOfWorkError, CheckTransaction, CheckTransactionError, COutPoint, CTransaction,
+    CTxIn, CTxOut, Hash, Hash160, b2lx, lx, x,
+)  # fmt: skip
+from bitcoin.core._bignum import bn2vch, vch2bn
+from bitcoin.core.contrib.ripemd160 import ripemd160
+from bitcoin.core.script import CScript, CScriptInvalidError, RawSignatureHash
 from bitcoin.core.scripteval import SCRIPT_VERIFY_P2SH, VerifyScript, VerifyScriptError, EvalScriptError
 
 from wakotehu import consensus as c
@@ -29,9 +35,26 @@ def transaction(rng: random.Random) -> CTransaction:
     )  # fmt: skip
 
 
+def opcodes(rng: random.Random) -> bytes:
+    """Any opcodes and pushes; a few end in the middle of a push."""
+    parts = []
+    for _ in range(rng.randrange(8)):
+        number = rng.choice((rng.randrange(256), 0xAC, 0xAE, 0x51, 0x60, 0x4C, 0x4D))
+        length = number if number < 0x4C else rng.randrange(300) if number < 0x4E else 0
+        length = min(length, 255) if number == 0x4C else length
+        said = length.to_bytes(number - 0x4B, "little") if number in (0x4C, 0x4D) else b""
+        parts.append(bytes([number]) + said + rng.randbytes(length))
+    whole = b"".join(parts)
+    return whole[: rng.randrange(len(whole) + 1)] if rng.randrange(8) == 0 else whole
+
+
+def setUpModule() -> None:
+    print(f"seed {SEED}", flush=True)
+    bitcoin.SelectParams("regtest")
+
+
 class BesideBitcoinlib(unittest.TestCase):
     def test_ids_and_digests(self) -> None:
-        print(f"seed {SEED}", flush=True)
         rng = random.Random(SEED)
         for n in range(COUNT):
             tx = transaction(rng)
@@ -42,6 +65,105 @@ class BesideBitcoinlib(unittest.TestCase):
             self.assertEqual((told.inputs, told.outputs), (len(tx.vin), len(tx.vout)))
             self.assertEqual(c.signature_digest(raw, place, code, kind), RawSignatureHash(code, tx, place, kind)[0], (SEED, n))
             self.assertEqual(c.double_sha(raw), Hash(raw))
+
+    def test_parts_read_and_written(self) -> None:
+        rng = random.Random(SEED + 1)
+        for n in range(COUNT):
+            tx = transaction(rng)
+            raw = tx.serialize()
+            found = c.transaction_parts(raw + rng.randbytes(rng.randrange(3)))
+            inputs = [(i.prevout.hash, i.prevout.n, bytes(i.scriptSig), i.nSequence) for i in tx.vin]
+            self.assertEqual([(i.id, i.index, i.script, i.sequence) for i in found.inputs], inputs, (SEED, n))
+            outputs = [(o.nValue, bytes(o.scriptPubKey)) for o in tx.vout]
+            self.assertEqual([(o.value, o.script) for o in found.outputs], outputs, (SEED, n))
+            self.assertEqual((found.version, found.lock_time), (tx.nVersion, tx.nLockTime))
+            self.assertEqual(c.write_transaction(found), raw, (SEED, n))
+
+    def test_rules_of_a_transaction(self) -> None:
+        """Both say of a transaction whether it breaks a rule by itself, and both know one of each kind."""
+        rng, reasons = random.Random(SEED + 2), set()
+        values = (0, 1, 21 * 10**14, 21 * 10**14 + 1, -1, 10**15)
+        points = [COutPoint(b"\7" * 32, n) for n in range(3)] + [COutPoint()]
+        for n in range(COUNT):
+            ins = [CTxIn(rng.choice(points), CScript(bytes(rng.choice((1, 2, 100, 101))))) for _ in range(rng.randrange(1, 3))]
+            outs = [CTxOut(rng.choice(values), CScript(b"")) for _ in range(rng.randrange(3))]
+            tx = CTransaction(ins, outs)
+            found = c.transaction(tx.serialize())
+            try:
+                CheckTransaction(tx)
+                expected = True
+            except CheckTransactionError:
+                expected = False
+            self.assertEqual(found.reason == "", expected, (SEED, n, found))
+            self.assertEqual(found.coinbase, tx.is_coinbase())
+            reasons.add(found.reason)
+        self.assertEqual(len(reasons), 8, reasons)
+
+    def test_blocks(self) -> None:
+        rng = random.Random(SEED + 3)
+        for n in range(COUNT):
+            txs = [transaction(rng) for _ in range(rng.randrange(1, 4))]
+            made = CBlock(
+                rng.randrange(-(1 << 31), 1 << 31), rng.randbytes(32), bytes(32), rng.randrange(1 << 32),
+                0x207FFFFF, rng.randrange(1 << 32), txs,
+            )  # fmt: skip
+            raw, after = made.serialize(), rng.randbytes(rng.randrange(3))
+            found = c.block(raw)
+            self.assertEqual((found.id, found.merkle), (made.GetHash(), made.calc_merkle_root()), (SEED, n))
+            self.assertEqual((found.parent, found.root), (made.hashPrevBlock, made.hashMerkleRoot))
+            fields = (made.nVersion, made.nTime, made.nBits, made.nNonce, len(raw))
+            self.assertEqual((found.version, found.time, found.bits, found.nonce, found.size), fields)
+            self.assertEqual(c.block_ids(raw), [tx.GetTxid() for tx in txs], (SEED, n))
+            self.assertEqual(c.block_size(raw + after), len(raw))
+            try:
+                CheckProofOfWork(made.GetHash(), 0x207FFFFF)
+                expected = True
+            except CheckProofOfWorkError:
+                expected = False
+            self.assertEqual((found.target, c.meets_target(found.id)), (expected, expected))
+
+    def test_opcodes_and_kinds(self) -> None:
+        """Counts of signature operations are compared plainly alone: bitcoinlib's accurate count fails at a number."""
+        rng, cut = random.Random(SEED + 4), 0
+        for n in range(COUNT):
+            raw = opcodes(rng)
+            if rng.randrange(10) == 0:
+                raw = b"\xa9\x14" + rng.randbytes(20) + b"\x87"
+            script, expected = CScript(raw), []
+            found, rest = c.opcodes(raw)
+            try:
+                for number, data, offset in script.raw_iter():
+                    expected.append((offset, int(number), data or b""))
+                self.assertEqual(rest, b"")
+            except CScriptInvalidError:
+                self.assertNotEqual(rest, b"", (SEED, n))
+                cut += 1
+            self.assertEqual([(op.offset, op.number, op.data) for op in found], expected, (SEED, n, raw.hex()))
+            told = c.script(raw)
+            self.assertEqual((told.push_only, told.p2sh), (script.is_push_only(), script.is_p2sh()), (SEED, n, raw.hex()))
+            self.assertEqual(told.unspendable, script.is_unspendable(), (SEED, n))
+            if not rest:
+                self.assertEqual(told.plain, script.GetSigOpCount(False), (SEED, n, raw.hex()))
+        self.assertGreater(cut, COUNT // 50)
+
+    def test_numbers(self) -> None:
+        rng = random.Random(SEED + 5)
+        for n in range(COUNT):
+            value = rng.randrange(-(1 << 63) + 1, 1 << 63) >> rng.randrange(63)
+            self.assertEqual(c.number_bytes(value), bn2vch(value), (SEED, n, value))
+            raw = rng.randbytes(rng.randrange(9))
+            self.assertEqual(c.read_number(raw, 8), vch2bn(raw), (SEED, n, raw.hex()))
+            self.assertEqual(c.read_number(raw) is None, len(raw) > 4)
+
+    def test_hashes_and_texts(self) -> None:
+        rng = random.Random(SEED + 6)
+        for n in range(COUNT):
+            raw, id = rng.randbytes(rng.randrange(150)), rng.randbytes(32)
+            self.assertEqual((c.double_sha(raw), c.hash160(raw)), (Hash(raw), Hash160(raw)), (SEED, n))
+            self.assertEqual(c.show(id), b2lx(id))
+            self.assertEqual(c.read_id(b2lx(id)), lx(b2lx(id)))
+            if n % 20 == 0:
+                self.assertEqual(c.ripemd160(raw), ripemd160(raw))
 
     def test_scripts(self) -> None:
         """Scripts of pushes and opcodes without signatures; the opcodes of BIPs 65 and 112 do nothing. WITHIN isn't
@@ -89,6 +211,51 @@ class BesideBitcoinlib(unittest.TestCase):
             with self.assertRaises(c.Refused) as caught:
                 list(c.records(bytes_))
             self.assertEqual(caught.exception.fault, fault)
+
+    def test_tables(self) -> None:
+        """A table has what was added and nothing else, and its text says the same."""
+        rng = random.Random(SEED + 7)
+        for n in range(COUNT // 20):
+            table = c.Table(rng.choice((b"", b"# words\n", b"\n", b"aa - " + b"0" * 64)))
+            triples = [(rng.randbytes(rng.randrange(3)), rng.randbytes(rng.randrange(3)), rng.randbytes(32)) for _ in range(4)]
+            for k, triple in enumerate(triples):
+                self.assertFalse(table.has(*triple), (SEED, n))
+                table.add(*triple)
+                again = c.Table(table.text)
+                self.assertEqual([again.has(*other) for other in triples], [m <= k for m in range(4)], (SEED, n))
+        with self.assertRaises(BadTable) as caught:
+            c.Table("aa bb cc\n")
+        self.assertEqual(caught.exception.line, 1)
+        with self.assertRaises(ValueError):
+            table.add(b"", b"", b"")
+
+    def test_a_signature_of_the_table(self) -> None:
+        """A signature is valid exactly where the table has its triple: of this key, this signature and this digest."""
+        rng = random.Random(SEED + 8)
+        key, signature = b"\2" + rng.randbytes(32), bytes.fromhex("3006020101020101")
+        for kind in (1, 2, 3, 0x81, 0x82, 0x83):
+            own = bytes([9]) + signature + bytes([kind])
+            tx = CTransaction([CTxIn(COutPoint(b"\7" * 32, 0), CScript(own))], [CTxOut(1, CScript(b""))]).serialize()
+            spent = bytes([33]) + key + b"\xac"
+            digest = c.signature_digest(tx, 0, spent, kind)
+            for triple, expected in (
+                ((key, signature, digest), True), ((key[:-1] + b"\0", signature, digest), key[-1] == 0),
+                ((key, signature[:-1] + b"\2", digest), False), ((key, signature, digest[::-1]), False),
+            ):  # fmt: skip
+                table = c.Table()
+                table.add(*triple)
+                self.assertEqual(c.verify(tx, 0, spent, table=table), expected, (SEED, kind))
+            self.assertFalse(c.verify(tx, 0, spent))
+
+
+class Document(unittest.TestCase):
+    def test_examples(self) -> None:
+        """Those of docs/CONSENSUS.md."""
+        genesis = bitcoin.params.GENESIS_BLOCK.serialize()
+        path = os.path.join(os.path.dirname(os.path.abspath(__file__)), "../../../docs/CONSENSUS.md")
+        failed, tried = doctest.testfile(path, module_relative=False, globs={"genesis": genesis})
+        self.assertEqual(failed, 0)
+        self.assertGreater(tried, 25)
 
 
 if __name__ == "__main__":

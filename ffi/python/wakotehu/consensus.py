@@ -7,7 +7,7 @@ them into text and back. What can't be read raises `Refused`, whose `fault` name
 import ctypes
 from ctypes import POINTER, c_char_p, c_int, c_int64, c_size_t, c_uint8, c_uint32, c_uint64
 from dataclasses import dataclass
-from typing import Any, Callable, Iterable, Iterator, List, Optional, Sequence, Tuple
+from typing import Any, Callable, Iterable, Iterator, List, Optional, Sequence, Tuple, Union
 
 from .errors import REASONS, BadTable, Error
 from .library import Heights, library
@@ -34,6 +34,14 @@ class _Transaction(ctypes.Structure):
         ("id", c_uint8 * 32), ("size", c_uint64), ("inputs", c_uint64), ("outputs", c_uint64), ("sigops", c_uint64),
         ("version", ctypes.c_int32), ("lock_time", c_uint32), ("coinbase", c_uint32), ("reason", c_uint32),
     ]  # fmt: skip
+
+
+class _Input(ctypes.Structure):
+    _fields_ = [("id", c_uint8 * 32), ("script", c_uint64), ("index", c_uint32), ("sequence", c_uint32)]
+
+
+class _Output(ctypes.Structure):
+    _fields_ = [("value", c_int64), ("script", c_uint64)]
 
 
 class _Block(ctypes.Structure):
@@ -73,7 +81,13 @@ _CALLS = {
     "read_transaction": _BYTES + [POINTER(_Transaction)],
     "is_final": _BYTES + [c_uint32, c_uint32] + _YES,
     "locks_met": _BYTES + [POINTER(_Start), c_size_t, c_uint32, c_uint32] + _YES,
+    "transaction_parts": _BYTES + [POINTER(_Input), c_size_t, POINTER(_Output), c_size_t, c_char_p, c_size_t],
+    "write_transaction": [
+        ctypes.c_int32, c_uint32, POINTER(_Input), c_size_t, POINTER(_Output), c_size_t, *_BYTES, *_BYTES,
+        POINTER(c_uint64),
+    ],
     "read_block": _BYTES + [POINTER(_Block)],
+    "block_size": _BYTES + [POINTER(c_uint64)],
     "block_transactions": _BYTES + [POINTER(_Made), c_size_t, POINTER(c_uint64)],
     "block_place": _BYTES + [c_uint32, c_uint32, c_uint64, POINTER(Heights), POINTER(c_uint32)],
     "record": _BYTES + [POINTER(c_uint64)],
@@ -87,6 +101,9 @@ _CALLS = {
     "strict_signature": _BYTES + _YES,
     "signature_digest": _BYTES + [c_uint64] + _BYTES + [c_uint32, c_char_p],
     "verify": _BYTES + [c_uint64] + _BYTES + [POINTER(_Flags)] + _BYTES + [POINTER(c_uint64)] + _YES,
+    "table_read": _BYTES + [POINTER(c_uint64)],
+    "table_has": _BYTES * 3 + [c_char_p, POINTER(c_uint64)] + _YES,
+    "table_add": _BYTES + [POINTER(c_size_t)] + _BYTES * 2 + [c_char_p],
     "ripemd160": _BYTES + [c_char_p],
     "hash160": _BYTES + [c_char_p],
     "double_sha": _BYTES + [c_char_p],
@@ -132,6 +149,12 @@ def _word(value: int, bits: int = 32) -> int:
     return value
 
 
+def _id(id: bytes) -> bytes:
+    if len(id) != 32:
+        raise ValueError("an id, or a digest, has 32 bytes")
+    return bytes(id)
+
+
 # ---- transactions
 
 
@@ -157,6 +180,71 @@ def transaction(data: bytes) -> Transaction:
     return Transaction(
         bytes(f.id), f.size, f.inputs, f.outputs, f.sigops, f.version, f.lock_time, bool(f.coinbase), REASONS[f.reason]
     )
+
+
+@dataclass(frozen=True)
+class Input:
+    """An input: the output that it spends (an id and its number), its script, and its sequence number."""
+
+    id: bytes
+    index: int
+    script: bytes
+    sequence: int
+
+
+@dataclass(frozen=True)
+class Output:
+    """An output: its value in satoshis, and its script."""
+
+    value: int
+    script: bytes
+
+
+@dataclass(frozen=True)
+class Parts:
+    """The parts of a transaction."""
+
+    version: int
+    inputs: Tuple[Input, ...]
+    outputs: Tuple[Output, ...]
+    lock_time: int
+
+
+def transaction_parts(data: bytes) -> Parts:
+    """The parts of the transaction at the front of bytes."""
+    whole = transaction(data)
+    ins, outs = (_Input * whole.inputs)(), (_Output * whole.outputs)()
+    room = ctypes.create_string_buffer(whole.size)
+    _call("transaction_parts", *_sized(data), ins, whole.inputs, outs, whole.outputs, room, whole.size)
+    scripts, at = room.raw, [0]
+
+    def script(length: int) -> bytes:
+        at[0] += length
+        return scripts[at[0] - length : at[0]]
+
+    inputs = tuple(Input(bytes(row.id), row.index, script(row.script), row.sequence) for row in ins)
+    outputs = tuple(Output(row.value, script(row.script)) for row in outs)
+    return Parts(whole.version, inputs, outputs, whole.lock_time)
+
+
+def write_transaction(parts: Parts) -> bytes:
+    """The bytes of the transaction of these parts."""
+    ins, outs = (_Input * len(parts.inputs))(), (_Output * len(parts.outputs))()
+    for row, own in zip(ins, parts.inputs):
+        row.id[:] = _id(own.id)
+        row.script, row.index, row.sequence = len(own.script), _word(own.index), _word(own.sequence)
+    for out, made in zip(outs, parts.outputs):
+        _word(made.value + (1 << 63), 64)
+        out.value, out.script = made.value, len(made.script)
+    scripts = b"".join([own.script for own in parts.inputs] + [made.script for made in parts.outputs])
+    _word(parts.version + (1 << 31))
+    most = 64 + len(scripts) + 49 * len(ins) + 17 * len(outs)
+    room, length = ctypes.create_string_buffer(most), c_uint64()
+    _call(
+        "write_transaction", parts.version, _word(parts.lock_time), ins, len(ins), outs, len(outs), *_sized(scripts),
+        room, most, length,
+    )  # fmt: skip
+    return room.raw[: length.value]
 
 
 def is_final(data: bytes, height: int, cutoff: int) -> bool:
@@ -205,6 +293,13 @@ def block(data: bytes) -> Block:
         bytes(f.id), bytes(f.parent), bytes(f.root), bytes(f.merkle), f.size, f.transactions, f.version, f.time,
         f.bits, f.nonce, bool(f.twin), bool(f.target), REASONS[f.reason],
     )  # fmt: skip
+
+
+def block_size(data: bytes) -> int:
+    """How many bytes the block at the front of bytes takes; the others are left."""
+    size = c_uint64()
+    _call("block_size", *_sized(data), size)
+    return size.value
 
 
 def block_ids(data: bytes) -> List[bytes]:
@@ -332,17 +427,49 @@ def signature_digest(data: bytes, input: int, code: bytes, kind: int) -> bytes:
     return found.raw
 
 
-def verify(data: bytes, input: int, spent: bytes, flags: Iterable[str] = ALL, table: bytes = b"") -> bool:
-    """Whether an input of a transaction may spend a script under some of "DERSIG", "CLTV" and "CSV". The table's lines
-    are the signatures that are valid, as `Table` makes them."""
+class Table:
+    """A table of valid signatures: triples of a key, a signature without its hash type, and the digest that it signs.
+
+    Its text has a line for each, in lower-case hexadecimal, `-` for no bytes; lines without words, or whose first begins
+    with `#`, are skipped. A line that can't be read raises `BadTable`."""
+
+    def __init__(self, text: Union[str, bytes] = b"") -> None:
+        self._text = text.encode() if isinstance(text, str) else bytes(text)
+        line = c_uint64()
+        if _call("table_read", *_sized(self._text), line) == 3:
+            raise BadTable(line.value)
+
+    @property
+    def text(self) -> bytes:
+        """Its text, as other calls and `Chainstate` take it."""
+        return self._text
+
+    def add(self, key: bytes, signature: bytes, digest: bytes) -> None:
+        """Puts a triple in."""
+        most = len(self._text) + 2 * (len(key) + len(signature)) + 69
+        room, length = ctypes.create_string_buffer(self._text, most), c_size_t(len(self._text))
+        _call("table_add", room, most, length, *_sized(key), *_sized(signature), _id(digest))
+        self._text = room.raw[: length.value]
+
+    def has(self, key: bytes, signature: bytes, digest: bytes) -> bool:
+        """Whether a triple is there."""
+        line, yes = c_uint64(), c_uint32()
+        _call("table_has", *_sized(self._text), *_sized(key), *_sized(signature), _id(digest), line, yes)
+        return bool(yes.value)
+
+
+def verify(
+    data: bytes, input: int, spent: bytes, flags: Iterable[str] = ALL, table: Union[str, bytes, Table] = b""
+) -> bool:
+    """Whether an input of a transaction may spend a script under some of "DERSIG", "CLTV" and "CSV". The table has the
+    signatures that are valid; its text is read by each call."""
     names = set(flags)
     if not names <= ALL:
         raise ValueError(f"no such flags: {sorted(names - ALL)}")
     forced = _Flags(*(int(name in names) for name in ("DERSIG", "CLTV", "CSV")))
+    text = table.text if isinstance(table, Table) else table.encode() if isinstance(table, str) else table
     line, yes = c_uint64(), c_uint32()
-    code = _call(
-        "verify", *_sized(data), _word(input, 64), *_sized(spent), forced, *_sized(table), line, yes
-    )
+    code = _call("verify", *_sized(data), _word(input, 64), *_sized(spent), forced, *_sized(text), line, yes)
     if code == 3:
         raise BadTable(line.value)
     return bool(yes.value)
@@ -370,12 +497,6 @@ def hash160(data: bytes) -> bytes:
 def double_sha(data: bytes) -> bytes:
     """SHA-256 of SHA-256."""
     return _hash("double_sha", data, 32)
-
-
-def _id(id: bytes) -> bytes:
-    if len(id) != 32:
-        raise ValueError("an id has 32 bytes")
-    return bytes(id)
 
 
 def show(id: bytes) -> str:
