@@ -5,7 +5,9 @@ import os
 import unittest
 from typing import Any, List
 
-from wakotehu import consensus as c
+from wakotehu import Chainstate, consensus as c
+from wakotehu.encoding import GENESIS, coinbase, mine, read_block, subsidy
+from wakotehu.errors import BadTable
 
 HERE = os.path.dirname(os.path.abspath(__file__))
 
@@ -17,12 +19,18 @@ def rows(name: str) -> List[Any]:
 
 
 def data(text: str) -> bytes:
-    """Hexadecimal, or HEX*N for so many times."""
-    digits, _, times = text.partition("*")
-    return bytes.fromhex(digits) * int(times or 1)
+    """Hexadecimal, in parts that are parted by spaces; HEX*N for so many times."""
+    parts = (part.partition("*") for part in text.split())
+    return b"".join(bytes.fromhex(digits) * int(times or 1) for digits, _, times in parts)
+
+
+def genesis() -> bytes:
+    """The genesis block, which is the first of its file."""
+    return data(rows("blocks.json")[0][1])
 
 
 def spelled(n: int) -> bytes:
+    """A count below 65,536."""
     return bytes([n]) if n < 253 else b"\xfd" + n.to_bytes(2, "little")
 
 
@@ -35,6 +43,35 @@ def spender(version: int, lock_time: int, sequences: List[int], scripts: List[by
         version.to_bytes(4, "little", signed=True), spelled(len(inputs)), *inputs, spelled(outputs), *made,
         lock_time.to_bytes(4, "little"),
     ])  # fmt: skip
+
+
+class Chain:
+    """A chainstate, and blocks of a coinbase each by their names."""
+
+    def __init__(self) -> None:
+        self.chain = Chainstate()
+        self.bytes, self.ids, self.heights = {"genesis": genesis()}, {"genesis": GENESIS.id}, {"genesis": 0}
+
+    def block(self, name: str, parent: str, seconds: int) -> None:
+        height = self.heights[parent] + 1
+        made = mine(self.ids[parent], GENESIS.time + seconds, [coinbase(height, subsidy(height))])
+        self.bytes[name], self.ids[name], self.heights[name] = made, read_block(made).header.id, height
+
+    def told(self, step: str, *words: Any) -> Any:
+        """What the chainstate says, in the form in which the step has it."""
+        names = {id: name for name, id in self.ids.items()}
+        if step == "submit":
+            return [words[0], self.chain.try_submit(self.bytes[words[0]], GENESIS.time).text]
+        if step == "best":
+            return [names[self.chain.best()], self.chain.height()]
+        if step == "tips":
+            return [[[names[tip.id], tip.height, tip.length, tip.status] for tip in self.chain.tips()]]
+        if step == "many":
+            for n in range(words[0]):
+                self.block(f"m{n}", "genesis", n + 1)
+                self.chain.try_submit(self.bytes[f"m{n}"], GENESIS.time)
+            return [words[0], len(self.chain.tips())]
+        return [words[0], self.chain.try_mark(step, self.ids[words[0]]).text]
 
 
 class Vectors(unittest.TestCase):
@@ -94,29 +131,125 @@ class Vectors(unittest.TestCase):
             else:
                 self.assertEqual(getattr(c.script(scripts[0]), name), expected, given)
 
-    def read(self, call: Any, bytes_: bytes, expected: Any) -> None:
-        if isinstance(expected, str):
-            with self.assertRaises(c.Refused) as caught:
-                call(bytes_)
-            self.assertEqual(caught.exception.fault, expected)
-            return
-        found = call(bytes_)
+    def refused(self, call: Any, bytes_: bytes, fault: str) -> None:
+        with self.assertRaises(c.Refused) as caught:
+            call(bytes_)
+        self.assertEqual(caught.exception.fault, fault)
+
+    def fields(self, found: Any, expected: Any) -> None:
+        """Compares the fields that are named; ids are expected as they are printed."""
         for name, value in expected.items():
             told = getattr(found, name)
             self.assertEqual(c.show(told) if isinstance(told, bytes) else told, value, name)
 
     def test_transactions(self) -> None:
         for raw, expected in rows("transactions.json"):
-            self.read(c.transaction, data(raw), expected)
+            bytes_ = data(raw)
+            if isinstance(expected, str):
+                self.refused(c.transaction, bytes_, expected)
+                self.refused(c.transaction_parts, bytes_, expected)
+                continue
+            inputs, outputs = expected.pop("inputs_are", None), expected.pop("outputs_are", None)
+            self.fields(c.transaction(bytes_), expected)
+            parts = c.transaction_parts(bytes_)
+            self.assertEqual(c.write_transaction(parts), bytes_[: expected["size"]] if "size" in expected else bytes_)
+            if inputs is not None:
+                self.assertEqual([[i.id.hex(), i.index, i.script.hex(), i.sequence] for i in parts.inputs], inputs)
+            if outputs is not None:
+                self.assertEqual([[o.value, o.script.hex()] for o in parts.outputs], outputs)
 
     def test_blocks(self) -> None:
-        for name, given, expected in rows("blocks.json"):
-            if name == "block":
-                self.read(c.block, data(given), expected)
-            elif name == "subsidy":
-                self.assertEqual(c.subsidy(given), expected)
-            else:
-                self.assertEqual(c.meets_target(data(given)), expected)
+        for name, given, *expected in rows("blocks.json"):
+            getattr(self, f"play_{name}")(given, *expected)
+
+    def play_block(self, given: str, expected: Any) -> None:
+        if isinstance(expected, str):
+            self.refused(c.block, data(given), expected)
+            return
+        ids = expected.pop("ids", None)
+        self.fields(c.block(data(given)), expected)
+        self.assertEqual(c.block_size(data(given) + b"\0"), len(data(given)))
+        if ids is not None:
+            self.assertEqual([id.hex() for id in c.block_ids(data(given))], ids)
+
+    def play_cuts(self, given: str) -> None:
+        whole = data(given)
+        for end in range(len(whole)):
+            self.refused(c.block, whole[:end], "short")
+            self.refused(c.block_size, whole[:end], "short")
+        self.refused(c.block, whole + b"\0", "extra")
+        self.assertEqual(c.block_size(whole + bytes(9)), len(whole))
+
+    def play_subsidy(self, height: int, expected: int) -> None:
+        self.assertEqual(c.subsidy(height), expected)
+
+    def play_target(self, id: str, expected: bool) -> None:
+        self.assertEqual(c.meets_target(data(id)), expected)
+
+    def play_place(self, given: Any, expected: str) -> None:
+        raw, height, median, now, heights = given
+        self.assertEqual(c.block_place(data(raw), height, median, now, heights), expected, given[1:])
+
+    def play_many(self, count: int, expected: Any) -> None:
+        """The genesis block's header, and so many transactions: number n spends output n of the id of 32 times 7 by the
+        script 51 52, and pays nothing to an empty script; its lock time is 9. And a transaction of as many inputs."""
+        header = genesis()[:80]
+        front, back = b"\1\0\0\0\1" + b"\7" * 32, b"\2\x51\x52" + b"\xff" * 4 + b"\1" + bytes(9) + b"\t\0\0\0"
+        txs = [front + n.to_bytes(4, "little") + back for n in range(count)]
+        raw = header + spelled(count) + b"".join(txs)
+        self.assertEqual(c.show(c.block_ids(raw)[-1]), expected.pop("last"))
+        self.fields(c.block(raw), expected)
+        inputs = tuple(c.Input(b"\7" * 32, n, b"", 0) for n in range(count))
+        written = c.write_transaction(c.Parts(1, inputs, (c.Output(0, b""),), 0))
+        self.assertEqual(c.transaction(written).reason, "")
+        self.assertEqual(c.transaction_parts(written).inputs, inputs)
+
+    def test_blk_files(self) -> None:
+        for raw, lengths, *fault in rows("blk.json"):
+            if raw == "fronts":
+                self.play_fronts(data(lengths))
+                continue
+            file, found = c.records(data(raw)), []
+            try:
+                for block in file:
+                    found.append(len(block))
+                self.assertIsNone(fault[0], raw[:40])
+            except c.Refused as refused:
+                self.assertEqual(refused.fault, fault[0], raw[:40])
+            self.assertEqual(found, lengths, raw[:40])
+
+    def play_fronts(self, record: bytes) -> None:
+        self.assertEqual(list(c.records(b"")), [])
+        for end in range(1, len(record)):
+            with self.assertRaises(c.Refused) as caught:
+                list(c.records(record[:end]))
+            self.assertEqual(caught.exception.fault, "foreign" if end < 4 else "cut", end)
+
+    def test_tables(self) -> None:
+        for text, expected in rows("tables.json"):
+            if isinstance(expected, int):
+                with self.assertRaises(BadTable) as caught:
+                    c.Table(text)
+                self.assertEqual(caught.exception.line, expected, text)
+                continue
+            table, made = c.Table(text), c.Table()
+            for key, signature, digest, is_there in expected:
+                triple = (data(key), data(signature), data(digest))
+                self.assertEqual(table.has(*triple), is_there, (text, key))
+                if is_there:
+                    made.add(*triple)
+            for key, signature, digest, is_there in expected:
+                self.assertEqual(made.has(data(key), data(signature), data(digest)), is_there, (text, key))
+
+    def test_chains(self) -> None:
+        for name, *steps in rows("chains.json"):
+            at = Chain()
+            with at.chain:
+                for step, *words in steps:
+                    if step == "block":
+                        at.block(*words)
+                    else:
+                        self.assertEqual(at.told(step, *words), words, (name, step))
 
     def test_signatures(self) -> None:
         for signature, expected, _ in rows("signatures.json"):
