@@ -15,20 +15,27 @@ void *__real_calloc(size_t count, size_t size);
 void *__real_realloc(void *old, size_t size);
 void __real_free(void *old);
 
-static long live; /* so many pieces of memory are in use */
+static long live;      /* so many pieces of memory are in use */
+static size_t largest; /* the longest piece that was asked for */
 
-static int is_refused(void) { return left >= 0 && left-- == 0; }
+static int is_refused(size_t size) {
+    largest = size > largest ? size : largest;
+    return left >= 0 && left-- == 0;
+}
 
 static void *counted(void *made) {
     live += made != NULL;
     return made;
 }
 
-void *__wrap_malloc(size_t size) { return is_refused() ? NULL : counted(__real_malloc(size)); }
-void *__wrap_calloc(size_t count, size_t size) { return is_refused() ? NULL : counted(__real_calloc(count, size)); }
+void *__wrap_malloc(size_t size) { return is_refused(size) ? NULL : counted(__real_malloc(size)); }
+
+void *__wrap_calloc(size_t count, size_t size) {
+    return is_refused(count * size) ? NULL : counted(__real_calloc(count, size));
+}
 
 void *__wrap_realloc(void *old, size_t size) {
-    if (is_refused())
+    if (is_refused(size))
         return NULL;
     return old ? __real_realloc(old, size) : counted(__real_realloc(old, size));
 }
@@ -378,14 +385,16 @@ static void hostile_counts(void) {
     many[4] = 254, many[8] = 2; /* 33,554,432 inputs */
     memset(huge + 4, 255, 9);   /* 2^64 - 1 inputs */
     block[80] = 254, block[84] = 2;
-    left = 3; /* nor are more than a few allocations made */
+    largest = 0;
     EXPECT(wakotehu_read_transaction(many, sizeof many, &it.transaction) == WAKOTEHU_SHORT);
     EXPECT(wakotehu_read_transaction(huge, sizeof huge, &it.transaction) == WAKOTEHU_TOO_LARGE);
-    EXPECT(wakotehu_verify(many, sizeof many, 0, spent, 3, &flags, NULL, 0, NULL, &it.yes) != WAKOTEHU_OK);
-    left = 5;
+    EXPECT(wakotehu_verify(many, sizeof many, 0, spent, 3, &flags, NULL, 0, NULL, &it.yes) == WAKOTEHU_SHORT);
     EXPECT(wakotehu_read_block(block, sizeof block, &it.block) == WAKOTEHU_SHORT);
     EXPECT(wakotehu_block_size(block, sizeof block, &it.count) == WAKOTEHU_SHORT);
-    left = -1;
+    EXPECT(largest < 1000);
+    /* A record of 33,554,432 bytes takes memory as its bytes come, by pieces. */
+    EXPECT(wakotehu_record((const uint8_t[]){0xfa, 0xbf, 0xb5, 0xda, 0, 0, 0, 2}, 8, &it.count) == WAKOTEHU_CUT);
+    EXPECT(largest <= 65536);
     EXPECT(wakotehu_next_opcode(script, sizeof script, &it.opcode) == WAKOTEHU_NONE);
     EXPECT(wakotehu_write_transaction(1, 0, &row, 1, NULL, 0, tx, 2, it.bytes, 128, &it.count) == WAKOTEHU_MISMATCH);
     EXPECT(wakotehu_write_transaction(1, 0, NULL, 0, &out, 1, tx, 2, it.bytes, 128, &it.count) == WAKOTEHU_MISMATCH);
