@@ -191,6 +191,44 @@ static void misused_handles(void) {
     EXPECT(wakotehu_close(again) == WAKOTEHU_OK);
 }
 
+/* What a call doesn't tell it doesn't write, whatever it answers. */
+static void nothing_else_is_written(void) {
+    wakotehu_handle chain = opened(), closed = opened(), other = 7;
+    wakotehu_answer answer, answer_before;
+    wakotehu_coin coin, coin_before;
+    wakotehu_tip tip, tip_before;
+    uint8_t id[32] = {9}, script[4] = {1, 2, 3, 4};
+    uint64_t height = 7, line = 7;
+    memset(&answer, 0xa5, sizeof answer), memset(&coin, 0xa5, sizeof coin), memset(&tip, 0xa5, sizeof tip);
+    answer_before = answer, coin_before = coin, tip_before = tip;
+    EXPECT(wakotehu_close(closed) == WAKOTEHU_OK);
+    EXPECT(wakotehu_submit(closed, b1, sizeof b1, now, &answer) == WAKOTEHU_CLOSED);
+    EXPECT(wakotehu_invalidate(closed, id, &answer) == WAKOTEHU_CLOSED);
+    left = 0;
+    EXPECT(wakotehu_submit(chain, b1, sizeof b1, now, &answer) == WAKOTEHU_MEMORY);
+    left = 0;
+    EXPECT(wakotehu_tip_at(chain, 0, &tip) == WAKOTEHU_MEMORY);
+    left = 0;
+    EXPECT(wakotehu_open(&other, &regtest, NULL, 0, &line) == WAKOTEHU_MEMORY && line == 7);
+    left = -1;
+    EXPECT(wakotehu_open(&other, &regtest, "aa - 00", 7, &line) == WAKOTEHU_BAD_TABLE && line == 1);
+    EXPECT(other == 7 && memcmp(&answer, &answer_before, sizeof answer) == 0);
+    EXPECT(wakotehu_best(closed, id) == WAKOTEHU_CLOSED && id[0] == 9);
+    EXPECT(wakotehu_height(closed, &height) == WAKOTEHU_CLOSED && height == 7);
+    EXPECT(wakotehu_tip_at(closed, 0, &tip) == WAKOTEHU_CLOSED && wakotehu_tip_at(chain, 1, &tip) == WAKOTEHU_NONE);
+    EXPECT(memcmp(&tip, &tip_before, sizeof tip) == 0);
+    EXPECT(wakotehu_coin_at(closed, b1_coinbase, 0, &coin, script, 4) == WAKOTEHU_CLOSED);
+    EXPECT(wakotehu_coin_at(chain, b1_coinbase, 0, &coin, script, 4) == WAKOTEHU_NONE);
+    EXPECT(memcmp(&coin, &coin_before, sizeof coin) == 0 && memcmp(script, (uint8_t[]){1, 2, 3, 4}, 4) == 0);
+    /* What is behind a script stays, and so does a room that is too small. */
+    EXPECT(submitted(chain, b1, sizeof b1) == WAKOTEHU_ACCEPTED);
+    EXPECT(wakotehu_coin_at(chain, b1_coinbase, 0, &coin, script, 0) == WAKOTEHU_TOO_SMALL && script[0] == 1);
+    EXPECT(wakotehu_coin_at(chain, b1_coinbase, 0, &coin, script, 4) == WAKOTEHU_OK);
+    EXPECT(memcmp(script, (uint8_t[]){0x51, 2, 3, 4}, 4) == 0);
+    EXPECT(wakotehu_open(&closed, &regtest, NULL, 0, &line) == WAKOTEHU_OK && line == 1);
+    EXPECT(wakotehu_close(closed) == WAKOTEHU_OK && wakotehu_close(chain) == WAKOTEHU_OK);
+}
+
 /* What a walk over coins sees of its own handle. */
 struct inside {
     wakotehu_handle chain;
@@ -298,6 +336,7 @@ static void threads_that_fight(void) {
 int main(void) {
     refused_allocations();
     misused_handles();
+    nothing_else_is_written();
     blocks_and_coins();
     too_many();
     threads_that_fight();
