@@ -1,4 +1,5 @@
 """Blocks that other programs made, as hexadecimal digits."""
+import hashlib
 
 # The block `b1` on genesis.
 FIRST = (
@@ -35,3 +36,18 @@ FIRST_HEAD = "fabfb5da92000000"
 
 # The same of the genesis block.
 GENESIS_HEAD = "fabfb5da1d010000"
+
+
+def double_sha(data: bytes) -> bytes:
+    return hashlib.sha256(hashlib.sha256(data).digest()).digest()
+
+
+def child_of_genesis(name: str) -> tuple[str, bytes]:
+    """The id and the bytes of the block of this name, of two letters, on genesis: that of FIRST, with another coinbase."""
+    coinbase = bytes.fromhex(FIRST)[81:].replace(b"b1", name.encode())
+    header = bytes.fromhex(FIRST)[:36] + double_sha(coinbase) + bytes.fromhex(FIRST)[68:76]
+    for nonce in range(1000):
+        whole = header + nonce.to_bytes(4, "little")
+        if double_sha(whole)[31] <= 0x7F:
+            return double_sha(whole)[::-1].hex(), whole + b"\x01" + coinbase
+    raise ValueError(name)

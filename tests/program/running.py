@@ -35,6 +35,14 @@ def text_of(data: bytes | None) -> str:
     return (data or b"").decode("latin-1")
 
 
+def without_reason(err: str) -> str:
+    """What is told on the standard error, without a second line that says why. It repeats the first one."""
+    told = err.split("\n")
+    if len(told) == 3 and told[1].startswith(told[0].removeprefix("regchain: ") + ": "):
+        return told[0] + "\n"
+    return err
+
+
 def lines(*each: str) -> str:
     """These lines as a text."""
     return "".join(line + "\n" for line in each)
@@ -96,11 +104,12 @@ class ProgramTest(unittest.TestCase):
             return self.play_on(words, stdin=terminal.side, stdout=PIPE, stderr=PIPE)
 
     def expect(self, words: list[str], text: str, wanted: Played) -> None:
-        """Runs the program, and compares the standard output, the standard error and the status."""
+        """Runs the program, and compares the standard output, the standard error and the status. The line that says why
+        there is a fault is compared where it is wanted; test_reasons wants all of them."""
         with self.subTest(words=words):
             played = self.play(words, text)
             self.assertEqual(played.out, wanted.out)
-            self.assertEqual(played.err, wanted.err)
+            self.assertIn(wanted.err, [played.err, without_reason(played.err)])
             self.assertEqual(played.status, wanted.status)
 
     def expect_output(self, text: str, output: str) -> None:

@@ -3,7 +3,7 @@ from __future__ import annotations
 
 from typing import NamedTuple
 
-from blocks import FIRST, FIRST_COINBASE_ID, FIRST_ID, GENESIS, GENESIS_HEAD
+from blocks import FIRST, FIRST_COINBASE_ID, FIRST_HEAD, FIRST_ID, GENESIS, GENESIS_HEAD, child_of_genesis
 from running import Played, ProgramTest, lines
 
 
@@ -171,6 +171,10 @@ A = (
     "5100000000"
 )
 
+OTHER_ID, _ = child_of_genesis("o1")
+
+GENESIS_OBJECT = '{"hash":"0f9188f13cb7b2c71f2a335e3a4fc328bf5beb436012afca590b1a11466e2206","name":"genesis"}'
+
 # Runs without workers: what is shown, what is expected, and objects.
 OTHERS = [
     Run(
@@ -219,8 +223,37 @@ OTHERS = [
         text=lines("client a", "submit genesis", "best"),
         out=lines(
             '{"client":"a","command":"submit genesis","answer":"duplicate","at":1}',
-            '{"client":"a","command":"best","answer":"genesis","at":1}',
+            f'{{"client":"a","command":"best","answer":{GENESIS_OBJECT},"text":"genesis","at":1}}',
             '{"step":1,"client":"a","command":"submit","block":"genesis","now":1296688602,"reply":"duplicate"}',
+        ),
+        err="",
+    ),
+    # Answers of more than a word, by parts and as a text.
+    Run(
+        words=["run", "--scenario", "-", "--json", "--blk", "bench_first.blk"],
+        text=lines(
+            "block o1 genesis",
+            "client a",
+            "best",
+            "submit o1",
+            "tips",
+            f"txout {FIRST_COINBASE_ID}:0",
+            "txout genesis.cb:0",
+        ),
+        out=lines(
+            '{"client":"blk","command":"record 1","answer":"accepted","at":1}',
+            f'{{"client":"a","command":"best","answer":{{"hash":"{FIRST_ID}","name":null}},"text":"{FIRST_ID}","at":1}}',
+            '{"client":"a","command":"submit o1","answer":"inconclusive","at":2}',
+            '{"client":"a","command":"tips","answer":['
+            f'{{"hash":"{FIRST_ID}","name":null,"height":1,"branchlen":0,"status":"active"}},'
+            f'{{"hash":"{OTHER_ID}","name":"o1","height":1,"branchlen":1,"status":"valid-headers"}}],'
+            f'"text":"{FIRST_ID} 1 0 active; o1 1 1 valid-headers","at":2}}',
+            f'{{"client":"a","command":"txout {FIRST_COINBASE_ID}:0","answer":'
+            '{"value":5000000000,"script":"51","height":1,"coinbase":true,"confirmations":1},'
+            '"text":"5000000000 51 height 1 coinbase conf 1","at":2}',
+            '{"client":"a","command":"txout genesis.cb:0","answer":null,"text":"none","at":2}',
+            f'{{"step":1,"client":"blk","command":"submit","block":"{FIRST_ID}","now":4294967295,"reply":"accepted"}}',
+            '{"step":2,"client":"a","command":"submit","block":"o1","now":1296688602,"reply":"inconclusive"}',
         ),
         err="",
     ),
@@ -228,13 +261,16 @@ OTHERS = [
         words=["run", "--scenario", "-", "--json"],
         text=lines("block"),
         out="",
-        err=lines('{"fault":"scenario line 1"}'),
+        err=lines(
+            '{"fault":"scenario line 1",'
+            '"why":"\\"block\\" is spelled block NAME PARENT [OPTION ..] [TRANSACTION ..]"}'
+        ),
     ),
     # An empty name is no folder.
     Run(
         words=["run", "--scenario", "-", "--save", ""],
         text=lines("client a"),
-        out=lines("client a", "journal"),
+        out="",
         err=lines("regchain: cannot write /journal.txt"),
     ),
 ]
@@ -303,6 +339,44 @@ AUDITS = [
         err=lines("regchain: line 2: the definition gives done"),
     ),
     Run(
+        words=["audit", "--journal", "bench_wrong.txt", "--blk", "bench_saved/blocks.blk", "--explain", "--json"],
+        text="",
+        out=lines('{"audit":"differs","line":2}'),
+        err=lines('{"line":2,"definition":"done"}'),
+    ),
+    # Behind the first N lines nothing is looked at: neither a line that can't be read nor a record of it.
+    Run(
+        words=["audit", "--journal", "bench_broken.txt", "--blk", "bench_broken.blk", "--to", "1"],
+        text="",
+        out=lines("agrees"),
+        err="",
+    ),
+    Run(
+        words=["audit", "--journal", "bench_broken.txt", "--blk", "bench_broken.blk", "--to", "0"],
+        text="",
+        out=lines("agrees"),
+        err="",
+    ),
+    Run(
+        words=["audit", "--journal", "bench_broken.txt", "--blk", "bench_broken.blk", "--to", "2"],
+        text="",
+        out="",
+        err=lines("regchain: journal line 2"),
+    ),
+    Run(
+        words=["audit", "--journal", "bench_broken.txt", "--blk", "bench_empty.blk", "--to", "1"],
+        text="",
+        out="",
+        err=lines("regchain: blk records"),
+    ),
+    # Where there are no more lines, there are no more records.
+    Run(
+        words=["audit", "--journal", "bench_one.txt", "--blk", "bench_broken.blk", "--to", "1"],
+        text="",
+        out="",
+        err=lines("regchain: blk stopped at 154"),
+    ),
+    Run(
         words=["audit", "--journal", "bench_wrong.txt", "--blk", "bench_saved/blocks.blk", "--to", "1"],
         text="",
         out=lines("agrees"),
@@ -338,6 +412,7 @@ class BenchRuns(ProgramTest):
 
     def test_what_is_shown_expected_and_written_as_objects(self) -> None:
         self.write("bench_same.txt", "client a\nbest = genesis @0\njournal\n")
+        self.write_bytes("bench_first.blk", bytes.fromhex(FIRST_HEAD + FIRST))
         self.write("bench_else.txt", "client a\nbest = b1 @0\njournal\n")
         for run in OTHERS:
             self.expect_run(run, [])
@@ -345,6 +420,10 @@ class BenchRuns(ProgramTest):
     def test_audits(self) -> None:
         self.make_folder("bench_saved")
         self.write("bench_wrong.txt", WRONG)
+        self.write("bench_one.txt", WRONG.split("\n")[0] + "\n")
+        self.write("bench_broken.txt", WRONG.split("\n")[0] + "\nno line\n")
+        self.write_bytes("bench_broken.blk", bytes.fromhex(FIRST_HEAD + FIRST) + b"no record")
+        self.write_bytes("bench_empty.blk", b"")
         for run in AUDITS:
             self.expect_run(run, [])
         self.assertEqual(self.read("bench_saved/heights.txt"), "1,1,1,1\n")

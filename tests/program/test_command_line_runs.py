@@ -52,20 +52,17 @@ class CommandLineRuns(SavedTest):
             self.expect_refused(["run", "--scenario", "-", "--workers", word])
 
     def test_a_folder_that_is_not_there(self) -> None:
-        """A folder that isn't there. The output is whole, and the first file is named with the folder as it was
-        given."""
-        fault = "regchain: cannot write not/there/journal.txt\n"
-        words = ["run", "--scenario", "-", "--save", "not/there"]
-        self.expect(words, "client a\n", Played(1, "client a\njournal\n", fault))
-
-    def test_a_second_file_that_is_not_written(self) -> None:
-        """After a file that can't be written, a folder of its name, nothing more is written."""
-        self.make_folder("half_saved/blocks.blk")
-        played = self.play(["run", "--scenario", "-", "--save", "half_saved/"], "client a\nsubmit genesis\n")
-        self.assertEqual(played.err, "regchain: cannot write half_saved//blocks.blk\n")
-        self.assertEqual(played.status, 1)
-        self.assertTrue(self.exists("half_saved/journal.txt"))
-        self.assertFalse(self.exists("half_saved/table.txt"))
+        """It is told before the run, and the first file is named with the folder as it was given. The blk file's fault
+        comes first."""
+        self.write("file", "")
+        self.write("garbage.blk", "garbage")
+        words = ["run", "--scenario", "-", "--save"]
+        for folder, why in [("not/there", "No such file or directory"), ("file", "Not a directory")]:
+            fault = f"cannot write {folder}/journal.txt"
+            self.expect_fault([*words, folder], "client a\n", f"regchain: {fault}\n{fault}: {why}\n")
+        self.expect_fault([*words, "not/there"], "", "regchain: scenario line 1\n")
+        wanted = Played(1, "client blk\n", "regchain: blk stopped at 0\n")
+        self.expect([*words, "not/there", "--blk", "garbage.blk"], "client a\n", wanted)
 
     def test_progress(self) -> None:
         """How far a run is stands on a terminal alone: not on the standard output, nor on any other standard error."""

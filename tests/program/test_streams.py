@@ -10,12 +10,12 @@ class Streams(ProgramTest):
         folder = os.open(self.folder, os.O_RDONLY)
         self.addCleanup(os.close, folder)
         played = self.play_on([], stdin=folder, stdout=PIPE, stderr=PIPE)
-        self.assertEqual(played, Played(1, "", "regchain: cannot read -\n"))
+        self.assertEqual(played, Played(1, "", "regchain: cannot read -\ncannot read -: Is a directory\n"))
 
     def test_an_output_that_is_full(self) -> None:
         with open("/dev/full", "wb") as full:
             played = self.play_on([], input=b"client a\n", stdout=full, stderr=PIPE)
-        self.assertEqual(played, Played(1, "", "regchain: cannot write -\n"))
+        self.assertEqual(played, Played(1, "", "regchain: cannot write -\ncannot write -: No space left on device\n"))
 
     def test_both_outputs_are_full(self) -> None:
         with open("/dev/full", "wb") as full:
@@ -31,5 +31,5 @@ class Streams(ProgramTest):
         words = ["run", "--scenario", "-", "--save", "closed_output"]
         with open(writing, "wb") as out:
             played = self.play_on(words, input=text, stdout=out, stderr=PIPE)
-        self.assertEqual(played, Played(1, "", "regchain: cannot write -\n"))
+        self.assertEqual(played, Played(1, "", "regchain: cannot write -\ncannot write -: Broken pipe\n"))
         self.expect(["audit", "--saved", "closed_output"], "", Played(0, "agrees\n", ""))

@@ -58,8 +58,8 @@ impl<T: Drop> From<AllocFailed<T>> for Trouble {
 impl From<LineFault> for Trouble {
     fn from(fault: LineFault) -> Trouble {
         match fault {
-            LineFault::Unreadable => Trouble::Unreadable,
             LineFault::Memory => Trouble::Memory,
+            LineFault::Unreadable | LineFault::Refused(_) => Trouble::Unreadable,
         }
     }
 }
@@ -67,7 +67,7 @@ impl From<LineFault> for Trouble {
 impl From<ScenarioFault> for Trouble {
     fn from(fault: ScenarioFault) -> Trouble {
         match fault {
-            ScenarioFault::Line(_) => Trouble::Unreadable,
+            ScenarioFault::Line(..) => Trouble::Unreadable,
             ScenarioFault::Memory => Trouble::Memory,
         }
     }

@@ -1,42 +1,19 @@
 //! The answers of a client's seat.
 
-use crate::told::{Tips, Told};
+use crate::told::{Block, Tips, Told};
 use node::{Fault, Naming, Node, Seat, Stamped};
 use scenario::{Definitions, Request};
-use std::alloc::{AllocError, Global};
 use std::fmt;
 use std::sync::Wait;
 use std::thread::Threads;
 
 /// A command and its answer, as they are printed.
 #[derive(Drop)]
-pub struct Answer {
+pub struct Answer<'d> {
     pub command: String,
-    pub answer: String,
-    /// The stamp, which faults don't have.
-    pub at: Option<u64>,
+    /// Faults have no stamp.
+    pub outcome: Result<Stamped<Told<'d>>, Fault>,
     pub is_submission: bool,
-}
-
-impl Answer {
-    /// What a seat answered to this command.
-    pub fn new(
-        alloc: Global,
-        command: String,
-        outcome: Result<Stamped<Told<'_>>, Fault>,
-        is_submission: bool,
-    ) -> Result<Answer, AllocError> {
-        let (answer, at) = match outcome {
-            Ok(told) => (told.value.to_string(alloc)?, Some(told.at)),
-            Err(fault) => (fault.to_string(alloc)?, None),
-        };
-        Ok(Answer {
-            command,
-            answer,
-            at,
-            is_submission,
-        })
-    }
 }
 
 /// What a seat answers to a request.
@@ -58,7 +35,7 @@ where
         Request::Precious(id) => marked(seat.precious(rt, node, *id)?),
         Request::Best => {
             let best = seat.getbestblockhash(node)?;
-            stamped(best.at, Told::Best(definitions.label(best.value)))
+            stamped(best.at, Told::Best(Block::new(definitions, best.value)))
         }
         Request::Tips => {
             let Stamped { at, value: list } = seat.getchaintips(alloc, node)?;
@@ -94,12 +71,11 @@ fn stamped(at: u64, value: Told<'_>) -> Stamped<Told<'_>> {
     Stamped { at, value }
 }
 
-impl fmt::Display for Answer {
+impl fmt::Display for Answer<'_> {
     fn fmt<W: fmt::Write>(&self, f: &mut fmt::Formatter<W>) -> fmt::Result {
-        write!(f, "{} = {}", self.command, self.answer)?;
-        match self.at {
-            Some(at) => writeln!(f, " @{at}"),
-            None => writeln!(f),
+        match &self.outcome {
+            Ok(told) => writeln!(f, "{} = {} @{}", self.command, told.value, told.at),
+            Err(fault) => writeln!(f, "{} = {fault}", self.command),
         }
     }
 }

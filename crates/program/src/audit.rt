@@ -1,19 +1,20 @@
 //! The replay of a journal.
 
 use crate::fault::Fault;
-use crate::files::{read_file, read_in, read_table};
+use crate::files::{read_file, read_table};
 use crate::options::{AuditOptions, Saved};
 use crate::progress::Progress;
-use crate::saving::{BLOCKS, HEIGHTS, JOURNAL, TABLE};
+use crate::saving::{SavedFiles, read_saved};
 use block::ReadFault;
 use curve::Table;
 use hash::Id;
 use journal::{
-    Asked, Finding, Refuted, Replayer, Step, first_refuted, read_heights, read_journal,
+    Asked, Finding, Records, Refuted, Replayer, Step, first_refuted, read_heights, read_journal,
     read_records,
 };
 use node::{Bytes, Command, Params, Reply};
 use std::alloc::Global;
+use std::fs::File;
 use std::io::{IsTerminal, Write};
 use std::rt::Files;
 use std::time::Clock;
@@ -24,6 +25,8 @@ use std::{str, vec};
 struct Replay {
     commands: Vec<Command>,
     recorded: Vec<Option<Reply>>,
+    /// How many of them are submissions.
+    blocks: usize,
 }
 
 /// What an audit comes to.
@@ -50,7 +53,7 @@ pub fn audit<'w, R, E>(
     err: &mut E,
 ) -> Result<Audited, Fault<'w>>
 where
-    R: Files + AllocGlobal + Clock,
+    R: Files<File = File> + AllocGlobal + Clock,
     E: Write + IsTerminal,
 {
     let alloc = rt.alloc();
@@ -60,16 +63,10 @@ where
         blk,
         table,
     } = read_inputs(rt, &options.saved)?;
-    let steps = read_journal(alloc, journal.as_slice())?;
-    let records = read_records(alloc, blk.as_slice())?;
-    let blocks = records.len();
-    let replay = replay_of(alloc, steps.as_slice(), records)?;
-    let length = steps.len().min(options.limit);
-    let commands = &replay.commands[..length.min(replay.commands.len())];
-    let recorded = &replay.recorded[..length.min(replay.recorded.len())];
+    let replay = read_replay(alloc, journal.as_slice(), blk.as_slice(), options.limit)?;
     let is_terminal = err.is_terminal();
     let mut progress = Progress::new(rt, err, is_terminal);
-    progress.begin_replay(length, blocks);
+    progress.begin_replay(replay.commands.len(), replay.blocks);
     let by = if options.is_quick {
         Replayer::Chainstate
     } else {
@@ -79,9 +76,9 @@ where
         alloc,
         by,
         &params,
-        commands,
+        replay.commands.as_slice(),
         &table,
-        recorded,
+        replay.recorded.as_slice(),
         &mut progress,
     )?;
     progress.end();
@@ -100,7 +97,7 @@ where
 /// The files of an audit, in the order in which one that can't be read is told.
 fn read_inputs<'w, R>(rt: &R, saved: &Saved<'w>) -> Result<Inputs, Fault<'w>>
 where
-    R: Files + AllocGlobal,
+    R: Files<File = File> + AllocGlobal,
 {
     match saved {
         Saved::Folder(folder) => read_folder(rt, folder),
@@ -130,21 +127,73 @@ where
 /// The four files that a run saved.
 fn read_folder<'w, R>(rt: &R, folder: &'w str) -> Result<Inputs, Fault<'w>>
 where
-    R: Files + AllocGlobal,
+    R: Files<File = File> + AllocGlobal,
 {
-    let journal = read_in(rt, folder, JOURNAL)?;
-    let blk = read_in(rt, folder, BLOCKS)?;
-    let table = read_in(rt, folder, TABLE)?;
-    let heights = read_in(rt, folder, HEIGHTS)?;
+    let SavedFiles {
+        journal,
+        blocks,
+        table,
+        heights,
+    } = read_saved(rt, folder)?;
     let word = str::from_utf8(heights.as_slice()).unwrap_or("");
     let params = read_heights(word.strip_suffix('\n').unwrap_or(word)).ok_or(Fault::Heights)?;
     let table = read_table(rt.alloc(), Some(table.as_slice()))?;
     Ok(Inputs {
         params,
         journal,
-        blk,
+        blk: blocks,
         table,
     })
+}
+
+/// What so many lines of a journal ask, at most. Where there are more, records of theirs aren't looked at.
+fn read_replay(
+    alloc: Global,
+    journal: &[u8],
+    blk: &[u8],
+    limit: usize,
+) -> Result<Replay, Fault<'static>> {
+    let front = first_lines(journal, limit);
+    let steps = read_journal(alloc, front)?;
+    let records = if front.len() < journal.len() {
+        first_records(alloc, blk, submissions(steps.as_slice()))?
+    } else {
+        read_records(alloc, blk)?
+    };
+    replay_of(alloc, steps.as_slice(), records)
+}
+
+/// So many lines of a text, or all where it has fewer.
+fn first_lines(text: &[u8], count: usize) -> &[u8] {
+    let mut left = count;
+    for (place, byte) in text.iter().enumerate() {
+        if left == 0 {
+            return text.get(..place).unwrap_or(text);
+        }
+        if *byte == b'\n' {
+            left -= 1;
+        }
+    }
+    text
+}
+
+/// So many records of a blk file, or all where it has fewer.
+fn first_records(alloc: Global, blk: &[u8], count: usize) -> Result<Vec<Vec<u8>>, Fault<'static>> {
+    let mut records = Records::new(alloc, blk);
+    let mut first = Vec::new(alloc);
+    for _ in 0..count {
+        let Some(record) = records.next()? else {
+            break;
+        };
+        first.push(record)?;
+    }
+    Ok(first)
+}
+
+/// How many of these steps are submissions.
+fn submissions(steps: &[Step<'_, Id>]) -> usize {
+    let is_submission = |step: &&Step<'_, Id>| matches!(step.asked, Asked::Submit(_));
+    steps.iter().filter(is_submission).count()
 }
 
 /// What a journal's steps ask, each submission of its record.
@@ -153,13 +202,13 @@ fn replay_of(
     steps: &[Step<'_, Id>],
     records: Vec<Vec<u8>>,
 ) -> Result<Replay, Fault<'static>> {
-    let is_submission = |step: &&Step<'_, Id>| matches!(step.asked, Asked::Submit(_));
-    if steps.iter().filter(is_submission).count() != records.len() {
+    if submissions(steps) != records.len() {
         return Err(Fault::BlkRecords);
     }
     let mut replay = Replay {
         commands: Vec::new(alloc),
         recorded: Vec::new(alloc),
+        blocks: records.len(),
     };
     let mut records = records.into_iter();
     for step in steps {
@@ -186,7 +235,7 @@ fn command_of(
             match block::read(alloc, record.as_slice()) {
                 Ok(block) if block.id() == step.block => {}
                 Err(ReadFault::Memory) => return Err(Fault::Memory),
-                _ => return Err(Fault::JournalLine(step.number)),
+                _ => return Err(Fault::OtherRecord(step.number)),
             }
             Command::Submit(Bytes::from_vec(alloc, record)?, now)
         }

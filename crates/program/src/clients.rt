@@ -1,12 +1,13 @@
 //! What clients ask of their seats, one after the other.
 
 use crate::answer::{Answer, asked, submitted};
-use crate::fault::Fault;
+use crate::fault::{Fault, Stop};
 use block::BlkFault;
 use journal::Records;
 use node::{Naming, Node, Seat};
 use scenario::{Client, Definitions, Request};
 use std::alloc::{AllocError, AllocFailed};
+use std::io::Error;
 use std::sync::Wait;
 use std::thread::Threads;
 
@@ -14,14 +15,14 @@ use std::thread::Threads;
 const BLK_MOMENT: u64 = 4_294_967_295;
 
 /// Why a client ends before its commands do.
-#[derive(Clone, Copy, Debug, PartialEq, Eq)]
+#[derive(Clone, Copy, Debug)]
 pub enum Ended {
     /// There was no memory for an answer.
     Memory,
     /// The output takes no more.
-    CannotWrite,
+    CannotWrite(Error),
     /// The blk file isn't read on from this offset.
-    BlkStopped(u64),
+    BlkStopped(u64, Stop),
     /// The reader of the blk file has no more to give.
     Closed,
 }
@@ -41,9 +42,9 @@ impl<T: Drop> From<AllocFailed<T>> for Ended {
 impl From<BlkFault> for Ended {
     fn from(fault: BlkFault) -> Ended {
         match fault {
-            BlkFault::Foreign(offset) => Ended::BlkStopped(offset),
-            BlkFault::Cut(offset) => Ended::BlkStopped(offset),
-            BlkFault::TooLong(offset) => Ended::BlkStopped(offset),
+            BlkFault::Foreign(offset) => Ended::BlkStopped(offset, Stop::Foreign),
+            BlkFault::Cut(offset) => Ended::BlkStopped(offset, Stop::Cut),
+            BlkFault::TooLong(offset) => Ended::BlkStopped(offset, Stop::TooLong),
             BlkFault::Memory => Ended::Memory,
             BlkFault::Read | BlkFault::Stopped => Ended::Closed,
         }
@@ -52,28 +53,29 @@ impl From<BlkFault> for Ended {
 
 /// How a client ends by a fault of the output.
 pub fn ended_by(fault: &Fault<'_>) -> Ended {
-    if matches!(fault, Fault::Memory) {
-        return Ended::Memory;
+    match fault {
+        Fault::CannotWrite(_, error) => Ended::CannotWrite(*error),
+        Fault::Memory => Ended::Memory,
+        _ => Ended::Closed,
     }
-    Ended::CannotWrite
 }
 
 /// Who takes answers as they come.
-pub trait Sink {
-    fn take(&mut self, answer: Answer) -> Result<(), Ended>;
+pub trait Sink<'d> {
+    fn take(&mut self, answer: Answer<'d>) -> Result<(), Ended>;
 }
 
-impl Sink for Vec<Answer> {
-    fn take(&mut self, answer: Answer) -> Result<(), Ended> {
+impl<'d> Sink<'d> for Vec<Answer<'d>> {
+    fn take(&mut self, answer: Answer<'d>) -> Result<(), Ended> {
         self.push(answer)?;
         Ok(())
     }
 }
 
 /// Runs a client's commands on its seat.
-pub fn answer_all<J: Naming, R, S>(
+pub fn answer_all<'d, J: Naming, R, S>(
     rt: &R,
-    definitions: &Definitions,
+    definitions: &'d Definitions,
     node: &Node<'_, J>,
     client: &Client<'_, '_>,
     seat: &mut Seat<'_, J>,
@@ -81,19 +83,21 @@ pub fn answer_all<J: Naming, R, S>(
 ) -> Result<(), Ended>
 where
     R: AllocGlobal + Threads + Wait + Sync,
-    S: Sink,
+    S: Sink<'d>,
 {
     for call in client.calls.as_slice() {
-        let words = call.words.to_string(rt.alloc())?;
-        let outcome = asked(rt, definitions, &call.request, node, seat);
-        let is_submission = matches!(call.request, Request::Submit(..));
-        sink.take(Answer::new(rt.alloc(), words, outcome, is_submission)?)?;
+        let command = call.words.to_string(rt.alloc())?;
+        sink.take(Answer {
+            command,
+            outcome: asked(rt, definitions, &call.request, node, seat),
+            is_submission: matches!(call.request, Request::Submit(..)),
+        })?;
     }
     Ok(())
 }
 
 /// Submits the records of a blk file in their order, until one can't be read.
-pub fn submit_all<J: Naming, R, S>(
+pub fn submit_all<'d, J: Naming, R, S>(
     rt: &R,
     node: &Node<'_, J>,
     records: &mut Records<'_>,
@@ -102,15 +106,18 @@ pub fn submit_all<J: Naming, R, S>(
 ) -> Result<(), Ended>
 where
     R: AllocGlobal + Threads + Wait + Sync,
-    S: Sink,
+    S: Sink<'d>,
 {
     for number in 1..u64::MAX {
         let Some(record) = records.next()? else {
             return Ok(());
         };
-        let words = format!(in rt.alloc(); "record {number}")?;
-        let outcome = submitted(rt, node, seat, record.as_slice(), BLK_MOMENT);
-        sink.take(Answer::new(rt.alloc(), words, outcome, true)?)?;
+        let command = format!(in rt.alloc(); "record {number}")?;
+        sink.take(Answer {
+            command,
+            outcome: submitted(rt, node, seat, record.as_slice(), BLK_MOMENT),
+            is_submission: true,
+        })?;
     }
     Ok(())
 }

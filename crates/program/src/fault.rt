@@ -2,37 +2,45 @@
 
 use crate::clients::Ended;
 use crate::options::STANDARD;
+use arrayvec::ArrayString;
 use journal::JournalFault;
-use scenario::ScenarioFault;
+use scenario::{ScenarioFault, Why};
 use std::alloc::{AllocError, AllocFailed};
 use std::fmt;
+use std::fmt::Write as _;
+use std::io::Error;
 use wire::Memory;
 
-/// Why a run ends without its whole output. Its `Display` is the line that users read.
+/// As long as what the system says of a file can be, at least.
+const MAX_ERROR: usize = 512;
+
+/// Why a run ends without its whole output. Its `Display` is the line that users read, and a second one that says why.
 #[derive(Debug, Drop)]
 pub enum Fault<'w> {
     /// The command line isn't one of ours: `clap`'s text.
     CommandLine(clap::Error),
     /// This line of the scenario, counted from 1, can't be read.
-    ScenarioLine(usize),
+    ScenarioLine(usize, Why),
     /// The heights of soft forks aren't four numbers.
     Heights,
     /// This line of the table, counted from 1, can't be read.
     TableLine(usize),
-    /// This line of the journal, counted from 1, can't be read, or its id isn't its record's.
+    /// This line of the journal, counted from 1, can't be read.
     JournalLine(usize),
+    /// The record of this line of the journal, counted from 1, isn't the block of its id.
+    OtherRecord(usize),
     /// The blk file isn't read on from this offset.
-    BlkStopped(u64),
+    BlkStopped(u64, Stop),
     /// The blk file has too few records, or too many.
     BlkRecords,
     /// This file can't be read; `-` is the standard input.
-    CannotRead(&'w str),
+    CannotRead(&'w str, Error),
     /// This file can't be written; `-` is the standard output.
-    CannotWrite(&'w str),
+    CannotWrite(&'w str, Error),
     /// In this folder the file of this name can't be written.
-    CannotSave(&'w str, &'static str),
+    CannotSave(&'w str, &'static str, Error),
     /// In this folder the file of this name can't be read.
-    CannotOpen(&'w str, &'static str),
+    CannotOpen(&'w str, &'static str, Error),
     /// The scenario defines no block and no transaction of this name.
     NoName(&'w str),
     /// The output isn't the one that was expected: the first line that differs, counted from 1, and both.
@@ -41,6 +49,17 @@ pub enum Fault<'w> {
     Memory,
     /// The node has no seat or no history to give.
     Closed,
+}
+
+/// Why a blk file isn't read on.
+#[derive(Clone, Copy, Debug, PartialEq, Eq)]
+pub enum Stop {
+    /// There is neither a record nor a rest of zero bytes.
+    Foreign,
+    /// A record ends early.
+    Cut,
+    /// A record is longer than it may be.
+    TooLong,
 }
 
 /// The first line of an output that isn't the one that was expected.
@@ -76,26 +95,106 @@ fn write_line<W: fmt::Write>(
 impl fmt::Display for Fault<'_> {
     fn fmt<W: fmt::Write>(&self, f: &mut fmt::Formatter<W>) -> fmt::Result {
         match self {
+            Fault::CommandLine(error) => return error.fmt(f),
+            Fault::Differs(difference) => return difference.fmt(f),
+            _ => {}
+        }
+        let line = Line(self);
+        writeln!(f, "regchain: {line}")?;
+        if self.has_reason() {
+            writeln!(f, "{line}: {}", Reason(self))?;
+        }
+        Ok(())
+    }
+}
+
+impl Fault<'_> {
+    /// Whether there is more to say than its line does.
+    pub fn has_reason(&self) -> bool {
+        !matches!(
+            self,
+            Fault::CommandLine(_)
+                | Fault::NoName(_)
+                | Fault::Differs(_)
+                | Fault::Memory
+                | Fault::Closed
+        )
+    }
+}
+
+/// A fault's line, without the program's name.
+#[derive(Clone, Copy)]
+pub struct Line<'f, 'w>(pub &'f Fault<'w>);
+
+impl fmt::Display for Line<'_, '_> {
+    fn fmt<W: fmt::Write>(&self, f: &mut fmt::Formatter<W>) -> fmt::Result {
+        match self.0 {
             Fault::CommandLine(error) => error.fmt(f),
-            Fault::ScenarioLine(number) => writeln!(f, "regchain: scenario line {number}"),
-            Fault::Heights => writeln!(f, "regchain: heights"),
-            Fault::TableLine(number) => writeln!(f, "regchain: table line {number}"),
-            Fault::JournalLine(number) => writeln!(f, "regchain: journal line {number}"),
-            Fault::BlkStopped(offset) => writeln!(f, "regchain: blk stopped at {offset}"),
-            Fault::BlkRecords => writeln!(f, "regchain: blk records"),
-            Fault::CannotRead(file) => writeln!(f, "regchain: cannot read {file}"),
-            Fault::CannotOpen(folder, file) => {
-                writeln!(f, "regchain: cannot read {folder}/{file}")
-            }
-            Fault::NoName(name) => writeln!(f, "regchain: no name {name}"),
+            Fault::ScenarioLine(number, _) => write!(f, "scenario line {number}"),
+            Fault::Heights => f.write_str("heights"),
+            Fault::TableLine(number) => write!(f, "table line {number}"),
+            Fault::JournalLine(number) => write!(f, "journal line {number}"),
+            Fault::OtherRecord(number) => write!(f, "journal line {number}"),
+            Fault::BlkStopped(offset, _) => write!(f, "blk stopped at {offset}"),
+            Fault::BlkRecords => f.write_str("blk records"),
+            Fault::CannotRead(file, _) => write!(f, "cannot read {file}"),
+            Fault::CannotOpen(folder, file, _) => write!(f, "cannot read {folder}/{file}"),
+            Fault::NoName(name) => write!(f, "no name {name}"),
             Fault::Differs(difference) => difference.fmt(f),
-            Fault::CannotWrite(file) => writeln!(f, "regchain: cannot write {file}"),
-            Fault::CannotSave(folder, file) => writeln!(
-                f,
-                "regchain: cannot write {folder}/{file}"
+            Fault::CannotWrite(file, _) => write!(f, "cannot write {file}"),
+            Fault::CannotSave(folder, file, _) => write!(f, "cannot write {folder}/{file}"),
+            Fault::Memory => f.write_str("memory"),
+            Fault::Closed => f.write_str("closed"),
+        }
+    }
+}
+
+/// Why there is a fault, where its line doesn't say it.
+#[derive(Clone, Copy)]
+pub struct Reason<'f, 'w>(pub &'f Fault<'w>);
+
+impl fmt::Display for Reason<'_, '_> {
+    fn fmt<W: fmt::Write>(&self, f: &mut fmt::Formatter<W>) -> fmt::Result {
+        match self.0 {
+            Fault::ScenarioLine(_, why) => why.fmt(f),
+            Fault::Heights => {
+                f.write_str("they are four numbers from 0 to 4294967295, parted by commas")
+            }
+            Fault::TableLine(_) => f.write_str(
+                "it is no key, signature and digest of 64 digits, in lower-case hexadecimal digits or -",
             ),
-            Fault::Memory => writeln!(f, "regchain: memory"),
-            Fault::Closed => writeln!(f, "regchain: closed"),
+            Fault::JournalLine(_) => {
+                f.write_str("it isn't what is printed for a step of this number")
+            }
+            Fault::OtherRecord(_) => f.write_str("its record isn't the block of its id"),
+            Fault::BlkStopped(_, stop) => f.write_str(stop.text()),
+            Fault::BlkRecords => f.write_str("there isn't one for each submit line"),
+            Fault::CannotRead(_, error) => write_error(error, f),
+            Fault::CannotWrite(_, error) => write_error(error, f),
+            Fault::CannotSave(_, _, error) => write_error(error, f),
+            Fault::CannotOpen(_, _, error) => write_error(error, f),
+            _ => Ok(()),
+        }
+    }
+}
+
+/// What the system says of a file, without the number that it has there.
+fn write_error<W: fmt::Write>(error: &Error, f: &mut fmt::Formatter<W>) -> fmt::Result {
+    let mut text = ArrayString::<MAX_ERROR>::new();
+    write!(text, "{error}")?;
+    let text = text.as_str();
+    match text.split_once(" (os error ") {
+        Some((words, _)) => f.write_str(words),
+        None => f.write_str(text),
+    }
+}
+
+impl Stop {
+    fn text(self) -> &'static str {
+        match self {
+            Stop::Foreign => "there is neither a record nor a rest of zero bytes",
+            Stop::Cut => "the record ends early",
+            Stop::TooLong => "the record is longer than 33554432 bytes",
         }
     }
 }
@@ -113,8 +212,8 @@ impl From<Ended> for Fault<'_> {
     fn from(ended: Ended) -> Self {
         match ended {
             Ended::Memory => Fault::Memory,
-            Ended::CannotWrite => Fault::CannotWrite(STANDARD),
-            Ended::BlkStopped(offset) => Fault::BlkStopped(offset),
+            Ended::CannotWrite(error) => Fault::CannotWrite(STANDARD, error),
+            Ended::BlkStopped(offset, stop) => Fault::BlkStopped(offset, stop),
             Ended::Closed => Fault::Closed,
         }
     }
@@ -168,9 +267,9 @@ impl From<block::ReadFault> for Fault<'_> {
 impl From<block::BlkFault> for Fault<'_> {
     fn from(fault: block::BlkFault) -> Self {
         match fault {
-            block::BlkFault::Foreign(offset) => Fault::BlkStopped(offset),
-            block::BlkFault::Cut(offset) => Fault::BlkStopped(offset),
-            block::BlkFault::TooLong(offset) => Fault::BlkStopped(offset),
+            block::BlkFault::Foreign(offset) => Fault::BlkStopped(offset, Stop::Foreign),
+            block::BlkFault::Cut(offset) => Fault::BlkStopped(offset, Stop::Cut),
+            block::BlkFault::TooLong(offset) => Fault::BlkStopped(offset, Stop::TooLong),
             block::BlkFault::Memory => Fault::Memory,
             // The reader is asked no more after a fault, and a slice of bytes has none of its own.
             block::BlkFault::Read | block::BlkFault::Stopped => Fault::Closed,
@@ -190,7 +289,7 @@ impl From<JournalFault> for Fault<'_> {
 impl From<ScenarioFault> for Fault<'_> {
     fn from(fault: ScenarioFault) -> Self {
         match fault {
-            ScenarioFault::Line(number) => Fault::ScenarioLine(number),
+            ScenarioFault::Line(number, why) => Fault::ScenarioLine(number, why),
             ScenarioFault::Memory => Fault::Memory,
         }
     }

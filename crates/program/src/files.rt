@@ -4,7 +4,7 @@ use crate::fault::Fault;
 use crate::options::STANDARD;
 use curve::Table;
 use std::alloc::Global;
-use std::io::{ErrorKind, Read, Write};
+use std::io::{Error, ErrorKind, Read, Write};
 use std::rt::Files;
 use std::{fs, io};
 
@@ -13,7 +13,7 @@ pub fn read_file<'w, R>(rt: &R, file: &'w str) -> Result<Vec<u8>, Fault<'w>>
 where
     R: Files + AllocGlobal,
 {
-    fs::read(rt, file).map_err(|error| unread(error.kind(), file))
+    fs::read(rt, file).map_err(|error| unread(error, file))
 }
 
 /// The bytes of a scenario's file, which may be the standard input.
@@ -28,20 +28,8 @@ where
     let mut bytes = Vec::new(rt.alloc());
     match input.read_to_end(&mut bytes) {
         Ok(_) => Ok(bytes),
-        Err(error) => Err(unread(error.kind(), file)),
+        Err(error) => Err(unread(error, file)),
     }
-}
-
-/// The bytes of a file in a folder.
-pub fn read_in<'w, R>(rt: &R, folder: &'w str, file: &'static str) -> Result<Vec<u8>, Fault<'w>>
-where
-    R: Files + AllocGlobal,
-{
-    let path = format!(in rt.alloc(); "{folder}/{file}")?;
-    fs::read(rt, path.as_str()).map_err(|error| match error.kind() {
-        ErrorKind::OutOfMemory => Fault::Memory,
-        _ => Fault::CannotOpen(folder, file),
-    })
 }
 
 /// The valid signatures of a table's text: none, where there is no text.
@@ -52,16 +40,16 @@ pub fn read_table(alloc: Global, text: Option<&[u8]>) -> Result<Table, Fault<'st
     }
 }
 
-fn unread<'w>(kind: ErrorKind, file: &'w str) -> Fault<'w> {
-    match kind {
+fn unread<'w>(error: Error, file: &'w str) -> Fault<'w> {
+    match error.kind() {
         ErrorKind::OutOfMemory => Fault::Memory,
-        _ => Fault::CannotRead(file),
+        _ => Fault::CannotRead(file, error),
     }
 }
 
 /// Writes a text to the standard output.
 pub fn print<O: Write>(out: &mut O, text: &str) -> Result<(), Fault<'static>> {
-    print_all(out, text).map_err(|_| Fault::CannotWrite(STANDARD))
+    print_all(out, text).map_err(|error| Fault::CannotWrite(STANDARD, error))
 }
 
 fn print_all<O: Write>(out: &mut O, text: &str) -> io::Result<()> {

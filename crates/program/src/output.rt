@@ -56,7 +56,7 @@ impl<'o, O: Write> Output<'o, O> {
     }
 
     /// Answers of a client, in their order.
-    pub fn answers(&mut self, client: &str, answers: &[Answer]) -> Result<(), Fault<'static>> {
+    pub fn answers(&mut self, client: &str, answers: &[Answer<'_>]) -> Result<(), Fault<'static>> {
         let mut text = String::new(self.alloc);
         for answer in answers {
             match self.form {

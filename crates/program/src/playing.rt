@@ -9,14 +9,15 @@ use crate::output::Output;
 use crate::progress::Progress;
 use crate::report::Report;
 use crate::running::{run_clients, run_records};
-use crate::saving::save;
+use crate::saving::{check_folder, save};
 use crate::text::{Text, read_definitions};
 use crate::writer::Writer;
 use curve::Table;
-use journal::read_heights;
+use journal::{Records, read_heights};
 use node::{Entry, Gate, Naming, Node, Opening, Params};
-use scenario::{BLK, Client, Definitions, number_after, read_clients};
+use scenario::{BLK, Client, Complaint, Definitions, Why, number_after, read_clients};
 use std::alloc::Global;
+use std::fs::File;
 use std::io::{IsTerminal, Read, Write};
 use std::marker::Brand;
 use std::rt::Files;
@@ -43,7 +44,7 @@ pub fn run<'w, R, I, O, E>(
     err: &mut E,
 ) -> Result<(), Fault<'w>>
 where
-    R: Files + AllocGlobal + Clock + Threads + Wait + Sync,
+    R: Files<File = File> + AllocGlobal + Clock + Threads + Wait + Sync,
     I: Read,
     O: Write,
     E: Write + IsTerminal,
@@ -60,7 +61,11 @@ where
     let Text { definitions, below } = read_definitions(alloc, scenario.as_slice(), table)?;
     let clients = read_clients(alloc, &definitions, below.as_slice())?;
     if clients.is_empty() {
-        return Err(Fault::ScenarioLine(number_after(scenario.as_slice())));
+        let why = Why::of_line(Complaint::Without);
+        return Err(Fault::ScenarioLine(number_after(scenario.as_slice()), why));
+    }
+    if let Some(folder) = options.save {
+        check_before_run(rt, folder, &blk)?;
     }
     let is_terminal = err.is_terminal();
     let mut writer = Writer {
@@ -100,6 +105,21 @@ where
     match expected {
         Some(expected) => output.compare(expected.as_slice()),
         None => Ok(()),
+    }
+}
+
+/// Refuses a folder in which nothing can be saved, unless the blk file's fault is to be told first.
+fn check_before_run<'w, R>(rt: &R, folder: &'w str, blk: &Option<Vec<u8>>) -> Result<(), Fault<'w>>
+where
+    R: Files + AllocGlobal,
+{
+    let checked = check_folder(rt, folder);
+    match (&checked, blk) {
+        (Err(_), Some(file))
+            if Records::new(rt.alloc(), file.as_slice())
+                .read_out()
+                .is_err() => Ok(()),
+        _ => checked,
     }
 }
 
@@ -182,7 +202,7 @@ where
         writer,
     )?;
     match written {
-        Ok(()) | Err(Fault::CannotWrite(_)) => Ok(Played {
+        Ok(()) | Err(Fault::CannotWrite(..)) => Ok(Played {
             report: Report::new(alloc, definitions, names, entries)?,
             written,
         }),

@@ -11,10 +11,11 @@ use crate::output::Form;
 use crate::playing::run;
 use crate::showing::show;
 use journal::Finding;
-use node::{Gate, Open};
+use node::{Gate, Open, Reply};
 use std::alloc::{AllocError, Global};
 use std::convert::AsStr;
 use std::env;
+use std::fs::File;
 use std::io::{ErrorKind, IsTerminal, Read, Write};
 use std::rt::{Env, Files};
 use std::sync::Wait;
@@ -48,7 +49,7 @@ where
 /// work is.
 pub fn program<R, S, I, O, E>(rt: &R, words: &[S], input: &mut I, out: &mut O, err: &mut E) -> u8
 where
-    R: Files + AllocGlobal + Clock + Threads + Wait + Sync,
+    R: Files<File = File> + AllocGlobal + Clock + Threads + Wait + Sync,
     S: AsStr,
     I: Read,
     O: Write,
@@ -80,7 +81,7 @@ pub fn program_with_gate<R, S, I, O, E>(
     err: &mut E,
 ) -> u8
 where
-    R: Files + AllocGlobal + Clock + Threads + Wait + Sync,
+    R: Files<File = File> + AllocGlobal + Clock + Threads + Wait + Sync,
     S: AsStr,
     I: Read,
     O: Write,
@@ -160,7 +161,7 @@ fn attempt<'w, R, I, O, E>(
     err: &mut E,
 ) -> Result<u8, Fault<'w>>
 where
-    R: Files + AllocGlobal + Clock + Threads + Wait + Sync,
+    R: Files<File = File> + AllocGlobal + Clock + Threads + Wait + Sync,
     I: Read,
     O: Write,
     E: Write + IsTerminal,
@@ -179,7 +180,8 @@ where
                 reply,
                 options.is_explained,
             ) {
-                let _ = writeln!(err, "regchain: line {line}: the definition gives {reply}");
+                let text = explained(rt.alloc(), line, reply, options.form)?;
+                let _ = err.write_all(text.as_bytes());
             }
             Ok(finding.status())
         }
@@ -187,6 +189,14 @@ where
             show(rt, &options, input, out)?;
             Ok(DONE)
         }
+    }
+}
+
+/// The reply of a line that differs, as it is told.
+fn explained(alloc: Global, line: usize, reply: Reply, form: Form) -> Result<String, AllocError> {
+    match form {
+        Form::Text => format!(in alloc; "regchain: line {line}: the definition gives {reply}\n"),
+        Form::Json => objects::explanation(alloc, line as u64, reply),
     }
 }
 

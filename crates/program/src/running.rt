@@ -73,36 +73,36 @@ where
 
 /// The answers of a client, when it has ended.
 #[derive(Drop)]
-struct Desk {
-    answers: Mutex<Result<Vec<Answer>, Ended>>,
+struct Desk<'d> {
+    answers: Mutex<Result<Vec<Answer<'d>>, Ended>>,
 }
 
-impl Desk {
-    fn new(alloc: Global) -> Desk {
+impl<'d> Desk<'d> {
+    fn new(alloc: Global) -> Desk<'d> {
         Desk {
             answers: Mutex::new(Ok(Vec::new(alloc))),
         }
     }
 
-    fn lay<R: Wait>(&self, rt: &R, answers: Result<Vec<Answer>, Ended>) {
+    fn lay<R: Wait>(&self, rt: &R, answers: Result<Vec<Answer<'d>>, Ended>) {
         let mut guard = self.answers.lock(rt);
         *guard = answers;
     }
 
-    fn into_answers(self) -> Result<Vec<Answer>, Ended> {
+    fn into_answers(self) -> Result<Vec<Answer<'d>>, Ended> {
         let Desk { answers } = self;
         answers.into_inner()
     }
 }
 
 /// Runs several clients at once, each on a thread of its own where one can be made.
-fn run_at_once<'x, J: Naming, R>(
+fn run_at_once<'x, 'd: 'x, J: Naming, R>(
     rt: &'x R,
-    definitions: &'x Definitions,
+    definitions: &'d Definitions,
     clients: &'x [Client<'_, '_>],
     node: &'x Node<'_, J>,
     seats: &mut [Seat<'_, J>],
-    desks: &'x [Desk],
+    desks: &'x [Desk<'d>],
 )
 where
     R: AllocGlobal + Threads + Wait + Sync,
@@ -116,13 +116,13 @@ where
 }
 
 /// All answers of a client.
-fn collected<J: Naming, R>(
+fn collected<'d, J: Naming, R>(
     rt: &R,
-    definitions: &Definitions,
+    definitions: &'d Definitions,
     node: &Node<'_, J>,
     client: &Client<'_, '_>,
     seat: &mut Seat<'_, J>,
-) -> Result<Vec<Answer>, Ended>
+) -> Result<Vec<Answer<'d>>, Ended>
 where
     R: AllocGlobal + Threads + Wait + Sync,
 {
@@ -149,7 +149,7 @@ where
         Ok(()) => submit_all(rt, node, &mut records, seat, writer),
         Err(fault) => Err(ended_by(&fault)),
     };
-    if let Err(Ended::CannotWrite) = written {
+    if let Err(Ended::CannotWrite(_)) = written {
         records.read_out()?;
     }
     Ok(written?)

@@ -1,28 +1,89 @@
 //! The files that a run leaves in a folder.
+//!
+//! Each is made under its name and `.new` first, the journal's before all others, and renamed when all are whole, the
+//! journal's first. That one rename decides. Where `journal.txt.new` stands, the folder holds what it held before; where
+//! it doesn't, another file that still stands under its name and `.new` is the one that counts.
 
 use crate::fault::Fault;
 use crate::report::Report;
 use curve::Table;
 use journal::{RecordFault, blk_file};
-use std::fs;
-use std::io::ErrorKind;
+use std::alloc::{AllocError, Global};
+use std::fs::{File, OpenOptions, TryLockError};
+use std::io::{Error, ErrorKind, Write};
 use std::rt::Files;
+use std::{fs, io};
 
-pub const JOURNAL: &str = "journal.txt";
+const JOURNAL: &str = "journal.txt";
 
-pub const BLOCKS: &str = "blocks.blk";
+const BLOCKS: &str = "blocks.blk";
 
-pub const TABLE: &str = "table.txt";
+const TABLE: &str = "table.txt";
 
-pub const HEIGHTS: &str = "heights.txt";
+const HEIGHTS: &str = "heights.txt";
 
-/// In this order they are written.
-const NAMES: [&str; 4] = [JOURNAL, BLOCKS, TABLE, HEIGHTS];
+/// A file of the folder.
+#[derive(Drop)]
+struct Place {
+    name: &'static str,
+    path: String,
+    /// Where it is made.
+    new: String,
+}
+
+impl Place {
+    fn new(alloc: Global, folder: &str, name: &'static str) -> Result<Place, AllocError> {
+        Ok(Place {
+            name,
+            path: format!(in alloc; "{folder}/{name}")?,
+            new: format!(in alloc; "{folder}/{name}.new")?,
+        })
+    }
+}
+
+/// The files of the folder.
+#[derive(Drop)]
+struct Places {
+    journal: Place,
+    blocks: Place,
+    table: Place,
+    heights: Place,
+}
+
+impl Places {
+    fn new(alloc: Global, folder: &str) -> Result<Places, AllocError> {
+        Ok(Places {
+            journal: Place::new(alloc, folder, JOURNAL)?,
+            blocks: Place::new(alloc, folder, BLOCKS)?,
+            table: Place::new(alloc, folder, TABLE)?,
+            heights: Place::new(alloc, folder, HEIGHTS)?,
+        })
+    }
+
+    /// Those that follow the journal.
+    fn others(&self) -> [&Place; 3] {
+        [&self.blocks, &self.table, &self.heights]
+    }
+}
+
+/// Refuses a name that is no folder's: nothing can be saved there.
+pub fn check_folder<'w, R: Files>(rt: &R, folder: &'w str) -> Result<(), Fault<'w>> {
+    match check_is_folder(rt, folder) {
+        Ok(()) => Ok(()),
+        Err(error) => Err(unsaved(error, folder, JOURNAL)),
+    }
+}
+
+fn check_is_folder<R: Files>(rt: &R, folder: &str) -> io::Result<()> {
+    if fs::metadata(rt, folder)?.is_dir() {
+        return Ok(());
+    }
+    Err(Error::new(ErrorKind::NotADirectory, "Not a directory"))
+}
 
 /// Writes the journal, the blocks that were submitted, the signatures that were valid and the heights of soft forks.
 ///
-/// All are written under other names beside first, and then put in place in this order; so a file is whole, or what it
-/// was before.
+/// The folder then holds all four; after a fault, or where the run is killed, all four or what it held before.
 pub fn save<'w, R>(
     rt: &R,
     folder: &'w str,
@@ -31,24 +92,64 @@ pub fn save<'w, R>(
     heights: &str,
 ) -> Result<(), Fault<'w>>
 where
-    R: Files + AllocGlobal,
+    R: Files<File = File> + AllocGlobal,
 {
-    // An empty name is no folder, and not the one at the root.
-    if folder.is_empty() {
-        return Err(Fault::CannotSave(folder, JOURNAL));
+    // All names are made before anything changes.
+    let places = Places::new(rt.alloc(), folder)?;
+    let _lock = match lock(rt, folder) {
+        Ok(lock) => lock,
+        Err(error) => return Err(unsaved(error, folder, JOURNAL)),
+    };
+    finish_last(rt, folder, &places)?;
+    let made = make_all(rt, folder, &places, report, table, heights).and_then(|()| put_in_place(
+        rt,
+        folder,
+        &places.journal,
+    ));
+    if let Err(fault) = made {
+        let _ = take_away(rt, folder, &places);
+        return Err(fault);
     }
-    let saved = write_new(rt, folder, report, table, heights).and_then(|()| put_all(rt, folder));
-    if saved.is_err() {
-        for file in NAMES {
-            remove_new(rt, folder, file);
-        }
+    for place in places.others() {
+        put_in_place(rt, folder, place)?;
     }
-    saved
+    Ok(())
 }
 
-fn write_new<'w, R>(
+/// Locks a folder, in which no other run saves then. One that does isn't waited for; audits that read are.
+fn lock<R: Files<File = File>>(rt: &R, folder: &str) -> io::Result<File> {
+    check_is_folder(rt, folder)?;
+    let file = fs::open(rt, folder)?;
+    match file.try_lock() {
+        Ok(()) => return Ok(file),
+        Err(TryLockError::Error(error)) => return Err(error),
+        Err(TryLockError::WouldBlock) => {}
+    }
+    if file.try_lock_shared().is_err() {
+        let busy = "another run saves into the folder";
+        return Err(Error::new(ErrorKind::ResourceBusy, busy));
+    }
+    file.lock()?;
+    Ok(file)
+}
+
+/// Ends what a run began that was killed: puts in place what counts, and takes away what doesn't.
+fn finish_last<'w, R: Files>(rt: &R, folder: &'w str, places: &Places) -> Result<(), Fault<'w>> {
+    if !stands(rt, places.journal.new.as_str()) {
+        for place in places.others() {
+            if is_file(rt, place.new.as_str()) {
+                put_in_place(rt, folder, place)?;
+            }
+        }
+    }
+    take_away(rt, folder, places)
+}
+
+/// Makes all files, none of them in its place.
+fn make_all<'w, R>(
     rt: &R,
     folder: &'w str,
+    places: &Places,
     report: &Report<'_, '_>,
     table: &Table,
     heights: &str,
@@ -58,56 +159,141 @@ where
 {
     let alloc = rt.alloc();
     let journal = report.journal_in_digits(alloc)?;
-    write(rt, folder, JOURNAL, journal.as_bytes())?;
+    make(rt, folder, &places.journal, journal.as_bytes())?;
     let blocks = match blk_file(alloc, report.entries()) {
         Ok(blocks) => blocks,
         Err(RecordFault::Memory) => return Err(Fault::Memory),
-        Err(RecordFault::TooLong) => return Err(Fault::CannotSave(folder, BLOCKS)),
+        Err(RecordFault::TooLong) => {
+            let long = "a block is longer than a record may be";
+            let error = Error::new(ErrorKind::FileTooLarge, long);
+            return Err(Fault::CannotSave(folder, BLOCKS, error));
+        }
     };
-    write(rt, folder, BLOCKS, blocks.as_slice())?;
+    make(rt, folder, &places.blocks, blocks.as_slice())?;
     let table = table.to_string(alloc)?;
-    write(rt, folder, TABLE, table.as_bytes())?;
+    make(rt, folder, &places.table, table.as_bytes())?;
     let heights = format!(in alloc; "{heights}\n")?;
-    write(rt, folder, HEIGHTS, heights.as_bytes())
+    make(rt, folder, &places.heights, heights.as_bytes())
 }
 
-fn put_all<'w, R>(rt: &R, folder: &'w str) -> Result<(), Fault<'w>>
-where
-    R: Files + AllocGlobal,
-{
-    for file in NAMES {
-        let new = format!(in rt.alloc(); "{folder}/{file}.new")?;
-        let path = format!(in rt.alloc(); "{folder}/{file}")?;
-        fs::rename(rt, new.as_str(), path.as_str()).map_err(|error| unsaved(
-            error.kind(),
-            folder,
-            file,
-        ))?;
-    }
-    Ok(())
-}
-
-/// Takes a file away that wasn't put in place. Where it isn't there nothing is to be done.
-fn remove_new<R>(rt: &R, folder: &str, file: &str)
-where
-    R: Files + AllocGlobal,
-{
-    if let Ok(path) = format!(in rt.alloc(); "{folder}/{file}.new") {
-        let _ = fs::remove_file(rt, path.as_str());
+/// Makes a file that can take its place.
+fn make<'w, R: Files>(
+    rt: &R,
+    folder: &'w str,
+    place: &Place,
+    bytes: &[u8],
+) -> Result<(), Fault<'w>> {
+    match make_new(rt, place, bytes) {
+        Ok(()) => Ok(()),
+        Err(error) => Err(unsaved(error, folder, place.name)),
     }
 }
 
-fn write<'w, R>(rt: &R, folder: &'w str, file: &'static str, bytes: &[u8]) -> Result<(), Fault<'w>>
-where
-    R: Files + AllocGlobal,
-{
-    let path = format!(in rt.alloc(); "{folder}/{file}.new")?;
-    fs::write(rt, path.as_str(), bytes).map_err(|error| unsaved(error.kind(), folder, file))
+/// Makes a file anew: what stands there already is neither followed nor written to.
+fn make_new<R: Files>(rt: &R, place: &Place, bytes: &[u8]) -> io::Result<()> {
+    if let Ok(found) = fs::symlink_metadata(rt, place.path.as_str()) {
+        if found.is_dir() {
+            return Err(Error::new(ErrorKind::IsADirectory, "Is a directory"));
+        }
+    }
+    let mut file = OpenOptions::new()
+        .write(true)
+        .create_new(true)
+        .open(rt, place.new.as_str())?;
+    file.write_all(bytes)
 }
 
-fn unsaved<'w>(kind: ErrorKind, folder: &'w str, file: &'static str) -> Fault<'w> {
-    match kind {
+fn put_in_place<'w, R: Files>(rt: &R, folder: &'w str, place: &Place) -> Result<(), Fault<'w>> {
+    match fs::rename(rt, place.new.as_str(), place.path.as_str()) {
+        Ok(()) => Ok(()),
+        Err(error) => Err(unsaved(error, folder, place.name)),
+    }
+}
+
+/// Takes away all that isn't in its place, the journal last: as long as it is there nothing of it counts.
+fn take_away<'w, R: Files>(rt: &R, folder: &'w str, places: &Places) -> Result<(), Fault<'w>> {
+    for place in places.others() {
+        remove(rt, folder, place)?;
+    }
+    remove(rt, folder, &places.journal)
+}
+
+/// Takes a file away that isn't in its place, if it is there.
+fn remove<'w, R: Files>(rt: &R, folder: &'w str, place: &Place) -> Result<(), Fault<'w>> {
+    match fs::remove_file(rt, place.new.as_str()) {
+        Ok(()) => Ok(()),
+        Err(error) if error.kind() == ErrorKind::NotFound => Ok(()),
+        Err(error) => Err(unsaved(error, folder, place.name)),
+    }
+}
+
+/// Whether something of this name stands there, if only a symlink to nothing.
+fn stands<R: Files>(rt: &R, path: &str) -> bool {
+    fs::symlink_metadata(rt, path).is_ok()
+}
+
+fn is_file<R: Files>(rt: &R, path: &str) -> bool {
+    match fs::symlink_metadata(rt, path) {
+        Ok(found) => found.is_file(),
+        Err(_) => false,
+    }
+}
+
+fn unsaved<'w>(error: Error, folder: &'w str, file: &'static str) -> Fault<'w> {
+    match error.kind() {
         ErrorKind::OutOfMemory => Fault::Memory,
-        _ => Fault::CannotSave(folder, file),
+        _ => Fault::CannotSave(folder, file, error),
     }
+}
+
+/// What a run saved.
+#[derive(Drop)]
+pub struct SavedFiles {
+    pub journal: Vec<u8>,
+    pub blocks: Vec<u8>,
+    pub table: Vec<u8>,
+    pub heights: Vec<u8>,
+}
+
+/// The files that a run saved, in the order in which one that can't be read is told. A run that saves there is waited
+/// for, and of one that was killed the files are those that count.
+pub fn read_saved<'w, R>(rt: &R, folder: &'w str) -> Result<SavedFiles, Fault<'w>>
+where
+    R: Files<File = File> + AllocGlobal,
+{
+    let places = Places::new(rt.alloc(), folder)?;
+    // Where there are no locks it is read without one.
+    let _lock = lock_to_read(rt, folder);
+    let is_decided = !stands(rt, places.journal.new.as_str());
+    Ok(SavedFiles {
+        journal: read_place(rt, folder, &places.journal, false)?,
+        blocks: read_place(rt, folder, &places.blocks, is_decided)?,
+        table: read_place(rt, folder, &places.table, is_decided)?,
+        heights: read_place(rt, folder, &places.heights, is_decided)?,
+    })
+}
+
+fn lock_to_read<R: Files<File = File>>(rt: &R, folder: &str) -> io::Result<File> {
+    check_is_folder(rt, folder)?;
+    let file = fs::open(rt, folder)?;
+    file.lock_shared()?;
+    Ok(file)
+}
+
+/// The bytes of a file: of the one that isn't in its place yet, where such ones count.
+fn read_place<'w, R>(
+    rt: &R,
+    folder: &'w str,
+    place: &Place,
+    counts_new: bool,
+) -> Result<Vec<u8>, Fault<'w>>
+where
+    R: Files + AllocGlobal,
+{
+    let is_new = counts_new && is_file(rt, place.new.as_str());
+    let path = if is_new { &place.new } else { &place.path };
+    fs::read(rt, path.as_str()).map_err(|error| match error.kind() {
+        ErrorKind::OutOfMemory => Fault::Memory,
+        _ => Fault::CannotOpen(folder, place.name, error),
+    })
 }

@@ -54,7 +54,7 @@ fn line(
             let Shown { id, digits } = shown;
             Ok(Some(format!(in alloc; "{name} {id} {digits}\n")?))
         }
-        Err(LineFault::Unreadable) => Ok(None),
         Err(LineFault::Memory) => Err(AllocError),
+        Err(_) => Ok(None),
     }
 }

@@ -1,5 +1,6 @@
 //! What a seat answers, as it is printed.
 
+use hash::Id;
 use node::{MarkReply, Status, SubmitReply, Tip, UnspentOutput};
 use scenario::{Definitions, Label};
 use std::fmt;
@@ -10,9 +11,33 @@ use txn::Script;
 pub enum Told<'d> {
     Submit(SubmitReply),
     Mark(MarkReply),
-    Best(Label<'d>),
+    Best(Block<'d>),
     Tips(Tips<'d>),
     Output(Option<UnspentOutput>),
+}
+
+/// A block, with its name.
+#[derive(Clone, Copy, Debug)]
+pub struct Block<'d> {
+    pub id: Id,
+    pub label: Label<'d>,
+}
+
+impl<'d> Block<'d> {
+    pub fn new(definitions: &'d Definitions, id: Id) -> Block<'d> {
+        Block {
+            id,
+            label: definitions.label(id),
+        }
+    }
+
+    /// Its name, if the scenario gave it one.
+    pub fn name(&self) -> Option<&'d str> {
+        match self.label {
+            Label::Name(name) => Some(name),
+            Label::Digits(_) => None,
+        }
+    }
 }
 
 /// The tips of the tree, with the names of their blocks.
@@ -27,7 +52,7 @@ impl fmt::Display for Told<'_> {
         match self {
             Told::Submit(reply) => reply.fmt(f),
             Told::Mark(reply) => reply.fmt(f),
-            Told::Best(block) => block.fmt(f),
+            Told::Best(block) => block.label.fmt(f),
             Told::Tips(tips) => tips.fmt(f),
             Told::Output(None) => f.write_str("none"),
             Told::Output(Some(output)) => write_output(output, f),
@@ -50,7 +75,7 @@ impl fmt::Display for Tips<'_> {
 }
 
 /// Bitcoin Core's words (`getchaintips`).
-fn text_of(status: Status) -> &'static str {
+pub fn text_of(status: Status) -> &'static str {
     match status {
         Status::Active => "active",
         Status::Invalid => "invalid",
@@ -74,8 +99,18 @@ fn write_script<W: fmt::Write>(script: &Script, f: &mut fmt::Formatter<W>) -> fm
     if script.is_empty() {
         return f.write_str("-");
     }
-    for byte in script.as_slice() {
-        write!(f, "{byte:02x}")?;
+    write!(f, "{}", Hex(script.as_slice()))
+}
+
+/// Bytes in hexadecimal digits.
+#[derive(Clone, Copy)]
+pub struct Hex<'b>(pub &'b [u8]);
+
+impl fmt::Display for Hex<'_> {
+    fn fmt<W: fmt::Write>(&self, f: &mut fmt::Formatter<W>) -> fmt::Result {
+        for byte in self.0 {
+            write!(f, "{byte:02x}")?;
+        }
+        Ok(())
     }
-    Ok(())
 }

@@ -28,7 +28,7 @@ impl<C: Clock, E: Write, O: Write> Writer<'_, '_, '_, C, E, O> {
     }
 
     /// Writes answers of the client, in their order.
-    pub fn answers(&mut self, answers: &[Answer]) -> Result<(), Fault<'static>> {
+    pub fn answers(&mut self, answers: &[Answer<'_>]) -> Result<(), Fault<'static>> {
         for answer in answers {
             self.progress.count(answer.is_submission);
         }
@@ -36,8 +36,8 @@ impl<C: Clock, E: Write, O: Write> Writer<'_, '_, '_, C, E, O> {
     }
 }
 
-impl<C: Clock, E: Write, O: Write> Sink for Writer<'_, '_, '_, C, E, O> {
-    fn take(&mut self, answer: Answer) -> Result<(), Ended> {
+impl<'d, C: Clock, E: Write, O: Write> Sink<'d> for Writer<'_, '_, '_, C, E, O> {
+    fn take(&mut self, answer: Answer<'d>) -> Result<(), Ended> {
         match self.answers(slice::from_ref(&answer)) {
             Ok(()) => Ok(()),
             Err(fault) => Err(ended_by(&fault)),

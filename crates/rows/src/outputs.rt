@@ -3,6 +3,7 @@
 use crate::play::{Errors, no_errors, play};
 use program::program;
 use std::alloc::Global;
+use std::fs::File;
 use std::io::Write;
 use std::rt::Files;
 use std::sync::Wait;
@@ -41,7 +42,7 @@ struct Ended {
 /// Runs a client over an output that takes so many writes, and saves what happened.
 fn run_closing<R>(rt: &R, left: usize) -> Ended
 where
-    R: Files + AllocGlobal + Clock + Threads + Wait + Sync,
+    R: Files<File = File> + AllocGlobal + Clock + Threads + Wait + Sync,
 {
     let mut input = b"block b1 genesis\nclient a\nsubmit b1\nbest\ninvalidate b1\n".as_slice();
     let mut out = Closing { left };
@@ -61,7 +62,7 @@ fn an_output_that_closes(rt: HostRuntime) -> Result<(), Fail> {
         let fault = if ended.status == 0 {
             ""
         } else {
-            "regchain: cannot write -\n"
+            "regchain: cannot write -\ncannot write -: broken pipe\n"
         };
         assert_eq!(rt; ended.err.as_slice(), fault.as_bytes());
         let audited = play(&rt, &["audit", "--saved", "closed_output"], b"");
@@ -103,7 +104,7 @@ const FRONTS: [&str; 7] = [
 /// Runs two clients: the writes on the standard output.
 fn writes_of_two<R>(rt: &R) -> Writes
 where
-    R: Files + AllocGlobal + Clock + Threads + Wait + Sync,
+    R: Files<File = File> + AllocGlobal + Clock + Threads + Wait + Sync,
 {
     let text = b"block b1 genesis\nclient a\nsubmit b1\nbest\ntips\nclient b\nbest\ntips\n";
     let mut input = text.as_slice();

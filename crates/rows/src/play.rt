@@ -3,6 +3,7 @@
 use node::{Gate, Open};
 use program::program_with_gate;
 use std::alloc::Global;
+use std::fs::File;
 use std::io;
 use std::io::{IsTerminal, Write};
 use std::rt::Files;
@@ -48,7 +49,7 @@ pub fn no_errors(alloc: Global) -> Errors {
 }
 
 /// Runs the program.
-pub fn play<R: Files + AllocGlobal + Clock + Threads + Wait + Sync>(
+pub fn play<R: Files<File = File> + AllocGlobal + Clock + Threads + Wait + Sync>(
     rt: &R,
     words: &[&str],
     text: &[u8],
@@ -57,7 +58,7 @@ pub fn play<R: Files + AllocGlobal + Clock + Threads + Wait + Sync>(
 }
 
 /// Runs the program with a gate round each script.
-pub fn play_with_gate<R: Files + AllocGlobal + Clock + Threads + Wait + Sync>(
+pub fn play_with_gate<R: Files<File = File> + AllocGlobal + Clock + Threads + Wait + Sync>(
     rt: &R,
     words: &[&str],
     gate: &(dyn Gate + Sync),

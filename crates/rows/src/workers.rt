@@ -2,6 +2,7 @@
 
 use crate::play::play_with_gate;
 use node::Gate;
+use std::fs::File;
 use std::process::Abort;
 use std::rt::Files;
 use std::sync::Wait;
@@ -77,7 +78,7 @@ submit m0
 /// Whether all three scripts of a run with these words run at once.
 fn three_meet<R>(rt: &R, words: &[&str], turns: u32) -> bool
 where
-    R: Files + AllocGlobal + Clock + Threads + Wait + Sync + Abort,
+    R: Files<File = File> + AllocGlobal + Clock + Threads + Wait + Sync + Abort,
 {
     let gate = meeting_of(3, turns);
     let played = play_with_gate(rt, words, &gate, SCENARIO.as_bytes());

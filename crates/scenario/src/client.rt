@@ -1,8 +1,10 @@
 //! The clients of a scenario, and their commands.
 
+use crate::complaint::Complaint;
 use crate::definitions::Definitions;
 use crate::fault::{LineFault, ScenarioFault};
-use crate::line::{Line, bytes, is_name, number};
+use crate::line::{Line, U64, bytes, is_name, number};
+use crate::spelling::no_command;
 use block::GENESIS_TIME;
 use hash::Id;
 use std::alloc::Global;
@@ -84,12 +86,13 @@ fn read_line<'d, 't>(
     line: &Line<'t>,
     clients: &mut Vec<Client<'d, 't>>,
 ) -> Result<(), LineFault> {
+    line.check(alloc)?;
     if let ["client", name] = line.words.as_slice() {
         return add_client(alloc, name, clients);
     }
     match clients.last_mut() {
         Some(client) => client.command(alloc, definitions, line),
-        None => Err(LineFault::Unreadable),
+        None => Err(no_command(alloc, line.words.as_slice())),
     }
 }
 
@@ -99,9 +102,11 @@ fn add_client<'d, 't>(
     name: &'t str,
     clients: &mut Vec<Client<'d, 't>>,
 ) -> Result<(), LineFault> {
-    let is_taken = clients.iter().any(|client| client.name == name);
-    if is_taken || clients.len() >= MAX_CLIENTS {
-        return Err(LineFault::Unreadable);
+    if clients.iter().any(|client| client.name == name) {
+        return Err(LineFault::of_word(alloc, name, Complaint::Taken));
+    }
+    if clients.len() >= MAX_CLIENTS {
+        return Err(LineFault::of_line(Complaint::Clients));
     }
     clients.push(Client::new(alloc, name)?)?;
     Ok(())
@@ -109,8 +114,11 @@ fn add_client<'d, 't>(
 
 impl<'d, 't> Client<'d, 't> {
     fn new(alloc: Global, name: &'t str) -> Result<Client<'d, 't>, LineFault> {
-        if !is_name(name) || name == BLK {
-            return Err(LineFault::Unreadable);
+        if !is_name(name) {
+            return Err(LineFault::of_word(alloc, name, Complaint::NoName));
+        }
+        if name == BLK {
+            return Err(LineFault::of_word(alloc, name, Complaint::NoClient));
         }
         Ok(Client {
             name,
@@ -128,23 +136,27 @@ impl<'d, 't> Client<'d, 't> {
     ) -> Result<(), LineFault> {
         match line.words.as_slice() {
             ["now", moment] => {
-                self.now = number(moment)?;
+                self.now = number(alloc, moment, U64)?;
                 Ok(())
             }
             ["submit", name] => self.submit(definitions, name),
             ["each", name, first, last] => {
-                self.each(alloc, definitions, name, number(first)?, number(last)?)
+                let (first, last) = (number(alloc, first, U64)?, number(alloc, last, U64)?);
+                self.each(alloc, definitions, name, first, last)
             }
             ["cut", name, length] => {
                 let whole = definitions.find(name)?.bytes.as_slice();
-                let cut = Payload::Lent(front(whole, number(length)?));
+                let cut = Payload::Lent(front(whole, number(alloc, length, U64)?));
                 self.call(Words::Line(line.text), Request::Submit(cut, self.now))
             }
             ["raw", digits] => {
                 let raw = Payload::Own(bytes(alloc, digits)?);
                 self.call(Words::Line(line.text), Request::Submit(raw, self.now))
             }
-            words => self.call(Words::Line(line.text), question(definitions, words)?),
+            words => {
+                let question = question(alloc, definitions, words)?;
+                self.call(Words::Line(line.text), question)
+            }
         }
     }
 
@@ -167,7 +179,7 @@ impl<'d, 't> Client<'d, 't> {
         last: u64,
     ) -> Result<(), LineFault> {
         if !is_name(name) {
-            return Err(LineFault::Unreadable);
+            return Err(LineFault::of_word(alloc, name, Complaint::NoName));
         }
         for place in first..=last {
             let numbered = format!(in alloc; "{name}{place}")?;
@@ -183,7 +195,11 @@ impl<'d, 't> Client<'d, 't> {
 }
 
 /// What the words of a line ask that submits nothing.
-fn question<'d>(definitions: &Definitions, words: &[&str]) -> Result<Request<'d>, LineFault> {
+fn question<'d>(
+    alloc: Global,
+    definitions: &Definitions,
+    words: &[&str],
+) -> Result<Request<'d>, LineFault> {
     match words {
         ["invalidate", block] => Ok(Request::Invalidate(definitions.block_id(block)?)),
         ["reconsider", block] => Ok(Request::Reconsider(definitions.block_id(block)?)),
@@ -191,7 +207,7 @@ fn question<'d>(definitions: &Definitions, words: &[&str]) -> Result<Request<'d>
         ["best"] => Ok(Request::Best),
         ["tips"] => Ok(Request::Tips),
         ["txout", output] => Ok(Request::Output(definitions.output(output)?)),
-        _ => Err(LineFault::Unreadable),
+        _ => Err(no_command(alloc, words)),
     }
 }
 

@@ -2,13 +2,15 @@
 
 ghost use Rattle.std.specs.Prelude.{◌≤◌, length, OnOk};
 
+use crate::complaint::Complaint;
 use crate::draft::Draft;
 use crate::fault::{LineFault, ScenarioFault};
 use crate::known::Known;
 use crate::label::Label;
-use crate::line::{Line, bytes, id, is_id_long, is_name, number};
+use crate::line::{Line, U8, U32, U64, bytes, id, is_id_long, is_name, number};
 use crate::making::{Named, genesis, made};
 use crate::recipe::Recipe;
+use crate::spelling::no_definition;
 use crate::valid_signature::{ValidSignature, add_valid_signature};
 use curve::Table;
 use hash::Id;
@@ -19,6 +21,9 @@ use wire::Memory;
 
 /// The most blocks that a `chain` line has.
 const MAX_CHAIN: u64 = 1000;
+
+/// How many blocks a `chain` line can have.
+const COUNT: &str = "1 to 1000";
 
 /// What ends the name of a block where its coinbase is meant.
 const COINBASE: &str = "cb";
@@ -60,7 +65,7 @@ impl Definitions {
         definitions.order.clear();
         for line in lines {
             definitions
-                .define(line.words.as_slice())
+                .define(line)
                 .map_err(|fault| fault.at(line.number))?;
         }
         definitions.finish_draft()?;
@@ -69,13 +74,20 @@ impl Definitions {
 
     /// The block of this name.
     pub fn find(&self, name: &str) -> Result<&Named, LineFault> {
-        self.blocks.get(name).ok_or(LineFault::Unreadable)
+        self.blocks
+            .get(name)
+            .ok_or_else(|| self.refused(name, Complaint::NoBlock))
+    }
+
+    /// That a word has this fault.
+    fn refused(&self, word: &str, complaint: Complaint) -> LineFault {
+        LineFault::of_word(self.alloc, word, complaint)
     }
 
     /// The id of the block that a word names: by its name, or by the id's digits, of which nothing is asked.
     pub fn block_id(&self, word: &str) -> Result<Id, LineFault> {
         if is_id_long(word) {
-            return id(word);
+            return id(self.alloc, word);
         }
         Ok(self.find(word)?.id)
     }
@@ -93,7 +105,9 @@ impl Definitions {
         &self.table
     }
 
-    fn define(&mut self, words: &[&str]) -> Result<(), LineFault> {
+    fn define(&mut self, line: &Line<'_>) -> Result<(), LineFault> {
+        line.check(self.alloc)?;
+        let words = line.words.as_slice();
         match words {
             ["in", ..] | ["out", ..] => self.draft_line(words),
             _ => {
@@ -115,18 +129,19 @@ impl Definitions {
                 let recipe = self.recipe(options)?;
                 self.block(name, parent, recipe)
             }
-            ["chain", name, count, parent] => self.chain(name, number(count)?, parent),
+            ["chain", name, count, parent] => self.chain(name, count, parent),
             ["verdict", key, signature, tx, input, code, kind] => {
-                self.verdict(key, signature, tx, number(input)?, code, number(kind)?)
+                self.verdict(key, signature, tx, input, code, kind)
             }
-            _ => Err(LineFault::Unreadable),
+            _ => Err(no_definition(self.alloc, words)),
         }
     }
 
     /// A line of the transaction that is being read.
     fn draft_line(&mut self, words: &[&str]) -> Result<(), LineFault> {
         let Some(mut draft) = self.draft.take() else {
-            return Err(LineFault::Unreadable);
+            let word = words.first().copied().unwrap_or("");
+            return Err(self.refused(word, Complaint::Loose));
         };
         match words {
             ["in", prev, script] => draft.input(self.outpoint(prev)?, script, None)?,
@@ -134,7 +149,7 @@ impl Definitions {
                 draft.input(self.outpoint(prev)?, script, Some(*sequence))?
             }
             ["out", value, script] => draft.output(value, script)?,
-            _ => return Err(LineFault::Unreadable),
+            _ => return Err(no_definition(self.alloc, words)),
         }
         self.draft = Some(draft);
         Ok(())
@@ -173,9 +188,10 @@ impl Definitions {
     }
 
     /// So many blocks, one on the other, under the name and the numbers from 1 on.
-    fn chain(&mut self, name: &str, count: u64, parent: &str) -> Result<(), LineFault> {
+    fn chain(&mut self, name: &str, word: &str, parent: &str) -> Result<(), LineFault> {
+        let count = number(self.alloc, word, COUNT)?;
         if count < 1 || count > MAX_CHAIN {
-            return Err(LineFault::Unreadable);
+            return Err(self.refused(word, Complaint::Number(COUNT)));
         }
         let mut above = String::from_str(self.alloc, parent)?;
         for place in 1..=count {
@@ -192,16 +208,18 @@ impl Definitions {
         key: &str,
         signature: &str,
         tx: &str,
-        input: usize,
+        word: &str,
         code: &str,
-        kind: u8,
+        kind: &str,
     ) -> Result<(), LineFault> {
+        let input: usize = number(self.alloc, word, U64)?;
+        let kind = number(self.alloc, kind, U8)?;
         let key = bytes(self.alloc, key)?;
         let signature = bytes(self.alloc, signature)?;
         let code = bytes(self.alloc, code)?;
         let tx = self.transaction(tx)?.tx.copy()?;
         if input >= tx.inputs.len() {
-            return Err(LineFault::Unreadable);
+            return Err(self.refused(word, Complaint::NoInput));
         }
         let valid = ValidSignature {
             key: key.as_slice(),
@@ -221,7 +239,7 @@ impl Definitions {
             Some((block, COINBASE)) => self.find(block)?.coinbase.as_ref(),
             _ => self.transactions.get(name),
         };
-        known.ok_or(LineFault::Unreadable)
+        known.ok_or_else(|| self.refused(name, Complaint::NoTransaction))
     }
 
     /// The outpoint that a word names: `null`, or an output.
@@ -235,16 +253,18 @@ impl Definitions {
     /// The output that a word names: a transaction, by its name or its id's digits, and a number. That there is such
     /// an output isn't asked.
     pub fn output(&self, word: &str) -> Result<OutPoint, LineFault> {
-        let (tx, index) = word.split_once(':').ok_or(LineFault::Unreadable)?;
+        let Some((tx, index)) = word.split_once(':') else {
+            return Err(self.refused(word, Complaint::NoOutput));
+        };
         Ok(OutPoint {
             id: self.transaction_id(tx)?,
-            index: number(index)?,
+            index: number(self.alloc, index, U32)?,
         })
     }
 
     fn transaction_id(&self, word: &str) -> Result<Id, LineFault> {
         if is_id_long(word) {
-            return id(word);
+            return id(self.alloc, word);
         }
         Ok(self.transaction(word)?.id)
     }
@@ -253,11 +273,14 @@ impl Definitions {
     fn check_free(&self, name: &str) -> Result<(), LineFault>
         ensures { OnOk result (length name.now ≤ 32) }
     {
-        let is_taken = name == "null"
-            || self.blocks.contains_key(name)
-            || self.transactions.contains_key(name);
-        if is_taken || !is_name(name) {
-            return Err(LineFault::Unreadable);
+        if name == "null" {
+            return Err(self.refused(name, Complaint::Reserved));
+        }
+        if self.blocks.contains_key(name) || self.transactions.contains_key(name) {
+            return Err(self.refused(name, Complaint::Taken));
+        }
+        if !is_name(name) {
+            return Err(self.refused(name, Complaint::NoName));
         }
         Ok(())
     }

@@ -1,7 +1,7 @@
 //! A transaction whose lines are being read.
 
 use crate::fault::LineFault;
-use crate::line::{bytes, number, signed};
+use crate::line::{I32, I64, U32, bytes, number, signed};
 use std::alloc::Global;
 use txn::{Inputs, OutPoint, Outputs, Script, Tx, TxIn, TxOut};
 
@@ -27,8 +27,8 @@ impl Draft {
         Ok(Draft {
             name: String::from_str(alloc, name)?,
             alloc,
-            version: signed(version)?,
-            lock_time: number(lock_time)?,
+            version: signed(alloc, version, I32)?,
+            lock_time: number(alloc, lock_time, U32)?,
             inputs: Vec::new(alloc),
             outputs: Vec::new(alloc),
         })
@@ -45,7 +45,7 @@ impl Draft {
             prev,
             script: Script::from_vec(bytes(self.alloc, script)?),
             sequence: match sequence {
-                Some(sequence) => number(sequence)?,
+                Some(sequence) => number(self.alloc, sequence, U32)?,
                 None => u32::MAX,
             },
         };
@@ -56,7 +56,7 @@ impl Draft {
     /// Adds an output.
     pub fn output(&mut self, value: &str, script: &str) -> Result<(), LineFault> {
         let output = TxOut {
-            value: signed(value)?,
+            value: signed(self.alloc, value, I64)?,
             script: Script::from_vec(bytes(self.alloc, script)?),
         };
         self.outputs.push(output)?;

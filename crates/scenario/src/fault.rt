@@ -1,13 +1,14 @@
 //! Why a scenario isn't read.
 
-use std::alloc::{AllocError, AllocFailed};
+use crate::complaint::{Complaint, Why};
+use std::alloc::{AllocError, AllocFailed, Global};
 use wire::Memory;
 
 /// Why a scenario isn't read.
-#[derive(Clone, Copy, Debug, PartialEq, Eq)]
+#[derive(Debug, Drop)]
 pub enum ScenarioFault {
-    /// This line, counted from 1, can't be read.
-    Line(usize),
+    /// This line, counted from 1, can't be read, and why.
+    Line(usize, Why),
     /// There was no memory.
     Memory,
 }
@@ -18,20 +19,44 @@ impl From<Memory> for ScenarioFault {
     }
 }
 
+impl From<AllocError> for ScenarioFault {
+    fn from(_error: AllocError) -> ScenarioFault {
+        ScenarioFault::Memory
+    }
+}
+
 /// Why a line of the scenario has no effect.
-#[derive(Clone, Copy, Debug, PartialEq, Eq)]
+#[derive(Debug, Drop)]
 pub enum LineFault {
     /// It isn't a line that can stand there.
     Unreadable,
+    /// The same, and what is wrong with it.
+    Refused(Why),
     /// There was no memory for what it defines.
     Memory,
 }
 
 impl LineFault {
+    /// That a word of the line has this fault.
+    pub fn of_word(alloc: Global, word: &str, complaint: Complaint) -> LineFault {
+        match Why::of_word(alloc, word, complaint) {
+            Ok(why) => LineFault::Refused(why),
+            Err(AllocError) => LineFault::Memory,
+        }
+    }
+
+    /// That the line as a whole has this fault.
+    pub fn of_line(complaint: Complaint) -> LineFault {
+        LineFault::Refused(Why::of_line(complaint))
+    }
+
     /// The scenario's fault that it is, at the line of this number.
     pub fn at(self, number: usize) -> ScenarioFault {
         match self {
-            LineFault::Unreadable => ScenarioFault::Line(number),
+            LineFault::Unreadable => {
+                ScenarioFault::Line(number, Why::of_line(Complaint::Misplaced))
+            }
+            LineFault::Refused(why) => ScenarioFault::Line(number, why),
             LineFault::Memory => ScenarioFault::Memory,
         }
     }

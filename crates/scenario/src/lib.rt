@@ -3,6 +3,7 @@
 
 mod client;
 mod coinbase;
+mod complaint;
 mod definitions;
 mod draft;
 mod fault;
@@ -11,9 +12,11 @@ mod label;
 mod line;
 mod making;
 mod recipe;
+mod spelling;
 mod valid_signature;
 
 pub use client::{BLK, Call, Client, Payload, Request, Words, read_clients};
+pub use complaint::{Complaint, Why};
 pub use definitions::{Definitions, Shown};
 pub use fault::{LineFault, ScenarioFault};
 pub use label::Label;

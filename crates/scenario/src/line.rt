@@ -3,12 +3,31 @@
 ghost use Rattle.std.specs.Prelude.{◌≤◌, length};
 ghost use Rattle.std.specs.Bool.{OnTrue};
 
+use crate::complaint::Complaint;
 use crate::fault::LineFault;
 use hash::Id;
 use hex::{FromHex, FromHexError};
 use std::alloc::{AllocError, Global};
 use std::str;
 use std::str::FromStr;
+
+/// The numbers that a version can be.
+pub const I32: &str = "-2147483648 to 2147483647";
+
+/// The values that an output can have.
+pub const I64: &str = "-9223372036854775808 to 9223372036854775807";
+
+/// The values that a coinbase can pay.
+pub const REWARD: &str = "0 to 9223372036854775807";
+
+/// The numbers of four bytes.
+pub const U32: &str = "0 to 4294967295";
+
+/// The numbers of eight bytes.
+pub const U64: &str = "0 to 18446744073709551615";
+
+/// The hash types of a signature.
+pub const U8: &str = "0 to 255";
 
 /// A line that says something.
 #[derive(Drop)]
@@ -34,6 +53,20 @@ pub fn lines<'t>(alloc: Global, text: &'t [u8]) -> Result<Vec<Line<'t>>, AllocEr
         }
     }
     Ok(lines)
+}
+
+impl Line<'_> {
+    /// Refuses a line that is no text, and one with a word that holds a tab or a carriage return.
+    pub fn check(&self, alloc: Global) -> Result<(), LineFault> {
+        if self.words.is_empty() {
+            return Err(LineFault::of_line(Complaint::NoText));
+        }
+        let is_blank = |word: &&&str| word.bytes().any(|byte| byte == b'\t' || byte == b'\r');
+        match self.words.iter().find(is_blank) {
+            Some(word) => Err(LineFault::of_word(alloc, word, Complaint::Blank)),
+            None => Ok(()),
+        }
+    }
 }
 
 /// The number that a line after the last would have.
@@ -71,26 +104,30 @@ pub fn is_id_long(word: &str) -> bool {
     word.len() == 64
 }
 
-/// A number in decimal digits, without a sign.
-pub fn number<N: FromStr>(word: &str) -> Result<N, LineFault>
+/// A number in decimal digits, without a sign, that its place can hold.
+pub fn number<N: FromStr>(alloc: Global, word: &str, range: &'static str) -> Result<N, LineFault>
 where
     N::Err: Drop,
 {
     if !is_decimal(word) {
-        return Err(LineFault::Unreadable);
+        return Err(no_number(alloc, word, range));
     }
-    word.parse::<N>().map_err(|_| LineFault::Unreadable)
+    word.parse::<N>().map_err(|_| no_number(alloc, word, range))
 }
 
-/// A number in decimal digits, with `-` before one below zero.
-pub fn signed<N: FromStr>(word: &str) -> Result<N, LineFault>
+/// A number in decimal digits, with `-` before one below zero, that its place can hold.
+pub fn signed<N: FromStr>(alloc: Global, word: &str, range: &'static str) -> Result<N, LineFault>
 where
     N::Err: Drop,
 {
     if !is_decimal(word.strip_prefix('-').unwrap_or(word)) {
-        return Err(LineFault::Unreadable);
+        return Err(no_number(alloc, word, range));
     }
-    word.parse::<N>().map_err(|_| LineFault::Unreadable)
+    word.parse::<N>().map_err(|_| no_number(alloc, word, range))
+}
+
+fn no_number(alloc: Global, word: &str, range: &'static str) -> LineFault {
+    LineFault::of_word(alloc, word, Complaint::Number(range))
 }
 
 fn is_decimal(word: &str) -> bool {
@@ -102,29 +139,30 @@ pub fn bytes(alloc: Global, word: &str) -> Result<Vec<u8>, LineFault> {
     if word == "-" {
         return Ok(Vec::new(alloc));
     }
-    if word.is_empty() {
-        return Err(LineFault::Unreadable);
+    if word.is_empty() || !is_lower_case(word) {
+        return Err(LineFault::of_word(alloc, word, Complaint::NoBytes));
     }
-    match hex::decode(alloc, lower_case(word)?) {
+    match hex::decode(alloc, word) {
         Ok(bytes) => Ok(bytes),
         Err(FromHexError::OutOfMemory) => Err(LineFault::Memory),
-        Err(_) => Err(LineFault::Unreadable),
+        Err(_) => Err(LineFault::of_word(alloc, word, Complaint::NoBytes)),
     }
 }
 
 /// Four bytes in lower-case hexadecimal digits.
-pub fn array(word: &str) -> Result<[u8; 4], LineFault> {
-    <[u8; 4]>::from_hex(lower_case(word)?).map_err(|_| LineFault::Unreadable)
+pub fn array(alloc: Global, word: &str) -> Result<[u8; 4], LineFault> {
+    let read = <[u8; 4]>::from_hex(word)
+        .ok()
+        .filter(|_| is_lower_case(word));
+    read.ok_or_else(|| LineFault::of_word(alloc, word, Complaint::Digits(8)))
 }
 
 /// An id in lower-case digits, as ids are printed.
-pub fn id(word: &str) -> Result<Id, LineFault> {
-    Id::read(lower_case(word)?.as_bytes()).ok_or(LineFault::Unreadable)
+pub fn id(alloc: Global, word: &str) -> Result<Id, LineFault> {
+    let read = Id::read(word.as_bytes()).filter(|_| is_lower_case(word));
+    read.ok_or_else(|| LineFault::of_word(alloc, word, Complaint::Digits(64)))
 }
 
-fn lower_case(word: &str) -> Result<&str, LineFault> {
-    if word.bytes().any(|byte| byte.is_ascii_uppercase()) {
-        return Err(LineFault::Unreadable);
-    }
-    Ok(word)
+fn is_lower_case(word: &str) -> bool {
+    !word.bytes().any(|byte| byte.is_ascii_uppercase())
 }

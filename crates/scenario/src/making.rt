@@ -7,6 +7,7 @@ ghost use Rattle.scenario.specs.inside.Making.{IsMined, IsBarren, IsSealed, IsMa
 ghost use Rattle.scenario.specs.inside.Making.{coinbase_said, with_first, header_to_seal};
 
 use crate::coinbase::coinbase;
+use crate::complaint::Complaint;
 use crate::fault::LineFault;
 use crate::known::Known;
 use crate::recipe::{CoinbaseRecipe, HeaderRecipe, Recipe};
@@ -58,7 +59,10 @@ pub fn made(alloc: Global, name: &str, parent: &Named, recipe: Recipe) -> Result
     requires { length name.now ≤ 75 }
     ensures { IfOk result (IsMade recipe name.now parent.now) }
 {
-    let height = parent.height.checked_add(1).ok_or(LineFault::Unreadable)?;
+    let height = parent
+        .height
+        .checked_add(1)
+        .ok_or(LineFault::of_line(Complaint::Height))?;
     let Recipe {
         header,
         has_coinbase,
@@ -69,7 +73,7 @@ pub fn made(alloc: Global, name: &str, parent: &Named, recipe: Recipe) -> Result
     put_first(&mut transactions, &coinbase)?;
     let unsealed = unsealed(alloc, header, parent, transactions.as_slice())?;
     let Some(header) = sealed(unsealed, header.nonce) else {
-        return Err(LineFault::Unreadable);
+        return Err(LineFault::of_line(Complaint::Nonce));
     };
     let txs = Txs::from_vec(transactions);
     let mut bytes = Vec::new(alloc);
@@ -126,7 +130,10 @@ fn unsealed(
 {
     let time = match recipe.time {
         Some(time) => time,
-        None => parent.time.checked_add(1).ok_or(LineFault::Unreadable)?,
+        None => parent
+            .time
+            .checked_add(1)
+            .ok_or(LineFault::of_line(Complaint::Time))?,
     };
     let root = match recipe.root {
         Some(root) => root,

@@ -1,7 +1,8 @@
 //! What a `block` line says of its block. Where it says nothing there is None, and the default stands.
 
+use crate::complaint::Complaint;
 use crate::fault::LineFault;
-use crate::line::{array, bytes, id, number, signed};
+use crate::line::{I32, REWARD, U32, array, bytes, id, number, signed};
 use hash::Id;
 use std::alloc::Global;
 use txn::{Script, Tx};
@@ -54,31 +55,36 @@ impl Recipe {
 
     /// Takes an option of the line, each of which may be given once.
     pub fn set(&mut self, alloc: Global, option: &str, value: &str) -> Result<(), LineFault> {
-        match option {
-            "version" => once(&mut self.header.version, signed(value)?),
-            "root" => once(&mut self.header.root, id(value)?),
-            "time" => once(&mut self.header.time, number(value)?),
-            "bits" => once(&mut self.header.bits, u32::from_be_bytes(array(value)?)),
-            "nonce" => once(&mut self.header.nonce, number(value)?),
-            "reward" => once(&mut self.coinbase.reward, reward(value)?),
+        let is_new = match option {
+            "version" => once(&mut self.header.version, signed(alloc, value, I32)?),
+            "root" => once(&mut self.header.root, id(alloc, value)?),
+            "time" => once(&mut self.header.time, number(alloc, value, U32)?),
+            "bits" => once(
+                &mut self.header.bits,
+                u32::from_be_bytes(array(alloc, value)?),
+            ),
+            "nonce" => once(&mut self.header.nonce, number(alloc, value, U32)?),
+            "reward" => once(&mut self.coinbase.reward, reward(alloc, value)?),
             "pay" => once(&mut self.coinbase.pay, script(alloc, value)?),
-            "cb" => self.set_coinbase(alloc, value),
-            _ => Err(LineFault::Unreadable),
+            "cb" => self.set_coinbase(alloc, value)?,
+            _ => return Err(LineFault::of_word(alloc, option, Complaint::NoOption)),
+        };
+        if !is_new {
+            return Err(LineFault::of_word(alloc, option, Complaint::Twice));
         }
+        Ok(())
     }
 
-    fn set_coinbase(&mut self, alloc: Global, value: &str) -> Result<(), LineFault> {
+    /// Takes what `cb` says. Whether nothing was said of it before.
+    fn set_coinbase(&mut self, alloc: Global, value: &str) -> Result<bool, LineFault> {
         if !self.has_coinbase {
-            return Err(LineFault::Unreadable);
+            return Ok(false);
         }
         if value != "none" {
-            return once(&mut self.coinbase.script, script(alloc, value)?);
+            return Ok(once(&mut self.coinbase.script, script(alloc, value)?));
         }
         self.has_coinbase = false;
-        match self.coinbase.script {
-            Some(_) => Err(LineFault::Unreadable),
-            None => Ok(()),
-        }
+        Ok(self.coinbase.script.is_none())
     }
 }
 
@@ -87,14 +93,15 @@ fn script(alloc: Global, word: &str) -> Result<Script, LineFault> {
 }
 
 /// A value that isn't below zero.
-fn reward(word: &str) -> Result<i64, LineFault> {
-    number(word)
+fn reward(alloc: Global, word: &str) -> Result<i64, LineFault> {
+    number(alloc, word, REWARD)
 }
 
-fn once<T: Drop>(slot: &mut Option<T>, value: T) -> Result<(), LineFault> {
+/// Puts a value where none is. Whether none was there.
+fn once<T: Drop>(slot: &mut Option<T>, value: T) -> bool {
     if slot.is_some() {
-        return Err(LineFault::Unreadable);
+        return false;
     }
     *slot = Some(value);
-    Ok(())
+    true
 }
