@@ -64,7 +64,7 @@ def example_of(block: list[str], printed: list[str]) -> Example | None:
 
 def examples() -> list[Example]:
     """In the document's order."""
-    with open(PAGE, encoding="utf-8") as file:
+    with open(PAGE, encoding="latin-1") as file:
         blocks = indented_blocks(file.read())
     found = [example_of(block, printed) for block, printed in zip(blocks, [*blocks[1:], []])]
     return [example for example in found if example]

@@ -58,6 +58,7 @@ Usage: regchain <COMMAND>
 Commands:
   run    Runs a scenario, and prints what its clients are answered
   audit  Replays a journal by the definition, and compares the replies
+  tree   Shows the block tree that a scenario or a saved journal leads to
   show   Shows the id and the bytes of each block and transaction that a scenario defines
   help   Print this message or the help of the given subcommand(s)
 
@@ -83,6 +84,8 @@ Options:
       --save <D>           The folder for journal.txt, blocks.blk, table.txt and heights.txt
       --expect <F>         The output that it has to have
       --json               Writes a JSON object a line
+      --tree               Shows the block tree after the journal
+      --svg <F>            The file for a picture of the block tree
   -h, --help               Print help
 """,
     ),
@@ -104,6 +107,24 @@ Options:
       --explain            Tells the reply that the first line which differs should have
       --to <N>             Looks at the first N lines
       --json               Writes a JSON object a line
+  -h, --help               Print help
+""",
+    ),
+    (
+        "tree --help",
+        """\
+Shows the block tree that a scenario or a saved journal leads to
+
+Usage: regchain tree [OPTIONS]
+
+Options:
+      --scenario <F>       The scenario that is run; of --saved, the one that gives names; - is the standard input
+      --saved <D>          The folder of a run's --save
+      --blk <F>            Blocks that are submitted first, as a blk file of Bitcoin Core has them
+      --table <F>          The signatures that are valid
+      --heights <A,B,C,D>  From which heights the rules of BIP 34, 65, 66, and of BIPs \
+68, 112 and 113 are in force [default: 1,1,1,1]
+      --svg <F>            The file for a picture of the block tree
   -h, --help               Print help
 """,
     ),

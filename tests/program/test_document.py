@@ -14,7 +14,7 @@ class Document(ProgramTest):
                 self.assertEqual((played.status, played.err), (0, ""))
 
     def test_all_examples_are_read(self) -> None:
-        """There are seven; each is a scenario that ends with a line of its own."""
+        """There are eight; each is a scenario that ends with a line of its own."""
         with open(PAGE, encoding="utf-8") as file:
             ends = file.read().split("\n").count("    END")
-        self.assertEqual((len(examples()), ends), (7, 7))
+        self.assertEqual((len(examples()), ends), (8, 8))

@@ -4,14 +4,17 @@
 mod answer;
 mod audit;
 mod clients;
+mod drawing;
 mod expected;
 mod fault;
 mod files;
+mod history_tree;
 mod objects;
 mod options;
 mod output;
 mod playing;
 mod progress;
+mod replay;
 mod report;
 mod run;
 mod running;

@@ -25,6 +25,7 @@ const HEIGHTS: &str = "1,1,1,1";
 pub enum Options<'w> {
     Run(RunOptions<'w>),
     Audit(AuditOptions<'w>),
+    Tree(TreeOptions<'w>),
     Show(ShowOptions<'w>),
 }
 
@@ -45,6 +46,10 @@ pub struct RunOptions<'w> {
     /// The file of the output that is expected.
     pub expect: Option<&'w str>,
     pub form: Form,
+    /// Whether the block tree is shown after the journal.
+    pub has_tree: bool,
+    /// The file for a picture of the block tree.
+    pub svg: Option<&'w str>,
 }
 
 /// Where what was saved of a run stands.
@@ -75,6 +80,17 @@ pub struct AuditOptions<'w> {
     pub form: Form,
 }
 
+/// To show the block tree that a saved journal leads to.
+#[derive(Clone, Copy)]
+pub struct TreeOptions<'w> {
+    /// The folder of a run's files.
+    pub saved: &'w str,
+    /// The scenario that gives names.
+    pub scenario: Option<&'w str>,
+    /// The file for a picture.
+    pub svg: Option<&'w str>,
+}
+
 /// To show what a scenario defines.
 #[derive(Drop)]
 pub struct ShowOptions<'w> {
@@ -97,6 +113,8 @@ impl<'w> Options<'w> {
                 save: None,
                 expect: None,
                 form: Form::Text,
+                has_tree: false,
+                svg: None,
             }));
         }
         let mut command = command(alloc)?;
@@ -104,6 +122,7 @@ impl<'w> Options<'w> {
         let read = match matches.subcommand() {
             Some(("run", run)) => read_run(run),
             Some(("audit", audit)) => read_audit(audit),
+            Some(("tree", tree)) => read_tree(tree),
             Some(("show", show)) => read_show(alloc, show)?,
             _ => None,
         };
@@ -124,6 +143,32 @@ fn read_run<'w>(run: &ArgMatches<'w>) -> Option<Options<'w>> {
         save: run.get_str("save"),
         expect: run.get_str("expect"),
         form: form(run),
+        has_tree: run.get_flag("tree"),
+        svg: run.get_str("svg"),
+    }))
+}
+
+/// Without a folder the scenario is run, and the block tree alone is shown.
+fn read_tree<'w>(tree: &ArgMatches<'w>) -> Option<Options<'w>> {
+    let (scenario, svg) = (tree.get_str("scenario"), tree.get_str("svg"));
+    if let Some(saved) = tree.get_str("saved") {
+        return Some(Options::Tree(TreeOptions {
+            saved,
+            scenario,
+            svg,
+        }));
+    }
+    Some(Options::Run(RunOptions {
+        scenario: scenario?,
+        blk: tree.get_str("blk"),
+        table: tree.get_str("table"),
+        workers: WORKERS,
+        heights: tree.get_str("heights").unwrap_or(HEIGHTS),
+        save: None,
+        expect: None,
+        form: Form::Tree,
+        has_tree: true,
+        svg,
     }))
 }
 
@@ -179,6 +224,7 @@ fn command<'w>(alloc: Global) -> Result<Command<'w>, AllocError> {
         .subcommand_required(true)
         .subcommand(run_command(alloc)?)?
         .subcommand(audit_command(alloc)?)?
+        .subcommand(tree_command(alloc)?)?
         .subcommand(show_command(alloc)?)
 }
 
@@ -191,6 +237,7 @@ fn run_command<'w>(alloc: Global) -> Result<Command<'w>, AllocError> {
     );
     let blk = "Blocks that are submitted first, as a blk file of Bitcoin Core has them";
     let folder = "The folder for journal.txt, blocks.blk, table.txt and heights.txt";
+    let tree = "Shows the block tree after the journal";
     Command::new(alloc, "run")
         .about("Runs a scenario, and prints what its clients are answered")
         .arg(scenario(alloc))?
@@ -200,7 +247,9 @@ fn run_command<'w>(alloc: Global) -> Result<Command<'w>, AllocError> {
         .arg(heights(alloc))?
         .arg(value(alloc, "save", "D", folder))?
         .arg(value(alloc, "expect", "F", "The output that it has to have"))?
-        .arg(json(alloc))
+        .arg(json(alloc))?
+        .arg(flag(alloc, "tree", tree).conflicts_with("json")?)?
+        .arg(svg(alloc))
 }
 
 fn audit_command<'w>(alloc: Global) -> Result<Command<'w>, AllocError> {
@@ -209,7 +258,7 @@ fn audit_command<'w>(alloc: Global) -> Result<Command<'w>, AllocError> {
     let lines = value(alloc, "to", "N", "Looks at the first N lines");
     Command::new(alloc, "audit")
         .about("Replays a journal by the definition, and compares the replies")
-        .arg(alone(value(alloc, "saved", "D", "The folder of a run's --save"))?)?
+        .arg(saved(alloc)?.conflicts_with("journal")?)?
         .arg(unless_saved(value(alloc, "journal", "F", "The journal.txt of a run"))?)?
         .arg(unless_saved(value(alloc, "blk", "F", "Its blocks.blk"))?)?
         .arg(table(alloc))?
@@ -218,6 +267,38 @@ fn audit_command<'w>(alloc: Global) -> Result<Command<'w>, AllocError> {
         .arg(flag(alloc, "explain", explain))?
         .arg(lines.value_parser(value_parser!(u64)))?
         .arg(json(alloc))
+}
+
+fn tree_command<'w>(alloc: Global) -> Result<Command<'w>, AllocError> {
+    let help =
+        "The scenario that is run; of --saved, the one that gives names; - is the standard input";
+    let scenario = value(alloc, "scenario", "F", help).required_unless_present("saved")?;
+    let blk = "Blocks that are submitted first, as a blk file of Bitcoin Core has them";
+    Command::new(alloc, "tree")
+        .about("Shows the block tree that a scenario or a saved journal leads to")
+        .arg(scenario)?
+        .arg(saved(alloc)?)?
+        .arg(value(alloc, "blk", "F", blk))?
+        .arg(table(alloc))?
+        .arg(heights(alloc))?
+        .arg(svg(alloc))
+}
+
+/// The folder of a run, beside which there is no other file of one.
+fn saved<'w>(alloc: Global) -> Result<Arg<'w>, AllocError> {
+    value(alloc, "saved", "D", "The folder of a run's --save")
+        .conflicts_with("blk")?
+        .conflicts_with("table")?
+        .conflicts_with("heights")
+}
+
+fn svg<'w>(alloc: Global) -> Arg<'w> {
+    value(
+        alloc,
+        "svg",
+        "F",
+        "The file for a picture of the block tree",
+    )
 }
 
 fn show_command<'w>(alloc: Global) -> Result<Command<'w>, AllocError> {
@@ -240,15 +321,6 @@ fn scenario<'w>(alloc: Global) -> Arg<'w> {
 /// An option that has to be there, unless a folder is named.
 fn unless_saved<'w>(option: Arg<'w>) -> Result<Arg<'w>, AllocError> {
     option.required_unless_present("saved")
-}
-
-/// An option beside which no file is named.
-fn alone<'w>(option: Arg<'w>) -> Result<Arg<'w>, AllocError> {
-    option
-        .conflicts_with("journal")?
-        .conflicts_with("blk")?
-        .conflicts_with("table")?
-        .conflicts_with("heights")
 }
 
 fn table<'w>(alloc: Global) -> Arg<'w> {

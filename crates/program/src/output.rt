@@ -17,6 +17,8 @@ pub enum Form {
     Text,
     /// A JSON object for each answer and each line of the journal.
     Json,
+    /// Not at all: the block tree alone is shown.
+    Tree,
 }
 
 /// The standard output of a run.
@@ -51,7 +53,7 @@ impl<'o, O: Write> Output<'o, O> {
                 let line = format!(in self.alloc; "client {name}\n")?;
                 self.put(line.as_str())
             }
-            Form::Json => Ok(()),
+            Form::Json | Form::Tree => Ok(()),
         }
     }
 
@@ -62,6 +64,7 @@ impl<'o, O: Write> Output<'o, O> {
             match self.form {
                 Form::Text => write!(text, "{answer}").map_err(|_| Fault::Memory)?,
                 Form::Json => text.push_str(objects::answer(self.alloc, client, answer)?.as_str())?,
+                Form::Tree => {}
             }
         }
         self.put(text.as_str())
@@ -71,8 +74,16 @@ impl<'o, O: Write> Output<'o, O> {
     pub fn journal(&mut self) -> Result<(), Fault<'static>> {
         match self.form {
             Form::Text => self.put("journal\n"),
-            Form::Json => Ok(()),
+            Form::Json | Form::Tree => Ok(()),
         }
+    }
+
+    /// The block tree, below a line of its own where there is more.
+    pub fn tree(&mut self, text: &str) -> Result<(), Fault<'static>> {
+        if self.form == Form::Text {
+            self.put("tree\n")?;
+        }
+        self.put(text)
     }
 
     /// A line of the journal.
@@ -80,6 +91,7 @@ impl<'o, O: Write> Output<'o, O> {
         let text = match self.form {
             Form::Text => format!(in self.alloc; "{step}\n")?,
             Form::Json => objects::step(self.alloc, step)?,
+            Form::Tree => return Ok(()),
         };
         self.put(text.as_str())
     }

@@ -2,8 +2,10 @@
 
 ghost use Rattle.std.specs.Prelude.{◌≡◌};
 
+use crate::drawing::{check_picture, write_picture};
 use crate::fault::Fault;
 use crate::files::{read_file, read_scenario, read_table};
+use crate::history_tree::history_tree;
 use crate::options::RunOptions;
 use crate::output::Output;
 use crate::progress::Progress;
@@ -15,6 +17,7 @@ use crate::writer::Writer;
 use curve::Table;
 use journal::{Records, read_heights};
 use node::{Entry, Gate, Naming, Node, Opening, Params};
+use picture::to_text;
 use scenario::{BLK, Client, Complaint, Definitions, Why, number_after, read_clients};
 use std::alloc::Global;
 use std::fs::File;
@@ -64,9 +67,7 @@ where
         let why = Why::of_line(Complaint::Without);
         return Err(Fault::ScenarioLine(number_after(scenario.as_slice()), why));
     }
-    if let Some(folder) = options.save {
-        check_before_run(rt, folder, &blk)?;
-    }
+    check_before_run(rt, options, &blk)?;
     let is_terminal = err.is_terminal();
     let mut writer = Writer {
         output: Output::new(alloc, out, options.form, expected.is_some()),
@@ -94,7 +95,10 @@ where
     } = writer;
     progress.end();
     let Played { report, written } = played;
-    let written = written.and_then(|()| report.write_journal(&mut output));
+    let written = match written {
+        Ok(()) => write_rest(rt, options, &params, &report, &definitions, &mut output),
+        Err(fault) => Err(fault),
+    };
     if let Some(folder) = options.save {
         let saved = save(rt, folder, &report, definitions.table(), options.heights);
         written?;
@@ -108,19 +112,57 @@ where
     }
 }
 
-/// Refuses a folder in which nothing can be saved, unless the blk file's fault is to be told first.
-fn check_before_run<'w, R>(rt: &R, folder: &'w str, blk: &Option<Vec<u8>>) -> Result<(), Fault<'w>>
+/// Refuses a folder in which nothing can be saved, or a file that can't be a picture's, unless the blk file's fault is to
+/// be told first.
+fn check_before_run<'w, R>(
+    rt: &R,
+    options: &RunOptions<'w>,
+    blk: &Option<Vec<u8>>,
+) -> Result<(), Fault<'w>>
 where
     R: Files + AllocGlobal,
 {
-    let checked = check_folder(rt, folder);
-    match (&checked, blk) {
-        (Err(_), Some(file))
-            if Records::new(rt.alloc(), file.as_slice())
-                .read_out()
-                .is_err() => Ok(()),
-        _ => checked,
+    let checked = match options.save {
+        Some(folder) => check_folder(rt, folder),
+        None => Ok(()),
+    };
+    let checked = checked.and_then(|()| check_picture(rt, options.svg));
+    if let (Err(_), Some(file)) = (&checked, blk) {
+        if Records::new(rt.alloc(), file.as_slice())
+            .read_out()
+            .is_err()
+        {
+            return Ok(());
+        }
     }
+    checked
+}
+
+/// Writes what follows the answers: the journal, and the block tree where it is asked for.
+fn write_rest<'w, R, O>(
+    rt: &R,
+    options: &RunOptions<'w>,
+    params: &Params,
+    report: &Report<'_, '_>,
+    definitions: &Definitions,
+    output: &mut Output<'_, O>,
+) -> Result<(), Fault<'w>>
+where
+    R: Files + AllocGlobal,
+    O: Write,
+{
+    report.write_journal(output)?;
+    if !options.has_tree && options.svg.is_none() {
+        return Ok(());
+    }
+    let alloc = rt.alloc();
+    let commands = report.commands(alloc)?;
+    let table = definitions.table();
+    let tree = history_tree(alloc, params, commands.as_slice(), table, Some(definitions))?;
+    if options.has_tree {
+        output.tree(to_text(alloc, &tree)?.as_str())?;
+    }
+    write_picture(rt, options.svg, &tree)
 }
 
 /// The files of a run, in the order in which one that can't be read is told.

@@ -4,7 +4,7 @@ use crate::fault::Fault;
 use crate::output::Output;
 use hash::Id;
 use journal::{Asked, Step, block_of};
-use node::Entry;
+use node::{Command, Entry};
 use scenario::Definitions;
 use std::alloc::{AllocError, Global};
 use std::fmt::Write as _;
@@ -44,6 +44,15 @@ impl<'d, 't> Report<'d, 't> {
     /// The steps, in order.
     pub fn entries(&self) -> &[Entry] {
         self.entries.as_slice()
+    }
+
+    /// The commands of the steps, in order.
+    pub fn commands(&self, alloc: Global) -> Result<Vec<Command>, Fault<'static>> {
+        let mut commands = Vec::new(alloc);
+        for entry in self.entries.as_slice() {
+            commands.push(entry.command.copy()?)?;
+        }
+        Ok(commands)
     }
 
     /// The journal's lines, with the ids of blocks in digits.

@@ -3,6 +3,7 @@
 ghost use Rattle.std.specs.Prelude.{◌≡◌, ◌≤◌, IfOk, OnErr};
 
 use crate::audit::{Audited, audit};
+use crate::drawing::draw_saved;
 use crate::fault::Fault;
 use crate::files::print;
 use crate::objects;
@@ -123,7 +124,7 @@ fn status<E: Write>(alloc: Global, outcome: Result<u8, Fault<'_>>, form: Form, e
 
 /// Writes a fault's line. Where that fails too, the status alone tells of it.
 fn tell<E: Write>(alloc: Global, fault: &Fault<'_>, form: Form, err: &mut E) {
-    let is_text = form == Form::Text || matches!(fault, Fault::CommandLine(_));
+    let is_text = form != Form::Json || matches!(fault, Fault::CommandLine(_));
     let _ = match objects::fault(alloc, fault) {
         Ok(object) if !is_text => write!(err, "{object}"),
         _ => write!(err, "{fault}"),
@@ -185,6 +186,10 @@ where
             }
             Ok(finding.status())
         }
+        Options::Tree(options) => {
+            draw_saved(rt, &options, input, out)?;
+            Ok(DONE)
+        }
         Options::Show(options) => {
             show(rt, &options, input, out)?;
             Ok(DONE)
@@ -195,7 +200,9 @@ where
 /// The reply of a line that differs, as it is told.
 fn explained(alloc: Global, line: usize, reply: Reply, form: Form) -> Result<String, AllocError> {
     match form {
-        Form::Text => format!(in alloc; "regchain: line {line}: the definition gives {reply}\n"),
+        Form::Text | Form::Tree => format!(in alloc;
+            "regchain: line {line}: the definition gives {reply}\n"
+        ),
         Form::Json => objects::explanation(alloc, line as u64, reply),
     }
 }
@@ -203,7 +210,7 @@ fn explained(alloc: Global, line: usize, reply: Reply, form: Form) -> Result<Str
 /// A finding as it is printed.
 fn found(alloc: Global, finding: Finding, form: Form) -> Result<String, AllocError> {
     match (form, finding) {
-        (Form::Text, _) => finding.to_string(alloc),
+        (Form::Text | Form::Tree, _) => finding.to_string(alloc),
         (Form::Json, Finding::Agrees) => objects::agreement(alloc),
         (Form::Json, Finding::Differs(line)) => objects::difference(alloc, line as u64),
     }

@@ -1,0 +1,95 @@
+//! The tree that is drawn.
+
+use crate::status::Status;
+use std::alloc::{AllocError, Global};
+
+/// A block that is drawn.
+#[derive(Debug, Drop)]
+pub struct TreeBlock {
+    /// Its name, or what stands for one.
+    pub label: String,
+    pub status: Status,
+    /// Whether it is marked itself, and not only a block below it.
+    pub is_marked: bool,
+}
+
+/// A block at its place: what it stands on, and what stands on it, linked in the order in which it came.
+#[derive(Drop)]
+pub(crate) struct Node {
+    pub block: TreeBlock,
+    pub height: usize,
+    pub first_child: Option<usize>,
+    last_child: Option<usize>,
+    pub next_sibling: Option<usize>,
+}
+
+/// A tree of blocks, each by the place at which it came.
+#[derive(Drop)]
+pub struct BlockTree {
+    nodes: Vec<Node>,
+}
+
+impl BlockTree {
+    /// The block that all others stand on, at place 0 and height 0.
+    pub fn new(alloc: Global, genesis: TreeBlock) -> Result<BlockTree, AllocError> {
+        let mut nodes = Vec::new(alloc);
+        nodes.push(Node::new(genesis, 0))?;
+        Ok(BlockTree { nodes })
+    }
+
+    /// Adds a block on the one of a place, and gives its own; none, where there is no such block.
+    pub fn add(&mut self, parent: usize, block: TreeBlock) -> Result<Option<usize>, AllocError> {
+        let place = self.nodes.len();
+        let Some(below) = self.nodes.get(parent) else {
+            return Ok(None);
+        };
+        let before = below.last_child;
+        let height = below.height.saturating_add(1);
+        self.nodes.push(Node::new(block, height))?;
+        if let Some(below) = self.nodes.get_mut(parent) {
+            below.last_child = Some(place);
+            if before.is_none() {
+                below.first_child = Some(place);
+            }
+        }
+        if let Some(sibling) = before.and_then(|before| self.nodes.get_mut(before)) {
+            sibling.next_sibling = Some(place);
+        }
+        Ok(Some(place))
+    }
+
+    /// How many blocks there are.
+    pub fn len(&self) -> usize {
+        self.nodes.len()
+    }
+
+    pub(crate) fn node(&self, place: usize) -> Option<&Node> {
+        self.nodes.get(place)
+    }
+
+    /// The places of the blocks on the one of a place, as they came.
+    pub(crate) fn children(&self, alloc: Global, place: usize) -> Result<Vec<usize>, AllocError> {
+        let mut children = Vec::new(alloc);
+        let mut next = self.node(place).and_then(|node| node.first_child);
+        for _ in 0..self.nodes.len() {
+            let Some(child) = next else {
+                break;
+            };
+            children.push(child)?;
+            next = self.node(child).and_then(|node| node.next_sibling);
+        }
+        Ok(children)
+    }
+}
+
+impl Node {
+    fn new(block: TreeBlock, height: usize) -> Node {
+        Node {
+            block,
+            height,
+            first_child: None,
+            last_child: None,
+            next_sibling: None,
+        }
+    }
+}

@@ -1,0 +1,105 @@
+//! The block tree of a history, as it is shown and as a picture.
+
+use crate::fault::Fault;
+use crate::files::{print, read_scenario};
+use crate::history_tree::history_tree;
+use crate::options::{Saved, TreeOptions};
+use crate::replay::{Replay, read_replay};
+use crate::text::{Text, read_definitions};
+use curve::Table;
+use picture::{BlockTree, to_svg, to_text};
+use std::fs::File;
+use std::io::{Error, ErrorKind, Read, Write};
+use std::rt::Files;
+use std::{fs, io};
+
+/// Shows the block tree that a saved journal leads to, with the names that a scenario gives.
+pub fn draw_saved<'w, R, I, O>(
+    rt: &R,
+    options: &TreeOptions<'w>,
+    input: &mut I,
+    out: &mut O,
+) -> Result<(), Fault<'w>>
+where
+    R: Files<File = File> + AllocGlobal,
+    I: Read,
+    O: Write,
+{
+    let alloc = rt.alloc();
+    let scenario = match options.scenario {
+        Some(file) => Some(read_scenario(rt, file, input)?),
+        None => None,
+    };
+    let Replay {
+        params,
+        table,
+        commands,
+        ..
+    } = read_replay(rt, &Saved::Folder(options.saved), usize::MAX)?;
+    let definitions = match &scenario {
+        Some(text) => {
+            let Text { definitions, .. } = read_definitions(
+                alloc,
+                text.as_slice(),
+                Table::new(alloc),
+            )?;
+            Some(definitions)
+        }
+        None => None,
+    };
+    check_picture(rt, options.svg)?;
+    let tree = history_tree(
+        alloc,
+        &params,
+        commands.as_slice(),
+        &table,
+        definitions.as_ref(),
+    )?;
+    print(out, to_text(alloc, &tree)?.as_str())?;
+    write_picture(rt, options.svg, &tree)
+}
+
+/// Refuses a file that can't be a picture's, before the work: a folder, or one in no folder.
+pub fn check_picture<'w, R: Files>(rt: &R, file: Option<&'w str>) -> Result<(), Fault<'w>> {
+    let Some(file) = file else {
+        return Ok(());
+    };
+    match check_is_writable(rt, file) {
+        Ok(()) => Ok(()),
+        Err(error) => Err(Fault::CannotWrite(file, error)),
+    }
+}
+
+fn check_is_writable<R: Files>(rt: &R, file: &str) -> io::Result<()> {
+    if let Some((folder, _)) = file.rsplit_once('/') {
+        let folder = if folder.is_empty() { "/" } else { folder };
+        if !fs::metadata(rt, folder)?.is_dir() {
+            return Err(Error::new(ErrorKind::NotADirectory, "Not a directory"));
+        }
+    }
+    match fs::metadata(rt, file) {
+        Ok(found) if found.is_dir() => {
+            Err(Error::new(ErrorKind::IsADirectory, "Is a directory"))
+        }
+        _ => Ok(()),
+    }
+}
+
+/// Writes a picture of a tree, where one is asked for.
+pub fn write_picture<'w, R>(
+    rt: &R,
+    file: Option<&'w str>,
+    tree: &BlockTree,
+) -> Result<(), Fault<'w>>
+where
+    R: Files + AllocGlobal,
+{
+    let Some(file) = file else {
+        return Ok(());
+    };
+    let picture = to_svg(rt.alloc(), tree)?;
+    match fs::write(rt, file, picture.as_bytes()) {
+        Ok(()) => Ok(()),
+        Err(error) => Err(Fault::CannotWrite(file, error)),
+    }
+}

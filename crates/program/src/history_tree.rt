@@ -1,0 +1,170 @@
+//! The block tree that a history leads to.
+
+use crate::fault::Fault;
+use block::GENESIS_ID;
+use curve::Table;
+use hash::Id;
+use journal::{ReplayedState, replayed_state};
+use node::{Bytes, Command, Params, Reply, SubmitReply};
+use picture::{BlockTree, Status, TreeBlock};
+use scenario::{Definitions, Label};
+use std::alloc::{AllocError, Global};
+use std::collections::BTreeMap;
+
+/// So many digits stand for a block without a name.
+const DIGITS: usize = 8;
+
+/// A block that was submitted, and the one that it stands on.
+#[derive(Clone, Copy)]
+struct Submitted {
+    id: Id,
+    prev: Id,
+}
+
+/// A block that is kept.
+#[derive(Clone, Copy)]
+struct Kept {
+    id: Id,
+    /// The place of the block that it stands on.
+    parent: usize,
+    status: Status,
+}
+
+/// The tree after these commands, with the names that a scenario gives.
+///
+/// What is known of a block is asked by its submission once more, at a moment at which no new block is accepted.
+pub fn history_tree(
+    alloc: Global,
+    params: &Params,
+    commands: &[Command],
+    table: &Table,
+    definitions: Option<&Definitions>,
+) -> Result<BlockTree, Fault<'static>> {
+    let mut submitted = Vec::new(alloc);
+    let mut questions = Vec::new(alloc);
+    for command in commands {
+        if let Command::Submit(bytes, _) = command {
+            let block = block::read(alloc, bytes.as_slice())?;
+            submitted.push(Submitted {
+                id: block.id(),
+                prev: block.header.prev,
+            })?;
+            let copy = Vec::from_slice(alloc, bytes.as_slice())?;
+            questions.push(Command::Submit(Bytes::from_vec(alloc, copy)?, 0))?;
+        }
+    }
+    let ReplayedState { best, answers } = replayed_state(
+        alloc,
+        params,
+        commands,
+        questions.as_slice(),
+        table,
+    )?;
+    let mut kept = kept_blocks(alloc, submitted.as_slice(), answers.as_slice())?;
+    set_active(kept.as_mut_slice(), best);
+    Ok(tree_of(alloc, kept.as_slice(), definitions)?)
+}
+
+/// The blocks that are kept, genesis first, each behind the one that it stands on. Of each submission there is the reply
+/// to it when it is made once more.
+fn kept_blocks(
+    alloc: Global,
+    submitted: &[Submitted],
+    answers: &[Reply],
+) -> Result<Vec<Kept>, AllocError> {
+    let mut kept = Vec::new(alloc);
+    kept.push(Kept {
+        id: GENESIS_ID,
+        parent: 0,
+        status: Status::ValidFork,
+    })?;
+    let mut places = BTreeMap::new(alloc);
+    places.insert(GENESIS_ID, 0usize)?;
+    for (submitted, answer) in submitted.iter().zip(answers) {
+        if places.contains_key(&submitted.id) {
+            continue;
+        }
+        let parent = places.get(&submitted.prev).copied();
+        if let (Some(status), Some(parent)) = (status_of(answer), parent) {
+            places.insert(submitted.id, kept.len())?;
+            kept.push(Kept {
+                id: submitted.id,
+                parent,
+                status,
+            })?;
+        }
+    }
+    Ok(kept)
+}
+
+/// What is known of a block, by the reply to its submission once more; none where it isn't kept.
+fn status_of(answer: &Reply) -> Option<Status> {
+    match answer {
+        Reply::Submit(SubmitReply::Duplicate) => Some(Status::ValidFork),
+        Reply::Submit(SubmitReply::DuplicateInvalid) => Some(Status::Invalid),
+        Reply::Submit(SubmitReply::DuplicateInconclusive) => Some(Status::ValidHeaders),
+        _ => None,
+    }
+}
+
+/// Makes the blocks of this one's branch active.
+fn set_active(kept: &mut [Kept], best: Id) {
+    let mut place = kept
+        .iter()
+        .position(|block| block.id == best)
+        .unwrap_or_default();
+    for _ in 0..kept.len() {
+        let Some(block) = kept.get_mut(place) else {
+            return;
+        };
+        block.status = Status::Active;
+        if place == 0 {
+            return;
+        }
+        place = block.parent;
+    }
+}
+
+/// The tree of these blocks. One is marked itself where it is invalid, and the one that it stands on isn't.
+fn tree_of(
+    alloc: Global,
+    kept: &[Kept],
+    definitions: Option<&Definitions>,
+) -> Result<BlockTree, AllocError> {
+    let genesis = TreeBlock {
+        label: label_of(alloc, GENESIS_ID, definitions)?,
+        status: Status::Active,
+        is_marked: false,
+    };
+    let mut tree = BlockTree::new(alloc, genesis)?;
+    for block in kept.iter().skip(1) {
+        let below = kept.get(block.parent).map(|below| below.status);
+        let is_marked = block.status == Status::Invalid && below != Some(Status::Invalid);
+        let label = label_of(alloc, block.id, definitions)?;
+        let _ = tree.add(
+            block.parent,
+            TreeBlock {
+                label,
+                status: block.status,
+                is_marked,
+            },
+        )?;
+    }
+    Ok(tree)
+}
+
+/// The name of a block, or the first of its id's digits.
+fn label_of(
+    alloc: Global,
+    id: Id,
+    definitions: Option<&Definitions>,
+) -> Result<String, AllocError> {
+    if let Some(Label::Name(name)) = definitions.map(|definitions| definitions.label(id)) {
+        return String::from_str(alloc, name);
+    }
+    let digits = id.to_string(alloc)?;
+    match digits.as_str().get(..DIGITS) {
+        Some(front) if id != GENESIS_ID => format!(in alloc; "{front}…"),
+        _ => String::from_str(alloc, "genesis"),
+    }
+}

@@ -1,0 +1,192 @@
+//! What was saved of a run, read to be replayed.
+
+use crate::fault::Fault;
+use crate::files::{read_file, read_table};
+use crate::options::Saved;
+use crate::saving::{SavedFiles, read_saved};
+use block::ReadFault;
+use curve::Table;
+use hash::Id;
+use journal::{Asked, Records, Step, read_heights, read_journal, read_records};
+use node::{Bytes, Command, Params, Reply};
+use std::alloc::Global;
+use std::fs::File;
+use std::rt::Files;
+use std::{str, vec};
+
+/// How a run was made, what was asked, in order, and the replies that were recorded.
+#[derive(Drop)]
+pub struct Replay {
+    pub params: Params,
+    pub table: Table,
+    pub commands: Vec<Command>,
+    pub recorded: Vec<Option<Reply>>,
+    /// How many of the commands are submissions.
+    pub blocks: usize,
+}
+
+/// What was saved of a run.
+#[derive(Drop)]
+struct Inputs {
+    params: Params,
+    journal: Vec<u8>,
+    blk: Vec<u8>,
+    table: Table,
+}
+
+/// What so many lines of a saved journal ask, at most. Where there are more, records of theirs aren't looked at.
+pub fn read_replay<'w, R>(rt: &R, saved: &Saved<'w>, limit: usize) -> Result<Replay, Fault<'w>>
+where
+    R: Files<File = File> + AllocGlobal,
+{
+    let alloc = rt.alloc();
+    let Inputs {
+        params,
+        journal,
+        blk,
+        table,
+    } = read_inputs(rt, saved)?;
+    let front = first_lines(journal.as_slice(), limit);
+    let steps = read_journal(alloc, front)?;
+    let records = if front.len() < journal.len() {
+        first_records(alloc, blk.as_slice(), submissions(steps.as_slice()))?
+    } else {
+        read_records(alloc, blk.as_slice())?
+    };
+    let mut replay = Replay {
+        params,
+        table,
+        commands: Vec::new(alloc),
+        recorded: Vec::new(alloc),
+        blocks: records.len(),
+    };
+    add_steps(alloc, steps.as_slice(), records, &mut replay)?;
+    Ok(replay)
+}
+
+/// The files of an audit, in the order in which one that can't be read is told.
+fn read_inputs<'w, R>(rt: &R, saved: &Saved<'w>) -> Result<Inputs, Fault<'w>>
+where
+    R: Files<File = File> + AllocGlobal,
+{
+    match saved {
+        Saved::Folder(folder) => read_folder(rt, folder),
+        Saved::Files {
+            journal,
+            blk,
+            table,
+            heights,
+        } => {
+            let params = read_heights(heights).ok_or(Fault::Heights)?;
+            let journal = read_file(rt, journal)?;
+            let blk = read_file(rt, blk)?;
+            let table = match table {
+                Some(file) => read_table(rt.alloc(), Some(read_file(rt, file)?.as_slice()))?,
+                None => read_table(rt.alloc(), None)?,
+            };
+            Ok(Inputs {
+                params,
+                journal,
+                blk,
+                table,
+            })
+        }
+    }
+}
+
+/// The four files that a run saved.
+fn read_folder<'w, R>(rt: &R, folder: &'w str) -> Result<Inputs, Fault<'w>>
+where
+    R: Files<File = File> + AllocGlobal,
+{
+    let SavedFiles {
+        journal,
+        blocks,
+        table,
+        heights,
+    } = read_saved(rt, folder)?;
+    let word = str::from_utf8(heights.as_slice()).unwrap_or("");
+    let params = read_heights(word.strip_suffix('\n').unwrap_or(word)).ok_or(Fault::Heights)?;
+    let table = read_table(rt.alloc(), Some(table.as_slice()))?;
+    Ok(Inputs {
+        params,
+        journal,
+        blk: blocks,
+        table,
+    })
+}
+
+/// So many lines of a text, or all where it has fewer.
+fn first_lines(text: &[u8], count: usize) -> &[u8] {
+    let mut left = count;
+    for (place, byte) in text.iter().enumerate() {
+        if left == 0 {
+            return text.get(..place).unwrap_or(text);
+        }
+        if *byte == b'\n' {
+            left -= 1;
+        }
+    }
+    text
+}
+
+/// So many records of a blk file, or all where it has fewer.
+fn first_records(alloc: Global, blk: &[u8], count: usize) -> Result<Vec<Vec<u8>>, Fault<'static>> {
+    let mut records = Records::new(alloc, blk);
+    let mut first = Vec::new(alloc);
+    for _ in 0..count {
+        let Some(record) = records.next()? else {
+            break;
+        };
+        first.push(record)?;
+    }
+    Ok(first)
+}
+
+/// How many of these steps are submissions.
+fn submissions(steps: &[Step<'_, Id>]) -> usize {
+    let is_submission = |step: &&Step<'_, Id>| matches!(step.asked, Asked::Submit(_));
+    steps.iter().filter(is_submission).count()
+}
+
+/// Adds what a journal's steps ask, each submission of its record.
+fn add_steps(
+    alloc: Global,
+    steps: &[Step<'_, Id>],
+    records: Vec<Vec<u8>>,
+    replay: &mut Replay,
+) -> Result<(), Fault<'static>> {
+    if submissions(steps) != records.len() {
+        return Err(Fault::BlkRecords);
+    }
+    let mut records = records.into_iter();
+    for step in steps {
+        replay
+            .commands
+            .push(command_of(alloc, step, &mut records)?)?;
+        replay.recorded.push(step.reply)?;
+    }
+    Ok(())
+}
+
+/// The command of a step. A submission takes the next of the records, whose id must be the step's.
+fn command_of(
+    alloc: Global,
+    step: &Step<'_, Id>,
+    records: &mut vec::IntoIter<Vec<u8>>,
+) -> Result<Command, Fault<'static>> {
+    Ok(match step.asked {
+        Asked::Invalidate => Command::Invalidate(step.block),
+        Asked::Reconsider => Command::Reconsider(step.block),
+        Asked::Precious => Command::Precious(step.block),
+        Asked::Submit(now) => {
+            let record = records.next().ok_or(Fault::BlkRecords)?;
+            match block::read(alloc, record.as_slice()) {
+                Ok(block) if block.id() == step.block => {}
+                Err(ReadFault::Memory) => return Err(Fault::Memory),
+                _ => return Err(Fault::OtherRecord(step.number)),
+            }
+            Command::Submit(Bytes::from_vec(alloc, record)?, now)
+        }
+    })
+}
