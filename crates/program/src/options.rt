@@ -258,7 +258,7 @@ fn audit_command<'w>(alloc: Global) -> Result<Command<'w>, AllocError> {
     let lines = value(alloc, "to", "N", "Looks at the first N lines");
     Command::new(alloc, "audit")
         .about("Replays a journal by the definition, and compares the replies")
-        .arg(saved(alloc)?.conflicts_with("journal")?)?
+        .arg(saved_folder(alloc)?.conflicts_with("journal")?)?
         .arg(unless_saved(value(alloc, "journal", "F", "The journal.txt of a run"))?)?
         .arg(unless_saved(value(alloc, "blk", "F", "Its blocks.blk"))?)?
         .arg(table(alloc))?
@@ -277,7 +277,7 @@ fn tree_command<'w>(alloc: Global) -> Result<Command<'w>, AllocError> {
     Command::new(alloc, "tree")
         .about("Shows the block tree that a scenario or a saved journal leads to")
         .arg(scenario)?
-        .arg(saved(alloc)?)?
+        .arg(saved_folder(alloc)?)?
         .arg(value(alloc, "blk", "F", blk))?
         .arg(table(alloc))?
         .arg(heights(alloc))?
@@ -285,7 +285,7 @@ fn tree_command<'w>(alloc: Global) -> Result<Command<'w>, AllocError> {
 }
 
 /// The folder of a run, beside which there is no other file of one.
-fn saved<'w>(alloc: Global) -> Result<Arg<'w>, AllocError> {
+fn saved_folder<'w>(alloc: Global) -> Result<Arg<'w>, AllocError> {
     value(alloc, "saved", "D", "The folder of a run's --save")
         .conflicts_with("blk")?
         .conflicts_with("table")?
