@@ -8,8 +8,8 @@ mod heights;
 mod quick;
 mod recorded;
 mod records;
-mod replayed_state;
 mod replies;
+mod state_replay;
 mod step;
 
 pub use difference::{Refuted, Replayer, first_refuted};
@@ -18,5 +18,5 @@ pub use finding::Finding;
 pub use heights::read_heights;
 pub use recorded::read_journal;
 pub use records::{RecordFault, Records, blk_file, read_records};
-pub use replayed_state::{ReplayedState, replayed_state};
+pub use state_replay::{ReplayedState, replayed_state};
 pub use step::{Asked, Step, block_of};

@@ -7,8 +7,10 @@ genesis alone): the call, the HTTP status, the code and the text.
 import json
 import os
 import shutil
+import socket
 import subprocess
 import tempfile
+import time
 import unittest
 
 from blocks import Maker, block_id, spend
@@ -177,75 +179,45 @@ class MarksTest(CallsTest):
         )
 
 
-class FeatureBlockTest(CallsTest):
-    """Steps of Bitcoin Core's feature_block, by the names that the blocks have there."""
-
+class StopTest(unittest.TestCase):
     def setUp(self):
-        super().setUp()
-        self.call("setmocktime", GENESIS.time + 600 * 200)
-        self.spendable = []
-        for block in self.maker.chain(110):
-            self.submit(block)
-            self.spendable.append(self.maker.coinbases[block_id(block)].id)
-        self.tip = block_id(block)
+        self.running = Running()
+        self.addCleanup(self.running.stop)
 
-    def spending(self, place, value=5000000000, script=b"\x51"):
-        return spend(self.spendable[place], 0, value, b"", to=script)
+    def expect_stopped(self, begun, least, most):
+        """The server ends by itself, so many seconds after a moment, and answers no more."""
+        self.running.thread.join(10)
+        self.assertFalse(self.running.thread.is_alive())
+        self.assertTrue(least <= time.monotonic() - begun < most)
+        with self.assertRaises(OSError):
+            socket.create_connection(("127.0.0.1", self.running.port), 1).close()
 
-    def sent(self, parent, transactions=(), reply=None, best=None, **words):
-        """Submits a block, expects a reply, and answers the block's id."""
-        block = self.maker.block(parent, transactions, **words)
-        self.assertEqual(self.submit(block), reply)
-        if best is not None:
-            self.assertEqual(self.call("getbestblockhash"), show(block_id(block) if best is True else best))
-        return block_id(block)
+    def test_at_once(self):
+        begun = time.monotonic()
+        self.assertEqual(self.running.call("stop"), "Wakotehu stopping")
+        self.expect_stopped(begun, 0, 2)
 
-    def test_forks_and_double_spends(self):
-        b1 = self.sent(self.tip, [self.spending(0)], best=True, extra=b"1")
-        b2 = self.sent(b1, [self.spending(1)], best=True, extra=b"2")
-        b3 = self.sent(b1, [self.spending(1)], "inconclusive", best=b2, extra=b"3")
-        b4 = self.sent(b3, [self.spending(2)], best=True, extra=b"4")
-        b5 = self.sent(b2, [self.spending(2)], "inconclusive", best=b4, extra=b"5")
-        b6 = self.sent(b5, [self.spending(3)], best=True, extra=b"6")
-        # b7 and b8 spend a coin twice on a branch that isn't active: b8 is seen when it would be.
-        b7 = self.sent(b5, [self.spending(2)], "inconclusive", best=b6, extra=b"7")
-        self.sent(b7, [self.spending(4)], "inconclusive", best=b6, extra=b"8")
-        # b9 makes one more than it may.
-        self.sent(b6, [self.spending(4)], "bad-cb-amount", best=b6, extra=b"9", more=1)
-        # b10 and b11: that on a fork, seen when it is the longest.
-        b10 = self.sent(b5, [self.spending(3)], "inconclusive", best=b6, extra=b"10")
-        self.sent(b10, [self.spending(4)], "bad-cb-amount", best=b6, extra=b"11", more=1)
+    def test_after_a_while(self):
+        """The answer comes at once, and until the server ends each call is told so."""
+        begun = time.monotonic()
+        self.assertEqual(self.running.call("stop", 1500), "Wakotehu stopping")
+        self.assertLess(time.monotonic() - begun, 1)
+        self.assertTrue(self.running.thread.is_alive())
+        self.assertEqual(self.running.call("getblockcount"), {"code": -1, "message": "The server is stopping"})
+        self.expect_stopped(begun, 1.5, 4)
 
-    def test_blocks_by_themselves(self):
-        def refused(reason, transactions):
-            self.sent(self.tip, transactions, reason, best=self.tip, extra=reason.encode())
+    def test_by_name(self):
+        begun = time.monotonic()
+        self.assertEqual(self.running.call("stop", wait=300), "Wakotehu stopping")
+        self.expect_stopped(begun, 0.3, 3)
 
-        tx = self.spending(0)
-        refused("bad-blk-sigops", [self.spending(0, script=b"\xac" * 20001)])
-        refused("bad-txns-inputs-missingorspent", [spend(b"\x11" * 32, 0, 1, b"")])
-        refused("bad-txns-premature-spend-of-coinbase", [self.spending(-1)])
-        refused("bad-txns-in-belowout", [self.spending(0, value=5000000001)])
-        refused("bad-txns-vin-empty", [tx._replace(inputs=[])])
-        refused("bad-txns-vout-empty", [tx._replace(outputs=[])])
-        refused("bad-txns-inputs-duplicate", [tx._replace(inputs=tx.inputs * 2)])
-        refused("bad-txns-nonfinal", [tx._replace(lock_time=0xFFFFFFFF, inputs=[tx.inputs[0]._replace(sequence=0)])])
-        refused("bad-txns-vout-negative", [self.spending(0, value=-1)])
-        refused("bad-txns-vout-toolarge", [self.spending(0, value=21000000 * 100000000 + 1)])
-        refused("bad-cb-multiple", [self.maker.coinbases[self.tip]])
-        refused("blk-bad-inputs", [tx._replace(inputs=[tx.inputs[0]._replace(script=b"\x6a")])])
-        block = self.maker.block(self.tip, [tx])
-        self.assertEqual(self.submit(block[:80] + b"\3" + block[81:] + write_transaction(tx)), "bad-txnmrklroot")
-        self.assertIsNone(self.submit(block))
-
-    def test_a_mutated_block_leaves_the_right_one_valid(self):
-        # CVE-2012-2459: the last transactions are repeated, so the root is the same.
-        first = self.spending(0)
-        second = spend(first.id, 0, 5000000000, b"")
-        block = self.maker.block(self.tip, [first, second])
-        again = block[:80] + b"\4" + block[81:] + write_transaction(second)
-        self.assertEqual(self.submit(again), "bad-txns-duplicate")
-        self.assertIsNone(self.submit(block))
-        self.assertEqual(self.call("getblock", show(block_id(block)), 0), block.hex())
+    def test_what_is_no_time(self):
+        """The server goes on."""
+        for wait in ("1", True, [], {}, 2**40, 1.5):
+            error = self.running.call("stop", wait)
+            self.assertIn(error["code"], (-1, -3), error)
+        self.assertIn("stop", self.running.call("stop", 1, 2)["message"])
+        self.assertEqual(self.running.call("getblockcount"), 0)
 
 
 class ShownTest(CallsTest):
