@@ -116,14 +116,13 @@ where
     Ok(())
 }
 
-/// Locks a folder, in which no other run saves then. One that does isn't waited for; audits that read are.
+/// Locks a folder, in which no other run saves then. One that does isn't waited for; audits that read are. On a file
+/// system that has no locks for folders it is opened alone.
 fn lock<R: Files<File = File>>(rt: &R, folder: &str) -> io::Result<File> {
     check_is_folder(rt, folder)?;
     let file = fs::open(rt, folder)?;
-    match file.try_lock() {
-        Ok(()) => return Ok(file),
-        Err(TryLockError::Error(error)) => return Err(error),
-        Err(TryLockError::WouldBlock) => {}
+    if !matches!(file.try_lock(), Err(TryLockError::WouldBlock)) {
+        return Ok(file);
     }
     if file.try_lock_shared().is_err() {
         let busy = "another run saves into the folder";
@@ -262,6 +261,9 @@ where
     R: Files<File = File> + AllocGlobal,
 {
     let places = Places::new(rt.alloc(), folder)?;
+    if let Err(error) = check_is_folder(rt, folder) {
+        return Err(Fault::CannotOpen(folder, JOURNAL, error));
+    }
     // Where there are no locks it is read without one.
     let _lock = lock_to_read(rt, folder);
     let is_decided = !stands(rt, places.journal.new.as_str());
@@ -274,7 +276,6 @@ where
 }
 
 fn lock_to_read<R: Files<File = File>>(rt: &R, folder: &str) -> io::Result<File> {
-    check_is_folder(rt, folder)?;
     let file = fs::open(rt, folder)?;
     file.lock_shared()?;
     Ok(file)

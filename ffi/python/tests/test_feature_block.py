@@ -1,9 +1,8 @@
 """The steps of Bitcoin Core's functional test feature_block, written anew, by the names that its blocks have there.
 
 What differs: outputs are spent by the script 51, so no block needs a signature; there is no mempool, so of the steps
-about it what the chain shows is tested; refusals are told at `submitblock`, where the reason of a block on a branch that
-isn't active is told of the block that would make it so (see docs/CORE.md); and blocks are small where their size isn't
-the step.
+about it what the chain shows is tested; and there are no peers, so blocks come by `submitblock`, which tells what is found
+of the block itself: where one below it fails it is `inconclusive`, there as here.
 """
 
 import hashlib
