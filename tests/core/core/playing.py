@@ -3,14 +3,14 @@
 import subprocess
 import tempfile
 from pathlib import Path
-from typing import Callable, Dict, Iterable, List, NamedTuple, Optional, Sequence, Tuple
+from typing import Dict, List, NamedTuple, Optional, Sequence, Tuple
 
-from wakotehu import Chainstate
-from wakotehu.encoding import GENESIS, double_sha, write_transaction
+from wakotehu import Chainstate, consensus
+from wakotehu.encoding import GENESIS
 from wakotehu.rpc.blockchain import coins_hash
 
 from .model import BY_ITSELF, COINS, HEADER, PLACE, CoreTree, Unclear, Verdict
-from .peer import HEIGHTS, Peer, PeerError
+from .peer import HEIGHTS, Peer
 from .spelling import ROOT, Chain, ours, theirs
 from .trees import Command, List_
 
@@ -154,7 +154,7 @@ def run_program(program: str, lines: Lines, scenario: str) -> List[str]:
     with tempfile.TemporaryDirectory() as room:
         file, table = Path(room, "scenario"), Path(room, "table")
         file.write_text(scenario)
-        table.write_text("".join(line + "\n" for line in list_.table))
+        table.write_text(table_of(list_))
         heights = ",".join(map(str, HEIGHTS))
         command = [program, "run", "--scenario", file, "--table", table, "--heights", heights]
         done = subprocess.run(command, stdout=subprocess.PIPE, stderr=subprocess.PIPE)
@@ -196,12 +196,11 @@ def _read_coin(text: str) -> Read:
 # ---- ours, by the library
 
 
-def play_library(lines: Lines, best_of_peer: bytes) -> Played:
-    """What the library answers after each command, and the coins at the end as the peer hashes them."""
+def play_library(lines: Lines, heights: Sequence[int] = HEIGHTS) -> List[Seen]:
+    """What the library answers after each command."""
     list_ = lines.list
-    table = "".join(line + "\n" for line in list_.table)
-    with Chainstate(HEIGHTS, table) as chain:
-        _lay_base(chain, lines)
+    with Chainstate(heights, table_of(list_)) as chain:
+        lay_base(chain, lines)
         seen = []
         for step, command in enumerate(list_.commands):
             id, data = lines.ours.spell(list_.blocks, command.block)
@@ -210,11 +209,31 @@ def play_library(lines: Lines, best_of_peer: bytes) -> Played:
             else:
                 reply = chain.try_mark(command.word, id)
             seen.append(_look_at_library(chain, lines, word(reply.text), asked(list_, step)))
+        return seen
+
+
+def coins_at(lines: Lines, best: int) -> Tuple[int, str]:
+    """The coins that the branch of a block leaves, by the library: how many, and their hash over its id at the peer."""
+    list_ = lines.list
+    path, at = [], best
+    while at >= list_.base:
+        path.append(at)
+        at = list_.blocks[at].parent
+    with Chainstate(HEIGHTS, table_of(list_)) as chain:
+        lay_base(chain, lines)
+        for block in reversed(path):
+            chain.submit(lines.ours.spell(list_.blocks, block)[1], 2**32 - 1)
         coins = sorted(chain.coins(), key=lambda it: it[:2])
-        return Played(seen, (len(coins), coins_hash(best_of_peer, coins)[::-1].hex()))
+    top = best if best >= list_.base else list_.base - 1 if list_.base else ROOT
+    return len(coins), coins_hash(lines.theirs.id(list_.blocks, top), coins)[::-1].hex()
 
 
-def _lay_base(chain: Chainstate, lines: Lines) -> None:
+def table_of(list_: List_) -> str:
+    """The signatures of a list that are valid, as a table's lines."""
+    return "".join(line + "\n" for line in list_.table)
+
+
+def lay_base(chain: Chainstate, lines: Lines) -> None:
     for number in range(lines.list.base):
         chain.submit(lines.ours.spell(lines.list.blocks, number)[1], 2**32 - 1)
 
@@ -232,66 +251,61 @@ def _look_at_library(chain: Chainstate, lines: Lines, reply: str, outs: Sequence
 # ---- what Bitcoin Core's bookkeeping makes of our verdicts
 
 
-#: What ours makes of blocks that stand on one another: of each its reply, and whether it is kept.
-Judge = Callable[[Lines, Sequence[int]], List[Tuple[str, bool]]]
-
-
-def judge_by_library(lines: Lines, path: Sequence[int]) -> List[Tuple[str, bool]]:
-    """The branch alone, from the base on."""
-    with Chainstate(HEIGHTS, "".join(line + "\n" for line in lines.list.table)) as chain:
-        _lay_base(chain, lines)
-        found = []
-        for block in path:
-            id, data = lines.ours.spell(lines.list.blocks, block)
-            reply = chain.try_submit(data, 2**32 - 1)
-            found.append((word(reply.text), chain.is_kept(id)))
-        return found
-
-
-def judge_by_program(program: str) -> Judge:
-    """The same; a block that isn't kept can't be preferred."""
-
-    def judge(lines: Lines, path: Sequence[int]) -> List[Tuple[str, bool]]:
-        commands = [Command(w, block, 2**32 - 1) for block in path for w in ("submit", "precious")]
-        answers = run_program(program, lines, write_scenario(lines, commands, with_reads=False))
-        return [(word(reply), kept == "done") for reply, kept in zip(answers[::2], answers[1::2])]
-
-    return judge
-
-
 class Verdicts:
-    """Of each block the first rule that it breaks on its own branch."""
+    """Of each block the first rule that it breaks on its own branch, by the library: by itself and by its place from what
+    it is, and over the coins of its branch by that branch alone, from the base on."""
 
-    def __init__(self, lines: Lines, judge: Judge) -> None:
-        self.lines, self.judge = lines, judge
+    def __init__(self, lines: Lines, heights: Sequence[int] = HEIGHTS) -> None:
+        self.lines, self.heights = lines, heights
         self.found: Dict[int, Verdict] = {}
+        self.over_coins: Dict[int, str] = {}
 
     def __call__(self, number: int) -> Verdict:
         if number not in self.found:
-            self._find(number)
+            self.found[number] = self._find(number)
         return self.found[number]
 
-    def _find(self, number: int) -> None:
-        list_ = self.lines.list
+    def _find(self, number: int) -> Verdict:
+        data = self.lines.ours.spell(self.lines.list.blocks, number)[1]
+        reason = consensus.block(data).reason
+        if reason:
+            return Verdict(reason, BY_ITSELF)
+        height, median = self._place(number)
+        reason = word(consensus.block_place(data, height, median, 2**32 - 1, self.heights))
+        if reason:
+            return Verdict(reason, HEADER if reason in HEADER_REASONS else PLACE)
+        if number not in self.over_coins:
+            self._try(number)
+        reason = self.over_coins.get(number, "")
+        return Verdict(reason, COINS if reason else 0)
+
+    def _place(self, number: int) -> Tuple[int, int]:
+        """The height of a block, and the median time past of its parent."""
+        blocks, height, times = self.lines.list.blocks, 0, []
+        at = number
+        while at != ROOT:
+            height += 1
+            at = blocks[at].parent
+            if len(times) < 11:
+                times.append(GENESIS.time if at == ROOT else blocks[at].time)
+        return height, sorted(times)[len(times) // 2]
+
+    def _try(self, number: int) -> None:
+        list_, lines = self.lines.list, self.lines
         path = []
         at = number
         while at >= list_.base:
             path.append(at)
             at = list_.blocks[at].parent
-        path.reverse()
-        for block, (reason, is_kept) in zip(path, self.judge(self.lines, path)):
-            self.found.setdefault(block, self._verdict(reason, is_kept))
-
-    @staticmethod
-    def _verdict(reason: str, is_kept: bool) -> Verdict:
-        # On a block that breaks a rule none is tried; only what it is by itself is known then.
-        if reason in ("accepted", "prev-blk-not-found", "bad-prevblk"):
-            return Verdict("", 0)
-        if is_kept:
-            return Verdict(reason, COINS)
-        if reason in HEADER_REASONS:
-            return Verdict(reason, HEADER)
-        return Verdict(reason, PLACE if reason in ("bad-txns-nonfinal", "bad-cb-height") else BY_ITSELF)
+        with Chainstate(self.heights, table_of(list_)) as chain:
+            lay_base(chain, lines)
+            for block in reversed(path):
+                reply = chain.try_submit(lines.ours.spell(list_.blocks, block)[1], 2**32 - 1)
+                if reply.text != "accepted":
+                    # On a block that breaks a rule none is tried.
+                    self.over_coins.setdefault(block, word(reply.text))
+                    break
+                self.over_coins.setdefault(block, "")
 
 
 def play_model(lines: Lines, tree: CoreTree) -> List[Optional[Seen]]:

@@ -3,7 +3,7 @@
 import random
 import struct
 from dataclasses import dataclass
-from typing import Callable, Iterator, List, NamedTuple, Sequence, Set, Tuple
+from typing import Callable, Dict, Iterator, List, NamedTuple, Sequence, Set, Tuple
 
 from wakotehu import consensus
 from wakotehu.encoding import (
@@ -12,7 +12,8 @@ from wakotehu.encoding import (
 )  # fmt: skip
 from wakotehu.signatures import Secp256k1, asked
 
-from .spelling import BITS
+from .compare import Bench
+from .spelling import BITS, Logical
 from .trees import FINAL, TRUE
 
 #: Which rules are in force in blocks of a height, by the peer's heights.
@@ -290,3 +291,95 @@ def proposal(pair: Pair, value: int, height: int, time: int, parent: bytes) -> b
     fees = value - sum(out.value for out in pair.tx.outputs)
     txs = [coinbase(height, subsidy(height) + fees), pair.tx]
     return write_block(Block(Header(4, parent, merkle_root([tx.id for tx in txs]), time, BITS, 0), txs))
+
+
+class Disagreement(NamedTuple):
+    """A pair that one accepts and the other doesn't."""
+
+    height: int
+    pair: Pair
+    ours: bool
+    theirs: str
+
+    def __str__(self) -> str:
+        tx = self.pair.tx
+        return (
+            f"at height {self.height} ours {'accepts' if self.ours else 'refuses'}, Core says {self.theirs}\n"
+            f"  spent {self.pair.spent.hex()}\n  transaction {write_transaction(tx).hex()}"
+        )
+
+
+#: Answers that aren't about scripts: the coin isn't there (it can't be spent at all), or a lock of BIP 68 isn't met.
+OTHERS = ("bad-txns-inputs-missingorspent", "bad-txns-nonfinal")
+
+
+@dataclass
+class Pairs:
+    """Pairs over outputs that stand in a block on a bench's base, and what the peer says of each."""
+
+    bench: Bench
+    seed: int
+
+    def __post_init__(self) -> None:
+        self.author = Author(random.Random(self.seed))
+        self.height = self.bench.height + 2
+        self.played: List[Tuple[Pair, str]] = []
+
+    def play(self, count: int) -> None:
+        """So many pairs, over a fifth as many outputs."""
+        outputs = [self.author.output() for _ in range(max(1, count // 5))]
+        for first in range(0, len(outputs), 500):
+            self._play_over(outputs[first : first + 500], 5)
+
+    def _play_over(self, outputs: List[bytes], times: int) -> None:
+        bench = self.bench
+        coin = next(c for c in bench.maker.coins if c.kind == "true")
+        value = coin.value // len(outputs)
+        funding = Transaction(1, [Input(coin.id, coin.index, b"", FINAL)], [Output(value, o) for o in outputs], 0)
+        above = bench.maker.base[-1].time + 600
+        # A coinbase of its own, so that no two blocks are equal.
+        self.seed += 1
+        top = coinbase(bench.height + 1, subsidy(bench.height + 1), TRUE, struct.pack("<I", self.seed))
+        blocks = [*bench.maker.base, Logical(bench.height - 1, above, [top, funding])]
+        id, data = bench.base.theirs.copy().spell(blocks, bench.height)
+        if bench.peer.submit(data) != "accepted":
+            raise RuntimeError("the block with the outputs is refused")
+        pairs = [
+            Pair(o, self.author.spend(o, (funding.id, n), value, self.height, above))
+            for _ in range(times)
+            for n, o in enumerate(outputs)
+        ]
+        for first in range(0, len(pairs), 200):
+            part = pairs[first : first + 200]
+            said = bench.peer.propose([proposal(p, value, self.height, above + 600, id) for p in part])
+            self.played += zip(part, said)
+        bench.peer.mark("invalidate", id)
+
+    def differing(self, accepts: Callable[[Pair], bool]) -> Iterator[Disagreement]:
+        """The pairs of which something else is said."""
+        for pair, said in self.played:
+            if said in OTHERS:
+                continue
+            yes = accepts(pair)
+            if yes != (said == "accepted"):
+                yield Disagreement(self.height, pair, yes, said)
+
+
+def right(height: int, secp: Secp256k1) -> Callable[[Pair], bool]:
+    """What ours says at a height."""
+    return lambda pair: ours(pair, height, secp)
+
+
+def wrong(height: int, secp: Secp256k1) -> Dict[str, Callable[[Pair], bool]]:
+    """What ours would say by wrong rules, each of which has to be found."""
+
+    def by(flags: Set[str], with_table: bool = True) -> Callable[[Pair], bool]:
+        return lambda pair: consensus.verify(
+            write_transaction(pair.tx), 0, pair.spent, flags, table_of(pair, secp) if with_table else b""
+        )
+
+    known = flags_at(height)
+    rules = {f"{name} isn't in force": by(known - {name}) for name in sorted(known)}
+    rules.update({f"{name} is in force": by(known | {name}) for name in sorted(consensus.ALL - known)})
+    rules["no signature is valid"] = by(known, False)
+    return rules

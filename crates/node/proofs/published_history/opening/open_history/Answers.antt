@@ -6,7 +6,7 @@ use Rattle.node.proofs.Cores.{opening_shown}
 use Rattle.node.proofs.published_history.opening.open_history.Goals as goal
 
 pub open_writer-requires-clause-exact : goal.open_writer-requires-clause-exact
-open_writer-requires-clause-exact g c =
+open_writer-requires-clause-exact g c _ _ =
     let t = arc_value c.in_ok-one.one in
     let f = c.in_ok-core.ensures.follows t in
     let n = c.in_ok-info.ensures in
@@ -14,17 +14,6 @@ open_writer-requires-clause-exact g c =
     let first : ViewState = opening_view o c.in_ok-info.info in
     let exact : IsExact first = opening_shown o c.in_ok-core.core c.in_ok-info.info c.in_ok-core.ensures.value f.0 f.1 (n.best t f.0) (n.height t f.0) (n.tips t f.0) in
     subst IsExact (sym c.new-first.ensures) exact
-
-pub publish_opening-requires-clause-exact : goal.publish_opening-requires-clause-exact
-publish_opening-requires-clause-exact g c =
-    let t = arc_value c.in_ok-one.one in
-    let f = c.in_ok-core.ensures.follows t in
-    let n = c.in_ok-info.ensures in
-    let o : Origin = origin c.copy.result.book c.args.params t c.args.seats in
-    let first : ViewState = opening_view o c.in_ok-info.info in
-    let exact : IsExact first = opening_shown o c.in_ok-core.core c.in_ok-info.info c.in_ok-core.ensures.value f.0 f.1 (n.best t f.0) (n.height t f.0) (n.tips t f.0) in
-    let same : c.in_ok-writer.writer.desk.shown.value ≡ first = c.in_ok-writer.ensures.shown ∙ c.new-first.ensures in
-    subst IsExact (sym same) exact
 
 pub new-history-requires-clause-core : goal.new-history-requires-clause-core
 new-history-requires-clause-core g c _ _ =
@@ -42,19 +31,9 @@ new-history-requires-clause-shown g c _ _ =
     let exact : IsExact first = opening_shown o c.in_ok-core.core c.in_ok-info.info c.in_ok-core.ensures.value f.0 f.1 (n.best t f.0) (n.height t f.0) (n.tips t f.0) in
     let triples : t ≡ arc_value c.args.table = search rules in
     let is : o ≡ g.J.Naming.origin = (λ i. origin (c.copy.ensures i).book c.args.params (triples i) c.args.seats) ∙ c.requires.of in
-    let same : c.all_readers.new.writer.desk.shown.value ≡ first =
-    ap (λ d. d.value) (c.in-Some-all_readers.ensures.shown ∙ c.in-Ok.ensures.shown) ∙ c.in-Some.ensures.shown ∙ c.in_ok-writer.ensures.shown ∙ c.new-first.ensures in
+    let same : c.in_ok-open_writer.field-0.desk.shown.value ≡ first = c.in_ok-open_writer.ensures.shown ∙ c.new-first.ensures in
     record {
       origin_is = ap (λ (x : ViewState). x.origin) same ∙ is;
       journal_is = ap (λ (x : ViewState). x.journal) same;
       exact = subst IsExact (sym same) exact;
     }
-
-pub returns-clause-knows : goal.returns-clause-knows
-returns-clause-knows g c =
-    let t = arc_value c.in_ok-one.one in
-    let triples : t ≡ arc_value c.args.table = search rules in
-    let o : Origin = g.J.Naming.origin in
-    let is : c.in_ok-writer.writer.desk.shown.value.origin ≡ o =
-    ap (λ (x : ViewState). x.origin) (c.in_ok-writer.ensures.shown ∙ c.new-first.ensures) ∙ (λ i. origin (c.copy.ensures i).book c.args.params (triples i) c.args.seats) ∙ c.requires.of in
-    c.in-Some-all_readers.ensures.knows o (c.in-Ok.ensures.kept ∙ c.in-Some.ensures.known ∙ ap Some is)

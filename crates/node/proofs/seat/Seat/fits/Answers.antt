@@ -14,12 +14,10 @@ returns-clause-standing g c equal =
     let place = s.answered in
     let f = c.in-Some.ensures.found in
     let shown : c.journal.result.now ≡ c.in-Some._found.entries = c.journal.ensures ∙ ap (λ v. v.journal) c.get.ensures ∙ sym f.entries_are in
-    let view : IsPrefix c.in-Some._found.entries journal = subst (λ (l : List Entry). IsPrefix l journal) shown (c.begins-is_beginning.ensures c.if-not-is_beginning.false) in
-    let whole : IsPrefix c.args.self.now.seen journal = begins_whole _ _ _ f.grows view in
-    let same = c.self.view_is ∙ c.stay.ensures.same ∙ c.enter.ensures.same in
-    let begins : IsPrefix s.seen.entries journal = subst (λ (p : Pass). IsPrefix p.seen journal) (sym same) whole in
+    let view : IsPrefix c.in-Some._found.entries journal = subst (λ (l : List Entry). IsPrefix l journal) shown (c.begins-is_beginning.ensures.0 c.if-not-is_beginning.false) in
+    let begins : IsPrefix s.seen.entries journal = begins_whole _ _ _ f.grows view in
     let all : take (length journal - place) (drop place journal) ≡ drop place journal = take_all _ (drop place journal) (omega (arith, length-drop place journal)) in
     let m = c.number.result in
-    let asked : own_of m (drop place journal) ≡ map (owed_entry m) s.owed.items = ap (own_of m) (sym all) ∙ c.own_are.ensures equal ∙ ap (map (owed_entry m)) c.as_slice.ensures.value in
+    let asked : own_of m (drop place journal) ≡ map (owed_entry m) s.owed.items = ap (own_of m) (sym all) ∙ c.own_are.ensures.0 equal ∙ ap (map (owed_entry m)) c.as_slice.ensures.value in
     let rest : own_of n (drop place journal) ≡ map (owed_entry n) s.owed.items = subst (λ (k : ℕ). own_of k (drop place journal) ≡ map (owed_entry k) s.owed.items) c.number.ensures.is asked in
-    subst (λ (p : Pass). IsStanding journal p) same (record { begins = begins; own = own_all n place s.seen.entries journal s.owed.items c.self.invariant.1 begins rest })
+    subst (λ (p : Pass). IsStanding journal p) c.self.view_is (record { begins = begins; own = own_all n place s.seen.entries journal s.owed.items c.self.invariant.1 begins rest })

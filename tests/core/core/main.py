@@ -1,0 +1,152 @@
+"""The tests beside Bitcoin Core's code, from the command line."""
+
+import argparse
+import sys
+import tempfile
+import time
+from collections import Counter
+from pathlib import Path
+from typing import Dict, List, Sequence
+
+from . import differences, peer, scripts
+from .compare import Bench, Tally
+from .planted import RULES, Finder
+from .playing import Lines, play_library, play_peer
+
+#: Heights of bases: none, round maturity, round halvings, and below and above each soft fork.
+SHORT_BASES = (110,)
+BASES = (0, 1, 99, 101, 110, 149, 150, 299, 431, 440, 499, 501, 1250, 1252, 1350, 1352)
+#: Bases of script pairs, with other rules in force each.
+SHORT_PAIR_BASES = (440,)
+PAIR_BASES = (110, 440, 1260, 1360)
+
+
+def main(words: Sequence[str]) -> int:
+    options = _options(words)
+    begun = time.monotonic()
+    print(peer.version())
+    with tempfile.TemporaryDirectory() as room:
+        run = _Run(options, Path(room))
+        faults = run.kinds() + run.lists() + run.pairs() + run.planted()
+    print(f"{time.monotonic() - begun:.0f} seconds, {'no difference that docs/CORE.md lacks' if not faults else f'{faults} faults'}")
+    return 1 if faults else 0
+
+
+def _options(words: Sequence[str]) -> argparse.Namespace:
+    parser = argparse.ArgumentParser(prog="tests/core/run", description=__doc__)
+    parser.add_argument("--short", action="store_true", help="some of it, in about a minute")
+    parser.add_argument("--program", help="regchain, whose answers are compared too (else the library's alone)")
+    parser.add_argument("--seed", type=int, default=1, help="the first seed of lists and pairs (1)")
+    parser.add_argument("--lists", type=int, help="lists on each base (60, on high bases 20; short 8)")
+    parser.add_argument("--pairs", type=int, help="script pairs on each base (25,000; short 2,000)")
+    parser.add_argument("--keep", type=Path, metavar="FOLDER", help="keeps the peer's data of each base here")
+    return parser.parse_args(words)
+
+
+class _Run:
+    def __init__(self, options: argparse.Namespace, room: Path) -> None:
+        self.options, self.room = options, room
+        self.short = bool(options.short)
+
+    def _bench(self, height: int) -> Bench:
+        if self.options.keep is not None:
+            self.options.keep.mkdir(parents=True, exist_ok=True)
+        return Bench(height, self.room, self.options.program, self.options.keep)
+
+    def kinds(self) -> int:
+        """Each kind of difference is as docs/CORE.md has it."""
+        faults = 0
+        by_base: Dict[int, List[differences.Kind]] = {}
+        for kind in differences.KINDS:
+            by_base.setdefault(kind.base, []).append(kind)
+        for height, kinds in by_base.items():
+            with self._bench(height) as bench:
+                for kind in kinds:
+                    for fault in show(bench, kind):
+                        faults += 1
+                        print(f"FAULT {kind.name}: {fault}")
+        print(f"{len(differences.KINDS)} kinds of differences, each as docs/CORE.md has it" if not faults else "")
+        return faults
+
+    def lists(self) -> int:
+        """Random lists at both."""
+        faults, tally = 0, Tally()
+        for height in SHORT_BASES if self.short else BASES:
+            count = self.options.lists or (8 if self.short else 60 if height < 600 else 20)
+            with self._bench(height) as bench:
+                for seed in range(self.options.seed, self.options.seed + count):
+                    list_ = bench.maker.list(seed)
+                    found = bench.play(list_, tally)
+                    if found is not None:
+                        faults += 1
+                        print("FAULT " + bench.report(list_, found))
+        print(
+            f"{tally.lists} lists, {tally.commands} commands: {tally.equal} answered alike, {tally.explained} otherwise as "
+            f"Bitcoin Core's bookkeeping says, {tally.unclear} behind a tie by addresses; {tally.sets} whole sets of coins "
+            f"alike"
+        )
+        print("  " + ", ".join(f"{word} {count}" for word, count in tally.replies.most_common()))
+        return faults
+
+    def pairs(self) -> int:
+        """Script pairs at both."""
+        faults = 0
+        for height in SHORT_PAIR_BASES if self.short else PAIR_BASES:
+            with self._bench(height) as bench:
+                pairs = scripts.Pairs(bench, self.options.seed * 1000003 + height)
+                pairs.play(self.options.pairs or (2000 if self.short else 25000))
+                for found in pairs.differing(scripts.right(pairs.height, pairs.author.secp)):
+                    faults += 1
+                    print(f"FAULT {found}")
+                said = Counter("accepted" if s == "accepted" else "not a matter of scripts" if s in scripts.OTHERS else "refused" for _, s in pairs.played)
+                print(f"{len(pairs.played)} script pairs at height {pairs.height}: " + ", ".join(f"{n} {w}" for w, n in said.most_common()))
+                faults += self._planted_pairs(pairs)
+        return faults
+
+    def _planted_pairs(self, pairs: scripts.Pairs) -> int:
+        faults = 0
+        for name, rule in scripts.wrong(pairs.height, pairs.author.secp).items():
+            if next(pairs.differing(rule), None) is None:
+                faults += 1
+                print(f"FAULT no pair finds a wrong rule: {name}")
+        return faults
+
+    def planted(self) -> int:
+        """Wrong rules of blocks and their tree are found."""
+        if self.short:
+            return 0
+        faults = 0
+        with self._bench(110) as bench:
+            finder = Finder(bench, LISTS_TO_FIND)
+            for wrong in RULES:
+                count = finder.find(wrong)
+                faults += count is None
+                print(f"  {wrong.name}: " + (f"found in list {count}" if count else f"FAULT, not found in {LISTS_TO_FIND} lists"))
+        print(f"{len(RULES)} wrong rules planted")
+        return faults
+
+
+#: In so many lists each wrong rule has to be found.
+LISTS_TO_FIND = 60
+
+
+def show(bench: Bench, kind: differences.Kind) -> List[str]:
+    """In what a kind of difference isn't as it is written."""
+    list_, names = differences.made(kind, bench.maker)
+    lines = Lines(bench.base, list_)
+    back: Dict[int, str] = {number: name for name, number in names.items() if number >= list_.base}
+    back[-1] = "base"
+    core, ours = play_peer(bench.peer, lines).seen, play_library(lines)
+    # The peer's counts go on.
+    bench.expect(lines)
+    faults = []
+    for step, theirs, own in zip(kind.steps, core, ours):
+        for who, seen, said in (("Core", theirs, step.core), ("ours", own, step.ours)):
+            answer = f"{seen.reply}, {back[seen.best]}"
+            if answer != said:
+                faults.append(f"{step.command}: {who} answers {answer}, not {said}")
+    return faults
+
+
+if __name__ == "__main__":
+    sys.exit(main(sys.argv[1:]))
