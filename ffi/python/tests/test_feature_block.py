@@ -5,14 +5,13 @@ about it what the chain shows is tested; and there are no peers, so blocks come 
 of the block itself: where one below it fails it is `inconclusive`, there as here.
 """
 
-import hashlib
 import unittest
 
 from servers import Running
 from wakotehu import Bench, show
 from wakotehu.encoding import (
-    GENESIS, Block, Header, Input, Output, Transaction, coinbase, double_sha, merkle_root, mine, push, push_number,
-    read_block, subsidy, write_block, write_header, write_transaction,
+    GENESIS, Block, Header, Input, Output, Transaction, coinbase, double_sha, hash160, merkle_root, mine, push, push_number,
+    read_block, subsidy, write_block,
 )  # fmt: skip
 
 COIN = 100_000_000
@@ -78,7 +77,7 @@ class Chain(unittest.TestCase):
         height, parent = self.places[self.tip]
         transactions, fees = [], 0
         if spent is not None:
-            tx, index = spent if isinstance(spent, tuple) else (spent, 0)
+            tx, index = (spent, 0) if isinstance(spent, Transaction) else spent
             transactions.append(spend(tx, index, 1, script))
             fees = tx.outputs[index].value - 1
         made = base or coinbase(height + 1, subsidy(height + 1) + fees + extra, TRUE, name.encode())
@@ -142,8 +141,8 @@ class ForksTest(Chain):
         self.accept(self.next("b2", out[1]))
         # A fork of the same height: the first that came stays.
         self.move_tip("b1")
-        self.fork(self.next("b3", out[1]))
-        of_b3 = self.blocks["b3"].transactions[1]
+        of_b3 = spend(out[1], 0, 2)
+        self.fork(self.next("b3", None, of_b3))
         # It becomes the longer one.
         self.accept(self.next("b4", out[2]))
         # And back.
@@ -270,17 +269,17 @@ class SizesTest(Chain):
         self.refuse(self.next("b38", made), "bad-txns-inputs-missingorspent")
 
     def test_b39_to_b43(self):
-        """Signature operations of pay-to-script-hash: six in each inner script, which isn't run."""
+        """Signature operations of pay-to-script-hash: a thousand in each inner script, which aren't run."""
         self.grow()
-        inner = b"\x00" + IF + CHECKSIG * 6 + ENDIF + TRUE
-        script = HASH160 + push(hashlib.new("ripemd160", hashlib.sha256(inner).digest()).digest()) + EQUAL
-        count = MAX_SIGOPS // 6
+        inner = b"\x00" + IF + CHECKMULTISIG * 50 + ENDIF + TRUE
+        script = HASH160 + push(hash160(inner)) + EQUAL
+        count = MAX_SIGOPS // 1000 - 1
         payer = self.out[0]
         many = Transaction(1, [Input(payer.id, 0, b"", 0xFFFFFFFF)], [Output(1, script)] * (count + 1), 0)
         self.accept(self.next("b39", None, many))
         inputs = [Input(many.id, index, push(inner), 0xFFFFFFFF) for index in range(count)]
         spender = Transaction(1, inputs, [Output(1, TRUE)], 0)
-        left = MAX_SIGOPS - 6 * count
+        left = MAX_SIGOPS - 1000 * count
         over = spend(self.out[1], 0, 1, CHECKSIG * (left + 1))
         self.refuse(self.next("b40", None, spender, over), "bad-blk-sigops")
         self.move_tip("b39")
