@@ -1,6 +1,6 @@
 """A run that saves over what an earlier one saved, ended or failing at each call that changes files: the folder then
 holds what it held before or what the run saves, whole, by the audit and by its bytes; and the next run saves there."""
-import concurrent.futures, os, shutil, signal, subprocess
+import os, shutil, signal, subprocess
 
 FILES = ["journal.txt", "blocks.blk", "table.txt", "heights.txt"]
 SECONDS = 20
