@@ -63,6 +63,15 @@ class Saving(ProgramTest):
         self.save(NEW, "saved")
         self.expect_held("saved", "new")
 
+    def test_an_empty_name(self) -> None:
+        """It is no folder, and not the one at the root."""
+        for words, fault in [
+            (["run", "--scenario", "-", "--save", ""], "cannot write /journal.txt"),
+            (["audit", "--saved", ""], "cannot read /journal.txt"),
+            (["tree", "--saved", ""], "cannot read /journal.txt"),
+        ]:
+            self.expect_fault(words, "client a\n", f"regchain: {fault}\n{fault}: No such file or directory\n")
+
     def test_a_symlink_under_a_new_name(self) -> None:
         """It is taken away, and what it names stays."""
         self.write("mine", "precious")
