@@ -1,28 +1,22 @@
 -- The transactions of the tests can be applied.
 use Rattle.std.proofs.Common.{◌≡◌, ℕ, ◌≤◌, ◌^◌, cond, List, [], ◌∷◌, length, replicate, IsSome, sym, ap, subst, ◌∙◌, arith}
-use Rattle.std.specs.Prelude.{is_some}
 use Rattle.std.specs.List.{AllByRecursion, IsDistinct}
 use Rattle.std.specs.FinMap as coin_map
-use Rattle.std.specs.FinMap.{get-empty, get-insert}
+use Rattle.std.specs.FinMap.{get-empty}
 use Rattle.hash.specs.declared.id.Id.{Id}
 use Rattle.txn.specs.declared.outpoint.OutPoint.{OutPoint}
 use Rattle.txn.specs.declared.input.TxIn.{TxIn}
 use Rattle.txn.specs.declared.tx.Tx.{Tx}
 use Rattle.txn.specs.Check.{is_only_null, prevs}
 use Rattle.txn.specs.Coinbase.{null}
-use Rattle.coins.specs.declared.coin.Coin.{Coin}
 use Rattle.coins.specs.Coins.{Coins, outpoint_cmp, same}
-use Rattle.coins.specs.laws.Lookups.{total_order}
 use Rattle.undo.specs.Effect.{place, IsApplicable}
-
-abbrev pub id_of_sevens : Id
-id_of_sevens = record { 0 = replicate 32 7 }
-
-abbrev pub outpoint_of_eights : OutPoint
-outpoint_of_eights = record { id = record { 0 = replicate 32 8 }; index = 3 }
 
 abbrev pub input_of : OutPoint → TxIn
 input_of prev = record { prev = prev; script = []; sequence = 0 }
+
+abbrev pub id_of_sevens : Id
+id_of_sevens = record { 0 = replicate 32 7 }
 
 few : (n : ℕ) → n ≡ 2 → n ≤ 2 ^ 32
 few n h = omega arith
@@ -33,15 +27,5 @@ coinbase_applies m tx id e input outputs = record {
   coins = subst (λ (is : List TxIn). AllByRecursion (λ p. IsSome (coin_map.get m p)) (cond (is_only_null is) [] (prevs is))) (sym input) tt;
   once = subst (λ (is : List TxIn). IsDistinct same (cond (is_only_null is) [] (prevs is))) (sym input) tt;
   new = λ i l. ap (λ (x : Coins). coin_map.get x (place id i)) e ∙ get-empty outpoint_cmp (place id i);
-  numbered = few (length tx.outputs) outputs;
-}
-
-pub payment_applies : (m : Coins) (tx : Tx) (coin : Coin) → m ≡ coin_map.insert coin_map.empty outpoint_of_eights coin → tx.inputs ≡ input_of outpoint_of_eights ∷ [] → length tx.outputs ≡ 2 → IsApplicable m tx id_of_sevens
-unfolding IsDistinct
-payment_applies m tx coin e input outputs = record {
-  coins = subst (λ (is : List TxIn). AllByRecursion (λ p. IsSome (coin_map.get m p)) (cond (is_only_null is) [] (prevs is))) (sym input)
-      (ap (λ (x : Coins). is_some (coin_map.get x outpoint_of_eights)) e ∙ ap (λ o. is_some o) (get-insert total_order coin_map.empty outpoint_of_eights coin outpoint_of_eights), tt);
-  once = subst (λ (is : List TxIn). IsDistinct same (cond (is_only_null is) [] (prevs is))) (sym input) (tt, tt);
-  new = λ i l. ap (λ (x : Coins). coin_map.get x (place id_of_sevens i)) e ∙ get-insert total_order coin_map.empty outpoint_of_eights coin (place id_of_sevens i) ∙ get-empty outpoint_cmp (place id_of_sevens i);
   numbered = few (length tx.outputs) outputs;
 }

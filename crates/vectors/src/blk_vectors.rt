@@ -1,4 +1,4 @@
-//! Blk files, each read on its happy path and cut short.
+//! Blk files read byte by byte, by a source whose read fails, and what memory a block takes.
 
 use block::{BlkFault, BlkReader, GENESIS, ReadFailed, SliceSource, Source};
 use std::alloc::{AllocError, Global};
@@ -67,30 +67,6 @@ fn record(alloc: Global, after: &[u8]) -> Result<Vec<u8>, AllocError> {
 }
 
 #[test]
-fn zero_bytes_end_the_file(rt: HostRuntime) -> Result<(), Fail> {
-    let file = record(rt.alloc(), &[0, 0])?;
-    let mut reader = BlkReader::new(rt.alloc(), SliceSource::new(&file));
-    let block = reader.next()?.ok_or("a block")?;
-    assert!(rt; block.as_slice() == GENESIS.as_slice());
-    assert!(rt; reader.next()?.is_none() && reader.next()?.is_none());
-    Ok(())
-}
-
-#[test]
-fn foreign_bytes_stop_the_reader(rt: HostRuntime) -> Result<(), Fail> {
-    let file = record(rt.alloc(), &[0, 0xfa])?;
-    let mut reader = BlkReader::new(rt.alloc(), SliceSource::new(&file));
-    let block = reader.next()?.ok_or("a block")?;
-    assert!(rt; block.as_slice() == GENESIS.as_slice());
-    let faults = [reader.next().err(), reader.next().err()];
-    assert_eq!(rt;
-        faults,
-        [Some(BlkFault::Foreign(293)), Some(BlkFault::Stopped)]
-    );
-    Ok(())
-}
-
-#[test]
 fn records_follow_byte_by_byte(rt: HostRuntime) -> Result<(), Fail> {
     let more = record(rt.alloc(), &[0, 0, 0, 0, 0, 0, 0, 0, 0])?;
     let file = record(rt.alloc(), &more)?;
@@ -101,37 +77,6 @@ fn records_follow_byte_by_byte(rt: HostRuntime) -> Result<(), Fail> {
         assert!(rt; block.as_slice() == GENESIS.as_slice());
     }
     assert!(rt; reader.next()?.is_none());
-    Ok(())
-}
-
-/// What the first call answers for so many of the first bytes of the genesis block's record.
-fn answer_of(count: usize) -> Result<bool, BlkFault> {
-    match count {
-        0 => Ok(false),
-        1..=3 => Err(BlkFault::Foreign(0)),
-        _ => Err(BlkFault::Cut(0)),
-    }
-}
-
-/// Whether there is a block at the first call.
-fn answer<S: Source + Drop>(alloc: Global, source: S) -> Result<bool, BlkFault> {
-    Ok(BlkReader::new(alloc, source).next()?.is_some())
-}
-
-#[test]
-fn fronts_of_a_record(rt: HostRuntime) -> Result<(), Fail> {
-    let file = record(rt.alloc(), &[])?;
-    for count in 0..293 {
-        let (front, _) = file.split_at(count.min(file.len()));
-        let whole = answer(rt.alloc(), SliceSource::new(front));
-        let inner = SliceSource::new(front);
-        let bytes = answer(rt.alloc(), ByteByByte { inner });
-        let expected = answer_of(count);
-        assert!(rt;
-            [whole, bytes] == [expected, expected],
-            "of {count}: {whole:?}, {bytes:?}"
-        );
-    }
     Ok(())
 }
 
@@ -154,32 +99,20 @@ fn a_failed_read_stops_the_reader(rt: HostRuntime) -> Result<(), Fail> {
     Ok(())
 }
 
-#[test]
-fn a_length_above_the_limit(rt: HostRuntime) {
-    // 33554433, with nothing behind it; and 33554432: that record is cut.
-    let long = [0xfa, 0xbf, 0xb5, 0xda, 0x01, 0x00, 0x00, 0x02];
-    let longest = [0xfa, 0xbf, 0xb5, 0xda, 0x00, 0x00, 0x00, 0x02];
-    let found = [
-        answer(rt.alloc(), SliceSource::new(&long)),
-        answer(rt.alloc(), SliceSource::new(&longest)),
-    ];
-    assert_eq!(rt; found, [Err(BlkFault::TooLong(0)), Err(BlkFault::Cut(0))]);
+/// A file of one record: this head, and after it so many bytes.
+fn file_of(alloc: Global, head: &[u8], len: usize) -> Result<Vec<u8>, Fail> {
+    let mut file = Vec::from_slice(alloc, head)?;
+    file.resize(head.len().saturating_add(len), 0x5a)?;
+    Ok(file)
 }
 
-const TEXTS: [(BlkFault, &[u8]); 6] = [
-    (BlkFault::Foreign(293), b"no record at 293"),
-    (BlkFault::Cut(0), b"the record at 0 ends early"),
-    (BlkFault::TooLong(8), b"the record at 8 is too long"),
-    (BlkFault::Read, b"a read failed"),
-    (BlkFault::Memory, b"out of memory"),
-    (BlkFault::Stopped, b"stopped at an earlier fault"),
-];
-
+/// A block that comes in two pieces has room for no third.
 #[test]
-fn texts_of_faults(rt: HostRuntime) -> Result<(), Fail> {
-    for (fault, text) in TEXTS {
-        let shown = format!(in rt.alloc(); "{fault}")?;
-        assert!(rt; shown.as_bytes() == text, "{fault}");
-    }
+fn a_block_has_room_for_what_has_come(rt: HostRuntime) -> Result<(), Fail> {
+    let head = [0xfa, 0xbf, 0xb5, 0xda, 0x70, 0x11, 1, 0];
+    let file = file_of(rt.alloc(), &head, 70_000)?;
+    let mut reader = BlkReader::new(rt.alloc(), SliceSource::new(&file));
+    let block = reader.next()?.ok_or("a block")?;
+    assert!(rt; block.len() == 70_000 && block.capacity() <= 131_072);
     Ok(())
 }

@@ -30,17 +30,6 @@ fn value_at<B: Base>(base: &B, number: u8) -> Option<i64> {
     base.get(&place(number)).map(|coin| coin.value)
 }
 
-#[test]
-fn a_map(rt: HostRuntime) -> Result<(), Fail> {
-    let mut map = CoinMap::new(rt.alloc());
-    map.insert(place(1), coin(rt.alloc(), 10)?)?;
-    map.insert(place(2), coin(rt.alloc(), 20)?)?;
-    map.remove(&place(2));
-    assert_eq!(rt; [value_at(&map, 1), value_at(&map, 2)], [Some(10), None]);
-    assert!(rt; coin(rt.alloc(), 3)?.same(&coin(rt.alloc(), 3)?.copy()?));
-    Ok(())
-}
-
 /// The values at so many places.
 type Values = [Option<i64>; 24];
 
@@ -200,16 +189,5 @@ fn layers_over_layers_by_chance(rt: HostRuntime) -> Result<(), Fail> {
         trial.look(&map);
         assert!(rt; trial.holds);
     }
-    Ok(())
-}
-
-#[test]
-fn no_changes(rt: HostRuntime) -> Result<(), Fail> {
-    let alloc = rt.alloc();
-    let mut map = CoinMap::new(alloc);
-    let none = Changes::new(alloc);
-    assert!(rt; none.is_empty() && none.len() == 0);
-    map.lay(alloc, &none)?;
-    assert!(rt; map.lay_taken(alloc, none).is_ok());
     Ok(())
 }

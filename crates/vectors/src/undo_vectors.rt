@@ -1,13 +1,13 @@
-//! What no clause says of undo: each call once.
+//! A transaction that is applied and taken back.
 
 ghost use Rattle.std.specs.Prelude.{◌≡◌, ◌∷◌, [], length, IfOk};
 
-use coins::{Base, Cache, Coin, CoinMap};
+use coins::{Base, Cache, CoinMap};
 use hash::Id;
 use std::alloc::Global;
 use std::test::*;
 use txn::{Inputs, OutPoint, Outputs, Script, Tx, TxIn, TxOut};
-use undo::{BlockUndo, Spent, apply_in_layer, apply_tx, revert_in_layer, revert_tx};
+use undo::{apply_tx, revert_tx};
 use wire::Memory;
 
 /// A transaction of one input, with an output of 50 that can be a coin and one that can't.
@@ -59,43 +59,5 @@ fn a_coinbase(rt: HostRuntime) -> Result<(), Fail> {
     revert_tx(rt.alloc(), &mut layer, &tx, ID, &spent)?;
     assert_eq!(rt; (applied, value_at(&layer, 0)), ([Some(50), None], None));
     assert!(rt; spent.is_empty());
-    Ok(())
-}
-
-const PREV: OutPoint = OutPoint {
-    id: Id([8; 32]),
-    index: 3,
-};
-
-fn old_coin(alloc: Global) -> Coin {
-    Coin {
-        value: 60,
-        script: Script::from_vec(Vec::new(alloc)),
-        height: 4,
-        coinbase: true,
-    }
-}
-
-#[test]
-fn a_payment(rt: HostRuntime) -> Result<(), Fail> {
-    let mut map = CoinMap::new(rt.alloc());
-    map.insert(PREV, old_coin(rt.alloc()))?;
-    let layer = Cache::over(rt.alloc(), &map);
-    let tx = spending(rt.alloc(), PREV)?;
-    let (layer, spent) = apply_in_layer(rt.alloc(), layer, &tx, ID, 9)?;
-    let applied = (layer.get(&PREV).is_none(), value_at(&layer, 0));
-    let layer = revert_in_layer(layer, &tx, ID, &spent)?;
-    let height = layer.get(&PREV).map(|coin| coin.height);
-    assert!(rt; applied == (true, Some(50)), "{applied:?}");
-    assert!(rt; height == Some(4) && value_at(&layer, 0).is_none());
-    Ok(())
-}
-
-#[test]
-fn what_a_block_spent(rt: HostRuntime) -> Result<(), Fail> {
-    let mut undo = BlockUndo::new(rt.alloc());
-    undo.push(Spent::new(rt.alloc()))?;
-    assert_eq!(rt; undo.len(), 1);
-    assert!(rt; undo.as_slice().iter().all(|spent| spent.is_empty()));
     Ok(())
 }
