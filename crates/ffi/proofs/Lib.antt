@@ -3,3 +3,4 @@ pub mod Fronts
 pub mod Opcodes
 pub mod Rows
 pub mod Slots
+pub mod TableLines

@@ -8,6 +8,7 @@ mod exports;
 mod front;
 mod hashes;
 mod kept;
+pub mod laws;
 mod parts;
 mod room;
 mod scripts;
