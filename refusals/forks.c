@@ -4,12 +4,13 @@
  * told by how many lines were written to the standard output before it (FORKS_FROM) and before its end (FORKS_TO). In it
  * the process forks at an allocation: in the child this one is refused and no other, and what the child writes to its
  * standard output goes into a file of the folder FORKS_ROOM, whose name is the allocation's number, from 1. The child ends
- * once it has written FORKS_LINES lines. The parent refuses nothing.
+ * once it has written FORKS_LINES lines, or, where its number is one of FORKS_LONG apart, FORKS_LONG_LINES. The parent
+ * refuses nothing.
  *
  * The process forks at the first FORKS_FIRST allocations, at those behind the number FORKS_LAST, and at every FORKS_APART-th
  * between; at none where FORKS_LAST is 0. At most FORKS_AT_ONCE children run at once. At its end the parent writes into
- * the file `count` of FORKS_ROOM how many allocations there were, and how many children ended by a signal or with another
- * status than 0. The program has to run on one thread.
+ * the file `count` of FORKS_ROOM how many allocations there were, how many children ended by a signal, and how many with
+ * another status than 0. The program has to run on one thread.
  */
 #define _GNU_SOURCE
 #include <errno.h>
@@ -26,8 +27,8 @@ extern void *__libc_calloc(size_t count, size_t size);
 extern void *__libc_realloc(void *block, size_t size);
 extern void *__libc_memalign(size_t alignment, size_t size);
 
-static unsigned long from, to, lines, last_line, at_once, first, last, apart;
-static unsigned long number, running, failed;
+static unsigned long from, to, lines, last_line, long_apart, long_lines, at_once, first, last, apart;
+static unsigned long number, running, killed, refused;
 static const char *room;
 static int is_child;
 
@@ -43,7 +44,8 @@ static void reap(void)
     int status;
     if (wait(&status) > 0) {
         running--;
-        failed += status != 0;
+        killed += WIFSIGNALED(status);
+        refused += WIFEXITED(status) && WEXITSTATUS(status) != 0;
     }
 }
 
@@ -58,6 +60,8 @@ static void become_child(void)
         leave(98);
     close(file);
     lines = 0;
+    if (long_apart && number % long_apart == 0)
+        last_line = long_lines;
     alarm(120); /* one that hangs is ended by SIGALRM */
 }
 
@@ -141,6 +145,8 @@ __attribute__((constructor)) static void begin(void)
     from = number_of("FORKS_FROM");
     to = number_of("FORKS_TO");
     last_line = number_of("FORKS_LINES");
+    long_apart = number_of("FORKS_LONG");
+    long_lines = number_of("FORKS_LONG_LINES");
     first = number_of("FORKS_FIRST");
     last = number_of("FORKS_LAST");
     apart = number_of("FORKS_APART");
@@ -160,7 +166,7 @@ void _exit(int status)
     char name[4096], text[64];
     snprintf(name, sizeof name, "%s/count", room);
     int file = open(name, O_WRONLY | O_CREAT | O_TRUNC, 0644);
-    int length = snprintf(text, sizeof text, "%lu %lu\n", number, failed);
+    int length = snprintf(text, sizeof text, "%lu %lu %lu\n", number, killed, refused);
     if (file < 0 || syscall(SYS_write, file, text, (size_t)length) != length)
         leave(99);
     leave(status);

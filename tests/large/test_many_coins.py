@@ -12,8 +12,9 @@ from writing import transaction
 # A coin that comes where one map holds so many has them moved into many (crates/coins).
 MANY = 102_400
 # How many of a step's allocations are refused from its first one on, and up to its last one. Of those between every
-# APART-th is refused: each in turn takes ten minutes of a processor for one step.
-ENDS, APART = 150, 40
+# APART-th is refused: each in turn takes ten minutes of a processor for one step (by APART = 1). After every LONG-th the
+# call is made again.
+ENDS, APART, LONG = 100, 100, 16
 
 
 def coins(name: str, numbers: list[int]) -> list[str]:
@@ -114,6 +115,8 @@ class ManyCoins(ProgramTest):
 FIRST = 60_000
 SECOND = MANY - 1 - (104 - 1 + 1 + FIRST) - 1 + 2
 READS = ["txout A:1", "txout A:3", "txout B:0", "txout X:0", "best"]
+# How many lines a call and the reads after it have.
+CALL = 1 + len(READS)
 
 
 class RefusedCoins(ProgramTest):
@@ -145,34 +148,40 @@ class RefusedCoins(ProgramTest):
         )
         self.write("scenario.txt", text)
 
-    def run_forks(self, line: int, **more: int) -> tuple[int, int]:
-        """Refuses allocations of the step whose answer is in the line of this number: how many it makes, and how many
-        processes ended wrongly."""
-        settings = {"FROM": line - 1, "TO": line, "LINES": 2 * (1 + len(READS)), "AT_ONCE": os.cpu_count() or 1, **more}
+    def run_forks(self, line: int, **more: int) -> list[int]:
+        """Refuses allocations of the step whose answer is in the line of this number: how many it makes, how many
+        processes ended by a signal, and how many with another status than 0."""
+        settings = {"FROM": line - 1, "TO": line, "LINES": CALL, "LONG": LONG, "LONG_LINES": 2 * CALL, **more}
+        settings["AT_ONCE"] = os.cpu_count() or 1
         env = {f"FORKS_{name}": str(value) for name, value in settings.items()}
         for file in glob.glob(self.path("room/*")):
             os.remove(file)
         words = [running.PROGRAM, "run", "--scenario", "scenario.txt", "--workers", "1"]
         env |= {"LD_PRELOAD": self.shim, "FORKS_ROOM": self.path("room")}
         with open(self.path("out"), "wb") as out:
-            subprocess.run(words, cwd=self.folder, env=env, stdout=out, check=True, timeout=300)
-        number, wrong = self.read("room/count").split()
-        return int(number), int(wrong)
+            subprocess.run(words, cwd=self.folder, env=env, stdout=out, stderr=subprocess.DEVNULL, check=True, timeout=300)
+        return [int(word) for word in self.read("room/count").split()]
 
     def expect_step(self, line: int, answers: dict[str, list[str]]) -> None:
-        """Each process wrote one of these lists of answers, by the first one's word; each list was met."""
-        number, _ = self.run_forks(line, FIRST=0, LAST=0)
+        """Each process wrote one of these lists of answers, by the first one's word; each list was met. A process that was
+        refused what the answer's line takes ends with a fault, and wrote nothing."""
+        number = self.run_forks(line, FIRST=0, LAST=0)[0]
         self.assertGreater(number, 8192)
-        _, wrong = self.run_forks(line, FIRST=ENDS, LAST=number - ENDS, APART=APART)
-        self.assertEqual(wrong, 0)
-        met = Counter()
+        _, killed, faults = self.run_forks(line, FIRST=ENDS, LAST=number - ENDS, APART=APART)
+        self.assertEqual(killed, 0)
+        met: Counter[str] = Counter()
         for file in glob.glob(self.path("room/[0-9]*")):
             written = self.read(file).splitlines()
+            if not written:
+                faults -= 1
+                continue
             word = written[0].split(" = ")[1]
-            self.assertEqual(written, answers.get(word), file)
+            is_long = int(os.path.basename(file)) % LONG == 0
+            self.assertEqual(written, answers[word][: 2 * CALL if is_long else CALL])
             met[word] += 1
+        self.assertEqual(faults, 0)
         self.assertEqual(sorted(met), sorted(answers))
-        self.assertGreater(sum(met.values()), 2 * ENDS + (number - 2 * ENDS) // APART - 2)
+        self.assertGreater(sum(met.values()), 2 * ENDS + (number - 2 * ENDS) // APART - 20)
 
     def test_each_allocation_refused(self) -> None:
         self.make_folder("room")
@@ -197,7 +206,7 @@ class RefusedCoins(ProgramTest):
             },
         )
         self.expect_step(
-            108 + 2 * (1 + len(READS)),
+            108 + 2 * CALL,
             {
                 "memory": ["submit y = memory", *after(108), "submit y = accepted @109", *last(109)],
                 "owed": ["submit y = owed", *after(108), "submit y = duplicate @110", *last(110)],
