@@ -120,9 +120,9 @@ CALL = 1 + len(READS)
 
 
 class RefusedCoins(ProgramTest):
-    """One coin is lacking to MANY. The block x brings four and takes two, so the coins of the copy that is shown next
-    are moved in its step, and those of the other copy in the next step, that of y. Each is submitted twice, so that a
-    step which was refused is taken or shown by the second call."""
+    """One coin is lacking to MANY. The block x brings four and takes three, so the coins of the copy that is shown next
+    are moved in its step, and those of the other copy in the next step, in which x is submitted again. What was refused
+    is taken or shown by the call after it."""
 
     def setUp(self) -> None:
         super().setUp()
@@ -144,7 +144,7 @@ class RefusedCoins(ProgramTest):
             "submit a",
             "submit b",
             *["submit x", *READS] * 2,
-            *["submit y", *READS] * 2,
+            *["submit y", *READS],
         )
         self.write("scenario.txt", text)
 
@@ -206,9 +206,9 @@ class RefusedCoins(ProgramTest):
             },
         )
         self.expect_step(
-            108 + 2 * CALL,
+            108 + CALL,
             {
-                "memory": ["submit y = memory", *after(108), "submit y = accepted @109", *last(109)],
-                "owed": ["submit y = owed", *after(108), "submit y = duplicate @110", *last(110)],
+                "memory": ["submit x = memory", *after(107), "submit y = accepted @108", *last(108)],
+                "owed": ["submit x = owed", *after(107), "submit y = accepted @109", *last(109)],
             },
         )
