@@ -1,20 +1,25 @@
-"""Four clients that write at once, 70,000 entries in all."""
+"""Four clients that write at once, 4,000 blocks and 70,000 entries in all."""
 from collections import Counter
 
 from running import Played, ProgramTest, lines
 
 CLIENTS = ["a", "b", "c", "d"]
-# How often each client submits the chain of 1,000 blocks, but for the last half of the last time.
-TIMES, HALF = 17, 500
+# Chains of 1,000 blocks, one on the other. Each client submits all of them four times, and then some once more.
+CHAINS = ["k", "l", "m", "n"]
+TIMES, MORE = 4, 1500
 
 
 def scenario() -> str:
-    text = lines("chain k 1000 genesis")
+    text, parent = "", "genesis"
+    for chain in CHAINS:
+        text += lines(f"chain {chain} 1000 {parent}")
+        parent = f"{chain}1000"
     for client in CLIENTS:
         text += lines(f"client {client}")
         for _ in range(TIMES):
-            text += lines("each k 1 1000", "best")
-        text += lines(f"each k 1 {HALF}", "best")
+            for chain in CHAINS:
+                text += lines(f"each {chain} 1 1000", "best")
+        text += lines("each k 1 1000", f"each l 1 {MORE - 1000}", "best")
     return text
 
 
@@ -57,7 +62,7 @@ class ManyEntries(ProgramTest):
         self.assertEqual(list(answers), CLIENTS)
         self.assertEqual(len(journal), 70_000)
         for client in CLIENTS:
-            self.assertEqual(len(answers[client]), 17_500 + TIMES + 1)
+            self.assertEqual(len(answers[client]), 17_500 + TIMES * len(CHAINS) + 1)
             self.expect_answers(client, answers[client], journal)
         owners = Counter(line.split(" ", 2)[1] for line in journal)
         self.assertEqual(owners, {client: 17_500 for client in CLIENTS})
