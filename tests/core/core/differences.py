@@ -216,11 +216,12 @@ def made(kind: Kind, maker: Maker) -> Tuple[List_, Dict[str, int]]:
     base = len(blocks)
     names = {"base": base - 1 if base else ROOT}
     heights = {"base": maker.height}
-    for count, line in enumerate(kind.blocks):
+    for line in kind.blocks:
         name, _, parent, *words = line.split()
         height = heights[parent] + 1
         above = blocks[names[parent]].time if names[parent] != ROOT else 1296688602
-        tx = coinbase(height, subsidy(height), TRUE, name.encode())
+        # No two lists have a block in common.
+        tx = coinbase(height, subsidy(height), TRUE, f"{KINDS.index(kind)} {name}".encode())
         block = Logical(names[parent], above + 600, [tx])
         fault = " ".join(words)
         if fault:
@@ -236,7 +237,8 @@ def made(kind: Kind, maker: Maker) -> Tuple[List_, Dict[str, int]]:
 
 
 def _pays_too_much(block: Logical, height: int, maker: Maker, blocks: List[Logical]) -> None:
-    block.transactions = [coinbase(height, subsidy(height) + 1)]
+    tx = block.transactions[0]
+    block.transactions[0] = tx._replace(outputs=[Output(subsidy(height) + 1, TRUE)])
 
 
 def _too_old(block: Logical, height: int, maker: Maker, blocks: List[Logical]) -> None:
@@ -271,15 +273,15 @@ def _many_operations(block: Logical, height: int, maker: Maker, blocks: List[Log
     coin = maker.coins[0]
     script = b"\xa9\x14" + hash160(MANY) + b"\x87"
     block.transactions.append(Transaction(1, [Input(coin.id, 0, b"", FINAL)], [Output(1, script)] * 3, 0))
-    block.transactions[0] = coinbase(height, subsidy(height))
 
 
 def _missing_and_operations(block: Logical, height: int, maker: Maker, blocks: List[Logical]) -> None:
-    """The first transaction lacks its input; the second spends scripts of 30,000 signature operations."""
+    """A transaction spends a script of 10,000 signature operations; the next makes an output of 10,001, and lacks its
+    input."""
     spent = blocks[block.parent].transactions[1].id
-    lost = Transaction(1, [Input(b"\7" * 32, 0, b"", FINAL)], [Output(0, TRUE)], 0)
-    many = Transaction(1, [Input(spent, n, push(MANY), FINAL) for n in range(3)], [Output(0, TRUE)], 0)
-    block.transactions += [lost, many]
+    many = Transaction(1, [Input(spent, 0, push(MANY), FINAL)], [Output(0, TRUE)], 0)
+    lost = Transaction(1, [Input(b"\7" * 32, 0, b"", FINAL)], [Output(0, b"\xac" * 10001)], 0)
+    block.transactions += [many, lost]
 
 
 FAULTS: Dict[str, Callable[[Logical, int, Maker, List[Logical]], None]] = {

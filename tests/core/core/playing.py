@@ -266,7 +266,7 @@ class Verdicts:
         return self.found[number]
 
     def _find(self, number: int) -> Verdict:
-        data = self.lines.ours.spell(self.lines.list.blocks, number)[1]
+        data = self._data(number)
         reason = consensus.block(data).reason
         if reason:
             return Verdict(reason, BY_ITSELF)
@@ -278,6 +278,12 @@ class Verdicts:
             self._try(number)
         reason = self.over_coins.get(number, "")
         return Verdict(reason, COINS if reason else 0)
+
+    def _data(self, number: int) -> bytes:
+        """A block as the peer reads it: what stands behind it is no part of it."""
+        blocks = self.lines.list.blocks
+        data = self.lines.ours.spell(blocks, number)[1]
+        return data[: len(data) - len(blocks[number].behind)]
 
     def _place(self, number: int) -> Tuple[int, int]:
         """The height of a block, and the median time past of its parent."""
@@ -300,7 +306,7 @@ class Verdicts:
         with Chainstate(self.heights, table_of(list_)) as chain:
             lay_base(chain, lines)
             for block in reversed(path):
-                reply = chain.try_submit(lines.ours.spell(list_.blocks, block)[1], 2**32 - 1)
+                reply = chain.try_submit(self._data(block), 2**32 - 1)
                 if reply.text != "accepted":
                     # On a block that breaks a rule none is tried.
                     self.over_coins.setdefault(block, word(reply.text))
