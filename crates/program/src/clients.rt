@@ -5,7 +5,7 @@ use crate::fault::{Fault, Stop};
 use block::BlkFault;
 use journal::Records;
 use node::{Naming, Node, Seat};
-use scenario::{Client, Definitions, Request};
+use scenario::{Call, Definitions, Request};
 use std::alloc::{AllocError, AllocFailed};
 use std::io::Error;
 use std::sync::Wait;
@@ -60,64 +60,43 @@ pub fn ended_by(fault: &Fault<'_>) -> Ended {
     }
 }
 
-/// Who takes answers as they come.
-pub trait Sink<'d> {
-    fn take(&mut self, answer: Answer<'d>) -> Result<(), Ended>;
-}
-
-impl<'d> Sink<'d> for Vec<Answer<'d>> {
-    fn take(&mut self, answer: Answer<'d>) -> Result<(), Ended> {
-        self.push(answer)?;
-        Ok(())
-    }
-}
-
-/// Runs a client's commands on its seat.
-pub fn answer_all<'d, J: Naming, R, S>(
+/// What a client's seat answers to a call.
+pub fn answer<'d, J: Naming, R>(
     rt: &R,
     definitions: &'d Definitions,
     node: &Node<'_, J>,
-    client: &Client<'_, '_>,
+    call: &Call<'_, '_>,
     seat: &mut Seat<'_, J>,
-    sink: &mut S,
-) -> Result<(), Ended>
+) -> Result<Answer<'d>, Ended>
 where
     R: AllocGlobal + Threads + Wait + Sync,
-    S: Sink<'d>,
 {
-    for call in client.calls.as_slice() {
-        let command = call.words.to_string(rt.alloc())?;
-        sink.take(Answer {
-            command,
-            outcome: asked(rt, definitions, &call.request, node, seat),
-            is_submission: matches!(call.request, Request::Submit(..)),
-        })?;
-    }
-    Ok(())
+    let command = call.words.to_string(rt.alloc())?;
+    Ok(Answer {
+        command,
+        outcome: asked(rt, definitions, &call.request, node, seat),
+        is_submission: matches!(call.request, Request::Submit(..)),
+    })
 }
 
-/// Submits the records of a blk file in their order, until one can't be read.
-pub fn submit_all<'d, J: Naming, R, S>(
+/// What a seat answers to the next record of a blk file, which has this number; None behind the last one.
+pub fn answer_record<'d, J: Naming, R>(
     rt: &R,
     node: &Node<'_, J>,
     records: &mut Records<'_>,
     seat: &mut Seat<'_, J>,
-    sink: &mut S,
-) -> Result<(), Ended>
+    number: u64,
+) -> Result<Option<Answer<'d>>, Ended>
 where
     R: AllocGlobal + Threads + Wait + Sync,
-    S: Sink<'d>,
 {
-    for number in 1..u64::MAX {
-        let Some(record) = records.next()? else {
-            return Ok(());
-        };
-        let command = format!(in rt.alloc(); "record {number}")?;
-        sink.take(Answer {
-            command,
-            outcome: submitted(rt, node, seat, record.as_slice(), BLK_MOMENT),
-            is_submission: true,
-        })?;
-    }
-    Ok(())
+    let Some(record) = records.next()? else {
+        return Ok(None);
+    };
+    let command = format!(in rt.alloc(); "record {number}")?;
+    Ok(Some(Answer {
+        command,
+        outcome: submitted(rt, node, seat, record.as_slice(), BLK_MOMENT),
+        is_submission: true,
+    }))
 }

@@ -1,7 +1,7 @@
 //! The run of a scenario's clients on a node.
 
 use crate::answer::Answer;
-use crate::clients::{Ended, answer_all, ended_by, submit_all};
+use crate::clients::{Ended, answer, answer_record, ended_by};
 use crate::fault::Fault;
 use crate::writer::Writer;
 use journal::Records;
@@ -68,7 +68,11 @@ where
     O: Write,
 {
     writer.client(client.name)?;
-    Ok(answer_all(rt, definitions, node, client, seat, writer)?)
+    for call in client.calls.as_slice() {
+        let answered = answer(rt, definitions, node, call, seat)?;
+        writer.answer(&answered)?;
+    }
+    Ok(())
 }
 
 /// The answers of a client, when it has ended.
@@ -127,8 +131,34 @@ where
     R: AllocGlobal + Threads + Wait + Sync,
 {
     let mut answers = Vec::new(rt.alloc());
-    answer_all(rt, definitions, node, client, seat, &mut answers)?;
+    for call in client.calls.as_slice() {
+        answers.push(answer(rt, definitions, node, call, seat)?)?;
+    }
     Ok(answers)
+}
+
+/// Submits the records of a blk file in their order, until one can't be read.
+fn submit_all<J: Naming, R, E, O>(
+    rt: &R,
+    node: &Node<'_, J>,
+    records: &mut Records<'_>,
+    seat: &mut Seat<'_, J>,
+    writer: &mut Writer<'_, '_, '_, R, E, O>,
+) -> Result<(), Ended>
+where
+    R: AllocGlobal + Clock + Threads + Wait + Sync,
+    E: Write,
+    O: Write,
+{
+    for number in 1..u64::MAX {
+        let Some(answered) = answer_record(rt, node, records, seat, number)? else {
+            return Ok(());
+        };
+        if let Err(fault) = writer.answer(&answered) {
+            return Err(ended_by(&fault));
+        }
+    }
+    Ok(())
 }
 
 /// The client of a blk file, whose answers are written as they come. The file's fault comes before that of the output.

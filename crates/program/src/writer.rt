@@ -1,7 +1,6 @@
 //! Who writes what clients are answered, and tells how far they are.
 
 use crate::answer::Answer;
-use crate::clients::{Ended, Sink, ended_by};
 use crate::fault::Fault;
 use crate::output::Output;
 use crate::progress::Progress;
@@ -27,20 +26,16 @@ impl<C: Clock, E: Write, O: Write> Writer<'_, '_, '_, C, E, O> {
         self.output.client(name)
     }
 
+    /// Writes an answer of the client.
+    pub fn answer(&mut self, answer: &Answer<'_>) -> Result<(), Fault<'static>> {
+        self.answers(slice::from_ref(answer))
+    }
+
     /// Writes answers of the client, in their order.
     pub fn answers(&mut self, answers: &[Answer<'_>]) -> Result<(), Fault<'static>> {
         for answer in answers {
             self.progress.count(answer.is_submission);
         }
         self.output.answers(self.name.as_str(), answers)
-    }
-}
-
-impl<'d, C: Clock, E: Write, O: Write> Sink<'d> for Writer<'_, '_, '_, C, E, O> {
-    fn take(&mut self, answer: Answer<'d>) -> Result<(), Ended> {
-        match self.answers(slice::from_ref(&answer)) {
-            Ok(()) => Ok(()),
-            Err(fault) => Err(ended_by(&fault)),
-        }
     }
 }

@@ -190,7 +190,7 @@ fn a_reader_that_stays(rt: HostRuntime) -> Result<(), Fail> {
     expect_waiting::<Brand, _>(&rt, Params::regtest(), table, note)
 }
 
-fn expect_waiting<J: Naming, R: AllocGlobal + Threads + Wait + Sync + Abort>(
+fn expect_waiting<J: Naming + 'static, R: AllocGlobal + Threads + Wait + Sync + Abort>(
     rt: &R,
     params: Params,
     table: Arc<Table>,
