@@ -1,6 +1,5 @@
 pub mod Beginning
 pub mod Following
-pub mod Limits
 pub mod Origin
 pub mod Rule
 pub mod ViewState

@@ -1,12 +1,11 @@
 -- The step that adds an entry to the history.
-use Rattle.std.specs.Prelude.{◌≡◌, ◌<◌, ℕ, List, [], ◌∷◌, ◌++◌, length}
+use Rattle.std.specs.Prelude.{◌≡◌, ◌<◌, ◌^◌, ℕ, List, [], ◌∷◌, ◌++◌, length}
 use mathlib.Core.List.{IsPrefix}
 use Rattle.logbook.specs.Pages.{Step, View}
 use Rattle.chain.specs.declared.entry.Entry.{Entry}
 use Rattle.view.specs.Beginning.{Beginning}
 use Rattle.view.specs.declared.publication.NoPlace.{NoPlace}
 use Rattle.view.specs.declared.publication.NoPlace.TheVariants.{Taken, Full}
-use Rattle.view.specs.Limits.{max_entries}
 
 -- this begins a longer list
 abbrev pub IsShorter : List Entry → List Entry → Type 0
@@ -17,6 +16,10 @@ abbrev pub Adds : Step Entry → View Entry ℕ → ℕ → View Entry ℕ → T
 Adds s v found w =
     ((found ≡ s.old) → w.0 ≡ v.0 ++ s.ask ∷ [])
     × (¬ (found ≡ s.old) → (found ≡ length w.0) × (length v.0 < length w.0))
+
+-- the most entries that a history may have
+abbrev pub max_entries : ℕ
+max_entries = 2 ^ 60
 
 -- why an entry gets no place behind these: the history has others there, or as many as it may have
 abbrev pub IsNoPlace : Beginning → NoPlace → Type 0
