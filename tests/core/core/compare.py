@@ -5,7 +5,7 @@ from collections import Counter
 from dataclasses import dataclass, field
 from pathlib import Path
 from types import TracebackType
-from typing import List, NamedTuple, Optional, Type
+from typing import List, NamedTuple, Optional, Tuple, Type
 
 from wakotehu.encoding import GENESIS
 
@@ -81,8 +81,7 @@ class Bench:
         if kept is not None and not (kept / f"base-{height}").exists():
             self.peer.stop()
             shutil.copytree(self.folder, kept / f"base-{height}")
-            self.peer = Peer(self.folder)
-            self.peer.call("setmocktime", GENESIS.time + 600 * height + 10**6)
+            self._restart()
 
     def _lay_base(self) -> None:
         self.peer.call("setmocktime", GENESIS.time + 600 * self.height + 10**6)
@@ -128,28 +127,50 @@ class Bench:
         tree = CoreTree(Verdicts(lines), self.height, reverse=self.reverse, precious_work=self.precious_work)
         expected = play_model(lines, tree)
         self.reverse, self.precious_work = tree.reverse, tree.precious_work
+        if None in expected:
+            self._restart()
         return expected
 
-    def shrink(self, list_: List_) -> List_:
-        """The list with as few commands as still differ."""
-        size = max(1, len(list_.commands) // 2)
+    def _restart(self) -> None:
+        """Starts the peer anew: it forgets its count of preferences, which isn't known behind a tie by addresses."""
+        self.peer.stop()
+        self.peer = Peer(self.folder)
+        self.peer.call("setmocktime", GENESIS.time + 600 * self.height + 10**6)
+        self.reverse, self.precious_work = -1, 0
+
+    def shrink(self, list_: List_) -> Tuple[List_, Difference]:
+        """The list with as few commands as still differ, and how. Each trial has blocks of its own."""
+        kept, salt, last = list(range(len(list_.commands))), 1, None
+        size = max(1, len(kept) // 2)
         while True:
             at = 0
-            while at < len(list_.commands):
-                rest = list_.commands[:at] + list_.commands[at + size :]
-                less = List_(list_.blocks, list_.base, rest, list_.table, list_.outpoints, list_.seed)
-                if rest and self.play(less, Tally()) is not None:
-                    list_ = less
-                else:
+            while at < len(kept):
+                rest = kept[:at] + kept[at + size :]
+                less = self._part(list_.seed, salt, rest)
+                salt += 1
+                found = self.play(less, Tally()) if rest else None
+                if found is None:
                     at += size
+                else:
+                    kept, last = rest, (less, found)
             if size == 1:
-                return list_
+                break
             size //= 2
+        if last is None:
+            raise ValueError("the list doesn't differ again")
+        return last
+
+    def _part(self, seed: int, salt: int, kept: List[int]) -> List_:
+        whole = self.maker.list(seed, salt)
+        return whole._replace(commands=[whole.commands[n] for n in kept])
 
     def report(self, list_: List_, found: Difference) -> str:
-        """The difference, with the list made small and as a scenario that the program plays."""
-        small = self.shrink(list_)
-        again = self.play(small, Tally()) or found
+        """The difference, and the list made small, as a scenario that the program plays."""
+        head = f"base {self.height}, seed {list_.seed}: {found}\n"
+        try:
+            small, again = self.shrink(list_)
+        except ValueError as error:
+            return head + f"{error}\n"
         text = write_scenario(Lines(self.base, small), small.commands)
         heights = ",".join(map(str, HEIGHTS))
-        return f"base {self.height}, seed {list_.seed}: {again}\nregchain run --heights {heights} --scenario - <<'END'\n{text}END\n"
+        return head + f"made small: {again}\nregchain run --heights {heights} --scenario - <<'END'\n{text}END\n"

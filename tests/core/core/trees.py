@@ -7,7 +7,6 @@ from typing import Callable, Dict, List, NamedTuple, Optional, Tuple
 
 from wakotehu.encoding import (
     GENESIS, Input, Output, Transaction, coinbase, hash160, merkle_root, push, push_number, signature_digest, subsidy,
-    write_transaction,
 )  # fmt: skip
 from wakotehu.signatures import Secp256k1
 
@@ -39,8 +38,7 @@ class Made(NamedTuple):
     kind: str
 
 
-@dataclass
-class List_:
+class List_(NamedTuple):
     """A list: blocks by number, the first of them the base, and what is asked."""
 
     blocks: List[Logical]
@@ -111,9 +109,9 @@ class Maker:
             self.base.append(Logical(h - 2 if h > 1 else ROOT, GENESIS.time + 600 * h, [tx]))
             self.coins.append(Made(tx.id, 0, subsidy(h), tx.outputs[0].script, h, True, kind))
 
-    def list(self, seed: int, size: int = 24, marks: bool = True) -> List_:
-        """The list of a seed."""
-        return _Making(self, seed, size, marks).make()
+    def list(self, seed: int, salt: int = 0, size: int = 24) -> List_:
+        """The list of a seed. With another salt it is the same list of other blocks."""
+        return _Making(self, seed, salt, size).make()
 
 
 @dataclass
@@ -129,9 +127,9 @@ class _Branch:
 
 
 class _Making:
-    def __init__(self, maker: Maker, seed: int, size: int, marks: bool) -> None:
-        self.maker, self.chance, self.size, self.marks = maker, random.Random(seed), size, marks
-        self.seed = seed
+    def __init__(self, maker: Maker, seed: int, salt: int, size: int) -> None:
+        self.maker, self.chance, self.size = maker, random.Random(seed), size
+        self.seed, self.salt = seed, salt
         self.scripts = maker.scripts
         self.blocks = list(maker.base)
         self.branches: Dict[int, _Branch] = {}
@@ -148,7 +146,7 @@ class _Making:
         first = len(self.blocks)
         for _ in range(self.size):
             draw = self.chance.random()
-            if draw < 0.7 or len(self.blocks) == first or not self.marks:
+            if draw < 0.7 or len(self.blocks) == first:
                 self._block()
             elif draw < 0.8:
                 self._again(first)
@@ -184,7 +182,7 @@ class _Making:
                 fees += tx[1]
         self.extra += 1
         kind = self.chance.choice(KINDS)
-        first = coinbase(height, subsidy(height) + fees, self.scripts.make(kind, height), struct.pack("<IH", self.seed, self.extra))
+        first = coinbase(height, subsidy(height) + fees, self.scripts.make(kind, height), struct.pack("<IHH", self.seed, self.salt, self.extra))
         block = Logical(parent, max(time, median + 1), [first, *txs])
         number = len(self.blocks)
         fault = self._spoil(block, branch, height, median) if self.chance.random() < 0.25 else False
@@ -300,7 +298,7 @@ def _two_coinbases(m: _Making, block: Logical, branch: _Branch, height: int, med
 
 def _height(m: _Making, block: Logical, branch: _Branch, height: int, median: int) -> None:
     own = m.chance.choice((push_number(height + 1), push(struct.pack("<I", height)), b"\x02\x01\x01"))
-    _first(block, inputs=[block.transactions[0].inputs[0]._replace(script=own + push(bytes([m.extra & 255, 9])))])
+    _first(block, inputs=[block.transactions[0].inputs[0]._replace(script=own + push(struct.pack("<IHH", m.seed, m.salt, m.extra)))])
 
 
 def _length(m: _Making, block: Logical, branch: _Branch, height: int, median: int) -> None:
@@ -354,13 +352,6 @@ def _copy(m: _Making, block: Logical, branch: _Branch, height: int, median: int)
 
 def _swap(m: _Making, block: Logical, branch: _Branch, height: int, median: int) -> None:
     block.transactions[1:] = block.transactions[:0:-1]
-
-
-def _orphan(m: _Making, block: Logical, branch: _Branch, height: int, median: int) -> None:
-    """Its parent is a block that is never submitted."""
-    lost = Logical(block.parent, block.time, [coinbase(height, 0, TRUE, b"\5" + struct.pack("<I", m.extra))])
-    m.blocks.append(lost)
-    block.parent = len(m.blocks) - 1
 
 
 Spoiling = Callable[[_Making, Logical, _Branch, int, int], None]
