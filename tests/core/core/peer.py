@@ -103,7 +103,7 @@ class Peer:
         """The result of a call."""
         return self.calls([(method, params)])[0]
 
-    def calls(self, requests: List[Tuple[str, Sequence[Any]]]) -> List[Any]:
+    def calls(self, requests: Sequence[Tuple[str, Sequence[Any]]]) -> List[Any]:
         """The results of some calls, one after the other, in one batch."""
         answers = self.try_calls(requests)
         for answer in answers:
@@ -111,7 +111,7 @@ class Peer:
                 raise answer
         return answers
 
-    def try_calls(self, requests: List[Tuple[str, Sequence[Any]]]) -> List[Any]:
+    def try_calls(self, requests: Sequence[Tuple[str, Sequence[Any]]]) -> List[Any]:
         """The same; an error stands in the place of its result."""
         batch = [{"id": n, "method": m, "params": list(p)} for n, (m, p) in enumerate(requests)]
         body = json.dumps(batch if len(batch) > 1 else batch[0])
@@ -163,7 +163,8 @@ class Peer:
 
     def propose(self, blocks: Sequence[bytes]) -> List[str]:
         """Of blocks on the best one, without work: what connecting each would come to; "accepted" for null."""
-        requests = [("getblocktemplate", [{"mode": "proposal", "data": b.hex(), "rules": ["mweb", "segwit"]}]) for b in blocks]
+        asked = ({"mode": "proposal", "data": b.hex(), "rules": ["mweb", "segwit"]} for b in blocks)
+        requests: List[Tuple[str, Sequence[Any]]] = [("getblocktemplate", [words]) for words in asked]
         return ["accepted" if a is None else str(a) for a in self.try_calls(requests)]
 
 

@@ -121,6 +121,10 @@ RULES: List[Wrong] = [
 ]
 
 
+def _changed(right: Verdicts, change: Callable[[Verdict], Verdict]) -> Verdicts_:
+    return lambda number: change(right(number))
+
+
 class _Recorded(NamedTuple):
     lines: Lines
     core: List[Seen]
@@ -145,7 +149,9 @@ class Finder:
         for count, (lines, core, reverse, precious_work) in enumerate(self.played, 1):
             right = Verdicts(lines)
             change = wrong.verdict
-            verdict: Verdicts_ = right if change is None else lambda n, r=right, c=change: c(r(n))  # type: ignore[misc]
+            verdict: Verdicts_ = right
+            if change is not None:
+                verdict = _changed(right, change)
             tree = wrong.tree(verdict, self.bench.height, reverse=reverse, precious_work=precious_work)
             try:
                 expected = play_model(lines, tree)

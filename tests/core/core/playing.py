@@ -156,7 +156,7 @@ def run_program(program: str, lines: Lines, scenario: str) -> List[str]:
         file.write_text(scenario)
         table.write_text(table_of(list_))
         heights = ",".join(map(str, HEIGHTS))
-        command = [program, "run", "--scenario", file, "--table", table, "--heights", heights]
+        command = [program, "run", "--scenario", str(file), "--table", str(table), "--heights", heights]
         done = subprocess.run(command, stdout=subprocess.PIPE, stderr=subprocess.PIPE)
     if done.returncode:
         raise RuntimeError(done.stderr.decode())
@@ -287,7 +287,8 @@ class Verdicts:
 
     def _place(self, number: int) -> Tuple[int, int]:
         """The height of a block, and the median time past of its parent."""
-        blocks, height, times = self.lines.list.blocks, 0, []
+        blocks, height = self.lines.list.blocks, 0
+        times: List[int] = []
         at = number
         while at != ROOT:
             height += 1

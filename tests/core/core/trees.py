@@ -2,15 +2,15 @@
 
 import random
 import struct
-from dataclasses import dataclass, field
-from typing import Callable, Dict, List, NamedTuple, Optional, Tuple
+from dataclasses import dataclass
+from typing import Callable, Dict, FrozenSet, List, NamedTuple, Optional, Set, Tuple
 
 from wakotehu.encoding import (
     GENESIS, Input, Output, Transaction, coinbase, hash160, merkle_root, push, push_number, signature_digest, subsidy,
 )  # fmt: skip
 from wakotehu.signatures import Secp256k1
 
-from .peer import HEIGHTS, MAX_MONEY
+from .peer import MAX_MONEY
 from .spelling import ROOT, Logical
 
 FINAL = 0xFFFFFFFF
@@ -30,7 +30,7 @@ class Made(NamedTuple):
     """An output, with how it is spent."""
 
     id: bytes
-    index: int
+    index: int  # type: ignore[assignment]  # tuples have a method of this name, which no one asks of a coin
     value: int
     script: bytes
     height: int
@@ -120,10 +120,8 @@ class _Branch:
 
     height: int
     made: Dict[Tuple[bytes, int], Made]
-    spent: frozenset
+    spent: FrozenSet[Tuple[bytes, int]]
     times: Tuple[int, ...]
-    #: The ids of all transactions of the branch above the base, with their outputs.
-    sound: bool = True
 
 
 class _Making:
@@ -196,7 +194,7 @@ class _Making:
             self.outpoints.append((top.id, 0))
         self.branches[number] = _Branch(height, made, frozenset(spent), (*branch.times, block.time)[-11:])
 
-    def _coins(self, branch: _Branch, height: int, spent: set, made: Dict[Tuple[bytes, int], Made]) -> List[Made]:
+    def _coins(self, branch: _Branch, height: int, spent: Set[Tuple[bytes, int]], made: Dict[Tuple[bytes, int], Made]) -> List[Made]:
         ripe = height - 100 if self.chance.random() < 0.97 else height - 99
         count = min(len(self.maker.coins), max(ripe, 0))
         old = [self.maker.coins[self.chance.randrange(count)] for _ in range(3)] if count else []
@@ -205,7 +203,7 @@ class _Making:
         return [coin for coin in found if coin.kind != "false" or self.chance.random() < 0.1]
 
     def _spend(
-        self, branch: _Branch, height: int, median: int, spent: set, made: Dict[Tuple[bytes, int], Made]
+        self, branch: _Branch, height: int, median: int, spent: Set[Tuple[bytes, int]], made: Dict[Tuple[bytes, int], Made]
     ) -> Optional[Tuple[Transaction, int]]:
         """A transaction that spends coins of the branch, most often by its rules; and its fee."""
         coins = self._coins(branch, height, spent, made)
