@@ -14,7 +14,7 @@ MANY = 102_400
 # How many of a step's allocations are refused from its first one on, and up to its last one. Of those between every
 # APART-th is refused: each in turn takes a quarter of an hour of a processor (by APART = 1). After every LONG-th the
 # call is made again.
-ENDS, APART, LONG = 100, 100, 16
+ENDS, APART, LONG = 60, 250, 20
 
 
 def coins(name: str, numbers: list[int]) -> list[str]:
