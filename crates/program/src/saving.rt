@@ -59,11 +59,6 @@ impl Places {
             heights: Place::new(alloc, folder, HEIGHTS)?,
         })
     }
-
-    /// Those that follow the journal.
-    fn others(&self) -> [&Place; 3] {
-        [&self.blocks, &self.table, &self.heights]
-    }
 }
 
 /// Refuses a name that is no folder's: nothing can be saved there.
@@ -110,10 +105,9 @@ where
         let _ = take_away(rt, folder, &places);
         return Err(fault);
     }
-    for place in places.others() {
-        put_in_place(rt, folder, place)?;
-    }
-    Ok(())
+    put_in_place(rt, folder, &places.blocks)?;
+    put_in_place(rt, folder, &places.table)?;
+    put_in_place(rt, folder, &places.heights)
 }
 
 /// Locks a folder, in which no other run saves then. One that does isn't waited for; audits that read are. On a file
@@ -135,13 +129,19 @@ fn lock<R: Files<File = File>>(rt: &R, folder: &str) -> io::Result<File> {
 /// Ends what a run began that was killed: puts in place what counts, and takes away what doesn't.
 fn finish_last<'w, R: Files>(rt: &R, folder: &'w str, places: &Places) -> Result<(), Fault<'w>> {
     if !stands(rt, places.journal.new.as_str()) {
-        for place in places.others() {
-            if is_file(rt, place.new.as_str()) {
-                put_in_place(rt, folder, place)?;
-            }
-        }
+        finish(rt, folder, &places.blocks)?;
+        finish(rt, folder, &places.table)?;
+        finish(rt, folder, &places.heights)?;
     }
     take_away(rt, folder, places)
+}
+
+/// Puts a file in its place, if it is still under its other name.
+fn finish<'w, R: Files>(rt: &R, folder: &'w str, place: &Place) -> Result<(), Fault<'w>> {
+    if is_file(rt, place.new.as_str()) {
+        return put_in_place(rt, folder, place);
+    }
+    Ok(())
 }
 
 /// Makes all files, none of them in its place.
@@ -211,9 +211,9 @@ fn put_in_place<'w, R: Files>(rt: &R, folder: &'w str, place: &Place) -> Result<
 
 /// Takes away all that isn't in its place, the journal last: as long as it is there nothing of it counts.
 fn take_away<'w, R: Files>(rt: &R, folder: &'w str, places: &Places) -> Result<(), Fault<'w>> {
-    for place in places.others() {
-        remove(rt, folder, place)?;
-    }
+    remove(rt, folder, &places.blocks)?;
+    remove(rt, folder, &places.table)?;
+    remove(rt, folder, &places.heights)?;
     remove(rt, folder, &places.journal)
 }
 
