@@ -149,8 +149,8 @@ wakotehu_code wakotehu_tip_at(wakotehu_handle handle, size_t place, wakotehu_tip
 wakotehu_code wakotehu_coin_at(wakotehu_handle handle, const uint8_t *id, uint32_t index, wakotehu_coin *coin,
                                uint8_t *script, size_t length);
 
-/* The bytes of a block that is kept, and how many there are (`needed`); WAKOTEHU_NONE, and 0, where there is none, and for
- * the genesis block. The first of `bytes`, of `length` bytes, become the block; where it is too short nothing is written
+/* The bytes of a block that is kept, and how many there are (`needed`); WAKOTEHU_NONE, and 0, where there is none, and
+ * for the genesis block. The first of `bytes`, of `length` bytes, become the block; where it is too short nothing is written
  * there, and the answer is WAKOTEHU_TOO_SMALL. bytes may be null where length is 0. Kept are the blocks that were
  * accepted or inconclusive, and those that were refused over the coins (they come again as duplicate-invalid). Of a
  * block that was refused by itself or by its place nothing is kept. */
@@ -338,8 +338,9 @@ wakotehu_code wakotehu_table_has(const char *table, size_t length, const uint8_t
                                  const uint8_t *signature, size_t signature_length, const uint8_t *digest,
                                  uint64_t *line, uint32_t *yes);
 
-/* Adds them: a line is put behind the first `length` of the table's `room` bytes, and `length` grows by its bytes, at most
- * 2 * (key_length + signature_length) + 69. Where there is no room for it, WAKOTEHU_TOO_SMALL, and nothing changes. */
+/* Adds them: a line is put behind the first `length` of the table's `room` bytes, and `length` grows by its bytes, at
+ * most 2 * (key_length + signature_length) + 69. Where there is no room for it, WAKOTEHU_TOO_SMALL, and nothing
+ * changes. */
 wakotehu_code wakotehu_table_add(char *table, size_t room, size_t *length, const uint8_t *key, size_t key_length,
                                  const uint8_t *signature, size_t signature_length, const uint8_t *digest);
 

@@ -1,5 +1,5 @@
-/* A module in the shape that bitcoinfuzz asks of one (github.com/brunoerg/bitcoinfuzz): a class over its BaseModule, each of
- * whose entry points gives an answer that is compared with those of the other modules, or none.
+/* A module in the shape that bitcoinfuzz asks of one (github.com/brunoerg/bitcoinfuzz): a class over its BaseModule, each
+ * of whose entry points gives an answer that is compared with those of the other modules, or none.
  *
  * It was written by knowledge of that interface, and wasn't tried there: names and types of the entry points may have to
  * follow the version that is used. ffi/check compiles it by itself, without a BaseModule, and makes some calls

@@ -63,7 +63,8 @@ class BesideBitcoinlib(unittest.TestCase):
             told = c.transaction(raw + rng.randbytes(rng.randrange(3)))
             self.assertEqual((told.id, told.size), (tx.GetTxid(), len(raw)))
             self.assertEqual((told.inputs, told.outputs), (len(tx.vin), len(tx.vout)))
-            self.assertEqual(c.signature_digest(raw, place, code, kind), RawSignatureHash(code, tx, place, kind)[0], (SEED, n))
+            expected = RawSignatureHash(code, tx, place, kind)[0]
+            self.assertEqual(c.signature_digest(raw, place, code, kind), expected, (SEED, n))
             self.assertEqual(c.double_sha(raw), Hash(raw))
 
     def test_parts_read_and_written(self) -> None:
@@ -85,7 +86,8 @@ class BesideBitcoinlib(unittest.TestCase):
         values = (0, 1, 21 * 10**14, 21 * 10**14 + 1, -1, 10**15)
         points = [COutPoint(b"\7" * 32, n) for n in range(3)] + [COutPoint()]
         for n in range(COUNT):
-            ins = [CTxIn(rng.choice(points), CScript(bytes(rng.choice((1, 2, 100, 101))))) for _ in range(rng.randrange(1, 3))]
+            scripts = [CScript(bytes(rng.choice((1, 2, 100, 101)))) for _ in range(rng.randrange(1, 3))]
+            ins = [CTxIn(rng.choice(points), script) for script in scripts]
             outs = [CTxOut(rng.choice(values), CScript(b"")) for _ in range(rng.randrange(3))]
             tx = CTransaction(ins, outs)
             found = c.transaction(tx.serialize())
@@ -217,7 +219,7 @@ class BesideBitcoinlib(unittest.TestCase):
         rng = random.Random(SEED + 7)
         for n in range(COUNT // 20):
             table = c.Table(rng.choice((b"", b"# words\n", b"\n", b"aa - " + b"0" * 64)))
-            triples = [(rng.randbytes(rng.randrange(3)), rng.randbytes(rng.randrange(3)), rng.randbytes(32)) for _ in range(4)]
+            triples = [tuple(rng.randbytes(rng.randrange(3)) for _ in range(2)) + (rng.randbytes(32),) for _ in range(4)]
             for k, triple in enumerate(triples):
                 self.assertFalse(table.has(*triple), (SEED, n))
                 table.add(*triple)
