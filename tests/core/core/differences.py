@@ -157,6 +157,15 @@ KINDS: Tuple[Kind, ...] = (
         """,
     ),
     _kind(
+        "a transaction without inputs",
+        """
+        a1 on base no inputs
+        """,
+        """
+        submit a1      | decode-failed, base | bad-txns-vin-empty, base
+        """,
+    ),
+    _kind(
         "a target of the header's own",
         """
         a1 on base bits 1d00ffff
@@ -261,6 +270,10 @@ def _bytes_behind(block: Logical, height: int, maker: Maker, blocks: List[Logica
     block.behind = b"\0"
 
 
+def _no_inputs(block: Logical, height: int, maker: Maker, blocks: List[Logical]) -> None:
+    block.transactions.append(Transaction(1, [], [Output(0, TRUE)], 0))
+
+
 def _own_bits(block: Logical, height: int, maker: Maker, blocks: List[Logical]) -> None:
     block.bits = 0x1D00FFFF
 
@@ -290,6 +303,7 @@ FAULTS: Dict[str, Callable[[Logical, int, Maker, List[Logical]], None]] = {
     "not final": _not_final,
     "another height": _another_height,
     "bytes behind": _bytes_behind,
+    "no inputs": _no_inputs,
     "bits 1d00ffff": _own_bits,
     "makes scripts of many operations": _many_operations,
     "missing input and then too many operations": _missing_and_operations,

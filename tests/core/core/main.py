@@ -8,7 +8,7 @@ from collections import Counter
 from pathlib import Path
 from typing import Dict, List, Sequence
 
-from . import differences, peer, scripts
+from . import differences, peer, scripts, table
 from .compare import Bench, Tally
 from .planted import RULES, Finder
 from .playing import Lines, play_library, play_peer
@@ -27,7 +27,7 @@ def main(words: Sequence[str]) -> int:
     print(peer.version())
     with tempfile.TemporaryDirectory() as room:
         run = _Run(options, Path(room))
-        faults = run.kinds() + run.lists() + run.pairs() + run.planted()
+        faults = run.kinds() + run.table() + run.lists() + run.pairs() + run.planted()
     print(f"{time.monotonic() - begun:.0f} seconds, {'no difference that docs/CORE.md lacks' if not faults else f'{faults} faults'}")
     return 1 if faults else 0
 
@@ -66,6 +66,23 @@ class _Run:
                         faults += 1
                         print(f"FAULT {kind.name}: {fault}")
         print(f"{len(differences.KINDS)} kinds of differences, each as docs/CORE.md has it" if not faults else "")
+        return faults
+
+    def table(self) -> int:
+        """The table of scenarios at both, on a peer of its own each."""
+        if self.short or self.options.program is None:
+            return 0
+        faults, tally = 0, Tally()
+        for name, list_ in table.lists(self.options.program):
+            with self._bench(0) as bench:
+                found = bench.play(list_, tally)
+                if found is not None:
+                    faults += 1
+                    print(f"FAULT the scenario {name}: {found}")
+        print(
+            f"{tally.lists} scenarios of the table, {tally.commands} commands: {tally.equal} answered alike, "
+            f"{tally.explained} otherwise as foretold"
+        )
         return faults
 
     def lists(self) -> int:

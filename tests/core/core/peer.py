@@ -86,7 +86,7 @@ class Peer:
         self._process.stderr.close()
 
     def _wait(self) -> None:
-        end = time.monotonic() + 60
+        end = time.monotonic() + 300
         while time.monotonic() < end:
             if self._process.poll() is not None:
                 assert self._process.stderr is not None

@@ -7,12 +7,13 @@ from typing import Callable, Dict, Iterator, List, NamedTuple, Sequence, Set, Tu
 
 from wakotehu import consensus
 from wakotehu.encoding import (
-    Block, Header, Input, Output, Transaction, coinbase, hash160, merkle_root, push, push_number, signature_digest, subsidy,
+    Block, Header, Input, Output, Transaction, coinbase, double_sha, hash160, merkle_root, push, push_number, signature_digest, subsidy,
     write_block, write_transaction,
 )  # fmt: skip
 from wakotehu.signatures import Secp256k1, asked
 
 from .compare import Bench
+from .peer import has_work
 from .spelling import BITS, Logical
 from .trees import FINAL, TRUE
 
@@ -324,6 +325,7 @@ class Pairs:
         self.author = Author(random.Random(self.seed))
         self.height = self.bench.height + 2
         self.played: List[Tuple[Pair, str]] = []
+        self._value = 0
 
     def play(self, count: int) -> None:
         """So many pairs, over a fifth as many outputs."""
@@ -334,7 +336,7 @@ class Pairs:
     def _play_over(self, outputs: List[bytes], times: int) -> None:
         bench = self.bench
         coin = next(c for c in bench.maker.coins if c.kind == "true")
-        value = coin.value // len(outputs)
+        value = self._value = coin.value // len(outputs)
         funding = Transaction(1, [Input(coin.id, coin.index, b"", FINAL)], [Output(value, o) for o in outputs], 0)
         above = bench.maker.base[-1].time + 600
         # A coinbase of its own, so that no two blocks are equal.
@@ -353,7 +355,21 @@ class Pairs:
             part = pairs[first : first + 200]
             said = bench.peer.propose([proposal(p, value, self.height, above + 600, id) for p in part])
             self.played += zip(part, said)
+        for pair, said in self.played[-len(pairs) :: max(1, len(pairs) // 8)]:
+            self._submit(blocks, id, pair, said)
         bench.peer.mark("invalidate", id)
+
+    def _submit(self, blocks: List[Logical], parent: bytes, pair: Pair, said: str) -> None:
+        """Submits a pair's block with work, which has to be answered as its proposal was."""
+        bench = self.bench
+        bare = proposal(pair, self._value, self.height, blocks[-1].time + 600, parent)
+        header = bytearray(bare[:80])
+        while not has_work(bytes(header)):
+            header[76:80] = struct.pack("<I", struct.unpack("<I", header[76:80])[0] + 1)
+        answer = bench.peer.submit(bytes(header) + bare[80:])
+        if (answer == "accepted") != (said == "accepted"):
+            raise RuntimeError(f"a block is answered {answer}, and its proposal {said}")
+        bench.peer.mark("invalidate", double_sha(bytes(header)))
 
     def differing(self, accepts: Callable[[Pair], bool]) -> Iterator[Disagreement]:
         """The pairs of which something else is said."""

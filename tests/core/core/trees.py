@@ -7,6 +7,7 @@ from typing import Callable, Dict, FrozenSet, List, NamedTuple, Optional, Set, T
 
 from wakotehu.encoding import (
     GENESIS, Input, Output, Transaction, coinbase, hash160, merkle_root, push, push_number, signature_digest, subsidy,
+    write_transaction,
 )  # fmt: skip
 from wakotehu.signatures import Secp256k1
 
@@ -142,6 +143,8 @@ class _Making:
     def make(self) -> List_:
         self.scripts.lines = {}
         first = len(self.blocks)
+        if self.seed % 8 == 0:
+            self._deep()
         for _ in range(self.size):
             draw = self.chance.random()
             if draw < 0.7 or len(self.blocks) == first:
@@ -154,6 +157,16 @@ class _Making:
                 self.commands.append(Command(word, self.chance.randrange(first, len(self.blocks))))
         return List_(self.blocks, first, self.commands, list(self.scripts.lines), self.outpoints[-40:], self.seed)
 
+    def _deep(self) -> None:
+        """Two branches of some 60 blocks: the second takes the first back, or has a block in it that fails."""
+        lengths = self.chance.choice(((60, 61), (59, 61), (61, 61)))
+        for length, spoils in zip(lengths, (False, self.chance.random() < 0.5)):
+            above = self.root
+            fails = self.chance.randrange(length)
+            for number in range(length):
+                self._block(above, _amount if spoils and number == fails else None)
+                above = len(self.blocks) - 1
+
     def _again(self, first: int) -> None:
         number = self.chance.randrange(first, len(self.blocks))
         self.commands.append(Command("submit", number, self._now(self.blocks[number])))
@@ -163,17 +176,21 @@ class _Making:
 
     # ---- a block
 
-    def _block(self) -> None:
-        parents = list(self.branches)
-        weights = [1 + 4 * (n > len(self.maker.base)) + 8 * (n == parents[-1]) for n in range(len(parents))]
-        parent = self.chance.choices(parents, weights)[0]
+    def _block(self, parent: Optional[int] = None, spoiling: "Optional[Spoiling]" = None) -> None:
+        """A block on some other, a quarter of which are spoiled; or one on this, without transactions of its own."""
+        is_plain = parent is not None
+        if parent is None:
+            parents = list(self.branches)
+            weights = [1 + 4 * (n > len(self.maker.base)) + 8 * (n == parents[-1]) for n in range(len(parents))]
+            parent = self.chance.choices(parents, weights)[0]
+            spoiling = self.chance.choice(FAULTS) if self.chance.random() < 0.25 else None
         branch = self.branches[parent]
         height = branch.height + 1
         median = sorted(branch.times)[len(branch.times) // 2]
         time = self.chance.choice((median + 1, branch.times[-1] + 600, branch.times[-1] + 1, median + 600))
         txs: List[Transaction] = []
         spent, made, fees = set(branch.spent), dict(branch.made), 0
-        for _ in range(self.chance.choice((0, 0, 1, 1, 2, 3))):
+        for _ in range(0 if is_plain else self.chance.choice((0, 0, 1, 1, 2, 3))):
             tx = self._spend(branch, height, median, spent, made)
             if tx is not None:
                 txs.append(tx[0])
@@ -183,10 +200,11 @@ class _Making:
         first = coinbase(height, subsidy(height) + fees, self.scripts.make(kind, height), struct.pack("<IHH", self.seed, self.salt, self.extra))
         block = Logical(parent, max(time, median + 1), [first, *txs])
         number = len(self.blocks)
-        fault = self._spoil(block, branch, height, median) if self.chance.random() < 0.25 else False
+        if spoiling is not None:
+            spoiling(self, block, branch, height, median)
         self.blocks.append(block)
-        self.commands.append(Command("submit", number, self._now(block)))
-        if fault and self.chance.random() < 0.6:
+        self.commands.append(Command("submit", number, block.time if is_plain else self._now(block)))
+        if spoiling not in (None, _amount) and self.chance.random() < 0.6:
             return
         top = block.transactions[0] if block.transactions else first
         if top.outputs:
@@ -249,11 +267,8 @@ class _Making:
             return self.chance.choice((2, 2, 3, min(age, 65535)))
         return self.chance.choice((FINAL, FINAL - 1, 0, min(age, 65535), min(age + 1, 65535), 1 << 22, 1 << 31))
 
-    # ---- faults
 
-    def _spoil(self, block: Logical, branch: _Branch, height: int, median: int) -> bool:
-        self.chance.choice(FAULTS)(self, block, branch, height, median)
-        return True
+# ---- faults
 
 
 def _first(block: Logical, **changes: object) -> None:
@@ -348,6 +363,20 @@ def _copy(m: _Making, block: Logical, branch: _Branch, height: int, median: int)
         del block.transactions[1:]
 
 
+def _size(m: _Making, block: Logical, branch: _Branch, height: int, median: int) -> None:
+    """As many bytes as a block may have, or one more."""
+    top = block.transactions[0]
+
+    def filled(count: int) -> List[Transaction]:
+        return [top._replace(outputs=[*top.outputs, Output(0, bytes(count))]), *block.transactions[1:]]
+
+    def size(txs: List[Transaction]) -> int:
+        return 81 + sum(len(write_transaction(tx)) for tx in txs)
+
+    wanted = m.chance.choice((1000000, 1000001))
+    block.transactions = filled(900000 + wanted - size(filled(900000)))
+
+
 def _swap(m: _Making, block: Logical, branch: _Branch, height: int, median: int) -> None:
     block.transactions[1:] = block.transactions[:0:-1]
 
@@ -356,5 +385,5 @@ Spoiling = Callable[[_Making, Logical, _Branch, int, int], None]
 
 FAULTS: Tuple[Spoiling, ...] = (
     _amount, _amount, _root, _work, _bits, _old, _version, _no_coinbase, _two_coinbases, _height, _length, _negative,
-    _no_outputs, _twice, _null, _twin, _missing, _missing, _sigops, _copy, _swap,
+    _no_outputs, _twice, _null, _twin, _missing, _missing, _sigops, _copy, _swap, _size,
 )  # fmt: skip
