@@ -353,8 +353,8 @@ class Pairs:
         ]
         for first in range(0, len(pairs), 200):
             part = pairs[first : first + 200]
-            said = bench.peer.propose([proposal(p, value, self.height, above + 600, id) for p in part])
-            self.played += zip(part, said)
+            answers = bench.peer.propose([proposal(p, value, self.height, above + 600, id) for p in part])
+            self.played += zip(part, answers)
         for pair, said in self.played[-len(pairs) :: max(1, len(pairs) // 8)]:
             self._submit(blocks, id, pair, said)
         bench.peer.mark("invalidate", id)
