@@ -102,8 +102,7 @@ where
 
 /// The end of a node that has no seat. It takes the node: where one path drops a node and another hands it on, nothing
 /// is proved.
-fn without_seats<J: Naming>(node: Node<'_, J>) -> Trouble {
-    let _ = node.finish(&mut []);
+fn without_seats<J: Naming>(_node: Node<'_, J>) -> Trouble {
     Trouble::Unreadable
 }
 

@@ -16,8 +16,8 @@ fn count_seats<J: Naming>(
 ) -> Result<usize, OpenFault>
     requires { opening ≡ J.origin }
 {
-    let (node, seats) = Node::<J>::open(alloc, opening, workers, &Open)?;
-    let _ = node.finish(&mut []);
+    let (node, mut seats) = Node::<J>::open(alloc, opening, workers, &Open)?;
+    let _ = node.finish(seats.as_mut_slice());
     Ok(seats.len())
 }
 
