@@ -1,4 +1,5 @@
 -- What private clauses and invariants alone cite.
+pub mod EarlyScripts
 pub mod Keeping
 pub mod PublishedState
 pub mod Seats

@@ -3,6 +3,7 @@
 ghost use Rattle.std.specs.Prelude.{◌≡◌, IfOk, IfSome};
 ghost use Rattle.view.specs.ViewState.{IsExact};
 ghost use Rattle.txn.specs.Identity.{ids_of};
+ghost use Rattle.node.specs.inside.EarlyScripts.{AreEarly};
 
 use crate::node::Node;
 use crate::seat::Seat;
@@ -26,6 +27,7 @@ fn jobs_over<'c>(
 ) -> Result<Option<EarlyJobs<'c>>, Memory>
     requires exact { IsExact view.now }
     requires ids { block.now.ids.items ≡ ids_of block.now.block.txs }
+    ensures { IfOk result (AreEarly view.now params.now block.entry.now) }
 {
     if block.block.header.prev != view.best() {
         return Ok(None);

@@ -1,0 +1,33 @@
+-- The scripts of a block that can be run before the lock is taken.
+use Rattle.std.specs.Prelude.{◌≡◌, ◌⊎◌, ◌+◌, List, [], Option, None, Some}
+use Rattle.txn.specs.declared.tx.Tx.{Tx}
+use Rattle.tree.specs.Branches.{height}
+use Rattle.queue.specs.Jobs.{Batch}
+use Rattle.rules.specs.declared.params.Params.{Params}
+use Rattle.rules.specs.Params.{at}
+use Rattle.connect.specs.Scripts.{flags_of}
+use Rattle.connect.specs.Early.{early_spendings}
+use Rattle.chain.specs.declared.submission.SubmittedBlock.{SubmittedBlock}
+use Rattle.chain.specs.Regtest.{regtest}
+use Rattle.chain.specs.Settle.{active, best}
+use Rattle.view.specs.ViewState.{ViewState, state_of}
+
+-- the block stands on the best block of a view
+abbrev pub StandsOnBest : ViewState → SubmittedBlock → Type 0
+StandsOnBest v b = b.block.header.prev ≡ best (regtest v.origin.params v.origin.triples) (state_of v.origin v.journal)
+
+-- of each input whose coin the view has, or an earlier transaction of the block makes, its script, under the rules of the
+-- height above the view's
+abbrev pub scripts_over : ViewState → Params → SubmittedBlock → Batch
+scripts_over v params b =
+    let s = state_of v.origin v.journal in
+    record {
+      txs = b.block.txs;
+      flags = flags_of (at params (height s.blocks (active (regtest v.origin.params v.origin.triples) s) + 1));
+      spendings = early_spendings v.coins b.block.txs;
+    }
+
+-- these, where the block stands on the best one and there are any
+abbrev pub AreEarly : ViewState → Params → SubmittedBlock → Option Batch → Type 0
+AreEarly v params b (Some jobs) = StandsOnBest v b × (jobs ≡ scripts_over v params b)
+AreEarly v params b None = (StandsOnBest v b → ⊥) ⊎ (early_spendings v.coins b.block.txs ≡ [])
