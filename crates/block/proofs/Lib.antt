@@ -1,10 +1,11 @@
 pub mod Front
 pub mod Halving
 pub mod Highest
+pub mod Lawful
+pub mod Lengths
 pub mod OneReading
 pub mod Parts
 pub mod Records
-pub mod Lawful
-pub mod Lengths
+pub mod Spelled
 pub mod Tree
 pub mod Whole

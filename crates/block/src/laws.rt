@@ -1,8 +1,12 @@
 //! What holds of the grammars of blocks and of blk files, of Merkle trees, and of the genesis block.
 
-ghost use Rattle.std.specs.Prelude.{◌≡◌, ◌||◌, List, ℕ, [], ◌∷◌, ◌++◌, Some};
+ghost use Rattle.std.specs.Prelude.{◌≡◌, ◌||◌, List, ℕ, [], ◌∷◌, ◌++◌, Ok, Some};
 ghost use Rattle.hash.specs.declared.id.Id.{Id};
+ghost use Rattle.wire.specs.Grammar.{IsBytes};
+ghost use Rattle.txn.specs.declared.tx.Tx.{Tx};
+ghost use Rattle.txn.specs.Grammar.{transaction};
 ghost use Rattle.txn.specs.Identity as txn;
+ghost use Rattle.txn.specs.computed.Reading.{tx_at};
 ghost use Rattle.block.specs.declared.block.Block.{Block};
 ghost use Rattle.block.specs.Grammar.{block};
 ghost use Rattle.block.specs.Decoding.{block_of_bytes};
@@ -36,6 +40,20 @@ pub fn a_run_gives_the_records()
 /// is too long.
 pub fn what_is_spelled_is_read()
     ensures { (b : Block) → block.Lawful b → block_of_bytes (block.spell b) ≡ Some b }
+{}
+
+/// Bytes that are read as a block are its spelling, and it is lawful. So bytes are read as a block exactly where they
+/// spell one.
+pub fn what_is_read_is_spelled()
+    ensures { (bytes : List ℕ) (b : Block) → IsBytes bytes → block_of_bytes bytes ≡ Some b
+        → block.Lawful b × (bytes ≡ block.spell b) }
+{}
+
+/// Bytes that begin with what is read as a transaction begin with its spelling, and it is lawful. So a transaction is read
+/// at the front of bytes exactly where one is spelled there ([`txn::laws::what_is_spelled_is_read`]).
+pub fn a_transaction_that_is_read_is_spelled()
+    ensures { (bytes rest : List ℕ) (t : Tx) → IsBytes bytes → tx_at bytes ≡ Ok (t, rest)
+        → transaction.Lawful t × (bytes ≡ transaction.spell t ++ rest) }
 {}
 
 /// Two ids or more have the root of the level above.

@@ -1,0 +1,5 @@
+use Rattle.block.proofs.Spelled.{decoded-is-spelled}
+use Rattle.block.proofs.laws.what_is_read_is_spelled.Goals as goal
+
+pub returns : goal.returns
+returns c = λ bytes b fits read. decoded-is-spelled bytes b fits read
