@@ -135,8 +135,7 @@ fn history_and_seats<'g, J: Naming>(
     } = opening;
     let shared = Arc::try_clone(table)?;
     let seen = note.copy();
-    let Opened { history, readers } =
-        open_history(alloc, params, shared, seats, counter, note)?;
+    let Opened { history, readers } = open_history(alloc, params, shared, seats, counter, note)?;
     let list = seat_list(alloc, params, table, seats, tokens, &seen, readers)?;
     Ok((history, list))
 }

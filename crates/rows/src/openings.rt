@@ -44,7 +44,10 @@ const REFUSED: [(usize, usize, OpenFault); 4] = [
 fn openings(rt: HostRuntime) -> Result<(), Fail> {
     let table = Arc::new(rt.alloc(), Table::new(rt.alloc()))?;
     for (workers, seats, fault) in REFUSED {
-        assert_eq!(rt; opened(rt.alloc(), &table, workers, seats).err(), Some(fault));
+        assert_eq!(rt;
+            opened(rt.alloc(), &table, workers, seats).err(),
+            Some(fault)
+        );
     }
     assert_eq!(rt; opened(rt.alloc(), &table, 16, 16)?, 16);
     Ok(())

@@ -154,11 +154,7 @@ fn publish_twice<J: Naming, R: Wait>(rt: &R, writer: ViewWriter<J>, told: &Told)
 }
 
 /// Enters, and leaves when another reader has come and gone many times: how often was published meanwhile.
-fn stay_inside<J: Naming>(
-    first: ViewReader<J>,
-    second: ViewReader<J>,
-    told: &Told,
-) -> Option<u64> {
+fn stay_inside<J: Naming>(first: ViewReader<J>, second: ViewReader<J>, told: &Told) -> Option<u64> {
     let inside = enter(first).ok()?;
     told.is_inside.store(true, SeqCst);
     let has_come = told.wait_for_the_writer();

@@ -13,8 +13,8 @@ use activate::Core;
 use curve::Table;
 use rules::Params;
 use std::alloc::Global;
-use std::sync::atomic::AtomicU64;
 use std::sync::Arc;
+use std::sync::atomic::AtomicU64;
 use view::{
     EntryCount, Hub, Naming, Note, View, ViewReader, ViewWriter, another_reader, open_writer,
 };

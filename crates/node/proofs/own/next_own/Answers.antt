@@ -14,7 +14,7 @@ returns-then-is_some c p =
     elim c.then-is_some.branch [
       | then-is_some-via-then-is_some b ↦ cc (ap is_some reply, c.is_some.ensures, b.if-is_some.true)
       | then-is_some-via-else-is_some+in_ok-get+then-not-is_same_command b ↦
-        let there = b.in_ok-get.ensures.lookup in
-        let same : b.in_ok-get.field-0.now ≡ w.0 = there.1 ∙ get_or_from_slice_get c.args.owed.now c.args.count w.0 b.in_ok-get.field-0.now w.1 in
-        cc (b.is_same_command.ensures.1 (command ∙ sym same), b.if-not-is_same_command.true)
+          let there = b.in_ok-get.ensures.lookup in
+          let same : b.in_ok-get.field-0.now ≡ w.0 = there.1 ∙ get_or_from_slice_get c.args.owed.now c.args.count w.0 b.in_ok-get.field-0.now w.1 in
+          cc (b.is_same_command.ensures.1 (command ∙ sym same), b.if-not-is_same_command.true)
     ]
