@@ -6,7 +6,7 @@ use Rattle.seats.proofs.OpeningViews.{exact_at_first}
 use Rattle.seats.proofs.inside.open_views.Goals as goal
 
 pub open_writer-requires-clause-exact : goal.open_writer-requires-clause-exact
-open_writer-requires-clause-exact g c =
+open_writer-requires-clause-exact g c _ _ =
     let t = arc_value c.args.table in
     let f = (c.in_ok-core.ensures.follows t).0 in
     let n = c.in_ok-info.ensures in
