@@ -79,7 +79,7 @@ class Bench:
         self.reverse, self.precious_work = -1, 0
         self._lay_base()
         if kept is not None and not (kept / f"base-{height}").exists():
-            self.peer.stop()
+            self.peer.stop(is_kept=True)
             shutil.copytree(self.folder, kept / f"base-{height}")
             self._restart()
 
@@ -133,7 +133,7 @@ class Bench:
 
     def _restart(self) -> None:
         """Starts the peer anew: it forgets its count of preferences, which isn't known behind a tie by addresses."""
-        self.peer.stop()
+        self.peer.stop(is_kept=True)
         self.peer = Peer(self.folder)
         self.peer.call("setmocktime", GENESIS.time + 600 * self.height + 10**6)
         self.reverse, self.precious_work = -1, 0

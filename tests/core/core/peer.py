@@ -73,13 +73,13 @@ class Peer:
     ) -> None:
         self.stop()
 
-    def stop(self) -> None:
-        """Ends the process, its data written."""
+    def stop(self, is_kept: bool = False) -> None:
+        """Ends the process; at once where its data aren't kept, since it takes half a minute to end by itself."""
         if self._process.poll() is None:
-            self._process.terminate()
-            try:
-                self._process.wait(60)
-            except subprocess.TimeoutExpired:
+            if is_kept:
+                self._process.terminate()
+                self._process.wait(120)
+            else:
                 self._process.kill()
                 self._process.wait()
         assert self._process.stderr is not None
