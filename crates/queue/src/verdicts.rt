@@ -71,7 +71,7 @@ impl<'t> Verdicts<'t> {
     /// Whether the verdict at a place fits a job: whether it was asked of an equal transaction, for the same input, which
     /// spends the same script, under the same rules. At a place without a verdict none fits.
     ///
-    /// Such a job isn't run again where these verdicts are handed in ([`crate::first_failure_with`]).
+    /// Such a job isn't run again where these verdicts are passed ([`crate::first_failure_with`]).
     pub fn fits(&self, place: usize, job: &Job) -> bool
         ensures { IsTrue result ↔
             (slice_get (questions self.now.batch) place ≡ Some (question_of job.now)) }

@@ -1,4 +1,4 @@
-"""Pairs of input and output scripts by chance, put to both: does the one spend the other?"""
+"""Random pairs of input and output scripts, put to both: does the one spend the other?"""
 
 import random
 import struct
