@@ -1,5 +1,5 @@
 -- The first comma of a text that begins with a numeral.
-use Rattle.std.proofs.Common.{◌≡◌, ◌≢◌, ℕ, ◌+◌, ◌<◌, ◌≤◌, false, true, List, ◌∷◌, ◌++◌, length, get_or, take, drop, ap, sym, ◌∙◌, arith, ◌==◌}
+use Rattle.std.proofs.Common.{◌≡◌, ◌≢◌, ℕ, ◌+◌, false, List, ◌∷◌, ◌++◌, length, get_or, take, drop, ap, ◌∙◌, arith, ◌==◌}
 use Rattle.std.specs.Int.{IsInRange}
 use Rattle.std.specs.Str.Parse.{IsNumeral}
 use Rattle.std.specs.List.{position_or_len, before_first, after_first}

@@ -1,5 +1,5 @@
 -- What is left of a text once a front of it was written.
-use Rattle.std.proofs.Common.{◌≡◌, ℕ, List, [], ◌∷◌, ◌++◌, refl, sym, ap, ◌∙◌, append_assoc, append-nil}
+use Rattle.std.proofs.Common.{◌≡◌, ℕ, List, [], ◌∷◌, ◌++◌, sym, ap, ◌∙◌, append_assoc, append-nil}
 use Rattle.std.specs.List.{concat, FoldsTo}
 use Rattle.std.specs.Fmt.{WritesInCalls, WritesText}
 use Rattle.std.specs.Prelude.{Option, Some, None, IfSome}

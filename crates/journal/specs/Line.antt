@@ -1,6 +1,6 @@
 -- A line of the journal.
-use Rattle.std.specs.Prelude.{◌≡◌, ◌⊎◌, ℕ, ◌+◌, ◌<◌, List, [], ◌∷◌, ◌++◌, Option, Some, None, IfSome, length, codes, slice_get}
-use Rattle.std.specs.Fmt.{decimal, ◌++?◌}
+use Rattle.std.specs.Prelude.{◌≡◌, ◌⊎◌, ℕ, ◌+◌, List, [], ◌++◌, Option, Some, None, codes, slice_get}
+use Rattle.std.specs.Fmt.{decimal}
 use Rattle.chain.specs.declared.reply.Reply.{Reply}
 use Rattle.chain.specs.ReplyText.{text_of_reply}
 use Rattle.journal.specs.declared.step.Asked.{Asked}

@@ -1,7 +1,6 @@
-use Rattle.std.proofs.Common.{◌≡◌, ◌++◌, ◌∷◌, ap, subst, sym, ◌∙◌, Some}
+use Rattle.std.proofs.Common.{◌++◌, ◌∷◌, ap, subst, sym, ◌∙◌, Some}
 use Rattle.std.proofs.lemmas.Option.{same_Some}
 use Rattle.journal.specs.Heights.{IsNumber}
-use Rattle.rules.specs.declared.params.Params.{Params}
 use Rattle.journal.proofs.heights.read_heights.Goals as goal
 
 pub returns-clause-reads : goal.returns-clause-reads

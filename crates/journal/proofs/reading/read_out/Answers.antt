@@ -1,4 +1,4 @@
-use Rattle.std.proofs.Common.{List, [], ◌∷◌, ◌++◌}
+use Rattle.std.proofs.Common.{[], ◌∷◌, ◌++◌}
 use Rattle.journal.proofs.Given.{one_more}
 use Rattle.journal.proofs.reading.read_out.Goals as goal
 

@@ -1,8 +1,5 @@
-use Rattle.std.proofs.Common.{◌≡◌, ◌∷◌, ◌++◌, [], length, sym, ap, ◌∙◌, subst, rules, arith, true, false, Bool}
-use Rattle.std.specs.Bool.{if◌then◌else◌}
-use Rattle.std.specs.Result.{is_ok}
-use Rattle.std.proofs.lemmas.Bool.{eqb-true}
-use Rattle.journal.specs.Line.{line_of, AreNumbered}
+use Rattle.std.proofs.Common.{◌≡◌, ◌∷◌, ◌++◌, [], sym, subst, rules}
+use Rattle.journal.specs.Line.{AreNumbered}
 use Rattle.journal.proofs.ReadLines.{AreRead, line_read, number_read}
 use Rattle.journal.proofs.recorded.read_journal.Goals as goal
 
