@@ -43,7 +43,7 @@ connect_others-requires-clause-below g c = λ above.
     let rest = take (length xs - 1) (drop 1 xs) in
     let parts : xs ≡ x ∷ rest = drop_item xs 0 x c.requires.some c.index-txs-0.is ∙ ap (λ (l : List Tx). x ∷ l) (sym (tail_of xs)) in
     let new : list_any (overwrites b) xs ≡ false = ap (λ (m : Coins). list_any (overwrites m) xs) (sym (c.requires.fresh above)) ∙ sym c.is_overwriting.ensures ∙ c.if-is_overwriting.false in
-    ap (λ (l : Layer). list_any (overwrites l.base) rest) c.in_ok-coinbase.ensures.layer
+    ap (λ (l : Layer). list_any (overwrites l.base) rest) c.in_ok-coinbase.ensures.passes.layer
     ∙ (neither (overwrites b x) (list_any (overwrites b) rest) (sym (ap (list_any (overwrites b)) parts) ∙ new)).1
 
 pub returns-in_err-coinbase-clause-fault : goal.returns-in_err-coinbase-clause-fault
@@ -74,7 +74,7 @@ returns-in_err-others-clause-fault g c =
     let t = turn x m 0 in
     let parts : xs ≡ x ∷ rest = drop_item xs 0 x c.requires.some c.index-txs-0.is ∙ ap (λ (l : List Tx). x ∷ l) (sym (tail_of xs)) in
     let each : flat_map (turn_rules s) (turns h m 0 xs) ≡ turn_rules s t ++ flat_map (turn_rules s) (later_turns s m x rest) = ap (λ (l : List Tx). flat_map (turn_rules s) (turns h m 0 l)) parts ∙ each_is s m x rest in
-    let done = c.in_ok-coinbase.ensures in
+    let done = c.in_ok-coinbase.ensures.passes in
     let left = c.in_ok-coinbase.coinbase.layer in
     let now : left.coins ≡ left_by h t = ap (λ (l : Layer). l.coins) done.layer in
     let later : turns h left.coins c.in_ok-coinbase.coinbase.passed.counted rest ≡ later_turns s m x rest = ap₂ (λ (l : Coins) k. turns h l k rest) now done.counted in
@@ -96,13 +96,13 @@ returns-then-is_overpaid-clause-fault g c =
     let t = turn x m 0 in
     let parts : xs ≡ x ∷ rest = drop_item xs 0 x c.requires.some c.index-txs-0.is ∙ ap (λ (l : List Tx). x ∷ l) (sym (tail_of xs)) in
     let each : flat_map (turn_rules s) (turns h m 0 xs) ≡ turn_rules s t ++ flat_map (turn_rules s) (later_turns s m x rest) = ap (λ (l : List Tx). flat_map (turn_rules s) (turns h m 0 l)) parts ∙ each_is s m x rest in
-    let done = c.in_ok-coinbase.ensures in
+    let done = c.in_ok-coinbase.ensures.passes in
     let left = c.in_ok-coinbase.coinbase.layer in
     let now : left.coins ≡ left_by h t = ap (λ (l : Layer). l.coins) done.layer in
     let later : turns h left.coins c.in_ok-coinbase.coinbase.passed.counted rest ≡ later_turns s m x rest = ap₂ (λ (l : Coins) k. turns h l k rest) now done.counted in
     let each_later : first_broken (flat_map (turn_rules s) (turns h m 0 xs)) ≡ first_broken (flat_map (turn_rules s) (turns h left.coins c.in_ok-coinbase.coinbase.passed.counted rest)) =
     ap first_broken each ∙ past (turn_rules s t) (flat_map (turn_rules s) (later_turns s m x rest)) done.none ∙ ap (λ (l : List Turn). first_broken (flat_map (turn_rules s) l)) (sym later) in
-    let all = c.in_ok-others.ensures in
+    let all = c.in_ok-others.ensures.pass in
     let paid : total c.as_slice.result.now ≡ reward_of xs = ap total c.as_slice.ensures ∙ search rules in
     let taken : to_z w128 (of_z w128 c.in_ok-others.others.fees) ≡ fees (drop 1 (turns h m 0 xs)) =
     to_z-of_z w128 c.in_ok-others.others.fees (search rules) ∙ all.fees ∙ ap fees (later ∙ sym (ap (λ (l : List Tx). drop 1 (turns h m 0 l)) parts ∙ later_is s m x rest)) in
@@ -123,13 +123,13 @@ returns-clause-none g c =
     let t = turn x m 0 in
     let parts : xs ≡ x ∷ rest = drop_item xs 0 x c.requires.some c.index-txs-0.is ∙ ap (λ (l : List Tx). x ∷ l) (sym (tail_of xs)) in
     let each : flat_map (turn_rules s) (turns h m 0 xs) ≡ turn_rules s t ++ flat_map (turn_rules s) (later_turns s m x rest) = ap (λ (l : List Tx). flat_map (turn_rules s) (turns h m 0 l)) parts ∙ each_is s m x rest in
-    let done = c.in_ok-coinbase.ensures in
+    let done = c.in_ok-coinbase.ensures.passes in
     let left = c.in_ok-coinbase.coinbase.layer in
     let now : left.coins ≡ left_by h t = ap (λ (l : Layer). l.coins) done.layer in
     let later : turns h left.coins c.in_ok-coinbase.coinbase.passed.counted rest ≡ later_turns s m x rest = ap₂ (λ (l : Coins) k. turns h l k rest) now done.counted in
     let each_later : first_broken (flat_map (turn_rules s) (turns h m 0 xs)) ≡ first_broken (flat_map (turn_rules s) (turns h left.coins c.in_ok-coinbase.coinbase.passed.counted rest)) =
     ap first_broken each ∙ past (turn_rules s t) (flat_map (turn_rules s) (later_turns s m x rest)) done.none ∙ ap (λ (l : List Turn). first_broken (flat_map (turn_rules s) l)) (sym later) in
-    let all = c.in_ok-others.ensures in
+    let all = c.in_ok-others.ensures.pass in
     let paid : total c.as_slice.result.now ≡ reward_of xs = ap total c.as_slice.ensures ∙ search rules in
     let taken : to_z w128 (of_z w128 c.in_ok-others.others.fees) ≡ fees (drop 1 (turns h m 0 xs)) =
     to_z-of_z w128 c.in_ok-others.others.fees (search rules) ∙ all.fees ∙ ap fees (later ∙ sym (ap (λ (l : List Tx). drop 1 (turns h m 0 l)) parts ∙ later_is s m x rest)) in
@@ -150,13 +150,13 @@ returns-clause-undo g c =
     let t = turn x m 0 in
     let parts : xs ≡ x ∷ rest = drop_item xs 0 x c.requires.some c.index-txs-0.is ∙ ap (λ (l : List Tx). x ∷ l) (sym (tail_of xs)) in
     let each : flat_map (turn_rules s) (turns h m 0 xs) ≡ turn_rules s t ++ flat_map (turn_rules s) (later_turns s m x rest) = ap (λ (l : List Tx). flat_map (turn_rules s) (turns h m 0 l)) parts ∙ each_is s m x rest in
-    let done = c.in_ok-coinbase.ensures in
+    let done = c.in_ok-coinbase.ensures.passes in
     let left = c.in_ok-coinbase.coinbase.layer in
     let now : left.coins ≡ left_by h t = ap (λ (l : Layer). l.coins) done.layer in
     let later : turns h left.coins c.in_ok-coinbase.coinbase.passed.counted rest ≡ later_turns s m x rest = ap₂ (λ (l : Coins) k. turns h l k rest) now done.counted in
     let each_later : first_broken (flat_map (turn_rules s) (turns h m 0 xs)) ≡ first_broken (flat_map (turn_rules s) (turns h left.coins c.in_ok-coinbase.coinbase.passed.counted rest)) =
     ap first_broken each ∙ past (turn_rules s t) (flat_map (turn_rules s) (later_turns s m x rest)) done.none ∙ ap (λ (l : List Turn). first_broken (flat_map (turn_rules s) l)) (sym later) in
-    c.in_ok-others.ensures.undo ∙ ap (map spent_in) later ∙ sym (ap (undo_of h m) parts ∙ undo_is s m x rest)
+    c.in_ok-others.ensures.pass.undo ∙ ap (map spent_in) later ∙ sym (ap (undo_of h m) parts ∙ undo_is s m x rest)
 
 pub returns-clause-layer : goal.returns-clause-layer
 returns-clause-layer g c =
@@ -170,13 +170,13 @@ returns-clause-layer g c =
     let t = turn x m 0 in
     let parts : xs ≡ x ∷ rest = drop_item xs 0 x c.requires.some c.index-txs-0.is ∙ ap (λ (l : List Tx). x ∷ l) (sym (tail_of xs)) in
     let each : flat_map (turn_rules s) (turns h m 0 xs) ≡ turn_rules s t ++ flat_map (turn_rules s) (later_turns s m x rest) = ap (λ (l : List Tx). flat_map (turn_rules s) (turns h m 0 l)) parts ∙ each_is s m x rest in
-    let done = c.in_ok-coinbase.ensures in
+    let done = c.in_ok-coinbase.ensures.passes in
     let left = c.in_ok-coinbase.coinbase.layer in
     let now : left.coins ≡ left_by h t = ap (λ (l : Layer). l.coins) done.layer in
     let later : turns h left.coins c.in_ok-coinbase.coinbase.passed.counted rest ≡ later_turns s m x rest = ap₂ (λ (l : Coins) k. turns h l k rest) now done.counted in
     let each_later : first_broken (flat_map (turn_rules s) (turns h m 0 xs)) ≡ first_broken (flat_map (turn_rules s) (turns h left.coins c.in_ok-coinbase.coinbase.passed.counted rest)) =
     ap first_broken each ∙ past (turn_rules s t) (flat_map (turn_rules s) (later_turns s m x rest)) done.none ∙ ap (λ (l : List Turn). first_broken (flat_map (turn_rules s) l)) (sym later) in
-    let ok = c.in_ok-others.ensures.layer in
+    let ok = c.in_ok-others.ensures.pass.layer in
     let base = ap (λ (l : Layer). l.base) ok ∙ ap (λ (l : Layer). l.base) done.layer in
     let coins = ap (λ (l : Layer). l.coins) ok ∙ ap (λ (l : Coins). effect h l rest) now ∙ sym (ap (effect h m) parts ∙ effect_next h m x rest) in
     λ i. record { base = base i; coins = coins i }
