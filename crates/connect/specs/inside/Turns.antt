@@ -9,8 +9,8 @@ use Rattle.coins.specs.Coins.{Coins, Layer, same}
 use Rattle.undo.specs.Effect.{spends}
 use Rattle.rules.specs.Alone.{max_block_sigops}
 use Rattle.connect.specs.Setting.{Setting}
-use Rattle.connect.specs.Turns.{Turn, spent_in, turn, turns, left_by, full_count, effect}
-use Rattle.connect.specs.Faults.{turn_rules}
+use Rattle.connect.specs.Turns.{Turn, spent_in, turn, turns, left_by, full_count, effect, undo_of}
+use Rattle.connect.specs.Faults.{turn_rules, connect_rules}
 use Rattle.connect.specs.Faults as faults
 use Rattle.connect.specs.laws.Broken.{UpToCoins}
 use Rattle.connect.specs.declared.stop.Stop.{Stop}
@@ -53,3 +53,9 @@ pub record PassInTurn (s : Setting) (before : Layer) (txs : List Tx) (n : ℕ) (
   pub fees : given ≡ faults.fees (turns s.height before.coins n txs)
   pub low : neg_ℤ (pos (2 ^ 104)) ≤ℤ given
   pub high : given ≤ℤ pos (2 ^ 104)
+
+-- all transactions of a block break no rule, neither in turn nor together, and leave this layer and what each spent
+pub record PassTogether (s : Setting) (before : Layer) (txs : List Tx) (left : Layer) (lent : List (List Coin)) : Type 0 where
+  pub none : first_broken (connect_rules s before.coins txs) ≡ None
+  pub layer : left ≡ record before { coins = effect s.height before.coins txs }
+  pub undo : lent ≡ undo_of s.height before.coins txs
