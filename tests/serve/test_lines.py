@@ -1,7 +1,6 @@
 """Lines of all kinds: each has one answer, and the node goes on."""
 from __future__ import annotations
 
-import json
 import random
 
 
