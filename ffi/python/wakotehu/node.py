@@ -495,10 +495,10 @@ class Node:
         """Writes a request, whose answer comes."""
         answer: "Future[Dict[str, Any]]" = Future()
         with self._writing:
-            if self._died is not None:
-                raise self._died
             if self._is_closed and not is_last:
                 raise errors.Closed("the node was closed")
+            if self._died is not None:
+                raise self._died
             self._next += 1
             number = self._next
             self._waiting[number] = answer
@@ -700,12 +700,16 @@ class AsyncNode:
         self._process.stdin.close()
         await self._listener
         await self._process.wait()
+        try:
+            await self._process.stdin.wait_closed()
+        except OSError:
+            pass  # the process had ended before it read all
 
     async def _ask(self, call: _Call, seat: Optional[int], is_last: bool = False) -> Any:
-        if self._died is not None:
-            raise self._died
         if self._is_closed and not is_last:
             raise errors.Closed("the node was closed")
+        if self._died is not None:
+            raise self._died
         self._next += 1
         answer: "asyncio.Future[Dict[str, Any]]" = asyncio.get_running_loop().create_future()
         self._waiting[self._next] = answer
