@@ -1,5 +1,10 @@
 //! What is answered, as members of an object.
 
+ghost use Rattle.std.specs.Prelude.{◌≡◌, ◌++◌, ◌∷◌, []};
+ghost use Rattle.hash.specs.Id.{hex_of_id};
+ghost use Rattle.json.specs.Token.{key, string, begin_object, end_object};
+ghost use Rattle.serving.specs.Answers.{Adds, answer_members, tip_members, output_members, step_members, info_members, members, status_name, tip_items, step_items};
+
 use crate::object::Object;
 use hash::Id;
 use std::alloc::{AllocError, Global};
@@ -44,54 +49,55 @@ pub struct Step<'a> {
     pub command: &'a str,
     pub block: &'a str,
     /// In seconds since 1970, of a submission.
-    pub now: Option<u64>,
+    pub moment: Option<u64>,
     pub reply: &'a str,
 }
 
-/// How a node was opened.
+/// How a node was opened. The heights are those of BIP 34, BIP 65, BIP 66, and of BIPs 68, 112 and 113.
 #[derive(Clone, Copy)]
 pub struct Info<'a> {
     pub program: &'a str,
     pub version: &'a str,
     pub seats: u64,
     pub workers: u64,
-    /// The heights of BIP 34, BIP 65, BIP 66 and of BIPs 68, 112 and 113.
-    pub heights: [u32; 4],
-    /// How many entries a folder that was loaded had.
+    pub bip34: u32,
+    pub bip65: u32,
+    pub bip66: u32,
+    pub csv: u32,
+    /// How many entries a folder had that was loaded.
     pub loaded: u64,
 }
 
 impl Object {
-    /// The members of an answer.
-    pub fn stamped(&mut self, alloc: Global, stamped: &Stamped<'_>) -> Result<(), AllocError> {
-        self.number("at", stamped.at)?;
-        match stamped.answer {
+    /// What is answered beside the place.
+    pub(crate) fn answer(&mut self, alloc: Global, answer: &Answer<'_>) -> Result<(), AllocError>
+        ensures { Adds result self.old self.new (members (answer_members answer.now)) }
+    {
+        match answer {
             Answer::Place => Ok(()),
             Answer::Reply(word) => self.text("answer", word),
-            Answer::Best(id) => self.best(alloc, id),
+            Answer::Best(id) => {
+                self.begin("answer")?;
+                self.id(alloc, "hash", *id)?;
+                self.end()
+            }
             Answer::Tips(tips) => self.tips(alloc, tips),
             Answer::Output(None) => self.null("answer"),
             Answer::Output(Some(output)) => {
                 self.begin("answer")?;
-                self.output(alloc, &output)?;
+                self.output(alloc, output)?;
                 self.end()
             }
             Answer::Steps(steps) => self.steps(steps),
         }
     }
 
-    fn best(&mut self, _alloc: Global, id: Id) -> Result<(), AllocError> {
-        self.begin("answer")?;
-        self.id("hash", id)?;
-        self.end()
-    }
-
     /// A list of tips, as Bitcoin Core's `getchaintips` gives them.
-    fn tips(&mut self, _alloc: Global, tips: &[Tip]) -> Result<(), AllocError> {
+    fn tips(&mut self, alloc: Global, tips: &[Tip]) -> Result<(), AllocError> {
         self.begin_list("answer")?;
         for tip in tips {
             self.item()?;
-            self.id("hash", tip.id)?;
+            self.id(alloc, "hash", tip.id)?;
             self.tip(tip)?;
             self.end()?;
         }
@@ -109,22 +115,27 @@ impl Object {
     }
 
     /// An id, as it is printed.
-    pub fn id(&mut self, name: &str, id: Id) -> Result<(), AllocError> {
-        match std::str::from_utf8(&id.show()) {
-            Ok(digits) => self.text(name, digits),
-            Err(_) => self.null(name),
-        }
+    pub fn id(&mut self, alloc: Global, name: &str, id: Id) -> Result<(), AllocError>
+        ensures { Adds result self.old self.new (key name.now ∷ string (hex_of_id id) ∷ []) }
+    {
+        let mut bytes = id.0;
+        bytes.reverse();
+        self.text(name, hex::encode(alloc, bytes)?.as_str())
     }
 
     /// The members of a tip behind its block.
-    pub fn tip(&mut self, tip: &Tip) -> Result<(), AllocError> {
+    pub fn tip(&mut self, tip: &Tip) -> Result<(), AllocError>
+        ensures { Adds result self.old self.new (members (tip_members tip.now)) }
+    {
         self.number("height", tip.height as u64)?;
         self.number("branchlen", tip.length as u64)?;
         self.text("status", status_word(tip.status))
     }
 
     /// The members of an output.
-    pub fn output(&mut self, alloc: Global, output: &Output<'_>) -> Result<(), AllocError> {
+    pub fn output(&mut self, alloc: Global, output: &Output<'_>) -> Result<(), AllocError>
+        ensures { Adds result self.old self.new (members (output_members output.now)) }
+    {
         self.signed("value", output.value)?;
         self.text("script", hex::encode(alloc, output.script)?.as_str())?;
         self.number("height", u64::from(output.height))?;
@@ -133,36 +144,41 @@ impl Object {
     }
 
     /// The members of a line of the journal.
-    pub fn step(&mut self, step: &Step<'_>) -> Result<(), AllocError> {
+    pub fn step(&mut self, step: &Step<'_>) -> Result<(), AllocError>
+        ensures { Adds result self.old self.new (members (step_members step.now)) }
+    {
         self.number("step", step.number)?;
         self.text("client", step.client)?;
         self.text("command", step.command)?;
         self.text("block", step.block)?;
-        if let Some(now) = step.now {
-            self.number("now", now)?;
+        if let Some(moment) = step.moment {
+            self.number("now", moment)?;
         }
         self.text("reply", step.reply)
     }
 
     /// The members that say how a node was opened.
-    pub(crate) fn info(&mut self, info: &Info<'_>) -> Result<(), AllocError> {
-        let [bip34, bip65, bip66, csv] = info.heights;
+    pub(crate) fn info(&mut self, info: &Info<'_>) -> Result<(), AllocError>
+        ensures { Adds result self.old self.new (members (info_members info.now)) }
+    {
         self.text("program", info.program)?;
         self.text("version", info.version)?;
         self.number("seats", info.seats)?;
         self.number("workers", info.workers)?;
         self.begin("heights")?;
-        self.number("bip34", u64::from(bip34))?;
-        self.number("bip65", u64::from(bip65))?;
-        self.number("bip66", u64::from(bip66))?;
-        self.number("csv", u64::from(csv))?;
+        self.number("bip34", u64::from(info.bip34))?;
+        self.number("bip65", u64::from(info.bip65))?;
+        self.number("bip66", u64::from(info.bip66))?;
+        self.number("csv", u64::from(info.csv))?;
         self.end()?;
         self.number("loaded", info.loaded)
     }
 }
 
 /// Bitcoin Core's words (`getchaintips`).
-pub fn status_word(status: Status) -> &'static str {
+pub fn status_word(status: Status) -> &'static str
+    ensures { result.now ≡ status_name status }
+{
     match status {
         Status::Active => "active",
         Status::Invalid => "invalid",

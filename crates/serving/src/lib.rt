@@ -4,6 +4,7 @@
 mod answer;
 mod line;
 mod method;
+mod numeral;
 mod object;
 mod params;
 mod refusal;
@@ -13,6 +14,7 @@ mod request_id;
 pub use answer::{Answer, Info, Output, Stamped, Step, status_word};
 pub use line::{answer_line, info_line, refusal_line};
 pub use method::Method;
+pub use numeral::Numeral;
 pub use object::Object;
 pub use refusal::Refusal;
 pub use request::{Asked, Call, Request, read_request};

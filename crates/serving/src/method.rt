@@ -1,5 +1,9 @@
 //! The methods of a served node.
 
+ghost use Rattle.std.specs.Prelude.{◌≡◌, ◌≢◌, None, IfSome};
+ghost use Rattle.serving.specs.Requests.{method_name};
+ghost use Rattle.serving.specs.declared.method.Method.{Method as AnyMethod};
+
 /// A method, as a request names it.
 #[derive(Clone, Copy, Debug, PartialEq, Eq)]
 pub enum Method {
@@ -19,7 +23,10 @@ pub enum Method {
 
 impl Method {
     /// The method of this name.
-    pub fn read(name: &str) -> Option<Method> {
+    pub fn read(name: &str) -> Option<Method>
+        ensures found { IfSome result (λ m. name.now ≡ method_name m) }
+        ensures none { result ≡ None → (m : AnyMethod) → name.now ≢ method_name m }
+    {
         Some(match name {
             "submit" => Method::Submit,
             "invalidate" => Method::Invalidate,

@@ -1,31 +1,45 @@
 //! The parameters of a request.
 
+ghost use Rattle.std.specs.Prelude.{◌≡◌, ◌⊎◌, ℕ, List, option_map, IfOk, IfErr};
+ghost use Rattle.json.specs.Value.{value_view};
+ghost use Rattle.hash.specs.declared.id.Id.{Id as AnyId};
+ghost use Rattle.serving.specs.Requests.{param, IsNumber, IsSeat, IsId, AreBytes};
+ghost use Rattle.serving.specs.inside.Given.{given};
+ghost use Rattle.serving.specs.declared.refusal.Refusal.TheVariants as refusals;
+
 use crate::refusal::Refusal;
 use hash::Id;
 use hex::FromHexError;
 use json::Value;
-use std::alloc::{AllocError, Global};
-use txn::OutPoint;
+use std::alloc::Global;
 
 /// The parameters of a request, by their names; where there are none, no name is found.
 #[derive(Clone, Copy)]
 pub(crate) struct Params<'p, 'l>(pub(crate) Option<&'p Value<'l>>);
 
-impl Params<'_, '_> {
-    fn get(&self, name: &str) -> Option<&Value<'_>> {
+impl<'p, 'l> Params<'p, 'l> {
+    fn get(&self, name: &str) -> Option<&'p Value<'l>>
+        ensures { option_map (λ v. value_view v.now) result ≡ param name.now (given self.now) }
+    {
         self.0?.get(name)
     }
 
     /// A number of 64 bits.
-    pub(crate) fn number(&self, name: &'static str) -> Result<u64, Refusal> {
-        match self.get(name).and_then(|value| value.as_u64()) {
-            Some(number) => Ok(number),
-            None => Err(Refusal::Param(name)),
-        }
+    pub(crate) fn number(&self, name: &'static str) -> Result<u64, Refusal>
+        ensures ok { IfOk result (λ n. IsNumber name.now (given self.now) n) }
+        ensures err { IfErr result (λ why. (why ≡ refusals.Param name.entry)
+            × ((n : ℕ) → ¬ IsNumber name.now (given self.now) n)) }
+    {
+        let found = self.get(name).ok_or(Refusal::Param(name))?;
+        found.as_u64().ok_or(Refusal::Param(name))
     }
 
     /// The number of one of so many seats.
-    pub(crate) fn seat(&self, name: &'static str, seats: usize) -> Result<usize, Refusal> {
+    pub(crate) fn seat(&self, name: &'static str, seats: usize) -> Result<usize, Refusal>
+        ensures ok { IfOk result (λ n. IsSeat seats name.now (given self.now) n) }
+        ensures err { IfErr result (λ why. (why ≡ refusals.Param name.entry)
+            × ((n : ℕ) → ¬ IsSeat seats name.now (given self.now) n)) }
+    {
         let number = self.number(name)?;
         if number < seats as u64 {
             Ok(number as usize)
@@ -35,40 +49,28 @@ impl Params<'_, '_> {
     }
 
     /// An id in 64 hexadecimal digits, as it is printed.
-    pub(crate) fn id(&self, name: &'static str) -> Result<Id, Refusal> {
-        let digits = self.get(name).and_then(|value| value.as_str());
-        match digits.and_then(|digits| Id::read(digits.as_bytes())) {
-            Some(id) => Ok(id),
-            None => Err(Refusal::Param(name)),
-        }
-    }
-
-    /// An outpoint: a transaction's id and the place of an output in it, from 0.
-    pub(crate) fn outpoint(&self) -> Result<OutPoint, Refusal> {
-        let id = self.id("txid")?;
-        let place = self.number("n")?;
-        if place > u64::from(u32::MAX) {
-            return Err(Refusal::Param("n"));
-        }
-        Ok(OutPoint {
-            id,
-            index: place as u32,
-        })
+    pub(crate) fn id(&self, name: &'static str) -> Result<Id, Refusal>
+        ensures ok { IfOk result (λ id. IsId name.now (given self.now) id) }
+        ensures err { IfErr result (λ why. (why ≡ refusals.Param name.entry)
+            × ((id : AnyId) → ¬ IsId name.now (given self.now) id)) }
+    {
+        let found = self.get(name).ok_or(Refusal::Param(name))?;
+        let digits = found.as_str().ok_or(Refusal::Param(name))?;
+        Id::read(digits.as_bytes()).ok_or(Refusal::Param(name))
     }
 
     /// Bytes in hexadecimal digits.
-    pub(crate) fn bytes(
-        &self,
-        alloc: Global,
-        name: &'static str,
-    ) -> Result<Result<Vec<u8>, Refusal>, AllocError> {
-        let Some(digits) = self.get(name).and_then(|value| value.as_str()) else {
-            return Ok(Err(Refusal::Param(name)));
-        };
+    pub(crate) fn bytes(&self, alloc: Global, name: &'static str) -> Result<Vec<u8>, Refusal>
+        ensures ok { IfOk result (λ bytes. AreBytes name.now (given self.now) bytes.items) }
+        ensures err { IfErr result (λ why. (why ≡ refusals.Memory) ⊎ ((why ≡ refusals.Param name.entry)
+            × ((bytes : List ℕ) → ¬ AreBytes name.now (given self.now) bytes))) }
+    {
+        let found = self.get(name).ok_or(Refusal::Param(name))?;
+        let digits = found.as_str().ok_or(Refusal::Param(name))?;
         match hex::decode(alloc, digits) {
-            Ok(bytes) => Ok(Ok(bytes)),
-            Err(FromHexError::OutOfMemory) => Err(AllocError),
-            Err(_) => Ok(Err(Refusal::Param(name))),
+            Ok(bytes) => Ok(bytes),
+            Err(FromHexError::OutOfMemory) => Err(Refusal::Memory),
+            Err(_) => Err(Refusal::Param(name)),
         }
     }
 }

@@ -1,5 +1,8 @@
 //! Why a request isn't answered by a result.
 
+ghost use Rattle.std.specs.Prelude.{◌≡◌, pos, neg_ℤ};
+ghost use Rattle.serving.specs.Answers.{code_of, name_of};
+
 /// Why a request isn't answered by a result.
 #[derive(Clone, Copy, Debug, PartialEq, Eq)]
 pub enum Refusal {
@@ -25,7 +28,9 @@ pub enum Refusal {
 
 impl Refusal {
     /// Its code: those below -32600 are JSON-RPC's, those from -32001 on the node's.
-    pub fn code(self) -> i64 {
+    pub fn code(self) -> i64
+        ensures { result ≡ neg_ℤ (pos (code_of self)) }
+    {
         match self {
             Refusal::Parse => -32700,
             Refusal::TooLong | Refusal::Request => -32600,
@@ -39,7 +44,9 @@ impl Refusal {
     }
 
     /// Its name.
-    pub fn message(self) -> &'static str {
+    pub fn message(self) -> &'static str
+        ensures { result.now ≡ name_of self }
+    {
         match self {
             Refusal::Parse => "parse error",
             Refusal::TooLong | Refusal::Request => "invalid request",
@@ -49,15 +56,6 @@ impl Refusal {
             Refusal::Owed => "owed",
             Refusal::Closed => "closed",
             Refusal::Unsaved => "not saved",
-        }
-    }
-
-    /// What it is about: a parameter's name, or the line.
-    pub fn about(self) -> Option<&'static str> {
-        match self {
-            Refusal::TooLong => Some("line"),
-            Refusal::Param(name) => Some(name),
-            _ => None,
         }
     }
 }

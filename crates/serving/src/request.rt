@@ -1,5 +1,11 @@
 //! What a line asks.
 
+ghost use Rattle.std.specs.Prelude.{◌≡◌, ℕ, ◌<◌, ◌^◌, List, None, codes, option_map, IfOk, IfErr, IfSome};
+ghost use Rattle.json.specs.Value.{value_view};
+ghost use Rattle.serving.specs.Requests.{IsRead, IsReadOf, IsAsked, IsInTurn, IsCall, IsRequest, AreNamed};
+ghost use Rattle.serving.specs.inside.Given.{given, IsNoCall};
+ghost use Rattle.json.specs.Find.{get};
+
 use crate::method::Method;
 use crate::params::Params;
 use crate::refusal::Refusal;
@@ -25,7 +31,7 @@ pub enum Asked {
     Info,
     /// To end.
     Finish,
-    /// Nothing that can be answered. Where it names a seat of the node, that is the one whose turn it is told in.
+    /// Nothing that can be answered. Where it names a seat of the node, it is told in that seat's turn.
     Refused(Option<usize>, Refusal),
 }
 
@@ -49,7 +55,9 @@ pub enum Call {
 }
 
 /// What a line asks of a node with so many seats.
-pub fn read_request(alloc: Global, line: &[u8], seats: usize) -> Result<Request, AllocError> {
+pub fn read_request(alloc: Global, line: &[u8], seats: usize) -> Result<Request, AllocError>
+    ensures { IfOk result (λ request. IsRead seats line.now request) }
+{
     let mut scratch = Scratch::new(alloc);
     match Value::from_slice(alloc, line, &mut scratch) {
         Ok(value) => request_of(alloc, &value, seats),
@@ -62,7 +70,9 @@ pub fn read_request(alloc: Global, line: &[u8], seats: usize) -> Result<Request,
 }
 
 /// What a value asks.
-fn request_of(alloc: Global, value: &Value<'_>, seats: usize) -> Result<Request, AllocError> {
+fn request_of(alloc: Global, value: &Value<'_>, seats: usize) -> Result<Request, AllocError>
+    ensures { IfOk result (λ request. IsReadOf seats (value_view value.now) request) }
+{
     let id = match value.get("id") {
         Some(id) => RequestId::of(alloc, id)?,
         None => None,
@@ -80,12 +90,12 @@ fn request_of(alloc: Global, value: &Value<'_>, seats: usize) -> Result<Request,
 }
 
 /// What a value asks that has an id.
-fn asked_of(alloc: Global, value: &Value<'_>, seats: usize) -> Result<Asked, AllocError> {
+fn asked_of(alloc: Global, value: &Value<'_>, seats: usize) -> Result<Asked, AllocError>
+    ensures asked { IfOk result (λ asked. IsAsked seats (value_view value.now) asked) }
+    ensures turn { IfOk result (λ asked. IsInTurn seats (value_view value.now) asked) }
+{
     let params = value.get("params");
-    let is_object = matches!(params, None | Some(Value::Object(_)));
-    let version = value.get("jsonrpc").and_then(|version| version.as_str());
-    let name = value.get("method").and_then(|name| name.as_str());
-    let (true, Some("2.0"), Some(name)) = (is_object, version, name) else {
+    let Some(name) = method_of(value, params) else {
         return Ok(Asked::Refused(None, Refusal::Request));
     };
     let params = Params(params);
@@ -97,11 +107,27 @@ fn asked_of(alloc: Global, value: &Value<'_>, seats: usize) -> Result<Asked, All
         (Method::Info, _) => Ok(Asked::Info),
         (Method::Finish, _) => Ok(Asked::Finish),
         (_, Err(refusal)) => Ok(Asked::Refused(None, refusal)),
-        (_, Ok(seat)) => Ok(match call_of(alloc, method, &params, seats)? {
-            Ok(call) => Asked::Seat(seat, call),
-            Err(refusal) => Asked::Refused(Some(seat), refusal),
-        }),
+        (_, Ok(seat)) => match call_of(alloc, method, &params, seats) {
+            Ok(call) => Ok(Asked::Seat(seat, call)),
+            Err(Refusal::Memory) => Err(AllocError),
+            Err(refusal) => Ok(Asked::Refused(Some(seat), refusal)),
+        },
     }
+}
+
+/// The method of a request with these parameters. None where it is no request.
+fn method_of<'l>(value: &Value<'l>, params: Option<&Value<'l>>) -> Option<&'l str>
+    requires { option_map (λ v. value_view v.now) params ≡ get (codes "params") (value_view value.now) }
+    ensures some { IfSome result (λ name. IsRequest (value_view value.now) name.now) }
+    ensures none { result ≡ None → (name : List ℕ) → ¬ IsRequest (value_view value.now) name }
+{
+    if !matches!(params, None | Some(Value::Object(_))) {
+        return None;
+    }
+    if value.get("jsonrpc")?.as_str()? != "2.0" {
+        return None;
+    }
+    value.get("method")?.as_str()
 }
 
 /// What a method asks of a seat by these parameters.
@@ -110,31 +136,39 @@ fn call_of(
     method: Method,
     params: &Params<'_, '_>,
     seats: usize,
-) -> Result<Result<Call, Refusal>, AllocError> {
+) -> Result<Call, Refusal>
+    ensures ok { IfOk result (λ call. IsCall seats method (given params.now) call) }
+    ensures err { IfErr result (λ why. IsNoCall seats method (given params.now) why) }
+{
     Ok(match method {
-        Method::Submit => return submission(alloc, params),
-        Method::Invalidate => params.id("id").map(|id| Call::Invalidate(id)),
-        Method::Reconsider => params.id("id").map(|id| Call::Reconsider(id)),
-        Method::Precious => params.id("id").map(|id| Call::Precious(id)),
-        Method::GetTxOut => params.outpoint().map(|outpoint| Call::Output(outpoint)),
-        Method::GetBestBlockHash => Ok(Call::Best),
-        Method::GetChainTips => Ok(Call::Tips),
-        Method::Note => Ok(Call::Note),
-        Method::Told => params.seat("from", seats).map(|from| Call::Told(from)),
-        Method::Journal => numbers(params),
-        Method::Info | Method::Finish => Err(Refusal::Param("seat")),
+        Method::Submit => Call::Submit(params.bytes(alloc, "block")?, params.number("now")?),
+        Method::Invalidate => Call::Invalidate(params.id("id")?),
+        Method::Reconsider => Call::Reconsider(params.id("id")?),
+        Method::Precious => Call::Precious(params.id("id")?),
+        Method::GetTxOut => Call::Output(outpoint(params)?),
+        Method::GetBestBlockHash => Call::Best,
+        Method::GetChainTips => Call::Tips,
+        Method::Note => Call::Note,
+        Method::Told => Call::Told(params.seat("from", seats)?),
+        Method::Journal => return entries(params),
+        Method::Info | Method::Finish => return Err(Refusal::Param("seat")),
     })
 }
 
-fn submission(alloc: Global, params: &Params<'_, '_>) -> Result<Result<Call, Refusal>, AllocError> {
-    let block = match params.bytes(alloc, "block")? {
-        Ok(block) => block,
-        Err(refusal) => return Ok(Err(refusal)),
-    };
-    Ok(params.number("now").map(|now| Call::Submit(block, now)))
+/// An outpoint: a transaction's id, and the place of an output in it, from 0.
+fn outpoint(params: &Params<'_, '_>) -> Result<OutPoint, Refusal> {
+    let id = params.id("txid")?;
+    let place = params.number("n")?;
+    if place > u64::from(u32::MAX) {
+        return Err(Refusal::Param("n"));
+    }
+    Ok(OutPoint {
+        id,
+        index: place as u32,
+    })
 }
 
-fn numbers(params: &Params<'_, '_>) -> Result<Call, Refusal> {
+fn entries(params: &Params<'_, '_>) -> Result<Call, Refusal> {
     let from = params.number("from")?;
     let to = params.number("to")?;
     if from == 0 {

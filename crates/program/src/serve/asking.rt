@@ -1,5 +1,6 @@
 //! What a seat's thread answers.
 
+use crate::objects::{output_of, reply_text};
 use crate::serve::board::Board;
 use crate::serve::turn::Turn;
 use crate::serve::words::Facts;
@@ -7,7 +8,7 @@ use arrayvec::ArrayString;
 use crossbeam_channel::{Receiver, Sender};
 use journal::{Asked, block_of};
 use node::{Entry, Naming, Node, Seat};
-use serving::{Answer, Call, Output, Refusal, RequestId, Stamped, Step, answer_line, refusal_line};
+use serving::{Answer, Call, Refusal, RequestId, Stamped, Step, answer_line, refusal_line};
 use std::alloc::{AllocError, Global};
 use std::fmt;
 use std::fmt::Write as _;
@@ -95,13 +96,7 @@ where
         }
         Call::Output(outpoint) => {
             let found = seat.gettxout(alloc, node, &outpoint).map_err(refused)?;
-            let output = found.value.as_ref().map(|output| Output {
-                value: output.value,
-                script: output.script.as_slice(),
-                height: output.height,
-                coinbase: output.coinbase,
-                confirmations: output.confirmations,
-            });
+            let output = found.value.as_ref().map(|output| output_of(output));
             return stamped(alloc, room, id, found.at, Answer::Output(output));
         }
         Call::Tips => {
@@ -187,10 +182,7 @@ fn listed(
                     .name(number.saturating_sub(1) as usize, entry.seat),
                 command: asked.word(),
                 block: text.block.as_str(),
-                now: match asked {
-                    Asked::Submit(now) => Some(now),
-                    _ => None,
-                },
+                moment: asked.moment(),
                 reply: text.reply.as_str(),
             })
             .map_err(|_| Refusal::Memory)?;
@@ -209,14 +201,10 @@ fn entry_texts(alloc: Global, entries: &[Entry]) -> Result<Vec<EntryText>, Refus
     let mut texts = Vec::new(alloc);
     for entry in entries {
         let block = block_of(alloc, entry).map_err(|_| Refusal::Memory)?;
-        let reply = match entry.reply {
-            Some(reply) => reply.to_string(alloc),
-            None => String::from_str(alloc, "owed"),
-        };
         texts
             .push(EntryText {
                 block: block.to_string(alloc).map_err(short)?,
-                reply: reply.map_err(short)?,
+                reply: reply_text(alloc, entry.reply).map_err(short)?,
             })
             .map_err(|_| Refusal::Memory)?;
     }

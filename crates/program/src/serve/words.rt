@@ -36,7 +36,10 @@ impl Facts<'_> {
             version: VERSION,
             seats: self.seats as u64,
             workers: self.workers as u64,
-            heights: [bip34, bip65, bip66, csv],
+            bip34,
+            bip65,
+            bip66,
+            csv,
             loaded: self.loaded as u64,
         }
     }
