@@ -1,13 +1,14 @@
 -- What a line asks: JSON-RPC 2.0, with parameters by their names.
-use Rattle.std.specs.Prelude.{◌≡◌, ◌≢◌, ◌⊎◌, ◌<◌, ◌^◌, ℕ, List, reverse, codes, Option, Some, None, option_and_then, Ok, ⊤}
+use Rattle.std.specs.Prelude.{◌≡◌, ◌≢◌, ◌⊎◌, ◌<◌, ◌^◌, ℕ, List, length, reverse, codes, Option, Some, None, option_and_then, Ok, ⊤}
 use Rattle.std.specs.Str.{IsUtf8}
 use Rattle.std.specs.Str.Parse.{ParsesUnsigned}
-use Rattle.hex.specs.Hex.{decode_of}
+use Rattle.std.specs.List.{AllPass}
+use Rattle.hex.specs.Hex.{decode_of, is_hex_digit}
 use Rattle.hex.specs.declared.error.FromHexError.{FromHexError}
 use Rattle.json.specs.Json.{Json, null, boolean, number, string, array, object, document}
 use Rattle.json.specs.Find.{get, as_str, as_number}
-use Rattle.hash.specs.Id.{IsWhole}
 use Rattle.hash.specs.declared.id.Id.{Id}
+use Rattle.txn.specs.declared.outpoint.OutPoint.{OutPoint}
 use Rattle.serving.specs.Answers.{id_json}
 use Rattle.serving.specs.declared.method.Method.{Method}
 use Rattle.serving.specs.declared.method.Method.TheVariants as method
@@ -54,9 +55,15 @@ abbrev pub AreBytes : List ℕ → Option Json → List ℕ → Type 0
 AreBytes name params bytes = (digits : List ℕ) × (option_and_then as_str (param name params) ≡ Some digits)
     × (decode_of digits ≡ Ok bytes)
 
--- it is an id, as it is printed: its bytes reversed
+-- it is an id, as it is printed: 64 hexadecimal digits, which spell its bytes reversed
 abbrev pub IsId : List ℕ → Option Json → Id → Type 0
-IsId name params id = IsWhole id × AreBytes name params (reverse id.0)
+IsId name params id = (digits : List ℕ) × (option_and_then as_str (param name params) ≡ Some digits)
+    × (length digits ≡ 64) × AllPass is_hex_digit digits × (decode_of digits ≡ Ok (reverse id.0))
+
+-- they are an outpoint: a transaction's id, and the place of an output in it
+abbrev pub AreOutPoint : Option Json → OutPoint → Type 0
+AreOutPoint params outpoint = IsId (codes "txid") params outpoint.id
+    × IsNumber (codes "n") params outpoint.index × (outpoint.index < 2 ^ 32)
 
 -- ---- calls
 
@@ -82,9 +89,7 @@ IsCall seats m params (call.Submit block now) =
 IsCall seats m params (call.Invalidate id) = (m ≡ method.Invalidate) × IsId (codes "id") params id
 IsCall seats m params (call.Reconsider id) = (m ≡ method.Reconsider) × IsId (codes "id") params id
 IsCall seats m params (call.Precious id) = (m ≡ method.Precious) × IsId (codes "id") params id
-IsCall seats m params (call.Output outpoint) = (m ≡ method.GetTxOut)
-    × IsId (codes "txid") params outpoint.id
-    × IsNumber (codes "n") params outpoint.index × (outpoint.index < 2 ^ 32)
+IsCall seats m params (call.Output outpoint) = (m ≡ method.GetTxOut) × AreOutPoint params outpoint
 IsCall seats m params call.Best = m ≡ method.GetBestBlockHash
 IsCall seats m params call.Tips = m ≡ method.GetChainTips
 IsCall seats m params call.Note = m ≡ method.Note

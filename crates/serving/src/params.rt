@@ -3,8 +3,9 @@
 ghost use Rattle.std.specs.Prelude.{◌≡◌, ◌⊎◌, ℕ, List, option_map, IfOk, IfErr};
 ghost use Rattle.json.specs.Value.{value_view};
 ghost use Rattle.hash.specs.declared.id.Id.{Id as AnyId};
-ghost use Rattle.serving.specs.Requests.{param, IsNumber, IsSeat, IsId, AreBytes};
-ghost use Rattle.serving.specs.inside.Given.{given};
+ghost use Rattle.txn.specs.declared.outpoint.OutPoint.{OutPoint as AnyOutPoint};
+ghost use Rattle.serving.specs.Requests.{param, IsNumber, IsSeat, IsId, AreBytes, AreOutPoint};
+ghost use Rattle.serving.specs.inside.Given.{given, IsParam};
 ghost use Rattle.serving.specs.declared.refusal.Refusal.TheVariants as refusals;
 
 use crate::refusal::Refusal;
@@ -12,6 +13,7 @@ use hash::Id;
 use hex::FromHexError;
 use json::Value;
 use std::alloc::Global;
+use txn::OutPoint;
 
 /// The parameters of a request, by their names; where there are none, no name is found.
 #[derive(Clone, Copy)]
@@ -40,11 +42,10 @@ impl<'p, 'l> Params<'p, 'l> {
         ensures err { IfErr result (λ why. (why ≡ refusals.Param name.entry)
             × ((n : ℕ) → ¬ IsSeat seats name.now (given self.now) n)) }
     {
-        let number = self.number(name)?;
-        if number < seats as u64 {
-            Ok(number as usize)
-        } else {
-            Err(Refusal::Param(name))
+        match self.number(name) {
+            Ok(number) if number < seats as u64 => Ok(number as usize),
+            Ok(_) => Err(Refusal::Param(name)),
+            Err(refusal) => Err(refusal),
         }
     }
 
@@ -56,7 +57,10 @@ impl<'p, 'l> Params<'p, 'l> {
     {
         let found = self.get(name).ok_or(Refusal::Param(name))?;
         let digits = found.as_str().ok_or(Refusal::Param(name))?;
-        Id::read(digits.as_bytes()).ok_or(Refusal::Param(name))
+        match Id::read(digits.as_bytes()) {
+            Some(id) => Ok(id),
+            None => Err(Refusal::Param(name)),
+        }
     }
 
     /// Bytes in hexadecimal digits.
@@ -71,6 +75,26 @@ impl<'p, 'l> Params<'p, 'l> {
             Ok(bytes) => Ok(bytes),
             Err(FromHexError::OutOfMemory) => Err(Refusal::Memory),
             Err(_) => Err(Refusal::Param(name)),
+        }
+    }
+
+    /// An outpoint: a transaction's id, and the place of an output in it, from 0.
+    pub(crate) fn outpoint(&self) -> Result<OutPoint, Refusal>
+        ensures ok { IfOk result (λ o. AreOutPoint (given self.now) o) }
+        ensures err { IfErr result (λ why. IsParam why
+            × ((o : AnyOutPoint) → ¬ AreOutPoint (given self.now) o)) }
+    {
+        let id = match self.id("txid") {
+            Ok(id) => id,
+            Err(refusal) => return Err(refusal),
+        };
+        match self.number("n") {
+            Ok(place) if place <= u64::from(u32::MAX) => Ok(OutPoint {
+                id,
+                index: place as u32,
+            }),
+            Ok(_) => Err(Refusal::Param("n")),
+            Err(refusal) => Err(refusal),
         }
     }
 }

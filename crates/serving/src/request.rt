@@ -5,6 +5,7 @@ ghost use Rattle.json.specs.Value.{value_view};
 ghost use Rattle.serving.specs.Requests.{IsRead, IsReadOf, IsAsked, IsInTurn, IsCall, IsRequest, AreNamed};
 ghost use Rattle.serving.specs.inside.Given.{given, IsNoCall};
 ghost use Rattle.json.specs.Find.{get};
+ghost use Rattle.serving.specs.declared.method.Method.TheVariants as methods;
 
 use crate::method::Method;
 use crate::params::Params;
@@ -103,14 +104,16 @@ fn asked_of(alloc: Global, value: &Value<'_>, seats: usize) -> Result<Asked, All
     let Some(method) = Method::read(name) else {
         return Ok(Asked::Refused(seat.ok(), Refusal::Method));
     };
-    match (method, seat) {
-        (Method::Info, _) => Ok(Asked::Info),
-        (Method::Finish, _) => Ok(Asked::Finish),
-        (_, Err(refusal)) => Ok(Asked::Refused(None, refusal)),
-        (_, Ok(seat)) => match call_of(alloc, method, &params, seats) {
-            Ok(call) => Ok(Asked::Seat(seat, call)),
-            Err(Refusal::Memory) => Err(AllocError),
-            Err(refusal) => Ok(Asked::Refused(Some(seat), refusal)),
+    match method {
+        Method::Info => Ok(Asked::Info),
+        Method::Finish => Ok(Asked::Finish),
+        _ => match seat {
+            Ok(seat) => match call_of(alloc, method, &params, seats) {
+                Ok(call) => Ok(Asked::Seat(seat, call)),
+                Err(Refusal::Memory) => Err(AllocError),
+                Err(refusal) => Ok(Asked::Refused(Some(seat), refusal)),
+            },
+            Err(refusal) => Ok(Asked::Refused(None, refusal)),
         },
     }
 }
@@ -140,39 +143,77 @@ fn call_of(
     ensures ok { IfOk result (λ call. IsCall seats method (given params.now) call) }
     ensures err { IfErr result (λ why. IsNoCall seats method (given params.now) why) }
 {
-    Ok(match method {
-        Method::Submit => Call::Submit(params.bytes(alloc, "block")?, params.number("now")?),
-        Method::Invalidate => Call::Invalidate(params.id("id")?),
-        Method::Reconsider => Call::Reconsider(params.id("id")?),
-        Method::Precious => Call::Precious(params.id("id")?),
-        Method::GetTxOut => Call::Output(outpoint(params)?),
-        Method::GetBestBlockHash => Call::Best,
-        Method::GetChainTips => Call::Tips,
-        Method::Note => Call::Note,
-        Method::Told => Call::Told(params.seat("from", seats)?),
-        Method::Journal => return entries(params),
-        Method::Info | Method::Finish => return Err(Refusal::Param("seat")),
-    })
+    match method {
+        Method::Submit => submission(alloc, params),
+        Method::Invalidate => match params.id("id") {
+            Ok(id) => Ok(Call::Invalidate(id)),
+            Err(refusal) => Err(refusal),
+        },
+        Method::Reconsider => match params.id("id") {
+            Ok(id) => Ok(Call::Reconsider(id)),
+            Err(refusal) => Err(refusal),
+        },
+        Method::Precious => match params.id("id") {
+            Ok(id) => Ok(Call::Precious(id)),
+            Err(refusal) => Err(refusal),
+        },
+        Method::GetTxOut => output(params),
+        Method::GetBestBlockHash => Ok(Call::Best),
+        Method::GetChainTips => Ok(Call::Tips),
+        Method::Note => Ok(Call::Note),
+        Method::Told => told(params, seats),
+        Method::Journal => entries(params),
+        Method::Info | Method::Finish => Err(Refusal::Param("seat")),
+    }
 }
 
-/// An outpoint: a transaction's id, and the place of an output in it, from 0.
-fn outpoint(params: &Params<'_, '_>) -> Result<OutPoint, Refusal> {
-    let id = params.id("txid")?;
-    let place = params.number("n")?;
-    if place > u64::from(u32::MAX) {
-        return Err(Refusal::Param("n"));
+fn submission(alloc: Global, params: &Params<'_, '_>) -> Result<Call, Refusal>
+    ensures ok { (seats : ℕ) → IfOk result (λ call.
+        IsCall seats methods.Submit (given params.now) call) }
+    ensures err { (seats : ℕ) → IfErr result (λ why.
+        IsNoCall seats methods.Submit (given params.now) why) }
+{
+    match params.bytes(alloc, "block") {
+        Ok(block) => match params.number("now") {
+            Ok(now) => Ok(Call::Submit(block, now)),
+            Err(refusal) => Err(refusal),
+        },
+        Err(refusal) => Err(refusal),
     }
-    Ok(OutPoint {
-        id,
-        index: place as u32,
-    })
 }
 
-fn entries(params: &Params<'_, '_>) -> Result<Call, Refusal> {
-    let from = params.number("from")?;
-    let to = params.number("to")?;
-    if from == 0 {
-        return Err(Refusal::Param("from"));
+fn output(params: &Params<'_, '_>) -> Result<Call, Refusal>
+    ensures ok { (seats : ℕ) → IfOk result (λ call.
+        IsCall seats methods.GetTxOut (given params.now) call) }
+    ensures err { (seats : ℕ) → IfErr result (λ why.
+        IsNoCall seats methods.GetTxOut (given params.now) why) }
+{
+    match params.outpoint() {
+        Ok(outpoint) => Ok(Call::Output(outpoint)),
+        Err(refusal) => Err(refusal),
     }
-    Ok(Call::Journal(from, to))
+}
+
+fn told(params: &Params<'_, '_>, seats: usize) -> Result<Call, Refusal>
+    ensures ok { IfOk result (λ call. IsCall seats methods.Told (given params.now) call) }
+    ensures err { IfErr result (λ why. IsNoCall seats methods.Told (given params.now) why) }
+{
+    match params.seat("from", seats) {
+        Ok(from) => Ok(Call::Told(from)),
+        Err(refusal) => Err(refusal),
+    }
+}
+
+fn entries(params: &Params<'_, '_>) -> Result<Call, Refusal>
+    ensures ok { (seats : ℕ) → IfOk result (λ call.
+        IsCall seats methods.Journal (given params.now) call) }
+    ensures err { (seats : ℕ) → IfErr result (λ why.
+        IsNoCall seats methods.Journal (given params.now) why) }
+{
+    match (params.number("from"), params.number("to")) {
+        (Ok(0), _) => Err(Refusal::Param("from")),
+        (Ok(from), Ok(to)) => Ok(Call::Journal(from, to)),
+        (Err(refusal), _) => Err(refusal),
+        (_, Err(refusal)) => Err(refusal),
+    }
 }

@@ -1,5 +1,5 @@
 -- The parameters as the code has them.
-use Rattle.std.specs.Prelude.{ℕ, Option, option_map, ⊤}
+use Rattle.std.specs.Prelude.{◌≡◌, ◌⊎◌, ℕ, Option, option_map, ⊤}
 use Rattle.json.specs.Json.{Json}
 use Rattle.json.specs.Value.{value_view}
 use Rattle.serving.specs.declared.params.Params.{Params}
@@ -13,14 +13,18 @@ use Rattle.serving.specs.Requests.{IsCall}
 abbrev pub given : Params → Option Json
 given p = option_map (λ v. value_view v.now) p.0
 
--- a refusal by a parameter says that no call is meant
+-- a refusal by a parameter
+abbrev pub IsParam : Refusal → Type 0
+IsParam refusal.Parse = ⊥
+IsParam refusal.TooLong = ⊥
+IsParam refusal.Request = ⊥
+IsParam refusal.Method = ⊥
+IsParam (refusal.Param name) = ⊤
+IsParam refusal.Memory = ⊥
+IsParam refusal.Owed = ⊥
+IsParam refusal.Closed = ⊥
+IsParam refusal.Unsaved = ⊥
+
+-- there was no memory, or a parameter says that no call is meant
 abbrev pub IsNoCall : ℕ → Method → Option Json → Refusal → Type 0
-IsNoCall seats m params refusal.Parse = ⊥
-IsNoCall seats m params refusal.TooLong = ⊥
-IsNoCall seats m params refusal.Request = ⊥
-IsNoCall seats m params refusal.Method = ⊥
-IsNoCall seats m params (refusal.Param name) = (c : Call) → ¬ IsCall seats m params c
-IsNoCall seats m params refusal.Memory = ⊤
-IsNoCall seats m params refusal.Owed = ⊥
-IsNoCall seats m params refusal.Closed = ⊥
-IsNoCall seats m params refusal.Unsaved = ⊥
+IsNoCall seats m params why = (why ≡ refusal.Memory) ⊎ (IsParam why × ((c : Call) → ¬ IsCall seats m params c))
