@@ -22,7 +22,7 @@ pub fn answer(alloc: Global, client: &str, answer: &Answer<'_>) -> Result<String
         }
         Err(fault) => object.text("fault", fault.to_string(alloc)?.as_str())?,
     }
-    line(object)
+    into_line(object)
 }
 
 /// A line of the journal: its number, client, word, block, moment and reply.
@@ -38,7 +38,7 @@ pub fn step(alloc: Global, step: &Step<'_, Label<'_>>) -> Result<String, AllocEr
         moment: step.asked.moment(),
         reply: reply.as_str(),
     })?;
-    line(object)
+    into_line(object)
 }
 
 /// The text of a step's reply.
@@ -53,7 +53,7 @@ pub fn reply_text(alloc: Global, reply: Option<Reply>) -> Result<String, AllocEr
 pub fn agreement(alloc: Global) -> Result<String, AllocError> {
     let mut object = Object::new(alloc)?;
     object.text("audit", "agrees")?;
-    line(object)
+    into_line(object)
 }
 
 /// The first line of a journal that differs.
@@ -61,7 +61,7 @@ pub fn difference(alloc: Global, line: u64) -> Result<String, AllocError> {
     let mut object = Object::new(alloc)?;
     object.text("audit", "differs")?;
     object.number("line", line)?;
-    line(object)
+    into_line(object)
 }
 
 /// The reply that the definition gives at a line of the journal.
@@ -69,7 +69,7 @@ pub fn explanation(alloc: Global, line: u64, reply: Reply) -> Result<String, All
     let mut object = Object::new(alloc)?;
     object.number("line", line)?;
     object.text("definition", reply.to_string(alloc)?.as_str())?;
-    line(object)
+    into_line(object)
 }
 
 /// A fault: its line, and why.
@@ -82,11 +82,11 @@ pub fn fault(alloc: Global, fault: &Fault<'_>) -> Result<String, AllocError> {
     if fault.has_reason() {
         object.text("why", Reason(fault).to_string(alloc)?.as_str())?;
     }
-    line(object)
+    into_line(object)
 }
 
 /// The object, and the end of its line.
-fn line(object: Object) -> Result<String, AllocError> {
+fn into_line(object: Object) -> Result<String, AllocError> {
     String::from_utf8(object.line()?).map_err(|_| AllocError)
 }
 

@@ -29,13 +29,10 @@ abbrev pub members : Members → List Token
 members no_members = []
 members (member name j rest) = Token.key name ∷ (json_tokens j ++ members rest)
 
--- what is written so far goes on by these tokens
-abbrev pub GoesOn : Written → Written → List Token → Type 0
-GoesOn old new ts = (new.before ≡ old.before) × (new.tokens ≡ old.tokens ++ ts)
-
--- the same, unless memory was refused
-abbrev pub Adds : {E : Type 0} → Result (Unit {0}) E → Written → Written → List Token → Type 0
-Adds r old new ts = OnOk r (GoesOn old new ts)
+-- what is written so far goes on by these tokens, unless memory was refused
+pub record Adds {E : Type 0} (r : Result (Unit {0}) E) (old new : Written) (ts : List Token) : Type 0 where
+  pub before : OnOk r (new.before ≡ old.before)
+  pub tokens : OnOk r (new.tokens ≡ old.tokens ++ ts)
 
 -- a member, before others
 abbrev pub text : List ℕ → List ℕ → Members → Members

@@ -1,9 +1,13 @@
 //! What is answered, as members of an object.
 
-ghost use Rattle.std.specs.Prelude.{◌≡◌, ◌++◌, ◌∷◌, []};
+ghost use Rattle.std.specs.Prelude.{◌≡◌, ◌++◌, ◌∷◌, [], codes};
 ghost use Rattle.hash.specs.Id.{hex_of_id};
-ghost use Rattle.json.specs.Token.{key, string, begin_object, end_object};
-ghost use Rattle.serving.specs.Answers.{Adds, answer_members, tip_members, output_members, step_members, info_members, members, status_name, tip_items, step_items};
+ghost use Rattle.json.specs.Token.{key, string, boolean};
+ghost use Rattle.std.specs.List.{flat_map};
+ghost use Rattle.hex.specs.Hex.{encode_lower};
+ghost use Rattle.json.specs.Json.{no_members};
+ghost use Rattle.serving.specs.Answers.{Adds, answer_members, tip_members, output_members, step_members, info_members, members, now_of, status_name};
+ghost use Rattle.serving.specs.inside.Front.{tip_tokens, step_tokens};
 
 use crate::object::Object;
 use hash::Id;
@@ -81,37 +85,59 @@ impl Object {
                 self.id(alloc, "hash", *id)?;
                 self.end()
             }
-            Answer::Tips(tips) => self.tips(alloc, tips),
+            Answer::Tips(tips) => {
+                self.begin_list("answer")?;
+                self.tips(alloc, tips)?;
+                self.end_list()
+            }
             Answer::Output(None) => self.null("answer"),
             Answer::Output(Some(output)) => {
                 self.begin("answer")?;
                 self.output(alloc, output)?;
                 self.end()
             }
-            Answer::Steps(steps) => self.steps(steps),
+            Answer::Steps(steps) => {
+                self.begin_list("answer")?;
+                self.steps(steps)?;
+                self.end_list()
+            }
         }
     }
 
-    /// A list of tips, as Bitcoin Core's `getchaintips` gives them.
-    fn tips(&mut self, alloc: Global, tips: &[Tip]) -> Result<(), AllocError> {
-        self.begin_list("answer")?;
+    /// Tips, as Bitcoin Core's `getchaintips` gives them.
+    fn tips(&mut self, alloc: Global, tips: &[Tip]) -> Result<(), AllocError>
+        ensures { Adds result self.old self.new (flat_map tip_tokens tips.now) }
+    {
         for tip in tips {
-            self.item()?;
-            self.id(alloc, "hash", tip.id)?;
-            self.tip(tip)?;
-            self.end()?;
+            self.whole_tip(alloc, tip)?;
         }
-        self.end_list()
+        Ok(())
     }
 
-    fn steps(&mut self, steps: &[Step<'_>]) -> Result<(), AllocError> {
-        self.begin_list("answer")?;
+    fn whole_tip(&mut self, alloc: Global, tip: &Tip) -> Result<(), AllocError>
+        ensures { Adds result self.old self.new (tip_tokens tip.now) }
+    {
+        self.item()?;
+        self.id(alloc, "hash", tip.id)?;
+        self.tip(tip)?;
+        self.end()
+    }
+
+    fn steps(&mut self, steps: &[Step<'_>]) -> Result<(), AllocError>
+        ensures { Adds result self.old self.new (flat_map step_tokens steps.now) }
+    {
         for step in steps {
-            self.item()?;
-            self.step(step)?;
-            self.end()?;
+            self.whole_step(step)?;
         }
-        self.end_list()
+        Ok(())
+    }
+
+    fn whole_step(&mut self, step: &Step<'_>) -> Result<(), AllocError>
+        ensures { Adds result self.old self.new (step_tokens step.now) }
+    {
+        self.item()?;
+        self.step(step)?;
+        self.end()
     }
 
     /// An id, as it is printed.
@@ -137,9 +163,9 @@ impl Object {
         ensures { Adds result self.old self.new (members (output_members output.now)) }
     {
         self.signed("value", output.value)?;
-        self.text("script", hex::encode(alloc, output.script)?.as_str())?;
+        self.bytes(alloc, "script", output.script)?;
         self.number("height", u64::from(output.height))?;
-        self.flag("coinbase", output.coinbase)?;
+        self.origin(output)?;
         self.number("confirmations", u64::from(output.confirmations))
     }
 
@@ -151,10 +177,36 @@ impl Object {
         self.text("client", step.client)?;
         self.text("command", step.command)?;
         self.text("block", step.block)?;
-        if let Some(moment) = step.moment {
-            self.number("now", moment)?;
-        }
+        self.moment(step.moment)?;
         self.text("reply", step.reply)
+    }
+
+    /// The moment of a submission.
+    fn moment(&mut self, moment: Option<u64>) -> Result<(), AllocError>
+        ensures { Adds result self.old self.new (members (now_of moment no_members)) }
+    {
+        match moment {
+            Some(moment) => self.number("now", moment),
+            None => Ok(()),
+        }
+    }
+
+    /// Whether a coinbase made an output.
+    fn origin(&mut self, output: &Output<'_>) -> Result<(), AllocError>
+        ensures { Adds result self.old self.new (key (codes "coinbase") ∷ boolean output.now.coinbase ∷ []) }
+    {
+        if output.coinbase {
+            self.flag("coinbase", true)
+        } else {
+            self.flag("coinbase", false)
+        }
+    }
+
+    /// Bytes in hexadecimal digits.
+    fn bytes(&mut self, alloc: Global, name: &str, bytes: &[u8]) -> Result<(), AllocError>
+        ensures { Adds result self.old self.new (key name.now ∷ string (encode_lower bytes.now) ∷ []) }
+    {
+        self.text(name, hex::encode(alloc, bytes)?.as_str())
     }
 
     /// The members that say how a node was opened.
