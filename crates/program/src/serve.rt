@@ -226,7 +226,7 @@ fn tell_end<O: Write>(
         };
         answer_line(alloc, Vec::new(alloc), id, &stamped)?
     } else {
-        refusal_line(alloc, id, Refusal::Unsaved)?
+        refusal_line(Vec::new(alloc), id, Refusal::Unsaved)?
     };
     print_bytes(out, line.as_slice())
 }

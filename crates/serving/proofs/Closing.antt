@@ -2,7 +2,7 @@
 use Rattle.std.specs.Prelude.{◌++◌, ◌∷◌, [], List, ℕ, codes}
 use Rattle.std.proofs.Common.{◌≡◌, refl, ap, ◌∙◌, sym}
 use Rattle.std.proofs.lemmas.List.{append_assoc}
-use Rattle.json.specs.Json.{Json, Members, no_members, member}
+use Rattle.json.specs.Json.{Members, no_members, member}
 use Rattle.json.specs.Token.{Token}
 use Rattle.json.specs.Tree.{json_tokens, members_tokens}
 use Rattle.serving.specs.Answers.{members, id_json, response}

@@ -16,7 +16,7 @@ pub then : {E : Type 0} {u : Unit {0}} {r : Result (Unit {0}) E} {a b c : Writte
     → Adds {E = E} (Ok u) a b ts → Adds r b c us → Adds r a c (ts ++ us)
 then {r = Ok v} {a} {b} {c} {ts} {us} h k = record {
   before = k.before ∙ h.before;
-  tokens = k.tokens ∙ ap (λ all. all ++ us) h.tokens ∙ append_assoc a.tokens ts us
+  tokens = k.tokens ∙ ap (λ all. all ++ us) h.tokens ∙ append_assoc a.tokens ts us;
 }
 then {r = Err e} h k = record { before = k.before; tokens = k.tokens }
 

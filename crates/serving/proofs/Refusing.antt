@@ -1,5 +1,5 @@
 -- Which calls a method doesn't mean.
-use Rattle.std.specs.Prelude.{ℕ, List, codes, Option, ⊤}
+use Rattle.std.specs.Prelude.{ℕ, List, codes, Option}
 use Rattle.std.proofs.Common.{◌≡◌, sym, subst}
 use Rattle.json.specs.Json.{Json}
 use Rattle.hash.specs.declared.id.Id.{Id}

@@ -8,7 +8,6 @@ use Rattle.json.specs.Token.{Token}
 use Rattle.json.specs.Tree.{json_tokens}
 use Rattle.json.specs.Print.{print}
 use Rattle.json.specs.Written.{Written}
-use Rattle.hash.specs.declared.id.Id.{Id}
 use Rattle.hash.specs.Id.{hex_of_id}
 use Rattle.tree.specs.declared.tip.Tip.{Tip}
 use Rattle.tree.specs.declared.tip.Status.{Status}
@@ -152,7 +151,7 @@ refusal_members r = member (codes "code") (number (signed_decimal (neg_ℤ (pos 
     (text (codes "message") (name_of r) (about r))
 
 -- how a node was opened
-abbrev pub info_members : Info → Members
+unfoldable pub info_members : Info → Members
 info_members i = text (codes "program") i.program.now (text (codes "version") i.version.now
     (count (codes "seats") i.seats (count (codes "workers") i.workers
     (member (codes "heights") (object (count (codes "bip34") i.bip34 (count (codes "bip65") i.bip65

@@ -12,7 +12,6 @@ use Rattle.txn.specs.declared.outpoint.OutPoint.{OutPoint}
 use Rattle.serving.specs.Answers.{id_json}
 use Rattle.serving.specs.declared.method.Method.{Method}
 use Rattle.serving.specs.declared.method.Method.TheVariants as method
-use Rattle.serving.specs.declared.refusal.Refusal.{Refusal}
 use Rattle.serving.specs.declared.refusal.Refusal.TheVariants as refusal
 use Rattle.serving.specs.declared.request.Call.{Call}
 use Rattle.serving.specs.declared.request.Call.TheVariants as call

@@ -72,26 +72,26 @@ pub fn answer_line(
     object.line()
 }
 
-/// The line that says how the node was opened.
+/// The line that says how the node was opened, behind what the room holds.
 #[tactic(auto, using(crate::proofs::Closing::closed))]
-pub fn info_line(alloc: Global, id: &RequestId, info: &Info<'_>) -> Result<Vec<u8>, AllocError>
+pub fn info_line(room: Vec<u8>, id: &RequestId, info: &Info<'_>) -> Result<Vec<u8>, AllocError>
     ensures { let answered = response (codes "result") id.now (info_members info.now) in
-        IfOk result (λ line. line.items ≡ line_of answered) }
+        IfOk result (λ line. line.items ≡ room.items ++ line_of answered) }
 {
-    let mut object = Object::response_to(Vec::new(alloc), id)?;
+    let mut object = Object::response_to(room, id)?;
     object.begin("result")?;
     object.info(info)?;
     object.end()?;
     object.line()
 }
 
-/// The line of a refusal.
+/// The line of a refusal, behind what the room holds.
 #[tactic(auto, using(crate::proofs::Closing::closed))]
-pub fn refusal_line(alloc: Global, id: &RequestId, refusal: Refusal) -> Result<Vec<u8>, AllocError>
+pub fn refusal_line(room: Vec<u8>, id: &RequestId, refusal: Refusal) -> Result<Vec<u8>, AllocError>
     ensures { let answered = response (codes "error") id.now (refusal_members refusal) in
-        IfOk result (λ line. line.items ≡ line_of answered) }
+        IfOk result (λ line. line.items ≡ room.items ++ line_of answered) }
 {
-    let mut object = Object::response_to(Vec::new(alloc), id)?;
+    let mut object = Object::response_to(room, id)?;
     object.begin("error")?;
     object.refusal(refusal)?;
     object.end()?;

@@ -44,7 +44,7 @@ where
         board.lay(rt, number, seat.note());
         let line = match answered {
             Ok(line) => Ok(line),
-            Err(refusal) => refusal_line(rt.alloc(), &id, refusal),
+            Err(refusal) => refusal_line(Vec::new(rt.alloc()), &id, refusal),
         };
         match line {
             Ok(line) => {

@@ -103,11 +103,11 @@ where
         Asked::Refused(Some(seat), refusal) => (seat, Err(refusal)),
         Asked::Finish => return Ok(Next::Finish(id)),
         Asked::Info => {
-            let line = info_line(alloc, &id, &facts.info())?;
+            let line = info_line(Vec::new(alloc), &id, &facts.info())?;
             return Ok(passed(to.send(rt, line).is_ok()));
         }
         Asked::Refused(None, refusal) => {
-            let line = refusal_line(alloc, &id, refusal)?;
+            let line = refusal_line(Vec::new(alloc), &id, refusal)?;
             return Ok(passed(to.send(rt, line).is_ok()));
         }
     };

@@ -1,5 +1,5 @@
 -- The tokens of a response before its object, and of the parts of lists.
-use Rattle.std.specs.Prelude.{◌++◌, ◌∷◌, [], List, codes}
+use Rattle.std.specs.Prelude.{◌∷◌, List, codes}
 use Rattle.json.specs.Token.{Token, begin_object, key, string}
 use Rattle.json.specs.Tree.{json_tokens}
 use Rattle.json.specs.Json.{object}

@@ -1,5 +1,4 @@
 use Rattle.std.proofs.Common.{ℕ, codes, None, subst}
-use Rattle.json.specs.Find.{get}
 use Rattle.json.specs.Value.{value_view}
 use Rattle.serving.specs.Requests.{IsRequest, IsSeat}
 use Rattle.serving.proofs.Refusing.{is-param, asked-refused}
@@ -13,5 +12,5 @@ returns-in-Err c =
     let unseated = subst (λ params. (n : ℕ) → IsSeat c.args.seats (codes "seat") params n → ⊥) c.get-params.ensures none.1 in
     record {
       asked = asked-refused c.args.seats j c.in-Some-read.method None _ named (is-param none.0) (λ k call h. unseated k h.0);
-      turn = tt
+      turn = tt;
     }

@@ -1,5 +1,5 @@
 use Rattle.serving.proofs.request.call_of.Goals as goal
-use Rattle.std.proofs.Common.{sym, subst, inl, inr}
+use Rattle.std.proofs.Common.{sym, subst, inr}
 use Rattle.std.specs.Prelude.{IfOk, IfErr}
 use Rattle.serving.specs.Requests.{IsCall}
 use Rattle.serving.specs.inside.Given.{given, IsNoCall}

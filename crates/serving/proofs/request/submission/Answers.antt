@@ -11,6 +11,6 @@ returns-in-Err-number-clause-err c seats =
 pub returns-in-Err-clause-err : goal.returns-in-Err-clause-err
 returns-in-Err-clause-err c seats =
     elim c.in-Err.ensures.err [
-      inl e ↦ inl e
-    | inr none ↦ inr (is-param none.0, submit-no-block seats (given c.args.params.now) none.1)
+      | inl e ↦ inl e
+      | inr none ↦ inr (is-param none.0, submit-no-block seats (given c.args.params.now) none.1)
     ]

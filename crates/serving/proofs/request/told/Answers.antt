@@ -1,5 +1,5 @@
 use Rattle.serving.proofs.request.told.Goals as goal
-use Rattle.std.proofs.Common.{inl, inr}
+use Rattle.std.proofs.Common.{inr}
 use Rattle.serving.specs.inside.Given.{given}
 use Rattle.serving.proofs.Refusing.{is-param, told-no-seat}
 
