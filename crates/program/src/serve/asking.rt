@@ -21,34 +21,41 @@ const MAX_REPLY: usize = 128;
 /// How long a line is at most that answers a step, beside its id.
 const ROOM: usize = 256;
 
+/// What waits for a seat, and where its answers go.
+#[derive(Drop)]
+pub struct Desk {
+    /// The seat's.
+    pub number: usize,
+    pub turns: Receiver<Turn>,
+    pub to: Sender<Vec<u8>>,
+}
+
 /// Answers what comes in, one after the other, until nothing more can come or nobody takes the answers.
 pub fn answer_turns<J: Naming, R>(
     rt: &R,
     node: &Node<'_, J>,
     board: &Board<J>,
     facts: &Facts<'_>,
-    number: usize,
-    turns: &Receiver<Turn>,
-    to: &Sender<Vec<u8>>,
+    desk: &Desk,
     seat: &mut Seat<'_, J>,
 )
 where
     R: AllocGlobal + Threads + Wait + Sync,
 {
-    for turn in turns.iter(rt) {
+    for turn in desk.turns.iter(rt) {
         let Turn { id, call } = turn;
         let answered = match call {
             Ok(call) => answered(rt, node, board, facts, &id, call, seat),
             Err(refusal) => Err(refusal),
         };
-        board.lay(rt, number, seat.note());
+        board.lay(rt, desk.number, seat.note());
         let line = match answered {
             Ok(line) => Ok(line),
             Err(refusal) => refusal_line(Vec::new(rt.alloc()), &id, refusal),
         };
         match line {
             Ok(line) => {
-                if to.send(rt, line).is_err() {
+                if desk.to.send(rt, line).is_err() {
                     return;
                 }
             }

@@ -34,12 +34,18 @@ enum Next {
     Left,
 }
 
+/// Where requests wait for each seat, and where lines wait for being written.
+#[derive(Drop)]
+pub struct Doors {
+    pub seats: Vec<Sender<Turn>>,
+    pub to: Sender<Vec<u8>>,
+}
+
 /// Reads requests to the end of the input, and has each wait for its seat. The request that asked for the end, if one did.
 pub fn read_requests<R, I>(
     rt: &R,
     facts: &Facts<'_>,
-    seats: &[Sender<Turn>],
-    to: &Sender<Vec<u8>>,
+    doors: &Doors,
     input: &mut I,
 ) -> Result<Option<RequestId>, Fault<'static>>
 where
@@ -50,7 +56,7 @@ where
     let mut input = BufReader::with_capacity(alloc, READ_AHEAD, input).map_err(unread)?;
     for _ in 0..u64::MAX {
         let next = match read_line(alloc, &mut input).map_err(unread)? {
-            Some(line) => pass_on(rt, facts, seats, to, line)?,
+            Some(line) => pass_on(rt, facts, doors, line)?,
             None => return Ok(None),
         };
         match next {
@@ -80,19 +86,13 @@ fn read_line<I: BufRead>(alloc: Global, input: &mut I) -> io::Result<Option<Line
 }
 
 /// Has a line wait for its seat, or answers it.
-fn pass_on<R>(
-    rt: &R,
-    facts: &Facts<'_>,
-    seats: &[Sender<Turn>],
-    to: &Sender<Vec<u8>>,
-    line: Line,
-) -> Result<Next, Fault<'static>>
+fn pass_on<R>(rt: &R, facts: &Facts<'_>, doors: &Doors, line: Line) -> Result<Next, Fault<'static>>
 where
     R: AllocGlobal + Wait,
 {
     let alloc = rt.alloc();
     let Request { id, asked } = match line {
-        Line::Whole(line) => read_request(alloc, line.as_slice(), seats.len())?,
+        Line::Whole(line) => read_request(alloc, line.as_slice(), doors.seats.len())?,
         Line::TooLong => Request {
             id: RequestId::Null,
             asked: Asked::Refused(None, Refusal::TooLong),
@@ -104,14 +104,14 @@ where
         Asked::Finish => return Ok(Next::Finish(id)),
         Asked::Info => {
             let line = info_line(Vec::new(alloc), &id, &facts.info())?;
-            return Ok(passed(to.send(rt, line).is_ok()));
+            return Ok(passed(doors.to.send(rt, line).is_ok()));
         }
         Asked::Refused(None, refusal) => {
             let line = refusal_line(Vec::new(alloc), &id, refusal)?;
-            return Ok(passed(to.send(rt, line).is_ok()));
+            return Ok(passed(doors.to.send(rt, line).is_ok()));
         }
     };
-    let Some(door) = seats.get(seat) else {
+    let Some(door) = doors.seats.get(seat) else {
         return Ok(Next::Left);
     };
     Ok(passed(door.send(rt, Turn { id, call }).is_ok()))
