@@ -93,8 +93,12 @@ class CoreTree:
         verdict = self.verdict(number)
         if verdict.kind == BY_ITSELF:
             return verdict.reason
-        if node is not None:
+        if node is not None and node.has_data:
             return "duplicate"
+        if node is not None:
+            # Of a block that is refused by its place the header stayed, and `reconsider` has taken its mark.
+            node.failed_itself = True
+            return verdict.reason
         refused = self._header_fault(parent, verdict, too_new)
         if refused:
             return refused

@@ -56,7 +56,9 @@ class Lines:
 
     def __init__(self, base: "Base", list_: List_) -> None:
         self.list = list_
-        self.ours, self.theirs = base.ours.copy(), base.theirs.copy()
+        # So that no two lists have a header in common: the peer keeps those of the lists before.
+        nonce = (list_.seed % 4096 << 8 | list_.salt % 256) << 12
+        self.ours, self.theirs = base.ours.copy(nonce), base.theirs.copy(nonce)
         self.by_ours = self._numbers(self.ours)
         self.by_theirs = self._numbers(self.theirs)
 

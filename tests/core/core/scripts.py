@@ -343,7 +343,7 @@ class Pairs:
         self.seed += 1
         top = coinbase(bench.height + 1, subsidy(bench.height + 1), TRUE, struct.pack("<I", self.seed))
         blocks = [*bench.maker.base, Logical(bench.height - 1, above, [top, funding])]
-        id, data = bench.base.theirs.copy().spell(blocks, bench.height)
+        id, data = bench.base.theirs.copy(0).spell(blocks, bench.height)
         if bench.peer.submit(data) != "accepted":
             raise RuntimeError("the block with the outputs is refused")
         pairs = [

@@ -44,11 +44,12 @@ class Chain:
     def __init__(self, genesis: bytes, works: Callable[[bytes], bool]) -> None:
         self.genesis, self._works = genesis, works
         self._spelled: Dict[int, Tuple[bytes, bytes]] = {}
+        self._nonce = 0
 
-    def copy(self) -> "Chain":
-        """The same, so that other blocks may come behind those that were spelled."""
+    def copy(self, nonce: int) -> "Chain":
+        """The same, so that other blocks may come behind those that were spelled, with nonces from this one on."""
         chain = Chain(self.genesis, self._works)
-        chain._spelled = dict(self._spelled)
+        chain._spelled, chain._nonce = dict(self._spelled), nonce
         return chain
 
     def spell(self, blocks: List[Logical], number: int) -> Tuple[bytes, bytes]:
@@ -64,7 +65,7 @@ class Chain:
 
     def _write(self, block: Logical, parent: bytes) -> Tuple[bytes, bytes]:
         root = merkle_root([tx.id for tx in block.transactions]) if block.root is None else block.root
-        header = Header(block.version, parent, root, block.time, block.bits, 0)
+        header = Header(block.version, parent, root, block.time, block.bits, self._nonce)
         while self._works(write_header(header)) != block.works:
             header = header._replace(nonce=header.nonce + 1)
         spelled = write_header(header)

@@ -48,6 +48,7 @@ class List_(NamedTuple):
     table: List[str]
     outpoints: List[Tuple[bytes, int]]
     seed: int = 0
+    salt: int = 0
 
 
 class Scripts:
@@ -155,7 +156,7 @@ class _Making:
                 word = self.chance.choice(("invalidate", "reconsider", "precious", "precious"))
                 # A mark of the base would undo the lists before it in the peer.
                 self.commands.append(Command(word, self.chance.randrange(first, len(self.blocks))))
-        return List_(self.blocks, first, self.commands, list(self.scripts.lines), self.outpoints[-40:], self.seed)
+        return List_(self.blocks, first, self.commands, list(self.scripts.lines), self.outpoints[-40:], self.seed, self.salt)
 
     def _deep(self) -> None:
         """Two branches of some 60 blocks: the second takes the first back, or has a block in it that fails."""
