@@ -43,9 +43,9 @@ fn entries(alloc: Global, view: &View, from: u64, to: u64) -> Result<Vec<Entry>,
     ensures { IfOk result (λ list. list.items ≡ drop from (take to view.now.journal)) }
 {
     let journal = view.journal();
-    let to = to.min(journal.len() as u64) as usize;
-    let from = from.min(to as u64) as usize;
-    Ok(journal[from..to].to_vec(alloc)?)
+    let front = &journal[..to.min(journal.len() as u64) as usize];
+    let rest = &front[from.min(front.len() as u64) as usize..];
+    Ok(rest.to_vec(alloc)?)
 }
 
 impl<'t, J: Naming> Seat<'t, J> {
