@@ -1,4 +1,5 @@
 -- Where there is no verdict: what asks for a triple below asks for it above.
+use Rattle.std.specs.Box.{box_value}
 use Rattle.curve.specs.Known.{Known, Agrees}
 use Rattle.curve.specs.Triple.{Triple, Triples}
 use Rattle.interp.specs.Asking.{Stops, IsStopped}
@@ -7,7 +8,7 @@ use Rattle.interp.specs.declared.unverified.Unverified.TheVariants.{Memory, Unkn
 
 pub stops-weaker : (known : Known) (P Q : Triple → Type 0) → ((t : Triple) → P t → Q t) → (e : Unverified) → Stops known P e → Stops known Q e
 stops-weaker known P Q f Memory s = tt
-stops-weaker known P Q f (Unknown t) s = (s.0, f t s.1)
+stops-weaker known P Q f (Unknown t) s = (s.0, f (box_value t) s.1)
 
 pub stopped-weaker : (known : Known) (A B : Triples → Triple → Type 0) → ((triples : Triples) → Agrees known triples → (t : Triple) → A triples t → B triples t)
     → (e : Unverified) → IsStopped known A e → IsStopped known B e

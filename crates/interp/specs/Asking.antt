@@ -1,6 +1,7 @@
 -- Which signatures scripts come to, as relations: those of `Rules`, up to a signature that is asked for (Bitcoin Core's
 -- calls of `CheckSig`).
-use Rattle.std.specs.Prelude.{◌≡◌, ◌⊎◌, ℕ, ◌<◌, ◌≤◌, List, [], ◌∷◌, ◌++◌, length, true, false, None, Some, slice_get, ⊤}
+use Rattle.std.specs.Prelude.{◌≡◌, ◌⊎◌, ℕ, ◌<◌, ◌≤◌, List, [], ◌∷◌, ◌++◌, length, true, false, Option, None, Some, IfSome, slice_get}
+use Rattle.std.specs.Box.{box_value}
 use Rattle.std.specs.List.{concat}
 use Rattle.script.specs.Ops.{ops, rest}
 use Rattle.script.specs.Kinds.{is_push_only, is_p2sh, max_script_size}
@@ -105,11 +106,15 @@ Asks tx input spent flags triples t =
     (own : TxIn) × (slice_get tx.inputs input ≡ Some own) × ScriptsAsk (spending_of tx input flags triples) own.script spent t
 
 -- ---- where there is no verdict
--- no memory, or a triple of which this holds isn't known
-abbrev pub Stops : Known → (Triple → Type 0) → Unverified → Type 0
-Stops known asked Memory = ⊤
-Stops known asked (Unknown t) = (known t ≡ None) × asked t
+-- the triple that isn't known, or none where there was no memory
+abbrev pub unknown_in : Unverified → Option Triple
+unknown_in Memory = None
+unknown_in (Unknown t) = Some (box_value t)
 
--- no memory, or a triple isn't known that is asked for under every set that agrees
+-- if there is such a triple, it isn't known, and this holds of it
+abbrev pub Stops : Known → (Triple → Type 0) → Unverified → Type 0
+Stops known asked stop = IfSome (unknown_in stop) (λ t. (known t ≡ None) × asked t)
+
+-- and it is asked for under every set that agrees
 abbrev pub IsStopped : Known → (Triples → Triple → Type 0) → Unverified → Type 0
 IsStopped known asks = Stops known (λ t. Under known (λ triples. asks triples t))

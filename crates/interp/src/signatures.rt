@@ -112,7 +112,7 @@ pub fn is_valid<K: KnowsSignatures>(
         Some(valid) => Ok(valid),
         None => {
             let unknown = KeptTriple::from_parts(alloc, key, proper, digest)?;
-            Err(Unverified::Unknown(unknown))
+            Err(Unverified::Unknown(Box::new(alloc, unknown)?))
         }
     }
 }
