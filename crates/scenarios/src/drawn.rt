@@ -1,4 +1,4 @@
-//! Lists of commands by chance.
+//! Lists of commands drawn at random.
 
 use rand_core::{Rng, SeedableRng};
 use rand_xoshiro::SplitMix64;
@@ -33,58 +33,60 @@ struct Output {
 
 /// A list of commands, and the blocks that they speak of.
 #[derive(Drop)]
-pub struct Deal {
+pub struct Drawn {
     alloc: Global,
-    chance: SplitMix64,
+    random: SplitMix64,
     /// How many blocks the chain has that the list begins with.
-    pub below: usize,
+    below: usize,
     /// The scenario's lines that define the blocks.
-    pub definitions: String,
+    definitions: String,
     /// The commands, each on its line.
-    pub commands: String,
-    /// For each command the place of the block that it submits.
-    pub submitted: Vec<Option<usize>>,
+    commands: String,
     /// The parent's place of each block; the first is genesis.
-    pub parents: Vec<usize>,
+    parents: Vec<usize>,
     /// The places of blocks that may well be kept, from the last ones of the first chain on.
     plain: Vec<usize>,
     /// The block that was invalidated last.
     marked: usize,
     outputs: Vec<Output>,
     /// How many transactions there are, of two outputs each.
-    pub transactions: usize,
+    transactions: usize,
 }
 
 /// The time of genesis, in seconds since 1970.
 const GENESIS_TIME: u64 = 1_296_688_602;
 
-impl Deal {
+impl Drawn {
     /// A list that begins with a chain of so many blocks, and has so many commands more.
-    pub fn new(alloc: Global, seed: u64, below: usize, count: usize) -> Result<Deal, AllocError> {
-        let mut deal = Deal {
+    pub fn new(alloc: Global, seed: u64, below: usize, count: usize) -> Result<Drawn, AllocError> {
+        let mut drawn = Drawn {
             alloc,
-            chance: SplitMix64::seed_from_u64(seed),
+            random: SplitMix64::seed_from_u64(seed),
             below,
             definitions: String::new(alloc),
             commands: String::new(alloc),
-            submitted: Vec::new(alloc),
             parents: vec![in alloc; 0]?,
             plain: Vec::new(alloc),
             marked: 0,
             outputs: Vec::new(alloc),
             transactions: 0,
         };
-        deal.begin()?;
+        drawn.begin()?;
         for _ in 0..count {
-            deal.add_command()?;
+            drawn.add_command()?;
         }
-        deal.ask_all()?;
-        deal.ask_all()?;
-        Ok(deal)
+        drawn.ask_all()?;
+        drawn.ask_all()?;
+        Ok(drawn)
+    }
+
+    /// The list as the program reads it: the blocks, and a client with the commands.
+    pub fn text(&self) -> Result<String, AllocError> {
+        format!(in self.alloc; "{}client a\n{}", self.definitions, self.commands)
     }
 
     /// How the block of this place is named.
-    pub fn name(&self, place: usize) -> Result<String, AllocError> {
+    fn name(&self, place: usize) -> Result<String, AllocError> {
         if place == 0 {
             return String::from_str(self.alloc, "genesis");
         }
@@ -96,7 +98,7 @@ impl Deal {
 
     /// A number below another, or 0.
     fn number(&mut self, end: usize) -> usize {
-        let word = self.chance.next_u64() as usize;
+        let word = self.random.next_u64() as usize;
         word.checked_rem(end).unwrap_or(0)
     }
 
@@ -162,16 +164,12 @@ impl Deal {
 
     fn submit(&mut self, place: usize) -> Result<(), AllocError> {
         let name = self.name(place)?;
-        writeln!(self.commands, "submit {name}")?;
-        self.submitted.push(Some(place))?;
-        Ok(())
+        writeln!(self.commands, "submit {name}")
     }
 
     fn mark(&mut self, word: &str, place: usize) -> Result<(), AllocError> {
         let name = self.name(place)?;
-        writeln!(self.commands, "{word} {name}")?;
-        self.submitted.push(None)?;
-        Ok(())
+        writeln!(self.commands, "{word} {name}")
     }
 
     /// The place of a block that may well be kept, often of a late one; seldom of any other.

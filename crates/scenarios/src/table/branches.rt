@@ -3,7 +3,7 @@
 use super::{REGTEST, Scenario};
 
 /// Those of branches, marks and soft forks.
-pub const BRANCHES: [Scenario; 14] = [
+pub const BRANCHES: [Scenario; 17] = [
     NOTHING_BUT_GENESIS,
     THE_FIRST_TWO_BLOCKS,
     HEIGHTS_OF_COINBASES,
@@ -18,6 +18,9 @@ pub const BRANCHES: [Scenario; 14] = [
     BIP_34_BY_HEIGHT,
     BIP_65_BY_HEIGHT,
     BIP_66_BY_HEIGHT,
+    MARKS_AND_A_FAILING_BLOCK,
+    A_FRONT_OF_GENESIS,
+    A_BRANCH_OF_THIRTEEN,
 ];
 
 /// What is told before any step.
@@ -275,4 +278,56 @@ block w5 v4 version=3",
 submit v4 = accepted @4
 submit v5 = bad-version @5
 submit w5 = accepted @6",
+};
+
+/// Marks of a block that isn't kept and of genesis; and a block that pays too much, which is looked at whole when it is
+/// called precious.
+pub const MARKS_AND_A_FAILING_BLOCK: Scenario = Scenario {
+    name: "marks and a failing block",
+    heights: REGTEST,
+    definitions: "block a1 genesis
+block b1 genesis
+block x1 genesis reward=5000000001
+block y1 genesis
+block y2 y1",
+    told: "invalidate y1 = not-found @1
+reconsider y1 = not-found @2
+precious y1 = not-found @3
+invalidate genesis = genesis @4
+reconsider genesis = done @5
+precious genesis = done @6
+submit a1 = accepted @7
+submit b1 = inconclusive @8
+submit b1 = duplicate-inconclusive @9
+submit y2 = prev-blk-not-found @10
+invalidate a1 = done @11
+submit a1 = duplicate-invalid @12
+submit b1 = duplicate @13
+reconsider a1 = done @14
+submit a1 = duplicate @15
+submit x1 = inconclusive @16
+precious x1 = done @17
+submit x1 = duplicate-invalid @18",
+};
+
+/// Bytes that are no block take no step, whoever submits them.
+pub const A_FRONT_OF_GENESIS: Scenario = Scenario {
+    name: "a front of genesis",
+    heights: REGTEST,
+    definitions: "",
+    told: "cut genesis 284 = decode-failed @0
+submit genesis = duplicate @1",
+};
+
+/// More coins come in one step than a map of coins or a list has room for at first.
+pub const A_BRANCH_OF_THIRTEEN: Scenario = Scenario {
+    name: "a branch of thirteen",
+    heights: REGTEST,
+    definitions: "chain p 12 genesis
+chain q 13 genesis",
+    told: "each p 1 12 = accepted @1
+each q 1 12 = inconclusive @13
+submit q13 = accepted @25
+best = q13 @25
+tips = q13 13 0 active; p12 12 12 valid-fork @25",
 };
