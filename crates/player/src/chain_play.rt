@@ -2,7 +2,7 @@
 //! what is read between them. The second client names the outputs that are looked at.
 
 use crate::allocations::{begin, end};
-use crate::chain::{Chain, Desk, Whole};
+use crate::chainstates::{Chain, Desk, Whole};
 use crate::log::{Asked, Log};
 use crate::seat_calls::MOST_TRIES;
 use crate::state::{State, read, state_of};

@@ -1,7 +1,7 @@
 //! What a chainstate shows, as lines.
 
 use crate::answer::Answer;
-use crate::chain::Look;
+use crate::chainstates::Look;
 use coins::{Base, Coin, CoinMap};
 use node::UnspentOutput;
 use scenario::{Call, Definitions, Request};
