@@ -5,6 +5,7 @@ import concurrent.futures
 import os
 import re
 import subprocess
+import unittest
 from typing import Callable, Iterable, NamedTuple, TypeVar
 
 from running import ROOT
@@ -41,6 +42,15 @@ def play_list(
     if ended.returncode or ended.stderr:
         raise AssertionError(f"{words[1:]}: status {ended.returncode}, {ended.stderr!r}, {ended.stdout[-400:]!r}")
     return ended.stdout
+
+
+class ListTest(unittest.TestCase):
+    def expect_lines(self, given: list[str], wanted: list[str]) -> None:
+        """Compares lines, and shows the first that differs."""
+        if given != wanted:
+            places = range(max(len(given), len(wanted)))
+            at = next(it for it in places if given[it : it + 1] != wanted[it : it + 1])
+            self.fail(f"line {at + 1}: {given[at : at + 1]}, not {wanted[at : at + 1]}")
 
 
 class Answer(NamedTuple):

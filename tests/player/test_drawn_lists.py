@@ -9,9 +9,7 @@ The other 150 begin with a chain of 100 blocks, on which payments are accepted, 
 """
 from __future__ import annotations
 
-import unittest
-
-from playing_lists import client, definitions_of, in_parallel, outputs_of, play, play_list
+from playing_lists import ListTest, client, definitions_of, in_parallel, outputs_of, play, play_list
 from recount import Recount
 
 # The last moment: no block is too new.
@@ -42,20 +40,21 @@ class Compared:
         self.accepted = "".join(f"submit {name} = accepted\n" for name in branch)
 
 
-class DrawnLists(unittest.TestCase):
+class DrawnLists(ListTest):
     def expect(self, first: int, end: int) -> None:
         for it in in_parallel(Compared, range(first, end)):
             with self.subTest(list=it.seed):
-                state = it.chainstate.splitlines()[len(it.definition) :]
-                self.assertEqual(it.chainstate.splitlines()[: len(it.definition)], it.definition)
-                self.assertEqual(it.run, it.chainstate)
+                chainstate = it.chainstate.splitlines()
+                state = chainstate[len(it.definition) :]
+                self.expect_lines(chainstate[: len(it.definition)], it.definition)
+                self.expect_lines(it.run.splitlines(), chainstate)
                 lent = [line for line in it.core.splitlines() if not line.startswith("changes = ")]
-                self.assertEqual(lent, it.chainstate.splitlines())
+                self.expect_lines(lent, chainstate)
                 self.assertTrue(it.recount.is_best_right())
                 self.assertEqual(it.tips, it.recount.tips())
                 self.assertEqual(state[2:4], [f"best = {it.best}", f"tips = {it.tips}"])
                 self.assertTrue(it.climbed.startswith(it.accepted))
-                self.assertEqual(shown(it.climbed, it.accepted), [*state[:1], state[2], *state[4:]])
+                self.expect_lines(shown(it.climbed, it.accepted), [*state[:1], state[2], *state[4:]])
 
     def test_lists_on_genesis(self) -> None:
         self.expect(0, 150)

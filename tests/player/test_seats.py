@@ -6,9 +6,7 @@ saw a beginning of what the other did.
 """
 from __future__ import annotations
 
-import unittest
-
-from playing_lists import Played, Step, answer, client, definitions_of, in_parallel, is_write, play, play_list
+from playing_lists import ListTest, Played, Step, answer, client, definitions_of, in_parallel, is_write, play, play_list
 
 # How many commands of a list are made at most.
 COUNT = 2000
@@ -57,13 +55,13 @@ class Right:
             self.definition = play("definition", definitions + client("a", commands)).splitlines()
 
 
-class Seats(unittest.TestCase):
+class Seats(ListTest):
     def expect_replies(self, steps: list[Step], right: Right) -> None:
         """A history's steps are numbered from 1, and their replies those of the chainstate and of the definition."""
         self.assertEqual([it.place for it in steps], list(range(1, len(steps) + 1)))
         given = [f"{step.words()[-1]} = {step.reply}" for step in steps]
-        self.assertEqual(given, right.replies)
-        self.assertEqual(given, right.definition)
+        self.expect_lines(given, right.replies)
+        self.expect_lines(given, right.definition)
 
     def expect_seat(self, number: int, lines: list[str], steps: list[Step], right: Right) -> None:
         """A seat's answers, steps and best blocks in turn, are right; its stamps never fall, also not below that of a note that

@@ -12,11 +12,14 @@ pub struct Options<'w> {
     pub rest: &'w [String],
 }
 
-/// What a word `NAME=VALUE` may set.
-const NAMES: [&str; 21] = [
-    "heights", "seed", "below", "count", "seats", "workers", "in-a-row", "threads", "moved",
-    "untold", "ring", "passed", "close", "each", "wanted", "looks", "writes", "errors", "skipped",
-    "first", "refused",
+/// The heights of soft forks, four numbers parted by commas.
+pub const HEIGHTS: &str = "heights";
+
+/// What a word `NAME=NUMBER` may set beside them.
+const NAMES: [&str; 20] = [
+    "seed", "below", "count", "seats", "workers", "in-a-row", "threads", "moved", "untold", "ring",
+    "passed", "close", "each", "wanted", "looks", "writes", "errors", "skipped", "first",
+    "refused",
 ];
 
 impl<'w> Options<'w> {
@@ -36,10 +39,11 @@ impl<'w> Options<'w> {
         options.are_known().then_some(options)
     }
 
-    /// Whether each of the settings has a name that there is.
+    /// Whether each of the settings has a name that there is, and a number.
     fn are_known(&self) -> bool {
         self.settings.iter().all(|word| match word.as_str().split_once('=') {
-            Some((name, _)) => NAMES.contains(&name),
+            Some((HEIGHTS, _)) => true,
+            Some((name, value)) => NAMES.contains(&name) && value.parse::<u64>().is_ok(),
             None => false,
         })
     }

@@ -7,7 +7,7 @@ use crate::inside::play_inside;
 use crate::log::{Asked, Log};
 use crate::meeting::Meeting;
 use crate::node_play::play_node;
-use crate::options::Options;
+use crate::options::{HEIGHTS, Options};
 use anyhow::{Context, bail};
 use curve::Table;
 use journal::read_heights;
@@ -42,7 +42,7 @@ fn text_of<I: Read + Drop>(
 
 /// The heights of soft forks: those of the command line, else those of the scenario of this name.
 fn heights_of<'w>(options: &Options<'w>) -> &'w str {
-    match (options.text("heights"), find(options.list)) {
+    match (options.text(HEIGHTS), find(options.list)) {
         (Some(heights), _) => heights,
         (None, Some(scenario)) => scenario.heights,
         (None, None) => REGTEST,
