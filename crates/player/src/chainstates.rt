@@ -49,7 +49,7 @@ pub struct Lent<'t> {
 }
 
 impl<'t> Model for Lent<'t> {
-    ghost use Rattle.std.specs.Prelude.{ℕ, ◌≡◌, ◌×◌};
+    ghost use Rattle.std.specs.Prelude.{ℕ, ◌≡◌};
     ghost use Rattle.activate.specs.CoreState.{Follows, coins_of};
 
     ghost Value = { ℕ };
