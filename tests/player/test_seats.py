@@ -1,4 +1,4 @@
-"""Seats of a node over lists drawn at random: sixteen in turn, four that share a list on running threads, and a ring of fifteen.
+"""Seats of a node over lists drawn at random: sixteen in turn, four that share a list on running threads, and a ring of sixteen.
 
 The history's replies are those of the definition, its best blocks and tips those of the chainstate of one thread. Each seat's
 answers are those at their places in it, and never stand before the ones that it had earlier: so whatever two seats saw, one
@@ -125,16 +125,17 @@ class Seats(ListTest):
         self.expect_free(200, 210, 100, 100)
 
     def expect_ring(self, seed: int, below: int, count: int, by_definition: bool) -> None:
-        """Fifteen running threads in a ring: each is told before every call what its neighbour had seen last."""
+        """Sixteen running threads in a ring share the commands, each with a read behind it: each is told before every call what
+        its neighbour had seen last."""
         drawn = Drawn(seed, below, count)
-        text = drawn.definitions + "".join(drawn.clients(15, ["best"]))
-        played = Played(play("node", text, seats=15, workers=2, ring=1))
+        text = drawn.definitions + "".join(drawn.clients(1, ["best"]))
+        played = Played(play("node", text, seats=16, workers=2, in_a_row=2, ring=1))
         steps = played.steps()
         right = Right(drawn.definitions, steps, by_definition)
         self.expect_replies(steps, right)
-        self.assertEqual(len(played.clients), 15)
-        for seat in range(15):
-            self.expect_seat(seat, played.clients[f"s{seat}"], steps, right)
+        self.assertEqual(list(played.clients), [f"seat {seat}" for seat in range(16)])
+        for seat in range(16):
+            self.expect_seat(seat, played.clients[f"seat {seat}"], steps, right)
         self.assertIn("told ", "".join(line for lines in played.clients.values() for line in lines))
 
     def test_a_ring_of_two_thousand_commands(self) -> None:

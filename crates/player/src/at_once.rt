@@ -1,11 +1,12 @@
-//! Seats that answer a client each, at once or one after the other.
+//! Seats that answer at once, or one after the other: a client each, or in a ring the calls of the first client, which
+//! are dealt out to them.
 
 use crate::board::Board;
 use crate::log::{Asked, Log};
 use crate::meeting::Meeting;
 use crate::seat_calls::ask_again;
 use node::{Naming, Node, Seat};
-use scenario::{Call, Client};
+use scenario::Call;
 use std::alloc::{AllocError, Global};
 use std::rt::Env;
 use std::sync::Wait;
@@ -38,7 +39,8 @@ pub fn places_of<J: Naming>(
 }
 
 impl<'t, J: Naming> Place<'t, J> {
-    /// Makes these calls. In a ring it is told before each what its neighbour had seen, and writes the stamp of that.
+    /// Makes these calls. In a ring it makes those whose turn is its own, and is told before each what its neighbour had
+    /// seen, and writes the stamp of that.
     fn ask_all<R>(
         &mut self,
         rt: &R,
@@ -51,7 +53,11 @@ impl<'t, J: Naming> Place<'t, J> {
     where
         R: AllocGlobal + Env + Threads + Wait + Sync,
     {
-        for call in calls {
+        let is_ring = board.seats() > 0;
+        for (place, call) in calls.iter().enumerate() {
+            if is_ring && asked.turn(place, board.seats()) != number {
+                continue;
+            }
             if let Some((note, at)) = board.take(rt, number) {
                 self.seat.told(&note);
                 writeln!(self.log.text, "told {at}")?;
@@ -64,32 +70,33 @@ impl<'t, J: Naming> Place<'t, J> {
     }
 }
 
-/// Each seat answers a client of its own. The first one begins when a script has, and opens the gate when it has ended.
-/// A board without places tells nobody anything.
+/// Each seat answers a client of its own, behind the first. The first seat begins when a script has, and opens the gate
+/// when it has ended. Where the board has places, the seats stand in a ring.
 pub fn ask_at_once<'x, J: Naming, R>(
     rt: &'x R,
     asked: &'x Asked<'_>,
     node: &'x Node<'_, J>,
     places: &mut [Place<'_, J>],
-    clients: &'x [Client<'_, '_>],
     gate: &'x Meeting,
     board: &'x Board<J>,
 )
 where
     R: AllocGlobal + Env + Threads + Wait + Sync,
 {
+    let is_ring = board.seats() > 0;
     let ask_one = |number: usize, place: &mut Place<'_, J>| {
-        if let Some(client) = clients.get(number) {
+        let client = if is_ring { 0 } else { number.wrapping_add(1) };
+        if client < asked.clients.len() {
             if number == 0 {
                 gate.wait_for_a_script();
             }
-            let calls = client.calls.as_slice();
-            place.written = place.ask_all(rt, asked, node, calls, board, number);
+            place.written = place.ask_all(rt, asked, node, asked.calls(client), board, number);
             if number == 0 {
                 gate.open();
             }
         }
     };
-    let threads = asked.options.count("threads", clients.len());
+    let clients = asked.clients.len().saturating_sub(1);
+    let threads = asked.options.count("threads", board.seats().max(clients));
     thread::for_each_mut(rt, places, threads.max(1), &ask_one);
 }

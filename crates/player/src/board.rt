@@ -23,6 +23,11 @@ impl<J: Naming> Board<J> {
         Ok(Board { places })
     }
 
+    /// How many seats it is for.
+    pub fn seats(&self) -> usize {
+        self.places.len()
+    }
+
     /// The note of the seat before this one, and its stamp.
     pub fn take<R: Wait>(&self, rt: &R, number: usize) -> Option<(Note<J>, u64)> {
         let before = number.checked_sub(1);

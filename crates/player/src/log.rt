@@ -26,6 +26,12 @@ impl<'a> Asked<'a> {
             None => &[],
         }
     }
+
+    /// Of so many seats the number of the one whose turn it is at the call of this place.
+    pub fn turn(&self, place: usize, seats: usize) -> usize {
+        let turn = place.checked_div(self.options.count("in-a-row", 1));
+        turn.and_then(|turn| turn.checked_rem(seats)).unwrap_or(0)
+    }
 }
 
 /// The lines of a play.

@@ -100,33 +100,24 @@ where
 {
     let alloc = rt.alloc();
     let is_ring = asked.options.is("ring");
-    let in_turn = if is_ring {
-        0
-    } else {
-        1.min(asked.clients.len())
-    };
-    let (first, others) = asked.clients.split_at(in_turn);
-    let calls = match first {
-        [client] => client.calls.as_slice(),
-        _ => &[],
-    };
     let round = Round {
         seats,
         note: None,
         log: Log::new(alloc),
     };
+    let calls = if is_ring { &[] } else { asked.calls(0) };
     let (round, written) = ask_in_turn(rt, asked, node, round, calls);
     let Round {
         seats,
         log: answers,
         ..
     } = round;
-    for client in first {
+    if let (Some(client), false) = (asked.clients.first(), is_ring) {
         log.client(client.name, &answers)?;
     }
+    let board = Board::new(alloc, if is_ring { seats.len() } else { 0 })?;
     let mut places = places_of(alloc, seats)?;
-    let board = Board::new(alloc, if is_ring { others.len() } else { 0 })?;
-    ask_at_once(rt, asked, node, places.as_mut_slice(), others, gate, &board);
+    ask_at_once(rt, asked, node, places.as_mut_slice(), gate, &board);
     for (number, place) in places.into_iter().enumerate() {
         let Place {
             seat,
@@ -134,7 +125,10 @@ where
             written,
         } = place;
         back.push(seat)?;
-        if let Some(client) = others.get(number) {
+        if is_ring {
+            let name = format!(in alloc; "seat {number}")?;
+            log.client(name.as_str(), &answers)?;
+        } else if let Some(client) = asked.clients.get(number.wrapping_add(1)) {
             log.client(client.name, &answers)?;
         }
         written?;

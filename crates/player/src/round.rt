@@ -33,8 +33,7 @@ impl<'t, J: Naming> Round<'t, J> {
         R: AllocGlobal + Env + Threads + Wait + Sync,
     {
         let options = asked.options;
-        let turn = place.checked_div(options.count("in-a-row", 1)).unwrap_or(0);
-        let number = turn.checked_rem(self.seats.len()).unwrap_or(0);
+        let number = asked.turn(place, self.seats.len());
         if number >= self.seats.len() {
             return Ok(());
         }
