@@ -36,6 +36,10 @@ uint32_t ffi_digest(const uint8_t *bytes, size_t length, uint64_t input, const u
 uint32_t ffi_verify(const uint8_t *bytes, size_t length, uint64_t input, const uint8_t *spent, size_t spent_length,
                     const wakotehu_flags *flags, const uint8_t *table, size_t table_length, uint64_t *line,
                     uint32_t *accepted);
+uint32_t ffi_verify_known(const uint8_t *bytes, size_t length, uint64_t input, const uint8_t *spent,
+                          size_t spent_length, const wakotehu_flags *flags, const uint8_t *valid, size_t valid_length,
+                          const uint8_t *invalid, size_t invalid_length, uint64_t *line, uint32_t *accepted,
+                          uint8_t *asked, size_t room, uint64_t *needed);
 uint32_t ffi_table(const uint8_t *table, size_t length, uint64_t *line);
 uint32_t ffi_table_has(const uint8_t *table, size_t length, const uint8_t *key, size_t key_length,
                        const uint8_t *signature, size_t signature_length, const uint8_t *digest, uint64_t *line,
@@ -214,6 +218,20 @@ wakotehu_code wakotehu_verify(const uint8_t *bytes, size_t length, uint64_t inpu
         return WAKOTEHU_NULL;
     return (wakotehu_code)ffi_verify(AT(bytes, length), length, input, AT(spent, spent_length), spent_length, flags,
                                      AT(table, table_length), table_length, line ? line : &unasked, accepted);
+}
+
+wakotehu_code wakotehu_verify_known(const uint8_t *bytes, size_t length, uint64_t input, const uint8_t *spent,
+                                    size_t spent_length, const wakotehu_flags *flags, const char *valid,
+                                    size_t valid_length, const char *invalid, size_t invalid_length, uint64_t *line,
+                                    uint32_t *accepted, char *asked, size_t room, uint64_t *needed) {
+    uint64_t unasked;
+    if (!readable(bytes, length) || !readable(spent, spent_length) || !flags || !readable(valid, valid_length)
+        || !readable(invalid, invalid_length) || !accepted || !readable(asked, room) || !needed)
+        return WAKOTEHU_NULL;
+    return (wakotehu_code)ffi_verify_known(AT(bytes, length), length, input, AT(spent, spent_length), spent_length,
+                                           flags, AT(valid, valid_length), valid_length, AT(invalid, invalid_length),
+                                           invalid_length, line ? line : &unasked, accepted, INTO(asked, room), room,
+                                           needed);
 }
 
 wakotehu_code wakotehu_table_read(const char *table, size_t length, uint64_t *line) {

@@ -445,6 +445,8 @@ const char *wakotehu_code_text(wakotehu_code code) {
     case WAKOTEHU_FOREIGN: return "there is no record";
     case WAKOTEHU_CUT: return "the record ends early";
     case WAKOTEHU_TOO_LONG: return "the record is too long";
+    case WAKOTEHU_UNKNOWN: return "whether a signature is valid isn't known";
+    case WAKOTEHU_CONTRADICTION: return "a signature is said to be valid and not to be";
     }
     return "";
 }

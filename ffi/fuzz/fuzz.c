@@ -65,7 +65,17 @@ static void as_transaction(const uint8_t *bytes, size_t length) {
     wakotehu_is_final(bytes, length, 1, 1, &yes);
     wakotehu_locks_met(bytes, length, &start, 1, 1, 1, &yes);
     wakotehu_signature_digest(bytes, length, 0, bytes, length, 1, digest);
-    wakotehu_verify(bytes, length, 0, bytes, length, &flags, NULL, 0, &line, &yes);
+    /* Where nothing is known, a verdict is that of each table, and a line is no longer than is said. */
+    uint32_t known = 2;
+    uint64_t needed = 0;
+    char asked[WAKOTEHU_MOST_ASKED], others[WAKOTEHU_MOST_ASKED];
+    wakotehu_code code = wakotehu_verify(bytes, length, 0, bytes, length, &flags, NULL, 0, &line, &yes);
+    wakotehu_code found = wakotehu_verify_known(bytes, length, 0, bytes, length, &flags, NULL, 0, NULL, 0, &line, &known,
+                                                asked, sizeof asked, &needed);
+    EXPECT(found == WAKOTEHU_UNKNOWN || (found == code && (code != WAKOTEHU_OK || known == yes)));
+    EXPECT(found != WAKOTEHU_UNKNOWN
+           || wakotehu_verify_known(bytes, length, 0, bytes, length, &flags, NULL, 0, asked, needed, &line, &known, others,
+                                    sizeof others, &needed) < WAKOTEHU_CONTRADICTION);
 }
 
 static void as_block(const uint8_t *bytes, size_t length) {

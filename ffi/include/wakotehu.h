@@ -53,7 +53,9 @@ typedef enum {
     WAKOTEHU_MISMATCH = 25, /* another number of them is wanted */
     WAKOTEHU_FOREIGN = 26,  /* no record of a blk file, and not zero bytes alone */
     WAKOTEHU_CUT = 27,      /* the record ends early */
-    WAKOTEHU_TOO_LONG = 28  /* the record says a length above 33,554,432 */
+    WAKOTEHU_TOO_LONG = 28, /* the record says a length above 33,554,432 */
+    WAKOTEHU_UNKNOWN = 29,  /* the scripts come to a signature of which nothing is known */
+    WAKOTEHU_CONTRADICTION = 30 /* one signature is said to be valid and not to be */
 } wakotehu_code;
 
 /* So many chainstates can be open at once. */
@@ -328,6 +330,21 @@ wakotehu_code wakotehu_signature_digest(const uint8_t *bytes, size_t length, uin
 wakotehu_code wakotehu_verify(const uint8_t *bytes, size_t length, uint64_t input, const uint8_t *spent,
                               size_t spent_length, const wakotehu_flags *flags, const char *table,
                               size_t table_length, uint64_t *line, uint32_t *accepted);
+
+/* The same by what is known so far: the signatures of one table are valid, those of another aren't, and of all others
+ * nothing is known. WAKOTEHU_OK: the verdict, which is the same whatever else is valid. WAKOTEHU_UNKNOWN: the scripts come
+ * to a signature of which nothing is known. Its line is put at the front of `asked`, of `room` bytes, as
+ * wakotehu_table_add puts it behind a table: find out whether it is valid, put the line behind one table or the other, and
+ * call again. `needed` is how many bytes the line has, at most WAKOTEHU_MOST_ASKED; where `room` is less, nothing is
+ * written there, and the answer is WAKOTEHU_TOO_SMALL. WAKOTEHU_CONTRADICTION: a triple is in both tables.
+ * WAKOTEHU_BAD_TABLE: `line` is that of the first table or, where that can be read, of the second; may be null. */
+wakotehu_code wakotehu_verify_known(const uint8_t *bytes, size_t length, uint64_t input, const uint8_t *spent,
+                                    size_t spent_length, const wakotehu_flags *flags, const char *valid,
+                                    size_t valid_length, const char *invalid, size_t invalid_length, uint64_t *line,
+                                    uint32_t *accepted, char *asked, size_t room, uint64_t *needed);
+
+/* An element of a script has at most 520 bytes, so no line of a key, a signature and a digest is longer. */
+#define WAKOTEHU_MOST_ASKED 2145
 
 /* A table of valid signatures is its text. Whether each line can be read, else WAKOTEHU_BAD_TABLE and the line's number,
  * from 1 (line may be null). */

@@ -63,6 +63,9 @@ enum { RECORD = 8 + sizeof b1 };
 
 static const uint8_t spent[] = {0x93, 0x53, 0x9c}; /* ADD 3 NUMEQUAL */
 static const wakotehu_flags flags = {1, 1, 1};
+/* CHECKSIG of the key 02 and the signature 01, which is a hash type alone and may be tried without BIP 66. */
+static const uint8_t checksig[] = {0xac};
+static const wakotehu_flags none = {0, 0, 0};
 static const wakotehu_heights regtest = {1, 1, 1, 1};
 static const wakotehu_start start = {1, 1};
 static const uint8_t key[] = {0xaa}, signature[] = {0x30, 6, 2, 1, 1, 2, 1, 1}, digest[32] = {1};
@@ -123,7 +126,7 @@ static struct told nothing_told(void) {
 }
 
 /* Each call that may take memory, then those that take none; the numbers are those of `MEMORY_FREE` on. */
-enum { MEMORY_FREE = 15, CALLS = 22 };
+enum { MEMORY_FREE = 16, CALLS = 23 };
 
 static wakotehu_code nth_call(int call, struct told *it) {
     static const wakotehu_input input = {{7}, 2, 0, 0};
@@ -146,13 +149,19 @@ static wakotehu_code nth_call(int call, struct told *it) {
     case 12: return wakotehu_table_read(table, TABLE, &it->line);
     case 13: return wakotehu_table_has(table, TABLE, key, 1, signature, 8, digest, &it->line, &it->yes);
     case 14: return wakotehu_table_add(it->text, 256, &it->length, key, 1, signature, 8, digest);
+    /* Nothing is known, so that a line is told. */
+    case 15: {
+        wakotehu_code code = wakotehu_verify_known(tx, TX, 0, checksig, 1, &none, table, TABLE, NULL, 0, &it->line,
+                                                   &it->yes, it->text, 256, &it->count);
+        return code == WAKOTEHU_UNKNOWN ? WAKOTEHU_OK : code;
+    }
     /* MEMORY_FREE */
-    case 15: return wakotehu_next_opcode(spent, 3, &it->opcode);
-    case 16: return wakotehu_script(spent, 3, &it->script);
-    case 17: return wakotehu_read_number(spent, 3, 4, &it->value);
-    case 18: return wakotehu_median(times, 3, &it->yes);
-    case 19: return wakotehu_strict_signature(signature, 8, &it->yes);
-    case 20: return wakotehu_hash160(spent, 3, it->bytes);
+    case 16: return wakotehu_next_opcode(spent, 3, &it->opcode);
+    case 17: return wakotehu_script(spent, 3, &it->script);
+    case 18: return wakotehu_read_number(spent, 3, 4, &it->value);
+    case 19: return wakotehu_median(times, 3, &it->yes);
+    case 20: return wakotehu_strict_signature(signature, 8, &it->yes);
+    case 21: return wakotehu_hash160(spent, 3, it->bytes);
     default: return wakotehu_read_id("00", 2, it->bytes) == WAKOTEHU_NONE ? WAKOTEHU_OK : WAKOTEHU_NULL;
     }
 }
@@ -210,6 +219,28 @@ static void values(void) {
     EXPECT(wakotehu_table_has(text, size, key, 1, signature, 8, digest, NULL, &yes) == WAKOTEHU_OK && yes == 1);
 }
 
+/* A signature that is asked for is known once its line stands in a table. */
+static void known_signatures(void) {
+    char lines[3][70], text[140];
+    uint64_t needed = 0;
+    uint32_t yes = 7;
+    for (int n = 0; n < 3; n++) {
+        memset(lines[n], '#', 70);
+        EXPECT(wakotehu_verify_known(tx, TX, 0, checksig, 1, &none, NULL, 0, NULL, 0, NULL, &yes, lines[n], 69 + n / 2, &needed)
+               == (n < 2 ? WAKOTEHU_TOO_SMALL : WAKOTEHU_UNKNOWN));
+        EXPECT(needed == 70 && yes == 7);
+    }
+    EXPECT(lines[0][0] == '#' && memcmp(lines[0], lines[1], 70) == 0 && memcmp(lines[2], "\n02 - ", 6) == 0);
+    memcpy(text, lines[2], 70), memcpy(text + 70, lines[2], 70);
+    EXPECT(wakotehu_verify_known(tx, TX, 0, checksig, 1, &none, text, 140, NULL, 0, NULL, &yes, NULL, 0, &needed) == WAKOTEHU_OK);
+    EXPECT(yes == 1);
+    EXPECT(wakotehu_verify_known(tx, TX, 0, checksig, 1, &none, NULL, 0, text, 70, NULL, &yes, NULL, 0, &needed) == WAKOTEHU_OK);
+    EXPECT(yes == 0 && needed == 70);
+    EXPECT(wakotehu_verify_known(tx, TX, 0, checksig, 1, &none, text, 70, text, 70, NULL, &yes, NULL, 0, &needed)
+           == WAKOTEHU_CONTRADICTION);
+    EXPECT(yes == 0 && needed == 70);
+}
+
 /* Answers that write nothing but what is said of them. */
 static void refusals(void) {
     struct told it = nothing_told(), before = nothing_told();
@@ -237,6 +268,10 @@ static void refusals(void) {
     EXPECT(wakotehu_signature_digest(tx, TX, 1, spent, 3, 1, it.bytes) == WAKOTEHU_NO_INPUT);
     EXPECT(wakotehu_verify(tx, TX, UINT64_MAX, spent, 3, &flags, NULL, 0, &it.line, &it.yes) == WAKOTEHU_NO_INPUT);
     EXPECT(wakotehu_verify(tx, TX - 1, 0, spent, 3, &flags, NULL, 0, &it.line, &it.yes) == WAKOTEHU_SHORT);
+    EXPECT(wakotehu_verify_known(tx, TX, 1, spent, 3, &flags, NULL, 0, NULL, 0, &it.line, &it.yes, it.text, 256, &it.count)
+           == WAKOTEHU_NO_INPUT);
+    EXPECT(wakotehu_verify_known(tx, 9, 0, spent, 3, &flags, NULL, 0, NULL, 0, &it.line, &it.yes, it.text, 256, &it.count)
+           == WAKOTEHU_SHORT);
     EXPECT(wakotehu_table_add(it.text, 69, &it.length, key, 1, signature, 8, digest) == WAKOTEHU_TOO_SMALL);
     EXPECT(wakotehu_read_id("0", 1, it.bytes) == WAKOTEHU_NONE);
     EXPECT(is_same(&it, &before));
@@ -247,6 +282,9 @@ static void refusals(void) {
     EXPECT(count == 10 && bytes[0] == 9);
     EXPECT(wakotehu_verify(tx, TX, 0, spent, 3, &flags, "#\n00\n", 5, &it.line, &it.yes) == WAKOTEHU_BAD_TABLE);
     EXPECT(it.line == 2 && it.yes == before.yes);
+    EXPECT(wakotehu_verify_known(tx, TX, 0, spent, 3, &flags, table, TABLE, "\n0", 2, &it.line, &it.yes, NULL, 0, &count)
+           == WAKOTEHU_BAD_TABLE);
+    EXPECT(it.line == 2 && it.yes == before.yes && count == 10);
     EXPECT(wakotehu_table_has("0", 1, key, 1, key, 1, digest, &it.line, &it.yes) == WAKOTEHU_BAD_TABLE);
     EXPECT(it.line == 1 && it.yes == before.yes);
     EXPECT(wakotehu_table_read("\n\n1 2 3", 7, &it.line) == WAKOTEHU_BAD_TABLE && it.line == 3);
@@ -292,6 +330,10 @@ static void null_and_hostile_lengths(void) {
         EXPECT(wakotehu_verify(tx, l, 0, spent, 3, &flags, NULL, 0, NULL, &it.yes) == WAKOTEHU_NULL);
         EXPECT(wakotehu_verify(tx, TX, 0, spent, l, &flags, NULL, 0, NULL, &it.yes) == WAKOTEHU_NULL);
         EXPECT(wakotehu_verify(tx, TX, 0, spent, 3, &flags, table, l, NULL, &it.yes) == WAKOTEHU_NULL);
+        for (int k = 0; k < 5; k++)
+            EXPECT(wakotehu_verify_known(tx, k == 0 ? l : TX, 0, spent, k == 1 ? l : 3, &flags, table, k == 2 ? l : TABLE, table,
+                                         k == 3 ? l : TABLE, NULL, &it.yes, it.text, k == 4 ? l : 256, &it.count)
+                   == WAKOTEHU_NULL);
         EXPECT(wakotehu_table_read(table, l, &it.line) == WAKOTEHU_NULL);
         EXPECT(wakotehu_table_has(table, l, key, 1, key, 1, digest, &it.line, &it.yes) == WAKOTEHU_NULL);
         EXPECT(wakotehu_table_has(table, TABLE, key, l, key, 1, digest, &it.line, &it.yes) == WAKOTEHU_NULL);
@@ -357,6 +399,11 @@ static void null_and_hostile_lengths(void) {
     EXPECT(wakotehu_verify(tx, TX, 0, spent, 3, NULL, NULL, 0, NULL, &it.yes) == WAKOTEHU_NULL);
     EXPECT(wakotehu_verify(tx, TX, 0, spent, 3, &flags, NULL, 1, NULL, &it.yes) == WAKOTEHU_NULL);
     EXPECT(wakotehu_verify(tx, TX, 0, spent, 3, &flags, NULL, 0, NULL, NULL) == WAKOTEHU_NULL);
+    for (int n = 0; n < 8; n++)
+        EXPECT(wakotehu_verify_known(n == 0 ? NULL : tx, TX, 0, n == 1 ? NULL : spent, 3, n == 2 ? NULL : &flags,
+                                     n == 3 ? NULL : table, TABLE, n == 4 ? NULL : table, TABLE, NULL, n == 5 ? NULL : &it.yes,
+                                     n == 6 ? NULL : it.text, 256, n == 7 ? NULL : &it.count)
+               == WAKOTEHU_NULL);
     EXPECT(wakotehu_table_read(NULL, 1, &it.line) == WAKOTEHU_NULL);
     EXPECT(wakotehu_table_has(NULL, 1, key, 1, key, 1, digest, &it.line, &it.yes) == WAKOTEHU_NULL);
     EXPECT(wakotehu_table_has(table, TABLE, NULL, 1, key, 1, digest, &it.line, &it.yes) == WAKOTEHU_NULL);
@@ -413,6 +460,7 @@ int main(int count, char **words) {
     long before = live;
     refused_allocations();
     values();
+    known_signatures();
     refusals();
     null_and_hostile_lengths();
     hostile_counts();

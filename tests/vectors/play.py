@@ -2,6 +2,7 @@
 
 import json
 import os
+import random
 import unittest
 from typing import Any, List
 
@@ -86,6 +87,33 @@ class Vectors(unittest.TestCase):
             table = setting.get("table", "").encode()
             found = c.verify(tx, 1, data(spent[2:]), filter(None, flags.split(",")), table)
             self.assertEqual(found, expected == "OK", row)
+
+    def test_scripts_over_signatures_that_are_found_out_one_by_one(self) -> None:
+        """The same pairs: nothing is known at first, or some of the table's lines in any order and others that nobody asks
+        for; what isn't known is found out in the table."""
+        seed = random.randrange(1 << 32)
+        chance = random.Random(seed)
+        for row in rows("script_tests.json"):
+            setting = row.pop(0) if isinstance(row[0], dict) else {}
+            own, spent, flags, expected, _ = row
+            tx = spender(
+                setting.get("version", 1), setting.get("lock_time", 0), [setting.get("sequence", 0)] * 2,
+                [b"", data(own[2:])], 1,
+            )  # fmt: skip
+            table = c.Table(setting.get("table", ""))
+            lines = [line + b"\n" for line in table.text.splitlines() if line.strip()]
+            for known in (0, chance.randrange(len(lines) + 1)):
+                valid = chance.sample(lines, known) + [f"{chance.randrange(99):02} - {'7' * 64}\n".encode()] * known
+                invalid: List[bytes] = []
+                for asked in range(1000):
+                    found = c.verify_known(
+                        tx, 1, data(spent[2:]), list(filter(None, flags.split(","))), b"".join(valid), b"".join(invalid)
+                    )
+                    if isinstance(found, bool):
+                        break
+                    kept = valid if table.has(*found) else invalid
+                    kept.insert(chance.randrange(len(kept) + 1), found.line)
+                self.assertEqual(found, expected == "OK", (seed, row))
 
     def test_digests(self) -> None:
         for raw, code, number, kind, expected in rows("sighash.json"):

@@ -6,6 +6,7 @@ pub mod Machine
 pub mod Prepared
 pub mod Regtest
 pub mod Replay
+pub mod ReplyText
 pub mod Rules
 pub mod Settle
 pub mod Settled

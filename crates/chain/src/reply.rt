@@ -1,5 +1,8 @@
 //! The replies of the chainstate.
 
+ghost use Rattle.std.specs.Prelude.{Some};
+ghost use Rattle.chain.specs.ReplyText.{text_of_submit, text_of_mark, text_of_reply};
+
 use std::fmt;
 use txn::Reason;
 
@@ -25,6 +28,8 @@ pub enum SubmitReply {
 }
 
 impl fmt::Display for SubmitReply {
+    ghost output = { λ reply. Some (text_of_submit reply) };
+
     fn fmt<W: fmt::Write>(&self, f: &mut fmt::Formatter<W>) -> fmt::Result {
         match self {
             SubmitReply::Accepted => f.write_str("accepted"),
@@ -50,6 +55,8 @@ pub enum MarkReply {
 }
 
 impl fmt::Display for MarkReply {
+    ghost output = { λ reply. Some (text_of_mark reply) };
+
     fn fmt<W: fmt::Write>(&self, f: &mut fmt::Formatter<W>) -> fmt::Result {
         f.write_str(match self {
             MarkReply::Done => "done",
@@ -67,6 +74,8 @@ pub enum Reply {
 }
 
 impl fmt::Display for Reply {
+    ghost output = { λ reply. Some (text_of_reply reply) };
+
     fn fmt<W: fmt::Write>(&self, f: &mut fmt::Formatter<W>) -> fmt::Result {
         match self {
             Reply::Submit(reply) => reply.fmt(f),

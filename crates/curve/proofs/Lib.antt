@@ -1,5 +1,6 @@
 pub mod Once
 pub mod Parts
+pub mod Learning
 pub mod Search
 pub mod Words
 pub mod Tables

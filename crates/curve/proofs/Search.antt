@@ -10,8 +10,8 @@ use Rattle.std.specs.Result.{is_ok}
 use Rattle.std.specs.List.{insert, list_all}
 use Rattle.std.specs.List.Sorted.{IsSorted, IsStrictlySortedBy, IsPermutation, IsSearchInRange, IsBinarySearchResult}
 use Rattle.std.specs.FinSet as set
-use Rattle.curve.specs.Triple.{Triple, Triples, triple_cmp}
-use Rattle.curve.specs.laws.Order.{triple_cmp-total}
+use Rattle.curve.specs.Triple.{Triple, triple_cmp}
+use Rattle.curve.specs.laws.Order.{triple_cmp-total, triple_cmp-exact}
 use Rattle.curve.proofs.Once.{sorted_from_strict, strict_insert}
 use Rattle.std.specs.FinSet.{FinSet, IsAntisymmetric}
 use Rattle.std.proofs.lemmas.Bool.{cases_lt, and_parts, and_from}
@@ -59,22 +59,22 @@ module _ {K : Type 0} {R : K → K → Ordering} (o : IsTotalOrder R) where
         one q true e = sym h ∙ set.contains_tied o s q k ((Equal-is (R q k)).0 e)
         one q false e = refl
 
--- each element of a list is in a set exactly where each member of the list's set is
-pub all_within : (xs : List Triple) (s : Triples) → Decides (list_all (set.contains s) xs) ((t : Triple) → set.contains (set.from_list {R = triple_cmp} xs) t ≡ true → set.contains s t ≡ true)
-all_within [] s = (λ _ t is. absurd (true≢false (sym is ∙ set.contains-empty triple_cmp t)), λ _. refl)
-all_within (x ∷ xs) s =
+-- each element of a list passes a test exactly where each member of the list's set does
+pub all_members : (xs : List Triple) (p : Triple → Bool) → Decides (list_all p xs) ((t : Triple) → set.contains (set.from_list {R = triple_cmp} xs) t ≡ true → p t ≡ true)
+all_members [] p = (λ _ t is. absurd (true≢false (sym is ∙ set.contains-empty triple_cmp t)), λ _. refl)
+all_members (x ∷ xs) p =
     let o = triple_cmp-total in
     let insert = λ (t : Triple). set.contains-insert o (set.from_list {R = triple_cmp} xs) x t in
-    let from : (t : Triple) (b : Bool) → eq_by_cmp triple_cmp t x ≡ b → set.contains s x ≡ true → ((u : Triple) → set.contains (set.from_list {R = triple_cmp} xs) u ≡ true → set.contains s u ≡ true) → (b || set.contains (set.from_list {R = triple_cmp} xs) t) ≡ true → set.contains s t ≡ true =
-    λ t b. elim b as (λ b. eq_by_cmp triple_cmp t x ≡ b → set.contains s x ≡ true → ((u : Triple) → set.contains (set.from_list {R = triple_cmp} xs) u ≡ true → set.contains s u ≡ true) → (b || set.contains (set.from_list {R = triple_cmp} xs) t) ≡ true → set.contains s t ≡ true) [
-      | true ↦ λ tied one rest is. sym (set.contains_tied o s t x ((Equal-is (triple_cmp t x)).0 tied)) ∙ one
+    let from : (t : Triple) (b : Bool) → eq_by_cmp triple_cmp t x ≡ b → p x ≡ true → ((u : Triple) → set.contains (set.from_list {R = triple_cmp} xs) u ≡ true → p u ≡ true) → (b || set.contains (set.from_list {R = triple_cmp} xs) t) ≡ true → p t ≡ true =
+    λ t b. elim b as (λ b. eq_by_cmp triple_cmp t x ≡ b → p x ≡ true → ((u : Triple) → set.contains (set.from_list {R = triple_cmp} xs) u ≡ true → p u ≡ true) → (b || set.contains (set.from_list {R = triple_cmp} xs) t) ≡ true → p t ≡ true) [
+      | true ↦ λ tied one rest is. ap p (triple_cmp-exact t x ((Equal-is (triple_cmp t x)).0 tied)) ∙ one
       | false ↦ λ tied one rest is. rest t is
     ] in (
-      λ all t is. let both = and_parts (set.contains s x) (list_all (set.contains s) xs) all in
-          from t (eq_by_cmp triple_cmp t x) refl both.0 ((all_within xs s).0 both.1) (sym (insert t) ∙ is),
+      λ all t is. let both = and_parts (p x) (list_all p xs) all in
+          from t (eq_by_cmp triple_cmp t x) refl both.0 ((all_members xs p).0 both.1) (sym (insert t) ∙ is),
       λ each. and_from _ _
           (each x (insert x ∙ ap (λ b. b || set.contains (set.from_list {R = triple_cmp} xs) x) (ap is_eq (tied_itself o x))))
-          ((all_within xs s).1 (λ t is. each t (insert t ∙ ap (λ b. eq_by_cmp triple_cmp t x || b) is ∙ or-true (eq_by_cmp triple_cmp t x)))),
+          ((all_members xs p).1 (λ t is. each t (insert t ∙ ap (λ b. eq_by_cmp triple_cmp t x || b) is ∙ or-true (eq_by_cmp triple_cmp t x)))),
     )
   where
     or-true : (b : Bool) → (b || true) ≡ true

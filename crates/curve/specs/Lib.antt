@@ -1,5 +1,6 @@
 pub mod Shape
 pub mod Triple
+pub mod Known
 pub mod Lines
 pub mod inside
 pub mod computed

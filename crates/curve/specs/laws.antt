@@ -2,3 +2,4 @@
 pub mod Shape
 pub mod Members
 pub mod Order
+pub mod Growth

@@ -1,7 +1,10 @@
-//! The shape of signatures, and a table of those that are valid in place of arithmetic on the curve.
+//! The shape of signatures, and what is known of them, in place of arithmetic on the curve: a table of those that are
+//! valid, or verdicts on some.
 #![tactic(auto)]
 
 mod fault;
+mod known_signatures;
+mod knows_signatures;
 pub mod laws;
 mod lines;
 mod shape;
@@ -9,5 +12,8 @@ mod table;
 mod triple;
 
 pub use fault::TableFault;
+pub use known_signatures::KnownSignatures;
+pub use knows_signatures::KnowsSignatures;
 pub use shape::der_shape;
 pub use table::Table;
+pub use triple::KeptTriple;

@@ -1,11 +1,12 @@
 //! The table of valid signatures.
 
-ghost use Rattle.std.specs.Prelude.{◌≡◌, length, true, IfOk, IfErr, OnOk, OnErr};
+ghost use Rattle.std.specs.Prelude.{◌≡◌, length, true, not, IfOk, IfErr, OnOk, OnErr};
 ghost use Rattle.std.specs.Bool.{Decides};
 ghost use Rattle.std.specs.List.{list_all};
 ghost use Rattle.std.specs.FinSet as set;
 ghost use Rattle.std.specs.List.Sorted.{IsBinarySearchResult, IsSearchInRange};
 ghost use Rattle.curve.specs.Triple.{Triple, triple_of, triple_cmp};
+ghost use Rattle.curve.specs.Known.{AreApart};
 
 use crate::fault::TableFault;
 use crate::lines;
@@ -105,10 +106,23 @@ impl Table {
         other.has_each(self.triples.as_slice())
     }
 
+    /// Whether no triple is in both.
+    pub(crate) fn is_apart(&self, other: &Table) -> bool
+        ensures { Decides result (AreApart self.now other.now) }
+    {
+        other.has_none(self.triples.as_slice())
+    }
+
     fn has_each(&self, triples: &[KeptTriple]) -> bool
         ensures { result ≡ list_all (set.contains self.now) triples.now }
     {
         triples.iter().all(|triple| self.has_kept(triple))
+    }
+
+    fn has_none(&self, triples: &[KeptTriple]) -> bool
+        ensures { result ≡ list_all (λ t. not (set.contains self.now t)) triples.now }
+    {
+        triples.iter().all(|triple| !self.has_kept(triple))
     }
 
     fn has_kept(&self, triple: &KeptTriple) -> bool

@@ -52,6 +52,25 @@ impl KeptTriple {
         })
     }
 
+    pub fn key(&self) -> &[u8]
+        ensures { result.now ≡ self.now.key }
+    {
+        self.key.as_slice()
+    }
+
+    /// Without its hash type.
+    pub fn signature(&self) -> &[u8]
+        ensures { result.now ≡ self.now.signature }
+    {
+        self.signature.as_slice()
+    }
+
+    pub fn digest(&self) -> &[u8; 32]
+        ensures { result.now ≡ self.now.digest }
+    {
+        &self.digest
+    }
+
     /// How the triple stands to the triple of these parts.
     pub fn compare(&self, key: &[u8], signature: &[u8], digest: &[u8; 32]) -> Ordering
         ensures { result ≡ triple_cmp self.now (triple_of key.now signature.now digest.now) }

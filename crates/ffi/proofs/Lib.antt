@@ -1,3 +1,4 @@
+pub mod Asked
 pub mod AsBox
 pub mod Fronts
 pub mod Opcodes

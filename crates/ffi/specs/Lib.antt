@@ -4,6 +4,7 @@ pub mod Blocks
 pub mod Codes
 pub mod Hashes
 pub mod Keeping
+pub mod Known
 pub mod Parts
 pub mod Refusals
 pub mod Room

@@ -2,6 +2,7 @@
 --     20 the bytes end too early    21 a count in more bytes than it needs    22 a count above the limit
 --     23 bytes behind the block     24 no such input    25 as many are wanted as there are inputs
 --     26 no record    27 a record that is cut short    28 a record above the limit
+--     29 of a signature that is asked for nothing is known    30 a signature is said to be valid and not to be
 use Rattle.std.specs.Prelude.{◌≡◌, ℕ, ◌⊎◌, Bool, true, false, List, length, Option, None, Some, Result, Ok, Err}
 use Rattle.wire.specs.declared.fault.WireFault.{WireFault}
 use Rattle.wire.specs.declared.fault.WireFault.TheVariants as wire

@@ -1,3 +1,4 @@
 -- What private functions and invariants alone cite.
 pub mod Stored
 pub mod Parts
+pub mod Known

@@ -25,6 +25,10 @@ pub(crate) const FULL: u32 = 6;
 pub(crate) const NO_INPUT: u32 = 24;
 /// As many are wanted as there are inputs, or 1 to 11 times.
 pub(crate) const MISMATCH: u32 = 25;
+/// The scripts come to a signature of which nothing is known.
+pub(crate) const UNKNOWN: u32 = 29;
+/// A signature is said to be valid and not to be.
+pub(crate) const CONTRADICTION: u32 = 30;
 
 /// An id, in the order in which it is hashed and sent.
 #[repr(C)]

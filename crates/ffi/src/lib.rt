@@ -8,6 +8,7 @@ mod exports;
 mod front;
 mod hashes;
 mod kept;
+mod known;
 pub mod laws;
 mod parts;
 mod room;

@@ -148,7 +148,7 @@ fn digest_of_code(tx: &Tx, input: usize, code: &[u8], kind: u32) -> [u8; 32]
     digest(tx, input, &[code], kind)
 }
 
-fn flags_of(flags: &ShownFlags) -> Flags
+pub(crate) fn flags_of(flags: &ShownFlags) -> Flags
     ensures { result ≡ flags_of flags.now }
 {
     Flags {

@@ -92,7 +92,7 @@ pub extern "C" fn ffi_table_line(
     }
 }
 
-fn spelled_line(
+pub(crate) fn spelled_line(
     alloc: Global,
     key: &[u8],
     signature: &[u8],

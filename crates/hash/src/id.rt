@@ -10,7 +10,7 @@ ghost use Rattle.hex.specs.Hex.{decode_of, is_hex_digit};
 use crate::order::order;
 use hex::FromHex;
 use std::cmp::Ordering;
-use std::fmt;
+use std::{fmt, str};
 
 /// The id of a block or a transaction: a double SHA-256, in the order in which it is hashed and sent. Ids are ordered
 /// by these bytes.
@@ -71,10 +71,15 @@ impl PartialOrd for Id {
 }
 
 impl fmt::Display for Id {
+    ghost use Rattle.hash.specs.Id.{hex_of_id};
+
+    ghost output = { λ id. Some (hex_of_id id) };
+
     fn fmt<W: fmt::Write>(&self, f: &mut fmt::Formatter<W>) -> fmt::Result {
-        for digit in self.show() {
-            f.write_char(char::from(digit))?;
-        }
-        Ok(())
+        let digits = self.show();
+        let Ok(text) = str::from_utf8(&digits) else {
+            unreachable!();
+        };
+        f.write_str(text)
     }
 }

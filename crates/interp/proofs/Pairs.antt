@@ -1,20 +1,21 @@
 -- Signatures that are tried one after the other, each with the keys that are left.
-use Rattle.std.proofs.Common.{◌≡◌, ℕ, zero, suc, ◌+◌, ◌-◌, ◌<◌, ◌≤◌, List, [], ◌∷◌, Bool, true, false, not, ◌||◌, eqb, Some, None, length, take, drop, get_or, slice_get, refl, sym, ap, ◌∙◌, ⊎_elim, arith}
+use Rattle.std.proofs.Common.{◌≡◌, ℕ, zero, suc, ◌+◌, ◌-◌, ◌<◌, ◌≤◌, List, [], ◌∷◌, Bool, true, false, not, ◌||◌, eqb, Some, None, length, take, drop, get_or, slice_get, inl, inr, refl, sym, ap, ◌∙◌, subst, ⊎_elim, arith}
 use Rattle.std.specs.Borrow.{Bor}
-use Rattle.std.specs.List.{position, position_or_len}
 use Rattle.std.specs.FinSet as set
 use Rattle.std.proofs.Math.Seq.{take-length}
 use Rattle.std.proofs.lemmas.List.{get_or-map, get_or-take, length-take-le, length-map}
-use Rattle.std.proofs.lemmas.List.Quantifiers.{position-Some}
-use Rattle.std.proofs.lemmas.List.Sums.{fails_before_first}
 use Rattle.script.specs.Removal.{bytes_of}
 use Rattle.sighash.specs.Digest.{digest_of}
-use Rattle.curve.specs.Triple.{triple_of}
+use Rattle.curve.specs.Known.{Known, Agrees}
+use Rattle.curve.specs.Triple.{Triple, triple_of}
 use Rattle.std.proofs.lemmas.Bool.{cases_lt}
 use borrow.Author.Tests.{lt-ltb, le-ltb, ne_eqb}
 use Rattle.interp.specs.Stack.{Bytes, Stack, nth}
 use Rattle.interp.specs.Spending.{Spending}
-use Rattle.interp.specs.Signatures.{signed_code, is_valid, type_of, signature_proper}
+use Rattle.interp.specs.Signatures.{signed_code, is_valid, type_of, signature_proper, MayBeTried}
+use Rattle.interp.specs.Asking.{PairAsks, TryingAsks}
+use Rattle.interp.specs.inside.Keys.{IsFirstKey, IsFirstUnknown}
+use Rattle.interp.specs.laws.Checking.{may-sound}
 use Rattle.interp.specs.computed.Signatures.{may_be_tried, pair_verdict, pairs_verdict}
 use Rattle.interp.specs.computed.Step.{keys_in, signatures_in, multisig_answer}
 use Rattle.interp.specs.declared.flags.Flags.{Flags}
@@ -76,6 +77,34 @@ tried-none p code signature others (key ∷ keys) shaped none =
     ∙ tried-none p code signature others keys shaped (λ k below. none (suc k) (omega arith)))
     (cases_lt (length keys) (length others))
 
+-- ---- what is asked for
+-- the key behind those for which the signature isn't valid
+pub asked-at : (i : ℕ) (p : Spending) (code : List ℕ) (signature : Bytes) (others keys : List Bytes) (t : Triple) → i + length others < length keys → MayBeTried p.flags signature
+    → ((k : ℕ) → k < i → is_valid p code signature (nth keys k) ≡ false) → PairAsks p code signature (nth keys i) t → TryingAsks p code (signature ∷ others) keys t
+asked-at i p code signature others [] t h may before asks = absurd (omega arith)
+asked-at zero p code signature others (key ∷ keys) t h may before asks = (omega arith, inl asks)
+asked-at (suc i) p code signature others (key ∷ keys) t h may before asks =
+    (omega arith, inr (may, inr (before 0 (omega arith), asked-at i p code signature others keys t (omega arith) may (λ k below. before (suc k) (omega arith)) asks)))
+
+-- what the others ask for, once the first is valid
+pub asked-past : (i : ℕ) (p : Spending) (code : List ℕ) (signature : Bytes) (others keys : List Bytes) (t : Triple) → i + length others < length keys → MayBeTried p.flags signature
+    → ((k : ℕ) → k < i → is_valid p code signature (nth keys k) ≡ false) → is_valid p code signature (nth keys i) ≡ true
+    → TryingAsks p code others (drop (i + 1) keys) t → TryingAsks p code (signature ∷ others) keys t
+asked-past i p code signature others [] t h may before is asks = absurd (omega arith)
+asked-past zero p code signature others (key ∷ keys) t h may before is asks = (omega arith, inr (may, inl (is, asks)))
+asked-past (suc i) p code signature others (key ∷ keys) t h may before is asks =
+    let one : suc i + 1 ≡ suc (i + 1) = omega arith in (
+      omega arith,
+      inr (
+        may,
+        inr (
+          before 0 (omega arith),
+          asked-past i p code signature others keys t (omega arith) may (λ k below. before (suc k) (omega arith)) is
+              (subst (λ (n : ℕ). TryingAsks p code others (drop n (key ∷ keys)) t) one asks),
+        ),
+      ),
+    )
+
 -- ---- slices of bytes
 pub head-tail : (xs : List (Bor (List ℕ))) (d : Bor (List ℕ)) → 1 ≤ length xs → bytes_of xs ≡ (get_or xs 0 d).now ∷ bytes_of (take (length xs - 1) (drop 1 xs))
 head-tail [] d h = absurd (omega arith)
@@ -95,30 +124,10 @@ bytes-drop zero xs = refl
 bytes-drop (suc n) [] = refl
 bytes-drop (suc n) (x ∷ xs) = bytes-drop n xs
 
--- ---- the first key that passes a test, among the first n
-seen-at : (q : List ℕ → Bool) (keys : List (Bor (List ℕ))) (n k : ℕ) (d : Bor (List ℕ)) → n ≤ length keys → k < n → q (nth (bytes_of keys) k) ≡ q (get_or (take n keys) k d).now
-seen-at q keys n k d few h = ap q (nth-bytes keys k d (omega arith)) ∙ ap (λ x. q x.now) (sym (get_or-take n keys k d h))
-
-pub first-passes : (q : List ℕ → Bool) (keys : List (Bor (List ℕ))) (n i : ℕ) (d : Bor (List ℕ)) → n ≤ length keys → position (λ key. q key.now) (take n keys) ≡ Some i → (i < n) × (q (nth (bytes_of keys) i) ≡ true)
-first-passes q keys n i d few e =
-    let p = position-Some (λ key. q key.now) (take n keys) i d e in
-    let below : i < n = omega (arith, length-take-le n keys few) in
-    (below, seen-at q keys n i d few below ∙ p.1)
-
-pub first-before : (q : List ℕ → Bool) (keys : List (Bor (List ℕ))) (n i k : ℕ) (d : Bor (List ℕ)) → n ≤ length keys → position (λ key. q key.now) (take n keys) ≡ Some i → k < i → q (nth (bytes_of keys) k) ≡ false
-first-before q keys n i k d few e h =
-    let p = position-Some (λ key. q key.now) (take n keys) i d e in
-    let below : k < n = omega (arith, length-take-le n keys few) in
-    seen-at q keys n k d few below ∙ p.2 k h
-
-position-none : {A : Type 0} (p : A → Bool) (xs : List A) (k : ℕ) (d : A) → position p xs ≡ None → k < length xs → p (get_or xs k d) ≡ false
-position-none p xs k d e h =
-    ⊎_elim (λ below. let f = rw (lt-ltb (position_or_len p xs) (length xs) below) at e in cc)
-    (λ past. fails_before_first p xs k d (omega arith)) (cases_lt (position_or_len p xs) (length xs))
-
-pub none-passes : (q : List ℕ → Bool) (keys : List (Bor (List ℕ))) (n k : ℕ) (d : Bor (List ℕ)) → n ≤ length keys → position (λ key. q key.now) (take n keys) ≡ None → k < n → q (nth (bytes_of keys) k) ≡ false
-none-passes q keys n k d few e h =
-    seen-at q keys n k d few h ∙ position-none (λ key. q key.now) (take n keys) k d e (omega (arith, length-take-le n keys few))
+-- keys that are lent as a slice of them
+pub at-spare : (keys : List (Bor (List ℕ))) (n k : ℕ) (d : Bor (List ℕ)) → n ≤ length keys → k < n → nth (bytes_of keys) k ≡ nth (bytes_of (take n keys)) k
+at-spare keys n k d few h =
+    nth-bytes keys k d (omega arith) ∙ ap (λ x. x.now) (sym (get_or-take n keys k d h)) ∙ sym (nth-bytes (take n keys) k d (omega (arith, length-take-le n keys few)))
 
 -- ---- validity, with the digest in hand
 pub valid-is : (p : Spending) (code digest : List ℕ) (signature key : Bytes) → 0 < length signature → digest ≡ digest_of p.tx p.input code (type_of signature) → is_valid p code signature key ≡ set.contains p.triples (triple_of key (signature_proper signature) digest)
@@ -155,58 +164,75 @@ pairs-empty p code signatures keys d h shaped none =
     ap (λ ss. pairs_verdict p code ss (bytes_of keys)) (head-tail signatures d h)
     ∙ tried-none p code signature (bytes_of (later signatures)) (bytes_of keys) shaped (λ k below. empty-invalid p code signature (nth (bytes_of keys) k) none)
 
--- the key goes with the signature by the table
-abbrev pub goes : Spending → List ℕ → List ℕ → List ℕ → Bool
-goes p signature digest key = set.contains p.triples (triple_of key (signature_proper signature) digest)
+-- ---- what is known, under a set that agrees
+-- the first signature isn't empty, may be tried, and signs this digest
+pub record IsTried (p : Spending) (code digest : List ℕ) (signature : Bytes) : Type 0 where
+  pub shaped : may_be_tried p.flags signature ≡ true
+  pub some : 0 < length signature
+  pub is : digest ≡ digest_of p.tx p.input code (type_of signature)
 
-pub pairs-none : (p : Spending) (code digest : List ℕ) (signatures keys : List (Bor (List ℕ))) (d : Bor (List ℕ)) → 1 ≤ length signatures → length (later signatures) < length keys
-    → may_be_tried p.flags (get_or signatures 0 d).now ≡ true → 0 < length (get_or signatures 0 d).now
-    → digest ≡ digest_of p.tx p.input code (type_of (get_or signatures 0 d).now)
-    → position (λ key. goes p (get_or signatures 0 d).now digest key.now) (take (length keys - length (later signatures)) keys) ≡ None
-    → pairs_verdict p code (bytes_of signatures) (bytes_of keys) ≡ Some false
-pairs-none p code digest signatures keys d h few shaped some is e =
-    let signature = (get_or signatures 0 d).now in
-    let others = later signatures in
-    let n = length keys - length others in
-    ap (λ ss. pairs_verdict p code ss (bytes_of keys)) (head-tail signatures d h)
-    ∙ tried-none p code signature (bytes_of others) (bytes_of keys) shaped (λ k below.
-    valid-is p code digest signature (nth (bytes_of keys) k) some is
-    ∙ none-passes (goes p signature digest) keys n k d (omega arith) e (omega (arith, length-map keys (λ y. y.now), length-map others (λ y. y.now))))
+-- the verdict that is known of a key among the first
+pub known-at : (known : Known) (p : Spending) (code digest : List ℕ) (signature : Bytes) (keys : List (Bor (List ℕ))) (n k : ℕ) (d : Bor (List ℕ)) (valid : Bool) → Agrees known p.triples → IsTried p code digest signature
+    → n ≤ length keys → k < n → known (triple_of (nth (bytes_of (take n keys)) k) (signature_proper signature) digest) ≡ Some valid → is_valid p code signature (nth (bytes_of keys) k) ≡ valid
+known-at known p code digest signature keys n k d valid agrees tried few h e =
+    ap (is_valid p code signature) (at-spare keys n k d few h) ∙ valid-is p code digest signature (nth (bytes_of (take n keys)) k) tried.some tried.is ∙ agrees _ valid e
 
-pub pairs-found : (p : Spending) (code digest : List ℕ) (signatures keys : List (Bor (List ℕ))) (d : Bor (List ℕ)) (i : ℕ) → 1 ≤ length signatures → length (later signatures) < length keys
-    → may_be_tried p.flags (get_or signatures 0 d).now ≡ true → 0 < length (get_or signatures 0 d).now
-    → digest ≡ digest_of p.tx p.input code (type_of (get_or signatures 0 d).now)
-    → position (λ key. goes p (get_or signatures 0 d).now digest key.now) (take (length keys - length (later signatures)) keys) ≡ Some i
-    → pairs_verdict p code (bytes_of signatures) (bytes_of keys) ≡ pairs_verdict p code (bytes_of (later signatures)) (bytes_of (drop (i + 1) keys))
-pairs-found p code digest signatures keys d i h few shaped some is e =
-    let signature = (get_or signatures 0 d).now in
-    let others = later signatures in
-    let n = length keys - length others in
-    let first = first-passes (goes p signature digest) keys n i d (omega arith) e in
-    ap (λ ss. pairs_verdict p code ss (bytes_of keys)) (head-tail signatures d h)
-    ∙ tried-found i p code signature (bytes_of others) (bytes_of keys) (omega (arith, first.0, length-map keys (λ y. y.now), length-map others (λ y. y.now))) shaped
-    (λ k below. valid-is p code digest signature (nth (bytes_of keys) k) some is ∙ first-before (goes p signature digest) keys n i k d (omega arith) e below)
-    (valid-is p code digest signature (nth (bytes_of keys) i) some is ∙ first.1)
-    ∙ ap (pairs_verdict p code (bytes_of others)) (sym (bytes-drop (i + 1) keys))
+-- signatures of which the first is tried with the keys that may go with it
+pub record Trying (p : Spending) (code digest : List ℕ) (signatures keys spare : List (Bor (List ℕ))) (d : Bor (List ℕ)) : Type 0 where
+  pub there : 1 ≤ length signatures
+  pub few : length (later signatures) < length keys
+  pub tried : IsTried p code digest (get_or signatures 0 d).now
+  pub cut : spare ≡ take (length keys - length (later signatures)) keys
 
--- the same, where the keys that may go with it are lent as a slice
-pub spare-none : (p : Spending) (code digest : List ℕ) (signatures keys spare : List (Bor (List ℕ))) (d : Bor (List ℕ)) → 1 ≤ length signatures → length (later signatures) < length keys
-    → may_be_tried p.flags (get_or signatures 0 d).now ≡ true → 0 < length (get_or signatures 0 d).now
-    → digest ≡ digest_of p.tx p.input code (type_of (get_or signatures 0 d).now)
-    → spare ≡ take (length keys - length (later signatures)) keys
-    → position (λ key. goes p (get_or signatures 0 d).now digest key.now) spare ≡ None
-    → pairs_verdict p code (bytes_of signatures) (bytes_of keys) ≡ Some false
-spare-none p code digest signatures keys spare d h few shaped some is cut e =
-    pairs-none p code digest signatures keys d h few shaped some is (ap (position (λ key. goes p (get_or signatures 0 d).now digest key.now)) (sym cut) ∙ e)
+module _ (known : Known) (p : Spending) (code digest : List ℕ) (signatures keys spare : List (Bor (List ℕ))) (d : Bor (List ℕ)) (agrees : Agrees known p.triples) (t : Trying p code digest signatures keys spare d) where
+  abbrev pub first : Bytes
+  first = (get_or signatures 0 d).now
 
-pub spare-found : (p : Spending) (code digest : List ℕ) (signatures keys spare : List (Bor (List ℕ))) (d : Bor (List ℕ)) (i : ℕ) → 1 ≤ length signatures → length (later signatures) < length keys
-    → may_be_tried p.flags (get_or signatures 0 d).now ≡ true → 0 < length (get_or signatures 0 d).now
-    → digest ≡ digest_of p.tx p.input code (type_of (get_or signatures 0 d).now)
-    → spare ≡ take (length keys - length (later signatures)) keys
-    → position (λ key. goes p (get_or signatures 0 d).now digest key.now) spare ≡ Some i
-    → pairs_verdict p code (bytes_of signatures) (bytes_of keys) ≡ pairs_verdict p code (bytes_of (later signatures)) (bytes_of (drop (i + 1) keys))
-spare-found p code digest signatures keys spare d i h few shaped some is cut e =
-    pairs-found p code digest signatures keys d i h few shaped some is (ap (position (λ key. goes p (get_or signatures 0 d).now digest key.now)) (sym cut) ∙ e)
+  abbrev pub others : List Bytes
+  others = bytes_of (later signatures)
+
+  abbrev pub many : ℕ
+  many = length keys - length (later signatures)
+
+  lengths : (length (bytes_of keys) ≡ length keys) × (length others ≡ length (later signatures)) × (length spare ≡ many) × (length (bytes_of spare) ≡ many)
+  lengths =
+      let cut : length spare ≡ many = ap length t.cut ∙ length-take-le many keys (omega arith) in
+      (length-map keys (λ y. y.now), length-map (later signatures) (λ y. y.now), cut, length-map spare (λ y. y.now) ∙ cut)
+
+  at : (k : ℕ) (valid : Bool) → k < many → known (triple_of (nth (bytes_of spare) k) (signature_proper first) digest) ≡ Some valid → is_valid p code first (nth (bytes_of keys) k) ≡ valid
+  at k valid h e = known-at known p code digest first keys many k d valid agrees t.tried (omega arith) h (ap (λ xs. known (triple_of (nth (bytes_of xs) k) (signature_proper first) digest)) (sym t.cut) ∙ e)
+
+  pub spare-none : IsFirstKey known (signature_proper first) digest (bytes_of spare) None → pairs_verdict p code (bytes_of signatures) (bytes_of keys) ≡ Some false
+  spare-none fails =
+      ap (λ ss. pairs_verdict p code ss (bytes_of keys)) (head-tail signatures d t.there)
+      ∙ tried-none p code first others (bytes_of keys) t.tried.shaped (λ k below. at k false (omega (arith, lengths.0, lengths.1)) (fails k (omega (arith, lengths.0, lengths.1, lengths.3))))
+
+  pub spare-found : (i : ℕ) → IsFirstKey known (signature_proper first) digest (bytes_of spare) (Some i)
+      → pairs_verdict p code (bytes_of signatures) (bytes_of keys) ≡ pairs_verdict p code others (bytes_of (drop (i + 1) keys))
+  spare-found i found =
+      let below : i < many = omega (arith, found.0, lengths.3) in
+      ap (λ ss. pairs_verdict p code ss (bytes_of keys)) (head-tail signatures d t.there)
+      ∙ tried-found i p code first others (bytes_of keys) (omega (arith, lengths.0, lengths.1)) t.tried.shaped
+      (λ k h. at k false (omega arith) (found.1 k h)) (at i true below found.2)
+      ∙ ap (pairs_verdict p code others) (sym (bytes-drop (i + 1) keys))
+
+  -- ---- what is asked for
+  pub spare-asks : (u : Triple) → IsFirstUnknown known (signature_proper first) digest (bytes_of spare) u → TryingAsks p code (bytes_of signatures) (bytes_of keys) u
+  spare-asks u (i, inside, fails, is) =
+      let below : i < many = omega (arith, inside, lengths.3) in
+      let key : nth (bytes_of spare) i ≡ nth (bytes_of keys) i = ap (λ xs. nth (bytes_of xs) i) t.cut ∙ sym (at-spare keys many i d (omega arith) below) in
+      let may = may-sound p.flags first t.tried.shaped in
+      subst (λ (ss : List Bytes). TryingAsks p code ss (bytes_of keys) u) (sym (head-tail signatures d t.there))
+      (asked-at i p code first others (bytes_of keys) u (omega (arith, lengths.0, lengths.1)) may
+      (λ k h. at k false (omega arith) (fails k h)) (may, t.tried.some, is ∙ ap (λ k. triple_of k (signature_proper first) digest) key ∙ ap (triple_of (nth (bytes_of keys) i) (signature_proper first)) t.tried.is))
+
+  pub left-asks : (i : ℕ) (u : Triple) → IsFirstKey known (signature_proper first) digest (bytes_of spare) (Some i) → TryingAsks p code others (bytes_of (drop (i + 1) keys)) u → TryingAsks p code (bytes_of signatures) (bytes_of keys) u
+  left-asks i u found asks =
+      let below : i < many = omega (arith, found.0, lengths.3) in
+      subst (λ (ss : List Bytes). TryingAsks p code ss (bytes_of keys) u) (sym (head-tail signatures d t.there))
+      (asked-past i p code first others (bytes_of keys) u (omega (arith, lengths.0, lengths.1)) (may-sound p.flags first t.tried.shaped)
+      (λ k h. at k false (omega arith) (found.1 k h)) (at i true below found.2)
+      (subst (λ (ks : List Bytes). TryingAsks p code others ks u) (bytes-drop (i + 1) keys) asks))
 
 pub some-there : (n : ℕ) → false ≡ eqb n 0 → 0 < n
 some-there zero e = cc

@@ -7,6 +7,7 @@ pub mod Signatures
 pub mod Timelocks
 pub mod Row
 pub mod Rules
+pub mod Asking
 pub mod inside
 pub mod computed
 pub mod laws

@@ -87,7 +87,7 @@ ChecksOne p code old new =
     × (new ≡ truth_bytes (is_valid p (signed_code code (signature ∷ [])) signature key) ∷ rest)
 
 -- from the top: the number of keys, the keys, the number of signatures, the signatures, and one more
-pub record ChecksMany (p : Spending) (s t : State) : Type 0 where
+pub record TakesMany (s : State) : Type 0 where
   pub keys : List Bytes
   pub signatures : List Bytes
   pub n : Bytes
@@ -100,9 +100,13 @@ pub record ChecksMany (p : Spending) (s t : State) : Type 0 where
   pub few_keys : length keys ≤ max_keys
   pub no_more : length signatures ≤ length keys
   pub few_ops : s.count + length keys ≤ max_ops
+
+-- and in their place the answer
+pub record ChecksMany (p : Spending) (s t : State) : Type 0 where
+  pub taken : TakesMany s
   pub answer : Bool
-  pub tries : Tries p (signed_code s.code signatures) signatures keys answer
-  pub after : t ≡ record s { main = truth_bytes answer ∷ below; count = s.count + length keys }
+  pub tries : Tries p (signed_code s.code taken.signatures) taken.signatures taken.keys answer
+  pub after : t ≡ record s { main = truth_bytes answer ∷ taken.below; count = s.count + length taken.keys }
 
 -- a number of at most five bytes, which isn't negative and stays, passes the test
 abbrev pub Asking : (ℕ → Bool) → State → State → Type 0

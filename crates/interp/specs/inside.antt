@@ -1,2 +1,3 @@
 -- What private functions and invariants alone cite.
 pub mod Spending
+pub mod Keys

@@ -1,6 +1,8 @@
 //! One script, opcode by opcode.
 
-ghost use Rattle.std.specs.Prelude.{◌≡◌, ◌<◌, ◌≤◌, ◌+◌, ℕ, List, [], length, IfOk, IfSome};
+ghost use Rattle.std.specs.Prelude.{◌≡◌, ◌<◌, ◌≤◌, ◌+◌, ℕ, List, [], length, true, IfOk, IfErr, IfSome};
+ghost use Rattle.curve.specs.Known.{Under};
+ghost use Rattle.interp.specs.Asking.{IsStopped, SigAsks, MultisigAsks, CheckAsks, RowAsks, StepAsks};
 ghost use Rattle.interp.specs.computed.Stack.{Gives};
 ghost use Rattle.interp.specs.Spending.{Spending};
 ghost use Rattle.interp.specs.inside.Spending.{spending_for};
@@ -20,7 +22,8 @@ use crate::op::{Op, Test, op_of};
 use crate::pile::Pile;
 use crate::signatures::judge;
 use crate::timelocks::{meets_lock_time, meets_sequence};
-use curve::Table;
+use crate::unverified::Unverified;
+use curve::KnowsSignatures;
 use script::opcode::*;
 use script::pushed;
 use std::alloc::Global;
@@ -186,61 +189,85 @@ impl<'a> Execution<'a> {
 
     /// CHECKSIG: takes a signature and a key above it, and pushes whether they are a valid pair.
     #[tactic(auto, unfolding(crate::specs::computed::Step::after_sig))]
-    fn check_sig(&mut self, alloc: Global, job: &Job, table: &Table) -> Result<bool, Memory>
+    fn check_sig<K: KnowsSignatures>(
+        &mut self,
+        alloc: Global,
+        job: &Job,
+        known: &K,
+    ) -> Result<bool, Unverified>
         requires { job.now.input < length job.now.tx.now.inputs }
-        ensures { IfOk result (λ done.
-            let p = spending_for job.now table.now in
-            Gives done (with_main self.old (after_sig p self.old.code self.old.main)) self.new) }
+        ensures answer { IfOk result (λ done. Under (K.known known.now) (λ triples.
+            let p = spending_for job.now triples in
+            Gives done (with_main self.old (after_sig p self.old.code self.old.main)) self.new)) }
+        ensures stops { IfErr result (IsStopped (K.known known.now) (λ triples.
+            SigAsks (spending_for job.now triples) self.old)) }
     {
         if self.main.len() < 2 {
             return Ok(false);
         }
         let key = self.main.at(0).as_slice();
         let signature = self.main.at(1).as_slice();
-        row!(alloc, self; 2 => judge(alloc, job, table, self.code, signature, key)?)
+        row!(alloc, self; 2 => judge(alloc, job, known, self.code, signature, key)?)
     }
 
     /// CHECKMULTISIG: takes its keys, its signatures and one element more, and pushes its answer.
     #[tactic(auto, unfolding(crate::specs::computed::Step::after_checking_multisig))]
-    fn check_multisig(&mut self, alloc: Global, job: &Job, table: &Table) -> Result<bool, Memory>
+    fn check_multisig<K: KnowsSignatures>(
+        &mut self,
+        alloc: Global,
+        job: &Job,
+        known: &K,
+    ) -> Result<bool, Unverified>
         requires { job.now.input < length job.now.tx.now.inputs }
-        ensures { IfOk result (λ done. Gives done
-            (after_checking_multisig (spending_for job.now table.now) self.old) self.new) }
+        ensures answer { IfOk result (λ done. Under (K.known known.now) (λ triples. Gives done
+            (after_checking_multisig (spending_for job.now triples) self.old) self.new)) }
+        ensures stops { IfErr result (IsStopped (K.known known.now) (λ triples.
+            MultisigAsks (spending_for job.now triples) self.old)) }
     {
         let Some(counts) = self.counts() else {
             return Ok(false);
         };
         self.count += counts.0;
-        row!(alloc, self; counts.0 + counts.1 + 3 => answer(alloc, job, table, self.code, &self.main, counts)?)
+        row!(alloc, self; counts.0 + counts.1 + 3 => answer(alloc, job, known, self.code, &self.main, counts)?)
     }
 
     /// What leaves a truth or a number.
-    fn test(&mut self, alloc: Global, job: &Job, table: &Table, by: Test) -> Result<bool, Memory>
-        requires { job.now.input < length job.now.tx.now.inputs }
-        ensures { IfOk result (λ done. Gives done
-            (after_test (spending_for job.now table.now) (check_of by) self.old) self.new) }
-    {
-        match by {
-            Test::Equal => compare(alloc, &mut self.main),
-            Test::NumEqual => join_numbers(alloc, &mut self.main, Binary::NumEqual),
-            Test::CheckSig => self.check_sig(alloc, job, table),
-            Test::CheckMultisig => self.check_multisig(alloc, job, table),
-        }
-    }
-
-    fn test_verify(
+    fn test<K: KnowsSignatures>(
         &mut self,
         alloc: Global,
         job: &Job,
-        table: &Table,
+        known: &K,
         by: Test,
-    ) -> Result<bool, Memory>
+    ) -> Result<bool, Unverified>
         requires { job.now.input < length job.now.tx.now.inputs }
-        ensures { IfOk result (λ done. Gives done
-            (after_executing (spending_for job.now table.now) [] (AndVerifies (check_of by))
-            self.old) self.new) }
+        ensures answer { IfOk result (λ done. Under (K.known known.now) (λ triples. Gives done
+            (after_test (spending_for job.now triples) (check_of by) self.old) self.new)) }
+        ensures stops { IfErr result (IsStopped (K.known known.now) (λ triples.
+            CheckAsks (spending_for job.now triples) (check_of by) self.old)) }
     {
-        if !self.test(alloc, job, table, by)? {
+        match by {
+            Test::Equal => Ok(compare(alloc, &mut self.main)?),
+            Test::NumEqual => Ok(join_numbers(alloc, &mut self.main, Binary::NumEqual)?),
+            Test::CheckSig => self.check_sig(alloc, job, known),
+            Test::CheckMultisig => self.check_multisig(alloc, job, known),
+        }
+    }
+
+    fn test_verify<K: KnowsSignatures>(
+        &mut self,
+        alloc: Global,
+        job: &Job,
+        known: &K,
+        by: Test,
+    ) -> Result<bool, Unverified>
+        requires { job.now.input < length job.now.tx.now.inputs }
+        ensures answer { IfOk result (λ done. Under (K.known known.now) (λ triples. Gives done
+            (after_executing (spending_for job.now triples) [] (AndVerifies (check_of by))
+            self.old) self.new)) }
+        ensures stops { IfErr result (IsStopped (K.known known.now) (λ triples.
+            CheckAsks (spending_for job.now triples) (check_of by) self.old)) }
+    {
+        if !self.test(alloc, job, known, by)? {
             return Ok(false);
         }
         Ok(self.verify())
@@ -267,31 +294,33 @@ impl<'a> Execution<'a> {
     }
 
     /// An opcode that is executed; `after` follows it in the script.
-    fn execute(
+    fn execute<K: KnowsSignatures>(
         &mut self,
         alloc: Global,
         job: &Job,
-        table: &Table,
+        known: &K,
         after: &'a [u8],
         op: Op,
-    ) -> Result<bool, Memory>
+    ) -> Result<bool, Unverified>
         requires { job.now.input < length job.now.tx.now.inputs }
-        ensures { IfOk result (λ done. Gives done
-            (after_executing (spending_for job.now table.now) after.now (meaning op) self.old)
-            self.new) }
+        ensures answer { IfOk result (λ done. Under (K.known known.now) (λ triples. Gives done
+            (after_executing (spending_for job.now triples) after.now (meaning op) self.old)
+            self.new)) }
+        ensures stops { IfErr result (IsStopped (K.known known.now) (λ triples.
+            RowAsks (spending_for job.now triples) (meaning op) self.old)) }
     {
         match op {
             Op::Disabled | Op::Fails => Ok(false),
             Op::Nothing => Ok(true),
-            Op::Change(by) => apply(alloc, &mut self.main, by),
-            Op::Test(by) => self.test(alloc, job, table, by),
-            Op::TestVerify(by) => self.test_verify(alloc, job, table, by),
-            Op::If => self.open(true),
-            Op::NotIf => self.open(false),
-            Op::Else => self.turn(),
+            Op::Change(by) => Ok(apply(alloc, &mut self.main, by)?),
+            Op::Test(by) => self.test(alloc, job, known, by),
+            Op::TestVerify(by) => self.test_verify(alloc, job, known, by),
+            Op::If => Ok(self.open(true)?),
+            Op::NotIf => Ok(self.open(false)?),
+            Op::Else => Ok(self.turn()?),
             Op::EndIf => Ok(self.close()),
-            Op::ToAlt => self.put_aside(),
-            Op::FromAlt => self.take_back(),
+            Op::ToAlt => Ok(self.put_aside()?),
+            Op::FromAlt => Ok(self.take_back()?),
             Op::CodeSeparator => {
                 self.code = after;
                 Ok(true)
@@ -334,23 +363,26 @@ impl<'a> Execution<'a> {
 
     /// An opcode that is no push of bytes. Where its branch isn't taken, its row isn't looked for.
     #[tactic(auto, unfolding(crate::specs::computed::Step::after_acting))]
-    fn act(
+    fn act<K: KnowsSignatures>(
         &mut self,
         alloc: Global,
         job: &Job,
-        table: &Table,
+        known: &K,
         after: &'a [u8],
         number: u8,
-    ) -> Result<bool, Memory>
+    ) -> Result<bool, Unverified>
         requires { job.now.input < length job.now.tx.now.inputs }
-        ensures { IfOk result (λ done. Gives done
-            (after_acting (spending_for job.now table.now) after.now (row_at number) self.old)
-            self.new) }
+        ensures answer { IfOk result (λ done. Under (K.known known.now) (λ triples. Gives done
+            (after_acting (spending_for job.now triples) after.now (row_at number) self.old)
+            self.new)) }
+        ensures stops { IfErr result (IsStopped (K.known known.now) (λ triples t.
+            (is_executing self.old ≡ true)
+            × RowAsks (spending_for job.now triples) (row_at number) self.old t)) }
     {
         if self.is_executing() {
-            self.execute(alloc, job, table, after, op_of(number))
+            self.execute(alloc, job, known, after, op_of(number))
         } else {
-            self.skip(number)
+            Ok(self.skip(number)?)
         }
     }
 
@@ -394,17 +426,19 @@ impl<'a> Execution<'a> {
 
     /// One opcode with its bytes; `after` follows it in the script.
     #[tactic(auto, unfolding(crate::specs::computed::Step::step, crate::specs::computed::Step::step_at, crate::specs::computed::Step::with_count, crate::specs::Row::row_of))]
-    pub fn step(
+    pub fn step<K: KnowsSignatures>(
         &mut self,
         alloc: Global,
         job: &Job,
-        table: &Table,
+        known: &K,
         after: &'a [u8],
         op: &[u8],
-    ) -> Result<bool, Memory>
+    ) -> Result<bool, Unverified>
         requires { job.now.input < length job.now.tx.now.inputs }
-        ensures { IfOk result (λ done. Gives done
-            (step (spending_for job.now table.now) after.now op.now self.old) self.new) }
+        ensures answer { IfOk result (λ done. Under (K.known known.now) (λ triples. Gives done
+            (step (spending_for job.now triples) after.now op.now self.old) self.new)) }
+        ensures stops { IfErr result (IsStopped (K.known known.now) (λ triples.
+            StepAsks (spending_for job.now triples) op.now self.old)) }
     {
         let Some(number) = op.first() else {
             return Ok(false);
@@ -416,7 +450,7 @@ impl<'a> Execution<'a> {
         if !self.count_one(number) {
             return Ok(false);
         }
-        Ok(self.act(alloc, job, table, after, number)? && self.is_bounded())
+        Ok(self.act(alloc, job, known, after, number)? && self.is_bounded())
     }
 
     /// The main stack, if no condition is open.

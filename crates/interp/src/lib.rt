@@ -17,8 +17,10 @@ mod pile;
 mod places;
 mod signatures;
 mod timelocks;
+mod unverified;
 mod verifying;
 
 pub use flags::Flags;
 pub use job::Job;
-pub use verifying::verify;
+pub use unverified::Unverified;
+pub use verifying::{verify, verify_with};

@@ -1,10 +1,11 @@
 //! CHECKMULTISIG.
 
-ghost use Rattle.std.specs.Prelude.{◌≡◌, ◌+◌, ◌-◌, ◌<◌, ◌≤◌, length, take, drop, IfOk, IfSome, Some};
-ghost use Rattle.std.specs.List.{concat, position};
-ghost use Rattle.std.specs.FinSet as set;
+ghost use Rattle.std.specs.Prelude.{◌≡◌, ◌+◌, ◌-◌, ◌<◌, ◌≤◌, length, take, drop, IfOk, IfErr, IfSome};
+ghost use Rattle.std.specs.List.{concat};
 ghost use Rattle.script.specs.Removal.{bytes_of};
-ghost use Rattle.curve.specs.Triple.{triple_of};
+ghost use Rattle.curve.specs.Known.{Under};
+ghost use Rattle.interp.specs.Asking.{Stops, IsStopped, TryingAsks};
+ghost use Rattle.interp.specs.inside.Keys.{IsFirstKey, IsFirstUnknown};
 ghost use Rattle.interp.specs.inside.Spending.{spending_for};
 ghost use Rattle.interp.specs.Signatures.{is_valid, signature_proper, signed_code};
 ghost use Rattle.interp.specs.computed.Signatures.{pairs_verdict};
@@ -14,7 +15,8 @@ use crate::element::{Element, natural};
 use crate::job::Job;
 use crate::pile::Pile;
 use crate::signatures::{digest_for, is_valid, may_be_tried, signed_parts};
-use curve::Table;
+use crate::unverified::Unverified;
+use curve::KnowsSignatures;
 use std::alloc::Global;
 use wire::Memory;
 
@@ -53,65 +55,84 @@ fn slices(
 }
 
 /// The place of the first key for which a signature is valid over this digest.
-fn first_key(table: &Table, digest: &[u8; 32], signature: &[u8], keys: &[&[u8]]) -> Option<usize>
+fn first_key<K: KnowsSignatures>(
+    alloc: Global,
+    known: &K,
+    digest: &[u8; 32],
+    signature: &[u8],
+    keys: &[&[u8]],
+) -> Result<Option<usize>, Unverified>
     requires { 0 < length signature.now }
-    ensures value { let proper = signature_proper signature.now in
-        result ≡ position (λ key. set.contains table.now (triple_of key.now proper digest.now))
-        keys.now }
-    ensures bound { IfSome result (λ i. i < length keys.now) }
+    ensures answer { IfOk result (IsFirstKey (K.known known.now)
+        (signature_proper signature.now) digest.now (bytes_of keys.now)) }
+    ensures stops { IfErr result (Stops (K.known known.now) (IsFirstUnknown (K.known known.now)
+        (signature_proper signature.now) digest.now (bytes_of keys.now))) }
 {
-    keys.iter()
-        .position(|key| is_valid(table, digest, signature, key))
+    for place in 0..keys.len() {
+        if is_valid(alloc, known, digest, signature, keys[place])? {
+            return Ok(Some(place));
+        }
+    }
+    Ok(None)
 }
 
 /// Tries signatures and keys in order: None where one that is tried may not be.
-fn try_pairs(
+fn try_pairs<K: KnowsSignatures>(
+    alloc: Global,
     job: &Job,
-    table: &Table,
+    known: &K,
     code: &[&[u8]],
     signatures: &[&[u8]],
     keys: &[&[u8]],
-) -> Option<bool>
+) -> Result<Option<bool>, Unverified>
     requires { job.now.input < length job.now.tx.now.inputs }
-    ensures { result ≡ pairs_verdict (spending_for job.now table.now) (concat (bytes_of code.now))
-        (bytes_of signatures.now) (bytes_of keys.now) }
+    ensures answer { IfOk result (λ answer. Under (K.known known.now) (λ triples.
+        answer ≡ pairs_verdict (spending_for job.now triples) (concat (bytes_of code.now))
+        (bytes_of signatures.now) (bytes_of keys.now))) }
+    ensures stops { IfErr result (IsStopped (K.known known.now) (λ triples.
+        TryingAsks (spending_for job.now triples) (concat (bytes_of code.now))
+        (bytes_of signatures.now) (bytes_of keys.now))) }
 {
     let [signature, others @ ..] = signatures else {
-        return Some(true);
+        return Ok(Some(true));
     };
     if keys.len() <= others.len() {
-        return Some(false);
+        return Ok(Some(false));
     }
     if !may_be_tried(job.flags, signature) {
-        return None;
+        return Ok(None);
     }
     if signature.is_empty() {
-        return Some(false);
+        return Ok(Some(false));
     }
     let digest = digest_for(job, code, signature);
     let (spare, _) = keys.split_at(keys.len() - others.len());
-    let Some(used) = first_key(table, &digest, signature, spare) else {
-        return Some(false);
+    let Some(used) = first_key(alloc, known, &digest, signature, spare)? else {
+        return Ok(Some(false));
     };
     let (_, left) = keys.split_at(used + 1);
-    try_pairs(job, table, code, others, left)
+    try_pairs(alloc, job, known, code, others, left)
 }
 
 /// What CHECKMULTISIG answers, with so many keys and signatures on the stack.
-pub fn answer(
+pub fn answer<K: KnowsSignatures>(
     alloc: Global,
     job: &Job,
-    table: &Table,
+    known: &K,
     code: &[u8],
     stack: &Pile<Element>,
     counts: (usize, usize),
-) -> Result<Option<bool>, Memory>
+) -> Result<Option<bool>, Unverified>
     requires input { job.now.input < length job.now.tx.now.inputs }
     requires few { counts.0 ≤ 20 }
     requires no_more { counts.1 ≤ counts.0 }
     requires there { counts.0 + counts.1 + 3 ≤ length stack.now }
-    ensures { IfOk result (λ answer. answer
-        ≡ multisig_answer (spending_for job.now table.now) code.now stack.now counts) }
+    ensures answer { IfOk result (λ answer. Under (K.known known.now) (λ triples.
+        answer ≡ multisig_answer (spending_for job.now triples) code.now stack.now counts)) }
+    ensures stops { IfErr result (IsStopped (K.known known.now) (λ triples.
+        TryingAsks (spending_for job.now triples)
+        (signed_code code.now (signatures_in counts.0 counts.1 stack.now))
+        (signatures_in counts.0 counts.1 stack.now) (keys_in counts.0 stack.now))) }
 {
     let (keys, signatures) = counts;
     let middle = keys + 2;
@@ -124,11 +145,12 @@ pub fn answer(
         return Ok(Some(false));
     }
     let parts = signed_parts(alloc, code, signatures.as_slice())?;
-    Ok(try_pairs(
+    try_pairs(
+        alloc,
         job,
-        table,
+        known,
         parts.as_slice(),
         signatures.as_slice(),
         keys.as_slice(),
-    ))
+    )
 }

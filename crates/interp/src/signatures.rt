@@ -1,11 +1,12 @@
 //! What is signed, and CHECKSIG.
 
-ghost use Rattle.std.specs.Prelude.{◌≡◌, ◌<◌, [], ◌∷◌, length, map, IfOk};
-ghost use Rattle.std.specs.List.{concat, position};
-ghost use Rattle.std.specs.FinSet as set;
+ghost use Rattle.std.specs.Prelude.{◌≡◌, ◌<◌, [], ◌∷◌, length, map, IfOk, IfErr, Some};
+ghost use Rattle.std.specs.List.{concat};
 ghost use Rattle.script.specs.Removal.{bytes_of};
 ghost use Rattle.sighash.specs.Digest.{digest_of};
+ghost use Rattle.curve.specs.Known.{Under};
 ghost use Rattle.curve.specs.Triple.{triple_of};
+ghost use Rattle.interp.specs.Asking.{Stops, IsStopped, PairAsks};
 ghost use Rattle.interp.specs.inside.Spending.{spending_for};
 ghost use Rattle.interp.specs.Signatures.{push_of, pieces_of, signed_code, type_of, signature_proper, is_valid};
 ghost use Rattle.interp.specs.computed.Signatures.{may_be_tried, pair_verdict};
@@ -13,7 +14,8 @@ ghost use Rattle.interp.specs.computed.Signatures.{may_be_tried, pair_verdict};
 use crate::element::Element;
 use crate::flags::Flags;
 use crate::job::Job;
-use curve::{Table, der_shape};
+use crate::unverified::Unverified;
+use curve::{KeptTriple, KnowsSignatures, der_shape};
 use script::opcode::OP_CODESEPARATOR;
 use script::without;
 use std::alloc::Global;
@@ -92,12 +94,27 @@ pub fn digest_for(job: &Job, code: &[&[u8]], signature: &[u8]) -> [u8; 32]
 }
 
 /// Whether a signature that isn't empty is valid for a key over this digest.
-pub fn is_valid(table: &Table, digest: &[u8; 32], signature: &[u8], key: &[u8]) -> bool
+pub fn is_valid<K: KnowsSignatures>(
+    alloc: Global,
+    known: &K,
+    digest: &[u8; 32],
+    signature: &[u8],
+    key: &[u8],
+) -> Result<bool, Unverified>
     requires { 0 < length signature.now }
-    ensures { result ≡ set.contains table.now
-        (triple_of key.now (signature_proper signature.now) digest.now) }
+    ensures answer { let t = triple_of key.now (signature_proper signature.now) digest.now in
+        IfOk result (λ valid. K.known known.now t ≡ Some valid) }
+    ensures stops { let t = triple_of key.now (signature_proper signature.now) digest.now in
+        IfErr result (Stops (K.known known.now) (λ unknown. unknown ≡ t)) }
 {
-    table.has(key, &signature[..signature.len() - 1], digest)
+    let proper = &signature[..signature.len() - 1];
+    match known.find(key, proper, digest) {
+        Some(valid) => Ok(valid),
+        None => {
+            let unknown = KeptTriple::from_parts(alloc, key, proper, digest)?;
+            Err(Unverified::Unknown(unknown))
+        }
+    }
 }
 
 /// Whether a signature is strictly encoded or empty, where that is asked for.
@@ -110,17 +127,21 @@ pub fn may_be_tried(flags: Flags, signature: &[u8]) -> bool
 
 /// Whether a signature is valid for a key over a running script's code: None where it may not be tried.
 #[tactic(auto, unfolding(crate::specs::computed::Signatures::pair_verdict, crate::specs::Signatures::is_valid))]
-pub fn judge(
+pub fn judge<K: KnowsSignatures>(
     alloc: Global,
     job: &Job,
-    table: &Table,
+    known: &K,
     code: &[u8],
     signature: &[u8],
     key: &[u8],
-) -> Result<Option<bool>, Memory>
+) -> Result<Option<bool>, Unverified>
     requires { job.now.input < length job.now.tx.now.inputs }
-    ensures { IfOk result (λ valid. valid ≡ pair_verdict (spending_for job.now table.now)
-        (signed_code code.now (signature.now ∷ [])) signature.now key.now) }
+    ensures answer { IfOk result (λ valid. Under (K.known known.now) (λ triples.
+        valid ≡ pair_verdict (spending_for job.now triples)
+        (signed_code code.now (signature.now ∷ [])) signature.now key.now)) }
+    ensures stops { IfErr result (IsStopped (K.known known.now) (λ triples.
+        PairAsks (spending_for job.now triples)
+        (signed_code code.now (signature.now ∷ [])) signature.now key.now)) }
 {
     if !may_be_tried(job.flags, signature) {
         return Ok(None);
@@ -130,5 +151,5 @@ pub fn judge(
     }
     let parts = signed_parts(alloc, code, &[signature])?;
     let digest = digest_for(job, parts.as_slice(), signature);
-    Ok(Some(is_valid(table, &digest, signature, key)))
+    Ok(Some(is_valid(alloc, known, &digest, signature, key)?))
 }

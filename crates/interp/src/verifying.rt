@@ -1,7 +1,9 @@
 //! The scripts of an input and of the output that it spends.
 
-ghost use Rattle.std.specs.Prelude.{◌≡◌, ◌<◌, ◌↔◌, [], ◌∷◌, ◌++◌, length, IsTrue, IfOk, MatchOption};
+ghost use Rattle.std.specs.Prelude.{◌≡◌, ◌<◌, ◌↔◌, [], ◌∷◌, ◌++◌, length, IsTrue, IfOk, IfErr, MatchOption};
 ghost use Rattle.script.specs.Ops.{ops, rest};
+ghost use Rattle.curve.specs.Known.{Under};
+ghost use Rattle.interp.specs.Asking.{IsStopped, RunAsks, InnerAsks, SpentAsks, ScriptsAsk, Asks};
 ghost use Rattle.interp.specs.inside.Spending.{spending_for};
 ghost use Rattle.interp.specs.Rules.{Accepts};
 ghost use Rattle.interp.specs.computed.Step.{outcome, ends_true, inner_verdict, verdict_on, verdict};
@@ -10,7 +12,8 @@ use crate::element::Element;
 use crate::execution::Execution;
 use crate::job::Job;
 use crate::pile::Pile;
-use curve::Table;
+use crate::unverified::Unverified;
+use curve::{KnowsSignatures, Table};
 use script::opcode::OP_PUSHDATA4;
 use script::{MAX_SCRIPT_SIZE, Ops, is_p2sh, push_only};
 use std::alloc::Global;
@@ -24,8 +27,31 @@ pub fn verify(alloc: Global, job: &Job, table: &Table) -> Result<bool, Memory>
     ensures { IfOk result (λ yes. IsTrue yes
         ↔ Accepts job.now.tx.now job.now.input job.now.spent.now job.now.flags table.now) }
 {
+    match verify_with(alloc, job, table) {
+        Ok(accepted) => Ok(accepted),
+        Err(Unverified::Memory) => Err(Memory),
+        // Of a table all is known.
+        Err(Unverified::Unknown(_)) => unreachable!(),
+    }
+}
+
+/// The same with what is known of signatures, as far as that goes: else one that has to be found out first.
+pub fn verify_with<K: KnowsSignatures>(
+    alloc: Global,
+    job: &Job,
+    known: &K,
+) -> Result<bool, Unverified>
+    // The input is one of the transaction's.
+    requires { job.now.input < length job.now.tx.now.inputs }
+    // The verdict is the same whatever the others are that are valid.
+    ensures answer { IfOk result (λ yes. Under (K.known known.now) (λ triples. IsTrue yes
+        ↔ Accepts job.now.tx.now job.now.input job.now.spent.now job.now.flags triples)) }
+    // And so is the one that has to be found out.
+    ensures stops { IfErr result (IsStopped (K.known known.now) (λ triples.
+        Asks job.now.tx.now job.now.input job.now.spent.now job.now.flags triples)) }
+{
     let script = job.tx.inputs.as_slice()[job.input].script.as_slice();
-    let yes = accepts(alloc, job, table, script)?;
+    let yes = accepts(alloc, job, known, script)?;
     Ok(yes)
 }
 
@@ -47,15 +73,18 @@ fn first_op(script: &[u8]) -> Option<(&[u8], &[u8])>
 
 /// Runs a script on a stack, and gives the stack that it leaves, or nothing where it fails.
 #[tactic(auto, unfolding(crate::specs::computed::Step::outcome))]
-fn run(
+fn run<K: KnowsSignatures>(
     alloc: Global,
     job: &Job,
-    table: &Table,
+    known: &K,
     script: &[u8],
     stack: Pile<Element>,
-) -> Result<Option<Pile<Element>>, Memory>
+) -> Result<Option<Pile<Element>>, Unverified>
     requires { job.now.input < length job.now.tx.now.inputs }
-    ensures { IfOk result (λ end. end ≡ outcome (spending_for job.now table.now) script.now stack) }
+    ensures answer { IfOk result (λ end. Under (K.known known.now) (λ triples.
+        end ≡ outcome (spending_for job.now triples) script.now stack)) }
+    ensures stops { IfErr result (IsStopped (K.known known.now) (λ triples.
+        RunAsks (spending_for job.now triples) script.now stack)) }
 {
     if script.len() > MAX_SCRIPT_SIZE {
         return Ok(None);
@@ -63,7 +92,7 @@ fn run(
     let mut execution = Execution::new(alloc, script, stack);
     let mut ahead = script;
     while let Some((op, after)) = first_op(ahead) {
-        if !execution.step(alloc, job, table, after, op)? {
+        if !execution.step(alloc, job, known, after, op)? {
             return Ok(None);
         }
         ahead = after;
@@ -76,18 +105,20 @@ fn run(
 
 /// Whether a script runs on a stack, and leaves a true element on top.
 #[tactic(auto, unfolding(crate::specs::computed::Step::ends_true))]
-fn runs_to_true(
+fn runs_to_true<K: KnowsSignatures>(
     alloc: Global,
     job: &Job,
-    table: &Table,
+    known: &K,
     script: &[u8],
     stack: Pile<Element>,
-) -> Result<bool, Memory>
+) -> Result<bool, Unverified>
     requires { job.now.input < length job.now.tx.now.inputs }
-    ensures { IfOk result (λ yes. yes
-        ≡ ends_true (outcome (spending_for job.now table.now) script.now stack)) }
+    ensures answer { IfOk result (λ yes. Under (K.known known.now) (λ triples.
+        yes ≡ ends_true (outcome (spending_for job.now triples) script.now stack))) }
+    ensures stops { IfErr result (IsStopped (K.known known.now) (λ triples.
+        RunAsks (spending_for job.now triples) script.now stack)) }
 {
-    let Some(end) = run(alloc, job, table, script, stack)? else {
+    let Some(end) = run(alloc, job, known, script, stack)? else {
         return Ok(false);
     };
     if end.len() == 0 {
@@ -99,16 +130,18 @@ fn runs_to_true(
 /// Whether the top of a stack, run as a script on the others, leaves a true element on top, and the input script
 /// that left the stack only pushes (BIP 16).
 #[tactic(auto, unfolding(crate::specs::computed::Step::inner_verdict))]
-fn accepts_inner(
+fn accepts_inner<K: KnowsSignatures>(
     alloc: Global,
     job: &Job,
-    table: &Table,
+    known: &K,
     script: &[u8],
     left: Pile<Element>,
-) -> Result<bool, Memory>
+) -> Result<bool, Unverified>
     requires { job.now.input < length job.now.tx.now.inputs }
-    ensures { IfOk result (λ yes. yes
-        ≡ inner_verdict (spending_for job.now table.now) script.now left) }
+    ensures answer { IfOk result (λ yes. Under (K.known known.now) (λ triples.
+        yes ≡ inner_verdict (spending_for job.now triples) script.now left)) }
+    ensures stops { IfErr result (IsStopped (K.known known.now) (λ triples.
+        InnerAsks (spending_for job.now triples) script.now left)) }
 {
     if !push_only(script) {
         return Ok(false);
@@ -118,41 +151,50 @@ fn accepts_inner(
     }
     let mut left = left;
     let inner = left.pop();
-    runs_to_true(alloc, job, table, inner.as_slice(), left)
+    runs_to_true(alloc, job, known, inner.as_slice(), left)
 }
 
 /// Whether the scripts accept, with the stack that the input script left.
 #[tactic(auto, unfolding(crate::specs::computed::Step::verdict_on))]
-fn accepts_on(
+fn accepts_on<K: KnowsSignatures>(
     alloc: Global,
     job: &Job,
-    table: &Table,
+    known: &K,
     script: &[u8],
     left: Pile<Element>,
-) -> Result<bool, Memory>
+) -> Result<bool, Unverified>
     requires { job.now.input < length job.now.tx.now.inputs }
-    ensures { IfOk result (λ yes. yes
-        ≡ verdict_on (spending_for job.now table.now) script.now job.now.spent.now left) }
+    ensures answer { IfOk result (λ yes. Under (K.known known.now) (λ triples.
+        yes ≡ verdict_on (spending_for job.now triples) script.now job.now.spent.now left)) }
+    ensures stops { IfErr result (IsStopped (K.known known.now) (λ triples.
+        SpentAsks (spending_for job.now triples) script.now job.now.spent.now left)) }
 {
     if !is_p2sh(job.spent) {
-        return runs_to_true(alloc, job, table, job.spent, left);
+        return runs_to_true(alloc, job, known, job.spent, left);
     }
     let same = left.copy(alloc)?;
-    if !runs_to_true(alloc, job, table, job.spent, same)? {
+    if !runs_to_true(alloc, job, known, job.spent, same)? {
         return Ok(false);
     }
-    accepts_inner(alloc, job, table, script, left)
+    accepts_inner(alloc, job, known, script, left)
 }
 
 /// Whether the scripts accept, with the input script.
 #[tactic(auto, unfolding(crate::specs::computed::Step::verdict))]
-fn accepts(alloc: Global, job: &Job, table: &Table, script: &[u8]) -> Result<bool, Memory>
+fn accepts<K: KnowsSignatures>(
+    alloc: Global,
+    job: &Job,
+    known: &K,
+    script: &[u8],
+) -> Result<bool, Unverified>
     requires { job.now.input < length job.now.tx.now.inputs }
-    ensures { IfOk result (λ yes. yes
-        ≡ verdict (spending_for job.now table.now) script.now job.now.spent.now) }
+    ensures answer { IfOk result (λ yes. Under (K.known known.now) (λ triples.
+        yes ≡ verdict (spending_for job.now triples) script.now job.now.spent.now)) }
+    ensures stops { IfErr result (IsStopped (K.known known.now) (λ triples.
+        ScriptsAsk (spending_for job.now triples) script.now job.now.spent.now)) }
 {
-    let Some(left) = run(alloc, job, table, script, Pile::new(alloc))? else {
+    let Some(left) = run(alloc, job, known, script, Pile::new(alloc))? else {
         return Ok(false);
     };
-    accepts_on(alloc, job, table, script, left)
+    accepts_on(alloc, job, known, script, left)
 }

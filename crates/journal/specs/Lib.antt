@@ -1,3 +1,4 @@
 pub mod Agreement
 pub mod Heights
+pub mod Line
 pub mod Saved

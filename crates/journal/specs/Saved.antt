@@ -1,6 +1,9 @@
 -- What is saved of a run.
-use Rattle.std.specs.Prelude.{ℕ, List, []}
-use Rattle.block.specs.Blk.{record_bytes}
+use Rattle.std.specs.Prelude.{ℕ, ◌+◌, ◌-◌, nat_lt, Bool, false, List, [], length}
+use Rattle.wire.specs.Spelling.{limit}
+use Rattle.block.specs.declared.blk_fault.BlkFault.{BlkFault}
+use Rattle.block.specs.Blk.{record_bytes, IsEnd, IsFault}
+use Rattle.block.specs.laws.Files.{Gave}
 use Rattle.chain.specs.declared.command.Command.{Command}
 use Rattle.chain.specs.declared.command.Command.TheVariants as command
 use Rattle.chain.specs.declared.entry.Entry.{Entry}
@@ -15,3 +18,20 @@ record_asked (command.Precious id) = []
 -- the blk record of an entry
 abbrev pub record_of : Entry → List ℕ
 record_of entry = record_asked entry.command
+
+-- whether a command submits a block that is longer than a record may be
+abbrev pub is_long : Command → Bool
+is_long (command.Submit bytes now) = nat_lt limit (length bytes)
+is_long (command.Invalidate id) = false
+is_long (command.Reconsider id) = false
+is_long (command.Precious id) = false
+
+-- these blocks come in their records, from the front on, and then the file ends
+abbrev pub AreAll : List ℕ → List (List ℕ) → Type 0
+AreAll file blocks = (rest : List ℕ) × Gave file blocks rest × IsEnd rest
+
+-- behind the records of some blocks stands what the fault says, at its place from the first of all bytes on; the
+-- file's front stands at `place`
+abbrev pub IsRefused : ℕ → List ℕ → BlkFault → Type 0
+IsRefused place file fault = (blocks : List (List ℕ)) × (rest : List ℕ) × Gave file blocks rest
+    × IsFault (place + (length file - length rest)) rest fault

@@ -1,6 +1,10 @@
 //! Journals, read back.
 
+ghost use Rattle.std.specs.Prelude.{◌≡◌, IfOk, IfSome};
+ghost use Rattle.journal.specs.Line.{line_of, IsJournal, AreNumbered};
+
 use crate::fault::JournalFault;
+use crate::lines::first_line;
 use crate::replies::{is_text_of, read_mark_reply, read_submit_reply};
 use crate::step::{Asked, Step};
 use chain::Reply;
@@ -11,19 +15,20 @@ use std::str;
 
 /// The steps of a journal's text. A line can be read where a step is printed so, with its block's id in digits.
 /// The last line may lack its end.
-pub fn read_journal<'t>(alloc: Global, text: &'t [u8]) -> Result<Vec<Step<'t, Id>>, JournalFault> {
+pub fn read_journal<'t>(alloc: Global, text: &'t [u8]) -> Result<Vec<Step<'t, Id>>, JournalFault>
+    ensures lines { IfOk result (λ steps. IsJournal steps.items text.now) }
+    ensures numbers { IfOk result (λ steps. AreNumbered steps.items) }
+{
     let mut steps = Vec::new(alloc);
-    let text = match text {
-        [] => return Ok(steps),
-        [front @ .., b'\n'] => front,
-        _ => text,
-    };
-    for (place, line) in text.split(|byte| *byte == b'\n').enumerate() {
-        let number = place + 1;
+    let mut rest = text;
+    while !rest.is_empty() {
+        let (line, behind) = first_line(rest);
+        let number = steps.len() + 1;
         match read_line(alloc, number, line)? {
             Some(step) => steps.push(step)?,
             None => return Err(JournalFault::BadLine(number)),
         }
+        rest = behind;
     }
     Ok(steps)
 }
@@ -32,7 +37,10 @@ fn read_line<'t>(
     alloc: Global,
     number: usize,
     line: &'t [u8],
-) -> Result<Option<Step<'t, Id>>, AllocError> {
+) -> Result<Option<Step<'t, Id>>, AllocError>
+    ensures { IfOk result (λ found. IfSome found (λ step.
+        (line.now ≡ line_of step) × (step.number ≡ number))) }
+{
     let Ok(line) = str::from_utf8(line) else {
         return Ok(None);
     };
@@ -40,11 +48,20 @@ fn read_line<'t>(
         return Ok(None);
     };
     let words: Vec<&str> = front.split(' ').collect(alloc)?;
-    Ok(read_step(number, words.as_slice(), reply).filter(|step| is_text_of(step, line)))
+    let Some(step) = read_step(number, words.as_slice(), reply) else {
+        return Ok(None);
+    };
+    // The words may be spelled in another way.
+    if !is_text_of(&step, line) {
+        return Ok(None);
+    }
+    Ok(Some(step))
 }
 
 /// The step of this place that the words of a line and the text of its reply tell, however they are spelled.
-fn read_step<'t>(number: usize, words: &[&'t str], reply: &str) -> Option<Step<'t, Id>> {
+fn read_step<'t>(number: usize, words: &[&'t str], reply: &str) -> Option<Step<'t, Id>>
+    ensures { IfSome result (λ step. step.number ≡ number) }
+{
     let (client, asked, id) = match words {
         [_, client, "submit", id, now] => (*client, Asked::Submit(now.parse().ok()?), id),
         [_, client, "invalidate", id] => (*client, Asked::Invalidate, id),

@@ -1,11 +1,12 @@
-//! Blk files: the records of a run's submissions.
+//! Blk files: the records of a run's submissions, written.
 
-ghost use Rattle.std.specs.Prelude.{◌≡◌, ◌++◌, IfOk, OnOk};
-ghost use Rattle.std.specs.List.{flat_map};
+ghost use Rattle.std.specs.Prelude.{◌≡◌, ◌++◌, ◌<◌, ◌≤◌, true, false, length, IfOk, IfErr, OnOk};
+ghost use Rattle.std.specs.List.{flat_map, list_any};
+ghost use Rattle.wire.specs.Spelling.{limit};
 ghost use Rattle.block.specs.Blk.{record_bytes};
-ghost use Rattle.journal.specs.Saved.{record_of};
+ghost use Rattle.journal.specs.Saved.{record_of, is_long};
+ghost use Rattle.journal.specs.declared.records.RecordFault.TheVariants as faults;
 
-use block::{BlkFault, BlkReader, SliceSource};
 use chain::{Command, Entry};
 use std::alloc::{AllocError, Global};
 
@@ -21,6 +22,8 @@ pub enum RecordFault {
 }
 
 impl From<AllocError> for RecordFault {
+    ghost from_gives = { λ _ fault. fault ≡ faults.Memory };
+
     fn from(_error: AllocError) -> RecordFault {
         RecordFault::Memory
     }
@@ -28,7 +31,11 @@ impl From<AllocError> for RecordFault {
 
 /// The blk file of the submissions among these entries, in their order.
 pub fn blk_file(alloc: Global, entries: &[Entry]) -> Result<Vec<u8>, RecordFault>
-    ensures { IfOk result (λ file. file.items ≡ flat_map record_of entries.now) }
+    ensures file { IfOk result (λ file. file.items ≡ flat_map record_of entries.now) }
+    // Every block has its record, or the fault is that one is too long, unless memory runs out.
+    ensures fits { OnOk result (list_any (λ entry. is_long entry.command) entries.now ≡ false) }
+    ensures long { IfErr result (λ fault. fault ≡ faults.TooLong
+        → list_any (λ entry. is_long entry.command) entries.now ≡ true) }
 {
     let mut file = Vec::new(alloc);
     for entry in entries {
@@ -39,7 +46,9 @@ pub fn blk_file(alloc: Global, entries: &[Entry]) -> Result<Vec<u8>, RecordFault
 
 /// Writes the record of a submission at the end. After a fault the file is of no use.
 fn put_submission(out: &mut Vec<u8>, entry: &Entry) -> Result<(), RecordFault>
-    ensures { OnOk result (out.new.items ≡ out.old.items ++ record_of entry.now) }
+    ensures file { OnOk result (out.new.items ≡ out.old.items ++ record_of entry.now) }
+    ensures fits { OnOk result (is_long entry.now.command ≡ false) }
+    ensures long { IfErr result (λ fault. fault ≡ faults.TooLong → is_long entry.now.command ≡ true) }
 {
     match &entry.command {
         Command::Submit(block, _) => put_record(out, block.as_slice()),
@@ -48,7 +57,9 @@ fn put_submission(out: &mut Vec<u8>, entry: &Entry) -> Result<(), RecordFault>
 }
 
 fn put_record(out: &mut Vec<u8>, block: &[u8]) -> Result<(), RecordFault>
-    ensures { OnOk result (out.new.items ≡ out.old.items ++ record_bytes block.now) }
+    ensures file { OnOk result (out.new.items ≡ out.old.items ++ record_bytes block.now) }
+    ensures fits { OnOk result (length block.now ≤ limit) }
+    ensures long { IfErr result (λ fault. fault ≡ faults.TooLong → limit < length block.now) }
 {
     if block.len() as u64 > wire::LIMIT {
         return Err(RecordFault::TooLong);
@@ -58,48 +69,4 @@ fn put_record(out: &mut Vec<u8>, block: &[u8]) -> Result<(), RecordFault>
     out.extend_from_slice(&length.to_le_bytes())?;
     out.extend_from_slice(block)?;
     Ok(())
-}
-
-/// The records of a blk file's bytes, one after the other.
-#[derive(Drop)]
-pub struct Records<'f> {
-    reader: BlkReader<SliceSource<'f>>,
-}
-
-impl<'f> Records<'f> {
-    pub fn new(alloc: Global, bytes: &'f [u8]) -> Records<'f> {
-        Records {
-            reader: BlkReader::new(alloc, SliceSource::new(bytes)),
-        }
-    }
-
-    /// The next block, if there is one.
-    pub fn next(&mut self) -> Result<Option<Vec<u8>>, BlkFault> {
-        self.reader.next()
-    }
-
-    /// Reads on to the end.
-    pub fn read_out(&mut self) -> Result<(), BlkFault> {
-        for _ in 0..u64::MAX {
-            if self.next()?.is_none() {
-                break;
-            }
-        }
-        Ok(())
-    }
-}
-
-/// The blocks of a blk file's bytes.
-pub fn read_records(alloc: Global, bytes: &[u8]) -> Result<Vec<Vec<u8>>, BlkFault> {
-    let mut records = Vec::new(alloc);
-    let mut reader = BlkReader::new(alloc, SliceSource::new(bytes));
-    // Each record has its head at least, so no more of them can come than there are bytes.
-    for _ in 0..=bytes.len() {
-        match reader.next() {
-            Ok(Some(record)) => records.push(record).map_err(|_| BlkFault::Memory)?,
-            Ok(None) => return Ok(records),
-            Err(fault) => return Err(fault),
-        }
-    }
-    Ok(records)
 }

@@ -1,5 +1,7 @@
 //! Replies, read back from their texts.
 
+ghost use Rattle.std.specs.Prelude.{◌≡◌, ◌++◌, true, IfSome};
+
 use chain::{MarkReply, SubmitReply};
 use std::fmt;
 use std::fmt::Write;
@@ -92,9 +94,14 @@ fn read_script_refused(text: &str) -> Option<Reason> {
 }
 
 /// Whether a value is printed so.
-pub fn is_text_of<T: fmt::Display>(value: &T, text: &str) -> bool {
+pub fn is_text_of<T: fmt::Display>(value: &T, text: &str) -> bool
+    ensures { result ≡ true → IfSome (T.output value.now) (λ printed. text.now ≡ printed) }
+{
     let mut rest = Rest { text };
-    write!(rest, "{value}").is_ok() && rest.text.is_empty()
+    match write!(rest, "{value}") {
+        Ok(()) => rest.text.is_empty(),
+        Err(_) => false,
+    }
 }
 
 /// A text of which the front is taken off by writing it.
@@ -104,6 +111,8 @@ struct Rest<'t> {
 }
 
 impl fmt::Write for Rest<'_> {
+    ghost write_str_gives = { λ old bytes new. old.text.now ≡ bytes ++ new.text.now };
+
     fn write_str(&mut self, text: &str) -> fmt::Result {
         match self.text.strip_prefix(text) {
             Some(rest) => {

@@ -1,5 +1,9 @@
 //! The lines of the journal.
 
+ghost use Rattle.std.specs.Prelude.{◌≡◌, Some};
+ghost use Rattle.std.specs.Fmt.{◌++?◌};
+ghost use Rattle.journal.specs.Line.{word_of, moment_of, text_of_answer, front_of, rest_of};
+
 use block::ReadFault;
 use chain::{Command, Entry, Reply};
 use hash::Id;
@@ -38,7 +42,9 @@ impl Asked {
     }
 
     /// The word of a command.
-    pub fn word(self) -> &'static str {
+    pub fn word(self) -> &'static str
+        ensures { result.now ≡ word_of self }
+    {
         match self {
             Asked::Submit(_) => "submit",
             Asked::Invalidate => "invalidate",
@@ -58,17 +64,42 @@ pub fn block_of(alloc: Global, entry: &Entry) -> Result<Id, ReadFault> {
     }
 }
 
-impl<B: fmt::Display> fmt::Display for Step<'_, B> {
+/// The moment of a submission behind a space; else nothing.
+#[derive(Clone, Copy)]
+struct Moment(Asked);
+
+impl fmt::Display for Moment {
+    ghost output = { λ moment. Some (moment_of moment.0) };
+
     fn fmt<W: fmt::Write>(&self, f: &mut fmt::Formatter<W>) -> fmt::Result {
-        let block = &self.block;
-        write!(f, "{} {} ", self.number, self.client)?;
-        write!(f, "{} {block}", self.asked.word())?;
-        if let Asked::Submit(now) = self.asked {
-            write!(f, " {now}")?;
+        match self.0 {
+            Asked::Submit(now) => write!(f, " {now}"),
+            _ => Ok(()),
         }
-        match self.reply {
-            Some(reply) => write!(f, " = {reply}"),
-            None => f.write_str(" = owed"),
+    }
+}
+
+/// The reply to a step, or that it is owed.
+#[derive(Clone, Copy)]
+struct Answer(Option<Reply>);
+
+impl fmt::Display for Answer {
+    ghost output = { λ answer. Some (text_of_answer answer.0) };
+
+    fn fmt<W: fmt::Write>(&self, f: &mut fmt::Formatter<W>) -> fmt::Result {
+        match self.0 {
+            Some(reply) => reply.fmt(f),
+            None => f.write_str("owed"),
         }
+    }
+}
+
+impl<B: fmt::Display> fmt::Display for Step<'_, B> {
+    ghost output = { λ step. Some (front_of step) ++? B.output step.block ++? Some (rest_of step) };
+
+    fn fmt<W: fmt::Write>(&self, f: &mut fmt::Formatter<W>) -> fmt::Result {
+        write!(f, "{} {} {} ", self.number, self.client, self.asked.word())?;
+        self.block.fmt(f)?;
+        write!(f, "{} = {}", Moment(self.asked), Answer(self.reply))
     }
 }

@@ -1,6 +1,6 @@
 -- The pass of a seat: what it has seen of the history, and what of it is its own.
 use Rattle.std.specs.Prelude.{◌≡◌, ◌⊎◌, ◌&&◌, ℕ, zero, suc, Bool, true, is_none, if◌then◌else◌}
-use Rattle.std.specs.Prelude.{List, [], ◌∷◌, ◌++◌, length, Some, None}
+use Rattle.std.specs.Prelude.{List, [], ◌∷◌, ◌++◌, length, take, drop, Some, None}
 use mathlib.Core.List.{IsPrefix}
 use Rattle.chain.specs.declared.command.Command.{Command}
 use Rattle.chain.specs.declared.reply.Reply.{Reply}
@@ -78,6 +78,12 @@ pub record IsRead (p q : Pass) {V : Type 0} (value : (machine p.origin).State �
     (at : ℕ) (answer : V) : Type 0 where
   pub at_is : at ≡ length q.seen
   pub value_is : answer ≡ value (state_at (machine p.origin) q.seen at)
+  pub mine_is : q.mine ≡ p.mine
+
+-- the answer is the entries after the first `first`, up to the one of number `last`, of all that the seat has then seen
+pub record IsListed (p q : Pass) (first last at : ℕ) (answer : List Entry) : Type 0 where
+  pub at_is : at ≡ length q.seen
+  pub answer_is : answer ≡ drop first (take last q.seen)
   pub mine_is : q.mine ≡ p.mine
 
 -- of a whole history: what the seat has seen begins it, and the seat's entries in it are its own

@@ -1,6 +1,6 @@
 //! What a seat has seen, to be told to another.
 
-ghost use Rattle.std.specs.Prelude.{◌≡◌};
+ghost use Rattle.std.specs.Prelude.{◌≡◌, length};
 
 use std::marker::{Model, PhantomData};
 use view::Naming;
@@ -27,4 +27,13 @@ impl<J: Naming> Model for Note<J> {
     ghost view = { λ n. record { origin = J.origin; seen = n.seen.entries } };
 
     ghost invariant = { λ n. (n.seen.book ≡ J.origin.book) × IsLegal J.origin n.seen.entries };
+}
+
+impl<J: Naming> Note<J> {
+    /// How many entries it has.
+    pub fn len(&self) -> u64
+        ensures { result ≡ length self.now.seen }
+    {
+        self.seen.len()
+    }
 }

@@ -1,6 +1,6 @@
 //! A seat's reading calls. They wait for nobody: each enters the published view once.
 
-ghost use Rattle.std.specs.Prelude.{◌≡◌, IfOk, IfErr};
+ghost use Rattle.std.specs.Prelude.{◌≡◌, IfOk, IfErr, take, drop};
 ghost use Rattle.view.specs.Origin.{machine};
 ghost use Rattle.view.specs.ViewState.{IsExact, state_of};
 ghost use Rattle.node.specs.Told.{output_at, shown_tips};
@@ -9,6 +9,7 @@ use crate::answer::{Stamped, UnspentOutput};
 use crate::fault::Fault;
 use crate::node::Node;
 use crate::seat::Seat;
+use chain::Entry;
 use hash::Id;
 use std::alloc::Global;
 use tree::Tip;
@@ -37,9 +38,19 @@ fn tips(alloc: Global, view: &View) -> Result<Vec<Tip>, Memory>
     Ok(Vec::from_slice(alloc, view.tips())?)
 }
 
+/// The entries of a view after the first `from`, up to the one of number `to`.
+fn entries(alloc: Global, view: &View, from: u64, to: u64) -> Result<Vec<Entry>, Memory>
+    ensures { IfOk result (λ list. list.items ≡ drop from (take to view.now.journal)) }
+{
+    let journal = view.journal();
+    let to = to.min(journal.len() as u64) as usize;
+    let from = from.min(to as u64) as usize;
+    Ok(journal[from..to].to_vec(alloc)?)
+}
+
 impl<'t, J: Naming> Seat<'t, J> {
     ghost use Rattle.node.specs.Calls.{IsReadFault, IsClosedFault};
-    ghost use Rattle.node.specs.Pass.{IsLater, IsOwn, IsRead};
+    ghost use Rattle.node.specs.Pass.{IsLater, IsOwn, IsRead, IsListed};
 
     /// The output at an outpoint, if it isn't spent, after all that the seat has then seen (Bitcoin Core's
     /// `gettxout`).
@@ -107,6 +118,33 @@ impl<'t, J: Naming> Seat<'t, J> {
             return Err(Fault::Closed);
         };
         let value = tips(alloc, reading.get());
+        self.reader.leave(reading);
+        let value = value?;
+        let at = self.see(found);
+        Ok(Stamped { at, value })
+    }
+
+    /// The entries of the history after the first `from`, up to the one of number `to`, of all that the seat has then
+    /// seen. Blocks' bytes are shared, not copied.
+    ///
+    /// Seat and node are of one [`Node::open`](crate::Node::open).
+    #[tactic(auto, using(crate::proofs::Owning::own_begins))]
+    pub fn journal(
+        &mut self,
+        alloc: Global,
+        _node: &Node<'_, J>,
+        from: u64,
+        to: u64,
+    ) -> Result<Stamped<Vec<Entry>>, Fault>
+        ensures later { IsLater self.old self.new }
+        ensures answer { IfOk result (λ r. IsListed self.old self.new from to r.at r.value.items) }
+        ensures own { IsOwn self.new }
+        ensures fault { IfErr result (λ fault. IsReadFault self.old self.new fault) }
+    {
+        let Some((reading, found)) = self.reader.enter_from(&self.seen) else {
+            return Err(Fault::Closed);
+        };
+        let value = entries(alloc, reading.get(), from, to);
         self.reader.leave(reading);
         let value = value?;
         let at = self.see(found);

@@ -14,8 +14,9 @@ use crate::running::{run_clients, run_records};
 use crate::saving::{check_folder, save};
 use crate::text::{Text, read_definitions};
 use crate::writer::Writer;
+use block::SliceSource;
 use curve::Table;
-use journal::{Records, read_heights};
+use journal::{Records, read_heights, read_out};
 use node::{Entry, Gate, Naming, Node, Opening, Params};
 use picture::to_text;
 use scenario::{BLK, Client, Complaint, Definitions, Why, number_after, read_clients};
@@ -128,10 +129,8 @@ where
     };
     let checked = checked.and_then(|()| check_picture(rt, options.svg));
     if let (Err(_), Some(file)) = (&checked, blk) {
-        if Records::new(rt.alloc(), file.as_slice())
-            .read_out()
-            .is_err()
-        {
+        let mut records = Records::new(rt.alloc(), SliceSource::new(file.as_slice()));
+        if read_out(&mut records).is_err() {
             return Ok(());
         }
     }

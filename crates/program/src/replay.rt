@@ -4,7 +4,7 @@ use crate::fault::Fault;
 use crate::files::{read_file, read_table};
 use crate::options::Saved;
 use crate::saving::{SavedFiles, read_saved};
-use block::ReadFault;
+use block::{ReadFault, SliceSource};
 use curve::Table;
 use hash::Id;
 use journal::{Asked, Records, Step, read_heights, read_journal, read_records};
@@ -132,7 +132,7 @@ fn first_lines(text: &[u8], count: usize) -> &[u8] {
 
 /// So many records of a blk file, or all where it has fewer.
 fn first_records(alloc: Global, blk: &[u8], count: usize) -> Result<Vec<Vec<u8>>, Fault<'static>> {
-    let mut records = Records::new(alloc, blk);
+    let mut records = Records::new(alloc, SliceSource::new(blk));
     let mut first = Vec::new(alloc);
     for _ in 0..count {
         let Some(record) = records.next()? else {

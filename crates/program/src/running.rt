@@ -4,7 +4,8 @@ use crate::answer::Answer;
 use crate::clients::{Ended, answer, answer_record, ended_by};
 use crate::fault::Fault;
 use crate::writer::Writer;
-use journal::Records;
+use block::SliceSource;
+use journal::{Records, read_out};
 use node::{Naming, Node, Seat};
 use scenario::{BLK, Client, Definitions};
 use std::alloc::Global;
@@ -174,13 +175,13 @@ where
     E: Write,
     O: Write,
 {
-    let mut records = Records::new(rt.alloc(), file);
+    let mut records = Records::new(rt.alloc(), SliceSource::new(file));
     let written = match writer.client(BLK) {
         Ok(()) => submit_all(rt, node, &mut records, seat, writer),
         Err(fault) => Err(ended_by(&fault)),
     };
     if let Err(Ended::CannotWrite(_)) = written {
-        records.read_out()?;
+        read_out(&mut records)?;
     }
     Ok(written?)
 }

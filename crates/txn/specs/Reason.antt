@@ -1,5 +1,6 @@
--- The numbers of the reasons for which a block is refused.
-use Rattle.std.specs.Prelude.{ℕ}
+-- The reasons for which a block is refused: their numbers and their texts.
+use Rattle.std.specs.Prelude.{ℕ, List, ◌++◌, codes}
+use Rattle.std.specs.Fmt.{decimal}
 use Rattle.txn.specs.declared.reason.Reason.{Reason}
 use Rattle.txn.specs.declared.reason.Reason.TheVariants.{HighHash, BadMerkleRoot, DuplicateTransactions, BadBlockLength, CoinbaseMissing, CoinbaseMultiple, NoInputs, NoOutputs, OutputNegative, OutputTooLarge, OutputSumTooLarge, DuplicateInputs, CoinbaseLength, NullPrevout, TooManySigops, ParentNotFound, ParentInvalid, WrongBits, TimeTooOld, TimeTooNew, BadVersion, NonFinal, CoinbaseHeight, OverwritesCoin, InputsMissingOrSpent, PrematureCoinbaseSpend, InputsBelowOutputs, CoinbaseAmount, ScriptRefused}
 
@@ -35,3 +36,35 @@ number_of PrematureCoinbaseSpend = 26
 number_of InputsBelowOutputs = 27
 number_of CoinbaseAmount = 28
 number_of (ScriptRefused t i) = 29
+
+-- as it is printed: Bitcoin Core's text, but for those of BadVersion and ScriptRefused
+abbrev pub text_of : Reason → List ℕ
+text_of HighHash = codes "high-hash"
+text_of BadMerkleRoot = codes "bad-txnmrklroot"
+text_of DuplicateTransactions = codes "bad-txns-duplicate"
+text_of BadBlockLength = codes "bad-blk-length"
+text_of CoinbaseMissing = codes "bad-cb-missing"
+text_of CoinbaseMultiple = codes "bad-cb-multiple"
+text_of NoInputs = codes "bad-txns-vin-empty"
+text_of NoOutputs = codes "bad-txns-vout-empty"
+text_of OutputNegative = codes "bad-txns-vout-negative"
+text_of OutputTooLarge = codes "bad-txns-vout-toolarge"
+text_of OutputSumTooLarge = codes "bad-txns-txouttotal-toolarge"
+text_of DuplicateInputs = codes "bad-txns-inputs-duplicate"
+text_of CoinbaseLength = codes "bad-cb-length"
+text_of NullPrevout = codes "bad-txns-prevout-null"
+text_of TooManySigops = codes "bad-blk-sigops"
+text_of ParentNotFound = codes "prev-blk-not-found"
+text_of ParentInvalid = codes "bad-prevblk"
+text_of WrongBits = codes "bad-diffbits"
+text_of TimeTooOld = codes "time-too-old"
+text_of TimeTooNew = codes "time-too-new"
+text_of BadVersion = codes "bad-version"
+text_of NonFinal = codes "bad-txns-nonfinal"
+text_of CoinbaseHeight = codes "bad-cb-height"
+text_of OverwritesCoin = codes "bad-txns-BIP30"
+text_of InputsMissingOrSpent = codes "bad-txns-inputs-missingorspent"
+text_of PrematureCoinbaseSpend = codes "bad-txns-premature-spend-of-coinbase"
+text_of InputsBelowOutputs = codes "bad-txns-in-belowout"
+text_of CoinbaseAmount = codes "bad-cb-amount"
+text_of (ScriptRefused t i) = codes "blk-bad-inputs " ++ decimal t ++ codes ":" ++ decimal i

@@ -1,7 +1,7 @@
 //! Why a block is rejected.
 
-ghost use Rattle.std.specs.Prelude.{◌≡◌};
-ghost use Rattle.txn.specs.Reason.{number_of};
+ghost use Rattle.std.specs.Prelude.{◌≡◌, Some};
+ghost use Rattle.txn.specs.Reason.{number_of, text_of};
 
 use std::fmt;
 
@@ -109,6 +109,8 @@ impl Reason {
 }
 
 impl fmt::Display for Reason {
+    ghost output = { λ reason. Some (text_of reason) };
+
     fn fmt<W: fmt::Write>(&self, f: &mut fmt::Formatter<W>) -> fmt::Result {
         let text = match self {
             Reason::HighHash => "high-hash",

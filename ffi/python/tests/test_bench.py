@@ -5,9 +5,9 @@ import time
 import unittest
 
 from blocks import NOW, Maker, block_id, signed, spend, with_script
-from wakotehu import Bench, ReplayDiffers, errors
-from wakotehu.encoding import Input, Output, Transaction, push, read_block, signature_digest
-from wakotehu.signatures import Secp256k1, signed_codes
+from wakotehu import Bench, ReplayDiffers, consensus as c, errors
+from wakotehu.encoding import Input, Output, Transaction, push, read_block, signature_digest, write_transaction
+from wakotehu.signatures import Secp256k1
 
 SECP = Secp256k1()
 SECRETS = [bytes([number]) * 32 for number in (1, 2, 3)]
@@ -91,13 +91,48 @@ class BenchTest(unittest.TestCase):
         )
         self.assertEqual(bench.submit(block, NOW), "accepted")
 
-    def test_signatures_that_stand_in_the_code_are_taken_out(self):
-        one, two, three = (push(b"\x30" * 9 + bytes([number])) for number in (1, 2, 3))
-        names = [script[1:] for script in (one, two, three)]
-        code = one + two + three + b"\xae"
-        wanted = {two + three, two, three, b""}
-        self.assertEqual(signed_codes([code], names[0], names), {rest + b"\xae" for rest in wanted})
-        self.assertEqual(signed_codes([one + two], names[0], names), set())
+    def test_any_of_twenty_keys(self):
+        secrets = [bytes([number]) * 32 for number in range(1, 21)]
+        keys = [SECP.public_key(secret) for secret in secrets]
+        script = b"\x53" + b"".join(map(push, keys)) + b"\x01\x14\xae"
+        bench = self.mined(script)
+        tx = spend(self.coin(), 0, 5000000000, b"")
+        for signers, reply in (((0, 9, 19), "accepted"), ((9, 0, 19), "blk-bad-inputs 1:0")):
+            tip = bench.best()
+            pushed = signed(SECP, [secrets[place] for place in signers], tx, 0, script)
+            block = self.maker.block(tip, [with_script(tx, 0, *pushed, begins=b"\x00")], extra=bytes(signers))
+            self.assertEqual(bench.try_submit(block, NOW).text, reply)
+            bench.invalidate(block_id(block))
+
+    def test_only_what_is_asked_gets_into_the_table(self):
+        # A signature that is valid by a key that is dropped, and another that isn't tried.
+        script = push(KEYS[1]) + b"\x75" + pay_to_key(KEYS[0])
+        bench = self.mined(script)
+        tx = spend(self.coin(), 0, 5000000000, b"")
+        one, two = signed(SECP, SECRETS[:2], tx, 0, script)
+        block = self.maker.block(bench.best(), [with_script(tx, 0, two, one)])
+        self.assertEqual(bench.submit(block, NOW), "accepted")
+        self.assertEqual([line.split()[0] for line in bench.table.splitlines()], [KEYS[0].hex().encode()])
+
+    def test_a_thousand_inputs(self):
+        script = pay_to_key_hash(KEYS[0])
+        bench = self.mined(script)
+        outputs = [Output(4000000, script)] * 1000
+        tx = spend(self.coin(), 0, 5000000000, b"")._replace(outputs=outputs)
+        tx = with_script(tx, 0, *signed(SECP, SECRETS[:1], tx, 0, script), KEYS[0])
+        self.assertEqual(bench.submit(self.maker.block(bench.best(), [tx]), NOW), "accepted")
+        then = Transaction(1, [Input(tx.id, n, b"", 0xFFFFFFFF) for n in range(1000)], [Output(4000000000, script)], 0)
+        ready = write_transaction(then)
+        inputs = []
+        for n, spends in enumerate(then.inputs):
+            signature = SECP.sign(SECRETS[0], c.signature_digest(ready, n, script, 1)) + b"\x01"
+            inputs.append(spends._replace(script=push(signature) + push(KEYS[0])))
+        block = self.maker.block(bench.best(), [then._replace(inputs=inputs)])
+        begun = time.process_time()
+        self.assertEqual(bench.submit(block, NOW), "accepted")
+        spent = time.process_time() - begun
+        print(f"\na transaction of 1,000 inputs: {1000 * spent:.0f} ms of a processor, of a replay {1000 * bench.seconds:.0f}")
+        self.assertLess(spent, 2.0)
 
     def test_several_inputs_and_a_chain_within_a_block(self):
         script = pay_to_key(KEYS[0])

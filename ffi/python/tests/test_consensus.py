@@ -1,9 +1,11 @@
 """The rules as calls, beside python3-bitcoinlib on random inputs. SEED names another seed, COUNT how many inputs."""
 
 import doctest
+import hashlib
 import os
 import random
 import unittest
+from typing import Dict, List, Tuple
 
 import bitcoin
 from bitcoin.core import (
@@ -46,6 +48,39 @@ def opcodes(rng: random.Random) -> bytes:
         parts.append(bytes([number]) + said + rng.randbytes(length))
     whole = b"".join(parts)
     return whole[: rng.randrange(len(whole) + 1)] if rng.randrange(8) == 0 else whole
+
+
+def push(data: bytes) -> bytes:
+    assert len(data) < 256
+    return (b"\x4c" if len(data) > 75 else b"") + bytes([len(data)]) + data
+
+
+def signature_scripts(rng: random.Random) -> Tuple[bytes, bytes]:
+    """An input's script and one that it spends, with signatures of all hash types: CHECKSIG, or CHECKMULTISIG of up to 20
+    keys, some of them the same; behind code separators or none; by a script's hash or itself."""
+    def signature() -> bytes:
+        return bytes.fromhex("30060201") + bytes([rng.randrange(4)]) + b"\x02\x01\x01" + bytes([rng.randrange(256)])
+
+    def number(n: int) -> bytes:
+        return bytes([0x50 + n]) if 1 <= n <= 16 else push(bytes([n] if n else []))
+
+    keys = [b"\2" + bytes([rng.randrange(6)]) for _ in range(rng.randrange(1, 21))]
+    own, code = b"", b""
+    for _ in range(rng.randrange(1, 4)):
+        code += rng.choice((b"", b"", b"\xab"))
+        if rng.randrange(2):
+            own = rng.choice((push(signature()), push(signature()), b"\0")) + own
+            code += push(rng.choice(keys)) + rng.choice((b"\xad", b"\xac\x69", b"\xac\x91\x69", b"\xac\x75"))
+        else:
+            signatures = [signature() for _ in range(rng.randrange(min(len(keys), 4) + 1))]
+            own = b"\0" + b"".join(map(push, signatures)) + own
+            listed = keys if rng.randrange(2) else keys[: max(1, len(signatures))]
+            code += number(len(signatures)) + b"".join(map(push, listed)) + number(len(listed))
+            code += rng.choice((b"\xaf", b"\xae\x69", b"\xae\x91\x69", b"\xae\x75"))
+    code += b"\x51"
+    if len(code) < 256 and rng.randrange(2):
+        return own + push(code), b"\xa9\x14" + c.hash160(code) + b"\x87"
+    return own, code
 
 
 def setUpModule() -> None:
@@ -248,6 +283,60 @@ class BesideBitcoinlib(unittest.TestCase):
                 table.add(*triple)
                 self.assertEqual(c.verify(tx, 0, spent, table=table), expected, (SEED, kind))
             self.assertFalse(c.verify(tx, 0, spent))
+
+    def found_out(
+        self, tx: bytes, spent: bytes, salt: bytes, known: Dict[c.Triple, bool], rng: random.Random
+    ) -> Tuple[bool, Dict[c.Triple, bool]]:
+        """The verdict where what isn't known is found out one by one, and then known in any order; and all that is known
+        in the end. What is valid is said by a hash."""
+        while True:
+            lines: List[List[bytes]] = [[], []]
+            for triple in rng.sample(list(known), len(known)):
+                lines[known[triple]].append(triple.line)
+            found = c.verify_known(tx, 0, spent, valid=b"".join(lines[1]), invalid=b"".join(lines[0]))
+            if isinstance(found, bool):
+                return found, known
+            self.assertNotIn(found, known)
+            known[found] = hashlib.sha256(salt + b"".join(found)).digest()[0] < 100
+
+    def test_signatures_that_are_found_out_one_by_one(self) -> None:
+        """The verdict is that of the table of all that turned out valid, whatever was known before."""
+        rng = random.Random(SEED + 9)
+        asked, most, accepted = 0, 0, 0
+        for n in range(max(COUNT // 20, 100)):
+            own, spent = signature_scripts(rng)
+            tx = CTransaction(
+                [CTxIn(COutPoint(b"\7" * 32, 0), CScript(own)), CTxIn(COutPoint(b"\7" * 32, 1), CScript(b""))],
+                [CTxOut(1, CScript(b""))],
+            ).serialize()
+            salt = rng.randbytes(4)
+            expected, known = self.found_out(tx, spent, salt, {}, rng)
+            table = c.Table(b"".join(triple.line for triple, valid in known.items() if valid))
+            self.assertEqual(c.verify(tx, 0, spent, table=table), expected, (SEED, n))
+            asked, most, accepted = asked + len(known), max(most, len(known)), accepted + expected
+            # Some are known from the start, and others that nobody asks for.
+            before = {triple: known[triple] for triple in rng.sample(list(known), rng.randrange(len(known) + 1))}
+            nobody = {triple._replace(digest=rng.randbytes(32)): rng.random() < 0.5 for triple in known}
+            again, _ = self.found_out(tx, spent, salt, {**before, **nobody}, rng)
+            self.assertEqual(again, expected, (SEED, n))
+            self.assertEqual(c.verify(tx, 0, spent, table=table), expected, (SEED, n))
+        print(f"{asked} signatures were asked for, {most} by one input at most; {accepted} inputs were accepted")
+        self.assertGreater(most, 10)
+        self.assertTrue(COUNT // 100 < accepted < COUNT // 20)
+
+    def test_what_is_known_is_refused_where_it_contradicts_itself(self) -> None:
+        raw = CTransaction([CTxIn()], [CTxOut()]).serialize()
+        line = c.Triple(b"\2", b"\x30", bytes(32)).line
+        for valid, invalid in ((line, line), (b"# a\n" + line * 2, b"02 30 " + b"1" * 64 + b"\n" + line)):
+            with self.assertRaises(c.Refused) as caught:
+                c.verify_known(raw, 0, b"\x51", valid=valid, invalid=invalid)
+            self.assertEqual(caught.exception.fault, "contradiction")
+        for valid, invalid, number in ((b"\n00", b"", 2), (line, b"\n\n00", 3)):
+            with self.assertRaises(BadTable) as bad:
+                c.verify_known(raw, 0, b"\x51", valid=valid, invalid=invalid)
+            self.assertEqual(bad.exception.line, number)
+        with self.assertRaises(c.Refused):
+            c.verify_known(raw, 1, b"\x51")
 
 
 class Document(unittest.TestCase):

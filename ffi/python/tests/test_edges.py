@@ -232,10 +232,10 @@ class InterruptedTest(unittest.TestCase):
 
 
 class ScreenTest(unittest.TestCase):
-    """The rules that take no signature are looked at before signatures are gathered."""
+    """The rules that take no script are looked at before scripts are run, and scripts ask for what they come to alone."""
 
     def block(self, work=True):
-        """A block whose gathering takes long: many signatures in one script."""
+        """A block of 2 KB with many signatures, keys and code separators in one script."""
         maker = Maker(b"\x51")
         blocks = maker.chain(101)
         coin = maker.coinbases[block_id(blocks[0])].id
@@ -251,7 +251,7 @@ class ScreenTest(unittest.TestCase):
             header = header._replace(nonce=header.nonce + 1)
         return blocks, write_block(Block(header, read.transactions))
 
-    def test_no_signature_is_gathered_for_a_block_without_work(self):
+    def test_no_script_is_run_for_a_block_without_work(self):
         blocks, block = self.block(work=False)
         with Bench() as bench:
             for one in blocks:
@@ -264,7 +264,20 @@ class ScreenTest(unittest.TestCase):
             for bad, now, reason in wrong:
                 begun = time.perf_counter()
                 self.assertEqual(bench.try_submit(bad, now).text, reason)
-                self.assertLess(time.perf_counter() - begun, 0.5)
+                spent = time.perf_counter() - begun
+                print(f"\n{len(bad)} bytes, {reason}: {1000 * spent:.2f} ms")
+                self.assertLess(spent, 0.1)
+
+    def test_signatures_that_nobody_asks_for_cost_nothing(self):
+        blocks, block = self.block()
+        with Bench() as bench:
+            for one in blocks:
+                bench.submit(one, NOW)
+            begun = time.perf_counter()
+            self.assertEqual(bench.try_submit(block, NOW).text, "blk-bad-inputs 1:0")
+            spent = time.perf_counter() - begun
+            print(f"\n{len(block)} bytes with work: {1000 * spent:.2f} ms")
+            self.assertLess(spent, 0.5)
 
 
 if __name__ == "__main__":

@@ -4,12 +4,12 @@ import random
 import unittest
 
 from bitcoin.core import CBlock, CTransaction, CMutableTransaction
-from bitcoin.core.script import CScript, FindAndDelete, RawSignatureHash
+from bitcoin.core.script import CScript, RawSignatureHash
 
 from blocks import Maker
 from wakotehu.encoding import (
-    GENESIS, EncodingError, Input, Output, Transaction, merkle_root, push, pushes, read_block, read_transaction,
-    signature_digest, without, write_transaction,
+    GENESIS, EncodingError, Input, Output, Transaction, merkle_root, push, read_block, read_transaction,
+    signature_digest, write_transaction,
 )  # fmt: skip
 from wakotehu.signatures import read_signature
 
@@ -58,15 +58,6 @@ class EncodingTest(unittest.TestCase):
             other = CMutableTransaction.from_tx(CTransaction.deserialize(write_transaction(tx)))
             wanted, _ = RawSignatureHash(CScript(code), other, input, kind)
             self.assertEqual(signature_digest(tx, input, code, kind), wanted)
-
-    def test_pieces_are_removed(self):
-        for _ in range(300):
-            data = self.chance.randbytes(9)
-            script = b"".join(
-                self.chance.choice([push(data), b"\x51", b"\xab", push(self.chance.randbytes(3))]) for _ in range(8)
-            )
-            self.assertEqual(without(script, push(data)), FindAndDelete(CScript(script), CScript(push(data))))
-        self.assertEqual(pushes(push(b"ab") + b"\x51" + push(b"c" * 100) + b"\x4d\xff"), [b"ab", b"c" * 100])
 
     def test_signatures_are_read_leniently(self):
         def number(value, wide):

@@ -2,14 +2,14 @@
 
 import time
 from types import TracebackType
-from typing import Dict, List, NamedTuple, NoReturn, Optional, Sequence, Set, Tuple, Type, Union
+from typing import Dict, FrozenSet, List, NamedTuple, NoReturn, Optional, Sequence, Set, Tuple, Type, Union
 
-from . import errors
+from . import consensus, errors
 from .chainstate import REGTEST, Chainstate, Coin, Reply, Tip, read_heights
+from .consensus import Triple
 from .encoding import EncodingError, Output, Spelled, Transaction, block_at_front, double_sha, read_transaction
 from .index import Index
-from .screen import may_be_kept
-from .signatures import Secp256k1, Triple, asked
+from .signatures import Found
 
 
 class Entry(NamedTuple):
@@ -24,13 +24,14 @@ class Entry(NamedTuple):
 class Bench:
     """A chainstate whose table has the real signatures that the submitted blocks bring.
 
-    The chainstate judges by a table that never changes under it. Before a block is submitted, triples that the scripts
-    of its inputs can ask for are gathered (`signatures.asked` says which), and libsecp256k1 says which of them are
-    valid. Where the table lacks one, a new chainstate is opened with the larger table and the journal is replayed; a
-    reply that differs from the one that was given raises `ReplayDiffers`. So a block with new signatures costs a replay
-    of all commands. Where a replay fails, nothing has changed.
+    Before a block is submitted its scripts are run, by proved code, over what is known of signatures. Where they come to
+    one of which nothing is known, libsecp256k1 says whether it is valid, and they are run again. The chainstate judges by
+    a table that never changes under it: where it lacks a valid triple that was asked for, a new chainstate is opened
+    with the larger table and the journal is replayed; a reply that differs from the one that was given raises
+    `ReplayDiffers`. So a block with new signatures costs a replay of all commands. Where a replay fails, nothing has
+    changed.
 
-    Of a block that breaks a rule by itself or by its place no signature is gathered, and nothing is kept.
+    Of a block that breaks a rule by itself or by its place no script is run, and nothing is kept.
 
     It has the calls of `Chainstate`, and walks over blocks: `parent`, `branch`, `is_kept`.
     """
@@ -44,7 +45,7 @@ class Bench:
         self.replays = 0
         self.seconds = 0.0
         self.index = Index()
-        self._secp = Secp256k1()
+        self._found = Found()
         self._valid: Set[Triple] = set()
         self.chain = Chainstate(self.heights, self.table)
 
@@ -82,8 +83,8 @@ class Bench:
     def try_submit_spelled(self, spelled: Spelled, now: int) -> Reply:
         """The same of a block that was read already."""
         id = double_sha(spelled.data[:80])
-        # Of a coinbase alone there is no signature to gather.
-        if len(spelled.ids) > 1 and may_be_kept(id, spelled, self.index, now):
+        # A coinbase alone asks for no signature.
+        if len(spelled.ids) > 1 and self._may_be_kept(id, spelled, now):
             self._learn(spelled)
         reply = self.chain.try_submit(spelled.data, now)
         if id not in self.index.blocks and self.chain.is_kept(id):
@@ -170,13 +171,25 @@ class Bench:
 
     # ---- signatures
 
+    def _may_be_kept(self, id: bytes, spelled: Spelled, now: int) -> bool:
+        """Whether a block of this id isn't kept yet, and breaks no rule by itself or by its place."""
+        parent = self.index.blocks.get(spelled.block.header.parent)
+        if parent is None or id in self.index.blocks:
+            return False
+        try:
+            alone = consensus.block(spelled.data).reason
+        except consensus.Refused:
+            return False
+        height, median = parent.height + 1, parent.median
+        return not alone and not consensus.block_place(spelled.data, height, median, now, self.heights)
+
     def _learn(self, spelled: Spelled) -> None:
         """Gets the valid signatures of a block into the table, by a replay where it lacks one."""
         found = self._new_triples(spelled)
         if not found:
             return
         between = b"" if not self.table or self.table.endswith(b"\n") else b"\n"
-        table = self.table + between + "".join(sorted(triple.line for triple in found)).encode()
+        table = self.table + between + b"".join(sorted(triple.line for triple in found))
         begun = time.perf_counter()
         chain, old = self._replayed(table), self.chain
         # From here on nothing fails.
@@ -186,21 +199,27 @@ class Bench:
         old.close()
 
     def _new_triples(self, spelled: Spelled) -> Set[Triple]:
-        """All valid triples of a block that the table lacks."""
-        made: Dict[bytes, Transaction] = {}
+        """The valid triples that the scripts of a block ask for, and that the table lacks."""
+        spent: Dict[bytes, Optional[Transaction]] = {}
         found: Set[Triple] = set()
-        refused: Set[Triple] = set()
-        for id, tx in zip(spelled.ids, spelled.block.transactions):
+        flags = self._flags(self.index.blocks[spelled.block.header.parent].height + 1)
+        for id, tx, (begin, end) in zip(spelled.ids, spelled.block.transactions, spelled.places):
+            data = spelled.data[begin:end]
             for place, spends in enumerate(tx.inputs):
-                spent = made.get(spends.id) or self.transaction(spends.id)
-                if spent is None or spends.index >= len(spent.outputs):
-                    continue
-                new = asked(tx, place, spent.outputs[spends.index].script) - self._valid - found - refused
-                valid = {triple for triple in new if self._secp.valid(triple)}
-                found |= valid
-                refused |= new - valid
-            made[id] = tx
-        return found
+                if spends.id not in spent:
+                    spent[spends.id] = self.transaction(spends.id)
+                made = spent[spends.id]
+                if made is not None and spends.index < len(made.outputs):
+                    script = made.outputs[spends.index].script
+                    found |= self._found.find_out(data, place, spends.script, script, flags)
+            spent[id] = tx
+        return found - self._valid
+
+    def _flags(self, height: int) -> FrozenSet[str]:
+        """The rules of scripts that are in force at a height."""
+        _, bip65, bip66, csv = self.heights
+        since = {"DERSIG": bip66, "CLTV": bip65, "CSV": csv}
+        return frozenset(name for name, first in since.items() if height >= first)
 
     def _replayed(self, table: bytes) -> Chainstate:
         """A new chainstate of this table that took all commands of the journal."""

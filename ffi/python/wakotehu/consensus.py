@@ -7,7 +7,7 @@ them into text and back. What can't be read raises `Refused`, whose `fault` name
 import ctypes
 from ctypes import POINTER, c_char_p, c_int, c_int64, c_size_t, c_uint8, c_uint32, c_uint64
 from dataclasses import dataclass
-from typing import Any, Callable, Iterable, Iterator, List, Optional, Sequence, Tuple, Union
+from typing import Any, Callable, Iterable, Iterator, List, NamedTuple, Optional, Sequence, Tuple, Union
 
 from .errors import REASONS, BadTable, Error
 from .library import Heights, library
@@ -15,8 +15,10 @@ from .library import Heights, library
 #: Why bytes are refused, by the numbers of the codes.
 FAULTS = {
     20: "short", 21: "long form", 22: "too large", 23: "extra", 24: "no such input", 25: "mismatch",
-    26: "foreign", 27: "cut", 28: "too long",
+    26: "foreign", 27: "cut", 28: "too long", 30: "contradiction",
 }  # fmt: skip
+#: How many bytes the line of a signature that scripts ask for has at most.
+_MOST_ASKED = 2145
 #: All rules of scripts that came by soft forks.
 ALL = frozenset({"DERSIG", "CLTV", "CSV"})
 
@@ -101,6 +103,10 @@ _CALLS = {
     "strict_signature": _BYTES + _YES,
     "signature_digest": _BYTES + [c_uint64] + _BYTES + [c_uint32, c_char_p],
     "verify": _BYTES + [c_uint64] + _BYTES + [POINTER(_Flags)] + _BYTES + [POINTER(c_uint64)] + _YES,
+    "verify_known": (
+        _BYTES + [c_uint64] + _BYTES + [POINTER(_Flags)] + _BYTES * 2 + [POINTER(c_uint64)] + _YES + _BYTES
+        + [POINTER(c_uint64)]
+    ),
     "table_read": _BYTES + [POINTER(c_uint64)],
     "table_has": _BYTES * 3 + [c_char_p, POINTER(c_uint64)] + _YES,
     "table_add": _BYTES + [POINTER(c_size_t)] + _BYTES * 2 + [c_char_p],
@@ -427,6 +433,25 @@ def signature_digest(data: bytes, input: int, code: bytes, kind: int) -> bytes:
     return found.raw
 
 
+class Triple(NamedTuple):
+    """A key, a signature without its hash type, and a digest."""
+
+    key: bytes
+    signature: bytes
+    digest: bytes
+
+    @property
+    def line(self) -> bytes:
+        """Its line in the text of a table."""
+        words = (self.key.hex() or "-", self.signature.hex() or "-", self.digest.hex())
+        return " ".join(words).encode() + b"\n"
+
+    @classmethod
+    def of_line(cls, line: bytes) -> "Triple":
+        """The triple of such a line."""
+        return cls(*(bytes.fromhex("" if word == "-" else word) for word in line.decode().split()))
+
+
 class Table:
     """A table of valid signatures: triples of a key, a signature without its hash type, and the digest that it signs.
 
@@ -463,16 +488,39 @@ def verify(
 ) -> bool:
     """Whether an input of a transaction may spend a script under some of "DERSIG", "CLTV" and "CSV". The table has the
     signatures that are valid; its text is read by each call."""
+    line, yes = c_uint64(), c_uint32()
+    asked = (*_sized(data), _word(input, 64), *_sized(spent), _forced(flags))
+    if _call("verify", *asked, *_sized(_text(table)), line, yes) == 3:
+        raise BadTable(line.value)
+    return bool(yes.value)
+
+
+def verify_known(
+    data: bytes, input: int, spent: bytes, flags: Iterable[str] = ALL,
+    valid: Union[str, bytes, Table] = b"", invalid: Union[str, bytes, Table] = b"",
+) -> Union[bool, Triple]:  # fmt: skip
+    """The same where the signatures of one table are valid, those of another aren't, and of all others nothing is known:
+    the verdict, whatever else is valid; or a triple that the scripts come to, and of which nothing is known. A triple in
+    both tables raises `Refused`."""
+    line, yes, needed = c_uint64(), c_uint32(), c_uint64()
+    room = ctypes.create_string_buffer(_MOST_ASKED)
+    asked = (*_sized(data), _word(input, 64), *_sized(spent), _forced(flags))
+    tables = (*_sized(_text(valid)), *_sized(_text(invalid)))
+    code = _call("verify_known", *asked, *tables, line, yes, room, _MOST_ASKED, needed)
+    if code == 3:
+        raise BadTable(line.value)
+    return Triple.of_line(room.raw[: needed.value]) if code == 29 else bool(yes.value)
+
+
+def _forced(flags: Iterable[str]) -> _Flags:
     names = set(flags)
     if not names <= ALL:
         raise ValueError(f"no such flags: {sorted(names - ALL)}")
-    forced = _Flags(*(int(name in names) for name in ("DERSIG", "CLTV", "CSV")))
-    text = table.text if isinstance(table, Table) else table.encode() if isinstance(table, str) else table
-    line, yes = c_uint64(), c_uint32()
-    code = _call("verify", *_sized(data), _word(input, 64), *_sized(spent), forced, *_sized(text), line, yes)
-    if code == 3:
-        raise BadTable(line.value)
-    return bool(yes.value)
+    return _Flags(*(int(name in names) for name in ("DERSIG", "CLTV", "CSV")))
+
+
+def _text(table: Union[str, bytes, Table]) -> bytes:
+    return table.text if isinstance(table, Table) else table.encode() if isinstance(table, str) else table
 
 
 # ---- hashes

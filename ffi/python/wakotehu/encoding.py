@@ -7,7 +7,7 @@ import hashlib
 import struct
 from typing import Iterable, List, NamedTuple, Optional, Sequence, Tuple
 
-OP_CODESEPARATOR, OP_CHECKSIG, OP_CHECKMULTISIGVERIFY = 0xAB, 0xAC, 0xAF
+OP_CODESEPARATOR = 0xAB
 
 
 class EncodingError(ValueError):
@@ -276,26 +276,6 @@ def operations(script: bytes) -> Iterable[Tuple[int, int, Optional[bytes], int]]
         at += count
 
 
-def pushes(script: bytes) -> List[bytes]:
-    """All that a script pushes as bytes, up to where it can't be read on."""
-    return [data for _, _, data, _ in operations(script) if data is not None]
-
-
-def without(script: bytes, removed: bytes) -> bytes:
-    """A script without each operation's place at which these bytes stand (Bitcoin Core's `FindAndDelete`)."""
-    if not removed:
-        return script
-    kept, at, ends = b"", 0, [0] + [end for _, _, _, end in operations(script)]
-    for end in ends:
-        if end < at:
-            continue
-        kept += script[at:end]
-        at = end
-        while script[at : at + len(removed)] == removed:
-            at += len(removed)
-    return kept + script[at:]
-
-
 def without_separators(script: bytes) -> bytes:
     kept, last = b"", 0
     for begin, number, _, end in operations(script):
@@ -303,10 +283,6 @@ def without_separators(script: bytes) -> bytes:
             kept += script[begin:end]
         last = end
     return kept + script[last:]
-
-
-def is_p2sh(script: bytes) -> bool:
-    return len(script) == 23 and script[:2] == b"\xa9\x14" and script[22:] == b"\x87"
 
 
 def signature_digest(tx: Transaction, input: int, code: bytes, kind: int) -> bytes:

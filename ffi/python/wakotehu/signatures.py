@@ -1,75 +1,10 @@
-"""Real signatures: which triples of key, signature and digest the scripts of an input may ask for, and which of them
-are valid, by libsecp256k1."""
+"""Real signatures: which of them are valid, by libsecp256k1, and what the scripts of an input come to by it."""
 
 import ctypes
 import ctypes.util
-from itertools import chain, combinations
-from typing import Iterator, NamedTuple, Optional, Sequence, Set, Tuple
+from typing import Dict, FrozenSet, Optional, Tuple
 
-from .encoding import (
-    OP_CHECKMULTISIGVERIFY, OP_CHECKSIG, OP_CODESEPARATOR, Transaction, is_p2sh, operations, push, pushes,
-    signature_digest, without,
-)  # fmt: skip
-
-
-class Triple(NamedTuple):
-    """A key, a signature without its hash type, and a digest, as in the table."""
-
-    key: bytes
-    signature: bytes
-    digest: bytes
-
-    @property
-    def line(self) -> str:
-        return f"{self.key.hex() or '-'} {self.signature.hex() or '-'} {self.digest.hex()}\n"
-
-
-def _codes(script: bytes) -> Iterator[bytes]:
-    """What a signature may sign of a script: all of it, or what follows a code separator. Nothing of a script that
-    checks no signature."""
-    found = list(operations(script))
-    if any(OP_CHECKSIG <= number <= OP_CHECKMULTISIGVERIFY for _, number, _, _ in found):
-        yield script
-        yield from (script[end:] for _, number, _, end in found if number == OP_CODESEPARATOR)
-
-
-def asked(tx: Transaction, input: int, spent: bytes) -> Set[Triple]:
-    """All triples that the scripts of an input can ask for, and more.
-
-    A key or a signature is pushed by the input's script, by the spent one or by the one that is its preimage: no other
-    operation leaves bytes that can be either, but for hashes, of which none is known that reads as a signature. What is
-    signed is one of those scripts from its begin or a code separator on, without that signature, and without those that
-    are checked in one call with it. A triple too many does no harm: it gets into the table only if it is valid.
-    """
-    own = tx.inputs[input].script
-    scripts = [own, spent]
-    if is_p2sh(spent):
-        scripts += pushes(own)[-1:]
-    found = {data for script in scripts for data in pushes(script)}
-    keys = [data for data in found if len(data) in (33, 65)]
-    signatures = sorted(data for data in found if 9 <= len(data) <= 520 and data[0] == 0x30)
-    triples: Set[Triple] = set()
-    for signature in signatures:
-        for code in signed_codes(scripts, signature, signatures):
-            digest = signature_digest(tx, input, code, signature[-1])
-            triples.update(Triple(key, signature[:-1], digest) for key in keys)
-    return triples
-
-
-def signed_codes(scripts: Sequence[bytes], signature: bytes, signatures: Sequence[bytes]) -> Set[bytes]:
-    """What a signature may sign of scripts: without itself, and without any of the others that stand there. Where more
-    than eight others stand in one code, none of them is taken out, or all are."""
-    codes = set()
-    for code in chain.from_iterable(map(_codes, scripts)):
-        alone = without(code, push(signature))
-        there = [other for other in signatures if without(alone, push(other)) != alone]
-        counts = range(len(there) + 1) if len(there) <= 8 else (0, len(there))
-        for others in chain.from_iterable(combinations(there, count) for count in counts):
-            rest = alone
-            for other in others:
-                rest = without(rest, push(other))
-            codes.add(rest)
-    return codes
+from .consensus import Triple, p2sh_sigops, script, verify_known
 
 
 class Secp256k1:
@@ -120,6 +55,37 @@ class Secp256k1:
             raise ValueError("no secret")
         self._library.secp256k1_ecdsa_signature_serialize_der(self._context, out, ctypes.byref(length), signature)
         return out.raw[: length.value]
+
+
+class Found:
+    """The verdicts of libsecp256k1 on the triples that scripts asked for so far."""
+
+    def __init__(self) -> None:
+        self.verdicts: Dict[Triple, bool] = {}
+        self._secp = Secp256k1()
+
+    def valid(self, triple: Triple) -> bool:
+        """Whether a triple is valid."""
+        if triple not in self.verdicts:
+            self.verdicts[triple] = self._secp.valid(triple)
+        return self.verdicts[triple]
+
+    def find_out(self, data: bytes, input: int, own: bytes, spent: bytes, flags: FrozenSet[str]) -> FrozenSet[Triple]:
+        """The valid triples that the scripts of an input ask for, one after the other; `own` is its own script.
+
+        Each signature operation asks for at most one, so where all of them have asked the scripts aren't run again."""
+        most = script(own).accurate + script(spent).accurate + p2sh_sigops(own, spent)
+        valid, invalid, yes = b"", b"", set()
+        for _ in range(most):
+            triple = verify_known(data, input, spent, flags, valid, invalid)
+            if isinstance(triple, bool):
+                break
+            if self.valid(triple):
+                valid += triple.line
+                yes.add(triple)
+            else:
+                invalid += triple.line
+        return frozenset(yes)
 
 
 def read_signature(data: bytes) -> Optional[Tuple[int, int]]:

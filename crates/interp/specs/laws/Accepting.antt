@@ -55,7 +55,7 @@ ran-sound p script stack end small whole e =
       left = over.1;
     }
 
-outcome-sound : (p : Spending) (script : List ℕ) (stack end : Stack) → outcome p script stack ≡ Some end → Run p script stack end
+pub outcome-sound : (p : Spending) (script : List ℕ) (stack end : Stack) → outcome p script stack ≡ Some end → Run p script stack end
 outcome-sound p script stack end e =
     ⊎_elim (λ long. let f = outcome-long p script stack long in let no : None ≡ Some end = sym f ∙ e in cc)
     (λ small. whole-by small (is_whole script) refl) (cases_lt 10000 (length script))
@@ -75,7 +75,7 @@ ends-by p script stack None is e = cc
 ends-by p script stack (Some []) is e = cc
 ends-by p script stack (Some (a ∷ others)) is e = (a ∷ others, outcome-sound p script stack (a ∷ others) is, (a, others, refl, e))
 
-ends-sound : (p : Spending) (script : List ℕ) (stack : Stack) → ends_true (outcome p script stack) ≡ true → RunsToTrue p script stack
+pub ends-sound : (p : Spending) (script : List ℕ) (stack : Stack) → ends_true (outcome p script stack) ≡ true → RunsToTrue p script stack
 unfolding ends_true
 ends-sound p script stack e = ends-by p script stack (outcome p script stack) refl e
 

@@ -18,11 +18,13 @@ use Rattle.interp.specs.State.{State}
 use Rattle.interp.specs.Signatures.{signed_code, is_valid, MayBeTried, Tries}
 use Rattle.interp.specs.computed.Signatures.{may_be_tried, pair_verdict, pairs_verdict}
 use Rattle.interp.specs.computed.Step.{sig_answer, after_sig, many, keys_in, signatures_in, counts_of, multisig_answer, after_multisig, after_checking_multisig}
-use Rattle.interp.specs.Rules.{IsNumber, ChecksOne, ChecksMany}
+use Rattle.interp.specs.Rules.{IsNumber, ChecksOne, TakesMany, ChecksMany}
+use Rattle.curve.specs.Triple.{Triple}
+use Rattle.interp.specs.Asking.{TryingAsks, MultisigAsks}
 use Rattle.interp.specs.laws.Affecting.{then-some, map-some, natural-sound, natural-again, two-sound}
 
 -- ---- a pair
-may-sound : (flags : Flags) (signature : Bytes) → may_be_tried flags signature ≡ true → MayBeTried flags signature
+pub may-sound : (flags : Flags) (signature : Bytes) → may_be_tried flags signature ≡ true → MayBeTried flags signature
 unfolding may_be_tried
 may-sound flags signature e = λ asked. strict-sound signature (rw asked at e)
 
@@ -212,6 +214,40 @@ lies-by n m nb others main is e there =
     (lying n m nb h.0 others h.1 (drop m h.1) (omega (arith, length-drop n others)) cut h.3 h.4 (omega (arith, length-drop n others)) refl (omega (arith, length-drop n others, length-drop m h.1)))
 
 -- ---- CHECKMULTISIG
+-- what it takes, where it finds so many keys and signatures
+pub record Takes (s : State) (n m : ℕ) : Type 0 where
+  pub taken : TakesMany s
+  pub keys_are : keys_in n s.main ≡ taken.keys
+  pub signatures_are : signatures_in n m s.main ≡ taken.signatures
+  pub left : drop (n + m + 3) s.main ≡ taken.below
+  pub many_keys : length taken.keys ≡ n
+
+pub takes-sound : (s : State) (n m : ℕ) → counts_of s ≡ Some (n, m) → Takes s n m
+takes-sound s n m e =
+    let k = counts-sound s n m e in
+    let top = many-sound 20 s.main n k.0 in
+    let l = lies-by n m top.0 top.1 s.main top.2 k.1 k.2 in
+    record {
+      taken = record {
+        keys = l.keys;
+        signatures = l.signatures;
+        n = top.0;
+        m = l.mb;
+        extra = l.extra;
+        below = l.below;
+        before = l.lies;
+        n_is = subst (λ (j : ℕ). IsNumber 4 top.0 (pos j)) (sym l.many_keys) top.3;
+        m_is = subst (λ (j : ℕ). IsNumber 4 l.mb (pos j)) (sym l.many_signatures) l.m_is;
+        few_keys = omega (arith, top.4, l.many_keys);
+        no_more = omega (arith, l.no_more, l.many_keys, l.many_signatures);
+        few_ops = omega (arith, k.3, l.many_keys);
+      };
+      keys_are = ap (keys_in n) l.lies ∙ ap (λ j. keys_in j (layout top.0 l.keys l.mb l.signatures l.extra l.below)) (sym l.many_keys) ∙ at-keys top.0 l.mb l.extra l.keys l.signatures l.below;
+      signatures_are = ap (signatures_in n m) l.lies ∙ cc (l.many_keys, l.many_signatures, at-signatures top.0 l.mb l.extra l.keys l.signatures l.below);
+      left = ap (drop (n + m + 3)) l.lies ∙ ap (λ j. drop (j + m + 3) (layout top.0 l.keys l.mb l.signatures l.extra l.below)) (sym l.many_keys) ∙ ap (λ j. drop (length l.keys + j + 3) (layout top.0 l.keys l.mb l.signatures l.extra l.below)) (sym l.many_signatures) ∙ at-end top.0 l.mb l.extra l.keys l.signatures l.below;
+      many_keys = l.many_keys;
+    }
+
 pub multisig-sound : (p : Spending) (s t : State) → after_checking_multisig p s ≡ Some t → ChecksMany p s t
 unfolding after_checking_multisig
 multisig-sound p s t e =
@@ -219,36 +255,30 @@ multisig-sound p s t e =
     let g = then-some (multisig_answer p s.code s.main h.0) (λ valid. Some (after_multisig s h.0 valid)) t h.2 in
     let n = h.0.0 in
     let m = h.0.1 in
-    let k = counts-sound s n m h.1 in
-    let top = many-sound 20 s.main n k.0 in
-    let l = lies-by n m top.0 top.1 s.main top.2 k.1 k.2 in
-    let keys_are : keys_in n s.main ≡ l.keys = ap (keys_in n) l.lies ∙ ap (λ j. keys_in j (layout top.0 l.keys l.mb l.signatures l.extra l.below)) (sym l.many_keys) ∙ at-keys top.0 l.mb l.extra l.keys l.signatures l.below in
-    let signatures_are : signatures_in n m s.main ≡ l.signatures = ap (signatures_in n m) l.lies ∙ cc (l.many_keys, l.many_signatures, at-signatures top.0 l.mb l.extra l.keys l.signatures l.below) in
-    let left : drop (n + m + 3) s.main ≡ l.below = ap (drop (n + m + 3)) l.lies ∙ ap (λ j. drop (j + m + 3) (layout top.0 l.keys l.mb l.signatures l.extra l.below)) (sym l.many_keys) ∙ ap (λ j. drop (length l.keys + j + 3) (layout top.0 l.keys l.mb l.signatures l.extra l.below)) (sym l.many_signatures) ∙ at-end top.0 l.mb l.extra l.keys l.signatures l.below in
-    let answered : pairs_verdict p (signed_code s.code l.signatures) l.signatures l.keys ≡ Some g.0 =
-    sym (ap (λ ks. pairs_verdict p (signed_code s.code (signatures_in n m s.main)) (signatures_in n m s.main) ks) keys_are ∙ ap (λ ss. pairs_verdict p (signed_code s.code ss) ss l.keys) signatures_are) ∙ g.1 in
+    let l = takes-sound s n m h.1 in
+    let answered : pairs_verdict p (signed_code s.code l.taken.signatures) l.taken.signatures l.taken.keys ≡ Some g.0 =
+    sym (ap (λ ks. pairs_verdict p (signed_code s.code (signatures_in n m s.main)) (signatures_in n m s.main) ks) l.keys_are ∙ ap (λ ss. pairs_verdict p (signed_code s.code ss) ss l.taken.keys) l.signatures_are) ∙ g.1 in
     let ended : t ≡ after_multisig s h.0 g.0 = sym (cc (g.2)) in
     record {
-      keys = l.keys;
-      signatures = l.signatures;
-      n = top.0;
-      m = l.mb;
-      extra = l.extra;
-      below = l.below;
-      before = l.lies;
-      n_is = subst (λ (j : ℕ). IsNumber 4 top.0 (pos j)) (sym l.many_keys) top.3;
-      m_is = subst (λ (j : ℕ). IsNumber 4 l.mb (pos j)) (sym l.many_signatures) l.m_is;
-      few_keys = omega (arith, top.4, l.many_keys);
-      no_more = omega (arith, l.no_more, l.many_keys, l.many_signatures);
-      few_ops = omega (arith, k.3, l.many_keys);
+      taken = l.taken;
       answer = g.0;
-      tries = tried-sound p (signed_code s.code l.signatures) l.signatures l.keys g.0 answered;
-      after = ended ∙ ap (λ main. record s { main = truth_bytes g.0 ∷ main; count = s.count + n }) left ∙ ap (λ j. record s { main = truth_bytes g.0 ∷ l.below; count = s.count + j }) (sym l.many_keys);
+      tries = tried-sound p (signed_code s.code l.taken.signatures) l.taken.signatures l.taken.keys g.0 answered;
+      after = ended ∙ ap (λ main. record s { main = truth_bytes g.0 ∷ main; count = s.count + n }) l.left ∙ ap (λ j. record s { main = truth_bytes g.0 ∷ l.taken.below; count = s.count + j }) (sym l.many_keys);
     }
+
+pub multisig-asks : (p : Spending) (s : State) (n m : ℕ) (t : Triple) → counts_of s ≡ Some (n, m)
+    → TryingAsks p (signed_code s.code (signatures_in n m s.main)) (signatures_in n m s.main) (keys_in n s.main) t → MultisigAsks p s t
+multisig-asks p s n m t e asks =
+    let l = takes-sound s n m e in (
+      l.taken,
+      subst (λ (keys : List Bytes). TryingAsks p (signed_code s.code l.taken.signatures) l.taken.signatures keys t) l.keys_are
+          (subst (λ (signatures : List Bytes). TryingAsks p (signed_code s.code signatures) signatures (keys_in n s.main) t) l.signatures_are asks),
+    )
 
 pub multisig-again : (p : Spending) (s t : State) → ChecksMany p s t → after_checking_multisig p s ≡ Some t
 unfolding after_checking_multisig
-multisig-again p s t r =
+multisig-again p s t c =
+    let r = c.taken in
     let n = length r.keys in
     let m = length r.signatures in
     let top : many 20 s.main ≡ Some n = ap (many 20) r.before ∙ many-again 20 r.n (r.keys ++ r.m ∷ (r.signatures ++ r.extra ∷ r.below)) n r.n_is r.few_keys in
@@ -260,5 +290,5 @@ multisig-again p s t r =
     let keys_are : keys_in n s.main ≡ r.keys = ap (keys_in n) r.before ∙ at-keys r.n r.m r.extra r.keys r.signatures r.below in
     let signatures_are : signatures_in n m s.main ≡ r.signatures = ap (signatures_in n m) r.before ∙ at-signatures r.n r.m r.extra r.keys r.signatures r.below in
     let left : drop (n + m + 3) s.main ≡ r.below = ap (drop (n + m + 3)) r.before ∙ at-end r.n r.m r.extra r.keys r.signatures r.below in
-    let answered : multisig_answer p s.code s.main (n, m) ≡ Some r.answer = rw (keys_are, signatures_are) (tried-again p (signed_code s.code r.signatures) r.signatures r.keys r.answer r.tries) in
-    rw (counts, answered) (ap Some (ap (λ main. record s { main = truth_bytes r.answer ∷ main; count = s.count + n }) left ∙ sym r.after))
+    let answered : multisig_answer p s.code s.main (n, m) ≡ Some c.answer = rw (keys_are, signatures_are) (tried-again p (signed_code s.code r.signatures) r.signatures r.keys c.answer c.tries) in
+    rw (counts, answered) (ap Some (ap (λ main. record s { main = truth_bytes c.answer ∷ main; count = s.count + n }) left ∙ sym c.after))

@@ -200,7 +200,7 @@ acted-again : (p : Spending) (after : List ℕ) (row : Row) (s t : State) → Ac
 unfolding after_acting
 acted-again p after row s t r = ⊎_elim (λ h. rw h.0 (executed-again p after row s t h.1)) (λ h. rw h.0 (skipped-again row s t h.1)) r
 
-counted-sound : (b : ℕ) (s t : State) → with_count b s ≡ Some t → Counts b s t
+pub counted-sound : (b : ℕ) (s t : State) → with_count b s ≡ Some t → Counts b s t
 unfolding with_count
 counted-sound b s t e =
     ⊎_elim (λ above. let g = rw (lt-ltb 96 b above) at e in

@@ -2,7 +2,6 @@ use Rattle.std.proofs.Common.{◌≡◌, ◌+◌, List, [], ◌∷◌, ◌++◌,
 use Rattle.std.proofs.lemmas.List.{at_drop_more, at_drop_all, append-nil}
 use Rattle.block.specs.declared.block.Block.{Block}
 use Rattle.rules.specs.declared.params.Params.{Params}
-use Rattle.tree.specs.State.{State}
 use Rattle.chain.specs.declared.command.Command.{Command}
 use Rattle.chain.specs.declared.reply.Reply.{Reply}
 use Rattle.chain.specs.Submission.{Outcome}

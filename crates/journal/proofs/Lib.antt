@@ -1,0 +1,4 @@
+pub mod Commas
+pub mod Given
+pub mod ReadLines
+pub mod Texts

@@ -1,0 +1,49 @@
+-- A line of the journal.
+use Rattle.std.specs.Prelude.{◌≡◌, ◌⊎◌, ℕ, ◌+◌, List, [], ◌++◌, Option, Some, None, codes, slice_get}
+use Rattle.std.specs.Fmt.{decimal}
+use Rattle.chain.specs.declared.reply.Reply.{Reply}
+use Rattle.chain.specs.ReplyText.{text_of_reply}
+use Rattle.journal.specs.declared.step.Asked.{Asked}
+use Rattle.journal.specs.declared.step.Asked.TheVariants as asked
+use Rattle.journal.specs.declared.step.Step.{Step}
+use Rattle.hash.specs.declared.id.Id.{Id}
+use Rattle.hash.specs.Id.{hex_of_id}
+use Rattle.std.specs.List.{flat_map}
+
+abbrev pub word_of : Asked → List ℕ
+word_of (asked.Submit now) = codes "submit"
+word_of asked.Invalidate = codes "invalidate"
+word_of asked.Reconsider = codes "reconsider"
+word_of asked.Precious = codes "precious"
+
+-- the moment of a submission, in seconds since 1970, behind a space
+abbrev pub moment_of : Asked → List ℕ
+moment_of (asked.Submit now) = codes " " ++ decimal now
+moment_of asked.Invalidate = []
+moment_of asked.Reconsider = []
+moment_of asked.Precious = []
+
+abbrev pub text_of_answer : Option Reply → List ℕ
+text_of_answer (Some reply) = text_of_reply reply
+text_of_answer None = codes "owed"
+
+-- a step's line, up to its block and behind it: `N CLIENT WORD BLOCK NOW = REPLY`, the moment for submissions alone
+abbrev pub front_of : {B : Type 0} → Step B → List ℕ
+front_of step = decimal step.number ++ codes " " ++ step.client.now ++ codes " " ++ word_of step.asked ++ codes " "
+
+abbrev pub rest_of : {B : Type 0} → Step B → List ℕ
+rest_of step = moment_of step.asked ++ codes " = " ++ text_of_answer step.reply
+
+-- a step's line, its block told by its id in digits
+abbrev pub line_of : Step Id → List ℕ
+line_of step = front_of step ++ hex_of_id step.block ++ rest_of step
+
+-- the lines of these steps, each with its end; the last one may lack it
+abbrev pub IsJournal : List (Step Id) → List ℕ → Type 0
+IsJournal steps text =
+    (text ≡ flat_map (λ step. line_of step ++ codes "\n") steps)
+    ⊎ (text ++ codes "\n" ≡ flat_map (λ step. line_of step ++ codes "\n") steps)
+
+-- each step's number is its place, from 1
+abbrev pub AreNumbered : List (Step Id) → Type 0
+AreNumbered steps = (place : ℕ) (step : Step Id) → slice_get steps place ≡ Some step → step.number ≡ place + 1
