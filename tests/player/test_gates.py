@@ -175,6 +175,27 @@ class Moved(unittest.TestCase):
         self.assertEqual(stamps, [str(at) for step in range(1, 101) for at in (step, step)])
 
 
+class Meeting(unittest.TestCase):
+    def expect(self, threads: int) -> Played:
+        """Two seats that come back from their threads meet: both have then seen what either had, and each reads no earlier."""
+        steps = [f"invalidate {'07' * 32}"]
+        text = client("p", []) + client("a", steps * 30) + client("b", [*steps * 40, "best"])
+        given = Played(play("node", text, seats=2, threads=threads, meet=1))
+        stamps = [int(given.clients[name][-1].rsplit("@", 1)[1]) for name in ("a", "b")]
+        before, behind, *reads = given.clients["meeting"]
+        self.assertEqual(before, f"seen {stamps[0]} {stamps[1]}")
+        self.assertEqual(behind, f"seen {max(stamps)} {max(stamps)}")
+        self.assertEqual(reads, ["best = genesis @70"] * 2)
+        return given
+
+    def test_seats_that_come_back_meet(self) -> None:
+        self.expect(2)
+
+    def test_one_seat_after_the_other(self) -> None:
+        """The first has seen its own steps alone until they meet."""
+        self.assertEqual(self.expect(1).clients["meeting"][:2], ["seen 30 70", "seen 70 70"])
+
+
 class Ends(unittest.TestCase):
     def test_seats_that_are_left_out(self) -> None:
         """Whoever isn't passed to `finish` or `close`, the whole history comes."""

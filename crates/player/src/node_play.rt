@@ -8,16 +8,17 @@ use crate::board::Board;
 use crate::log::{Asked, Log};
 use crate::meeting::Meeting;
 use crate::round::{Round, ask_in_turn};
-use crate::seat_calls::MOST_TRIES;
+use crate::seat_calls::{MOST_TRIES, ask_again};
 use anyhow::bail;
-use journal::{Asked as Words, Step, block_of};
+use journal::{Asked as Taken, Step, block_of};
 use node::{Command, Entry, Naming, Node, OpenFault, Opening, Seat};
-use scenario::{Definitions, Label};
+use scenario::{Call, Definitions, Label, Request, Words};
 use std::alloc::Global;
 use std::marker::Brand;
 use std::rt::Env;
 use std::sync::{Arc, Wait};
 use std::thread::Threads;
+use wire::Memory;
 
 /// Plays the list on a new node, which is opened as often as memory is refused.
 pub fn play_node<R>(rt: &R, asked: &Asked<'_>, gate: &Meeting, log: &mut Log) -> anyhow::Result<()>
@@ -80,8 +81,10 @@ where
 {
     let mut back = Vec::new(rt.alloc());
     let played = ask_clients(rt, asked, &node, seats, gate, log, &mut back);
+    let met = meet_first_two(rt, asked, &node, back.as_mut_slice(), log);
     let ended = end_node(rt, asked, node, back, log);
     played?;
+    met?;
     write_journal(rt.alloc(), asked.definitions, ended?.as_slice(), log)
 }
 
@@ -136,6 +139,43 @@ where
     Ok(written?)
 }
 
+/// The first two seats meet, where that is asked for: how much both have seen before and behind, and what each then reads.
+fn meet_first_two<J: Naming, R>(
+    rt: &R,
+    asked: &Asked<'_>,
+    node: &Node<'_, J>,
+    seats: &mut [Seat<'_, J>],
+    log: &mut Log,
+) -> Result<(), Memory>
+where
+    R: AllocGlobal + Env + Threads + Wait + Sync,
+{
+    let Some((one, others)) = seats.split_first_mut() else {
+        return Ok(());
+    };
+    let Some(other) = others.first_mut() else {
+        return Ok(());
+    };
+    if !asked.options.is("meet") {
+        return Ok(());
+    }
+    writeln!(
+        log.text,
+        "client meeting\nseen {} {}",
+        one.note().len(),
+        other.note().len()
+    )?;
+    one.meet(other);
+    writeln!(log.text, "seen {} {}", one.note().len(), other.note().len())?;
+    let best = Call {
+        words: Words::Line("best"),
+        request: Request::Best,
+    };
+    ask_again(rt, asked.definitions, node, one, &best, false, log)?;
+    ask_again(rt, asked.definitions, node, other, &best, false, log)?;
+    Ok(())
+}
+
 /// Ends the node by either of the two calls, which take no memory, with so many of the seats, the first ones or the last:
 /// the history.
 fn end_node<J: Naming, R>(
@@ -176,7 +216,7 @@ fn write_journal(
         let step = Step {
             number: place.wrapping_add(1),
             client: client.as_str(),
-            asked: Words::from_command(&entry.command),
+            asked: Taken::from_command(&entry.command),
             block: told_block(alloc, definitions, entry)?,
             reply: entry.reply,
         };

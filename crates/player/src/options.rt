@@ -16,9 +16,9 @@ pub struct Options<'w> {
 pub const HEIGHTS: &str = "heights";
 
 /// What a word `NAME=NUMBER` may set beside them.
-const NAMES: [&str; 20] = [
+const NAMES: [&str; 21] = [
     "seed", "below", "count", "seats", "workers", "in-a-row", "threads", "moved", "untold", "ring",
-    "passed", "close", "each", "wanted", "looks", "writes", "errors", "skipped", "first",
+    "meet", "passed", "close", "each", "wanted", "looks", "writes", "errors", "skipped", "first",
     "refused",
 ];
 
