@@ -1,0 +1,186 @@
+//! The definition as a program, and a chainstate of one thread: the commands of the first client, by themselves or with
+//! what is read between them. The second client names the outputs that are looked at.
+
+use crate::allocations::{begin, end};
+use crate::chainstates::{Chain, Desk, Whole};
+use crate::log::{Asked, Log};
+use crate::seat_calls::MOST_TRIES;
+use crate::state::{State, read, state_of};
+use anyhow::bail;
+use chain::{Bytes, Command, Reply};
+use reference::slow;
+use scenario::{Call, Request};
+use std::alloc::Global;
+use std::rt::Env;
+use wire::Memory;
+
+/// The command of a request that takes a step.
+fn command_of(alloc: Global, request: &Request<'_>) -> Result<Option<Command>, Memory> {
+    Ok(match request {
+        Request::Submit(bytes, now) => {
+            Some(Command::Submit(Bytes::from_slice(alloc, bytes.as_slice())?, *now))
+        }
+        Request::Invalidate(id) => Some(Command::Invalidate(*id)),
+        Request::Reconsider(id) => Some(Command::Reconsider(*id)),
+        Request::Precious(id) => Some(Command::Precious(*id)),
+        _ => None,
+    })
+}
+
+/// All commands of the first client.
+fn commands_of(alloc: Global, asked: &Asked<'_>) -> Result<Vec<Command>, Memory> {
+    let mut commands = Vec::new(alloc);
+    for call in asked.calls(0) {
+        if let Some(command) = command_of(alloc, &call.request)? {
+            commands.push(command)?;
+        }
+    }
+    Ok(commands)
+}
+
+/// Writes replies to the commands of the first client.
+fn write_replies(asked: &Asked<'_>, replies: &[Reply], log: &mut Log) -> Result<(), Memory> {
+    let mut replies = replies.iter();
+    for call in asked.calls(0) {
+        if !matches!(
+            call.request,
+            Request::Best | Request::Tips | Request::Output(_)
+        ) {
+            if let Some(reply) = replies.next() {
+                log.answer(&call.words, *reply)?;
+            }
+        }
+    }
+    Ok(())
+}
+
+/// The replies of the definition.
+pub fn play_definition(alloc: Global, asked: &Asked<'_>, log: &mut Log) -> Result<(), Memory> {
+    let commands = commands_of(alloc, asked)?;
+    let table = asked.definitions.table();
+    let replies = slow(alloc, &asked.params, commands.as_slice(), table)?;
+    write_replies(asked, replies.as_slice(), log)
+}
+
+/// The replies of a chainstate to all commands at once, and its state after them.
+pub fn play_run(alloc: Global, asked: &Asked<'_>, log: &mut Log) -> Result<(), Memory> {
+    let commands = commands_of(alloc, asked)?;
+    let mut whole = Whole::new(alloc, asked.params, asked.definitions.table())?;
+    let replies = whole.run(alloc, commands.as_slice())?;
+    write_replies(asked, replies.as_slice(), log)?;
+    let look = whole.look(alloc)?;
+    write_state(
+        &state_of(alloc, asked.definitions, &look, asked.calls(1))?,
+        log,
+    )
+}
+
+fn write_state(state: &State, log: &mut Log) -> Result<(), Memory> {
+    log.text.push_str(state.head.as_str())?;
+    Ok(log.text.push_str(state.coins.as_str())?)
+}
+
+/// A chainstate of genesis alone, as often as memory is refused.
+fn opened<'t, R>(
+    rt: &R,
+    asked: &Asked<'t>,
+    is_lent: bool,
+    log: &mut Log,
+) -> anyhow::Result<Chain<'t>>
+where
+    R: AllocGlobal + Env,
+{
+    for _ in 0..MOST_TRIES {
+        begin(rt, asked.options.number("skipped", 0) == 0);
+        let opened = Chain::new(rt.alloc(), asked.params, asked.definitions.table(), is_lent);
+        let refused = end(rt);
+        let outcome = if opened.is_ok() { "answered" } else { "memory" };
+        log.refused(refused, "with", outcome)?;
+        if let Ok(chain) = opened {
+            return Ok(chain);
+        }
+    }
+    bail!("a chainstate is refused again and again")
+}
+
+/// A chainstate between two calls, and what it shows.
+#[derive(Drop)]
+struct Played<'t> {
+    chain: Chain<'t>,
+    state: State,
+}
+
+/// Takes a command until it isn't refused memory, and writes its reply. A refusal that changes the state is written.
+fn taken<'t, R>(
+    rt: &R,
+    asked: &Asked<'_>,
+    played: Played<'t>,
+    call: &Call<'_, '_>,
+    is_counted: bool,
+    log: &mut Log,
+) -> Result<Played<'t>, Memory>
+where
+    R: AllocGlobal + Env,
+{
+    let alloc = rt.alloc();
+    let Played { mut chain, state } = played;
+    let outputs = asked.calls(1);
+    for _ in 0..MOST_TRIES {
+        let Some(command) = command_of(alloc, &call.request)? else {
+            break;
+        };
+        let desk = Desk {
+            is_counted,
+            outputs,
+            coins: state.coins.as_str(),
+        };
+        let (after, reply) = chain.take(rt, command, &desk, log)?;
+        chain = after;
+        if let Some(reply) = reply {
+            log.answer(&call.words, reply)?;
+            break;
+        }
+        let left = state_of(alloc, asked.definitions, &chain.look(alloc)?, outputs)?;
+        if left != state {
+            writeln!(
+                log.text,
+                "{} is refused, and leaves another state",
+                call.words
+            )?;
+            write_state(&left, log)?;
+        }
+    }
+    Ok(Played { chain, state })
+}
+
+/// Makes the first client's calls one after the other. The state is written after each where that is asked for, and at the
+/// end.
+pub fn play_chain<R>(rt: &R, asked: &Asked<'_>, is_lent: bool, log: &mut Log) -> anyhow::Result<()>
+where
+    R: AllocGlobal + Env,
+{
+    let alloc = rt.alloc();
+    let (definitions, outputs) = (asked.definitions, asked.calls(1));
+    let chain = opened(rt, asked, is_lent, log)?;
+    let state = state_of(alloc, definitions, &chain.look(alloc)?, outputs)?;
+    let mut played = Played { chain, state };
+    for (place, call) in asked.calls(0).iter().enumerate() {
+        if let Some(answer) = read(
+            alloc,
+            definitions,
+            &played.chain.look(alloc)?,
+            &call.request,
+        )? {
+            log.answer(&call.words, answer)?;
+            continue;
+        }
+        let is_counted = place >= asked.options.count("skipped", 0);
+        played = taken(rt, asked, played, call, is_counted, log)?;
+        if asked.options.is("each") {
+            played.state = state_of(alloc, definitions, &played.chain.look(alloc)?, outputs)?;
+            write_state(&played.state, log)?;
+        }
+    }
+    let state = state_of(alloc, definitions, &played.chain.look(alloc)?, outputs)?;
+    Ok(write_state(&state, log)?)
+}
