@@ -22,6 +22,9 @@ PROGRAM = os.path.join(ROOT, "crates", "regchain", "out", "regchain")
 # How long a run may take.
 SECONDS = 60
 
+# Whether the tests of a served node play more.
+LONG = False
+
 
 class Played(NamedTuple):
     """What the program wrote, and its status."""

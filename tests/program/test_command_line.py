@@ -60,6 +60,7 @@ Commands:
   audit  Replays a journal by the definition, and compares the replies
   tree   Shows the block tree that a scenario or a saved journal leads to
   show   Shows the id and the bytes of each block and transaction that a scenario defines
+  serve  Answers requests, a JSON object a line, from the standard input
   help   Print this message or the help of the given subcommand(s)
 
 Options:
@@ -141,6 +142,25 @@ Arguments:
 Options:
       --scenario <F>  The scenario; - is the standard input
   -h, --help          Print help
+""",
+    ),
+    (
+        "serve --help",
+        """\
+Answers requests, a JSON object a line, from the standard input
+
+Usage: regchain serve [OPTIONS]
+
+Options:
+      --seats <N>          How many callers the node has places for, 1 to 16 [default: 4]
+      --workers <N>        How many threads check scripts, 1 to 16 [default: 2]
+      --heights <A,B,C,D>  From which heights the rules of BIP 34, 65, 66, and of BIPs 68, 112 and 113 are in force \
+[default: 1,1,1,1]
+      --table <F>          The signatures that are valid
+      --blk <F>            Blocks that are submitted first, as a blk file of Bitcoin Core has them
+      --load <D>           The folder of an earlier --save, which is played again first, with its table and heights
+      --save <D>           The folder for journal.txt, blocks.blk, table.txt and heights.txt
+  -h, --help               Print help
 """,
     ),
 ]

@@ -52,6 +52,14 @@ impl Asked {
             Asked::Precious => "precious",
         }
     }
+
+    /// The moment of a submission.
+    pub fn moment(self) -> Option<u64> {
+        match self {
+            Asked::Submit(now) => Some(now),
+            _ => None,
+        }
+    }
 }
 
 /// The id of the block that an entry is about.

@@ -12,7 +12,7 @@ use std::sync::Wait;
 use std::thread::Threads;
 
 /// The moment at which the blocks of a blk file are submitted: the last that a header's time can be.
-const BLK_MOMENT: u64 = 4_294_967_295;
+pub const BLK_MOMENT: u64 = 4_294_967_295;
 
 /// Why a client ends before its commands do.
 #[derive(Clone, Copy, Debug)]

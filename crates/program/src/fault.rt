@@ -4,6 +4,7 @@ use crate::clients::Ended;
 use crate::options::STANDARD;
 use arrayvec::ArrayString;
 use journal::JournalFault;
+use node::Reply;
 use scenario::{ScenarioFault, Why};
 use std::alloc::{AllocError, AllocFailed};
 use std::fmt;
@@ -45,6 +46,10 @@ pub enum Fault<'w> {
     NoName(&'w str),
     /// The output isn't the one that was expected: the first line that differs, counted from 1, and both.
     Differs(Difference),
+    /// The node gives another reply than this line of the journal, counted from 1.
+    OtherReply(usize, Reply),
+    /// A thread can't be made.
+    NoThread,
     /// There was no memory.
     Memory,
     /// The node has no seat or no history to give.
@@ -116,6 +121,7 @@ impl Fault<'_> {
             Fault::CommandLine(_)
                 | Fault::NoName(_)
                 | Fault::Differs(_)
+                | Fault::NoThread
                 | Fault::Memory
                 | Fault::Closed
         )
@@ -135,6 +141,7 @@ impl fmt::Display for Line<'_, '_> {
             Fault::TableLine(number) => write!(f, "table line {number}"),
             Fault::JournalLine(number) => write!(f, "journal line {number}"),
             Fault::OtherRecord(number) => write!(f, "journal line {number}"),
+            Fault::OtherReply(number, _) => write!(f, "journal line {number}"),
             Fault::BlkStopped(offset, _) => write!(f, "blk stopped at {offset}"),
             Fault::BlkRecords => f.write_str("blk records"),
             Fault::CannotRead(file, _) => write!(f, "cannot read {file}"),
@@ -143,6 +150,7 @@ impl fmt::Display for Line<'_, '_> {
             Fault::Differs(difference) => difference.fmt(f),
             Fault::CannotWrite(file, _) => write!(f, "cannot write {file}"),
             Fault::CannotSave(folder, file, _) => write!(f, "cannot write {folder}/{file}"),
+            Fault::NoThread => f.write_str("no thread"),
             Fault::Memory => f.write_str("memory"),
             Fault::Closed => f.write_str("closed"),
         }
@@ -167,6 +175,7 @@ impl fmt::Display for Reason<'_, '_> {
                 f.write_str("it isn't what is printed for a step of this number")
             }
             Fault::OtherRecord(_) => f.write_str("its record isn't the block of its id"),
+            Fault::OtherReply(_, reply) => write!(f, "the node replies {reply}"),
             Fault::BlkStopped(_, stop) => f.write_str(stop.text()),
             Fault::BlkRecords => f.write_str("there isn't one for each submit line"),
             Fault::CannotRead(_, error) => write_error(error, f),

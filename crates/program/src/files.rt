@@ -49,10 +49,15 @@ fn unread<'w>(error: Error, file: &'w str) -> Fault<'w> {
 
 /// Writes a text to the standard output.
 pub fn print<O: Write>(out: &mut O, text: &str) -> Result<(), Fault<'static>> {
-    print_all(out, text).map_err(|error| Fault::CannotWrite(STANDARD, error))
+    print_bytes(out, text.as_bytes())
 }
 
-fn print_all<O: Write>(out: &mut O, text: &str) -> io::Result<()> {
-    out.write_all(text.as_bytes())?;
+/// Writes bytes to the standard output.
+pub fn print_bytes<O: Write>(out: &mut O, bytes: &[u8]) -> Result<(), Fault<'static>> {
+    print_all(out, bytes).map_err(|error| Fault::CannotWrite(STANDARD, error))
+}
+
+fn print_all<O: Write>(out: &mut O, bytes: &[u8]) -> io::Result<()> {
+    out.write_all(bytes)?;
     out.flush()
 }

@@ -19,6 +19,7 @@ mod report;
 mod run;
 mod running;
 mod saving;
+mod serve;
 mod showing;
 mod text;
 mod told;

@@ -2,11 +2,11 @@
 
 use crate::answer::Answer;
 use crate::fault::{Fault, Line, Reason};
-use crate::told::{Block, Hex, Tips, Told, text_of};
-use journal::{Asked, Step};
-use json::Writer;
+use crate::told::{Block, Tips, Told};
+use journal::Step;
 use node::{Reply, Stamped, UnspentOutput};
 use scenario::Label;
+use serving::{Object, Output};
 use std::alloc::{AllocError, Global};
 
 /// An answer: its client, what was asked, the answer, and its stamp if it has one. What is more than a word is told by
@@ -17,36 +17,43 @@ pub fn answer(alloc: Global, client: &str, answer: &Answer<'_>) -> Result<String
     object.text("command", answer.command.as_str())?;
     match &answer.outcome {
         Ok(Stamped { at, value }) => {
-            object.told(value)?;
+            put_told(alloc, &mut object, value)?;
             object.number("at", *at)?;
         }
         Err(fault) => object.text("fault", fault.to_string(alloc)?.as_str())?,
     }
-    object.line()
+    into_line(object)
 }
 
 /// A line of the journal: its number, client, word, block, moment and reply.
 pub fn step(alloc: Global, step: &Step<'_, Label<'_>>) -> Result<String, AllocError> {
+    let block = step.block.to_string(alloc)?;
+    let reply = reply_text(alloc, step.reply)?;
     let mut object = Object::new(alloc)?;
-    object.number("step", step.number as u64)?;
-    object.text("client", step.client)?;
-    object.text("command", step.asked.word())?;
-    object.text("block", step.block.to_string(alloc)?.as_str())?;
-    if let Asked::Submit(now) = step.asked {
-        object.number("now", now)?;
+    object.step(&serving::Step {
+        number: step.number as u64,
+        client: step.client,
+        command: step.asked.word(),
+        block: block.as_str(),
+        moment: step.asked.moment(),
+        reply: reply.as_str(),
+    })?;
+    into_line(object)
+}
+
+/// The text of a step's reply.
+pub fn reply_text(alloc: Global, reply: Option<Reply>) -> Result<String, AllocError> {
+    match reply {
+        Some(reply) => reply.to_string(alloc),
+        None => String::from_str(alloc, "owed"),
     }
-    match step.reply {
-        Some(reply) => object.text("reply", reply.to_string(alloc)?.as_str())?,
-        None => object.text("reply", "owed")?,
-    }
-    object.line()
 }
 
 /// That a journal agrees.
 pub fn agreement(alloc: Global) -> Result<String, AllocError> {
     let mut object = Object::new(alloc)?;
     object.text("audit", "agrees")?;
-    object.line()
+    into_line(object)
 }
 
 /// The first line of a journal that differs.
@@ -54,7 +61,7 @@ pub fn difference(alloc: Global, line: u64) -> Result<String, AllocError> {
     let mut object = Object::new(alloc)?;
     object.text("audit", "differs")?;
     object.number("line", line)?;
-    object.line()
+    into_line(object)
 }
 
 /// The reply that the definition gives at a line of the journal.
@@ -62,7 +69,7 @@ pub fn explanation(alloc: Global, line: u64, reply: Reply) -> Result<String, All
     let mut object = Object::new(alloc)?;
     object.number("line", line)?;
     object.text("definition", reply.to_string(alloc)?.as_str())?;
-    object.line()
+    into_line(object)
 }
 
 /// A fault: its line, and why.
@@ -75,104 +82,63 @@ pub fn fault(alloc: Global, fault: &Fault<'_>) -> Result<String, AllocError> {
     if fault.has_reason() {
         object.text("why", Reason(fault).to_string(alloc)?.as_str())?;
     }
-    object.line()
+    into_line(object)
 }
 
-/// An object that is being written.
-#[derive(Drop)]
-struct Object {
-    alloc: Global,
-    writer: Writer<Global>,
+/// The object, and the end of its line.
+fn into_line(object: Object) -> Result<String, AllocError> {
+    String::from_utf8(object.line()?).map_err(|_| AllocError)
 }
 
-impl Object {
-    fn new(alloc: Global) -> Result<Object, AllocError> {
-        let mut writer = Writer::new(Vec::new(alloc));
-        writer.begin_object()?;
-        Ok(Object { alloc, writer })
-    }
-
-    /// What a seat answered, and its text where that isn't the answer.
-    fn told(&mut self, told: &Told<'_>) -> Result<(), AllocError> {
-        match told {
-            Told::Best(block) => {
-                self.writer.key("answer")?;
-                self.writer.begin_object()?;
-                self.block(block)?;
-                self.writer.end_object()?;
-            }
-            Told::Tips(tips) => {
-                self.writer.key("answer")?;
-                self.tips(tips)?;
-            }
-            Told::Output(output) => {
-                self.writer.key("answer")?;
-                self.output(output)?;
-            }
-            Told::Submit(_) | Told::Mark(_) => {
-                return self.text("answer", told.to_string(self.alloc)?.as_str());
-            }
+/// What a seat answered, and its text where that isn't the answer.
+fn put_told(alloc: Global, object: &mut Object, told: &Told<'_>) -> Result<(), AllocError> {
+    let text = told.to_string(alloc)?;
+    match told {
+        Told::Best(block) => {
+            object.begin("answer")?;
+            put_block(alloc, object, block)?;
+            object.end()?;
         }
-        self.text("text", told.to_string(self.alloc)?.as_str())
-    }
-
-    /// The members of a block.
-    fn block(&mut self, block: &Block<'_>) -> Result<(), AllocError> {
-        self.text("hash", block.id.to_string(self.alloc)?.as_str())?;
-        self.writer.key("name")?;
-        match block.name() {
-            Some(name) => self.writer.string(name),
-            None => self.writer.null(),
+        Told::Tips(tips) => put_tips(alloc, object, tips)?,
+        Told::Output(None) => object.null("answer")?,
+        Told::Output(Some(output)) => {
+            object.begin("answer")?;
+            object.output(alloc, &output_of(output))?;
+            object.end()?;
         }
+        Told::Submit(_) | Told::Mark(_) => return object.text("answer", text.as_str()),
     }
+    object.text("text", text.as_str())
+}
 
-    /// A list of tips, as Bitcoin Core's `getchaintips` gives them.
-    fn tips(&mut self, tips: &Tips<'_>) -> Result<(), AllocError> {
-        self.writer.begin_array()?;
-        for tip in tips.list.as_slice() {
-            self.writer.begin_object()?;
-            self.block(&Block::new(tips.definitions, tip.id))?;
-            self.number("height", tip.height as u64)?;
-            self.number("branchlen", tip.length as u64)?;
-            self.text("status", text_of(tip.status))?;
-            self.writer.end_object()?;
-        }
-        self.writer.end_array()
+/// The members of a block.
+fn put_block(alloc: Global, object: &mut Object, block: &Block<'_>) -> Result<(), AllocError> {
+    object.id(alloc, "hash", block.id)?;
+    match block.name() {
+        Some(name) => object.text("name", name),
+        None => object.null("name"),
     }
+}
 
-    /// A coin, or null.
-    fn output(&mut self, output: &Option<UnspentOutput>) -> Result<(), AllocError> {
-        let Some(output) = output else {
-            return self.writer.null();
-        };
-        self.writer.begin_object()?;
-        self.writer.key("value")?;
-        self.writer.i64(output.value)?;
-        let script = Hex(output.script.as_slice()).to_string(self.alloc)?;
-        self.text("script", script.as_str())?;
-        self.number("height", u64::from(output.height))?;
-        self.writer.key("coinbase")?;
-        self.writer.boolean(output.coinbase)?;
-        self.number("confirmations", u64::from(output.confirmations))?;
-        self.writer.end_object()
+/// A list of tips, as Bitcoin Core's `getchaintips` gives them.
+fn put_tips(alloc: Global, object: &mut Object, tips: &Tips<'_>) -> Result<(), AllocError> {
+    object.begin_list("answer")?;
+    for tip in tips.list.as_slice() {
+        object.item()?;
+        put_block(alloc, object, &Block::new(tips.definitions, tip.id))?;
+        object.tip(tip)?;
+        object.end()?;
     }
+    object.end_list()
+}
 
-    fn text(&mut self, name: &str, value: &str) -> Result<(), AllocError> {
-        self.writer.key(name)?;
-        self.writer.string(value)
-    }
-
-    fn number(&mut self, name: &str, value: u64) -> Result<(), AllocError> {
-        self.writer.key(name)?;
-        self.writer.u64(value)
-    }
-
-    /// The object, and the end of its line.
-    fn line(self) -> Result<String, AllocError> {
-        let Object { mut writer, .. } = self;
-        writer.end_object()?;
-        let mut bytes = writer.into_inner();
-        bytes.push(b'\n')?;
-        String::from_utf8(bytes).map_err(|_| AllocError)
+/// An output, as its object has it.
+pub fn output_of(output: &UnspentOutput) -> Output<'_> {
+    Output {
+        value: output.value,
+        script: output.script.as_slice(),
+        height: output.height,
+        coinbase: output.coinbase,
+        confirmations: output.confirmations,
     }
 }

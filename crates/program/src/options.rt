@@ -12,10 +12,13 @@ pub const NAME: &str = "regchain";
 pub const STANDARD: &str = "-";
 
 /// The program's version, with the kit that it is proved with.
-const VERSION: &str = "0.1.0 (rattle-kit-13f logic dac8208d650f15bf)";
+pub const VERSION: &str = "0.1.0 (rattle-kit-13f logic dac8208d650f15bf)";
 
 /// How many workers check scripts by default.
 const WORKERS: usize = 2;
+
+/// How many seats a served node has by default.
+const SEATS: usize = 4;
 
 /// The heights of soft forks by default, those of regtest.
 const HEIGHTS: &str = "1,1,1,1";
@@ -27,6 +30,7 @@ pub enum Options<'w> {
     Audit(AuditOptions<'w>),
     Tree(TreeOptions<'w>),
     Show(ShowOptions<'w>),
+    Serve(ServeOptions<'w>),
 }
 
 /// To run the scenario of a file.
@@ -91,6 +95,25 @@ pub struct TreeOptions<'w> {
     pub svg: Option<&'w str>,
 }
 
+/// To answer requests until the standard input ends.
+#[derive(Clone, Copy)]
+pub struct ServeOptions<'w> {
+    /// From 1 to 16.
+    pub seats: usize,
+    /// From 1 to 16.
+    pub workers: usize,
+    /// The heights of soft forks, not yet read.
+    pub heights: &'w str,
+    /// The file of the valid signatures.
+    pub table: Option<&'w str>,
+    /// The file of blocks that are submitted before the first request.
+    pub blk: Option<&'w str>,
+    /// The folder of an earlier run, which is played again before the first request.
+    pub load: Option<&'w str>,
+    /// The folder for the journal, the blocks, the table and the heights.
+    pub save: Option<&'w str>,
+}
+
 /// To show what a scenario defines.
 #[derive(Drop)]
 pub struct ShowOptions<'w> {
@@ -124,6 +147,7 @@ impl<'w> Options<'w> {
             Some(("audit", audit)) => read_audit(audit),
             Some(("tree", tree)) => read_tree(tree),
             Some(("show", show)) => read_show(alloc, show)?,
+            Some(("serve", serve)) => Some(read_serve(serve)),
             _ => None,
         };
         match read {
@@ -202,6 +226,18 @@ fn read_show<'w>(alloc: Global, show: &ArgMatches<'w>) -> Result<Option<Options<
     Ok(Some(Options::Show(ShowOptions { scenario, names })))
 }
 
+fn read_serve<'w>(serve: &ArgMatches<'w>) -> Options<'w> {
+    Options::Serve(ServeOptions {
+        seats: serve.get_one("seats").unwrap_or(SEATS),
+        workers: serve.get_one("workers").unwrap_or(WORKERS),
+        heights: serve.get_str("heights").unwrap_or(HEIGHTS),
+        table: serve.get_str("table"),
+        blk: serve.get_str("blk"),
+        load: serve.get_str("load"),
+        save: serve.get_str("save"),
+    })
+}
+
 fn form(matches: &ArgMatches<'_>) -> Form {
     if matches.get_flag("json") {
         return Form::Json;
@@ -225,27 +261,20 @@ fn command<'w>(alloc: Global) -> Result<Command<'w>, AllocError> {
         .subcommand(run_command(alloc)?)?
         .subcommand(audit_command(alloc)?)?
         .subcommand(tree_command(alloc)?)?
-        .subcommand(show_command(alloc)?)
+        .subcommand(show_command(alloc)?)?
+        .subcommand(serve_command(alloc)?)
 }
 
 fn run_command<'w>(alloc: Global) -> Result<Command<'w>, AllocError> {
-    let workers = value(
-        alloc,
-        "workers",
-        "N",
-        "How many threads check scripts, 1 to 16 [default: 2]",
-    );
-    let blk = "Blocks that are submitted first, as a blk file of Bitcoin Core has them";
-    let folder = "The folder for journal.txt, blocks.blk, table.txt and heights.txt";
     let tree = "Shows the block tree after the journal";
     Command::new(alloc, "run")
         .about("Runs a scenario, and prints what its clients are answered")
         .arg(scenario(alloc))?
-        .arg(value(alloc, "blk", "F", blk))?
+        .arg(blk(alloc))?
         .arg(table(alloc))?
-        .arg(workers.value_parser(value_parser!(u8).range(1..=16)))?
+        .arg(workers(alloc))?
         .arg(heights(alloc))?
-        .arg(value(alloc, "save", "D", folder))?
+        .arg(save(alloc))?
         .arg(value(alloc, "expect", "F", "The output that it has to have"))?
         .arg(json(alloc))?
         .arg(flag(alloc, "tree", tree).conflicts_with("json")?)?
@@ -273,12 +302,11 @@ fn tree_command<'w>(alloc: Global) -> Result<Command<'w>, AllocError> {
     let help =
         "The scenario that is run; of --saved, the one that gives names; - is the standard input";
     let scenario = value(alloc, "scenario", "F", help).required_unless_present("saved")?;
-    let blk = "Blocks that are submitted first, as a blk file of Bitcoin Core has them";
     Command::new(alloc, "tree")
         .about("Shows the block tree that a scenario or a saved journal leads to")
         .arg(scenario)?
         .arg(saved_folder(alloc)?)?
-        .arg(value(alloc, "blk", "F", blk))?
+        .arg(blk(alloc))?
         .arg(table(alloc))?
         .arg(heights(alloc))?
         .arg(svg(alloc))
@@ -311,6 +339,45 @@ fn show_command<'w>(alloc: Global) -> Result<Command<'w>, AllocError> {
         .about("Shows the id and the bytes of each block and transaction that a scenario defines")
         .arg(scenario(alloc))?
         .arg(names)
+}
+
+fn serve_command<'w>(alloc: Global) -> Result<Command<'w>, AllocError> {
+    let seats = value(
+        alloc,
+        "seats",
+        "N",
+        "How many callers the node has places for, 1 to 16 [default: 4]",
+    );
+    let load = value(
+        alloc,
+        "load",
+        "D",
+        "The folder of an earlier --save, which is played again first, with its table and heights",
+    );
+    Command::new(alloc, "serve")
+        .about("Answers requests, a JSON object a line, from the standard input")
+        .arg(seats.value_parser(value_parser!(u8).range(1..=16)))?
+        .arg(workers(alloc))?
+        .arg(heights(alloc))?
+        .arg(table(alloc))?
+        .arg(blk(alloc))?
+        .arg(load.conflicts_with("table")?.conflicts_with("heights")?)?
+        .arg(save(alloc))
+}
+
+fn workers<'w>(alloc: Global) -> Arg<'w> {
+    let help = "How many threads check scripts, 1 to 16 [default: 2]";
+    value(alloc, "workers", "N", help).value_parser(value_parser!(u8).range(1..=16))
+}
+
+fn blk<'w>(alloc: Global) -> Arg<'w> {
+    let help = "Blocks that are submitted first, as a blk file of Bitcoin Core has them";
+    value(alloc, "blk", "F", help)
+}
+
+fn save<'w>(alloc: Global) -> Arg<'w> {
+    let help = "The folder for journal.txt, blocks.blk, table.txt and heights.txt";
+    value(alloc, "save", "D", help)
 }
 
 fn scenario<'w>(alloc: Global) -> Arg<'w> {

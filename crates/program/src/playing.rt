@@ -9,7 +9,7 @@ use crate::history_tree::history_tree;
 use crate::options::RunOptions;
 use crate::output::Output;
 use crate::progress::Progress;
-use crate::report::Report;
+use crate::report::{Clients, Report};
 use crate::running::{run_clients, run_records};
 use crate::saving::{check_folder, save};
 use crate::text::{Text, read_definitions};
@@ -244,7 +244,7 @@ where
     )?;
     match written {
         Ok(()) | Err(Fault::CannotWrite(..)) => Ok(Played {
-            report: Report::new(alloc, definitions, names, entries)?,
+            report: Report::new(alloc, definitions, clients_named(alloc, names), entries)?,
             written,
         }),
         Err(fault) => Err(fault),
@@ -288,6 +288,14 @@ where
     };
     let entries = node.close(rt, seats.as_mut_slice())?;
     Ok(Ran { entries, written })
+}
+
+/// The clients of a run from genesis on.
+fn clients_named<'t>(alloc: Global, seats: Vec<&'t str>) -> Clients<'t> {
+    Clients {
+        earlier: Vec::new(alloc),
+        seats,
+    }
 }
 
 /// The client of each seat.

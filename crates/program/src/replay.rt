@@ -27,11 +27,11 @@ pub struct Replay {
 
 /// What was saved of a run.
 #[derive(Drop)]
-struct Inputs {
-    params: Params,
-    journal: Vec<u8>,
-    blk: Vec<u8>,
-    table: Table,
+pub struct Inputs {
+    pub params: Params,
+    pub journal: Vec<u8>,
+    pub blk: Vec<u8>,
+    pub table: Table,
 }
 
 /// What so many lines of a saved journal ask, at most. Where there are more, records of theirs aren't looked at.
@@ -53,19 +53,23 @@ where
     } else {
         read_records(alloc, blk.as_slice())?
     };
-    let mut replay = Replay {
+    let blocks = records.len();
+    let commands = commands(alloc, steps.as_slice(), records)?;
+    let mut recorded = Vec::new(alloc);
+    for step in steps {
+        recorded.push(step.reply)?;
+    }
+    Ok(Replay {
         params,
         table,
-        commands: Vec::new(alloc),
-        recorded: Vec::new(alloc),
-        blocks: records.len(),
-    };
-    add_steps(alloc, steps.as_slice(), records, &mut replay)?;
-    Ok(replay)
+        commands,
+        recorded,
+        blocks,
+    })
 }
 
 /// The files of an audit, in the order in which one that can't be read is told.
-fn read_inputs<'w, R>(rt: &R, saved: &Saved<'w>) -> Result<Inputs, Fault<'w>>
+pub fn read_inputs<'w, R>(rt: &R, saved: &Saved<'w>) -> Result<Inputs, Fault<'w>>
 where
     R: Files<File = File> + AllocGlobal,
 {
@@ -149,24 +153,21 @@ fn submissions(steps: &[Step<'_, Id>]) -> usize {
     steps.iter().filter(is_submission).count()
 }
 
-/// Adds what a journal's steps ask, each submission of its record.
-fn add_steps(
+/// What a journal's steps ask, each submission of its record.
+pub fn commands(
     alloc: Global,
     steps: &[Step<'_, Id>],
     records: Vec<Vec<u8>>,
-    replay: &mut Replay,
-) -> Result<(), Fault<'static>> {
+) -> Result<Vec<Command>, Fault<'static>> {
     if submissions(steps) != records.len() {
         return Err(Fault::BlkRecords);
     }
     let mut records = records.into_iter();
+    let mut commands = Vec::new(alloc);
     for step in steps {
-        replay
-            .commands
-            .push(command_of(alloc, step, &mut records)?)?;
-        replay.recorded.push(step.reply)?;
+        commands.push(command_of(alloc, step, &mut records)?)?;
     }
-    Ok(())
+    Ok(commands)
 }
 
 /// The command of a step. A submission takes the next of the records, whose id must be the step's.

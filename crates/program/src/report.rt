@@ -10,23 +10,41 @@ use std::alloc::{AllocError, Global};
 use std::fmt::Write as _;
 use std::io::Write;
 
+/// The names of a run's clients.
+#[derive(Drop)]
+pub struct Clients<'t> {
+    /// Those of the history's first entries, one by one, whatever seat they were played at.
+    pub earlier: Vec<&'t str>,
+    /// Those of all others, by their seats.
+    pub seats: Vec<&'t str>,
+}
+
+impl<'t> Clients<'t> {
+    /// The client of the entry at this place, from 0, whose seat has this number.
+    pub fn name(&self, place: usize, seat: usize) -> &'t str {
+        match self.earlier.get(place) {
+            Some(name) => name,
+            None => self.seats.get(seat).copied().unwrap_or(""),
+        }
+    }
+}
+
 /// The history of a run, with the names of its clients.
 #[derive(Drop)]
 pub struct Report<'d, 't> {
     definitions: &'d Definitions,
-    /// The client of each seat.
-    names: Vec<&'t str>,
+    clients: Clients<'t>,
     entries: Vec<Entry>,
     /// The block that each step of the journal is about.
     blocks: Vec<Id>,
 }
 
 impl<'d, 't> Report<'d, 't> {
-    /// Of these entries, whose seats have these clients.
+    /// Of these entries, which these clients asked for.
     pub fn new(
         alloc: Global,
         definitions: &'d Definitions,
-        names: Vec<&'t str>,
+        clients: Clients<'t>,
         entries: Vec<Entry>,
     ) -> Result<Report<'d, 't>, Fault<'static>> {
         let mut blocks = Vec::new(alloc);
@@ -35,7 +53,7 @@ impl<'d, 't> Report<'d, 't> {
         }
         Ok(Report {
             definitions,
-            names,
+            clients,
             entries,
             blocks,
         })
@@ -81,15 +99,10 @@ impl<'d, 't> Report<'d, 't> {
     fn step<B>(&self, number: usize, entry: &Entry, block: B) -> Step<'t, B> {
         Step {
             number,
-            client: self.client(entry.seat),
+            client: self.clients.name(number.saturating_sub(1), entry.seat),
             asked: Asked::from_command(&entry.command),
             block,
             reply: entry.reply,
         }
-    }
-
-    /// The name of the client that has this seat.
-    fn client(&self, seat: usize) -> &'t str {
-        self.names.get(seat).copied().unwrap_or("")
     }
 }

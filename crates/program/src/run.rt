@@ -10,6 +10,7 @@ use crate::objects;
 use crate::options::{NAME, Options, STANDARD, no_text};
 use crate::output::Form;
 use crate::playing::run;
+use crate::serve::serve;
 use crate::showing::show;
 use journal::Finding;
 use node::{Gate, Open, Reply};
@@ -52,7 +53,7 @@ pub fn program<R, S, I, O, E>(rt: &R, words: &[S], input: &mut I, out: &mut O, e
 where
     R: Files<File = File> + AllocGlobal + Clock + Threads + Wait + Sync,
     S: AsStr,
-    I: Read,
+    I: Read + Send,
     O: Write,
     E: Write + IsTerminal,
     ensures { result ≤ 1 }
@@ -84,7 +85,7 @@ pub fn program_with_gate<R, S, I, O, E>(
 where
     R: Files<File = File> + AllocGlobal + Clock + Threads + Wait + Sync,
     S: AsStr,
-    I: Read,
+    I: Read + Send,
     O: Write,
     E: Write + IsTerminal,
     ensures { result ≤ 1 }
@@ -163,7 +164,7 @@ fn attempt<'w, R, I, O, E>(
 ) -> Result<u8, Fault<'w>>
 where
     R: Files<File = File> + AllocGlobal + Clock + Threads + Wait + Sync,
-    I: Read,
+    I: Read + Send,
     O: Write,
     E: Write + IsTerminal,
     ensures { IfOk result (λ status. status ≤ 1) }
@@ -192,6 +193,10 @@ where
         }
         Options::Show(options) => {
             show(rt, &options, input, out)?;
+            Ok(DONE)
+        }
+        Options::Serve(options) => {
+            serve(rt, &options, gate, input, out)?;
             Ok(DONE)
         }
     }

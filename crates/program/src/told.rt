@@ -1,8 +1,9 @@
 //! What a seat answers, as it is printed.
 
 use hash::Id;
-use node::{MarkReply, Status, SubmitReply, Tip, UnspentOutput};
+use node::{MarkReply, SubmitReply, Tip, UnspentOutput};
 use scenario::{Definitions, Label};
+use serving::status_word;
 use std::fmt;
 use txn::Script;
 
@@ -67,20 +68,10 @@ impl fmt::Display for Tips<'_> {
                 f.write_str("; ")?;
             }
             let block = self.definitions.label(tip.id);
-            let status = text_of(tip.status);
+            let status = status_word(tip.status);
             write!(f, "{block} {} {} {status}", tip.height, tip.length)?;
         }
         Ok(())
-    }
-}
-
-/// Bitcoin Core's words (`getchaintips`).
-pub fn text_of(status: Status) -> &'static str {
-    match status {
-        Status::Active => "active",
-        Status::Invalid => "invalid",
-        Status::ValidFork => "valid-fork",
-        Status::ValidHeaders => "valid-headers",
     }
 }
 

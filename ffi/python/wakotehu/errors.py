@@ -1,6 +1,6 @@
 """What goes wrong, as exceptions."""
 
-from typing import Dict, List, Type
+from typing import Dict, List, Optional, Type
 
 
 class Error(Exception):
@@ -11,8 +11,38 @@ class LibraryMissing(Error):
     """libwakotehu.so isn't found."""
 
 
+class ProgramMissing(Error):
+    """The program `regchain` isn't found."""
+
+
 class Closed(Error):
-    """The chainstate was closed."""
+    """The chainstate or the node was closed."""
+
+
+class Memory(Error):
+    """There was no memory for a call of a node. No step was taken."""
+
+
+class Owed(Error):
+    """A step was taken, and can't be shown yet: the next command of any seat shows it first."""
+
+
+class BadRequest(Error):
+    """A node didn't take a request. `code` and `data` are those of docs/SERVE.md."""
+
+    def __init__(self, code: int, message: str, data: Optional[str] = None) -> None:
+        super().__init__(f"{message} ({code})" + (f": {data}" if data else ""))
+        self.code = code
+        self.data = data
+
+
+class NodeDied(Error):
+    """A node's process has ended. `status` is its status, `stderr` the end of what it wrote on the standard error."""
+
+    def __init__(self, status: Optional[int], stderr: str) -> None:
+        super().__init__(f"the node's process ended with status {status}" + (f": {stderr.strip()}" if stderr else ""))
+        self.status = status
+        self.stderr = stderr
 
 
 class Busy(Error):

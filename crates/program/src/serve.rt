@@ -1,0 +1,232 @@
+//! A node that answers requests, a JSON object a line, until its input ends.
+
+ghost use Rattle.std.specs.Prelude.{◌≡◌};
+
+mod asking;
+mod board;
+mod earlier;
+mod reading;
+mod service;
+mod turn;
+mod words;
+
+use crate::fault::Fault;
+use crate::files::{print_bytes, read_file, read_table};
+use crate::options::{Saved, ServeOptions};
+use crate::replay::{Inputs, commands, read_inputs};
+use crate::report::{Clients, Report};
+use crate::saving::{check_folder, save};
+use crate::serve::earlier::{Earlier, play_earlier};
+use crate::serve::service::serve_requests;
+use crate::serve::words::{Facts, SEATS};
+use curve::Table;
+use journal::{read_heights, read_journal, read_records};
+use node::{Entry, Gate, Naming, Node, Opening, Params, Seat};
+use scenario::Definitions;
+use serving::{Answer, Refusal, RequestId, Stamped, answer_line, refusal_line};
+use std::alloc::Global;
+use std::fs::File;
+use std::io::{Read, Write};
+use std::marker::Brand;
+use std::rt::Files;
+use std::sync::{Arc, Wait};
+use std::thread::Threads;
+
+/// Answers the requests of an input on an output until it ends or one asks to finish, and saves what happened where that
+/// is asked for.
+pub fn serve<'w, R, I, O>(
+    rt: &R,
+    options: &ServeOptions<'w>,
+    gate: &(dyn Gate + Sync),
+    input: &mut I,
+    out: &mut O,
+) -> Result<(), Fault<'w>>
+where
+    R: Files<File = File> + AllocGlobal + Threads + Wait + Sync,
+    I: Read + Send,
+    O: Write,
+{
+    let alloc = rt.alloc();
+    let Inputs {
+        params,
+        journal,
+        blk: records,
+        table,
+    } = inputs(rt, options)?;
+    let blk = match options.blk {
+        Some(file) => Some(read_file(rt, file)?),
+        None => None,
+    };
+    let steps = read_journal(alloc, journal.as_slice())?;
+    let records = read_records(alloc, records.as_slice())?;
+    let earlier = Earlier {
+        commands: commands(alloc, steps.as_slice(), records)?,
+        steps,
+        blk,
+    };
+    if let Some(folder) = options.save {
+        check_folder(rt, folder)?;
+    }
+    let table = Arc::new(alloc, table)?;
+    let opening = Opening::new(params, &table, options.seats);
+    let mut facts = Facts {
+        params,
+        seats: options.seats,
+        workers: options.workers,
+        loaded: earlier.steps.len(),
+        clients: clients(alloc, &earlier)?,
+    };
+    let Served { entries, ended } = serve_at_node::<Brand, R, I, O>(
+        rt, opening, gate, &earlier, &mut facts, input, out,
+    )?;
+    let Ended { finish, served } = ended?;
+    let steps = entries.len();
+    let kept = match options.save {
+        Some(folder) => save_served(rt, folder, &params, &table, facts.clients, entries),
+        None => Ok(()),
+    };
+    let told = match finish {
+        Some(id) => tell_end(alloc, &id, steps, kept.is_ok(), out),
+        None => Ok(()),
+    };
+    served?;
+    kept?;
+    told
+}
+
+/// The folder of an earlier run, or none of its steps under these heights and this table.
+fn inputs<'w, R>(rt: &R, options: &ServeOptions<'w>) -> Result<Inputs, Fault<'w>>
+where
+    R: Files<File = File> + AllocGlobal,
+{
+    if let Some(folder) = options.load {
+        return read_inputs(rt, &Saved::Folder(folder));
+    }
+    let alloc = rt.alloc();
+    let params = read_heights(options.heights).ok_or(Fault::Heights)?;
+    let table = match options.table {
+        Some(file) => read_table(alloc, Some(read_file(rt, file)?.as_slice()))?,
+        None => read_table(alloc, None)?,
+    };
+    Ok(Inputs {
+        params,
+        journal: Vec::new(alloc),
+        blk: Vec::new(alloc),
+        table,
+    })
+}
+
+/// The clients of an earlier run, and the seats.
+fn clients<'t>(alloc: Global, earlier: &Earlier<'t>) -> Result<Clients<'t>, Fault<'static>> {
+    let mut names = Vec::new(alloc);
+    for step in earlier.steps.as_slice() {
+        names.push(step.client)?;
+    }
+    Ok(Clients {
+        earlier: names,
+        seats: Vec::from_slice(alloc, &SEATS)?,
+    })
+}
+
+/// What was served, and the whole history.
+#[derive(Drop)]
+struct Served<'f> {
+    entries: Vec<Entry>,
+    ended: Result<Ended<'f>, Fault<'f>>,
+}
+
+/// How the service ended that had begun.
+#[derive(Drop)]
+pub struct Ended<'f> {
+    /// The request that asked for the end.
+    pub finish: Option<RequestId>,
+    pub served: Result<(), Fault<'f>>,
+}
+
+/// Serves at a node of this opening. The prover picks the node's name where this is called.
+fn serve_at_node<'f, J: Naming, R, I, O>(
+    rt: &R,
+    opening: Opening<'_>,
+    gate: &(dyn Gate + Sync),
+    earlier: &Earlier<'_>,
+    facts: &mut Facts<'_>,
+    input: &mut I,
+    out: &mut O,
+) -> Result<Served<'f>, Fault<'f>>
+where
+    R: AllocGlobal + Threads + Wait + Sync,
+    I: Read + Send,
+    O: Write,
+    requires { opening ≡ J.origin }
+{
+    let (node, mut seats) = Node::<J>::open(rt.alloc(), opening, facts.workers, gate)?;
+    let ended = serve_seats(rt, &node, seats.as_mut_slice(), earlier, facts, input, out);
+    let entries = node.close(rt, seats.as_mut_slice())?;
+    Ok(Served { entries, ended })
+}
+
+/// Plays what was earlier, and serves then.
+fn serve_seats<J: Naming, R, I, O>(
+    rt: &R,
+    node: &Node<'_, J>,
+    seats: &mut [Seat<'_, J>],
+    earlier: &Earlier<'_>,
+    facts: &mut Facts<'_>,
+    input: &mut I,
+    out: &mut O,
+) -> Result<Ended<'static>, Fault<'static>>
+where
+    R: AllocGlobal + Threads + Wait + Sync,
+    I: Read + Send,
+    O: Write,
+{
+    if let Some(seat) = seats.first_mut() {
+        play_earlier(rt, node, seat, earlier, &mut facts.clients)?;
+    }
+    serve_requests(rt, node, seats, facts, input, out)
+}
+
+/// Saves what happened.
+fn save_served<'w, R>(
+    rt: &R,
+    folder: &'w str,
+    params: &Params,
+    table: &Table,
+    clients: Clients<'_>,
+    entries: Vec<Entry>,
+) -> Result<(), Fault<'w>>
+where
+    R: Files<File = File> + AllocGlobal,
+{
+    let alloc = rt.alloc();
+    let definitions = Definitions::read(alloc, &[], Table::new(alloc))?;
+    let report = Report::new(alloc, &definitions, clients, entries)?;
+    let Params {
+        bip34,
+        bip65,
+        bip66,
+        csv,
+    } = params;
+    let heights = format!(in alloc; "{bip34},{bip65},{bip66},{csv}")?;
+    save(rt, folder, &report, table, heights.as_str())
+}
+
+/// Answers the request that asked for the end: with how many entries the history has, or that it wasn't saved.
+fn tell_end<O: Write>(
+    alloc: Global,
+    id: &RequestId,
+    steps: usize,
+    is_kept: bool,
+    out: &mut O,
+) -> Result<(), Fault<'static>> {
+    let line = if is_kept {
+        let stamped = Stamped {
+            at: steps as u64,
+            answer: Answer::Place,
+        };
+        answer_line(alloc, Vec::new(alloc), id, &stamped)?
+    } else {
+        refusal_line(Vec::new(alloc), id, Refusal::Unsaved)?
+    };
+    print_bytes(out, line.as_slice())
+}

@@ -1,0 +1,88 @@
+//! What a node plays before its first request: an earlier run, and a blk file.
+
+use crate::clients::BLK_MOMENT;
+use crate::fault::Fault;
+use crate::report::Clients;
+use hash::Id;
+use journal::{Records, Step};
+use node::{Command, Naming, Node, Reply, Seat, SubmitReply};
+use scenario::BLK;
+use std::sync::Wait;
+use std::thread::Threads;
+
+/// What is played before the first request.
+#[derive(Drop)]
+pub struct Earlier<'t> {
+    pub commands: Vec<Command>,
+    /// Their lines in the journal.
+    pub steps: Vec<Step<'t, Id>>,
+    /// Then the blocks of this file are submitted.
+    pub blk: Option<Vec<u8>>,
+}
+
+/// Plays it at a seat. The first reply that isn't the recorded one is a fault, and so is a blk file's end that is none.
+pub fn play_earlier<J: Naming, R>(
+    rt: &R,
+    node: &Node<'_, J>,
+    seat: &mut Seat<'_, J>,
+    earlier: &Earlier<'_>,
+    clients: &mut Clients<'_>,
+) -> Result<(), Fault<'static>>
+where
+    R: AllocGlobal + Threads + Wait + Sync,
+{
+    for (command, step) in earlier.commands.iter().zip(earlier.steps.iter()) {
+        let reply = replied(rt, node, seat, command)?;
+        if step.reply.is_some_and(|recorded| recorded != reply) {
+            return Err(Fault::OtherReply(step.number, reply));
+        }
+    }
+    match &earlier.blk {
+        Some(file) => submit_file(rt, node, seat, file.as_slice(), clients),
+        None => Ok(()),
+    }
+}
+
+/// The reply to a command.
+fn replied<J: Naming, R>(
+    rt: &R,
+    node: &Node<'_, J>,
+    seat: &mut Seat<'_, J>,
+    command: &Command,
+) -> Result<Reply, Fault<'static>>
+where
+    R: Threads + Wait + Sync,
+{
+    Ok(match command {
+        Command::Submit(block, now) => {
+            Reply::Submit(seat.submit(rt, node, block.as_slice(), *now)?.value)
+        }
+        Command::Invalidate(id) => Reply::Mark(seat.invalidate(rt, node, *id)?.value),
+        Command::Reconsider(id) => Reply::Mark(seat.reconsider(rt, node, *id)?.value),
+        Command::Precious(id) => Reply::Mark(seat.precious(rt, node, *id)?.value),
+    })
+}
+
+/// Submits the records of a blk file in their order. The steps are those of the client that no other has the name of.
+fn submit_file<J: Naming, R>(
+    rt: &R,
+    node: &Node<'_, J>,
+    seat: &mut Seat<'_, J>,
+    file: &[u8],
+    clients: &mut Clients<'_>,
+) -> Result<(), Fault<'static>>
+where
+    R: AllocGlobal + Threads + Wait + Sync,
+{
+    let mut records = Records::new(rt.alloc(), file);
+    for _ in 0..u64::MAX {
+        let Some(record) = records.next()? else {
+            return Ok(());
+        };
+        let reply = seat.submit(rt, node, record.as_slice(), BLK_MOMENT)?.value;
+        if reply != SubmitReply::DecodeFailed {
+            clients.earlier.push(BLK)?;
+        }
+    }
+    Ok(())
+}

@@ -1,0 +1,129 @@
+//! The lines of the input, and whose turn they wait for.
+
+use crate::fault::Fault;
+use crate::options::STANDARD;
+use crate::serve::turn::Turn;
+use crate::serve::words::Facts;
+use crossbeam_channel::Sender;
+use serving::{Asked, Refusal, Request, RequestId, info_line, read_request, refusal_line};
+use std::alloc::Global;
+use std::io;
+use std::io::{BufRead, BufReader, Error, ErrorKind, Read};
+use std::sync::Wait;
+
+/// How many bytes a line has at most: a block of 33,554,432 bytes in hexadecimal digits fits.
+const MAX_LINE: u64 = 70_000_000;
+
+/// How many bytes are read at once.
+const READ_AHEAD: usize = 65_536;
+
+/// A line of the input.
+#[derive(Drop)]
+enum Line {
+    Whole(Vec<u8>),
+    TooLong,
+}
+
+/// What comes after a line.
+#[derive(Drop)]
+enum Next {
+    Line,
+    /// The end, for which this request asked.
+    Finish(RequestId),
+    /// The end, since nobody takes what comes.
+    Left,
+}
+
+/// Where requests wait for each seat, and where lines wait for being written.
+#[derive(Drop)]
+pub struct Doors {
+    pub seats: Vec<Sender<Turn>>,
+    pub to: Sender<Vec<u8>>,
+}
+
+/// Reads requests to the end of the input, and has each wait for its seat. The request that asked for the end, if one did.
+pub fn read_requests<R, I>(
+    rt: &R,
+    facts: &Facts<'_>,
+    doors: &Doors,
+    input: &mut I,
+) -> Result<Option<RequestId>, Fault<'static>>
+where
+    R: AllocGlobal + Wait,
+    I: Read,
+{
+    let alloc = rt.alloc();
+    let mut input = BufReader::with_capacity(alloc, READ_AHEAD, input).map_err(unread)?;
+    for _ in 0..u64::MAX {
+        let next = match read_line(alloc, &mut input).map_err(unread)? {
+            Some(line) => pass_on(rt, facts, doors, line)?,
+            None => return Ok(None),
+        };
+        match next {
+            Next::Line => {}
+            Next::Finish(id) => return Ok(Some(id)),
+            Next::Left => return Ok(None),
+        }
+    }
+    Ok(None)
+}
+
+/// The next line, without its end; the last may lack it. One that is too long is skipped.
+fn read_line<I: BufRead>(alloc: Global, input: &mut I) -> io::Result<Option<Line>> {
+    let mut line = Vec::new(alloc);
+    let read = input.take(MAX_LINE + 1).read_until(b'\n', &mut line)?;
+    if read == 0 {
+        return Ok(None);
+    }
+    if line.last() == Some(&b'\n') {
+        line.pop();
+    } else if read as u64 > MAX_LINE {
+        drop(line);
+        input.skip_until(b'\n')?;
+        return Ok(Some(Line::TooLong));
+    }
+    Ok(Some(Line::Whole(line)))
+}
+
+/// Has a line wait for its seat, or answers it.
+fn pass_on<R>(rt: &R, facts: &Facts<'_>, doors: &Doors, line: Line) -> Result<Next, Fault<'static>>
+where
+    R: AllocGlobal + Wait,
+{
+    let alloc = rt.alloc();
+    let Request { id, asked } = match line {
+        Line::Whole(line) => read_request(alloc, line.as_slice(), doors.seats.len())?,
+        Line::TooLong => Request {
+            id: RequestId::Null,
+            asked: Asked::Refused(None, Refusal::TooLong),
+        },
+    };
+    let (seat, call) = match asked {
+        Asked::Seat(seat, call) => (seat, Ok(call)),
+        Asked::Refused(Some(seat), refusal) => (seat, Err(refusal)),
+        Asked::Finish => return Ok(Next::Finish(id)),
+        Asked::Info => {
+            let line = info_line(Vec::new(alloc), &id, &facts.info())?;
+            return Ok(passed(doors.to.send(rt, line).is_ok()));
+        }
+        Asked::Refused(None, refusal) => {
+            let line = refusal_line(Vec::new(alloc), &id, refusal)?;
+            return Ok(passed(doors.to.send(rt, line).is_ok()));
+        }
+    };
+    let Some(door) = doors.seats.get(seat) else {
+        return Ok(Next::Left);
+    };
+    Ok(passed(door.send(rt, Turn { id, call }).is_ok()))
+}
+
+fn passed(is_taken: bool) -> Next {
+    if is_taken { Next::Line } else { Next::Left }
+}
+
+fn unread(error: Error) -> Fault<'static> {
+    match error.kind() {
+        ErrorKind::OutOfMemory => Fault::Memory,
+        _ => Fault::CannotRead(STANDARD, error),
+    }
+}

@@ -1,0 +1,46 @@
+//! What is said of a served node and its seats.
+
+use crate::options::{NAME, VERSION};
+use crate::report::Clients;
+use node::Params;
+use serving::Info;
+
+/// The names of the seats in a journal.
+pub const SEATS: [&str; 16] = [
+    "seat0", "seat1", "seat2", "seat3", "seat4", "seat5", "seat6", "seat7", "seat8", "seat9",
+    "seat10", "seat11", "seat12", "seat13", "seat14", "seat15",
+];
+
+/// How a node was opened, and who asked for its steps.
+#[derive(Drop)]
+pub struct Facts<'t> {
+    pub params: Params,
+    pub seats: usize,
+    pub workers: usize,
+    /// How many steps were loaded.
+    pub loaded: usize,
+    pub clients: Clients<'t>,
+}
+
+impl Facts<'_> {
+    /// How the node was opened.
+    pub fn info(&self) -> Info<'static> {
+        let Params {
+            bip34,
+            bip65,
+            bip66,
+            csv,
+        } = self.params;
+        Info {
+            program: NAME,
+            version: VERSION,
+            seats: self.seats as u64,
+            workers: self.workers as u64,
+            bip34,
+            bip65,
+            bip66,
+            csv,
+            loaded: self.loaded as u64,
+        }
+    }
+}

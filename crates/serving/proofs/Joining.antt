@@ -1,0 +1,43 @@
+-- Tokens that are written one after the other.
+use Rattle.std.specs.Prelude.{◌++◌, ◌∷◌, [], ℕ, List, Option, None, Some, Result, Ok, Err}
+use Rattle.std.specs.List.{flat_map}
+use Rattle.std.proofs.Common.{◌≡◌, refl, sym, ap, ◌∙◌}
+use Rattle.std.proofs.lemmas.List.{append_assoc, append-nil}
+use Rattle.json.specs.Json.{Members, no_members}
+use Rattle.json.specs.Token.{Token}
+use Rattle.json.specs.Tree.{items_tokens}
+use Rattle.json.specs.Written.{Written}
+use Rattle.tree.specs.declared.tip.Tip.{Tip}
+use Rattle.serving.specs.Answers.{Adds, members, now_of, tip_items, step_items}
+use Rattle.serving.specs.declared.answer.Step.{Step}
+use Rattle.serving.specs.inside.Front.{tip_tokens, step_tokens}
+
+pub then : {E : Type 0} {u : Unit {0}} {r : Result (Unit {0}) E} {a b c : Written} {ts us : List Token}
+    → Adds {E = E} (Ok u) a b ts → Adds r b c us → Adds r a c (ts ++ us)
+then {r = Ok v} {a} {b} {c} {ts} {us} h k = record {
+  before = k.before ∙ h.before;
+  tokens = k.tokens ∙ ap (λ all. all ++ us) h.tokens ∙ append_assoc a.tokens ts us;
+}
+then {r = Err e} h k = record { before = k.before; tokens = k.tokens }
+
+-- what stands behind a moment
+pub behind_moment : (moment : Option ℕ) (rest : Members) → members (now_of moment no_members) ++ members rest ≡ members (now_of moment rest)
+behind_moment None rest = refl
+behind_moment (Some moment) rest = refl
+
+-- the tokens of lists, with the closing bracket
+all_tips : (tips : List Tip) → flat_map tip_tokens tips ++ Token.end_array ∷ [] ≡ items_tokens (tip_items tips)
+all_tips [] = refl
+all_tips (t ∷ ts) =
+    append_assoc (tip_tokens t) (flat_map tip_tokens ts) (Token.end_array ∷ []) ∙ ap (λ rest. tip_tokens t ++ rest) (all_tips ts)
+
+all_steps : (steps : List Step) → flat_map step_tokens steps ++ Token.end_array ∷ [] ≡ items_tokens (step_items steps)
+all_steps [] = refl
+all_steps (s ∷ ss) =
+    append_assoc (step_tokens s) (flat_map step_tokens ss) (Token.end_array ∷ []) ∙ ap (λ rest. step_tokens s ++ rest) (all_steps ss)
+
+pub tips_closed : (tips : List Tip) → flat_map tip_tokens tips ++ Token.end_array ∷ [] ≡ items_tokens (tip_items tips) ++ []
+tips_closed tips = all_tips tips ∙ sym (append-nil (items_tokens (tip_items tips)))
+
+pub steps_closed : (steps : List Step) → flat_map step_tokens steps ++ Token.end_array ∷ [] ≡ items_tokens (step_items steps) ++ []
+steps_closed steps = all_steps steps ∙ sym (append-nil (items_tokens (step_items steps)))

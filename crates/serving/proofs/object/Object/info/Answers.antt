@@ -1,0 +1,12 @@
+use Rattle.serving.proofs.object.Object.info.Goals as goal
+use Rattle.serving.specs.Answers.{info_members}
+use Rattle.serving.proofs.Joining.{then}
+
+pub returns : goal.returns
+unfolding info_members
+returns c =
+    let named = then (then (then c.in_ok-text.ensures c.in_ok-text-2.ensures) c.in_ok-number.ensures) c.in_ok-number-2.ensures in
+    let heights = then (then (then (then c.in_ok-begin.ensures c.in_ok-number-3.ensures) c.in_ok-number-4.ensures)
+    c.in_ok-number-5.ensures) c.in_ok-number-6.ensures in
+    rw (c.from.ensures, c.from-2.ensures, c.from-3.ensures, c.from-4.ensures) at
+    (then (then (then named heights) c.in_ok-end.ensures) c.number-7.ensures)

@@ -1,0 +1,16 @@
+use Rattle.std.proofs.Common.{ℕ, codes, None, subst}
+use Rattle.json.specs.Value.{value_view}
+use Rattle.serving.specs.Requests.{IsRequest, IsSeat}
+use Rattle.serving.proofs.Refusing.{is-param, asked-refused}
+use Rattle.serving.proofs.request.asked_of.Goals as goal
+
+pub returns-in-Err : goal.returns-in-Err
+returns-in-Err c =
+    let j = value_view c.args.value.now in
+    let none = c.in-Err.ensures.err in
+    let named = subst (IsRequest j) c.in-Some-read.ensures.found c.in-Some.ensures.some in
+    let unseated = subst (λ params. (n : ℕ) → IsSeat c.args.seats (codes "seat") params n → ⊥) c.get-params.ensures none.1 in
+    record {
+      asked = asked-refused c.args.seats j c.in-Some-read.method None _ named (is-param none.0) (λ k call h. unseated k h.0);
+      turn = tt;
+    }

@@ -1,0 +1,54 @@
+use Rattle.serving.proofs.request.call_of.Goals as goal
+use Rattle.std.proofs.Common.{sym, subst, inr}
+use Rattle.std.specs.Prelude.{IfOk, IfErr}
+use Rattle.serving.specs.Requests.{IsCall}
+use Rattle.serving.specs.inside.Given.{given, IsNoCall}
+use Rattle.serving.proofs.Refusing.{is-param, invalidate-no-id, reconsider-no-id, precious-no-id}
+
+pub returns-in-Submit-clause-ok : goal.returns-in-Submit-clause-ok
+returns-in-Submit-clause-ok c =
+    subst (λ m. IfOk c.submission.result (λ call. IsCall c.args.seats m (given c.args.params.now) call))
+    (sym c.in-Submit.is) (c.submission.ensures.ok c.args.seats)
+
+pub returns-in-Submit-clause-err : goal.returns-in-Submit-clause-err
+returns-in-Submit-clause-err c =
+    subst (λ m. IfErr c.submission.result (λ why. IsNoCall c.args.seats m (given c.args.params.now) why))
+    (sym c.in-Submit.is) (c.submission.ensures.err c.args.seats)
+
+pub returns-in-GetTxOut-clause-ok : goal.returns-in-GetTxOut-clause-ok
+returns-in-GetTxOut-clause-ok c =
+    subst (λ m. IfOk c.output.result (λ call. IsCall c.args.seats m (given c.args.params.now) call))
+    (sym c.in-GetTxOut.is) (c.output.ensures.ok c.args.seats)
+
+pub returns-in-GetTxOut-clause-err : goal.returns-in-GetTxOut-clause-err
+returns-in-GetTxOut-clause-err c =
+    subst (λ m. IfErr c.output.result (λ why. IsNoCall c.args.seats m (given c.args.params.now) why))
+    (sym c.in-GetTxOut.is) (c.output.ensures.err c.args.seats)
+
+pub returns-in-Journal-clause-ok : goal.returns-in-Journal-clause-ok
+returns-in-Journal-clause-ok c =
+    subst (λ m. IfOk c.entries.result (λ call. IsCall c.args.seats m (given c.args.params.now) call))
+    (sym c.in-Journal.is) (c.entries.ensures.ok c.args.seats)
+
+pub returns-in-Journal-clause-err : goal.returns-in-Journal-clause-err
+returns-in-Journal-clause-err c =
+    subst (λ m. IfErr c.entries.result (λ why. IsNoCall c.args.seats m (given c.args.params.now) why))
+    (sym c.in-Journal.is) (c.entries.ensures.err c.args.seats)
+
+pub returns-in-Err-clause-err : goal.returns-in-Err-clause-err
+returns-in-Err-clause-err c =
+    let none = c.in-Err.ensures.err in
+    subst (λ m. IsNoCall c.args.seats m (given c.args.params.now) c.in-Err.refusal) (sym c.in-Invalidate.is)
+    (inr (is-param none.0, invalidate-no-id c.args.seats (given c.args.params.now) none.1))
+
+pub returns-in-Err-id-clause-err : goal.returns-in-Err-id-clause-err
+returns-in-Err-id-clause-err c =
+    let none = c.in-Err-id.ensures.err in
+    subst (λ m. IsNoCall c.args.seats m (given c.args.params.now) c.in-Err-id.refusal) (sym c.in-Reconsider.is)
+    (inr (is-param none.0, reconsider-no-id c.args.seats (given c.args.params.now) none.1))
+
+pub returns-in-Err-id-2-clause-err : goal.returns-in-Err-id-2-clause-err
+returns-in-Err-id-2-clause-err c =
+    let none = c.in-Err-id-2.ensures.err in
+    subst (λ m. IsNoCall c.args.seats m (given c.args.params.now) c.in-Err-id-2.refusal) (sym c.in-Precious.is)
+    (inr (is-param none.0, precious-no-id c.args.seats (given c.args.params.now) none.1))

@@ -1,0 +1,20 @@
+-- The tokens of a response before its object, and of the parts of lists.
+use Rattle.std.specs.Prelude.{◌∷◌, List, codes}
+use Rattle.json.specs.Token.{Token, begin_object, key, string}
+use Rattle.json.specs.Tree.{json_tokens}
+use Rattle.json.specs.Json.{object}
+use Rattle.hash.specs.Id.{hex_of_id}
+use Rattle.tree.specs.declared.tip.Tip.{Tip}
+use Rattle.serving.specs.Answers.{id_json, text, tip_members, step_members}
+use Rattle.serving.specs.declared.answer.Step.{Step}
+use Rattle.serving.specs.declared.request_id.RequestId.{RequestId}
+
+-- the version and the request's id
+abbrev pub front : RequestId → List Token
+front i = begin_object ∷ key (codes "jsonrpc") ∷ string (codes "2.0") ∷ key (codes "id") ∷ json_tokens (id_json i)
+
+abbrev pub tip_tokens : Tip → List Token
+tip_tokens t = json_tokens (object (text (codes "hash") (hex_of_id t.id) (tip_members t)))
+
+abbrev pub step_tokens : Step → List Token
+step_tokens s = json_tokens (object (step_members s))

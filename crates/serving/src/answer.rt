@@ -1,0 +1,240 @@
+//! What is answered, as members of an object.
+
+ghost use Rattle.std.specs.Prelude.{◌≡◌, ◌++◌, ◌∷◌, [], codes};
+ghost use Rattle.hash.specs.Id.{hex_of_id};
+ghost use Rattle.json.specs.Token.{key, string, boolean};
+ghost use Rattle.std.specs.List.{flat_map};
+ghost use Rattle.hex.specs.Hex.{encode_lower};
+ghost use Rattle.json.specs.Json.{no_members};
+ghost use Rattle.serving.specs.Answers.{Adds, answer_members, tip_members, output_members, step_members, info_members, members, now_of, status_name};
+ghost use Rattle.serving.specs.inside.Front.{tip_tokens, step_tokens};
+
+use crate::object::Object;
+use hash::Id;
+use std::alloc::{AllocError, Global};
+use tree::{Status, Tip};
+
+/// An answer, and its place in the history.
+#[derive(Clone, Copy)]
+pub struct Stamped<'a> {
+    pub at: u64,
+    pub answer: Answer<'a>,
+}
+
+/// What is answered beside the place.
+#[derive(Clone, Copy)]
+pub enum Answer<'a> {
+    /// Nothing more.
+    Place,
+    /// The reply of a step.
+    Reply(&'a str),
+    Best(Id),
+    Tips(&'a [Tip]),
+    Output(Option<Output<'a>>),
+    Steps(&'a [Step<'a>]),
+}
+
+/// An output that isn't spent. Its value is in satoshis.
+#[derive(Clone, Copy)]
+pub struct Output<'a> {
+    pub value: i64,
+    pub script: &'a [u8],
+    pub height: u32,
+    pub coinbase: bool,
+    pub confirmations: u32,
+}
+
+/// A line of the journal.
+#[derive(Clone, Copy)]
+pub struct Step<'a> {
+    /// Its place, from 1.
+    pub number: u64,
+    pub client: &'a str,
+    pub command: &'a str,
+    pub block: &'a str,
+    /// In seconds since 1970, of a submission.
+    pub moment: Option<u64>,
+    pub reply: &'a str,
+}
+
+/// How a node was opened. The heights are those of BIP 34, BIP 65, BIP 66, and of BIPs 68, 112 and 113.
+#[derive(Clone, Copy)]
+pub struct Info<'a> {
+    pub program: &'a str,
+    pub version: &'a str,
+    pub seats: u64,
+    pub workers: u64,
+    pub bip34: u32,
+    pub bip65: u32,
+    pub bip66: u32,
+    pub csv: u32,
+    /// How many entries a folder had that was loaded.
+    pub loaded: u64,
+}
+
+impl Object {
+    /// What is answered beside the place.
+    pub(crate) fn answer(&mut self, alloc: Global, answer: &Answer<'_>) -> Result<(), AllocError>
+        ensures { Adds result self.old self.new (members (answer_members answer.now)) }
+    {
+        match answer {
+            Answer::Place => Ok(()),
+            Answer::Reply(word) => self.text("answer", word),
+            Answer::Best(id) => {
+                self.begin("answer")?;
+                self.id(alloc, "hash", *id)?;
+                self.end()
+            }
+            Answer::Tips(tips) => {
+                self.begin_list("answer")?;
+                self.tips(alloc, tips)?;
+                self.end_list()
+            }
+            Answer::Output(None) => self.null("answer"),
+            Answer::Output(Some(output)) => {
+                self.begin("answer")?;
+                self.output(alloc, output)?;
+                self.end()
+            }
+            Answer::Steps(steps) => {
+                self.begin_list("answer")?;
+                self.steps(steps)?;
+                self.end_list()
+            }
+        }
+    }
+
+    /// Tips, as Bitcoin Core's `getchaintips` gives them.
+    fn tips(&mut self, alloc: Global, tips: &[Tip]) -> Result<(), AllocError>
+        ensures { Adds result self.old self.new (flat_map tip_tokens tips.now) }
+    {
+        for tip in tips {
+            self.whole_tip(alloc, tip)?;
+        }
+        Ok(())
+    }
+
+    fn whole_tip(&mut self, alloc: Global, tip: &Tip) -> Result<(), AllocError>
+        ensures { Adds result self.old self.new (tip_tokens tip.now) }
+    {
+        self.item()?;
+        self.id(alloc, "hash", tip.id)?;
+        self.tip(tip)?;
+        self.end()
+    }
+
+    fn steps(&mut self, steps: &[Step<'_>]) -> Result<(), AllocError>
+        ensures { Adds result self.old self.new (flat_map step_tokens steps.now) }
+    {
+        for step in steps {
+            self.whole_step(step)?;
+        }
+        Ok(())
+    }
+
+    fn whole_step(&mut self, step: &Step<'_>) -> Result<(), AllocError>
+        ensures { Adds result self.old self.new (step_tokens step.now) }
+    {
+        self.item()?;
+        self.step(step)?;
+        self.end()
+    }
+
+    /// An id, as it is printed.
+    pub fn id(&mut self, alloc: Global, name: &str, id: Id) -> Result<(), AllocError>
+        ensures { Adds result self.old self.new (key name.now ∷ string (hex_of_id id) ∷ []) }
+    {
+        let mut bytes = id.0;
+        bytes.reverse();
+        self.text(name, hex::encode(alloc, bytes)?.as_str())
+    }
+
+    /// The members of a tip behind its block.
+    pub fn tip(&mut self, tip: &Tip) -> Result<(), AllocError>
+        ensures { Adds result self.old self.new (members (tip_members tip.now)) }
+    {
+        self.number("height", tip.height as u64)?;
+        self.number("branchlen", tip.length as u64)?;
+        self.text("status", status_word(tip.status))
+    }
+
+    /// The members of an output.
+    pub fn output(&mut self, alloc: Global, output: &Output<'_>) -> Result<(), AllocError>
+        ensures { Adds result self.old self.new (members (output_members output.now)) }
+    {
+        self.signed("value", output.value)?;
+        self.bytes(alloc, "script", output.script)?;
+        self.number("height", u64::from(output.height))?;
+        self.origin(output)?;
+        self.number("confirmations", u64::from(output.confirmations))
+    }
+
+    /// The members of a line of the journal.
+    pub fn step(&mut self, step: &Step<'_>) -> Result<(), AllocError>
+        ensures { Adds result self.old self.new (members (step_members step.now)) }
+    {
+        self.number("step", step.number)?;
+        self.text("client", step.client)?;
+        self.text("command", step.command)?;
+        self.text("block", step.block)?;
+        self.moment(step.moment)?;
+        self.text("reply", step.reply)
+    }
+
+    /// The moment of a submission.
+    fn moment(&mut self, moment: Option<u64>) -> Result<(), AllocError>
+        ensures { Adds result self.old self.new (members (now_of moment no_members)) }
+    {
+        match moment {
+            Some(moment) => self.number("now", moment),
+            None => Ok(()),
+        }
+    }
+
+    /// Whether a coinbase made an output.
+    fn origin(&mut self, output: &Output<'_>) -> Result<(), AllocError>
+        ensures { Adds result self.old self.new (key (codes "coinbase") ∷ boolean output.now.coinbase ∷ []) }
+    {
+        if output.coinbase {
+            self.flag("coinbase", true)
+        } else {
+            self.flag("coinbase", false)
+        }
+    }
+
+    /// Bytes in hexadecimal digits.
+    fn bytes(&mut self, alloc: Global, name: &str, bytes: &[u8]) -> Result<(), AllocError>
+        ensures { Adds result self.old self.new (key name.now ∷ string (encode_lower bytes.now) ∷ []) }
+    {
+        self.text(name, hex::encode(alloc, bytes)?.as_str())
+    }
+
+    /// The members that say how a node was opened.
+    pub(crate) fn info(&mut self, info: &Info<'_>) -> Result<(), AllocError>
+        ensures { Adds result self.old self.new (members (info_members info.now)) }
+    {
+        self.text("program", info.program)?;
+        self.text("version", info.version)?;
+        self.number("seats", info.seats)?;
+        self.number("workers", info.workers)?;
+        self.begin("heights")?;
+        self.number("bip34", u64::from(info.bip34))?;
+        self.number("bip65", u64::from(info.bip65))?;
+        self.number("bip66", u64::from(info.bip66))?;
+        self.number("csv", u64::from(info.csv))?;
+        self.end()?;
+        self.number("loaded", info.loaded)
+    }
+}
+
+/// Bitcoin Core's words (`getchaintips`).
+pub fn status_word(status: Status) -> &'static str
+    ensures { result.now ≡ status_name status }
+{
+    match status {
+        Status::Active => "active",
+        Status::Invalid => "invalid",
+        Status::ValidFork => "valid-fork",
+        Status::ValidHeaders => "valid-headers",
+    }
+}

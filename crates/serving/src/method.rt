@@ -1,0 +1,46 @@
+//! The methods of a served node.
+
+ghost use Rattle.std.specs.Prelude.{◌≡◌, ◌≢◌, None, IfSome};
+ghost use Rattle.serving.specs.Requests.{method_name};
+ghost use Rattle.serving.specs.declared.method.Method.{Method as AnyMethod};
+
+/// A method, as a request names it.
+#[derive(Clone, Copy, Debug, PartialEq, Eq)]
+pub enum Method {
+    Submit,
+    Invalidate,
+    Reconsider,
+    Precious,
+    GetTxOut,
+    GetBestBlockHash,
+    GetChainTips,
+    Note,
+    Told,
+    Journal,
+    Info,
+    Finish,
+}
+
+impl Method {
+    /// The method of this name.
+    pub fn read(name: &str) -> Option<Method>
+        ensures found { IfSome result (λ m. name.now ≡ method_name m) }
+        ensures none { result ≡ None → (m : AnyMethod) → name.now ≢ method_name m }
+    {
+        Some(match name {
+            "submit" => Method::Submit,
+            "invalidate" => Method::Invalidate,
+            "reconsider" => Method::Reconsider,
+            "precious" => Method::Precious,
+            "gettxout" => Method::GetTxOut,
+            "getbestblockhash" => Method::GetBestBlockHash,
+            "getchaintips" => Method::GetChainTips,
+            "note" => Method::Note,
+            "told" => Method::Told,
+            "journal" => Method::Journal,
+            "info" => Method::Info,
+            "finish" => Method::Finish,
+            _ => return None,
+        })
+    }
+}

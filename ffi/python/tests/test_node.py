@@ -1,0 +1,353 @@
+"""A served node by Python: its calls from threads and from asyncio, what is raised, and processes that end."""
+
+import asyncio
+import os
+import stat
+import subprocess
+import tempfile
+import textwrap
+import threading
+import time
+import unittest
+
+import wakotehu
+from blocks import NOW, Maker, block_id, spend
+from wakotehu import AsyncNode, Node, Stamped, errors
+from wakotehu.encoding import GENESIS
+from wakotehu.node import program_path
+
+ROOT = os.path.realpath(os.path.join(os.path.dirname(__file__), "..", "..", ".."))
+#: The program: WAKOTEHU_PROGRAM, or where `./build` and `rt ci` leave it.
+PROGRAM = os.environ.get("WAKOTEHU_PROGRAM", f"{ROOT}/crates/regchain/out/regchain")
+
+
+class NodeTest(unittest.TestCase):
+    def setUp(self):
+        room = tempfile.TemporaryDirectory()
+        self.addCleanup(room.cleanup)
+        self.room = room.name
+        self.maker = Maker()
+
+    def node(self, *words, **more):
+        node = Node(*words, program=PROGRAM, **more)
+        self.addCleanup(node.kill)
+        return node
+
+    def fake(self, body):
+        """A program that answers by this code: `asked` is a request, `say` answers it."""
+        path = os.path.join(self.room, "fake")
+        with open(path, "w", encoding="utf-8") as file:
+            file.write(
+                "#!/usr/bin/env python3\nimport json, os, sys, time\n"
+                "def say(id, **more):\n    print(json.dumps({'jsonrpc': '2.0', 'id': id, **more}), flush=True)\n"
+                "INFO = {'program': 'fake', 'version': '0', 'seats': 1, 'workers': 1, 'loaded': 0,\n"
+                "    'heights': {'bip34': 1, 'bip65': 1, 'bip66': 1, 'csv': 1}}\n"
+                "for line in sys.stdin:\n    asked = json.loads(line)\n"
+                "    if asked['method'] == 'info':\n        say(asked['id'], result=INFO)\n        continue\n"
+                + textwrap.indent(textwrap.dedent(body), "    ")
+            )
+        os.chmod(path, os.stat(path).st_mode | stat.S_IXUSR)
+        return path
+
+    # ---- calls
+
+    def test_the_calls_of_a_seat(self):
+        node = self.node(seats=2, heights=(5, 6, 7, 8))
+        self.assertEqual(node.info[0], "regchain")
+        self.assertEqual(node.info[2:], (2, 2, (5, 6, 7, 8), 0))
+        seat = node.seat(0)
+        self.assertEqual(seat.getbestblockhash(), Stamped(0, GENESIS.id))
+        b1, b2 = self.maker.chain(2)
+        self.assertEqual(seat.submit(b1, NOW), Stamped(1, "accepted"))
+        self.assertEqual(seat.submit(b2, NOW), Stamped(2, "accepted"))
+        self.assertEqual(seat.submit(b1, NOW), Stamped(3, "duplicate"))
+        self.assertEqual(seat.getchaintips(), Stamped(3, [(block_id(b2), 2, 0, "active")]))
+        made = self.maker.coinbases[block_id(b1)].id
+        self.assertEqual(seat.gettxout(made, 0), Stamped(3, (5000000000, b"\x51", 1, True, 2)))
+        self.assertEqual(seat.gettxout(made, 1), Stamped(3, None))
+        self.assertEqual(seat.invalidate(block_id(b2)), Stamped(4, "done"))
+        self.assertEqual(seat.reconsider(block_id(b2)).value, "done")
+        self.assertEqual(seat.precious(block_id(b2)), Stamped(6, "done"))
+        entries = seat.journal(2, 4)
+        self.assertEqual(entries.at, 6)
+        self.assertEqual(
+            entries.value,
+            [
+                (2, "seat0", "submit", block_id(b2), NOW, "accepted"),
+                (3, "seat0", "submit", block_id(b1), NOW, "duplicate"),
+                (4, "seat0", "invalidate", block_id(b2), None, "done"),
+            ],
+        )
+        self.assertEqual(len(node.seat(1).journal().value), 6)
+        self.assertEqual(node.close(), 6)
+        self.assertIsNone(node.close())
+
+    def test_what_a_seat_hears(self):
+        node = self.node(seats=3)
+        first, second, third = node.seats
+        first.submit(self.maker.block(GENESIS.id), NOW)
+        self.assertEqual([seat.note() for seat in node.seats], [1, 0, 0])
+        self.assertEqual(second.told(third), 0)
+        self.assertEqual((second.told(first), third.told(second)), (1, 1))
+        with self.assertRaises(ValueError):
+            first.told(self.node().seat(0))
+
+    def test_refusals_are_raised_with_their_places(self):
+        seat = self.node().seat(3)
+        block = self.maker.block(GENESIS.id, more=1)
+        with self.assertRaises(errors.BadCbAmount) as caught:
+            seat.submit(block, NOW)
+        self.assertEqual((str(caught.exception), caught.exception.at), ("bad-cb-amount", 1))
+        with self.assertRaises(wakotehu.DecodeFailed) as caught:
+            seat.submit(b"nonsense", NOW)
+        self.assertEqual(caught.exception.at, 1)
+        with self.assertRaises(wakotehu.NotFound):
+            seat.invalidate(bytes(32))
+        with self.assertRaises(wakotehu.Genesis):
+            seat.invalidate(GENESIS.id)
+        told = seat.try_submit(block, NOW)
+        self.assertEqual(told, Stamped(4, ("duplicate-invalid", "duplicate-invalid", "", 0, 0)))
+
+    def test_a_script_that_is_refused_names_its_input(self):
+        seat = self.node().seat(0)
+        blocks = self.maker.chain(100)
+        for block in blocks:
+            seat.submit(block, NOW)
+        coin = self.maker.coinbases[block_id(blocks[0])].id
+        block = self.maker.block(block_id(blocks[-1]), [spend(coin, 0, 1, b"\x6a")])
+        with self.assertRaises(errors.BlkBadInputs) as caught:
+            seat.submit(block, NOW)
+        self.assertEqual((caught.exception.transaction, caught.exception.input), (1, 0))
+        self.assertEqual(seat.getbestblockhash().value, block_id(blocks[-1]))
+
+    def test_what_is_no_argument(self):
+        node = self.node(seats=2)
+        seat = node.seat(0)
+        for call in (
+            lambda: node.seat(2), lambda: node.seat(-1),
+        ):  # fmt: skip
+            self.assertRaises(IndexError, call)
+        for call in (
+            lambda: seat.submit(b"", -1), lambda: seat.submit(b"", 2**64), lambda: seat.invalidate(b"short"),
+            lambda: seat.gettxout(bytes(32), 2**32), lambda: seat.gettxout(bytes(31), 0), lambda: seat.journal(0, 1),
+            lambda: seat.try_mark("submit", bytes(32)),
+            lambda: Node(program=PROGRAM, load="x", table=""), lambda: Node(program=PROGRAM, heights=(1, 1, 1)),
+        ):  # fmt: skip
+            self.assertRaises(ValueError, call)
+        self.assertRaises(TypeError, lambda: node.__reduce_ex__(2))
+
+    # ---- threads
+
+    def test_two_threads(self):
+        """One submits, and lets the other know; that reads no earlier."""
+        node = self.node(seats=2)
+        blocks, ready, found = self.maker.chain(20), threading.Event(), []
+
+        def write():
+            for block in blocks:
+                node.seat(0).submit(block, NOW)
+            ready.set()
+
+        def read():
+            ready.wait()
+            node.seat(1).told(node.seat(0))
+            found.append(node.seat(1).getbestblockhash())
+
+        threads = [threading.Thread(target=each) for each in (write, read)]
+        for thread in threads:
+            thread.start()
+        for thread in threads:
+            thread.join()
+        self.assertEqual(found, [Stamped(20, block_id(blocks[-1]))])
+
+    def test_many_threads_at_each_seat(self):
+        """Answers find who asked, and no stamp falls."""
+        node = self.node(seats=3)
+        blocks, wrong = self.maker.chain(30), []
+        coins = {block_id(block): self.maker.coinbases[block_id(block)].id for block in blocks}
+
+        def read(number):
+            last = 0
+            for place in range(60):
+                block = blocks[(number * 7 + place) % 30]
+                stamped = node.seat(number % 3).gettxout(coins[block_id(block)], 0)
+                expected = stamped.at > blocks.index(block)
+                if (stamped.value is not None) != expected or stamped.at < last:
+                    wrong.append((number, place, stamped))
+                last = stamped.at
+
+        threads = [threading.Thread(target=read, args=(number,)) for number in range(24)]
+        for thread in threads:
+            thread.start()
+        for block in blocks:
+            node.seat(0).submit(block, NOW)
+        for thread in threads:
+            thread.join()
+        self.assertEqual(wrong, [])
+
+    # ---- its life
+
+    def test_it_saves_and_goes_on(self):
+        b1, b2 = self.maker.chain(2)
+        with Node(seats=1, heights=(1, 2, 3, 4), program=PROGRAM, save=self.room) as node:
+            node.seat(0).submit(b1, NOW)
+        with Node(program=PROGRAM, load=self.room, save=self.room) as node:
+            self.assertEqual((node.info.loaded, node.info.heights), (1, (1, 2, 3, 4)))
+            self.assertEqual(node.seat(3).submit(b2, NOW), Stamped(2, "accepted"))
+        audit = [PROGRAM, "audit", "--saved", self.room]
+        self.assertEqual(subprocess.run(audit, capture_output=True, check=True).stdout, b"agrees\n")
+        with Node(program=PROGRAM, blk=os.path.join(self.room, "blocks.blk")) as node:
+            self.assertEqual(node.seat(0).getbestblockhash(), Stamped(2, block_id(b2)))
+
+    def test_what_cannot_be_saved_is_raised(self):
+        folder = os.path.join(self.room, "saved")
+        os.mkdir(folder)
+        node = self.node(save=folder)
+        os.rmdir(folder)
+        with self.assertRaises(errors.BadRequest) as caught:
+            node.close()
+        self.assertEqual(caught.exception.code, -32004)
+
+    def test_it_is_killed(self):
+        node = self.node()
+        node.seat(0).note()
+        node._process.kill()
+        with self.assertRaises(wakotehu.NodeDied) as caught:
+            for _ in range(1000):
+                node.seat(0).note()
+                time.sleep(0.01)
+        self.assertEqual(caught.exception.status, -9)
+        self.assertRaises(wakotehu.NodeDied, node.seat(1).note)
+        self.assertRaises(wakotehu.NodeDied, node.close)
+        self.assertRaises(wakotehu.Closed, node.seat(1).note)
+
+    def test_who_waits_is_told_of_the_end(self):
+        fake = self.fake("print('it hurts', file=sys.stderr, flush=True)\nos._exit(3)\n")
+        node = Node(seats=1, program=fake)
+        self.addCleanup(node.kill)
+        with self.assertRaises(wakotehu.NodeDied) as caught:
+            node.seat(0).note()
+        self.assertEqual((caught.exception.status, caught.exception.stderr), (3, "it hurts\n"))
+
+    def test_calls_after_the_end(self):
+        node = self.node()
+        node.close()
+        self.assertRaises(wakotehu.Closed, node.seat(0).note)
+        node = self.node()
+        node.kill()
+        self.assertRaises(wakotehu.Closed, node.seat(0).getbestblockhash)
+
+    def test_openings_that_fail(self):
+        with self.assertRaises(wakotehu.NodeDied) as caught:
+            Node(seats=17, program=PROGRAM)
+        self.assertEqual(caught.exception.status, 1)
+        self.assertIn("--seats", caught.exception.stderr)
+        with self.assertRaises(wakotehu.BadTable) as caught:
+            Node(table="\n\nx\n", program=PROGRAM)
+        self.assertEqual(caught.exception.line, 3)
+        with self.assertRaises(wakotehu.NodeDied) as caught:
+            Node(load=os.path.join(self.room, "none"), program=PROGRAM)
+        self.assertIn("cannot read", str(caught.exception))
+        self.assertRaises(wakotehu.ProgramMissing, Node, program=self.room + "/none")
+
+    def test_an_exception_inside(self):
+        with self.assertRaises(KeyError):
+            with Node(program=PROGRAM) as node:
+                raise KeyError
+        self.assertEqual(node._process.returncode, 0)
+
+    # ---- what a node may answer
+
+    def test_faults_of_the_node(self):
+        fake = self.fake(
+            """
+            faults = {'note': (-32001, 'memory'), 'getchaintips': (-32002, 'owed'), 'getbestblockhash': (-32003, 'closed')}
+            if asked['method'] == 'finish':
+                say(asked['id'], result={'at': 0})
+                break
+            code, message = faults.get(asked['method'], (-32602, 'invalid params'))
+            say(asked['id'], error={'code': code, 'message': message, 'data': 'x'})
+            """
+        )
+        with Node(seats=1, program=fake) as node:
+            seat = node.seat(0)
+            self.assertRaises(wakotehu.Memory, seat.note)
+            self.assertRaises(wakotehu.Owed, seat.getchaintips)
+            self.assertRaises(wakotehu.Closed, seat.getbestblockhash)
+            with self.assertRaises(wakotehu.BadRequest) as caught:
+                seat.invalidate(bytes(32))
+            self.assertEqual((caught.exception.code, caught.exception.data), (-32602, "x"))
+
+    def test_where_the_program_is_looked_for(self):
+        before = dict(os.environ)
+        self.addCleanup(os.environ.update, before)
+        place = os.path.join(self.room, "regchain")
+        os.symlink(PROGRAM, place)
+        os.environ["WAKOTEHU_PROGRAM"] = place
+        self.assertEqual(program_path(), place)
+        self.assertEqual(program_path(PROGRAM), PROGRAM)
+        del os.environ["WAKOTEHU_PROGRAM"]
+        os.environ["WAKOTEHU_LIBRARY"] = os.path.join(self.room, "libwakotehu.so")
+        self.assertEqual(program_path(), place)
+        del os.environ["WAKOTEHU_LIBRARY"]
+        os.environ["PATH"] = self.room
+        self.assertEqual(program_path(), place)
+        os.environ["PATH"] = "/nowhere"
+        self.assertRaises(wakotehu.ProgramMissing, program_path)
+        if "WAKOTEHU_LIBRARY" not in before:
+            os.environ.pop("WAKOTEHU_LIBRARY", None)
+
+
+class AsyncNodeTest(unittest.IsolatedAsyncioTestCase):
+    def setUp(self):
+        self.maker = Maker()
+
+    async def test_the_calls(self):
+        async with AsyncNode(seats=2, program=PROGRAM) as node:
+            self.assertEqual(node.info.seats, 2)
+            first, second = node.seats
+            blocks = self.maker.chain(5)
+            written = await asyncio.gather(*(first.submit(block, NOW) for block in blocks))
+            self.assertEqual(written, [Stamped(place, "accepted") for place in range(1, 6)])
+            self.assertEqual(await second.note(), 0)
+            self.assertEqual(await second.told(first), 5)
+            self.assertEqual(await second.getbestblockhash(), Stamped(5, block_id(blocks[-1])))
+            self.assertEqual(await second.getchaintips(), Stamped(5, [(block_id(blocks[-1]), 5, 0, "active")]))
+            made = self.maker.coinbases[block_id(blocks[0])].id
+            self.assertEqual(await second.gettxout(made, 0), Stamped(5, (5000000000, b"\x51", 1, True, 5)))
+            self.assertEqual((await second.invalidate(block_id(blocks[1]))).at, 6)
+            self.assertEqual(await second.reconsider(block_id(blocks[1])), Stamped(7, "done"))
+            self.assertEqual(await second.precious(block_id(blocks[1])), Stamped(8, "done"))
+            self.assertEqual([entry.command for entry in (await first.journal(5)).value][-1], "precious")
+            with self.assertRaises(errors.DecodeFailed):
+                await first.submit(b"", NOW)
+            many = await asyncio.gather(*(seat.getbestblockhash() for seat in node.seats * 200))
+            self.assertEqual({stamped.value for stamped in many}, {block_id(blocks[-1])})
+        with self.assertRaises(wakotehu.Closed):
+            await first.note()
+
+    async def test_it_is_killed(self):
+        async with AsyncNode(program=PROGRAM) as node:
+            await node.seat(0).note()
+            node._process.kill()
+            with self.assertRaises(wakotehu.NodeDied) as caught:
+                for _ in range(1000):
+                    await node.seat(0).note()
+                    await asyncio.sleep(0.01)
+            self.assertEqual(caught.exception.status, -9)
+            await node.kill()
+
+    async def test_openings_that_fail(self):
+        with self.assertRaises(wakotehu.NodeDied):
+            async with AsyncNode(seats=17, program=PROGRAM):
+                pass
+        with self.assertRaises(wakotehu.BadTable):
+            async with AsyncNode(table="x", program=PROGRAM):
+                pass
+        with self.assertRaises(ValueError):
+            async with AsyncNode(load="x", table="", program=PROGRAM):
+                pass
+
+
+if __name__ == "__main__":
+    unittest.main()
