@@ -3,6 +3,7 @@
 use crate::clients::BLK_MOMENT;
 use crate::fault::Fault;
 use crate::report::Clients;
+use block::SliceSource;
 use hash::Id;
 use journal::{Records, Step};
 use node::{Command, Naming, Node, Reply, Seat, SubmitReply};
@@ -74,7 +75,7 @@ fn submit_file<J: Naming, R>(
 where
     R: AllocGlobal + Threads + Wait + Sync,
 {
-    let mut records = Records::new(rt.alloc(), file);
+    let mut records = Records::new(rt.alloc(), SliceSource::new(file));
     for _ in 0..u64::MAX {
         let Some(record) = records.next()? else {
             return Ok(());
