@@ -74,7 +74,8 @@ class Found:
         """The valid triples that the scripts of an input ask for, one after the other; `own` is its own script.
 
         Each signature operation asks for at most one, so where all of them have asked the scripts aren't run again."""
-        most = script(own).accurate + script(spent).accurate + p2sh_sigops(own, spent)
+        kind = script(spent)
+        most = kind.accurate + script(own).accurate + (p2sh_sigops(own, spent) if kind.p2sh else 0)
         valid, invalid, yes = b"", b"", set()
         for _ in range(most):
             triple = verify_known(data, input, spent, flags, valid, invalid)
