@@ -121,6 +121,9 @@ KINDS: Tuple[Kind, ...] = (
         submit a1      | duplicate-invalid, base | bad-txns-nonfinal, base
         submit a2      | bad-prevblk, base       | prev-blk-not-found, base
         invalidate a1  | done, base              | not-found, base
+        reconsider a1  | done, base              | not-found, base
+        submit a2      | inconclusive, base      | prev-blk-not-found, base
+        submit a1      | bad-txns-nonfinal, base | bad-txns-nonfinal, base
         """,
         base=101,
     ),

@@ -48,6 +48,14 @@ class Node:
         return self.failed_itself or self.failed_below
 
     @property
+    def is_whole(self) -> bool:
+        """Whether the data of its whole branch are there (HaveTxsDownloaded)."""
+        at: Optional[Node] = self
+        while at is not None and at.has_data:
+            at = at.parent
+        return at is None
+
+    @property
     def rank(self) -> Tuple[int, int]:
         """CBlockIndexWorkComparator: more work first, then who came first."""
         return self.height, -self.sequence
@@ -107,9 +115,11 @@ class CoreTree:
         if verdict.kind == PLACE:
             node.failed_itself = True
             return verdict.reason
-        node.sequence, node.has_data = self.sequence, True
-        self.sequence += 1
-        self._offer(node)
+        node.has_data = True
+        if node.is_whole:
+            node.sequence = self.sequence
+            self.sequence += 1
+            self._offer(node)
         checked = self._activate()
         if node in checked:
             return checked[node] or "accepted"
@@ -147,7 +157,7 @@ class CoreTree:
         assert node.parent is not None
         waiting = {
             n for n in self.nodes.values()
-            if not self._is_active(n) and n.rank >= node.parent.rank and n.has_data and not n.failed
+            if not self._is_active(n) and n.rank >= node.parent.rank and n.is_whole and not n.failed
         }  # fmt: skip
         marked = node
         while self._is_active(node):
@@ -167,7 +177,7 @@ class CoreTree:
         self.candidates.discard(marked)
         self.failed.add(marked)
         for other in self.nodes.values():
-            if other.has_data and not other.failed and not other.rank < self.tip.rank:
+            if other.is_whole and not other.failed and not other.rank < self.tip.rank:
                 self.candidates.add(other)
         self._activate()
         return "done"
@@ -179,7 +189,7 @@ class CoreTree:
         for other in self.nodes.values():
             if other.failed and other.height >= node.height and other.up_to(node.height) is node:
                 other.failed_itself = other.failed_below = False
-                if other.has_data and self.tip.rank < other.rank:
+                if other.is_whole and self.tip.rank < other.rank:
                     self.candidates.add(other)
                 self.failed.discard(other)
         at: Optional[Node] = node
@@ -203,7 +213,7 @@ class CoreTree:
         self.candidates.discard(node)
         node.sequence = self.reverse
         self.reverse -= 1
-        if node.has_data and not node.failed:
+        if node.is_whole and not node.failed:
             self.candidates.add(node)
             self._prune()
         self._activate()
@@ -218,7 +228,7 @@ class CoreTree:
     def _status(self, node: Node) -> str:
         if node.failed:
             return "invalid"
-        if not node.has_data:
+        if not node.is_whole:
             return "headers-only"
         return "valid-fork" if node.was_valid else "valid-headers"
 

@@ -10,7 +10,7 @@ from wakotehu.encoding import (
     Block, Header, Input, Output, Transaction, coinbase, double_sha, hash160, merkle_root, push, push_number, signature_digest, subsidy,
     write_block, write_transaction,
 )  # fmt: skip
-from wakotehu.signatures import Secp256k1, asked
+from wakotehu.signatures import Secp256k1
 
 from .compare import Bench
 from .peer import has_work
@@ -277,14 +277,22 @@ OPERATIONS: Tuple[Tuple[int, int], ...] = (
 )  # fmt: skip
 
 
-def table_of(pair: Pair, secp: Secp256k1) -> bytes:
-    """The signatures that are valid, of those that the scripts can ask for."""
-    return "".join(triple.line for triple in asked(pair.tx, 0, pair.spent) if secp.valid(triple)).encode()
+def accepts(pair: Pair, flags: Set[str], secp: Secp256k1) -> bool:
+    """Whether ours accepts the spend by some rules: libsecp256k1 is asked about each signature that the scripts come to."""
+    data, valid, invalid = write_transaction(pair.tx), b"", b""
+    while True:
+        answer = consensus.verify_known(data, 0, pair.spent, flags, valid, invalid)
+        if isinstance(answer, bool):
+            return answer
+        if secp.valid(answer):
+            valid += answer.line
+        else:
+            invalid += answer.line
 
 
 def ours(pair: Pair, height: int, secp: Secp256k1) -> bool:
     """Whether ours accepts the spend in a block of a height."""
-    return consensus.verify(write_transaction(pair.tx), 0, pair.spent, flags_at(height), table_of(pair, secp))
+    return accepts(pair, flags_at(height), secp)
 
 
 def proposal(pair: Pair, value: int, height: int, time: int, parent: bytes) -> bytes:
@@ -389,13 +397,11 @@ def right(height: int, secp: Secp256k1) -> Callable[[Pair], bool]:
 def wrong(height: int, secp: Secp256k1) -> Dict[str, Callable[[Pair], bool]]:
     """What ours would say by wrong rules, each of which has to be found."""
 
-    def by(flags: Set[str], with_table: bool = True) -> Callable[[Pair], bool]:
-        return lambda pair: consensus.verify(
-            write_transaction(pair.tx), 0, pair.spent, flags, table_of(pair, secp) if with_table else b""
-        )
+    def by(flags: Set[str]) -> Callable[[Pair], bool]:
+        return lambda pair: accepts(pair, flags, secp)
 
     known = flags_at(height)
     rules = {f"{name} isn't in force": by(known - {name}) for name in sorted(known)}
     rules.update({f"{name} is in force": by(known | {name}) for name in sorted(consensus.ALL - known)})
-    rules["no signature is valid"] = by(known, False)
+    rules["no signature is valid"] = lambda pair: consensus.verify(write_transaction(pair.tx), 0, pair.spent, known, b"")
     return rules
