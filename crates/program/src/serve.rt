@@ -122,9 +122,13 @@ fn clients<'t>(alloc: Global, earlier: &Earlier<'t>) -> Result<Clients<'t>, Faul
     for step in earlier.steps.as_slice() {
         names.push(step.client)?;
     }
+    let mut seats = Vec::new(alloc);
+    for name in &SEATS {
+        seats.push(*name)?;
+    }
     Ok(Clients {
         earlier: names,
-        seats: Vec::from_slice(alloc, &SEATS)?,
+        seats,
     })
 }
 

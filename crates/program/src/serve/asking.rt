@@ -176,46 +176,60 @@ fn listed(
     at: u64,
     entries: &[Entry],
 ) -> Result<Vec<u8>, Refusal> {
-    let texts = entry_texts(alloc, entries)?;
-    let mut steps = Vec::new(alloc);
-    for ((place, entry), text) in entries.iter().enumerate().zip(texts.iter()) {
+    let mut texts = Vec::new(alloc);
+    for (place, entry) in entries.iter().enumerate() {
         let number = first.saturating_add(place as u64);
-        let asked = Asked::from_command(&entry.command);
-        steps
-            .push(Step {
-                number,
-                client: facts
-                    .clients
-                    .name(number.saturating_sub(1) as usize, entry.seat),
-                command: asked.word(),
-                block: text.block.as_str(),
-                moment: asked.moment(),
-                reply: text.reply.as_str(),
-            })
+        texts
+            .push(entry_text(alloc, facts, number, entry)?)
             .map_err(|_| Refusal::Memory)?;
+    }
+    let mut steps = Vec::new(alloc);
+    for text in texts.as_slice() {
+        steps.push(text.step()).map_err(|_| Refusal::Memory)?;
     }
     stamped(alloc, room, id, at, Answer::Steps(steps.as_slice()))
 }
 
-/// The texts of an entry's block and of its reply.
+/// An entry by its texts.
 #[derive(Drop)]
 struct EntryText {
+    number: u64,
+    client: String,
+    asked: Asked,
     block: String,
     reply: String,
 }
 
-fn entry_texts(alloc: Global, entries: &[Entry]) -> Result<Vec<EntryText>, Refusal> {
-    let mut texts = Vec::new(alloc);
-    for entry in entries {
-        let block = block_of(alloc, entry).map_err(|_| Refusal::Memory)?;
-        texts
-            .push(EntryText {
-                block: block.to_string(alloc).map_err(short)?,
-                reply: reply_text(alloc, entry.reply).map_err(short)?,
-            })
-            .map_err(|_| Refusal::Memory)?;
+impl EntryText {
+    fn step(&self) -> Step<'_> {
+        Step {
+            number: self.number,
+            client: self.client.as_str(),
+            command: self.asked.word(),
+            block: self.block.as_str(),
+            moment: self.asked.moment(),
+            reply: self.reply.as_str(),
+        }
     }
-    Ok(texts)
+}
+
+/// The texts of the entry of this number.
+fn entry_text(
+    alloc: Global,
+    facts: &Facts<'_>,
+    number: u64,
+    entry: &Entry,
+) -> Result<EntryText, Refusal> {
+    let place = number.saturating_sub(1) as usize;
+    let client = facts.clients.name(place, entry.seat);
+    let block = block_of(alloc, entry).map_err(|_| Refusal::Memory)?;
+    Ok(EntryText {
+        number,
+        client: String::from_str(alloc, client).map_err(short)?,
+        asked: Asked::from_command(&entry.command),
+        block: block.to_string(alloc).map_err(short)?,
+        reply: reply_text(alloc, entry.reply).map_err(short)?,
+    })
 }
 
 fn short(_error: AllocError) -> Refusal {

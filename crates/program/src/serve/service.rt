@@ -35,10 +35,10 @@ struct Place<'s, 't, J: Naming> {
 type Places<'s, 't, J> = Vec<Mutex<Option<Place<'s, 't, J>>>>;
 
 /// Answers the requests of an input on an output until it ends or one asks for the end.
-pub fn serve_requests<J: Naming, R, I, O>(
+pub fn serve_requests<'t, J: Naming, R, I, O>(
     rt: &R,
     node: &Node<'_, J>,
-    seats: &mut [Seat<'_, J>],
+    seats: &mut [Seat<'t, J>],
     facts: &Facts<'_>,
     input: &mut I,
     out: &mut O,
@@ -52,7 +52,7 @@ where
     let board = Board::new(alloc, seats)?;
     let (to, lines) = crossbeam_channel::bounded(alloc, WAITING)?;
     let mut seat_doors = Vec::new(alloc);
-    let mut places = Vec::new(alloc);
+    let mut places: Places<'_, 't, J> = Vec::new(alloc);
     let all = seats.iter_mut();
     for seat in all {
         let (door, turns) = crossbeam_channel::bounded(alloc, WAITING)?;
@@ -78,12 +78,12 @@ where
 }
 
 /// Runs the threads until all have ended. Within, whether all lines were written.
-fn run_threads<J: Naming, R, I, O>(
+fn run_threads<'t, J: Naming, R, I, O>(
     rt: &R,
     node: &Node<'_, J>,
     board: &Board<J>,
     facts: &Facts<'_>,
-    places: &Places<'_, '_, J>,
+    places: &Places<'_, 't, J>,
     doors: &Mutex<Option<Doors>>,
     input: &Mutex<&mut I>,
     read: &Mutex<Asked>,
