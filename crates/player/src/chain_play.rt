@@ -103,35 +103,48 @@ where
     bail!("a chainstate is refused again and again")
 }
 
-/// A chainstate between two calls, and what it shows.
-#[derive(Drop)]
-struct Played<'t> {
-    chain: Chain<'t>,
-    state: State,
+/// What a chainstate shows.
+fn shown(alloc: Global, asked: &Asked<'_>, chain: &Chain<'_>) -> Result<State, Memory> {
+    let look = chain.look(alloc)?;
+    state_of(alloc, asked.definitions, &look, asked.calls(1))
+}
+
+/// Writes what a call reads, if it takes no step: whether it takes none.
+fn write_read(
+    alloc: Global,
+    asked: &Asked<'_>,
+    chain: &Chain<'_>,
+    call: &Call<'_, '_>,
+    log: &mut Log,
+) -> Result<bool, Memory> {
+    let look = chain.look(alloc)?;
+    let Some(answer) = read(alloc, asked.definitions, &look, &call.request)? else {
+        return Ok(false);
+    };
+    log.answer(&call.words, answer)?;
+    Ok(true)
 }
 
 /// Takes a command until it isn't refused memory, and writes its reply. A refusal that changes the state is written.
 fn taken<'t, R>(
     rt: &R,
     asked: &Asked<'_>,
-    played: Played<'t>,
+    mut chain: Chain<'t>,
+    state: &State,
     call: &Call<'_, '_>,
     is_counted: bool,
     log: &mut Log,
-) -> Result<Played<'t>, Memory>
+) -> Result<Chain<'t>, Memory>
 where
     R: AllocGlobal + Env,
 {
-    let alloc = rt.alloc();
-    let Played { mut chain, state } = played;
-    let outputs = asked.calls(1);
     for _ in 0..MOST_TRIES {
-        let Some(command) = command_of(alloc, &call.request)? else {
+        let Some(command) = command_of(rt.alloc(), &call.request)? else {
             break;
         };
         let desk = Desk {
             is_counted,
-            outputs,
+            outputs: asked.calls(1),
             coins: state.coins.as_str(),
         };
         let (after, reply) = chain.take(rt, command, &desk, log)?;
@@ -140,17 +153,13 @@ where
             log.answer(&call.words, reply)?;
             break;
         }
-        let left = state_of(alloc, asked.definitions, &chain.look(alloc)?, outputs)?;
-        if left != state {
-            writeln!(
-                log.text,
-                "{} is refused, and leaves another state",
-                call.words
-            )?;
+        let left = shown(rt.alloc(), asked, &chain)?;
+        if left != *state {
+            log.answer(&call.words, "refused, and another state is left")?;
             write_state(&left, log)?;
         }
     }
-    Ok(Played { chain, state })
+    Ok(chain)
 }
 
 /// Makes the first client's calls one after the other. The state is written after each where that is asked for, and at the
@@ -160,27 +169,17 @@ where
     R: AllocGlobal + Env,
 {
     let alloc = rt.alloc();
-    let (definitions, outputs) = (asked.definitions, asked.calls(1));
-    let chain = opened(rt, asked, is_lent, log)?;
-    let state = state_of(alloc, definitions, &chain.look(alloc)?, outputs)?;
-    let mut played = Played { chain, state };
+    let mut chain = opened(rt, asked, is_lent, log)?;
+    let mut state = shown(alloc, asked, &chain)?;
     for (place, call) in asked.calls(0).iter().enumerate() {
-        if let Some(answer) = read(
-            alloc,
-            definitions,
-            &played.chain.look(alloc)?,
-            &call.request,
-        )? {
-            log.answer(&call.words, answer)?;
-            continue;
-        }
-        let is_counted = place >= asked.options.count("skipped", 0);
-        played = taken(rt, asked, played, call, is_counted, log)?;
-        if asked.options.is("each") {
-            played.state = state_of(alloc, definitions, &played.chain.look(alloc)?, outputs)?;
-            write_state(&played.state, log)?;
+        if !write_read(alloc, asked, &chain, call, log)? {
+            let is_counted = place >= asked.options.count("skipped", 0);
+            chain = taken(rt, asked, chain, &state, call, is_counted, log)?;
+            if asked.options.is("each") {
+                state = shown(alloc, asked, &chain)?;
+                write_state(&state, log)?;
+            }
         }
     }
-    let state = state_of(alloc, definitions, &played.chain.look(alloc)?, outputs)?;
-    Ok(write_state(&state, log)?)
+    Ok(write_state(&shown(alloc, asked, &chain)?, log)?)
 }

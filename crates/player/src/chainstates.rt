@@ -123,11 +123,8 @@ impl<'t> Lent<'t> {
     /// Genesis alone.
     pub fn new(alloc: Global, params: Params, table: &'t Table) -> Result<Lent<'t>, Memory> {
         let core = Core::with(alloc, params)?;
-        Ok(Lent {
-            core,
-            coins: CoinMap::new(alloc),
-            table,
-        })
+        let coins = CoinMap::new(alloc);
+        Ok(Lent { core, coins, table })
     }
 
     pub fn look(&self, alloc: Global) -> Result<Look<'_>, Memory> {

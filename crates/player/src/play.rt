@@ -122,12 +122,13 @@ where
         };
         let mut log = Log::new(rt.alloc());
         play_once(rt, &asked, gate, &mut log)?;
-        print!(rt; "play {number}\n{}", log.refusals)?;
-        if log.text != last {
-            print!(rt; "{}", log.text)?;
-            last = log.text;
+        let Log { text, refusals } = log;
+        print!(rt; "play {number}\n{refusals}")?;
+        if text.as_str() != last.as_str() {
+            print!(rt; "{text}")?;
+            last = text;
         }
-        if log.refusals.is_empty() {
+        if refusals.is_empty() {
             break;
         }
     }
