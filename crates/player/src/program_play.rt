@@ -65,7 +65,7 @@ pub fn play_program<R, I>(
 ) -> anyhow::Result<()>
 where
     R: Files<File = File> + AllocGlobal + Clock + Print + Threads + Wait + Sync,
-    I: Read + Drop,
+    I: Read + Send + Drop,
 {
     let alloc = rt.alloc();
     let mut out = stream_of(alloc, options.number("writes", u64::MAX));
