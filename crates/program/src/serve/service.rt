@@ -70,7 +70,7 @@ where
     }));
     let lines = Mutex::new(Some(lines));
     let input = Mutex::new(&mut *input);
-    let read = Mutex::new(Ok(None));
+    let read: Mutex<Asked> = Mutex::new(Ok(None));
     let written = run_threads(
         rt, node, &board, facts, &places, &doors, &input, &read, &lines, out,
     )?;
