@@ -83,12 +83,14 @@ pub fn read<'d>(
 
 /// What is told of a coin where the active block has this height.
 fn output_of(alloc: Global, coin: &Coin, height: usize) -> Result<UnspentOutput, Memory> {
-    let above = height.saturating_sub(coin.height as usize);
+    let above = u32::try_from(height)
+        .unwrap_or(u32::MAX)
+        .saturating_sub(coin.height);
     Ok(UnspentOutput {
         value: coin.value,
         script: Script::from_vec(Vec::from_slice(alloc, coin.script.as_slice())?),
         height: coin.height,
         coinbase: coin.coinbase,
-        confirmations: above.saturating_add(1) as u32,
+        confirmations: above.saturating_add(1),
     })
 }
