@@ -1,6 +1,6 @@
 //! Connecting a block.
 
-ghost use Rattle.std.specs.Prelude.{◌≡◌, ◌+ℤ◌, ◌≤◌, ◌≤ℤ◌, ◌^◌, ◌∷◌, neg_ℤ, pos, false, int_lt, map, All, IfOk, IfErr, OnOk, OnErr, None, length};
+ghost use Rattle.std.specs.Prelude.{◌≡◌, ◌+ℤ◌, ◌≤◌, ◌≤ℤ◌, ◌^◌, neg_ℤ, pos, false, int_lt, IfOk, IfErr, OnOk, OnErr, None, length};
 ghost use Rattle.std.specs.List.{AllByRecursion, list_any, flat_map};
 ghost use Rattle.std.specs.Result.{result_err};
 ghost use Rattle.txn.specs.Check.{total};
@@ -10,11 +10,11 @@ ghost use Rattle.block.specs.Reward.{subsidy_of};
 ghost use Rattle.coins.specs.Entries.{over, IsSound};
 ghost use Rattle.rules.specs.Alone.{max_block_sigops, alone_rules};
 ghost use Rattle.connect.specs.Setting.{setting};
-ghost use Rattle.connect.specs.Turns.{spent_in, turns, effect, undo_of};
+ghost use Rattle.connect.specs.Turns.{turns, effect};
 ghost use Rattle.connect.specs.Faults.{overwrites, fees, turn_rules, connect_rules};
 ghost use Rattle.connect.specs.Scripts.{IsConnectFault};
 ghost use Rattle.connect.specs.Connecting.{IsConnected};
-ghost use Rattle.connect.specs.inside.Turns.{IsReason, IsLawful};
+ghost use Rattle.connect.specs.inside.Turns.{IsReason, IsLawful, PassInTurn, PassTogether};
 ghost use Rattle.connect.specs.declared.lookups.Lookup.TheVariants.{Above};
 
 use crate::amounts::paid;
@@ -181,13 +181,8 @@ fn connect_txs<'b, B: Base>(
     requires ids { ids.now ≡ ids_of txs.now }
     ensures fault { let m = layer.entry.coins in
         IfErr result (IsReason (first_broken (connect_rules (setting context.now) m txs.now))) }
-    ensures none { let m = layer.entry.coins in
-        OnOk result (first_broken (connect_rules (setting context.now) m txs.now) ≡ None) }
-    ensures layer { let m = layer.entry.coins in
-        IfOk result (λ done.
-        done.0 ≡ record layer.entry { coins = effect context.now.height m txs.now }) }
-    ensures undo { let m = layer.entry.coins in
-        IfOk result (λ done. done.1 ≡ undo_of context.now.height m txs.now) }
+    ensures pass { IfOk result (λ done.
+        PassTogether (setting context.now) layer.entry txs.now done.0 done.1) }
 {
     if is_overwriting(&layer, txs, ids) {
         return Err(Stop::Broken(Reason::OverwritesCoin));
@@ -248,17 +243,8 @@ fn connect_others<'b, B: Base>(
     requires below { lookup ≡ Above → list_any (overwrites layer.base) txs.now ≡ false }
     ensures fault { let ts = turns context.now.height layer.entry.coins counted txs.now in
         IfErr result (IsReason (first_broken (flat_map (turn_rules (setting context.now)) ts))) }
-    ensures none { let ts = turns context.now.height layer.entry.coins counted txs.now in
-        OnOk result (first_broken (flat_map (turn_rules (setting context.now)) ts) ≡ None) }
-    ensures layer { let m = layer.entry.coins in
-        IfOk result (λ done.
-        done.layer ≡ record layer.entry { coins = effect context.now.height m txs.now }) }
-    ensures undo { let ts = turns context.now.height layer.entry.coins counted txs.now in
-        IfOk result (λ done. done.undo ≡ map spent_in ts) }
-    ensures fees { let ts = turns context.now.height layer.entry.coins counted txs.now in
-        IfOk result (λ done. done.fees ≡ fees ts) }
-    ensures low { IfOk result (λ done. neg_ℤ (pos (2 ^ 104)) ≤ℤ done.fees) }
-    ensures high { IfOk result (λ done. done.fees ≤ℤ pos (2 ^ 104)) }
+    ensures pass { IfOk result (λ done. PassInTurn (setting context.now) layer.entry txs.now counted
+        done.layer done.undo done.fees) }
 {
     let mut undo = BlockUndo::new(alloc);
     let mut fees = 0;

@@ -10,9 +10,9 @@ ghost use Rattle.undo.specs.Effect.{spends, without};
 ghost use Rattle.rules.specs.Alone.{max_block_sigops};
 ghost use Rattle.coins.specs.Coins.{Coins, same};
 ghost use Rattle.connect.specs.Setting.{Setting, setting, median_below};
-ghost use Rattle.connect.specs.Turns.{turn, left_by, spent_in, plain_count, full_count};
+ghost use Rattle.connect.specs.Turns.{turn, plain_count, full_count};
 ghost use Rattle.connect.specs.Faults.{is_immature, lock_start, fee, overwrites, turn_rules};
-ghost use Rattle.connect.specs.inside.Turns.{HasFound, IsReason, IsLawful};
+ghost use Rattle.connect.specs.inside.Turns.{HasFound, IsReason, IsLawful, Passes};
 ghost use Rattle.connect.specs.laws.Broken.{UpToAmount, UpToCount};
 ghost use Rattle.connect.specs.declared.lookups.Lookup.TheVariants.{Above};
 
@@ -75,20 +75,9 @@ pub(crate) fn connect_tx<'b, B: Base>(
     requires below { lookup ≡ Above → overwrites layer.base tx.now ≡ false }
     ensures fault { let t = turn tx.now layer.entry.coins counted in
         IfErr result (IsReason (first_broken (turn_rules (setting context.now) t))) }
-    ensures none { let t = turn tx.now layer.entry.coins counted in
-        OnOk result (first_broken (turn_rules (setting context.now) t) ≡ None) }
-    ensures layer { let t = turn tx.now layer.entry.coins counted in
-        IfOk result (λ done.
-        done.layer ≡ record layer.entry { coins = left_by context.now.height t }) }
-    ensures spent { let t = turn tx.now layer.entry.coins counted in
-        IfOk result (λ done. done.spent ≡ spent_in t) }
-    ensures fee { let t = turn tx.now layer.entry.coins counted in
-        IfOk result (λ done. done.passed.fee ≡ fee t) }
-    ensures low { IfOk result (λ done. neg_ℤ (pos (2 ^ 84)) ≤ℤ done.passed.fee) }
-    ensures high { IfOk result (λ done. done.passed.fee ≤ℤ pos (2 ^ 84)) }
-    ensures counted { let t = turn tx.now layer.entry.coins counted in
-        IfOk result (λ done. done.passed.counted ≡ full_count t) }
-    ensures few { IfOk result (λ done. done.passed.counted ≤ max_block_sigops) }
+    ensures passes { let t = turn tx.now layer.entry.coins counted in
+        IfOk result (λ done. Passes (setting context.now) layer.entry t done.layer done.spent
+        done.passed.fee done.passed.counted) }
 {
     // Asked before its inputs are taken: one may spend what stands where an output is to come.
     let overwriting = overwrites_in_turn(&layer, tx, id, lookup);

@@ -44,7 +44,7 @@ first_refused-requires-clause-alike g c =
     let coinbase = lawful_coinbase_first c.args.block.now lawful in
     let slice = c.as_slice-in-Ok.result.now in
     let others : take (length slice - 1) (drop 1 slice) ≡ drop 1 txs = tail_of slice ∙ ap (drop 1) c.as_slice-in-Ok.ensures in
-    let undo : c.in-Ok.undo ≡ undo_of s.height m txs = c.in-Ok.ensures.undo ∙ ap (undo_of s.height m) c.as_slice.ensures in
+    let undo : c.in-Ok.undo ≡ undo_of s.height m txs = c.in-Ok.ensures.pass.undo ∙ ap (undo_of s.height m) c.as_slice.ensures in
     subst (λ (l : List Tx). AllZip Fits l c.in-Ok.undo) (sym others) (subst (λ (l : List (List Coin)). AllZip Fits (drop 1 txs) l) (sym undo) (block_fits s m txs coinbase))
 
 pub first_refused-requires-clause-few : goal.first_refused-requires-clause-few
@@ -56,7 +56,7 @@ first_refused-requires-clause-few g c =
     let coinbase = lawful_coinbase_first c.args.block.now lawful in
     let slice = c.as_slice-in-Ok.result.now in
     let others : take (length slice - 1) (drop 1 slice) ≡ drop 1 txs = tail_of slice ∙ ap (drop 1) c.as_slice-in-Ok.ensures in
-    let undo : c.in-Ok.undo ≡ undo_of s.height m txs = c.in-Ok.ensures.undo ∙ ap (undo_of s.height m) c.as_slice.ensures in
+    let undo : c.in-Ok.undo ≡ undo_of s.height m txs = c.in-Ok.ensures.pass.undo ∙ ap (undo_of s.height m) c.as_slice.ensures in
     omega (arith, ap (λ (l : List (List Coin)). sum_by (λ (coins : List Coin). length coins) l) undo, block_few s m txs coinbase, lawful.inputs)
 
 pub returns-in-Some-clause-fault : goal.returns-in-Some-clause-fault
@@ -68,7 +68,7 @@ returns-in-Some-clause-fault g c =
     let coinbase = lawful_coinbase_first c.args.block.now lawful in
     let slice = c.as_slice-in-Ok.result.now in
     let others : take (length slice - 1) (drop 1 slice) ≡ drop 1 txs = tail_of slice ∙ ap (drop 1) c.as_slice-in-Ok.ensures in
-    let undo : c.in-Ok.undo ≡ undo_of s.height m txs = c.in-Ok.ensures.undo ∙ ap (undo_of s.height m) c.as_slice.ensures in
+    let undo : c.in-Ok.undo ≡ undo_of s.height m txs = c.in-Ok.ensures.pass.undo ∙ ap (undo_of s.height m) c.as_slice.ensures in
     let triples = c.args.env.now.table.now in
     let checks : checks_from (flags_of c.at-rules.result) 1 (take (length slice - 1) (drop 1 slice)) c.in-Ok.undo ≡ script_checks s m txs =
     ap (λ (r : InForce). checks_from (flags_of r) 1 (take (length slice - 1) (drop 1 slice)) c.in-Ok.undo) c.at-rules.ensures
@@ -76,7 +76,7 @@ returns-in-Some-clause-fault g c =
     ∙ block_checks s m txs coinbase in
     let refused : IsFirstRefused triples (checks_from (flags_of c.at-rules.result) 1 (take (length slice - 1) (drop 1 slice)) c.in-Ok.undo) (Some c.in-Some.reason) =
     subst (λ o. IsFirstRefused triples (checks_from (flags_of c.at-rules.result) 1 (take (length slice - 1) (drop 1 slice)) c.in-Ok.undo) o) c.in-Some.is c.in_ok-reason-in-Ok.ensures in
-    fault_is s m txs triples (Some c.in-Some.reason) (ap (λ (l : List Tx). first_broken (connect_rules s m l)) (sym c.as_slice.ensures) ∙ c.in-Ok.ensures.none) (subst (λ (l : List Check). IsFirstRefused triples l (Some c.in-Some.reason)) checks refused)
+    fault_is s m txs triples (Some c.in-Some.reason) (ap (λ (l : List Tx). first_broken (connect_rules s m l)) (sym c.as_slice.ensures) ∙ c.in-Ok.ensures.pass.none) (subst (λ (l : List Check). IsFirstRefused triples l (Some c.in-Some.reason)) checks refused)
 
 pub returns-in_default-clause-fault : goal.returns-in_default-clause-fault
 returns-in_default-clause-fault g c =
@@ -87,7 +87,7 @@ returns-in_default-clause-fault g c =
     let coinbase = lawful_coinbase_first c.args.block.now lawful in
     let slice = c.as_slice-in-Ok.result.now in
     let others : take (length slice - 1) (drop 1 slice) ≡ drop 1 txs = tail_of slice ∙ ap (drop 1) c.as_slice-in-Ok.ensures in
-    let undo : c.in-Ok.undo ≡ undo_of s.height m txs = c.in-Ok.ensures.undo ∙ ap (undo_of s.height m) c.as_slice.ensures in
+    let undo : c.in-Ok.undo ≡ undo_of s.height m txs = c.in-Ok.ensures.pass.undo ∙ ap (undo_of s.height m) c.as_slice.ensures in
     let triples = c.args.env.now.table.now in
     let checks : checks_from (flags_of c.at-rules.result) 1 (take (length slice - 1) (drop 1 slice)) c.in-Ok.undo ≡ script_checks s m txs =
     ap (λ (r : InForce). checks_from (flags_of r) 1 (take (length slice - 1) (drop 1 slice)) c.in-Ok.undo) c.at-rules.ensures
@@ -95,4 +95,4 @@ returns-in_default-clause-fault g c =
     ∙ block_checks s m txs coinbase in
     let refused : IsFirstRefused triples (checks_from (flags_of c.at-rules.result) 1 (take (length slice - 1) (drop 1 slice)) c.in-Ok.undo) None =
     subst (λ o. IsFirstRefused triples (checks_from (flags_of c.at-rules.result) 1 (take (length slice - 1) (drop 1 slice)) c.in-Ok.undo) o) c.in_default.is c.in_ok-reason-in-Ok.ensures in
-    fault_is s m txs triples None (ap (λ (l : List Tx). first_broken (connect_rules s m l)) (sym c.as_slice.ensures) ∙ c.in-Ok.ensures.none) (subst (λ (l : List Check). IsFirstRefused triples l None) checks refused)
+    fault_is s m txs triples None (ap (λ (l : List Tx). first_broken (connect_rules s m l)) (sym c.as_slice.ensures) ∙ c.in-Ok.ensures.pass.none) (subst (λ (l : List Check). IsFirstRefused triples l None) checks refused)

@@ -46,7 +46,7 @@ connect_tx-requires-clause-below g c = λ above.
 
 pub overflow_add-fees : goal.overflow_add-fees
 overflow_add-fees g c =
-    let done = c.in_ok-turned.ensures in
+    let done = c.in_ok-turned.ensures.passes in
     let few = c.requires.few in
     let before = c.loop-index.invariant in
     omega (arith, ints, done.low, done.high, before.low, before.high, few)
@@ -63,7 +63,7 @@ loop-index-preserved g c =
     let rest = drop (i + 1) xs in
     let t = turn x m n in
     let item = drop_item xs i x (omega arith) c.index-txs-index.is in
-    let done = c.in_ok-turned.ensures in
+    let done = c.in_ok-turned.ensures.passes in
     let new = c.in_ok-turned.turned.layer in
     let k = c.in_ok-turned.turned.passed.counted in
     let now : new.coins ≡ left_by h t = ap (λ (l : Layer). l.coins) done.layer in
@@ -94,38 +94,23 @@ loop-index-preserved g c =
       after = ap (λ (l : Coins). effect h l rest) now ∙ sym (ap (effect h m) item ∙ effect_next h m x rest) ∙ c.loop-index.invariant.after;
     }
 
-pub returns-clause-none : goal.returns-clause-none
-returns-clause-none g c =
+pub returns-clause-pass : goal.returns-clause-pass
+returns-clause-pass g c =
     let s = setting c.args.context.now in
-    let m = c.loop-index.layer.coins in
-    let n = c.loop-index.so_far in
-    sym c.loop-index.invariant.rules
-    ∙ ap (λ (l : List Tx). first_broken (flat_map (turn_rules s) (turns s.height m n l))) (drop_of_length-le c.args.txs.now (omega arith))
-    ∙ ap (λ l. first_broken (flat_map (turn_rules s) l)) (turns_none s.height m n)
-
-pub returns-clause-undo : goal.returns-clause-undo
-returns-clause-undo g c =
-    let h = c.args.context.now.height in
+    let h = s.height in
     let m = c.loop-index.layer.coins in
     let n = c.loop-index.so_far in
     let taken = c.loop-index.undo in
-    sym (append-nil taken)
-    ∙ sym (ap (λ (l : List Tx). taken ++ map spent_in (turns h m n l)) (drop_of_length-le c.args.txs.now (omega arith)) ∙ ap (λ l. taken ++ map spent_in l) (turns_none h m n))
-    ∙ c.loop-index.invariant.undo
-
-pub returns-clause-fees : goal.returns-clause-fees
-returns-clause-fees g c =
-    let h = c.args.context.now.height in
-    let m = c.loop-index.layer.coins in
-    let n = c.loop-index.so_far in
     let sum = λ (l : List Turn). fold (λ sum turn. sum +ℤ fee turn) (to_z w128 c.loop-index.fees-bits) l in
-    sym (ap (λ (l : List Tx). sum (turns h m n l)) (drop_of_length-le c.args.txs.now (omega arith)) ∙ ap sum (turns_none h m n))
-    ∙ c.loop-index.invariant.fees
-
-pub returns-clause-layer : goal.returns-clause-layer
-returns-clause-layer g c =
-    let h = c.args.context.now.height in
-    let m = c.loop-index.layer.coins in
-    let coins = sym (ap (effect h m) (drop_of_length-le c.args.txs.now (omega arith)) ∙ effect_none h m) ∙ c.loop-index.invariant.after in
-    let base = c.loop-index.invariant.base in
-    λ i. record { base = base i; coins = coins i }
+    let left : drop c.loop-index.index c.args.txs.now ≡ [] = drop_of_length-le c.args.txs.now (omega arith) in
+    let over : turns h m n (drop c.loop-index.index c.args.txs.now) ≡ [] = ap (turns h m n) left ∙ turns_none h m n in
+    record {
+      none = sym c.loop-index.invariant.rules ∙ ap (λ l. first_broken (flat_map (turn_rules s) l)) over;
+      layer = (let coins = sym (ap (effect h m) left ∙ effect_none h m) ∙ c.loop-index.invariant.after in
+          let base = c.loop-index.invariant.base in
+          λ i. record { base = base i; coins = coins i });
+      undo = sym (append-nil taken) ∙ sym (ap (λ l. taken ++ map spent_in l) over) ∙ c.loop-index.invariant.undo;
+      fees = sym (ap sum over) ∙ c.loop-index.invariant.fees;
+      low = search rules;
+      high = search rules;
+    }

@@ -43,7 +43,7 @@ connect_others-requires-clause-below g c = λ above.
     let rest = take (length xs - 1) (drop 1 xs) in
     let parts : xs ≡ x ∷ rest = drop_item xs 0 x c.requires.some c.index-txs-0.is ∙ ap (λ (l : List Tx). x ∷ l) (sym (tail_of xs)) in
     let new : list_any (overwrites b) xs ≡ false = ap (λ (m : Coins). list_any (overwrites m) xs) (sym (c.requires.fresh above)) ∙ sym c.is_overwriting.ensures ∙ c.if-is_overwriting.false in
-    ap (λ (l : Layer). list_any (overwrites l.base) rest) c.in_ok-coinbase.ensures.layer
+    ap (λ (l : Layer). list_any (overwrites l.base) rest) c.in_ok-coinbase.ensures.passes.layer
     ∙ (neither (overwrites b x) (list_any (overwrites b) rest) (sym (ap (list_any (overwrites b)) parts) ∙ new)).1
 
 pub returns-in_err-coinbase-clause-fault : goal.returns-in_err-coinbase-clause-fault
@@ -74,7 +74,7 @@ returns-in_err-others-clause-fault g c =
     let t = turn x m 0 in
     let parts : xs ≡ x ∷ rest = drop_item xs 0 x c.requires.some c.index-txs-0.is ∙ ap (λ (l : List Tx). x ∷ l) (sym (tail_of xs)) in
     let each : flat_map (turn_rules s) (turns h m 0 xs) ≡ turn_rules s t ++ flat_map (turn_rules s) (later_turns s m x rest) = ap (λ (l : List Tx). flat_map (turn_rules s) (turns h m 0 l)) parts ∙ each_is s m x rest in
-    let done = c.in_ok-coinbase.ensures in
+    let done = c.in_ok-coinbase.ensures.passes in
     let left = c.in_ok-coinbase.coinbase.layer in
     let now : left.coins ≡ left_by h t = ap (λ (l : Layer). l.coins) done.layer in
     let later : turns h left.coins c.in_ok-coinbase.coinbase.passed.counted rest ≡ later_turns s m x rest = ap₂ (λ (l : Coins) k. turns h l k rest) now done.counted in
@@ -96,13 +96,13 @@ returns-then-is_overpaid-clause-fault g c =
     let t = turn x m 0 in
     let parts : xs ≡ x ∷ rest = drop_item xs 0 x c.requires.some c.index-txs-0.is ∙ ap (λ (l : List Tx). x ∷ l) (sym (tail_of xs)) in
     let each : flat_map (turn_rules s) (turns h m 0 xs) ≡ turn_rules s t ++ flat_map (turn_rules s) (later_turns s m x rest) = ap (λ (l : List Tx). flat_map (turn_rules s) (turns h m 0 l)) parts ∙ each_is s m x rest in
-    let done = c.in_ok-coinbase.ensures in
+    let done = c.in_ok-coinbase.ensures.passes in
     let left = c.in_ok-coinbase.coinbase.layer in
     let now : left.coins ≡ left_by h t = ap (λ (l : Layer). l.coins) done.layer in
     let later : turns h left.coins c.in_ok-coinbase.coinbase.passed.counted rest ≡ later_turns s m x rest = ap₂ (λ (l : Coins) k. turns h l k rest) now done.counted in
     let each_later : first_broken (flat_map (turn_rules s) (turns h m 0 xs)) ≡ first_broken (flat_map (turn_rules s) (turns h left.coins c.in_ok-coinbase.coinbase.passed.counted rest)) =
     ap first_broken each ∙ past (turn_rules s t) (flat_map (turn_rules s) (later_turns s m x rest)) done.none ∙ ap (λ (l : List Turn). first_broken (flat_map (turn_rules s) l)) (sym later) in
-    let all = c.in_ok-others.ensures in
+    let all = c.in_ok-others.ensures.pass in
     let paid : total c.as_slice.result.now ≡ reward_of xs = ap total c.as_slice.ensures ∙ search rules in
     let taken : to_z w128 (of_z w128 c.in_ok-others.others.fees) ≡ fees (drop 1 (turns h m 0 xs)) =
     to_z-of_z w128 c.in_ok-others.others.fees (search rules) ∙ all.fees ∙ ap fees (later ∙ sym (ap (λ (l : List Tx). drop 1 (turns h m 0 l)) parts ∙ later_is s m x rest)) in
@@ -111,8 +111,8 @@ returns-then-is_overpaid-clause-fault g c =
     let rules_are = after_turns s m xs new (each_later ∙ all.none) in
     rules_are ∙ ap (λ b. cond b (Some CoinbaseAmount) None) (sym over ∙ c.if-is_overpaid.true)
 
-pub returns-clause-none : goal.returns-clause-none
-returns-clause-none g c =
+pub returns-clause-pass : goal.returns-clause-pass
+returns-clause-pass g c =
     let s = setting c.args.context.now in
     let h = s.height in
     let m = c.args.layer.coins in
@@ -123,60 +123,24 @@ returns-clause-none g c =
     let t = turn x m 0 in
     let parts : xs ≡ x ∷ rest = drop_item xs 0 x c.requires.some c.index-txs-0.is ∙ ap (λ (l : List Tx). x ∷ l) (sym (tail_of xs)) in
     let each : flat_map (turn_rules s) (turns h m 0 xs) ≡ turn_rules s t ++ flat_map (turn_rules s) (later_turns s m x rest) = ap (λ (l : List Tx). flat_map (turn_rules s) (turns h m 0 l)) parts ∙ each_is s m x rest in
-    let done = c.in_ok-coinbase.ensures in
+    let done = c.in_ok-coinbase.ensures.passes in
     let left = c.in_ok-coinbase.coinbase.layer in
     let now : left.coins ≡ left_by h t = ap (λ (l : Layer). l.coins) done.layer in
     let later : turns h left.coins c.in_ok-coinbase.coinbase.passed.counted rest ≡ later_turns s m x rest = ap₂ (λ (l : Coins) k. turns h l k rest) now done.counted in
     let each_later : first_broken (flat_map (turn_rules s) (turns h m 0 xs)) ≡ first_broken (flat_map (turn_rules s) (turns h left.coins c.in_ok-coinbase.coinbase.passed.counted rest)) =
     ap first_broken each ∙ past (turn_rules s t) (flat_map (turn_rules s) (later_turns s m x rest)) done.none ∙ ap (λ (l : List Turn). first_broken (flat_map (turn_rules s) l)) (sym later) in
-    let all = c.in_ok-others.ensures in
+    let all = c.in_ok-others.ensures.pass in
     let paid : total c.as_slice.result.now ≡ reward_of xs = ap total c.as_slice.ensures ∙ search rules in
     let taken : to_z w128 (of_z w128 c.in_ok-others.others.fees) ≡ fees (drop 1 (turns h m 0 xs)) =
     to_z-of_z w128 c.in_ok-others.others.fees (search rules) ∙ all.fees ∙ ap fees (later ∙ sym (ap (λ (l : List Tx). drop 1 (turns h m 0 l)) parts ∙ later_is s m x rest)) in
     let over : c.is_overpaid.result ≡ int_lt (pos (subsidy_of h) +ℤ fees (drop 1 (turns h m 0 xs))) (reward_of xs) =
     c.is_overpaid.ensures ∙ ap₂ (λ y z. int_lt (pos (subsidy_of h) +ℤ y) z) taken paid in
     let rules_are = after_turns s m xs new (each_later ∙ all.none) in
-    rules_are ∙ ap (λ b. cond b (Some CoinbaseAmount) None) (sym over ∙ c.if-is_overpaid.false)
-
-pub returns-clause-undo : goal.returns-clause-undo
-returns-clause-undo g c =
-    let s = setting c.args.context.now in
-    let h = s.height in
-    let m = c.args.layer.coins in
-    let xs = c.args.txs.now in
-    let new : list_any (overwrites m) xs ≡ false = sym c.is_overwriting.ensures ∙ c.if-is_overwriting.false in
-    let x = c.index-txs-0.result in
-    let rest = take (length xs - 1) (drop 1 xs) in
-    let t = turn x m 0 in
-    let parts : xs ≡ x ∷ rest = drop_item xs 0 x c.requires.some c.index-txs-0.is ∙ ap (λ (l : List Tx). x ∷ l) (sym (tail_of xs)) in
-    let each : flat_map (turn_rules s) (turns h m 0 xs) ≡ turn_rules s t ++ flat_map (turn_rules s) (later_turns s m x rest) = ap (λ (l : List Tx). flat_map (turn_rules s) (turns h m 0 l)) parts ∙ each_is s m x rest in
-    let done = c.in_ok-coinbase.ensures in
-    let left = c.in_ok-coinbase.coinbase.layer in
-    let now : left.coins ≡ left_by h t = ap (λ (l : Layer). l.coins) done.layer in
-    let later : turns h left.coins c.in_ok-coinbase.coinbase.passed.counted rest ≡ later_turns s m x rest = ap₂ (λ (l : Coins) k. turns h l k rest) now done.counted in
-    let each_later : first_broken (flat_map (turn_rules s) (turns h m 0 xs)) ≡ first_broken (flat_map (turn_rules s) (turns h left.coins c.in_ok-coinbase.coinbase.passed.counted rest)) =
-    ap first_broken each ∙ past (turn_rules s t) (flat_map (turn_rules s) (later_turns s m x rest)) done.none ∙ ap (λ (l : List Turn). first_broken (flat_map (turn_rules s) l)) (sym later) in
-    c.in_ok-others.ensures.undo ∙ ap (map spent_in) later ∙ sym (ap (undo_of h m) parts ∙ undo_is s m x rest)
-
-pub returns-clause-layer : goal.returns-clause-layer
-returns-clause-layer g c =
-    let s = setting c.args.context.now in
-    let h = s.height in
-    let m = c.args.layer.coins in
-    let xs = c.args.txs.now in
-    let new : list_any (overwrites m) xs ≡ false = sym c.is_overwriting.ensures ∙ c.if-is_overwriting.false in
-    let x = c.index-txs-0.result in
-    let rest = take (length xs - 1) (drop 1 xs) in
-    let t = turn x m 0 in
-    let parts : xs ≡ x ∷ rest = drop_item xs 0 x c.requires.some c.index-txs-0.is ∙ ap (λ (l : List Tx). x ∷ l) (sym (tail_of xs)) in
-    let each : flat_map (turn_rules s) (turns h m 0 xs) ≡ turn_rules s t ++ flat_map (turn_rules s) (later_turns s m x rest) = ap (λ (l : List Tx). flat_map (turn_rules s) (turns h m 0 l)) parts ∙ each_is s m x rest in
-    let done = c.in_ok-coinbase.ensures in
-    let left = c.in_ok-coinbase.coinbase.layer in
-    let now : left.coins ≡ left_by h t = ap (λ (l : Layer). l.coins) done.layer in
-    let later : turns h left.coins c.in_ok-coinbase.coinbase.passed.counted rest ≡ later_turns s m x rest = ap₂ (λ (l : Coins) k. turns h l k rest) now done.counted in
-    let each_later : first_broken (flat_map (turn_rules s) (turns h m 0 xs)) ≡ first_broken (flat_map (turn_rules s) (turns h left.coins c.in_ok-coinbase.coinbase.passed.counted rest)) =
-    ap first_broken each ∙ past (turn_rules s t) (flat_map (turn_rules s) (later_turns s m x rest)) done.none ∙ ap (λ (l : List Turn). first_broken (flat_map (turn_rules s) l)) (sym later) in
-    let ok = c.in_ok-others.ensures.layer in
+    let ok = all.layer in
     let base = ap (λ (l : Layer). l.base) ok ∙ ap (λ (l : Layer). l.base) done.layer in
     let coins = ap (λ (l : Layer). l.coins) ok ∙ ap (λ (l : Coins). effect h l rest) now ∙ sym (ap (effect h m) parts ∙ effect_next h m x rest) in
-    λ i. record { base = base i; coins = coins i }
+    record {
+      none = rules_are ∙ ap (λ b. cond b (Some CoinbaseAmount) None) (sym over ∙ c.if-is_overpaid.false);
+      layer = λ i. record { base = base i; coins = coins i };
+      undo = all.undo ∙ ap (map spent_in) later ∙ sym (ap (undo_of h m) parts ∙ undo_is s m x rest);
+    }

@@ -65,20 +65,8 @@ add_outputs-requires g c =
     let can : IsApplicable m tx c.args.id = subst (λ (id : Id). IsApplicable m tx id) (sym c.requires.id) (applies s t c.requires.lawful none) in
     (m, can, ap (λ (l : Layer). l.coins) c.in_ok-layer.ensures.layer)
 
-pub returns-clause-none : goal.returns-clause-none
-returns-clause-none g c =
-    let s = setting c.args.context.now in
-    let tx = c.args.tx.now in
-    let m = c.args.layer.coins in
-    let n = c.args.counted in
-    let found : HasFound s tx m n c.as_slice-coins.result.now =
-    subst (λ (l : List Coin). HasFound s tx m n l) (sym c.as_slice-coins.ensures) (c.in_ok-layer.ensures.found s) in
-    let plain : c.in_ok-layer.field-0.plain ≡ plain_count (turn tx m n) = c.in_ok-layer.ensures.plain in
-    let enough = c.in-Ok.ensures.enough m n found in
-    none_broken s (turn tx m n) (record { count = c.in_ok-counted.ensures.count m n found enough plain; new = sym c.overwrites_in_turn-overwriting.ensures ∙ c.if-overwriting.false })
-
-pub returns-clause-layer : goal.returns-clause-layer
-returns-clause-layer g c =
+pub returns-clause-passes : goal.returns-clause-passes
+returns-clause-passes g c =
     let s = setting c.args.context.now in
     let tx = c.args.tx.now in
     let m = c.args.layer.coins in
@@ -90,28 +78,14 @@ returns-clause-layer g c =
     let enough = c.in-Ok.ensures.enough m n found in
     let none = none_broken s t (record { count = c.in_ok-counted.ensures.count m n found enough plain; new = sym c.overwrites_in_turn-overwriting.ensures ∙ c.if-overwriting.false }) in
     let can : IsApplicable m tx c.args.id = subst (λ (id : Id). IsApplicable m tx id) (sym c.requires.id) (applies s t c.requires.lawful none) in
-    c.in_ok-layer-2.ensures m can (ap (λ (l : Layer). l.coins) c.in_ok-layer.ensures.layer)
-    ∙ (λ i. record { base = (c.in_ok-layer.ensures.layer i).base; coins = after m tx (c.requires.id i) c.args.context.now.height })
-
-pub returns-clause-spent : goal.returns-clause-spent
-returns-clause-spent g c = (c.in_ok-layer.ensures.found (setting c.args.context.now)).lent
-
-pub returns-clause-fee : goal.returns-clause-fee
-returns-clause-fee g c =
-    let s = setting c.args.context.now in
-    let tx = c.args.tx.now in
-    let m = c.args.layer.coins in
-    let n = c.args.counted in
-    let found : HasFound s tx m n c.as_slice-coins.result.now =
-    subst (λ (l : List Coin). HasFound s tx m n l) (sym c.as_slice-coins.ensures) (c.in_ok-layer.ensures.found s) in
-    to_z-of_z w128 c.in-Ok.fee (search rules) ∙ c.in-Ok.ensures.fee m n found
-
-pub returns-clause-counted : goal.returns-clause-counted
-returns-clause-counted g c =
-    let s = setting c.args.context.now in
-    let tx = c.args.tx.now in
-    let m = c.args.layer.coins in
-    let n = c.args.counted in
-    let found : HasFound s tx m n c.as_slice-coins.result.now =
-    subst (λ (l : List Coin). HasFound s tx m n l) (sym c.as_slice-coins.ensures) (c.in_ok-layer.ensures.found s) in
-    c.in_ok-counted.ensures.counted m n found c.in_ok-layer.ensures.plain
+    record {
+      none = none;
+      layer = c.in_ok-layer-2.ensures m can (ap (λ (l : Layer). l.coins) c.in_ok-layer.ensures.layer)
+          ∙ (λ i. record { base = (c.in_ok-layer.ensures.layer i).base; coins = after m tx (c.requires.id i) c.args.context.now.height });
+      spent = (c.in_ok-layer.ensures.found s).lent;
+      fee = to_z-of_z w128 c.in-Ok.fee (search rules) ∙ c.in-Ok.ensures.fee m n found;
+      low = search rules;
+      high = search rules;
+      counted = c.in_ok-counted.ensures.counted m n found plain;
+      few = c.in_ok-counted.ensures.bounded;
+    }
