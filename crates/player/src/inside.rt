@@ -17,7 +17,7 @@ use activate::Core;
 use anyhow::Context;
 use crossbeam_utils::rule::Outcome;
 use node::{Naming, Params, Table};
-use std::alloc::Global;
+use std::alloc::{AllocError, Global};
 use std::marker::Brand;
 use std::sync::atomic::Ordering::SeqCst;
 use std::sync::atomic::{AtomicBool, AtomicU64};
@@ -199,22 +199,43 @@ where
     requires empty { note.entries ≡ [] }
     requires of { origin note.book params (arc_value table) 1 ≡ J.origin }
 {
+    let (told, theirs) = told_twice(rt.alloc())?;
+    let writer: ViewWriter<J> = open_views(rt.alloc(), params, table, note)?;
+    let meanwhile = publish_beside(rt, writer, &told, theirs)?;
+    if let Some(meanwhile) = meanwhile {
+        log.answer(&"published while a reader was inside", meanwhile)?;
+    }
+    Ok(log.answer(&"published", told.published.load(SeqCst))?)
+}
+
+/// What two threads tell each other, for each of them.
+fn told_twice(alloc: Global) -> Result<(Arc<Told>, Arc<Told>), AllocError> {
     let told = Told {
         is_inside: AtomicBool::new(false),
         published: AtomicU64::new(0),
     };
-    let told = Arc::new(rt.alloc(), told)?;
+    let told = Arc::new(alloc, told)?;
     let theirs = Arc::try_clone(&told)?;
-    let writer: ViewWriter<J> = open_views(rt.alloc(), params, table, note)?;
+    Ok((told, theirs))
+}
+
+/// Publishes twice beside a reader that stays inside: how often while it did, if it came.
+fn publish_beside<J: Naming + 'static, R>(
+    rt: &R,
+    writer: ViewWriter<J>,
+    told: &Told,
+    theirs: Arc<Told>,
+) -> anyhow::Result<Option<u64>>
+where
+    R: AllocGlobal + Threads + Wait + Sync,
+    requires { drop writer.behind writer.log.items ≡ [] }
+{
     let Ok((first, second)) = two_readers(&writer) else {
         drop(writer.take(rt));
         return Err(Memory.into());
     };
     let reader = spawn(rt, move || stay_inside(first, second, &theirs));
-    let has_published = publish_twice(rt, writer, &told);
+    let has_published = publish_twice(rt, writer, told);
     let meanwhile = reader.ok().context("a thread")?.join(rt);
-    if let (true, Some(meanwhile)) = (has_published, meanwhile) {
-        log.answer(&"published while a reader was inside", meanwhile)?;
-    }
-    Ok(log.answer(&"published", told.published.load(SeqCst))?)
+    Ok(if has_published { meanwhile } else { None })
 }
