@@ -1,4 +1,0 @@
-use Rattle.seats.proofs.replay.Replay.new.Goals as goal
-
-pub invariant_of-result : goal.invariant_of-result
-invariant_of-result c = c.in_ok-chain.ensures.is_chainstate c.args.table.now
