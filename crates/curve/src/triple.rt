@@ -71,7 +71,7 @@ impl KeptTriple {
         &self.digest
     }
 
-    /// How the triple stands to the triple of these parts.
+    /// How the triple compares with the triple of these parts.
     pub fn compare(&self, key: &[u8], signature: &[u8], digest: &[u8; 32]) -> Ordering
         ensures { result ≡ triple_cmp self.now (triple_of key.now signature.now digest.now) }
     {
@@ -82,7 +82,7 @@ impl KeptTriple {
             .then_with(|| self.digest.cmp(digest))
     }
 
-    /// How the triple stands to another.
+    /// How the triple compares with another.
     pub fn compare_kept(&self, other: &KeptTriple) -> Ordering
         ensures { result ≡ triple_cmp self.now other.now }
     {

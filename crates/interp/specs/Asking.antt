@@ -14,7 +14,7 @@ use Rattle.interp.specs.Stack.{Stack, Bytes}
 use Rattle.interp.specs.Spending.{Spending, spending_of}
 use Rattle.interp.specs.Signatures.{signed_code, signature_proper, type_of, is_valid, MayBeTried}
 use Rattle.interp.specs.State.{State, is_executing, start}
-use Rattle.interp.specs.Row.{Check, Of, Sig, Multisig, Row, Disabled, Fails, Nothing, Changes, Tests, AndVerifies, Opens, Turns, Closes, ToAlt, FromAlt, Separates, Asks as AsksLock, row_of}
+use Rattle.interp.specs.Row.{Check, Of, Sig, Multisig, Row, Tests, AndVerifies, row_of}
 use Rattle.interp.specs.Rules.{TakesMany, Counts, Step1, Run, RunsToTrue}
 use Rattle.interp.specs.declared.flags.Flags.{Flags}
 use Rattle.interp.specs.declared.unverified.Unverified.{Unverified}
@@ -55,17 +55,7 @@ CheckAsks p Multisig s t = MultisigAsks p s t
 abbrev pub RowAsks : Spending → Row → State → Triple → Type 0
 RowAsks p (Tests check) s t = CheckAsks p check s t
 RowAsks p (AndVerifies check) s t = CheckAsks p check s t
-RowAsks p Disabled s t = ⊥
-RowAsks p Fails s t = ⊥
-RowAsks p Nothing s t = ⊥
-RowAsks p (Changes x) s t = ⊥
-RowAsks p (Opens at) s t = ⊥
-RowAsks p Turns s t = ⊥
-RowAsks p Closes s t = ⊥
-RowAsks p ToAlt s t = ⊥
-RowAsks p FromAlt s t = ⊥
-RowAsks p Separates s t = ⊥
-RowAsks p (AsksLock in_force test) s t = ⊥
+RowAsks p row s t = ⊥
 
 abbrev pub StepAsks : Spending → List ℕ → State → Triple → Type 0
 StepAsks p [] s t = ⊥

@@ -14,7 +14,7 @@ use Rattle.interp.specs.Spending.{Spending, spending_of}
 use Rattle.interp.specs.declared.flags.Flags.{Flags}
 use Rattle.interp.specs.State.{State, is_executing, start}
 use Rattle.interp.specs.Signatures.{signed_code, is_valid, MayBeTried, Tries}
-use Rattle.interp.specs.Row.{Effect, Puts, Moves, One, Two, OneNumber, TwoNumbers, ThreeNumbers, Depth, Picks, Rolls, Check, Of, Sig, Multisig, Row, Disabled, Fails, Nothing, Changes, Tests, AndVerifies, Opens, Turns, Closes, ToAlt, FromAlt, Separates, Asks, row_of}
+use Rattle.interp.specs.Row.{Effect, Puts, Moves, One, Two, OneNumber, TwoNumbers, ThreeNumbers, Depth, Picks, Rolls, Check, Of, Sig, Multisig, Row, Disabled, Nothing, Changes, Tests, AndVerifies, Opens, Turns, Closes, ToAlt, FromAlt, Separates, Asks, row_of}
 
 -- ---- the main stack
 -- an element of at most so many bytes has this number
@@ -118,22 +118,28 @@ Checks p (Of x) s t = OnMain (Affects x) s t
 Checks p Sig s t = OnMain (ChecksOne p s.code) s t
 Checks p Multisig s t = ChecksMany p s t
 
+-- where the rule is in force its test is asked, and else nothing is done
+abbrev pub AskingInForce : Bool → (ℕ → Bool) → State → State → Type 0
+AskingInForce in_force test s t = ((in_force ≡ true) × Asking test s t) ⊎ ((in_force ≡ false) × (t ≡ s))
+
+-- a row that works on conditions or on the other stack; the rows that are left fail
+abbrev pub Controls : Row → State → State → Type 0
+Controls (Opens at) s t = Opening at s t
+Controls Turns s t = Turning s t
+Controls Closes s t = Closing s t
+Controls ToAlt s t = (a : Bytes) × (rest : Stack) × (s.main ≡ a ∷ rest) × (t ≡ record s { main = rest; alt = a ∷ s.alt })
+Controls FromAlt s t = (a : Bytes) × (rest : Stack) × (s.alt ≡ a ∷ rest) × (t ≡ record s { main = a ∷ s.main; alt = rest })
+Controls row s t = ⊥
+
 -- a row that is executed; what follows the opcode in the script is `after`
 abbrev pub Executed : Spending → List ℕ → Row → State → State → Type 0
-Executed p after Disabled s t = ⊥
-Executed p after Fails s t = ⊥
 Executed p after Nothing s t = t ≡ s
 Executed p after (Changes x) s t = OnMain (Affects x) s t
 Executed p after (Tests check) s t = Checks p check s t
 Executed p after (AndVerifies check) s t = (mid : State) × Checks p check s mid × OnMain TakesTrue mid t
-Executed p after (Opens at) s t = Opening at s t
-Executed p after Turns s t = Turning s t
-Executed p after Closes s t = Closing s t
-Executed p after ToAlt s t = (a : Bytes) × (rest : Stack) × (s.main ≡ a ∷ rest) × (t ≡ record s { main = rest; alt = a ∷ s.alt })
-Executed p after FromAlt s t = (a : Bytes) × (rest : Stack) × (s.alt ≡ a ∷ rest) × (t ≡ record s { main = a ∷ s.main; alt = rest })
 Executed p after Separates s t = t ≡ record s { code = after }
-Executed p after (Asks in_force test) s t =
-    ((in_force p.flags ≡ true) × Asking (test p) s t) ⊎ ((in_force p.flags ≡ false) × (t ≡ s))
+Executed p after (Asks in_force test) s t = AskingInForce (in_force p.flags) (test p) s t
+Executed p after row s t = Controls row s t
 
 -- ---- one opcode in a branch that isn't taken
 abbrev pub Skipped : Row → State → State → Type 0
@@ -141,15 +147,7 @@ Skipped Disabled s t = ⊥
 Skipped (Opens at) s t = t ≡ record s { conditions = false ∷ s.conditions }
 Skipped Turns s t = Turning s t
 Skipped Closes s t = Closing s t
-Skipped Fails s t = t ≡ s
-Skipped Nothing s t = t ≡ s
-Skipped (Changes x) s t = t ≡ s
-Skipped (Tests check) s t = t ≡ s
-Skipped (AndVerifies check) s t = t ≡ s
-Skipped ToAlt s t = t ≡ s
-Skipped FromAlt s t = t ≡ s
-Skipped Separates s t = t ≡ s
-Skipped (Asks in_force test) s t = t ≡ s
+Skipped row s t = t ≡ s
 
 abbrev pub Acts : Spending → List ℕ → Row → State → State → Type 0
 Acts p after row s t = ((is_executing s ≡ true) × Executed p after row s t) ⊎ ((is_executing s ≡ false) × Skipped row s t)

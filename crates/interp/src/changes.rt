@@ -41,7 +41,7 @@ pub fn push(alloc: Global, stack: &mut Pile<Element>, bytes: &[u8]) -> Result<bo
     Ok(true)
 }
 
-/// Takes the top, and tells whether it is true.
+/// Takes the top, and says whether it is true.
 pub fn verify(stack: &mut Pile<Element>) -> bool
     ensures { Gives result (effect verify stack.old) stack.new }
 {
@@ -98,7 +98,7 @@ pub fn compare(alloc: Global, stack: &mut Pile<Element>) -> Result<bool, Memory>
 
 // Rows are calls that aren't drawn in (`inline(never)`): in one frame each opcode would pay for clearing a slot for
 // each value of each row.
-/// Does it, and tells whether it could be done.
+/// Does it, and says whether it could be done.
 pub fn apply(alloc: Global, stack: &mut Pile<Element>, by: Change) -> Result<bool, Memory>
     ensures { IfOk result (λ there. Gives there (effect (change_of by) stack.old) stack.new) }
 {

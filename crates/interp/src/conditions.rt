@@ -63,7 +63,7 @@ impl Conditions {
         Ok(())
     }
 
-    /// Closes the innermost, and tells whether its branch is taken.
+    /// Closes the innermost, and says whether its branch is taken.
     pub fn close(&mut self) -> bool
         requires { 0 < length self.old }
         ensures { self.old ≡ result ∷ self.new }

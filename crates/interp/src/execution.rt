@@ -103,7 +103,7 @@ impl<'a> Execution<'a> {
         self.conditions.all_taken()
     }
 
-    /// Takes the top, and tells whether it is true.
+    /// Takes the top, and says whether it is true.
     fn verify(&mut self) -> bool
         ensures { Gives result (with_main self.old (after_verify self.old.main)) self.new }
     {

@@ -21,7 +21,7 @@ pub fn push_depth(alloc: Global, stack: &mut Pile<Element>) -> Result<bool, Memo
     Ok(true)
 }
 
-/// Takes a number, if it is that of a place among the others: 0 is their top.
+/// Takes a number, if it is a place among the others: 0 is their top.
 #[tactic(auto, unfolding(crate::specs::computed::Step::top_place))]
 fn pop_place(stack: &mut Pile<Element>) -> Option<usize>
     ensures value { MatchOption result (top_place stack.old ≡ None)

@@ -33,7 +33,7 @@ fn is_height(lock_time: u64) -> bool
     lock_time < LOCKTIME_THRESHOLD
 }
 
-/// Whether the transaction can't stand in a block before this height or time.
+/// Whether the transaction can't be in a block before this height or time.
 #[tactic(auto, unfolding(crate::specs::Timelocks::locks_until))]
 fn locks_until(job: &Job, n: u64) -> bool
     requires { job.now.input < length job.now.tx.now.inputs }

@@ -11,7 +11,7 @@ use wire::Memory;
 pub enum Unverified {
     /// There was no memory.
     Memory,
-    /// Its scripts come to this signature, and whether it is valid isn't known. In a box, since each opcode's step
+    /// Its scripts ask for this signature, and whether it is valid isn't known. In a box, since each opcode's step
     /// answers a result with this error: with the triple in its place a run of SWAPs took 1.5 times as long.
     Unknown(Box<KeptTriple>),
 }

@@ -62,7 +62,7 @@ fn first_op(script: &[u8]) -> Option<(&[u8], &[u8])>
         × (script.now ≡ parts.0.now ++ parts.1.now)) }
 {
     let (number, after) = script.split_first()?;
-    // Above those of pushes a number stands alone, and nothing has to be measured.
+    // Above the numbers of pushes an opcode has no other byte, and nothing has to be measured.
     if *number > OP_PUSHDATA4 {
         return Some((&script[..1], after));
     }

@@ -10,8 +10,8 @@ use Rattle.curve.specs.Triple.{Triples}
 use Rattle.interp.specs.declared.flags.Flags.{Flags}
 use Rattle.interp.specs.declared.job.Job.{Job}
 use Rattle.queue.specs.declared.early_jobs.Listed.{Listed}
-use Rattle.queue.specs.declared.index.Key.{Key}
-use Rattle.queue.specs.declared.index.Slot.{Slot}
+use Rattle.queue.specs.declared.verdict_index.Key.{Key}
+use Rattle.queue.specs.declared.verdict_index.Slot.{Slot}
 use Rattle.queue.specs.Jobs.{Question, question, question_of, IsAnswer, AreNumbered, Spending, Batch, tx_at, questions, Answered}
 use Rattle.queue.specs.inside.Pairing.{spending_of, Fits, IsOfSame, Covers, first_outpoint, key_of, slot_for, AreKnown, AreAllKnown, answer_at}
 use Rattle.queue.proofs.Answering.{test_of}

@@ -1,10 +1,15 @@
 -- Which jobs of a list are accepted, and the first one that isn't.
-use Rattle.std.specs.Prelude.{◌≡◌, ℕ, ◌<◌, pos, Bool, true, false, List, [], length, map, get_or, Option, Some, None, slice_get}
+use Rattle.std.specs.Prelude.{◌≡◌, ℕ, ◌<◌, pos, Bool, true, false, List, [], length, map, get_or, Option, Some, None, slice_get, All}
+use Rattle.std.specs.List.{Any}
 use Rattle.txn.specs.declared.tx.Tx.{Tx}
-use Rattle.curve.specs.Triple.{Triples}
+use Rattle.curve.specs.Known.{Known, Under}
+use Rattle.curve.specs.Triple.{Triple, Triples}
 use Rattle.interp.specs.declared.flags.Flags.{Flags}
 use Rattle.interp.specs.declared.job.Job.{Job}
+use Rattle.interp.specs.Asking.{Asks}
 use Rattle.interp.specs.Rules.{Accepts}
+use Rattle.queue.specs.declared.undecided.Undecided.{Undecided}
+use Rattle.queue.specs.declared.undecided.Undecided.TheVariants.{Memory, Unknown}
 
 -- what a job asks: may this input of this transaction spend an output with this script, under these rules?
 pub record Question : Type 0 where
@@ -90,3 +95,18 @@ FailsAt triples jobs place = (job : Job) × (slice_get jobs place ≡ Some job) 
 abbrev pub IsFirstFailure : Triples → List Job → Option ℕ → Type 0
 IsFirstFailure triples jobs None = (place : ℕ) → AcceptsAt triples jobs place
 IsFirstFailure triples jobs (Some least) = FailsAt triples jobs least × ((place : ℕ) → place < least → AcceptsAt triples jobs place)
+
+-- ---- where there is no answer
+
+-- of a triple nothing is known, and the question comes to it under every set that agrees
+abbrev pub IsWanted : Known → Question → Triple → Type 0
+IsWanted known q t = (known t ≡ None) × Under known (λ triples. Asks q.tx q.input q.spent q.flags triples t)
+
+-- one of these jobs comes to it
+abbrev pub IsWantedIn : Known → List Job → Triple → Type 0
+IsWantedIn known jobs t = Any (λ job. IsWanted known (question_of job) t) jobs
+
+-- there are signatures to find out first, and this holds of each; of want of memory nothing is said
+abbrev pub IsUndecided : (Triple → Type 0) → Undecided → Type 0
+IsUndecided Wanted Memory = Unit {0}
+IsUndecided Wanted (Unknown unknown) = (0 < length unknown.items) × All Wanted unknown.items

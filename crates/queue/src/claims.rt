@@ -3,7 +3,7 @@
 
 ghost use Rattle.queue.specs.inside.Claims.{claims_next, looks, reads_noted, notes};
 
-use crate::places::Places;
+use crate::checks::Places;
 use atomic_table::{Join, Play, Shared, Split, TableRule};
 use std::collections::LinkedList;
 

@@ -7,7 +7,7 @@ ghost use Rattle.queue.specs.laws.Sharing.{IsSync-prop};
 
 use crate::gate::Gate;
 use crate::jobs::JobList;
-use crate::pairing::known_answers;
+use crate::known_verdicts::known_answers;
 use crate::verdicts::Verdicts;
 use crate::workers::{first_failure_with, first_refused_alone};
 use curve::Table;

@@ -3,10 +3,10 @@
 ghost use Rattle.std.specs.Prelude.{◌≡◌, ℕ, Bool, ◌<◌, ◌≤◌, ◌^◌, IfOk, IfSome, MatchBool, None, Some, length, map, slice_get, vec_len};
 ghost use Rattle.queue.specs.Jobs.{AreAnswers, questions};
 
+use crate::checks::Places;
 use crate::early_jobs::EarlyJobs;
 use crate::gate::Gate;
 use crate::jobs::JobList;
-use crate::places::Places;
 use crate::verdicts::Verdicts;
 use crate::workers::run;
 use curve::Table;

@@ -3,7 +3,7 @@
 ghost use Rattle.std.specs.Prelude.{◌≡◌, ◌↔◌, ℕ, ◌<◌, [], ◌∷◌, ◌++◌, All, IfOk, IfSome, IsTrue, OnOk, OnErr, Some, length, map, slice_get};
 ghost use Rattle.std.specs.Option.{IfNone};
 
-use crate::index::Key;
+use crate::verdict_index::Key;
 use interp::{Flags, Job};
 use std::alloc::Global;
 use std::marker::Model;

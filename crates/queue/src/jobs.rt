@@ -5,7 +5,7 @@ ghost use Rattle.std.proofs.Props.{props};
 ghost use Rattle.queue.specs.Jobs.{AcceptsAt, FailsAt, HasInput};
 ghost use Rattle.queue.specs.inside.Pairing.{AreAllKnown, AreKnown, answer_at};
 
-use crate::places::Places;
+use crate::checks::Places;
 use crate::verdicts::Verdicts;
 use curve::Table;
 use interp::{Job, verify};

@@ -4,12 +4,12 @@ ghost use Rattle.std.specs.Prelude.{◌≡◌, ◌<◌, ◌≤◌, ◌^◌, [], 
 ghost use Rattle.queue.specs.Jobs.{HasInput, AreNumbered, IsFirstFailure};
 ghost use Rattle.queue.specs.inside.Report.{IsCounter, Sits, IsLeastOf, IsLeastBelow, Reports};
 
+use crate::checks::Places;
 use crate::claims::{Claim, Halves, Look, Note, ReadNoted, Seat, Words};
 use crate::gate::Gate;
 use crate::jobs::JobList;
-use crate::pairing::known_answers;
-use crate::places::Places;
-use crate::report::{lesser, lesser_found};
+use crate::known_verdicts::known_answers;
+use crate::least_refused::{lesser, lesser_found};
 use crate::verdicts::Verdicts;
 use atomic_table::Table as Shares;
 use curve::Table;

@@ -7,7 +7,7 @@ use Rattle.wire.specs.Spelling.{compact_size}
 use Rattle.txn.specs.declared.input.TxIn.{TxIn}
 use Rattle.txn.specs.Grammar.{input}
 use Rattle.sighash.specs.Kind.{is_alone}
-use Rattle.sighash.specs.Copy.{own_input, other_input, signed_inputs}
+use Rattle.sighash.specs.Digest.{own_input, other_input, signed_inputs}
 
 one_item : {X : Type 0} (xs : List X) (x : X) → length xs ≡ 1 → x ≡ get_or xs 0 x → xs ≡ x ∷ []
 one_item [] x len is = absurd (omega (arith, len))

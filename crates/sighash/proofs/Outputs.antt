@@ -4,7 +4,7 @@ use Rattle.std.specs.List.{flat_map}
 use Rattle.txn.specs.declared.output.TxOut.{TxOut}
 use Rattle.wire.specs.Spelling.{compact_size}
 use Rattle.txn.specs.Grammar.{output}
-use Rattle.sighash.specs.Copy.{blank_output}
+use Rattle.sighash.specs.Digest.{blank_output}
 use Rattle.sighash.proofs.Lists.{flat-next}
 
 blank_bytes : output.spell blank_output ≡ 255 ∷ 255 ∷ 255 ∷ 255 ∷ 255 ∷ 255 ∷ 255 ∷ 255 ∷ 0 ∷ []

@@ -13,8 +13,8 @@ use Rattle.curve.specs.Triple.{Triples}
 use Rattle.interp.specs.computed.Verifying.{accepts}
 use Rattle.interp.specs.declared.job.Job.{Job}
 use Rattle.queue.specs.declared.early_jobs.Listed.{Listed}
-use Rattle.queue.specs.declared.index.Key.{Key}
-use Rattle.queue.specs.declared.index.Slot.{Slot}
+use Rattle.queue.specs.declared.verdict_index.Key.{Key}
+use Rattle.queue.specs.declared.verdict_index.Slot.{Slot}
 use Rattle.queue.specs.Jobs.{Spending, spending, Question, question_of, questions, Answered}
 
 abbrev pub spending_of : Listed → Spending

@@ -2,7 +2,7 @@ use Rattle.std.proofs.Common.{ℕ, List, ◌++◌, take, map}
 use Rattle.std.specs.List.{flat_map}
 use Rattle.sha2.specs.Hashers.{Holds256}
 use Rattle.txn.specs.Grammar as grammar
-use Rattle.sighash.specs.Copy.{blank_output}
+use Rattle.sighash.specs.Digest.{blank_output}
 use Rattle.sighash.proofs.feeding.feed_blanks.Given as goal
 
 abbrev pub invariant-loop : goal.invariant-loop

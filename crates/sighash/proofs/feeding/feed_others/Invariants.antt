@@ -2,7 +2,7 @@ use Rattle.std.proofs.Common.{ℕ, List, ◌++◌, take, map}
 use Rattle.std.specs.List.{flat_map}
 use Rattle.sha2.specs.Hashers.{Holds256}
 use Rattle.txn.specs.Grammar as grammar
-use Rattle.sighash.specs.Copy.{other_input}
+use Rattle.sighash.specs.Digest.{other_input}
 use Rattle.sighash.proofs.feeding.feed_others.Given as goal
 
 abbrev pub invariant-loop-input : goal.invariant-loop-input

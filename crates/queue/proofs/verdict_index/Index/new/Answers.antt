@@ -1,7 +1,7 @@
 use Rattle.std.proofs.Common.{rules, ◌<◌, length, refl}
 use Rattle.std.proofs.lemmas.Option.{slice_get_read}
 use Rattle.queue.proofs.Pairs.{covers_next}
-use Rattle.queue.proofs.index.Index.new.Goals as goal
+use Rattle.queue.proofs.verdict_index.Index.new.Goals as goal
 
 pub loop-list-preserved : goal.loop-list-preserved
 loop-list-preserved c =

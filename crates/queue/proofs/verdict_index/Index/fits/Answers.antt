@@ -1,11 +1,11 @@
 use Rattle.std.proofs.Common.{rules, ◌≡◌, ◌<◌, Option, Some, get_or, length, refl, sym, ap, ◌∙◌, subst}
 use Rattle.std.specs.Prelude.{IfSome, slice_get}
 use Rattle.std.proofs.lemmas.Option.{slice_get_read}
-use Rattle.queue.specs.declared.index.Slot.{Slot}
+use Rattle.queue.specs.declared.verdict_index.Slot.{Slot}
 use Rattle.queue.specs.Jobs.{Answered, Batch, Spending, questions}
 use Rattle.queue.specs.inside.Pairing.{IsOfSame}
 use Rattle.queue.proofs.Pairs.{fits_like, some_is}
-use Rattle.queue.proofs.index.Index.fits.Goals as goal
+use Rattle.queue.proofs.verdict_index.Index.fits.Goals as goal
 
 pub returns-in-Some-before : goal.returns-in-Some-before
 returns-in-Some-before c t =

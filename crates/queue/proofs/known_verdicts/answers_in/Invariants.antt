@@ -4,7 +4,7 @@ use Rattle.interp.specs.declared.job.Job.{Job}
 use Rattle.queue.specs.Jobs.{question_of}
 use Rattle.queue.specs.inside.Pairing.{AreKnown, Fits}
 use Rattle.queue.proofs.Pairs.{AllKnownBelow}
-use Rattle.queue.proofs.pairing.answers_in.Given as goal
+use Rattle.queue.proofs.known_verdicts.answers_in.Given as goal
 
 abbrev pub invariant-loop-place : goal.invariant-loop-place
 invariant-loop-place l = record {

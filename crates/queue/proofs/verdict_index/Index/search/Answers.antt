@@ -2,7 +2,7 @@ use Rattle.std.proofs.Common.{rules, ◌<◌, get_or, length}
 use Rattle.std.proofs.lemmas.Option.{slice_get-get_or}
 use Rattle.queue.specs.Jobs.{question_of}
 use Rattle.queue.proofs.Pairs.{none_all, none_next}
-use Rattle.queue.proofs.index.Index.search.Goals as goal
+use Rattle.queue.proofs.verdict_index.Index.search.Goals as goal
 
 pub returns-in-Some-clause-found : goal.returns-in-Some-clause-found
 returns-in-Some-clause-found c =

@@ -3,11 +3,11 @@ use Rattle.std.specs.Prelude.{slice_get, IfSome, IsSome}
 use Rattle.std.proofs.lemmas.List.{length_push}
 use Rattle.std.proofs.lemmas.Option.{slice_get-get_or}
 use Rattle.interp.specs.declared.job.Job.{Job}
-use Rattle.queue.specs.declared.index.Slot.{Slot}
+use Rattle.queue.specs.declared.verdict_index.Slot.{Slot}
 use Rattle.queue.specs.Jobs.{question_of}
 use Rattle.queue.specs.inside.Pairing.{AreKnown, Fits}
 use Rattle.queue.proofs.Pairs.{AllKnownBelow, all_known, all_next, known_next, some_where_fits, some_is}
-use Rattle.queue.proofs.pairing.answers_in.Goals as goal
+use Rattle.queue.proofs.known_verdicts.answers_in.Goals as goal
 
 pub loop-place-preserved : goal.loop-place-preserved
 loop-place-preserved c =

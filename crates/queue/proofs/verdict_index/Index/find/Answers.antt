@@ -3,7 +3,7 @@ use Rattle.std.specs.Option.{option_copied}
 use Rattle.queue.specs.Jobs.{question_of}
 use Rattle.queue.specs.inside.Pairing.{slot_for}
 use Rattle.queue.proofs.Pairs.{if_none, none_without_slot}
-use Rattle.queue.proofs.index.Index.find.Goals as goal
+use Rattle.queue.proofs.verdict_index.Index.find.Goals as goal
 
 pub returns-in_err-slot-clause-none : goal.returns-in_err-slot-clause-none
 returns-in_err-slot-clause-none c =

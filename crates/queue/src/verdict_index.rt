@@ -3,8 +3,8 @@
 ghost use Rattle.std.specs.Prelude.{◌≡◌, ℕ, All, IfOk, IfSome, IsSome, IsTrue, OnOk, Some, slice_get};
 ghost use Rattle.std.specs.Option.{IfNone};
 ghost use Rattle.std.proofs.Props.{props};
-ghost use Rattle.queue.specs.declared.index.Key.{Key};
-ghost use Rattle.queue.specs.declared.index.Slot.{Slot};
+ghost use Rattle.queue.specs.declared.verdict_index.Key.{Key};
+ghost use Rattle.queue.specs.declared.verdict_index.Slot.{Slot};
 ghost use Rattle.queue.specs.Jobs.{HasInput, IsAnswer, Question, question_of, questions};
 ghost use Rattle.queue.specs.inside.Pairing.{Covers, Fits, IsOfSame, key_of, slot_for};
 

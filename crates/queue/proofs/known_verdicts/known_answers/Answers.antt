@@ -2,7 +2,7 @@ use Rattle.std.proofs.Common.{List, sym, subst}
 use Rattle.std.proofs.lemmas.Result.{IfOk-weaker}
 use Rattle.queue.specs.Jobs.{Answered}
 use Rattle.queue.specs.inside.Pairing.{AreAllKnown, Covers}
-use Rattle.queue.proofs.pairing.known_answers.Goals as goal
+use Rattle.queue.proofs.known_verdicts.known_answers.Goals as goal
 
 pub answers_in-requires-clause-covers : goal.answers_in-requires-clause-covers
 answers_in-requires-clause-covers c =

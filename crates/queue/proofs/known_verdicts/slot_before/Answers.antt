@@ -3,7 +3,7 @@ use Rattle.std.specs.Prelude.{slice_get}
 use Rattle.std.proofs.lemmas.Option.{slice_get-get_or}
 use Rattle.interp.specs.declared.job.Job.{Job}
 use Rattle.queue.proofs.Pairs.{same_tx}
-use Rattle.queue.proofs.pairing.slot_before.Goals as goal
+use Rattle.queue.proofs.known_verdicts.slot_before.Goals as goal
 
 pub returns-then-goes_on : goal.returns-then-goes_on
 returns-then-goes_on c job is =

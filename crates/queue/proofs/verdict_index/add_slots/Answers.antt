@@ -1,12 +1,12 @@
 use Rattle.std.proofs.Common.{◌≡◌, ◌≤◌, Some, length, sym, ap, ◌∙◌, subst, arith}
 use Rattle.std.specs.Prelude.{IsSome, slice_get, is_some}
 use Rattle.std.specs.BTreeMap.{is_at}
-use Rattle.queue.specs.declared.index.Key.{Key}
-use Rattle.queue.specs.declared.index.Slot.{Slot}
+use Rattle.queue.specs.declared.verdict_index.Key.{Key}
+use Rattle.queue.specs.declared.verdict_index.Slot.{Slot}
 use Rattle.queue.specs.Jobs.{Batch, Question, questions}
 use Rattle.queue.specs.inside.Pairing.{key_cmp, key_of, slot_for}
 use Rattle.queue.proofs.Pairs.{own_all, own_next, stays_some}
-use Rattle.queue.proofs.index.add_slots.Goals as goal
+use Rattle.queue.proofs.verdict_index.add_slots.Goals as goal
 
 pub loop-place-preserved : goal.loop-place-preserved
 loop-place-preserved c =

@@ -5,7 +5,7 @@ ghost use Rattle.interp.specs.declared.job.Job.{Job};
 ghost use Rattle.queue.specs.Jobs.{AreNumbered, HasInput, IsAnswer, question_of};
 ghost use Rattle.queue.specs.inside.Pairing.{AreAllKnown, AreKnown, Covers, Fits, IsOfSame};
 
-use crate::index::{Index, Slot};
+use crate::verdict_index::{Index, Slot};
 use crate::verdicts::Verdicts;
 use curve::Table;
 use interp::Job;

@@ -1,9 +1,9 @@
 use Rattle.std.proofs.Common.{◌≡◌, ℕ, ◌<◌, Some}
 use Rattle.std.specs.Prelude.{IsSome, slice_get}
-use Rattle.queue.specs.declared.index.Key.{Key}
+use Rattle.queue.specs.declared.verdict_index.Key.{Key}
 use Rattle.queue.specs.Jobs.{Question, questions}
 use Rattle.queue.specs.inside.Pairing.{key_of, slot_for}
-use Rattle.queue.proofs.index.add_slots.Given as goal
+use Rattle.queue.proofs.verdict_index.add_slots.Given as goal
 
 abbrev pub invariant-loop-place : goal.invariant-loop-place
 invariant-loop-place l = record {

@@ -1,8 +1,8 @@
 use Rattle.std.proofs.Common.{◌<◌}
-use Rattle.queue.specs.declared.index.Slot.{Slot}
+use Rattle.queue.specs.declared.verdict_index.Slot.{Slot}
 use Rattle.queue.specs.Jobs.{question_of}
 use Rattle.queue.specs.inside.Pairing.{Fits}
-use Rattle.queue.proofs.index.Index.search.Given as goal
+use Rattle.queue.proofs.verdict_index.Index.search.Given as goal
 
 abbrev pub invariant-loop-list : goal.invariant-loop-list
 invariant-loop-list l = (slot : Slot) → slot.verdicts < l.list → ¬ Fits l.self.verdicts.now slot (question_of l.job)
