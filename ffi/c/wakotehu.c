@@ -34,6 +34,10 @@ struct made {
 
 uint32_t ffi_open(struct slot *slot, const wakotehu_heights *heights, const uint8_t *table, size_t length,
                   uint64_t *line);
+uint32_t ffi_open_by_need(struct slot *slot, const wakotehu_heights *heights);
+uint32_t ffi_want(struct slot *slot, uint64_t index, uint8_t *line, size_t length, uint64_t *needed);
+uint32_t ffi_learn(struct slot *slot, const uint8_t *key, size_t key_length, const uint8_t *signature,
+                   size_t signature_length, const uint8_t *digest, uint32_t valid);
 uint32_t ffi_close(struct slot *slot);
 uint32_t ffi_submit(struct slot *slot, const uint8_t *bytes, size_t length, uint64_t now, wakotehu_answer *answer);
 uint32_t ffi_invalidate(struct slot *slot, const uint8_t *id, wakotehu_answer *answer);
@@ -189,11 +193,23 @@ static void forget(struct blocks *blocks) {
 
 /* ---- opening and closing */
 
-wakotehu_code wakotehu_open(wakotehu_handle *handle, const wakotehu_heights *heights, const char *table,
-                            size_t length, uint64_t *line) {
-    uint64_t unasked;
-    if (!handle || !heights || !readable(table, length))
-        return WAKOTEHU_NULL;
+/* What is opened: by a table, or by need. */
+struct opening {
+    const wakotehu_heights *heights;
+    const uint8_t *table;
+    size_t length;
+    uint64_t *line;
+    bool by_need;
+};
+
+static uint32_t open_slot(struct slot *slot, const struct opening *asked) {
+    if (asked->by_need)
+        return ffi_open_by_need(slot, asked->heights);
+    return ffi_open(slot, asked->heights, asked->table, asked->length, asked->line);
+}
+
+/* Opens in the first place that is free. */
+static wakotehu_code open_place(wakotehu_handle *handle, const struct opening *asked) {
     for (uint64_t place = 0; place < WAKOTEHU_MOST; place++) {
         uint64_t word = atomic_load(&chains[place].word);
         wakotehu_handle made = ((word >> 2) + 1) << 8 | place;
@@ -201,14 +217,28 @@ wakotehu_code wakotehu_open(wakotehu_handle *handle, const wakotehu_heights *hei
             continue;
         if (!atomic_compare_exchange_strong(&chains[place].word, &word, word_of(made, IN_USE)))
             continue;
-        uint32_t code = ffi_open(&chains[place].slot, heights, length ? (const uint8_t *)table : no_bytes, length,
-                                 line ? line : &unasked);
+        uint32_t code = open_slot(&chains[place].slot, asked);
         if (code == WAKOTEHU_OK)
             *handle = made;
         atomic_store(&chains[place].word, word_of(made, code == WAKOTEHU_OK ? OPEN : FREE));
         return (wakotehu_code)code;
     }
     return WAKOTEHU_TOO_MANY;
+}
+
+wakotehu_code wakotehu_open(wakotehu_handle *handle, const wakotehu_heights *heights, const char *table,
+                            size_t length, uint64_t *line) {
+    uint64_t unasked;
+    if (!handle || !heights || !readable(table, length))
+        return WAKOTEHU_NULL;
+    const uint8_t *bytes = length ? (const uint8_t *)table : no_bytes;
+    return open_place(handle, &(struct opening){heights, bytes, length, line ? line : &unasked, false});
+}
+
+wakotehu_code wakotehu_open_by_need(wakotehu_handle *handle, const wakotehu_heights *heights) {
+    if (!handle || !heights)
+        return WAKOTEHU_NULL;
+    return open_place(handle, &(struct opening){heights, no_bytes, 0, NULL, true});
 }
 
 wakotehu_code wakotehu_close(wakotehu_handle handle) {
@@ -270,6 +300,54 @@ wakotehu_code wakotehu_reconsider(wakotehu_handle handle, const uint8_t *id, wak
 
 wakotehu_code wakotehu_precious(wakotehu_handle handle, const uint8_t *id, wakotehu_answer *answer) {
     return mark(handle, id, answer, ffi_precious);
+}
+
+/* ---- signatures by need */
+
+/* Hands on the lines of the wanted signatures. */
+static uint32_t wants(struct slot *slot, wakotehu_want_call call, void *context) {
+    uint8_t small[1024], *room = small;
+    size_t length = sizeof small;
+    uint32_t code = WAKOTEHU_OK;
+    for (uint64_t n = 0; code == WAKOTEHU_OK; n++) {
+        uint64_t needed = 0;
+        code = ffi_want(slot, n, room, length, &needed);
+        if (code == WAKOTEHU_TOO_SMALL) {
+            uint8_t *larger = malloc(needed);
+            if (!larger) {
+                code = WAKOTEHU_MEMORY;
+                break;
+            }
+            if (room != small)
+                free(room);
+            room = larger;
+            length = needed;
+            code = ffi_want(slot, n, room, length, &needed);
+        }
+        if (code == WAKOTEHU_UNKNOWN)
+            code = call(context, (const char *)room, needed) != 0 ? WAKOTEHU_NONE : WAKOTEHU_OK;
+    }
+    if (room != small)
+        free(room);
+    return code == WAKOTEHU_NONE ? WAKOTEHU_OK : code;
+}
+
+wakotehu_code wakotehu_wants(wakotehu_handle handle, wakotehu_want_call call, void *context) {
+    if (!call)
+        return WAKOTEHU_NULL;
+    wakotehu_code code = enter(handle);
+    return code != WAKOTEHU_OK ? code : leave(handle, wants(slot_of(handle), call, context));
+}
+
+wakotehu_code wakotehu_learn(wakotehu_handle handle, const uint8_t *key, size_t key_length, const uint8_t *signature,
+                             size_t signature_length, const uint8_t *digest, int valid) {
+    if (!readable(key, key_length) || !readable(signature, signature_length) || !digest)
+        return WAKOTEHU_NULL;
+    wakotehu_code code = enter(handle);
+    if (code != WAKOTEHU_OK)
+        return code;
+    return leave(handle, ffi_learn(slot_of(handle), key_length ? key : no_bytes, key_length,
+                                   signature_length ? signature : no_bytes, signature_length, digest, valid != 0));
 }
 
 /* ---- reads */
@@ -447,6 +525,7 @@ const char *wakotehu_code_text(wakotehu_code code) {
     case WAKOTEHU_TOO_LONG: return "the record is too long";
     case WAKOTEHU_UNKNOWN: return "whether a signature is valid isn't known";
     case WAKOTEHU_CONTRADICTION: return "a signature is said to be valid and not to be";
+    case WAKOTEHU_WANTS: return "signatures have to be found out first";
     }
     return "";
 }

@@ -55,7 +55,8 @@ typedef enum {
     WAKOTEHU_CUT = 27,      /* the record ends early */
     WAKOTEHU_TOO_LONG = 28, /* the record says a length above 33,554,432 */
     WAKOTEHU_UNKNOWN = 29,  /* the scripts come to a signature of which nothing is known */
-    WAKOTEHU_CONTRADICTION = 30 /* one signature is said to be valid and not to be */
+    WAKOTEHU_CONTRADICTION = 30, /* one signature is said to be valid and not to be */
+    WAKOTEHU_WANTS = 31     /* signatures have to be found out first: see wakotehu_open_by_need */
 } wakotehu_code;
 
 /* So many chainstates can be open at once. */
@@ -121,6 +122,27 @@ typedef struct {
  * Each opened chainstate has to be given back by wakotehu_close. */
 wakotehu_code wakotehu_open(wakotehu_handle *handle, const wakotehu_heights *heights, const char *table,
                             size_t length, uint64_t *line);
+
+/* The same, but no table says which signatures are valid: they are found out by need. A command whose scripts come to
+ * signatures of which nothing is known is answered WAKOTEHU_WANTS. It is no command then: nothing has changed. The caller
+ * asks by wakotehu_wants for all at which a script of the block stops, finds out whether they are valid, hands the
+ * verdicts in by wakotehu_learn, and makes the same call again. No verdict changes a reply that was given. */
+wakotehu_code wakotehu_open_by_need(wakotehu_handle *handle, const wakotehu_heights *heights);
+
+/* Who is called for a signature that has to be found out: with its line, as in a table, of `length` bytes. It lives as
+ * long as the call. Any other answer than 0 ends the walk. For the handle, and for calls that don't return, see
+ * wakotehu_coin_call. */
+typedef int (*wakotehu_want_call)(void *context, const char *line, size_t length);
+
+/* Calls `call` once for each signature at which a script of the last command stopped, where that was answered
+ * WAKOTEHU_WANTS; else for none. `context` is handed on. A signature may come more than once. */
+wakotehu_code wakotehu_wants(wakotehu_handle handle, wakotehu_want_call call, void *context);
+
+/* Hands in whether a signature is valid (`valid` isn't 0): of a key, a signature without its hash type, and a digest of 32
+ * bytes. A verdict that is known stays for ever: another one is refused by WAKOTEHU_CONTRADICTION, and changes nothing. Of
+ * a chainstate that has a table all is known. */
+wakotehu_code wakotehu_learn(wakotehu_handle handle, const uint8_t *key, size_t key_length, const uint8_t *signature,
+                             size_t signature_length, const uint8_t *digest, int valid);
 
 /* Closes a chainstate and gives its memory back. */
 wakotehu_code wakotehu_close(wakotehu_handle handle);

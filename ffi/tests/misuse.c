@@ -290,6 +290,55 @@ static void too_many(void) {
         EXPECT(wakotehu_close(all[n]) == WAKOTEHU_OK);
 }
 
+static int none_is_wanted(void *context, const char *line, size_t length) {
+    (void)line, (void)length;
+    ++*(int *)context;
+    return 0;
+}
+
+/* Signatures by need: each call that takes memory with each allocation refused, and verdicts that stay. */
+static void verdicts(void) {
+    wakotehu_handle chain = 0, table = opened();
+    uint8_t key[33] = {2}, signature[8] = {0x30}, digest[32] = {7};
+    int called = 0, met = 1;
+    long n = 0;
+    EXPECT(wakotehu_open_by_need(NULL, &regtest) == WAKOTEHU_NULL);
+    EXPECT(wakotehu_open_by_need(&chain, NULL) == WAKOTEHU_NULL);
+    for (n = 0; met; n++) {
+        left = n;
+        wakotehu_code code = wakotehu_open_by_need(&chain, &regtest);
+        met = left < 0;
+        left = -1;
+        EXPECT(code == (met ? WAKOTEHU_MEMORY : WAKOTEHU_OK) && !met == (chain != 0));
+    }
+    EXPECT(n > 1);
+    for (n = 0, met = 1; met; n++) {
+        left = n;
+        wakotehu_code code = wakotehu_learn(chain, key, sizeof key, signature, sizeof signature, digest, 1);
+        met = left < 0;
+        left = -1;
+        EXPECT(code == (met ? WAKOTEHU_MEMORY : WAKOTEHU_OK));
+    }
+    EXPECT(n > 1);
+    EXPECT(wakotehu_learn(chain, key, sizeof key, signature, sizeof signature, digest, 2) == WAKOTEHU_OK);
+    EXPECT(wakotehu_learn(chain, key, sizeof key, signature, sizeof signature, digest, 0) == WAKOTEHU_CONTRADICTION);
+    EXPECT(wakotehu_learn(chain, NULL, 0, NULL, 0, digest, 0) == WAKOTEHU_OK);
+    EXPECT(wakotehu_learn(chain, NULL, 0, NULL, 0, digest, 1) == WAKOTEHU_CONTRADICTION);
+    EXPECT(wakotehu_learn(chain, NULL, 1, NULL, 0, digest, 1) == WAKOTEHU_NULL);
+    EXPECT(wakotehu_learn(chain, NULL, 0, NULL, 1, digest, 1) == WAKOTEHU_NULL);
+    EXPECT(wakotehu_learn(chain, NULL, 0, NULL, 0, NULL, 1) == WAKOTEHU_NULL);
+    EXPECT(wakotehu_wants(chain, NULL, NULL) == WAKOTEHU_NULL);
+    EXPECT(wakotehu_wants(chain, none_is_wanted, &called) == WAKOTEHU_OK && called == 0);
+    EXPECT(submitted(chain, b1, sizeof b1) == WAKOTEHU_ACCEPTED);
+    /* Of a table all is known. */
+    EXPECT(wakotehu_learn(table, key, sizeof key, signature, sizeof signature, digest, 0) == WAKOTEHU_OK);
+    EXPECT(wakotehu_learn(table, key, sizeof key, signature, sizeof signature, digest, 1) == WAKOTEHU_CONTRADICTION);
+    EXPECT(wakotehu_wants(table, none_is_wanted, &called) == WAKOTEHU_OK && called == 0);
+    EXPECT(wakotehu_close(table) == WAKOTEHU_OK && wakotehu_close(chain) == WAKOTEHU_OK);
+    EXPECT(wakotehu_learn(chain, NULL, 0, NULL, 0, digest, 0) == WAKOTEHU_CLOSED);
+    EXPECT(wakotehu_wants(chain, none_is_wanted, &called) == WAKOTEHU_CLOSED && called == 0);
+}
+
 static wakotehu_handle shared;
 
 /* Stops at once: what other threads submit isn't known. */
@@ -339,6 +388,7 @@ int main(void) {
     nothing_else_is_written();
     blocks_and_coins();
     too_many();
+    verdicts();
     threads_that_fight();
     return 0;
 }

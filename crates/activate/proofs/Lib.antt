@@ -6,3 +6,4 @@ pub mod Plans
 pub mod Tips
 pub mod Trails
 pub mod Undo
+pub mod Wanted

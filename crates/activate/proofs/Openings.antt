@@ -5,12 +5,12 @@ use Rattle.curve.specs.Triple.{Triples}
 use Rattle.rules.specs.declared.params.Params.{Params}
 use Rattle.tree.specs.State.{opening}
 use Rattle.chain.specs.Regtest.{ledger, regtest}
-use Rattle.activate.specs.CoreState.{IsChainstate, genesis_alone}
+use Rattle.activate.specs.CoreState.{IsChainstate, opened_core}
 use Rattle.chain.specs.laws.Actives.{active_kept}
 use Rattle.chain.specs.laws.Coins.{coins-genesis}
 use Rattle.chain.specs.laws.Steps.{opening_sound}
 
-pub opens : (params : Params) (triples : Triples) → IsChainstate (record { core = genesis_alone params; coins = coin_map.empty }) triples
+pub opens : (params : Params) (triples : Triples) → IsChainstate (record { core = opened_core params; coins = coin_map.empty }) triples
 opens params triples =
     let r = regtest params triples in
     let sound = opening_sound r in

@@ -32,7 +32,7 @@ use Rattle.chain.specs.Rules.{Rules}
 use Rattle.chain.specs.Settle.{active, settle}
 use Rattle.chain.specs.Submission.{Outcome, submit_says, answer_added, outcome_of_added}
 use Rattle.chain.specs.Step.{mark_says}
-use Rattle.chain.specs.inside.Try.{state_after_try}
+use Rattle.chain.specs.Try.{state_after_try}
 use Rattle.chain.specs.Settled.{IsSettled}
 use Rattle.chain.specs.Replay.{replay}
 use Rattle.chain.specs.Regtest.{ledger}

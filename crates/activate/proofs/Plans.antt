@@ -24,7 +24,7 @@ use Rattle.chain.specs.Rules.{Rules}
 use Rattle.chain.specs.Valid.{fault, branch_connects, first_to_fail}
 use Rattle.chain.specs.Settle.{active, settle, on_candidate, becomes_bad, becomes_seen}
 use Rattle.chain.specs.Submission.{answer_added, reply_by_reason}
-use Rattle.chain.specs.inside.Try.{fails_on, passes_on, state_after_try}
+use Rattle.chain.specs.Try.{fails_on, passes_on, state_after_try}
 use Rattle.chain.specs.Settled.{IsSettled, AllKept}
 use Rattle.activate.specs.CoreState.{CoreState, coins_after, coins_of}
 use Rattle.activate.specs.inside.Paths.{LeadsTo, FailsAt}

@@ -40,12 +40,12 @@ use Rattle.chain.specs.Valid.{branch_connects}
 use Rattle.chain.specs.Regtest.{medians_of, setting_on, ledger, regtest}
 use Rattle.chain.specs.Settle.{active, settle}
 use Rattle.chain.specs.Settled.{IsSettled}
-use Rattle.chain.specs.inside.Faults.{IsNew}
+use Rattle.chain.specs.Faults.{IsNew}
 use Rattle.chain.specs.Step.{Submit, step}
 use Rattle.chain.specs.Submission.{submit_says}
 use Rattle.activate.specs.CoreState.{CoreState, branch_blocks, coins_after, coins_of}
 use Rattle.activate.specs.inside.Keeping.{undo_at}
-use Rattle.chain.specs.inside.Try.{state_after_try}
+use Rattle.chain.specs.Try.{state_after_try}
 use Rattle.activate.specs.inside.Preparation.{undo_after, CanTry, IsPreparationFor, IsReady, core_after_commit}
 use Rattle.activate.specs.inside.Paths.{IsPath}
 use Rattle.chain.specs.laws.Actives.{active_valid}

@@ -1,9 +1,13 @@
 -- A chainstate without its coins: the tree, which of its blocks is active, and the heights of soft forks.
 use Rattle.std.specs.Prelude.{◌≡◌, ℕ, suc, ◌+◌, ◌-◌, ◌<◌, nat_le, if◌then◌else◌, List}
 use Rattle.block.specs.declared.block.Block.{Block}
-use Rattle.curve.specs.Triple.{Triples}
+use Rattle.txn.specs.declared.tx.Tx.{Tx}
+use Rattle.curve.specs.Known.{Known}
+use Rattle.curve.specs.Triple.{Triple, Triples}
 use Rattle.coins.specs.Coins.{Coins}
 use Rattle.rules.specs.declared.params.Params.{Params}
+use Rattle.connect.specs.Scripts.{IsWantedByBlock}
+use Rattle.connect.specs.Setting.{Setting}
 use Rattle.tree.specs.Branches.{Blocks, branch, height, parent_at, blocks_at}
 use Rattle.tree.specs.Tips.{last_shared}
 use Rattle.tree.specs.State.{State, opening}
@@ -22,8 +26,8 @@ pub record CoreState : Type 0 where
   pub undo_kept : ℕ
 
 -- genesis alone
-abbrev pub genesis_alone : Params → CoreState
-genesis_alone params = record { params = params; state = opening; active = 0; undo_kept = 0 }
+abbrev pub opened_core : Params → CoreState
+opened_core params = record { params = params; state = opening; active = 0; undo_kept = 0 }
 
 -- the blocks of the branch of a place, the newest first
 abbrev pub branch_blocks : Blocks Block → ℕ → List Block
@@ -76,3 +80,9 @@ UndoFollows a b =
     let t = b.state.blocks in
     let shared = height t (last_shared t a.active b.active) in
     b.undo_kept ≡ lesser_of most_undo ((a.undo_kept - (height t a.active - shared)) + (height t b.active - shared))
+
+-- ---- what a step wants
+
+-- a script of some block, over some coins, comes to a signature of which nothing is known
+abbrev pub IsWantedByABlock : Known → Triple → Type 0
+IsWantedByABlock known t = (s : Setting) × (coins : Coins) × (txs : List Tx) × IsWantedByBlock s coins txs known t

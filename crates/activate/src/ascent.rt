@@ -1,26 +1,27 @@
 //! The walk up a branch, block by block.
 
-ghost use Rattle.std.specs.Prelude.{◌≡◌, ◌≤◌, ◌<◌, true, length, reverse, IfOk, IfErr, OnOk};
+ghost use Rattle.std.specs.Prelude.{◌≡◌, ◌≤◌, ◌<◌, true, length, reverse, IfOk, IfErr, OnOk, None};
 ghost use Rattle.std.specs.Result.{result_err};
 ghost use Rattle.tree.specs.Branches.{parent_at, height};
 ghost use Rattle.chain.specs.Valid.{fault, branch_connects};
 ghost use Rattle.chain.specs.Regtest.{medians_of, regtest};
 ghost use Rattle.chain.specs.Settled.{AllKept};
-ghost use Rattle.activate.specs.CoreState.{branch_blocks, coins_after};
+ghost use Rattle.activate.specs.CoreState.{IsWantedByABlock, branch_blocks, coins_after};
 ghost use Rattle.activate.specs.inside.Keeping.{undo_at};
 ghost use Rattle.activate.specs.inside.Ascents.{top_of, IsTop, LeadsUp};
 ghost use Rattle.activate.specs.inside.Paths.{IsStop};
+ghost use Rattle.curve.specs.Known.{Under};
+ghost use Rattle.queue.specs.Jobs.{IsUndecided};
 
 use crate::path::BranchPath;
 use coins::{Base, Cache};
-use connect::{Context, Env, connect_in_layer};
-use queue::{Crew, Gate};
+use connect::{Context, RunsScripts, connect_in_layer_by};
+use queue::{Gate, Undecided};
 use rules::Params;
 use std::alloc::Global;
 use tree::Tree;
 use txn::{Reason, ids};
 use undo::BlockUndo;
-use wire::Memory;
 
 /// What the walk up a path comes to where each block connects.
 #[derive(Drop)]
@@ -41,33 +42,36 @@ pub(crate) struct Stop {
 
 /// Connects the blocks of a path to the coins of the fork's branch, from the lowest on, up to the first that
 /// has a fault, where the layer is dropped. The medians are those of the fork's branch by height.
-pub(crate) fn connect_up<'b, B: Base, C: Crew>(
+pub(crate) fn connect_up<'b, B: Base, S: RunsScripts>(
     alloc: Global,
     mut layer: Cache<'b, B>,
     tree: &Tree,
     params: &Params,
     medians: Vec<u32>,
     path: &BranchPath,
-    env: &Env<'_, C>,
+    env: &S,
     gate: &(dyn Gate + Sync),
-) -> Result<Result<Ascent<'b, B>, Stop>, Memory>
+) -> Result<Result<Ascent<'b, B>, Stop>, Undecided>
     requires path { LeadsUp tree.now.blocks path.now.fork path.now.up.items }
-    requires kept { AllKept (regtest params.now env.now.table.now) tree.now.blocks }
-    requires good { let r = regtest params.now env.now.table.now in
-        branch_connects r tree.now.blocks path.now.fork ≡ true }
+    requires kept { Under (S.known env.now) (λ triples.
+        AllKept (regtest params.now triples) tree.now.blocks) }
+    requires good { Under (S.known env.now) (λ triples.
+        branch_connects (regtest params.now triples) tree.now.blocks path.now.fork ≡ true) }
     requires coins { layer.coins ≡ coins_after tree.now.blocks path.now.fork }
     requires medians { medians.items
         ≡ reverse (medians_of (branch_blocks tree.now.blocks path.now.fork)) }
-    ensures top { let r = regtest params.now env.now.table.now in
-        IfOk result (λ answer. IfOk answer (λ ascent.
-        IsTop r tree.now.blocks path.now.fork path.now.up.items
-        ascent.undo.items ascent.layer.coins)) }
-    ensures stops { let r = regtest params.now env.now.table.now in
-        IfOk result (λ answer. IfErr answer (λ stop.
-        IsStop r tree.now.blocks (top_of path.now.fork path.now.up.items) path.now.up.items
-        stop.passed stop.reason)) }
+    ensures top { IfOk result (λ answer. IfOk answer (λ ascent.
+        Under (S.known env.now) (λ triples.
+        IsTop (regtest params.now triples) tree.now.blocks path.now.fork path.now.up.items
+        ascent.undo.items ascent.layer.coins))) }
+    ensures stops { IfOk result (λ answer. IfErr answer (λ stop.
+        Under (S.known env.now) (λ triples.
+        IsStop (regtest params.now triples) tree.now.blocks
+        (top_of path.now.fork path.now.up.items) path.now.up.items
+        stop.passed stop.reason))) }
     ensures base { IfOk result (λ answer. IfOk answer (λ ascent.
         ascent.layer.base ≡ layer.entry.base)) }
+    ensures wants { IfErr result (IsUndecided (IsWantedByABlock (S.known env.now))) }
 {
     let up = path.up.as_slice();
     let mut medians = medians;
@@ -87,19 +91,20 @@ pub(crate) fn connect_up<'b, B: Base, C: Crew>(
 
 /// Connects the block at a place to the coins of its parent's branch, and adds its median to those of that. The
 /// first rule that it breaks leaves the medians.
-fn connect_next<'b, B: Base, C: Crew>(
+fn connect_next<'b, B: Base, S: RunsScripts>(
     alloc: Global,
     layer: Cache<'b, B>,
     tree: &Tree,
     params: &Params,
     medians: &mut Vec<u32>,
     place: usize,
-    env: &Env<'_, C>,
+    env: &S,
     gate: &(dyn Gate + Sync),
-) -> Result<Result<(Cache<'b, B>, BlockUndo), Reason>, Memory>
+) -> Result<Result<(Cache<'b, B>, BlockUndo), Reason>, Undecided>
     requires above { 0 < place }
     requires place { place ≤ length tree.now.blocks }
-    requires kept { AllKept (regtest params.now env.now.table.now) tree.now.blocks }
+    requires kept { Under (S.known env.now) (λ triples.
+        AllKept (regtest params.now triples) tree.now.blocks) }
     requires coins { layer.coins ≡ coins_after tree.now.blocks
         (parent_at tree.now.blocks place) }
     requires medians { medians.old.items
@@ -107,8 +112,8 @@ fn connect_next<'b, B: Base, C: Crew>(
         (medians_of
         (branch_blocks tree.now.blocks (parent_at tree.now.blocks place))) }
     ensures fault { IfOk result (λ answer.
-        result_err answer
-        ≡ fault (regtest params.now env.now.table.now) tree.now.blocks place) }
+        Under (S.known env.now) (λ triples. result_err answer
+        ≡ fault (regtest params.now triples) tree.now.blocks place)) }
     ensures undo { IfOk result (λ answer.
         IfOk answer (λ done. done.1 ≡ undo_at tree.now.blocks place)) }
     ensures coins { IfOk result (λ answer.
@@ -119,6 +124,7 @@ fn connect_next<'b, B: Base, C: Crew>(
         ≡ reverse (medians_of (branch_blocks tree.now.blocks place)))) }
     ensures base { IfOk result (λ answer.
         IfOk answer (λ done. done.0.base ≡ layer.entry.base)) }
+    ensures wants { IfErr result (IsUndecided (IsWantedByABlock (S.known env.now))) }
 {
     let block = tree.block(place).read(alloc)?;
     let ids = ids(alloc, block.txs.as_slice())?;
@@ -129,7 +135,7 @@ fn connect_next<'b, B: Base, C: Crew>(
         medians: below,
         params,
     };
-    match connect_in_layer(alloc, layer, &context, &block, &ids, env, gate)? {
+    match connect_in_layer_by(alloc, layer, &context, &block, &ids, env, gate)? {
         Ok(done) => {
             medians.push(tree.median(place))?;
             Ok(Ok(done))

@@ -1,26 +1,27 @@
 //! A try of a block: whether its branch connects.
 
-ghost use Rattle.std.specs.Prelude.{◌≡◌, ◌≤◌, true, length, IfOk};
+ghost use Rattle.std.specs.Prelude.{◌≡◌, ◌≤◌, true, length, IfOk, IfErr, None};
 ghost use Rattle.chain.specs.Valid.{branch_connects};
 ghost use Rattle.chain.specs.Regtest.{regtest};
 ghost use Rattle.chain.specs.Settled.{AllKept};
-ghost use Rattle.activate.specs.CoreState.{coins_after};
+ghost use Rattle.activate.specs.CoreState.{IsWantedByABlock, coins_after};
 ghost use Rattle.activate.specs.inside.Keeping.{IsBranch};
 ghost use Rattle.activate.specs.inside.Paths.{IsAttempt};
+ghost use Rattle.curve.specs.Known.{Under};
+ghost use Rattle.queue.specs.Jobs.{IsUndecided};
 
 use crate::ascent::connect_up;
 use crate::disconnection::disconnect_to_fork;
 use crate::fork_search::path_to;
 use crate::path::{Attempt, FailedTry, Reorganisation};
 use coins::{Base, Cache};
-use connect::Env;
-use queue::{Crew, Gate};
+use connect::RunsScripts;
+use queue::{Gate, Undecided};
 use rules::Params;
 use std::alloc::Global;
 use std::collections::VecDeque;
 use tree::Tree;
 use undo::BlockUndo;
-use wire::Memory;
 
 /// The active branch, as a try looks at it.
 #[derive(Clone, Copy)]
@@ -38,27 +39,28 @@ pub(crate) struct ActiveBranch<'a> {
 
 /// Tries a block over the coins of the active branch, on a layer that is dropped: the active branch is taken back down
 /// to the fork, and the block's branch is connected up from there.
-pub(crate) fn try_branch<B: Base, C: Crew>(
+pub(crate) fn try_branch<B: Base, S: RunsScripts>(
     alloc: Global,
     active_branch: &ActiveBranch,
     base: &B,
     place: usize,
-    env: &Env<'_, C>,
+    env: &S,
     gate: &(dyn Gate + Sync),
-) -> Result<Attempt, Memory>
+) -> Result<Attempt, Undecided>
     requires branch { let b = active_branch.now in
         IsBranch b.tree.now.blocks b.active b.branch.now b.medians.now b.undo.now.items }
     requires active { active_branch.now.active ≤ length active_branch.now.tree.now.blocks }
     requires place { place ≤ length active_branch.now.tree.now.blocks }
-    requires kept { AllKept (regtest active_branch.now.params.now env.now.table.now)
-        active_branch.now.tree.now.blocks }
-    requires good { let b = active_branch.now in
-        branch_connects (regtest b.params.now env.now.table.now) b.tree.now.blocks b.active ≡ true }
+    requires kept { Under (S.known env.now) (λ triples. AllKept (regtest active_branch.now.params.now triples)
+        active_branch.now.tree.now.blocks) }
+    requires good { Under (S.known env.now) (λ triples. let b = active_branch.now in
+        branch_connects (regtest b.params.now triples) b.tree.now.blocks b.active ≡ true) }
     requires coins { B.coins base.now
         ≡ coins_after active_branch.now.tree.now.blocks active_branch.now.active }
-    ensures { let b = active_branch.now in
-        let r = regtest b.params.now env.now.table.now in
-        IfOk result (λ attempt. IsAttempt r b.tree.now.blocks b.active place attempt) }
+    ensures attempt { let b = active_branch.now in
+        IfOk result (λ attempt. Under (S.known env.now) (λ triples.
+        IsAttempt (regtest b.params.now triples) b.tree.now.blocks b.active place attempt)) }
+    ensures wants { IfErr result (IsUndecided (IsWantedByABlock (S.known env.now))) }
 {
     let path = path_to(alloc, active_branch, place)?;
     let layer = disconnect_to_fork(

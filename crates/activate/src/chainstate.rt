@@ -1,8 +1,10 @@
 //! A chainstate with coins of its own.
 
-ghost use Rattle.std.specs.Prelude.{◌≡◌, ◌≤◌, ℕ, IfOk, OnErr, OnOk, length, map, take};
+ghost use Rattle.std.specs.Prelude.{◌≡◌, ◌≤◌, ℕ, IfErr, IfOk, None, OnErr, OnOk, length, map, take};
 ghost use Rattle.std.specs.FinMap as coin_map;
+ghost use Rattle.curve.specs.Known.{Under};
 ghost use Rattle.curve.specs.Triple.{Triples};
+ghost use Rattle.queue.specs.Jobs.{IsUndecided};
 ghost use Rattle.rules.specs.Params.{regtest as regtest_params};
 ghost use Rattle.tree.specs.Branches.{height};
 ghost use Rattle.tree.specs.Tips.{tip_of_id};
@@ -11,16 +13,16 @@ ghost use Rattle.chain.specs.Prepared.{command_of};
 ghost use Rattle.chain.specs.Regtest.{ledger, regtest};
 ghost use Rattle.chain.specs.Replay.{coins};
 ghost use Rattle.chain.specs.Settle.{active, best, tips};
-ghost use Rattle.activate.specs.CoreState.{HasOneMore, IsChainstate, UndoFollows, genesis_alone, most_undo};
+ghost use Rattle.activate.specs.CoreState.{HasOneMore, IsChainstate, IsWantedByABlock, UndoFollows, most_undo, opened_core};
 
 use crate::active_branch::MOST_UNDO;
 use crate::core_state::Core;
 use crate::prepared::Prepared;
 use chain::{Command, PreparedCommand, Reply};
 use coins::CoinMap;
-use connect::Env;
+use connect::{Env, RunsScripts};
 use hash::Id;
-use queue::{Crew, Gate};
+use queue::{Crew, Gate, Undecided};
 use rules::Params;
 use std::alloc::Global;
 use std::marker::Model;
@@ -51,7 +53,7 @@ impl Chainstate {
     pub fn new(alloc: Global) -> Result<Chainstate, Memory>
         ensures value { IfOk result (λ chain.
             chain
-            ≡ record { core = genesis_alone regtest_params; coins = coin_map.empty }) }
+            ≡ record { core = opened_core regtest_params; coins = coin_map.empty }) }
         ensures is_chainstate { (triples : Triples)
             → IfOk result (λ chain. IsChainstate chain triples) }
     {
@@ -61,7 +63,7 @@ impl Chainstate {
     /// Genesis alone, with these heights of soft forks.
     pub fn with(alloc: Global, params: Params) -> Result<Chainstate, Memory>
         ensures value { IfOk result (λ chain.
-            chain ≡ record { core = genesis_alone params; coins = coin_map.empty }) }
+            chain ≡ record { core = opened_core params; coins = coin_map.empty }) }
         ensures is_chainstate { (triples : Triples)
             → IfOk result (λ chain. IsChainstate chain triples) }
     {
@@ -113,6 +115,59 @@ impl Chainstate {
         ensures undo_kept { OnOk result (UndoFollows self.old.core self.new.core) }
         ensures err { OnErr result (self.new ≡ self.old) }
     {
+        match self.step_prepared_by(alloc, command, env, gate) {
+            Ok(reply) => Ok(reply),
+            Err(Undecided::Memory) => Err(Memory),
+            // Of a table all is known.
+            Err(Undecided::Unknown(_)) => unreachable!(),
+        }
+    }
+
+    /// Takes a command by what is known of signatures, or else says which have to be found out first. Then nothing has
+    /// changed, and the same call can be made again once more is known.
+    pub fn step_by<S: RunsScripts>(
+        &mut self,
+        alloc: Global,
+        command: &Command,
+        env: &S,
+        gate: &(dyn Gate + Sync),
+    ) -> Result<Reply, Undecided>
+        requires is_chainstate { Under (S.known env.now) (λ triples. IsChainstate self.old triples) }
+        ensures outcome { IfOk result (λ reply. Under (S.known env.now) (λ triples.
+            (self.new.core.state, reply)
+            ≡ outcome (regtest self.old.core.params triples) self.old.core.state command.now)) }
+        // Of none of these signatures a verdict is known, and there is one at least.
+        ensures wants { IfErr result (IsUndecided (IsWantedByABlock (S.known env.now))) }
+        ensures params { self.new.core.params ≡ self.old.core.params }
+        ensures is_chainstate { Under (S.known env.now) (λ triples. IsChainstate self.new triples) }
+        ensures undo { OnOk result (HasOneMore self.old.core self.new.core) }
+        ensures undo_kept { OnOk result (UndoFollows self.old.core self.new.core) }
+        ensures err { OnErr result (self.new ≡ self.old) }
+    {
+        let prepared = PreparedCommand::of(alloc, command)?;
+        self.step_prepared_by(alloc, &prepared, env, gate)
+    }
+
+    /// The same of a command that was prepared before.
+    pub fn step_prepared_by<S: RunsScripts>(
+        &mut self,
+        alloc: Global,
+        command: &PreparedCommand,
+        env: &S,
+        gate: &(dyn Gate + Sync),
+    ) -> Result<Reply, Undecided>
+        requires is_chainstate { Under (S.known env.now) (λ triples. IsChainstate self.old triples) }
+        ensures outcome { IfOk result (λ reply. Under (S.known env.now) (λ triples.
+            (self.new.core.state, reply)
+            ≡ outcome (regtest self.old.core.params triples) self.old.core.state (command_of command.now))) }
+        // Of none of these signatures a verdict is known, and there is one at least.
+        ensures wants { IfErr result (IsUndecided (IsWantedByABlock (S.known env.now))) }
+        ensures params { self.new.core.params ≡ self.old.core.params }
+        ensures is_chainstate { Under (S.known env.now) (λ triples. IsChainstate self.new triples) }
+        ensures undo { OnOk result (HasOneMore self.old.core self.new.core) }
+        ensures undo_kept { OnOk result (UndoFollows self.old.core self.new.core) }
+        ensures err { OnErr result (self.new ≡ self.old) }
+    {
         // The clause on undo rests on it.
         let few = self.core.undo_kept() <= MOST_UNDO;
         prove!(few);
@@ -121,7 +176,9 @@ impl Chainstate {
             rollback,
             rest,
             changes,
-        } = self.core.prepare(alloc, &self.coins, command, env, gate)?;
+        } = self
+            .core
+            .prepare_by(alloc, &self.coins, command, env, gate)?;
         match self.coins.lay_taken(alloc, changes) {
             Ok(()) => {
                 self.core.commit(rest);
@@ -129,7 +186,7 @@ impl Chainstate {
             }
             Err(_) => {
                 self.core.roll_back(rollback);
-                Err(Memory)
+                Err(Undecided::Memory)
             }
         }
     }

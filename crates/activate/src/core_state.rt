@@ -8,7 +8,7 @@ ghost use Rattle.chain.specs.Regtest.{regtest};
 ghost use Rattle.chain.specs.Settle.{active, best, tips};
 ghost use Rattle.tree.specs.Branches.{height};
 ghost use Rattle.tree.specs.Tips.{tip_of_id};
-ghost use Rattle.activate.specs.CoreState.{Follows, coins_of, genesis_alone, most_undo};
+ghost use Rattle.activate.specs.CoreState.{Follows, coins_of, opened_core, most_undo};
 
 mod committing;
 mod marking;
@@ -66,7 +66,7 @@ impl Model for Core {
 impl Core {
     /// Genesis alone, by the rules of regtest.
     pub fn new(alloc: Global) -> Result<Core, Memory>
-        ensures value { IfOk result (λ core. core ≡ genesis_alone regtest_params) }
+        ensures value { IfOk result (λ core. core ≡ opened_core regtest_params) }
         ensures follows { (triples : Triples)
             → IfOk result (λ core.
             Follows core triples × (coins_of core ≡ coin_map.empty)) }
@@ -76,7 +76,7 @@ impl Core {
 
     /// Genesis alone, with these heights of soft forks.
     pub fn with(alloc: Global, params: Params) -> Result<Core, Memory>
-        ensures value { IfOk result (λ core. core ≡ genesis_alone params) }
+        ensures value { IfOk result (λ core. core ≡ opened_core params) }
         ensures follows { (triples : Triples)
             → IfOk result (λ core.
             Follows core triples × (coins_of core ≡ coin_map.empty)) }

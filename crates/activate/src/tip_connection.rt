@@ -1,6 +1,6 @@
 //! A block connected to the coins of its parent's branch.
 
-ghost use Rattle.std.specs.Prelude.{◌≡◌, IfOk, None};
+ghost use Rattle.std.specs.Prelude.{◌≡◌, IfOk, None, IfErr};
 ghost use Rattle.std.specs.Result.{result_err};
 ghost use Rattle.txn.specs.First.{first_broken};
 ghost use Rattle.txn.specs.Identity.{ids_of};
@@ -9,16 +9,18 @@ ghost use Rattle.rules.specs.Alone.{alone_rules};
 ghost use Rattle.connect.specs.Setting.{setting};
 ghost use Rattle.connect.specs.Turns.{effect, undo_of};
 ghost use Rattle.connect.specs.computed.Scripts.{connect_fault};
+ghost use Rattle.curve.specs.Known.{Under};
+ghost use Rattle.activate.specs.CoreState.{IsWantedByABlock};
+ghost use Rattle.queue.specs.Jobs.{IsUndecided};
 
 use block::Block;
 use coins::{Base, Cache, Changes};
-use connect::{Context, Env, connect};
+use connect::{Context, RunsScripts, connect_by};
 use hash::Id;
-use queue::{Crew, Gate};
+use queue::{Gate, Undecided};
 use std::alloc::Global;
 use txn::Reason;
 use undo::BlockUndo;
-use wire::Memory;
 
 /// What a block that connects spends, and which coins it changes.
 #[derive(Drop)]
@@ -29,21 +31,21 @@ pub(crate) struct ConnectedTip {
 
 /// Connects a block to these coins, which stay: the first rule that it breaks over them, or what it does (Bitcoin
 /// Core's `ConnectTip`).
-pub(crate) fn connect_tip<B: Base, C: Crew>(
+pub(crate) fn connect_tip<B: Base, S: RunsScripts>(
     alloc: Global,
     base: &B,
     context: &Context,
     block: &Block,
     ids: &[Id],
-    env: &Env<'_, C>,
+    env: &S,
     gate: &(dyn Gate + Sync),
-) -> Result<Result<ConnectedTip, Reason>, Memory>
+) -> Result<Result<ConnectedTip, Reason>, Undecided>
     requires alone { first_broken (alone_rules block.now) ≡ None }
     requires ids { ids.now ≡ ids_of block.now.txs }
     ensures fault { IfOk result (λ answer.
-        result_err answer
+        Under (S.known env.now) (λ triples. result_err answer
         ≡ connect_fault (setting context.now) (B.coins base.now) block.now.txs
-        env.now.table.now) }
+        triples)) }
     ensures undo { IfOk result (λ answer.
         IfOk answer (λ connected.
         connected.undo
@@ -57,9 +59,10 @@ pub(crate) fn connect_tip<B: Base, C: Crew>(
         IfOk answer (λ connected.
         after_changes (B.coins base.now) connected.changes
         ≡ effect context.now.height (B.coins base.now) block.now.txs)) }
+    ensures wants { IfErr result (IsUndecided (IsWantedByABlock (S.known env.now))) }
 {
     let mut layer = Cache::over(alloc, base);
-    match connect(alloc, &mut layer, context, block, ids, env, gate)? {
+    match connect_by(alloc, &mut layer, context, block, ids, env, gate)? {
         Err(reason) => Ok(Err(reason)),
         Ok(undo) => {
             let changes = layer.into_changes();

@@ -7,7 +7,7 @@ ghost use Rattle.tree.specs.Branches.{has, places};
 ghost use Rattle.tree.specs.State.{union_where};
 ghost use Rattle.tree.specs.laws.Sets.{InOrder};
 ghost use Rattle.chain.specs.Rules.{Rules};
-ghost use Rattle.chain.specs.inside.Try.{state_after_try};
+ghost use Rattle.chain.specs.Try.{state_after_try};
 ghost use Rattle.activate.specs.inside.Preparation.{IsFailedTry, IsValidPath};
 
 use crate::path::{BranchPath, FailedTry};

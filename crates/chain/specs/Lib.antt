@@ -1,6 +1,7 @@
 pub mod Chainstate
 pub mod Commands
 pub mod Context
+pub mod Faults
 pub mod History
 pub mod Machine
 pub mod Prepared
@@ -14,7 +15,7 @@ pub mod Step
 pub mod Submission
 pub mod Submitted
 pub mod Total
+pub mod Try
 pub mod Valid
 pub mod computed
-pub mod inside
 pub mod laws

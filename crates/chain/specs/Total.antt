@@ -8,7 +8,7 @@ unfoldable pub subsidies : (ℕ → ℕ) → ℕ → ℕ
 subsidies subsidy zero = 0
 subsidies subsidy (suc n) = subsidies subsidy n + subsidy (suc n)
 
--- what the bound needs of coins: none are worth nothing, and a block without a fault raises their total by at
+-- what the bound needs of coins: without any the total is 0, and a block without a fault raises their total by at
 -- most the subsidy of its height
 pub record IsBounded {B I C : Type 0} (r : Rules B I) (ledger : Ledger B C) (total : C → ℤ) (subsidy : ℕ → ℕ) : Type 0 where
   pub opens : total ledger.empty ≡ pos 0

@@ -6,7 +6,7 @@ ghost use Rattle.hash.specs.declared.id.Id.{Id};
 ghost use Rattle.block.specs.declared.block.Block.{Block};
 ghost use Rattle.block.specs.Reward.{subsidy_of};
 ghost use Rattle.curve.specs.Triple.{Triples};
-ghost use Rattle.coins.specs.Total.{total};
+ghost use Rattle.coins.specs.Coins.{total};
 ghost use Rattle.rules.specs.declared.params.Params.{Params};
 ghost use Rattle.connect.specs.Scripts.{IsConnectFault};
 ghost use Rattle.tree.specs.Branches.{branch, blocks_at, height, place_of};
@@ -24,9 +24,9 @@ ghost use Rattle.chain.specs.Commands.{state_after_commands};
 ghost use Rattle.chain.specs.Replay.{Ledger, replay, coins};
 ghost use Rattle.chain.specs.Total.{subsidies, IsBounded};
 ghost use Rattle.chain.specs.Regtest.{setting_on, ledger, AreNotNegative, most_satoshis, regtest};
-ghost use Rattle.chain.specs.inside.Try.{state_after_try};
+ghost use Rattle.chain.specs.Try.{state_after_try};
 ghost use Rattle.chain.specs.Settled.{IsSettled, AllKept};
-ghost use Rattle.chain.specs.inside.Faults.{IsNew, IsFirstFault, Passes, OfCandidate, IdsAreKeptOnce};
+ghost use Rattle.chain.specs.Faults.{IsNew, IsFirstFault, Passes, OfCandidate, IdsAreKeptOnce};
 ghost use Rattle.tree.specs.Limits.{max_blocks};
 ghost use Rattle.chain.specs.laws.Tries.{count_without_mark};
 ghost use mathlib.Core.List.{IsPrefix};
@@ -179,8 +179,8 @@ pub fn a_precious_block_becomes_active<B, I>()
 
 // ---- coins
 
-/// The coins of a reached state are worth at most the subsidies of heights 1 to the active one, where no coins are
-/// worth nothing and a block without a fault raises their worth by at most the subsidy of its height.
+/// The coins of a reached state are worth at most the subsidies of heights 1 to the active one, where the total without
+/// coins is 0 and a block without a fault raises the total by at most the subsidy of its height.
 pub fn all_coins_are_worth_at_most_the_subsidies<B, I, C>()
     ensures { (r : Rules B I) (ledger : Ledger B C) (total : C → ℤ) (subsidy : ℕ → ℕ)
         (cs : List (Request B I))
@@ -258,7 +258,7 @@ pub fn states_follow()
         state_after_entries m (state_after_entries m opening front) rest }
 {}
 
-/// Bytes that are no block stand in no legal history.
+/// Bytes that are no block are in no legal history.
 pub fn undecodable_bytes_stand_nowhere()
     ensures { (params : Params) (triples : Triples) (seats : ℕ) (front rest : List Entry)
         (e : Entry) (bytes : List ℕ) (now : ℕ)

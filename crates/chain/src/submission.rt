@@ -59,7 +59,7 @@ impl Submission {
         }
     }
 
-    /// The bytes, as they were handed in.
+    /// The bytes, as they were submitted.
     pub fn bytes(&self) -> &Bytes
         ensures { result.now ≡ self.now }
     {

@@ -1,14 +1,15 @@
 -- Lists of scripts that have to accept.
 use Rattle.std.proofs.Common.{◌≡◌, inl, inr, ℕ, zero, suc, ◌+◌, ◌<◌, List, [], ◌∷◌, ◌++◌, length, get_or, map, Option, Some, None, slice_get, refl, sym, ap, ap₂, subst, ◌∙◌, arith}
-use Rattle.std.specs.List.{zip, enumerate_from, AllZip}
+use Rattle.std.specs.List.{zip, enumerate_from, AllZip, Any}
 use Rattle.std.proofs.lemmas.List.{map-append, length-map}
 use Rattle.txn.specs.declared.reason.Reason.TheVariants.{ScriptRefused}
 use Rattle.txn.specs.declared.tx.Tx.{Tx}
 use Rattle.coins.specs.declared.coin.Coin.{Coin}
 use Rattle.interp.specs.declared.flags.Flags.{Flags}
-use Rattle.curve.specs.Triple.{Triples}
+use Rattle.curve.specs.Known.{Known}
+use Rattle.curve.specs.Triple.{Triple, Triples}
 use Rattle.interp.specs.declared.job.Job.{Job}
-use Rattle.queue.specs.Jobs.{question, question_of, IsAccepted, AcceptsAt, FailsAt}
+use Rattle.queue.specs.Jobs.{question, question_of, IsAccepted, AcceptsAt, FailsAt, IsWanted, IsWantedIn}
 use Rattle.connect.specs.Scripts.{Check, input_checks, IsFirstRefused}
 use Rattle.connect.specs.inside.Listing.{checks_from}
 
@@ -73,3 +74,17 @@ alike_length R [] [] h = refl
 alike_length R [] (y ∷ ys) h = absurd h
 alike_length R (x ∷ xs) [] h = absurd h
 alike_length R (x ∷ xs) (y ∷ ys) h = ap (λ n. suc n) (alike_length R xs ys h.1)
+
+-- ---- what is wanted
+
+-- by a job, and so by its check
+pub wanted_check : (known : Known) (places : List ℕ) (jobs : List Job) → length places ≡ length jobs → (t : Triple) → IsWantedIn known jobs t
+    → Any (λ (check : Check). IsWanted known check.1 t) (zip places (map question_of jobs))
+wanted_check known [] [] even t (k, job, lt, is, w) = absurd (omega (arith, lt))
+wanted_check known [] (j ∷ jobs) even t wanted = absurd (omega (arith, even))
+wanted_check known (p ∷ places) [] even t wanted = absurd (omega (arith, even))
+wanted_check known (p ∷ places) (j ∷ jobs) even t (zero, job, lt, is, w) =
+    (zero, (p, question_of j), omega arith, refl, subst (λ (x : Job). IsWanted known (question_of x) t) (sym is) w)
+wanted_check known (p ∷ places) (j ∷ jobs) even t (suc k, job, lt, is, w) =
+    let r = wanted_check known places jobs (omega (arith, even)) t (k, job, omega (arith, lt), is, w) in
+    (suc r.0, r.1, omega (arith, r.2), r.3, r.4)

@@ -11,7 +11,8 @@ use Rattle.hash.specs.declared.id.Id.{Id}
 use Rattle.txn.specs.declared.tx.Tx.{Tx}
 use Rattle.txn.specs.Identity.{id_of}
 use Rattle.queue.specs.Jobs.{Spending, Batch}
-use Rattle.connect.specs.Early.{id_cmp, with_id}
+use Rattle.hash.specs.Id.{id_cmp}
+use Rattle.connect.specs.Early.{with_id}
 use Rattle.connect.specs.inside.Early.{ArePlaces}
 use Rattle.connect.proofs.Steps.{take_item}
 use Rattle.connect.proofs.Checks.{enumerate_push}

@@ -10,13 +10,12 @@ use Rattle.txn.specs.declared.tx.Tx.{Tx}
 use Rattle.txn.specs.Check.{is_coinbase, total}
 use Rattle.locks.specs.Relative.{are_met}
 use Rattle.coins.specs.declared.coin.Coin.{Coin}
-use Rattle.coins.specs.Coins.{Coins}
-use Rattle.coins.specs.Total.{sum_of_values}
+use Rattle.coins.specs.Coins.{Coins, sum_of_values}
 use Rattle.undo.specs.Effect.{spends, coins_at}
 use Rattle.rules.specs.Alone.{max_block_sigops, tx_sigops}
 use Rattle.connect.specs.Setting.{Setting}
 use Rattle.connect.specs.Turns.{Turn, turn, spent_in}
-use Rattle.connect.specs.Faults.{has_coin, is_immature, lock_start, is_early, pays_too_much, is_locked}
+use Rattle.connect.specs.Faults.{has_coin, is_immature, lock_start, spends_immature, pays_too_much, is_locked}
 use Rattle.connect.specs.laws.Broken.{UpToCoins}
 
 -- a count that stops at the highest number, and isn't above the most that a block may have
@@ -54,7 +53,7 @@ module _ (s : Setting) (tx : Tx) (m : Coins) (n : ℕ) (few : n ≤ max_block_si
       → (all : Bool) → all ≡ list_all (has_coin m) (spends tx) → all ≡ true → UpToCoins s here
   up_to_coins r p a b h all e f = record { plain = few_counted n (tx_sigops tx) r p few a b h; there = ap not (sym e ∙ f) }
 
-  pub early_is : (coins : List Coin) (b : Bool) → coins ≡ spent_in here → b ≡ list_any (is_immature s.height) coins → is_early s here ≡ b
+  pub early_is : (coins : List Coin) (b : Bool) → coins ≡ spent_in here → b ≡ list_any (is_immature s.height) coins → spends_immature s here ≡ b
   early_is coins b e h = ap (list_any (is_immature s.height)) (sym e) ∙ sym h
 
   pub amount_is : (x y : ℤ) (b : Bool) → x ≡ sum_of_values (spent_in here) → y ≡ total tx.outputs → b ≡ (not (is_coinbase tx) && int_lt x y) → pays_too_much here ≡ b

@@ -4,10 +4,9 @@ use Rattle.std.specs.Prelude.{ℕ, if◌then◌else◌, List, [], ◌∷◌, map
 use Rattle.std.specs.Option.{option_or, option_map, option_and_then, option_to_list}
 use Rattle.std.specs.List.{flat_map, enumerate_from}
 use Rattle.std.specs.FinMap as coin_map
-use Rattle.std.specs.declared.cmp.Ordering.{Ordering}
-use Rattle.std.specs.Ordering.{nat_cmp, eq_by_cmp}
-use Rattle.std.specs.Cmp.Lexicographic.{slice_cmp}
+use Rattle.std.specs.Ordering.{eq_by_cmp}
 use Rattle.hash.specs.declared.id.Id.{Id}
+use Rattle.hash.specs.Id.{id_cmp}
 use Rattle.txn.specs.declared.outpoint.OutPoint.{OutPoint}
 use Rattle.txn.specs.declared.input.TxIn.{TxIn}
 use Rattle.txn.specs.declared.output.TxOut.{TxOut}
@@ -17,10 +16,6 @@ use Rattle.txn.specs.Identity.{id_of}
 use Rattle.script.specs.Kinds.{is_unspendable}
 use Rattle.queue.specs.Jobs.{Spending, spending}
 use Rattle.coins.specs.Coins.{Coins}
-
--- the order of ids, by their bytes as they are hashed
-abbrev pub id_cmp : Id → Id → Ordering
-id_cmp a b = slice_cmp nat_cmp a.0 b.0
 
 -- the last of these transactions that has this id
 abbrev pub with_id : List Tx → Id → Option Tx

@@ -13,9 +13,8 @@ use Rattle.block.specs.Reward.{subsidy_of}
 use Rattle.locks.specs.declared.relative.LockStart.{LockStart}
 use Rattle.locks.specs.Relative.{are_met}
 use Rattle.coins.specs.declared.coin.Coin.{Coin}
-use Rattle.coins.specs.Coins.{Coins}
-use Rattle.coins.specs.Total.{sum_of_values}
-use Rattle.undo.specs.Effect.{place, spends}
+use Rattle.coins.specs.Coins.{Coins, sum_of_values}
+use Rattle.undo.specs.Effect.{outpoint_at, spends}
 use Rattle.rules.specs.Alone.{max_block_sigops}
 use Rattle.connect.specs.Setting.{Setting, median_below}
 use Rattle.connect.specs.Turns.{Turn, spent_in, plain_count, full_count, turns}
@@ -25,7 +24,7 @@ has_coin m outpoint = is_some (coin_map.get m outpoint)
 
 -- the outpoints of its outputs, whether or not they can be coins
 abbrev pub outpoints_of : Tx → List OutPoint
-outpoints_of tx = map (place (id_of tx)) (range_with_len 0 (length tx.outputs))
+outpoints_of tx = map (outpoint_at (id_of tx)) (range_with_len 0 (length tx.outputs))
 
 -- BIP 30, here at every height: an output is a coin already
 unfoldable pub overwrites : Coins → Tx → Bool
@@ -58,8 +57,8 @@ reward_of (coinbase ∷ txs) = total coinbase.outputs
 abbrev pub is_missing : Turn → Bool
 is_missing turn = not (list_all (has_coin turn.coins) (spends turn.tx))
 
-abbrev pub is_early : Setting → Turn → Bool
-is_early s turn = list_any (is_immature s.height) (spent_in turn)
+abbrev pub spends_immature : Setting → Turn → Bool
+spends_immature s turn = list_any (is_immature s.height) (spent_in turn)
 
 -- its inputs are worth less than its outputs; a coinbase makes new coins
 abbrev pub pays_too_much : Turn → Bool
@@ -74,7 +73,7 @@ unfoldable pub turn_rules : Setting → Turn → Rules
 turn_rules s turn =
     (nat_lt max_block_sigops (plain_count turn), TooManySigops)
     ∷ (is_missing turn, InputsMissingOrSpent)
-    ∷ (is_early s turn, PrematureCoinbaseSpend)
+    ∷ (spends_immature s turn, PrematureCoinbaseSpend)
     ∷ (pays_too_much turn, InputsBelowOutputs)
     ∷ (is_locked s turn, NonFinal)
     ∷ (nat_lt max_block_sigops (full_count turn), TooManySigops)

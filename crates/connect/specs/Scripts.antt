@@ -1,13 +1,14 @@
 -- The scripts of a block, which run last.
 use Rattle.std.specs.Prelude.{◌≡◌, ◌⊎◌, ℕ, List, [], ◌∷◌, map, Option, Some, None}
-use Rattle.std.specs.List.{flat_map, enumerate_from}
+use Rattle.std.specs.List.{Any, flat_map, enumerate_from}
 use Rattle.txn.specs.declared.tx.Tx.{Tx}
 use Rattle.txn.specs.declared.reason.Reason.{Reason}
 use Rattle.txn.specs.declared.reason.Reason.TheVariants.{ScriptRefused}
 use Rattle.txn.specs.First.{first_broken}
-use Rattle.curve.specs.Triple.{Triples}
+use Rattle.curve.specs.Known.{Known}
+use Rattle.curve.specs.Triple.{Triple, Triples}
 use Rattle.interp.specs.declared.flags.Flags.{Flags}
-use Rattle.queue.specs.Jobs.{Question, question, IsAccepted}
+use Rattle.queue.specs.Jobs.{Question, question, IsAccepted, IsWanted}
 use Rattle.coins.specs.declared.coin.Coin.{Coin}
 use Rattle.coins.specs.Coins.{Coins}
 use Rattle.rules.specs.declared.in_force.InForce.{InForce}
@@ -50,3 +51,8 @@ IsBefore None Last found = Last found
 abbrev pub IsConnectFault : Setting → Coins → List Tx → Triples → Option Reason → Type 0
 IsConnectFault s m txs triples found =
     IsBefore (first_broken (connect_rules s m txs)) (IsFirstRefused triples (script_checks s m txs)) found
+
+-- no other rule is broken, and a script of the block comes to a signature of which nothing is known
+pub record IsWantedByBlock (s : Setting) (m : Coins) (txs : List Tx) (known : Known) (t : Triple) : Type 0 where
+  pub passes : first_broken (connect_rules s m txs) ≡ None
+  pub script : Any (λ check. IsWanted known check.1 t) (script_checks s m txs)

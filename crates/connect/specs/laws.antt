@@ -1,4 +1,5 @@
 -- What holds of the definitions.
+pub mod Agreeing
 pub mod Alone
 pub mod Applying
 pub mod Broken

@@ -2,7 +2,7 @@
 
 ghost use Rattle.std.specs.Prelude.{◌≡◌, ◌≤◌, ◌^◌, ◌≤ℤ◌, neg_ℤ, pos, length};
 ghost use Rattle.txn.specs.Check.{total};
-ghost use Rattle.coins.specs.Total.{sum_of_values};
+ghost use Rattle.coins.specs.Coins.{sum_of_values};
 
 use coins::Coin;
 use txn::TxOut;

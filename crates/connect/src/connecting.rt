@@ -12,21 +12,24 @@ ghost use Rattle.rules.specs.Alone.{max_block_sigops, alone_rules};
 ghost use Rattle.connect.specs.Setting.{setting};
 ghost use Rattle.connect.specs.Turns.{turns, effect};
 ghost use Rattle.connect.specs.Faults.{overwrites, fees, turn_rules, connect_rules};
-ghost use Rattle.connect.specs.Scripts.{IsConnectFault};
+ghost use Rattle.connect.specs.Scripts.{IsConnectFault, IsWantedByBlock};
 ghost use Rattle.connect.specs.Connecting.{IsConnected};
 ghost use Rattle.connect.specs.inside.Turns.{IsReason, IsLawful, PassInTurn, PassTogether};
+ghost use Rattle.curve.specs.Known.{Under};
+ghost use Rattle.queue.specs.Jobs.{IsUndecided};
 ghost use Rattle.connect.specs.declared.lookups.Lookup.TheVariants.{Above};
 
 use crate::amounts::paid;
 use crate::context::{Context, Env};
 use crate::lookups::{Lookup, overwrites};
+use crate::runs_scripts::RunsScripts;
 use crate::scripts::first_refused;
 use crate::stop::Stop;
 use crate::turn::connect_tx;
 use block::{Block, subsidy};
 use coins::{Base, Cache, Writes};
 use hash::Id;
-use queue::{Crew, Gate};
+use queue::{Crew, Gate, Undecided};
 use std::alloc::Global;
 use txn::{Reason, Tx, TxOut};
 use undo::BlockUndo;
@@ -61,6 +64,40 @@ pub fn connect<B: Base, C: Crew>(
     ensures kept { IfOk result (λ answer. OnErr answer (cache.new ≡ cache.old)) }
     ensures err { OnErr result (cache.new ≡ cache.old) }
 {
+    match connect_by(alloc, cache, context, block, ids, env, gate) {
+        Ok(answer) => Ok(answer),
+        Err(Undecided::Memory) => Err(Memory),
+        // Of a table all is known.
+        Err(Undecided::Unknown(_)) => unreachable!(),
+    }
+}
+
+/// The same as [`connect`] by what is known of signatures, or else those that have to be found out first.
+pub fn connect_by<B: Base, S: RunsScripts>(
+    alloc: Global,
+    cache: &mut Cache<'_, B>,
+    context: &Context,
+    block: &Block,
+    ids: &[Id],
+    env: &S,
+    gate: &(dyn Gate + Sync),
+) -> Result<Result<BlockUndo, Reason>, Undecided>
+    // It breaks no rule by itself.
+    requires alone { first_broken (alone_rules block.now) ≡ None }
+    requires ids { ids.now ≡ ids_of block.now.txs }
+    ensures fault { IfOk result (λ answer. Under (S.known env.now) (λ triples.
+        IsConnectFault (setting context.now) cache.old.coins block.now.txs triples (result_err answer))) }
+    ensures stops { IfErr result (IsUndecided
+        (IsWantedByBlock (setting context.now) cache.old.coins block.now.txs (S.known env.now))) }
+    ensures coins { IfOk result (λ answer. OnOk answer (cache.new ≡
+        record cache.old { coins = effect context.now.height cache.old.coins block.now.txs })) }
+    // With its undo it can be taken back by `disconnect`.
+    ensures connected { IfOk result (λ answer. IfOk answer (λ undo.
+        IsConnected (setting context.now) cache.old.coins block.now cache.new.coins undo)) }
+    // A reason leaves the coins as they were, and so does what ends without an answer.
+    ensures kept { IfOk result (λ answer. OnErr answer (cache.new ≡ cache.old)) }
+    ensures err { OnErr result (cache.new ≡ cache.old) }
+{
     match attempt(alloc, &*cache, context, block, ids, env, gate)? {
         Err(reason) => Ok(Err(reason)),
         Ok((undo, writes)) => {
@@ -71,20 +108,21 @@ pub fn connect<B: Base, C: Crew>(
 }
 
 /// The first rule that a block breaks, or else what it spends, and what it writes on a layer over these coins.
-fn attempt<B: Base, C: Crew>(
+fn attempt<B: Base, S: RunsScripts>(
     alloc: Global,
     base: &B,
     context: &Context,
     block: &Block,
     ids: &[Id],
-    env: &Env<'_, C>,
+    env: &S,
     gate: &(dyn Gate + Sync),
-) -> Result<Result<(BlockUndo, Writes), Reason>, Memory>
+) -> Result<Result<(BlockUndo, Writes), Reason>, Undecided>
     requires alone { first_broken (alone_rules block.now) ≡ None }
     requires ids { ids.now ≡ ids_of block.now.txs }
-    ensures fault { IfOk result (λ answer.
-        IsConnectFault (setting context.now) (B.coins base.now) block.now.txs env.now.table.now
-        (result_err answer)) }
+    ensures fault { IfOk result (λ answer. Under (S.known env.now) (λ triples.
+        IsConnectFault (setting context.now) (B.coins base.now) block.now.txs triples (result_err answer))) }
+    ensures stops { IfErr result (IsUndecided
+        (IsWantedByBlock (setting context.now) (B.coins base.now) block.now.txs (S.known env.now))) }
     ensures sound { IfOk result (λ answer. IfOk answer (λ done.
         IsSound (B.coins base.now) done.1)) }
     ensures over { IfOk result (λ answer. IfOk answer (λ done. over (B.coins base.now) done.1 ≡
@@ -124,26 +162,59 @@ pub fn connect_in_layer<'b, B: Base, C: Crew>(
     ensures connected { IfOk result (λ answer. IfOk answer (λ done.
         IsConnected (setting context.now) layer.entry.coins block.now done.0.coins done.1)) }
 {
-    connect_block(alloc, layer, context, block, ids, env, gate, Lookup::Whole)
+    match connect_in_layer_by(alloc, layer, context, block, ids, env, gate) {
+        Ok(answer) => Ok(answer),
+        Err(Undecided::Memory) => Err(Memory),
+        // Of a table all is known.
+        Err(Undecided::Unknown(_)) => unreachable!(),
+    }
 }
 
-/// Connects a block in a layer, and looks for the outputs of its transactions there.
-fn connect_block<'b, B: Base, C: Crew>(
+/// The same as [`connect_in_layer`] by what is known of signatures. The layer is dropped where there is no answer too.
+pub fn connect_in_layer_by<'b, B: Base, S: RunsScripts>(
     alloc: Global,
     layer: Cache<'b, B>,
     context: &Context,
     block: &Block,
     ids: &[Id],
-    env: &Env<'_, C>,
+    env: &S,
+    gate: &(dyn Gate + Sync),
+) -> Result<Result<(Cache<'b, B>, BlockUndo), Reason>, Undecided>
+    // It breaks no rule by itself.
+    requires alone { first_broken (alone_rules block.now) ≡ None }
+    requires ids { ids.now ≡ ids_of block.now.txs }
+    ensures fault { IfOk result (λ answer. Under (S.known env.now) (λ triples.
+        IsConnectFault (setting context.now) layer.entry.coins block.now.txs triples (result_err answer))) }
+    ensures stops { IfErr result (IsUndecided
+        (IsWantedByBlock (setting context.now) layer.entry.coins block.now.txs (S.known env.now))) }
+    ensures coins { let m = layer.entry.coins in
+        IfOk result (λ answer. IfOk answer (λ done. done.0 ≡
+        record layer.entry { coins = effect context.now.height m block.now.txs })) }
+    // With its undo it can be taken back by `disconnect_in_layer`.
+    ensures connected { IfOk result (λ answer. IfOk answer (λ done.
+        IsConnected (setting context.now) layer.entry.coins block.now done.0.coins done.1)) }
+{
+    connect_block(alloc, layer, context, block, ids, env, gate, Lookup::Whole)
+}
+
+/// Connects a block in a layer, and looks for the outputs of its transactions there.
+fn connect_block<'b, B: Base, S: RunsScripts>(
+    alloc: Global,
+    layer: Cache<'b, B>,
+    context: &Context,
+    block: &Block,
+    ids: &[Id],
+    env: &S,
     gate: &(dyn Gate + Sync),
     lookup: Lookup,
-) -> Result<Result<(Cache<'b, B>, BlockUndo), Reason>, Memory>
+) -> Result<Result<(Cache<'b, B>, BlockUndo), Reason>, Undecided>
     requires alone { first_broken (alone_rules block.now) ≡ None }
     requires ids { ids.now ≡ ids_of block.now.txs }
     requires fresh { lookup ≡ Above → layer.coins ≡ layer.base }
-    ensures fault { IfOk result (λ answer.
-        IsConnectFault (setting context.now) layer.entry.coins block.now.txs env.now.table.now
-        (result_err answer)) }
+    ensures fault { IfOk result (λ answer. Under (S.known env.now) (λ triples.
+        IsConnectFault (setting context.now) layer.entry.coins block.now.txs triples (result_err answer))) }
+    ensures stops { IfErr result (IsUndecided
+        (IsWantedByBlock (setting context.now) layer.entry.coins block.now.txs (S.known env.now))) }
     ensures coins { let m = layer.entry.coins in
         IfOk result (λ answer. IfOk answer (λ done. done.0 ≡
         record layer.entry { coins = effect context.now.height m block.now.txs })) }
@@ -152,7 +223,7 @@ fn connect_block<'b, B: Base, C: Crew>(
 {
     match connect_txs(alloc, layer, context, block.txs.as_slice(), ids, lookup) {
         Err(Stop::Broken(reason)) => Ok(Err(reason)),
-        Err(Stop::Memory) => Err(Memory),
+        Err(Stop::Memory) => Err(Undecided::Memory),
         Ok((layer, undo)) => {
             let others = &block.txs.as_slice()[1..];
             let rules = context.params.at(context.height);

@@ -10,13 +10,15 @@ mod disconnecting;
 mod early;
 pub mod laws;
 mod lookups;
+mod runs_scripts;
 mod scripts;
 mod stop;
 mod turn;
 
 pub use applying::apply_in_layer;
-pub use connecting::{connect, connect_in_layer};
+pub use connecting::{connect, connect_by, connect_in_layer, connect_in_layer_by};
 pub use context::{Context, Env};
 pub use disconnecting::{disconnect, disconnect_in_layer};
 pub use early::{early_jobs, script_flags};
+pub use runs_scripts::RunsScripts;
 pub use turn::COINBASE_MATURITY;

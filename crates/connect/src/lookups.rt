@@ -3,7 +3,7 @@
 ghost use Rattle.std.specs.Prelude.{◌≡◌, ◌≤◌, false, length, map};
 ghost use Rattle.std.specs.List.{list_any, range_with_len};
 ghost use Rattle.txn.specs.Identity.{id_of};
-ghost use Rattle.undo.specs.Effect.{place};
+ghost use Rattle.undo.specs.Effect.{outpoint_at};
 ghost use Rattle.connect.specs.Faults.{has_coin, overwrites};
 ghost use Rattle.connect.specs.declared.lookups.Lookup.TheVariants.{Above};
 
@@ -51,7 +51,7 @@ pub(crate) fn overwrites<B: Base>(layer: &Cache<'_, B>, tx: &Tx, id: Id) -> bool
 /// Whether one of the first outpoints of an id is a coin.
 fn has_coin_below<B: Base>(layer: &Cache<'_, B>, id: Id, count: u32) -> bool
     ensures { result ≡
-        list_any (has_coin layer.now.coins) (map (place id) (range_with_len 0 count)) }
+        list_any (has_coin layer.now.coins) (map (outpoint_at id) (range_with_len 0 count)) }
 {
     for index in 0..count {
         if layer.get(&OutPoint { id, index }).is_some() {
@@ -74,10 +74,10 @@ fn overwrites_above<B: Base>(layer: &Cache<'_, B>, tx: &Tx, id: Id) -> bool
 
 /// Whether one of the first outpoints of an id is a coin, where none of them is one below.
 fn has_coin_above<B: Base>(layer: &Cache<'_, B>, id: Id, count: u32) -> bool
-    requires { list_any (has_coin layer.now.base) (map (place id) (range_with_len 0 count)) ≡
+    requires { list_any (has_coin layer.now.base) (map (outpoint_at id) (range_with_len 0 count)) ≡
         false }
     ensures { result ≡
-        list_any (has_coin layer.now.coins) (map (place id) (range_with_len 0 count)) }
+        list_any (has_coin layer.now.coins) (map (outpoint_at id) (range_with_len 0 count)) }
 {
     for index in 0..count {
         if layer.has_above(&OutPoint { id, index }) {

@@ -1,15 +1,16 @@
 //! The scripts of a block, run after all else.
 
-ghost use Rattle.std.specs.Prelude.{◌≡◌, ◌+◌, ◌<◌, ◌≤◌, ◌^◌, ◌++◌, All, IfOk, OnOk, length, sum_by};
-ghost use Rattle.std.specs.List.{AllZip};
-ghost use Rattle.queue.specs.Jobs.{HasInput};
+ghost use Rattle.std.specs.Prelude.{◌≡◌, ◌+◌, ◌<◌, ◌≤◌, ◌^◌, ◌++◌, All, IfErr, IfOk, OnOk, length, sum_by};
+ghost use Rattle.std.specs.List.{AllZip, Any};
+ghost use Rattle.curve.specs.Known.{Under};
+ghost use Rattle.queue.specs.Jobs.{HasInput, IsUndecided, IsWanted};
 ghost use Rattle.connect.specs.Scripts.{flags_of, input_checks, IsFirstRefused};
 ghost use Rattle.connect.specs.inside.Listing.{checks_from, checks_in, IsEven};
 
-use crate::context::Env;
+use crate::runs_scripts::RunsScripts;
 use coins::Coin;
 use interp::{Flags, Job};
-use queue::{Crew, Gate};
+use queue::{Gate, Undecided};
 use rules::InForce;
 use std::alloc::Global;
 use txn::{Reason, Tx};
@@ -26,29 +27,23 @@ struct Checks<'a> {
 
 /// The first script that isn't accepted, of transactions of a block but the first, with the coins that they
 /// spend.
-pub(crate) fn first_refused<'a, C: Crew>(
+pub(crate) fn first_refused<'a, S: RunsScripts>(
     alloc: Global,
     txs: &'a [Tx],
     undo: &'a BlockUndo,
     rules: InForce,
-    env: &Env<'_, C>,
+    env: &S,
     gate: &(dyn Gate + Sync),
-) -> Result<Option<Reason>, Memory>
+) -> Result<Option<Reason>, Undecided>
     requires alike { AllZip (λ tx coins. length coins ≤ length tx.inputs) txs.now undo.now }
     requires few { sum_by (λ coins. length coins) undo.now ≤ 1000000 }
-    ensures { IfOk result (λ found.
-        IsFirstRefused env.now.table.now (checks_from (flags_of rules) 1 txs.now undo.now) found) }
+    ensures answer { IfOk result (λ found. Under (S.known env.now) (λ triples.
+        IsFirstRefused triples (checks_from (flags_of rules) 1 txs.now undo.now) found)) }
+    ensures stops { IfErr result (IsUndecided (λ t. Any (λ check.
+        IsWanted (S.known env.now) check.1 t) (checks_from (flags_of rules) 1 txs.now undo.now))) }
 {
     let checks = list(alloc, txs, undo, flags_of(rules))?;
-    let found = env.crew.first_failure_with(
-        alloc,
-        &checks.jobs,
-        &checks.places,
-        env.early,
-        env.table,
-        env.workers,
-        gate,
-    )?;
+    let found = env.first_failure(alloc, &checks.jobs, &checks.places, gate)?;
     let Some(place) = found else {
         return Ok(None);
     };

@@ -5,3 +5,5 @@ pub mod Opcodes
 pub mod Rows
 pub mod Slots
 pub mod TableLines
+pub mod FoundParts
+pub mod Sessions

@@ -1,11 +1,14 @@
 -- What each call answers: what was in the slot before, what is in it after, what was written, and the number.
 --     0 done    1 no memory    2 no session in the slot    3 a line of the table can't be read
 --     4 there is no such thing    5 the room is too small    6 there is a session in the slot
-use Rattle.std.specs.Prelude.{◌≡◌, ℕ, ◌⊎◌, List, length, map, Option, None, Some, slice_get}
+--     30 another verdict is known    31 signatures have to be found out first
+use Rattle.std.specs.Prelude.{◌≡◌, ℕ, ◌⊎◌, Bool, true, false, List, length, map, Option, None, Some, slice_get}
 use Rattle.std.specs.FinMap as coin_map
+use Rattle.std.specs.FinSet as set
 use Rattle.hash.specs.declared.id.Id.{Id}
 use Rattle.txn.specs.declared.outpoint.OutPoint.{OutPoint}
-use Rattle.curve.specs.Triple.{Triples}
+use Rattle.curve.specs.Known.{Under}
+use Rattle.curve.specs.Triple.{Triple, Triples}
 use Rattle.curve.specs.Lines.{IsFirstBad, IsTableOf}
 use Rattle.coins.specs.declared.coin.Coin.{Coin}
 use Rattle.rules.specs.declared.params.Params.{Params}
@@ -26,7 +29,8 @@ use Rattle.ffi.specs.declared.answers.ShownCoin.{ShownCoin}
 use Rattle.ffi.specs.declared.answers.ShownTip.{ShownTip}
 use Rattle.ffi.specs.Codes.{coinbase_number, input_number, reason_number, reply_number, status_number, transaction_number}
 use Rattle.ffi.specs.Room.{IsFilled}
-use Rattle.ffi.specs.SessionState.{KeepsRules, SessionState, new_session, rules_of, state_of}
+use Rattle.ffi.specs.Known.{Asked, IsLineTold}
+use Rattle.ffi.specs.SessionState.{IsLearntBy, IsNoStep, KeepsRules, SessionState, known_of, new_session, rules_of, rules_under, tree_of}
 
 abbrev pub params_of : Heights → Params
 params_of h = record { bip34 = h.bip34; bip65 = h.bip65; bip66 = h.bip66; csv = h.csv }
@@ -42,7 +46,7 @@ outpoint_of p = record { id = id_of p.id; index = p.index }
 -- genesis alone, under a table of these lines
 pub record IsOpenedBy (params : Params) (ls : List (List ℕ)) (after : Option SessionState) : Type 0 where
   pub triples : Triples
-  pub after_is : after ≡ Some (new_session params triples)
+  pub after_is : after ≡ Some (new_session params triples false)
   pub table : IsTableOf ls triples
 
 -- A slot that is full stays so. Into another one a session comes; or a line can't be read, which alone is told; or there
@@ -53,6 +57,12 @@ IsOpened params ls None after line told result =
     ((result ≡ 0) × IsOpenedBy params ls after × (told ≡ line))
     ⊎ ((result ≡ 3) × (after ≡ None) × IsFirstBad ls told)
     ⊎ ((result ≡ 1) × (after ≡ None) × (told ≡ line))
+
+-- the same where signatures are found out by need, of which nothing is known at first
+abbrev pub IsOpenedByNeed : Params → Option SessionState → Option SessionState → ℕ → Type 0
+IsOpenedByNeed params (Some s) after result = (result ≡ 6) × (after ≡ Some s)
+IsOpenedByNeed params None after result =
+    ((result ≡ 0) × (after ≡ Some (new_session params set.empty true))) ⊎ ((result ≡ 1) × (after ≡ None))
 
 -- a slot is closed exactly once
 abbrev pub close_number : Option SessionState → ℕ
@@ -68,27 +78,53 @@ pub record IsTold (reply : Reply) (a : Answer) : Type 0 where
   pub transaction_is : a.transaction ≡ transaction_number reply
   pub input_is : a.input ≡ input_number reply
 
--- the session of before took the definition's step, and its reply is told
+-- the session of before took the definition's step under each set of valid signatures that agrees with what is known, and
+-- its reply is told
 pub record IsTaken (s : SessionState) (after : Option SessionState) (c : Command) (a : Answer) : Type 0 where
   pub next : SessionState
   pub reply : Reply
   pub after_is : after ≡ Some next
-  pub outcome_is : (state_of next, reply) ≡ outcome (rules_of s) (state_of s) c
+  pub outcome_is : Under (known_of s) (λ triples. (tree_of next, reply) ≡ outcome (rules_under s triples) (tree_of s) c)
   pub rules : KeepsRules s next
   pub told : IsTold reply a
 
--- The step is taken; or there was no memory, or no session, and the slot and what is told stay as they were.
+-- it took no step, and only what it wants may be another list
+pub record IsNotTaken (s : SessionState) (after : Option SessionState) (code : ℕ) : Type 0 where
+  pub next : SessionState
+  pub after_is : after ≡ Some next
+  pub step_is : IsNoStep s next code
+
+-- The step is taken; or none is, and what is told stays as it was.
 abbrev pub IsAnswered : Option SessionState → Option SessionState → Command → Answer → Answer → ℕ → Type 0
 IsAnswered None after c before told result = (result ≡ 2) × (after ≡ None) × (told ≡ before)
 IsAnswered (Some s) after c before told result =
     ((result ≡ 0) × IsTaken s after c told)
-    ⊎ ((result ≡ 1) × (after ≡ Some s) × (told ≡ before))
+    ⊎ (IsNotTaken s after result × (told ≡ before))
+
+-- a verdict is handed in
+pub record IsLearnt (s : SessionState) (after : Option SessionState) (t : Triple) (valid : Bool) (code : ℕ) : Type 0 where
+  pub next : SessionState
+  pub after_is : after ≡ Some next
+  pub learnt_is : IsLearntBy s next t valid (known_of s t) code
+
+abbrev pub IsLearntIn : Option SessionState → Option SessionState → Triple → Bool → ℕ → Type 0
+IsLearntIn None after t valid result = (result ≡ 2) × (after ≡ None)
+IsLearntIn (Some s) after t valid result = IsLearnt s after t valid result
 
 -- ---- reads: what isn't told stays as it was
 
+-- of the list of wanted signatures the line of the one at a place; there may be no memory for it
+abbrev pub IsWantShown : Option Triple → Asked → Asked → ℕ → Type 0
+IsWantShown None before after result = (result ≡ 4) × (after ≡ before)
+IsWantShown (Some t) before after result = IsLineTold t before after result ⊎ ((result ≡ 1) × (after ≡ before))
+
+abbrev pub IsWantTold : Option SessionState → ℕ → Asked → Asked → ℕ → Type 0
+IsWantTold None index before after result = (result ≡ 2) × (after ≡ before)
+IsWantTold (Some s) index before after result = IsWantShown (slice_get s.wanted index) before after result
+
 pub record ShowsBest (s : SessionState) (id : Name) (height : ℕ) : Type 0 where
-  pub id_is : id.bytes ≡ (best (rules_of s) (state_of s)).0
-  pub height_is : height ≡ height_of (state_of s).blocks (active (rules_of s) (state_of s))
+  pub id_is : id.bytes ≡ (best (rules_of s) (tree_of s)).0
+  pub height_is : height ≡ height_of (tree_of s).blocks (active (rules_of s) (tree_of s))
 
 abbrev pub IsBestShown : Option SessionState → Name → ℕ → Type 0 → ℕ → Type 0
 IsBestShown None id height kept result = (result ≡ 2) × kept
@@ -109,7 +145,7 @@ IsTipShown (Some tip) shown kept result = ((result ≡ 0) × ShowsTip tip shown)
 abbrev pub IsTipTold : Option SessionState → ℕ → ShownTip → Type 0 → ℕ → Type 0
 IsTipTold None index shown kept result = (result ≡ 2) × kept
 IsTipTold (Some s) index shown kept result =
-    IsTipShown (slice_get (map tip_of_id (tips (rules_of s) (state_of s))) index) shown kept result
+    IsTipShown (slice_get (map tip_of_id (tips (rules_of s) (tree_of s))) index) shown kept result
 
 pub record ShowsCoin (coin : Coin) (shown : ShownCoin) : Type 0 where
   pub value : shown.value ≡ coin.value
@@ -126,4 +162,4 @@ IsCoinShown (Some coin) before shown room script result = ShowsCoin coin shown �
 abbrev pub IsCoinTold : Option SessionState → OutPoint → ShownCoin → ShownCoin → List ℕ → List ℕ → ℕ → Type 0
 IsCoinTold None at before shown room script result = (result ≡ 2) × (shown ≡ before) × (script ≡ room)
 IsCoinTold (Some s) at before shown room script result =
-    IsCoinShown (coin_map.get (coins (rules_of s) ledger (state_of s)) at) before shown room script result
+    IsCoinShown (coin_map.get (coins (rules_of s) ledger (tree_of s)) at) before shown room script result

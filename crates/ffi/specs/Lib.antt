@@ -10,6 +10,7 @@ pub mod Refusals
 pub mod Room
 pub mod Scripts
 pub mod SessionState
+pub mod Signatures
 pub mod Tables
 pub mod Transactions
 pub mod inside

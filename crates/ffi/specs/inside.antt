@@ -2,3 +2,6 @@
 pub mod Stored
 pub mod Parts
 pub mod Known
+pub mod Signatures
+pub mod Agreeing
+pub mod FoundParts

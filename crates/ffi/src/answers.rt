@@ -30,6 +30,9 @@ pub(crate) const UNKNOWN: u32 = 29;
 /// A signature is said to be valid and not to be.
 pub(crate) const CONTRADICTION: u32 = 30;
 
+/// Signatures have to be found out first; nothing else changed.
+pub(crate) const WANTS: u32 = 31;
+
 /// An id, in the order in which it is hashed and sent.
 #[repr(C)]
 #[derive(Clone, Copy, Drop)]

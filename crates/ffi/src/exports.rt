@@ -1,18 +1,21 @@
 //! The calls, as C names them. A slot that holds no session is answered by a number, and nothing changes.
 
-ghost use Rattle.std.specs.Prelude.{◌≡◌, None, Some};
+ghost use Rattle.std.specs.Prelude.{◌≡◌, ◌==◌, not, None, Some, slice_get};
 ghost use Rattle.std.specs.FinMap as coin_map;
 ghost use Rattle.curve.specs.Lines.{lines};
+ghost use Rattle.curve.specs.Triple.{triple_of};
 ghost use Rattle.chain.specs.declared.command.Command.TheVariants as command;
 ghost use Rattle.chain.specs.Regtest.{ledger};
 ghost use Rattle.chain.specs.Replay.{coins};
-ghost use Rattle.ffi.specs.Answers.{IsAnswered, IsBestShown, IsCoinShown, IsCoinTold, IsOpened, IsTipTold, close_number, id_of, outpoint_of, params_of};
-ghost use Rattle.ffi.specs.SessionState.{rules_of, state_of};
+ghost use Rattle.ffi.specs.Answers.{IsAnswered, IsBestShown, IsCoinShown, IsCoinTold, IsLearntIn, IsOpened, IsOpenedByNeed, IsTipTold, IsWantShown, IsWantTold, close_number, id_of, outpoint_of, params_of};
+ghost use Rattle.ffi.specs.Known.{asked_of};
+ghost use Rattle.ffi.specs.SessionState.{rules_of, tree_of};
 
 use crate::answers::{
     Answer, BAD_TABLE, CLOSED, DONE, FULL, Heights, MEMORY, NONE, Name, Place, ShownCoin, ShownTip,
     as_told, shown_tip,
 };
+use crate::known::tell_line;
 use crate::room::fill;
 use crate::session::Session;
 use crate::slot::{Slot, put, take};
@@ -61,6 +64,33 @@ pub extern "C" fn ffi_open(
     }
 }
 
+/// Opens a session on genesis alone, where signatures are found out by need.
+#[unsafe(no_mangle)]
+pub extern "C" fn ffi_open_by_need(alloc: Global, slot: &mut Slot, heights: &Heights) -> u32
+    ensures { IsOpenedByNeed (params_of heights.now) slot.old.kept.value slot.new.kept.value
+        result }
+{
+    if slot.is_full() {
+        return FULL;
+    }
+    let params = Params {
+        bip34: heights.bip34,
+        bip65: heights.bip65,
+        bip66: heights.bip66,
+        csv: heights.csv,
+    };
+    match Session::open_by_need(alloc, params) {
+        Err(_) => MEMORY,
+        Ok(session) => match Box::new(alloc, session) {
+            Err(_) => MEMORY,
+            Ok(session) => {
+                put(slot, session);
+                DONE
+            }
+        },
+    }
+}
+
 /// Gives the session's memory back.
 #[unsafe(no_mangle)]
 pub extern "C" fn ffi_close(alloc: Global, slot: &mut Slot) -> u32
@@ -87,11 +117,72 @@ fn step(alloc: Global, slot: &mut Slot, asked: &Command, reply: &mut Answer) -> 
     let told = session.step(alloc, asked);
     put(slot, session);
     match told {
-        Err(_) => MEMORY,
+        Err(code) => code,
         Ok(told) => {
             *reply = as_told(told);
             DONE
         }
+    }
+}
+
+/// Takes the verdict on a signature, which is without its hash type: 0 where it isn't valid. One that is known stays.
+#[unsafe(no_mangle)]
+pub extern "C" fn ffi_learn(
+    alloc: Global,
+    slot: &mut Slot,
+    key: &[u8],
+    signature: &[u8],
+    digest: &Name,
+    valid: u32,
+) -> u32
+    ensures { IsLearntIn slot.old.kept.value slot.new.kept.value
+        (triple_of key.now signature.now digest.now.bytes) (not (valid == 0)) result }
+{
+    let Some(mut session) = take(alloc, slot) else {
+        return CLOSED;
+    };
+    let bytes = digest.bytes;
+    let code = session.learn(key, signature, &bytes, valid != 0);
+    put(slot, session);
+    code
+}
+
+/// The line of the signature at a place, from 0, of those that have to be found out before the last step can be taken.
+#[unsafe(no_mangle)]
+pub extern "C" fn ffi_want(
+    alloc: Global,
+    slot: &mut Slot,
+    index: u64,
+    asked: &mut [u8],
+    count: &mut u64,
+) -> u32
+    ensures kept { slot.new.kept.value ≡ slot.old.kept.value }
+    ensures told { let before = asked_of asked.old count.old in
+        let after = asked_of asked.new count.new in
+        IsWantTold slot.old.kept.value index before after result }
+{
+    let Some(session) = take(alloc, slot) else {
+        return CLOSED;
+    };
+    let code = show_want(alloc, &session, index as usize, asked, count);
+    put(slot, session);
+    code
+}
+
+fn show_want(
+    alloc: Global,
+    session: &Session,
+    index: usize,
+    asked: &mut [u8],
+    count: &mut u64,
+) -> u32
+    ensures { let before = asked_of asked.old count.old in
+        let after = asked_of asked.new count.new in
+        IsWantShown (slice_get session.now.wanted index) before after result }
+{
+    match session.wanted(index) {
+        None => NONE,
+        Some(triple) => tell_line(alloc, triple, asked, count),
     }
 }
 
@@ -219,7 +310,7 @@ pub extern "C" fn ffi_coin(
 
 fn show_coin(session: &Session, at: &Place, shown: &mut ShownCoin, script: &mut [u8]) -> u32
     ensures { let s = session.now in let o = outpoint_of at.now in
-        IsCoinShown (coin_map.get (coins (rules_of s) ledger (state_of s)) o) shown.old shown.new
+        IsCoinShown (coin_map.get (coins (rules_of s) ledger (tree_of s)) o) shown.old shown.new
         script.old script.new result }
 {
     let bytes = at.id.bytes;

@@ -152,7 +152,12 @@ fn judge(
 }
 
 /// A triple's line, at the front of what is passed for it, and how many bytes it has.
-fn tell_line(alloc: Global, triple: &KeptTriple, asked: &mut [u8], count: &mut u64) -> u32
+pub(crate) fn tell_line(
+    alloc: Global,
+    triple: &KeptTriple,
+    asked: &mut [u8],
+    count: &mut u64,
+) -> u32
     ensures { let before = asked_of asked.old count.old in
         let after = asked_of asked.new count.new in
         IsLineTold triple.now before after result ⊎ ((result ≡ 1) × (after ≡ before)) }

@@ -33,7 +33,7 @@ pub(crate) struct Chain<'a> {
     pub(crate) table: &'a Table,
 }
 
-/// What the replay of a block's branch comes to.
+/// What the replay of a block's branch gives.
 #[derive(Clone, Copy, Debug, PartialEq, Eq)]
 pub(crate) enum Trial {
     /// Each block connects.
@@ -75,7 +75,7 @@ pub(crate) fn replay(
     Ok(trial_of(fault))
 }
 
-/// What the replay of a valid branch and a block on it comes to, by the block's fault.
+/// What the replay of a valid branch and a block on it gives, by the block's fault.
 fn trial_of(fault: Option<Reason>) -> Trial
     ensures { result ≡ trial_after Valid fault }
 {
@@ -85,7 +85,7 @@ fn trial_of(fault: Option<Reason>) -> Trial
     }
 }
 
-/// The medians time past of the blocks of a branch by height, that of genesis first.
+/// The medians time past of the blocks of a branch by height, genesis first.
 pub(crate) fn medians_by_height(
     alloc: Global,
     held: &[KeptBlock],
@@ -110,7 +110,7 @@ fn times_of(alloc: Global, held: &[KeptBlock], branch: &[usize]) -> Result<Vec<u
     Ok(times)
 }
 
-/// Of times that are listed from the newest block down, the median from each block on, that of the oldest first.
+/// Of times that are listed from the newest block down, the median from each block on, the oldest first.
 fn medians(alloc: Global, times: &[u32]) -> Result<Vec<u32>, Memory>
     ensures { IfOk result (λ medians. medians.items ≡ reverse (medians_in times.now)) }
 {

@@ -38,7 +38,7 @@ pub(crate) fn survey(alloc: Global, chain: &Chain, old: &Replayed) -> Result<Vec
     Ok(judged)
 }
 
-/// The next block, where all before it are judged. Under which rules they are tried stands in the contract alone.
+/// The next block, where all before it are judged. Under which rules they are tried only the contract says.
 fn judge(_chain: &Chain, old: &Replayed, judged: &[Judgement], place: usize) -> Judgement
     requires right { IsRight (chain_rules _chain.now) old.now }
     requires kept { place < length old.now.held.items }

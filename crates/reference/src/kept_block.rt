@@ -16,7 +16,7 @@ use wire::Memory;
 pub(crate) struct KeptBlock {
     pub(crate) block: Block,
     pub(crate) id: Id,
-    /// The place of the block that it stands on; 0 for genesis.
+    /// The place of its parent; 0 for genesis.
     pub(crate) parent: usize,
     /// What the replay of its branch came to. It is a function of the branch, so it was found when the block came.
     pub(crate) trial: Trial,

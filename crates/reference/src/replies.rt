@@ -15,7 +15,7 @@ use rules::Params;
 use std::alloc::Global;
 use wire::Memory;
 
-/// Who is told how far a replay is.
+/// Who hears how far a replay is.
 pub trait Watch {
     /// So many commands are answered.
     fn done(&mut self, commands: usize);
@@ -29,7 +29,7 @@ impl Watch for Unwatched {
     fn done(&mut self, _commands: usize) {}
 }
 
-/// The replies to commands, from genesis on. Its one refusal is want of memory.
+/// The replies to commands, from genesis on. Its one refusal is that memory ran out.
 pub fn slow(
     alloc: Global,
     params: &Params,

@@ -57,7 +57,7 @@ pub(crate) fn step(
     }
 }
 
-/// Refuses where the fault is want of memory, and not of the bytes.
+/// Refuses where memory ran out, and not where the bytes are at fault.
 fn undecodable(fault: ReadFault) -> Result<(), Memory>
     ensures { IfOk result (λ _. ¬ (fault ≡ faults.Memory)) }
 {

@@ -5,7 +5,7 @@ import time
 import unittest
 
 from blocks import NOW, Maker, block_id, signed, spend, with_script
-from wakotehu import Bench, ReplayDiffers, consensus as c, errors
+from wakotehu import Bench, Chainstate, consensus as c, errors
 from wakotehu.encoding import Input, Output, Transaction, push, read_block, signature_digest, write_transaction
 from wakotehu.signatures import Secp256k1
 
@@ -62,7 +62,8 @@ class BenchTest(unittest.TestCase):
                     self.assertEqual((caught.exception.transaction, caught.exception.input), (1, 0))
                     good = self.maker.block(bench.best(), [with_script(tx, 0, signature, *more)])
                     self.assertEqual(bench.submit(good, NOW), "accepted")
-                    self.assertEqual(bench.replays, 1)
+                    # Each was asked for once.
+                    self.assertEqual((bench.rounds, bench.found_out), (2, 2))
                     self.assertIsNone(bench.coin(self.coin(), 0))
                     again = spend(self.coin(), 0, 4000000000, b"")
                     twice = self.maker.block(
@@ -131,7 +132,8 @@ class BenchTest(unittest.TestCase):
         begun = time.process_time()
         self.assertEqual(bench.submit(block, NOW), "accepted")
         spent = time.process_time() - begun
-        print(f"\na transaction of 1,000 inputs: {1000 * spent:.0f} ms of a processor, of a replay {1000 * bench.seconds:.0f}")
+        print(f"\na transaction of 1,000 inputs: {1000 * spent:.0f} ms of a processor, in {bench.rounds} rounds")
+        self.assertEqual(bench.rounds, 2)
         self.assertLess(spent, 2.0)
 
     def test_several_inputs_and_a_chain_within_a_block(self):
@@ -175,42 +177,63 @@ class BenchTest(unittest.TestCase):
         other = self.maker.chain(2, tip, extra=b"o")
         self.assertEqual([bench.submit(block, NOW) for block in other], ["inconclusive", "accepted"])
         self.assertEqual(bench.coin(self.coin(), 0).value, 5000000000)
-        # On that branch it can be spent again, by the same signature.
-        replays = bench.replays
+        # On that branch it can be spent again, by the same signature, which isn't asked for again.
+        rounds = bench.rounds
         self.assertEqual(bench.submit(self.maker.block(bench.best(), [tx]), NOW), "accepted")
-        self.assertEqual(bench.replays, replays)
+        self.assertEqual(bench.rounds, rounds)
 
-    def test_a_replay_that_differs_is_an_error(self):
-        # A block is judged before its signature is known, by a chainstate of another table; then the table grows.
+    def test_a_reorganisation_asks_for_what_its_blocks_need(self):
+        script = pay_to_key(KEYS[0])
+        bench = self.mined(script)
+        tip, found = bench.best(), []
+        for number in range(2):
+            tx = spend(self.coin(), 0, 5000000000 - number, b"")
+            found.append(with_script(tx, 0, *signed(SECP, SECRETS[:1], tx, 0, script)))
+        bench.submit(self.maker.block(tip, found[:1]), NOW)
+        self.assertEqual(bench.found_out, 1)
+        # A block beside the best one runs no script, and the one on it brings both about.
+        first = self.maker.block(tip, found[1:], extra=b"o")
+        self.assertEqual(bench.submit(first, NOW), "inconclusive")
+        self.assertEqual(bench.found_out, 1)
+        self.assertEqual(bench.submit(self.maker.block(block_id(first), extra=b"p"), NOW), "accepted")
+        self.assertEqual(bench.found_out, 2)
+        # Taking it back wants nothing new.
+        bench.invalidate(block_id(first))
+        self.assertEqual(bench.found_out, 2)
+
+    def test_under_the_table_each_reply_is_the_same(self):
         script = pay_to_key(KEYS[0])
         bench = self.mined(script)
         tx = spend(self.coin(), 0, 5000000000, b"")
-        block = self.maker.block(
-            bench.best(), [with_script(tx, 0, *signed(SECP, SECRETS[:1], tx, 0, script))]
-        )
-        learn, bench._learn = bench._learn, lambda data: None
-        self.assertEqual(bench.try_submit(block, NOW).text, "blk-bad-inputs 1:0")
-        bench._learn = learn
-        other = self.maker.block(block[4:36], [read_block(block).transactions[1]], extra=b"other")
-        before = bench.table, bench.best(), len(bench.journal)
-        with self.assertRaises(ReplayDiffers) as caught:
-            bench.submit(other, NOW)
-        self.assertEqual((bench.table, bench.best(), len(bench.journal)), before)
-        self.assertEqual(
-            (caught.exception.place, caught.exception.given, caught.exception.replayed),
-            (101, "blk-bad-inputs 1:0", "accepted"),
-        )
+        for place in (1, 0):
+            wrong = with_script(tx, 0, *signed(SECP, SECRETS[place : place + 1], tx, 0, script))
+            bench.try_submit(self.maker.block(bench.best(), [wrong], extra=bytes([place])), NOW)
+        with Chainstate(table=bench.table) as chain:
+            for entry in bench.journal:
+                self.assertEqual(chain.try_submit(bench.block(entry.id), entry.now).text, entry.reply)
+            self.assertEqual(chain.best(), bench.best())
+        self.assertEqual(bench.journal[-2].reply, "blk-bad-inputs 1:0")
 
-    def test_a_replay_of_a_thousand_blocks(self):
+    def test_a_table_to_begin_with(self):
         script = pay_to_key(KEYS[0])
-        bench = self.mined(script, 1000)
+        first = self.mined(script)
         tx = spend(self.coin(), 0, 5000000000, b"")
-        begun = time.perf_counter()
+        block = self.maker.block(first.best(), [with_script(tx, 0, *signed(SECP, SECRETS[:1], tx, 0, script))])
+        first.submit(block, NOW)
+        with Bench(table=b"# a comment\n\n" + first.table.rstrip()) as bench:
+            for data in (*self.blocks, block):
+                self.assertEqual(bench.submit(data, NOW), "accepted")
+            self.assertEqual(bench.rounds, 0)
+
+    def test_a_block_without_work_runs_no_script(self):
+        script = pay_to_key(KEYS[0])
+        bench = self.mined(script)
+        tx = spend(self.coin(), 0, 5000000000, b"")
         block = self.maker.block(bench.best(), [with_script(tx, 0, *signed(SECP, SECRETS[:1], tx, 0, script))])
-        self.assertEqual(bench.submit(block, NOW), "accepted")
-        spent = time.perf_counter() - begun
-        print(f"\nreplay of 1,000 blocks: {1000 * bench.seconds:.1f} ms; the whole call: {1000 * spent:.1f} ms")
-        self.assertLess(bench.seconds, 2.0)
+        # The first number of a header whose id is above the limit.
+        headers = (block[:76] + nonce.to_bytes(4, "little") for nonce in range(100))
+        header = next(header for header in headers if c.double_sha(header)[-1] > 0x7F)
+        self.assertEqual((bench.try_submit(header + block[80:], NOW).text, bench.rounds), ("high-hash", 0))
 
 
 if __name__ == "__main__":

@@ -59,7 +59,9 @@ class Command:
         self.process.stderr.close()
 
 
-class FolderTest(unittest.TestCase):
+class FolderCase(unittest.TestCase):
+    """Servers with a folder, as commands."""
+
     def setUp(self):
         folder = tempfile.TemporaryDirectory()
         self.addCleanup(folder.cleanup)
@@ -102,6 +104,8 @@ class FolderTest(unittest.TestCase):
         server.call("submitblock", "00")
         return [server.call(name) for name in ("getbestblockhash", "getchaintips", "gettxoutsetinfo")]
 
+
+class FolderTest(FolderCase):
     def test_commands_are_taken_again_after_a_kill(self):
         server = self.started()
         before = self.played(server)

@@ -115,8 +115,10 @@ class LetInTest(unittest.TestCase):
 class HeldUpTest(unittest.TestCase):
     """No one holds the server up."""
 
+    start = staticmethod(Running)
+
     def test_idle_connections_hold_no_one_up(self):
-        running = Running()
+        running = self.start()
         self.addCleanup(running.stop)
         idle = []
         try:
@@ -133,7 +135,7 @@ class HeldUpTest(unittest.TestCase):
 
     def test_a_request_that_comes_too_slowly_is_ended(self):
         with mock.patch.object(http, "TIMEOUT", 0.5):
-            running = Running()
+            running = self.start()
             self.addCleanup(running.stop)
             begun = time.perf_counter()
             with socket.create_connection(("127.0.0.1", running.port), 5) as connection:
@@ -151,7 +153,7 @@ class HeldUpTest(unittest.TestCase):
             socket.create_server(("::1", 0), family=socket.AF_INET6).close()
         except OSError:
             self.skipTest("this machine has no IPv6")
-        running = Running(hosts=("127.0.0.1", "::1"))
+        running = self.start(hosts=("127.0.0.1", "::1"))
         self.addCleanup(running.stop)
         self.assertEqual(running.call("getblockcount"), 0)
         with socket.create_connection(("::1", running.port), 5) as connection:
@@ -160,14 +162,14 @@ class HeldUpTest(unittest.TestCase):
             self.assertEqual(connection.recv(65536).split()[1], b"200")
 
     def test_a_fault_of_ours_is_answered(self):
-        running = Running()
+        running = self.start()
         self.addCleanup(running.stop)
         with mock.patch.object(running.bench, "tips", side_effect=AssertionError("ours")):
             error = running.call("getchaintips")
         self.assertEqual((error["code"], error["message"]), (-1, "AssertionError: ours"))
 
     def test_waiting_calls_let_others_in(self):
-        running = Running()
+        running = self.start()
         self.addCleanup(running.stop)
         told = []
         waiting = threading.Thread(target=lambda: told.append(running.call("waitforblockheight", 2, 4000)))

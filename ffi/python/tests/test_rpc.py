@@ -22,8 +22,11 @@ HERE = os.path.dirname(os.path.abspath(__file__))
 
 
 class CallsTest(unittest.TestCase):
+    #: What is tested over another bench too has its own.
+    start = staticmethod(Running)
+
     def setUp(self):
-        self.running = Running()
+        self.running = self.start()
         self.addCleanup(self.running.stop)
         self.call = self.running.call
         self.maker = Maker()
@@ -180,8 +183,10 @@ class MarksTest(CallsTest):
 
 
 class StopTest(unittest.TestCase):
+    start = staticmethod(Running)
+
     def setUp(self):
-        self.running = Running()
+        self.running = self.start()
         self.addCleanup(self.running.stop)
 
     def expect_stopped(self, begun, least, most):

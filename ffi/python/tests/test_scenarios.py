@@ -14,7 +14,7 @@ from wakotehu.encoding import GENESIS, double_sha, read_block
 ROOT = os.path.realpath(os.path.join(os.path.dirname(__file__), "..", "..", ".."))
 #: The program: WAKOTEHU_PROGRAM, or where `./build` and `rt ci` leave it.
 PROGRAM = os.environ.get("WAKOTEHU_PROGRAM", f"{ROOT}/crates/regchain/out/regchain")
-TABLE = [f"{ROOT}/crates/lists/src/scenarios/{name}.rt" for name in ("branches", "spends")]
+TABLE = [f"{ROOT}/crates/scenarios/src/table/{name}.rt" for name in ("branches", "spends")]
 SCENARIO = re.compile(
     r'pub const (\w+): Scenario = Scenario {\s*name: "[^"]*",\s*heights: (\w+|"[^"]*"),'
     r'\s*definitions: (\w+|"[^"]*"),\s*told: "([^"]*)",\s*};'
@@ -78,6 +78,9 @@ class Player:
 
     def answer_submit(self, _command, name):
         return self.chain.try_submit(self.blocks[name], self.now).text
+
+    def answer_cut(self, _command, name, length):
+        return self.chain.try_submit(self.blocks[name][: int(length)], self.now).text
 
     def answer_mark(self, command, name):
         return self.chain.try_mark(command, self.ids[name]).text

@@ -2,18 +2,18 @@
 
 import time
 from types import TracebackType
-from typing import Dict, FrozenSet, List, NamedTuple, NoReturn, Optional, Sequence, Set, Tuple, Type, Union
+from typing import Callable, List, NamedTuple, NoReturn, Optional, Sequence, Tuple, Type, Union
 
 from . import consensus, errors
 from .chainstate import REGTEST, Chainstate, Coin, Reply, Tip, read_heights
 from .consensus import Triple
-from .encoding import EncodingError, Output, Spelled, Transaction, block_at_front, double_sha, read_transaction
-from .index import Index
+from .encoding import EncodingError, Spelled, Transaction, block_at_front, double_sha
+from .index import Index, Unspent, Walks
 from .signatures import Found
 
 
 class Entry(NamedTuple):
-    """A command that a replay takes again, with its reply: "submit" of a kept block at a moment, or a mark."""
+    """A command that changed something, with its reply: "submit" of a kept block at a moment, or a mark."""
 
     command: str
     id: bytes
@@ -21,33 +21,52 @@ class Entry(NamedTuple):
     reply: str
 
 
-class Bench:
-    """A chainstate whose table has the real signatures that the submitted blocks bring.
+class Bench(Walks):
+    """A chainstate of real signatures, which libsecp256k1 finds out as they are asked for.
 
-    Before a block is submitted its scripts are run, by proved code, over what is known of signatures. Where they come to
-    one of which nothing is known, libsecp256k1 says whether it is valid, and they are run again. The chainstate judges by
-    a table that never changes under it: where it lacks a valid triple that was asked for, a new chainstate is opened
-    with the larger table and the journal is replayed; a reply that differs from the one that was given raises
-    `ReplayDiffers`. So a block with new signatures costs a replay of all commands. Where a replay fails, nothing has
-    changed.
-
-    Of a block that breaks a rule by itself or by its place no script is run, and nothing is kept.
+    Where the scripts of a block come to signatures of which nothing is known, the chainstate takes no step and names
+    them; libsecp256k1 says whether they are valid, and the block comes again. A verdict never changes, and no reply that
+    was given depends on one that came later: both are proved. Blocks that break a rule by themselves or by their place
+    run no script.
 
     It has the calls of `Chainstate`, and walks over blocks: `parent`, `branch`, `is_kept`.
+
+    table: signatures that are known to be valid, as lines.
     """
 
     def __init__(self, heights: Sequence[int] = REGTEST, table: Union[str, bytes] = b"") -> None:
         self.heights = read_heights(heights)
-        self.table = table.encode() if isinstance(table, str) else bytes(table)
         #: The submissions of kept blocks and the marks so far, with their replies. Other commands change nothing.
         self.journal: List[Entry] = []
-        #: How many replays there were, and how many seconds the last one took.
-        self.replays = 0
-        self.seconds = 0.0
+        #: Is told of each step: command, id, a block's bytes, moment and reply.
+        self.taken: Callable[[str, bytes, bytes, int, str], None] = lambda *words: None
+        #: How often a command came again after signatures were found out, and how many were.
+        self.rounds = self.found_out = 0
         self.index = Index()
         self._found = Found()
-        self._valid: Set[Triple] = set()
-        self.chain = Chainstate(self.heights, self.table)
+        self._table = bytearray(table.encode() if isinstance(table, str) else table)
+        if self._table and not self._table.endswith(b"\n"):
+            self._table += b"\n"
+        known = consensus.Table(bytes(self._table))
+        self.chain = Chainstate(self.heights, by_need=True)
+        for line in known.text.splitlines():
+            if line.split() and not line.startswith(b"#"):
+                self.chain.learn(Triple.of_line(line), True)
+
+    @property
+    def table(self) -> bytes:
+        """The signatures that were found valid, as the lines of a table. Under it `Chainstate` and `regchain audit`
+        give the same replies."""
+        return bytes(self._table)
+
+    @property
+    def table_size(self) -> int:
+        """How many bytes `table` has. It only grows."""
+        return len(self._table)
+
+    def table_from(self, place: int) -> bytes:
+        """What stands in `table` from a place on."""
+        return bytes(self._table[place:])
 
     def __reduce_ex__(self, protocol: object) -> NoReturn:
         """As of a `Chainstate`."""
@@ -83,21 +102,38 @@ class Bench:
     def try_submit_spelled(self, spelled: Spelled, now: int) -> Reply:
         """The same of a block that was read already."""
         id = double_sha(spelled.data[:80])
-        # A coinbase alone asks for no signature.
-        if len(spelled.ids) > 1 and self._may_be_kept(id, spelled, now):
-            self._learn(spelled)
-        reply = self.chain.try_submit(spelled.data, now)
+        reply = self._by_need(lambda: self.chain.try_submit(spelled.data, now))
         if id not in self.index.blocks and self.chain.is_kept(id):
             self.index.add(id, spelled)
             self._took(Entry("submit", id, now, reply.text))
+        if reply.reply != "decode-failed":
+            self.taken("submit", id, spelled.data, now, reply.text)
         return reply
 
     def try_mark(self, command: str, id: bytes) -> Reply:
         """As `Chainstate.try_mark`."""
-        reply = self.chain.try_mark(command, id)
+        reply = self._by_need(lambda: self.chain.try_mark(command, id))
         if reply.reply == "done":
             self._took(Entry(command, bytes(id), 0, reply.text))
+        self.taken(command, bytes(id), b"", 0, reply.text)
         return reply
+
+    def _by_need(self, command: Callable[[], Reply]) -> Reply:
+        """Makes a command, and finds out what it wants, until it is taken."""
+        while True:
+            try:
+                return command()
+            except errors.Wants as wants:
+                self.rounds += 1
+                for triple in wants.triples:
+                    self._learn(triple)
+
+    def _learn(self, triple: Triple) -> None:
+        valid = self._found.valid(triple)
+        self.chain.learn(triple, valid)
+        self.found_out += 1
+        if valid:
+            self._table += triple.line
 
     def _took(self, entry: Entry) -> None:
         self.journal.append(entry)
@@ -137,102 +173,15 @@ class Bench:
         """As `Chainstate.block`."""
         return self.chain.block(id)
 
-    def parent(self, id: bytes) -> bytes:
-        """The id of a kept block's parent."""
-        return self.index.blocks[bytes(id)].header.parent
-
-    def branch(self, id: Optional[bytes] = None) -> List[bytes]:
-        """The ids of a block's branch, the block next to genesis first; of the active block by default. Empty for a
-        block that isn't kept."""
-        at = self.best() if id is None else bytes(id)
-        return self.index.branch(at) if at in self.index.blocks else []
-
-    def is_kept(self, id: bytes) -> bool:
-        """Whether the chainstate keeps a block, genesis or another."""
-        return bytes(id) in self.index.blocks
-
-    def output(self, id: bytes, index: int) -> Optional[Output]:
-        """An output that a kept block made, spent or not, on whatever branch; or None."""
-        tx = self.transaction(id)
-        return tx.outputs[index] if tx and 0 <= index < len(tx.outputs) else None
-
-    def transaction(self, id: bytes) -> Optional[Transaction]:
-        """A transaction of a kept block, or None."""
-        if id not in self.index.transactions:
-            return None
-        block, begin, end = self.index.transactions[id]
-        data = self.chain.block(block)
-        assert data is not None, "blocks of the index are kept"
-        return read_transaction(data[begin:end])
+    def unspent(self, id: bytes, index: int) -> Optional[Unspent]:
+        """The coin at an outpoint with the active block, or None."""
+        coin = self.coin(id, index)
+        return coin and Unspent(coin, self.best(), self.height() - coin.height + 1)
 
     def coins(self) -> List[Tuple[bytes, int, Coin]]:
         """As `Chainstate.coins`."""
         return self.chain.coins()
 
-    # ---- signatures
-
-    def _may_be_kept(self, id: bytes, spelled: Spelled, now: int) -> bool:
-        """Whether a block of this id isn't kept yet, and breaks no rule by itself or by its place."""
-        parent = self.index.blocks.get(spelled.block.header.parent)
-        if parent is None or id in self.index.blocks:
-            return False
-        try:
-            alone = consensus.block(spelled.data).reason
-        except consensus.Refused:
-            return False
-        height, median = parent.height + 1, parent.median
-        return not alone and not consensus.block_place(spelled.data, height, median, now, self.heights)
-
-    def _learn(self, spelled: Spelled) -> None:
-        """Gets the valid signatures of a block into the table, by a replay where it lacks one."""
-        found = self._new_triples(spelled)
-        if not found:
-            return
-        between = b"" if not self.table or self.table.endswith(b"\n") else b"\n"
-        table = self.table + between + b"".join(sorted(triple.line for triple in found))
-        begun = time.perf_counter()
-        chain, old = self._replayed(table), self.chain
-        # From here on nothing fails.
-        self.chain, self.table, self._valid = chain, table, self._valid | found
-        self.replays += 1
-        self.seconds = time.perf_counter() - begun
-        old.close()
-
-    def _new_triples(self, spelled: Spelled) -> Set[Triple]:
-        """The valid triples that the scripts of a block ask for, and that the table lacks."""
-        spent: Dict[bytes, Optional[Transaction]] = {}
-        found: Set[Triple] = set()
-        flags = self._flags(self.index.blocks[spelled.block.header.parent].height + 1)
-        for id, tx, (begin, end) in zip(spelled.ids, spelled.block.transactions, spelled.places):
-            data = spelled.data[begin:end]
-            for place, spends in enumerate(tx.inputs):
-                if spends.id not in spent:
-                    spent[spends.id] = self.transaction(spends.id)
-                made = spent[spends.id]
-                if made is not None and spends.index < len(made.outputs):
-                    script = made.outputs[spends.index].script
-                    found |= self._found.find_out(data, place, spends.script, script, flags)
-            spent[id] = tx
-        return found - self._valid
-
-    def _flags(self, height: int) -> FrozenSet[str]:
-        """The rules of scripts that are in force at a height."""
-        _, bip65, bip66, csv = self.heights
-        since = {"DERSIG": bip66, "CLTV": bip65, "CSV": csv}
-        return frozenset(name for name, first in since.items() if height >= first)
-
-    def _replayed(self, table: bytes) -> Chainstate:
-        """A new chainstate of this table that took all commands of the journal."""
-        chain = Chainstate(self.heights, table)
-        try:
-            for place, entry in enumerate(self.journal):
-                if entry.command == "submit":
-                    reply = chain.try_submit(self.chain.block(entry.id) or b"", entry.now)
-                else:
-                    reply = chain.try_mark(entry.command, entry.id)
-                if reply.text != entry.reply:
-                    raise errors.ReplayDiffers(place, entry.reply, reply.text)
-        except BaseException:
-            chain.close()
-            raise
-        return chain
+    def fresh(self) -> int:
+        """A number for a coinbase, that none on the active block has."""
+        return len(self.journal)

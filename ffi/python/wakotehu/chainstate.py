@@ -8,7 +8,8 @@ from types import TracebackType
 from typing import Any, Iterator, List, NamedTuple, NoReturn, Optional, Sequence, Tuple, Type, Union
 
 from . import errors
-from .library import Answer, CoinCall, Heights, library
+from .consensus import Triple
+from .library import Answer, CoinCall, Heights, WantCall, library
 from .library import Coin as _Coin
 from .library import Tip as _Tip
 
@@ -83,7 +84,9 @@ class Chainstate:
 
     heights: from which heights BIPs 34, 65, 66 and 68 with 112 and 113 are in force.
     table: the valid signatures, as lines of a key, a signature without its hash type and a digest, in hexadecimal and
-        parted by spaces. No other signature is valid; `Bench` makes real ones valid.
+        parted by spaces. No other signature is valid.
+    by_need: no table says which are valid. A command whose scripts come to signatures of which nothing is known raises
+        `Wants`, and is none; `learn` hands in what was found out, and the command is made again. `Bench` does so.
 
     Ids are bytes in the order in which they are hashed; `show` prints them as everywhere. One thread at a time may be
     inside a call: another one is refused with `Busy`.
@@ -92,15 +95,22 @@ class Chainstate:
             chain.submit(block)
     """
 
-    def __init__(self, heights: Sequence[int] = REGTEST, table: Union[str, bytes] = b"") -> None:
+    def __init__(
+        self, heights: Sequence[int] = REGTEST, table: Union[str, bytes] = b"", by_need: bool = False
+    ) -> None:
         self._handle = 0
         rules = Heights(*read_heights(heights))
         self._library = library()
         text = table.encode() if isinstance(table, str) else bytes(table)
+        if by_need and text:
+            raise ValueError("a table, or by need")
         handle, line = ctypes.c_uint64(), ctypes.c_uint64()
-        code = self._library.wakotehu_open(
-            ctypes.byref(handle), ctypes.byref(rules), text, len(text), ctypes.byref(line)
-        )
+        if by_need:
+            code = self._library.wakotehu_open_by_need(ctypes.byref(handle), ctypes.byref(rules))
+        else:
+            code = self._library.wakotehu_open(
+                ctypes.byref(handle), ctypes.byref(rules), text, len(text), ctypes.byref(line)
+            )
         if code == 3:
             raise errors.BadTable(line.value)
         self._check(code)
@@ -164,6 +174,27 @@ class Chainstate:
         if command not in ("invalidate", "reconsider", "precious"):
             raise ValueError(command)
         return self._command(command, _id(id))
+
+    # ---- signatures by need
+
+    def wants(self) -> List[Triple]:
+        """The signatures at which scripts of the last command stopped, each once, where that raised `Wants`."""
+        lines: List[bytes] = []
+
+        def take(_context: Any, line: Any, length: int) -> int:
+            lines.append(ctypes.string_at(line, length))
+            return 0
+
+        self._check(self._library.wakotehu_wants(self._handle, WantCall(take), None))
+        return [Triple.of_line(line) for line in dict.fromkeys(lines)]
+
+    def learn(self, triple: Triple, valid: bool) -> None:
+        """Hands in whether a signature is valid. A verdict that contradicts a known one raises `Contradiction`."""
+        key, signature, digest = triple
+        if len(digest) != 32:
+            raise ValueError("a digest has 32 bytes")
+        words = key, len(key), signature, len(signature), digest, int(valid)
+        self._check(self._library.wakotehu_learn(self._handle, *words))
 
     # ---- reads
 
@@ -255,7 +286,10 @@ class Chainstate:
 
     def _command(self, name: str, *words: object) -> Reply:
         answer = Answer()
-        self._check(getattr(self._library, f"wakotehu_{name}")(self._handle, *words, ctypes.byref(answer)))
+        code = getattr(self._library, f"wakotehu_{name}")(self._handle, *words, ctypes.byref(answer))
+        if code == 31:
+            raise errors.Wants(self.wants())
+        self._check(code)
         reply, reason = _REPLIES[answer.reply], errors.REASONS[answer.reason]
         text = reason or reply
         if reason == "blk-bad-inputs":
@@ -265,7 +299,9 @@ class Chainstate:
     def _check(self, code: int) -> None:
         if code == 0:
             return
-        kinds = {1: MemoryError, 2: errors.Closed, 7: errors.Busy, 8: ValueError, 9: errors.TooMany}
+        kinds = {
+            1: MemoryError, 2: errors.Closed, 7: errors.Busy, 8: ValueError, 9: errors.TooMany, 30: errors.Contradiction,
+        }  # fmt: skip
         raise kinds.get(code, errors.Error)(self._library.wakotehu_code_text(code).decode())
 
 

@@ -1,6 +1,9 @@
 """What goes wrong, as exceptions."""
 
-from typing import Dict, List, Optional, Type
+from typing import TYPE_CHECKING, Dict, List, Optional, Sequence, Type
+
+if TYPE_CHECKING:
+    from .consensus import Triple
 
 
 class Error(Exception):
@@ -53,6 +56,20 @@ class TooMany(Error):
     """The library has no room for one more chainstate."""
 
 
+class Wants(Error):
+    """Of a chainstate by need: signatures have to be found out first. The command was none, and can be made again.
+
+    `triples` are those at which a script stops."""
+
+    def __init__(self, triples: Sequence["Triple"]) -> None:
+        super().__init__(f"{len(triples)} signatures have to be found out first")
+        self.triples = triples
+
+
+class Contradiction(Error):
+    """A verdict on a signature contradicts one that is known, which stays."""
+
+
 class BadTable(Error):
     """A line of the table can't be read. `line` is its number, from 1."""
 
@@ -75,19 +92,6 @@ class Genesis(Error):
 
 class TreeFull(Error):
     """No more blocks can be kept."""
-
-
-class ReplayDiffers(Error):
-    """A replay under a larger table gave another reply than was given before.
-
-    `place` is the command's in the journal, from 0.
-    """
-
-    def __init__(self, place: int, given: str, replayed: str) -> None:
-        super().__init__(f"command {place} was answered {given!r}, and {replayed!r} when it was replayed")
-        self.place = place
-        self.given = given
-        self.replayed = replayed
 
 
 class Rejected(Error):

@@ -2,7 +2,8 @@
 
 from typing import Dict, List, NamedTuple, Optional, Tuple
 
-from .encoding import GENESIS, GENESIS_BLOCK, Header, Spelled
+from .chainstate import Coin
+from .encoding import GENESIS, GENESIS_BLOCK, Header, Output, Spelled, Transaction, read_transaction
 
 
 class Kept(NamedTuple):
@@ -80,3 +81,53 @@ class Index:
             found.append(id)
             id = self.blocks[id].header.parent
         return self.active[1 : self.blocks[id].height + 1] + found[::-1]
+
+
+class Unspent(NamedTuple):
+    """A coin, with the id of the active block that it was read at, and how many blocks it is deep there."""
+
+    coin: Coin
+    best: bytes
+    confirmations: int
+
+
+class Walks:
+    """Walks over the blocks of an index, whose bytes `block` gives."""
+
+    index: Index
+
+    def best(self) -> bytes:
+        """The active block's id."""
+        raise NotImplementedError
+
+    def block(self, id: bytes) -> Optional[bytes]:
+        """The bytes of a kept block, or None."""
+        raise NotImplementedError
+
+    def parent(self, id: bytes) -> bytes:
+        """The id of a kept block's parent."""
+        return self.index.blocks[bytes(id)].header.parent
+
+    def branch(self, id: Optional[bytes] = None) -> List[bytes]:
+        """The ids of a block's branch, the block next to genesis first; of the active block by default. Empty for a
+        block that isn't kept."""
+        at = self.best() if id is None else bytes(id)
+        return self.index.branch(at) if at in self.index.blocks else []
+
+    def is_kept(self, id: bytes) -> bool:
+        """Whether a block is kept, genesis or another."""
+        return bytes(id) in self.index.blocks
+
+    def output(self, id: bytes, index: int) -> Optional[Output]:
+        """An output that a kept block made, spent or not, on whatever branch; or None."""
+        tx = self.transaction(id)
+        return tx.outputs[index] if tx and 0 <= index < len(tx.outputs) else None
+
+    def transaction(self, id: bytes) -> Optional[Transaction]:
+        """A transaction of a kept block, or None."""
+        if id not in self.index.transactions:
+            return None
+        block, begin, end = self.index.transactions[id]
+        data = self.block(block)
+        assert data is not None, "blocks of the index are kept"
+        return read_transaction(data[begin:end])

@@ -4,7 +4,7 @@ import ctypes
 import ctypes.util
 import os
 import subprocess
-from ctypes import CFUNCTYPE, POINTER, c_char_p, c_int, c_int64, c_size_t, c_uint8, c_uint32, c_uint64, c_void_p
+from ctypes import CFUNCTYPE, POINTER, c_char, c_char_p, c_int, c_int64, c_size_t, c_uint8, c_uint32, c_uint64, c_void_p
 from typing import Iterator, Optional
 
 from .errors import LibraryMissing
@@ -28,8 +28,13 @@ class Coin(ctypes.Structure):
 
 CoinCall = CFUNCTYPE(c_int, c_void_p, POINTER(c_uint8), c_uint32, POINTER(Coin), POINTER(c_uint8))
 
+WantCall = CFUNCTYPE(c_int, c_void_p, POINTER(c_char), c_size_t)
+
 _CALLS = {
     "open": [POINTER(c_uint64), POINTER(Heights), c_char_p, c_size_t, POINTER(c_uint64)],
+    "open_by_need": [POINTER(c_uint64), POINTER(Heights)],
+    "wants": [c_uint64, WantCall, c_void_p],
+    "learn": [c_uint64, c_char_p, c_size_t, c_char_p, c_size_t, c_char_p, c_int],
     "close": [c_uint64],
     "submit": [c_uint64, c_char_p, c_size_t, c_uint64, POINTER(Answer)],
     "invalidate": [c_uint64, c_char_p, POINTER(Answer)],

@@ -1,6 +1,8 @@
-"""A server on the loopback that answers the calls of bitcoind's JSON-RPC, over a `Bench`.
+"""A server on the loopback that answers the calls of bitcoind's JSON-RPC: over a `Bench`, with real signatures, or over
+the seats of a `Node`, where the valid signatures are handed in.
 
     wakotehu-server -datadir=/tmp/bench
+    wakotehu-server -table=/tmp/signatures
 """
 
 import argparse
@@ -9,11 +11,12 @@ import signal
 import sys
 import threading
 import time
-from typing import Any, Callable, Dict, List, Optional, Sequence, Tuple
+from typing import Any, Callable, Dict, List, Optional, Sequence, Tuple, Union
 
 from .bench import Bench
 from .chainstate import REGTEST
 from .errors import Error
+from .pool import SEATS, Pool
 from .rpc import blockchain, control, mining, stats, txs
 from .rpc.auth import Gate, write_cookie
 from .rpc.datadir import BadFolder, Folder
@@ -42,6 +45,7 @@ def serve(
         for host in hosts:
             servers.append(Server(host, port or (servers[0].server_address[1] if servers else 0), gate, answered))
             servers[-1].stopping = lambda: node.stopped
+            servers[-1].left = node.leave
         threads = [threading.Thread(target=server.serve_forever, args=(0.1,), daemon=True) for server in servers]
         for thread in threads:
             thread.start()
@@ -57,9 +61,7 @@ def serve(
     finally:
         for server in servers:
             server.server_close()
-        with node.turn:
-            node.stopped = True
-            node.saver.close()
+        node.close()
 
 
 # ---- the command line
@@ -87,6 +89,9 @@ def _parser() -> _Parser:
     )
     add = parser.add_argument
     add("--datadir", metavar="D", help="keeps all commands in the folder D, and takes them again at the next start")
+    add("--table", metavar="F", help="a file of the signatures that are valid, a key, signature and digest a line; no other is."
+        f" Calls then run beside one another, at the {SEATS} seats of a node (the program regchain)")  # fmt: skip
+    add("--workers", metavar="N", help="how many threads check a block's scripts with --table, 1 to 16; 2 by default")
     add("--fsync", action="store_true", help="has the disk asked to keep each command")
     add("--regtest", action="store_true", help="as always")
     add("--rpcport", "--port", dest="rpcport", metavar="N", help="18443 by default; 0 is any that is free")
@@ -110,6 +115,9 @@ def _given(words: Sequence[str]) -> argparse.Namespace:
     if given.rpcpassword is not None:
         parser.error("-rpcpassword would be shown by ps: put it into the file of -conf or into WAKOTEHU_RPCPASSWORD")
     given.rpcport = _number(parser, given.rpcport or "18443", "-rpcport", 65535)
+    if given.workers is not None and given.table is None:
+        parser.error("-workers is for -table: without it one thread checks scripts")
+    given.workers = _number(parser, given.workers or "2", "-workers", 16)
     for host in given.rpcbind:
         if host.strip("[]") not in LOOPBACK:
             parser.error(f"-rpcbind={host} isn't an address of the loopback: the server answers this machine alone")
@@ -174,6 +182,25 @@ def _settings(path: Optional[str]) -> Dict[str, List[str]]:
     return found
 
 
+def _bench(given: argparse.Namespace, folder: Optional[Folder]) -> Union[Bench, Pool]:
+    heights = folder.heights(given.heights, REGTEST) if folder else given.heights or REGTEST
+    if given.table is None:
+        return Bench(heights, folder.table() if folder else b"")
+    with open(given.table, "rb") as file:
+        table = file.read()
+    return Pool(heights, folder.table(table) if folder else table, workers=given.workers)
+
+
+def _replay(folder: Folder, bench: Union[Bench, Pool]) -> int:
+    """Takes the commands of a folder again: how many."""
+    if not isinstance(bench, Pool):
+        return folder.replay(bench)
+    with bench.turn:
+        steps = folder.replay(bench)
+        bench.leave()
+        return steps
+
+
 def main(words: Optional[Sequence[str]] = None) -> None:
     """The command."""
     given = _given(sys.argv[1:] if words is None else words)
@@ -182,16 +209,18 @@ def main(words: Optional[Sequence[str]] = None) -> None:
     try:
         folder = Folder(given.datadir, given.fsync) if given.datadir else None
         gate, cookie = _gate(given)
-        heights = folder.heights(given.heights, REGTEST) if folder else given.heights or REGTEST
-        with Bench(heights, folder.table() if folder else b"") as bench:
+        with _bench(given, folder) as bench:
             if folder:
-                print(f"{folder.replay(bench)} commands of {given.datadir} were taken again", flush=True)
+                print(f"{_replay(folder, bench)} commands of {given.datadir} were taken again", flush=True)
             hosts = list(dict.fromkeys(host.strip("[]") for host in given.rpcbind)) or ["127.0.0.1"]
 
             def ready(port: int) -> None:
                 print(f"127.0.0.1:{port}" + (f" cookie {cookie}" if cookie else ""), flush=True)
 
-            serve(Node(bench, folder), gate, hosts, given.rpcport, ready)
+            node = Node(bench, folder)
+            serve(node, gate, hosts, given.rpcport, ready)
+            if node.broken:
+                raise Error(node.broken)
     except (BadFolder, Error, OSError, ValueError) as error:
         sys.exit(f"wakotehu-server: {error}")
     except KeyboardInterrupt:

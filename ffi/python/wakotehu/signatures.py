@@ -1,10 +1,10 @@
-"""Real signatures: which of them are valid, by libsecp256k1, and what the scripts of an input come to by it."""
+"""Real signatures: which of them are valid, by libsecp256k1."""
 
 import ctypes
 import ctypes.util
-from typing import Dict, FrozenSet, Optional, Tuple
+from typing import Dict, Optional, Tuple
 
-from .consensus import Triple, p2sh_sigops, script, verify_known
+from .consensus import Triple
 
 
 class Secp256k1:
@@ -69,24 +69,6 @@ class Found:
         if triple not in self.verdicts:
             self.verdicts[triple] = self._secp.valid(triple)
         return self.verdicts[triple]
-
-    def find_out(self, data: bytes, input: int, own: bytes, spent: bytes, flags: FrozenSet[str]) -> FrozenSet[Triple]:
-        """The valid triples that the scripts of an input ask for, one after the other; `own` is its own script.
-
-        Each signature operation asks for at most one, so where all of them have asked the scripts aren't run again."""
-        kind = script(spent)
-        most = kind.accurate + script(own).accurate + (p2sh_sigops(own, spent) if kind.p2sh else 0)
-        valid, invalid, yes = b"", b"", set()
-        for _ in range(most):
-            triple = verify_known(data, input, spent, flags, valid, invalid)
-            if isinstance(triple, bool):
-                break
-            if self.valid(triple):
-                valid += triple.line
-                yes.add(triple)
-            else:
-                invalid += triple.line
-        return frozenset(yes)
 
 
 def read_signature(data: bytes) -> Optional[Tuple[int, int]]:

@@ -16,7 +16,7 @@ use Rattle.activate.specs.declared.path.Attempt.{Attempt}
 use Rattle.activate.specs.declared.path.Attempt.TheVariants.{Succeeds, Fails}
 use Rattle.chain.specs.Rules.{Rules}
 use Rattle.chain.specs.Valid.{fault, branch_connects}
-use Rattle.chain.specs.inside.Faults.{IsFirstFault}
+use Rattle.chain.specs.Faults.{IsFirstFault}
 use Rattle.activate.specs.CoreState.{coins_after}
 use Rattle.activate.specs.inside.Keeping.{undo_at}
 

@@ -26,7 +26,7 @@ use Rattle.activate.specs.declared.path.BranchPath.{BranchPath}
 use Rattle.chain.specs.Rules.{Rules}
 use Rattle.chain.specs.Valid.{branch_connects}
 use Rattle.chain.specs.Settle.{active, settle}
-use Rattle.chain.specs.inside.Try.{state_after_try}
+use Rattle.chain.specs.Try.{state_after_try}
 use Rattle.chain.specs.Settled.{AllKept}
 use Rattle.chain.specs.Commands.{outcome}
 use Rattle.chain.specs.Submission.{Outcome}

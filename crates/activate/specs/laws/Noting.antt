@@ -10,8 +10,8 @@ use Rattle.tree.specs.laws.Parents.{parent-kept, on-parent, on-rest}
 use Rattle.tree.specs.laws.Above.{above, above-rest, OnWay, IsShared}
 use Rattle.chain.specs.Rules.{Rules}
 use Rattle.chain.specs.Valid.{branch_connects, first_to_fail}
-use Rattle.chain.specs.inside.Faults.{IsFirstFault}
-use Rattle.chain.specs.inside.Try.{fails_on, passes_on, state_after_try}
+use Rattle.chain.specs.Faults.{IsFirstFault}
+use Rattle.chain.specs.Try.{fails_on, passes_on, state_after_try}
 use Rattle.chain.specs.laws.Candidates.{valid_from, valid_below, never_fails, below_first, same_first}
 
 -- ---- sets

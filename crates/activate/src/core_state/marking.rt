@@ -1,44 +1,47 @@
 //! What `invalidate`, `reconsider` and `precious` come to.
 
-ghost use Rattle.std.specs.Prelude.{◌≡◌, ◌<◌, ◌≤◌, IfOk, OnErr, OnOk, Some, length, if◌then◌else◌};
+ghost use Rattle.std.specs.Prelude.{◌≡◌, ◌<◌, ◌≤◌, IfOk, OnErr, OnOk, Some, length, if◌then◌else◌, IfErr, None};
 ghost use Rattle.tree.specs.State.{with_call, without_marks, with_mark, has_no_mark};
 ghost use Rattle.chain.specs.Regtest.{regtest};
 ghost use Rattle.chain.specs.Settle.{settle};
 ghost use Rattle.chain.specs.Step.{Invalidate, Reconsider, Precious, mark_says, step};
 ghost use Rattle.chain.specs.declared.reply.MarkReply.TheVariants.{Done};
-ghost use Rattle.activate.specs.CoreState.{Follows, CoreState, coins_of};
+ghost use Rattle.activate.specs.CoreState.{CoreState, Follows, IsWantedByABlock, coins_of};
 ghost use Rattle.activate.specs.inside.Preparation.{CanTry, FlagsFit, IsPreparationFor, with_flags};
+ghost use Rattle.curve.specs.Known.{Under};
+ghost use Rattle.queue.specs.Jobs.{IsUndecided};
 
 use crate::core_state::Core;
 use crate::core_state::preparing::still;
 use crate::prepared::{Completion, Prepared, Rollback, TreeChange};
 use chain::{MarkReply, Reply};
 use coins::Base;
-use connect::Env;
+use connect::RunsScripts;
 use hash::Id;
-use queue::{Crew, Gate};
+use queue::{Gate, Undecided};
 use std::alloc::Global;
 use tree::Flags;
 use wire::Memory;
 
 impl Core {
     /// Marks a block (Bitcoin Core's `InvalidateBlock`).
-    pub(crate) fn prepare_invalidate<B: Base, C: Crew>(
+    pub(crate) fn prepare_invalidate<B: Base, S: RunsScripts>(
         &mut self,
         alloc: Global,
         base: &B,
         id: &Id,
-        env: &Env<'_, C>,
+        env: &S,
         gate: &(dyn Gate + Sync),
-    ) -> Result<Prepared, Memory>
-        requires follows { Follows self.old env.now.table.now }
+    ) -> Result<Prepared, Undecided>
+        requires follows { Under (S.known env.now) (λ triples. Follows self.old triples) }
         requires coins { B.coins base.now ≡ coins_of self.old }
         ensures prepared { IfOk result (λ prepared.
-            IsPreparationFor (regtest self.old.params env.now.table.now) self.old
-            (step (regtest self.old.params env.now.table.now)
+            Under (S.known env.now) (λ triples. IsPreparationFor (regtest self.old.params triples) self.old
+            (step (regtest self.old.params triples)
             self.old.state (Invalidate id.now))
-            self.new prepared) }
+            self.new prepared)) }
         ensures err { OnErr result (self.new ≡ self.old) }
+        ensures wants { IfErr result (IsUndecided (IsWantedByABlock (S.known env.now))) }
     {
         let place = match self.tree.find(id) {
             None => return Ok(still(alloc, Reply::Mark(MarkReply::NotFound))),
@@ -51,22 +54,23 @@ impl Core {
     }
 
     /// Takes the marks from a block, its ancestors and its descendants (Bitcoin Core's `ResetBlockFailureFlags`).
-    pub(crate) fn prepare_reconsider<B: Base, C: Crew>(
+    pub(crate) fn prepare_reconsider<B: Base, S: RunsScripts>(
         &mut self,
         alloc: Global,
         base: &B,
         id: &Id,
-        env: &Env<'_, C>,
+        env: &S,
         gate: &(dyn Gate + Sync),
-    ) -> Result<Prepared, Memory>
-        requires follows { Follows self.old env.now.table.now }
+    ) -> Result<Prepared, Undecided>
+        requires follows { Under (S.known env.now) (λ triples. Follows self.old triples) }
         requires coins { B.coins base.now ≡ coins_of self.old }
         ensures prepared { IfOk result (λ prepared.
-            IsPreparationFor (regtest self.old.params env.now.table.now) self.old
-            (step (regtest self.old.params env.now.table.now)
+            Under (S.known env.now) (λ triples. IsPreparationFor (regtest self.old.params triples) self.old
+            (step (regtest self.old.params triples)
             self.old.state (Reconsider id.now))
-            self.new prepared) }
+            self.new prepared)) }
         ensures err { OnErr result (self.new ≡ self.old) }
+        ensures wants { IfErr result (IsUndecided (IsWantedByABlock (S.known env.now))) }
     {
         let Some(place) = self.tree.find(id) else {
             return Ok(still(alloc, Reply::Mark(MarkReply::NotFound)));
@@ -106,29 +110,30 @@ impl Core {
     }
 
     /// Settles the state after marks were changed, which were these before.
-    fn settle_marks<B: Base, C: Crew>(
+    fn settle_marks<B: Base, S: RunsScripts>(
         &mut self,
         alloc: Global,
         base: &B,
         flags: Flags,
-        env: &Env<'_, C>,
+        env: &S,
         gate: &(dyn Gate + Sync),
-    ) -> Result<Prepared, Memory>
-        requires can { CanTry (regtest self.old.params env.now.table.now) self.old }
+    ) -> Result<Prepared, Undecided>
+        requires can { Under (S.known env.now) (λ triples. CanTry (regtest self.old.params triples) self.old) }
         requires flags { FlagsFit self.old.state (Some flags) }
         requires coins { B.coins base.now ≡ coins_of self.old }
         ensures prepared { (a : CoreState)
             → a ≡ record self.old { state = with_flags (Some flags) self.old.state }
             → IfOk result (λ prepared.
-            IsPreparationFor (regtest self.old.params env.now.table.now) a
+            Under (S.known env.now) (λ triples. IsPreparationFor (regtest self.old.params triples) a
             (mark_says
-            (settle (regtest self.old.params env.now.table.now)
+            (settle (regtest self.old.params triples)
             self.old.state)
             Done)
-            self.new prepared) }
+            self.new prepared)) }
         ensures err { OnErr result
             (self.new
             ≡ record self.old { state = with_flags (Some flags) self.old.state }) }
+        ensures wants { IfErr result (IsUndecided (IsWantedByABlock (S.known env.now))) }
     {
         match self.settle_rest(alloc, base, env, gate) {
             Ok((place, found)) => Ok(Prepared {
@@ -140,31 +145,32 @@ impl Core {
                 rest: Completion::Activate(place, found.path, found.undo),
                 changes: found.changes,
             }),
-            Err(Memory) => {
+            Err(stop) => {
                 self.tree.set_flags(flags);
-                Err(Memory)
+                Err(stop)
             }
         }
     }
 
     /// Calls a block precious (Bitcoin Core's `PreciousBlock`). A call for one that is lower than the active one
     /// changes nothing.
-    pub(crate) fn prepare_precious<B: Base, C: Crew>(
+    pub(crate) fn prepare_precious<B: Base, S: RunsScripts>(
         &mut self,
         alloc: Global,
         base: &B,
         id: &Id,
-        env: &Env<'_, C>,
+        env: &S,
         gate: &(dyn Gate + Sync),
-    ) -> Result<Prepared, Memory>
-        requires follows { Follows self.old env.now.table.now }
+    ) -> Result<Prepared, Undecided>
+        requires follows { Under (S.known env.now) (λ triples. Follows self.old triples) }
         requires coins { B.coins base.now ≡ coins_of self.old }
         ensures prepared { IfOk result (λ prepared.
-            IsPreparationFor (regtest self.old.params env.now.table.now) self.old
-            (step (regtest self.old.params env.now.table.now)
+            Under (S.known env.now) (λ triples. IsPreparationFor (regtest self.old.params triples) self.old
+            (step (regtest self.old.params triples)
             self.old.state (Precious id.now))
-            self.new prepared) }
+            self.new prepared)) }
         ensures err { OnErr result (self.new ≡ self.old) }
+        ensures wants { IfErr result (IsUndecided (IsWantedByABlock (S.known env.now))) }
     {
         let Some(place) = self.tree.find(id) else {
             return Ok(still(alloc, Reply::Mark(MarkReply::NotFound)));
@@ -184,9 +190,9 @@ impl Core {
                 rest: settled.rest,
                 changes: settled.changes,
             }),
-            Err(Memory) => {
+            Err(stop) => {
                 self.tree.take_back_call();
-                Err(Memory)
+                Err(stop)
             }
         }
     }

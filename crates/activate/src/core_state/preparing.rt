@@ -1,6 +1,6 @@
 //! What a command comes to.
 
-ghost use Rattle.std.specs.Prelude.{◌≡◌, ℕ, ◌≤◌, ◌<◌, IfOk, None, Some, OnOk, OnErr, suc, length};
+ghost use Rattle.std.specs.Prelude.{◌≡◌, ℕ, ◌≤◌, ◌<◌, IfOk, None, Some, OnOk, OnErr, suc, length, IfErr};
 ghost use Rattle.hash.specs.declared.id.Id.{Id};
 ghost use Rattle.block.specs.declared.block.Block.{Block};
 ghost use Rattle.tree.specs.Branches.{place_of};
@@ -12,11 +12,13 @@ ghost use Rattle.chain.specs.Prepared.{command_of};
 ghost use Rattle.chain.specs.Submitted.{IsSubmission};
 ghost use Rattle.chain.specs.Regtest.{regtest};
 ghost use Rattle.chain.specs.Rules.{Rules};
-ghost use Rattle.chain.specs.inside.Faults.{IsNew};
+ghost use Rattle.chain.specs.Faults.{IsNew};
 ghost use Rattle.chain.specs.Step.{Submit, step};
 ghost use Rattle.chain.specs.Submission.{answer_known};
-ghost use Rattle.activate.specs.CoreState.{Follows, coins_of};
+ghost use Rattle.activate.specs.CoreState.{Follows, IsWantedByABlock, coins_of};
 ghost use Rattle.activate.specs.inside.Preparation.{IsPreparation, IsPreparationFor, ChangesNothing};
+ghost use Rattle.curve.specs.Known.{Under};
+ghost use Rattle.queue.specs.Jobs.{IsUndecided};
 
 use crate::block_faults::fault_or_parent;
 use crate::core_state::Core;
@@ -26,8 +28,8 @@ use crate::tip_connection::connect_tip;
 use block::{Bytes, StoredBlock};
 use chain::{PreparedCommand, Reply, SubmitReply, SubmittedBlock};
 use coins::{Base, Changes};
-use connect::{Context, Env};
-use queue::{Crew, Gate};
+use connect::{Context, Env, RunsScripts};
+use queue::{Crew, Gate, Undecided};
 use std::alloc::Global;
 use tree::{AddFault, MAX_BLOCKS};
 use wire::Memory;
@@ -65,6 +67,31 @@ impl Core {
             (command_of command.now) self.new prepared) }
         ensures err { OnErr result (self.new ≡ self.old) }
     {
+        match self.prepare_by(alloc, base, command, env, gate) {
+            Ok(prepared) => Ok(prepared),
+            Err(Undecided::Memory) => Err(Memory),
+            // Of a table all is known.
+            Err(Undecided::Unknown(_)) => unreachable!(),
+        }
+    }
+
+    /// The same by what is known of signatures, or else those that have to be found out first.
+    pub(crate) fn prepare_by<B: Base, S: RunsScripts>(
+        &mut self,
+        alloc: Global,
+        base: &B,
+        command: &PreparedCommand,
+        env: &S,
+        gate: &(dyn Gate + Sync),
+    ) -> Result<Prepared, Undecided>
+        requires follows { Under (S.known env.now) (λ triples. Follows self.old triples) }
+        requires coins { B.coins base.now ≡ coins_of self.old }
+        ensures prepared { IfOk result (λ prepared.
+            Under (S.known env.now) (λ triples. IsPreparation (regtest self.old.params triples) self.old
+            (command_of command.now) self.new prepared)) }
+        ensures err { OnErr result (self.new ≡ self.old) }
+        ensures wants { IfErr result (IsUndecided (IsWantedByABlock (S.known env.now))) }
+    {
         match command {
             PreparedCommand::Submit(submission, now) => match submission.block() {
                 Some(submitted) => {
@@ -83,25 +110,26 @@ impl Core {
     }
 
     /// What a submitted block comes to (Bitcoin Core's `ProcessNewBlock`).
-    fn prepare_block<B: Base, C: Crew>(
+    fn prepare_block<B: Base, S: RunsScripts>(
         &mut self,
         alloc: Global,
         base: &B,
         bytes: &Bytes,
         submitted: &SubmittedBlock,
         now: u64,
-        env: &Env<'_, C>,
+        env: &S,
         gate: &(dyn Gate + Sync),
-    ) -> Result<Prepared, Memory>
-        requires follows { Follows self.old env.now.table.now }
+    ) -> Result<Prepared, Undecided>
+        requires follows { Under (S.known env.now) (λ triples. Follows self.old triples) }
         requires submission { IsSubmission bytes.now (Some submitted.now) }
         requires coins { B.coins base.now ≡ coins_of self.old }
         ensures prepared { IfOk result (λ prepared.
-            IsPreparationFor (regtest self.old.params env.now.table.now) self.old
-            (step (regtest self.old.params env.now.table.now)
+            Under (S.known env.now) (λ triples. IsPreparationFor (regtest self.old.params triples) self.old
+            (step (regtest self.old.params triples)
             self.old.state (Submit now submitted.now.block))
-            self.new prepared) }
+            self.new prepared)) }
         ensures err { OnErr result (self.new ≡ self.old) }
+        ensures wants { IfErr result (IsUndecided (IsWantedByABlock (S.known env.now))) }
     {
         if let Some(place) = self.tree.find(&submitted.id) {
             return Ok(still(alloc, Reply::Submit(self.known(place))));
@@ -133,30 +161,31 @@ impl Core {
     }
 
     /// A new block on the active one. It is connected before it is added, and nothing else is looked at.
-    fn prepare_on_tip<B: Base, C: Crew>(
+    fn prepare_on_tip<B: Base, S: RunsScripts>(
         &mut self,
         alloc: Global,
         base: &B,
         bytes: &Bytes,
         submitted: &SubmittedBlock,
-        env: &Env<'_, C>,
+        env: &S,
         gate: &(dyn Gate + Sync),
-    ) -> Result<Prepared, Memory>
-        requires follows { Follows self.old env.now.table.now }
-        requires new { (now : ℕ)
-            × IsNew (regtest self.old.params env.now.table.now) self.old.state now
-            submitted.now.block self.old.active }
+    ) -> Result<Prepared, Undecided>
+        requires follows { Under (S.known env.now) (λ triples. Follows self.old triples) }
+        requires new { (now : ℕ) × Under (S.known env.now) (λ triples.
+            IsNew (regtest self.old.params triples) self.old.state now
+            submitted.now.block self.old.active) }
         requires submission { IsSubmission bytes.now (Some submitted.now) }
         requires coins { B.coins base.now ≡ coins_of self.old }
-        ensures prepared { (now : ℕ)
-            → IsNew (regtest self.old.params env.now.table.now) self.old.state now
-            submitted.now.block self.old.active
+        ensures prepared { (now : ℕ) → Under (S.known env.now) (λ triples.
+            IsNew (regtest self.old.params triples) self.old.state now
+            submitted.now.block self.old.active)
             → IfOk result (λ prepared.
-            IsPreparationFor (regtest self.old.params env.now.table.now) self.old
-            (step (regtest self.old.params env.now.table.now)
+            Under (S.known env.now) (λ triples. IsPreparationFor (regtest self.old.params triples) self.old
+            (step (regtest self.old.params triples)
             self.old.state (Submit now submitted.now.block))
-            self.new prepared) }
+            self.new prepared)) }
         ensures err { OnErr result (self.new ≡ self.old) }
+        ensures wants { IfErr result (IsUndecided (IsWantedByABlock (S.known env.now))) }
     {
         let height = self.tree.height(self.active);
         let context = Context {
@@ -198,31 +227,32 @@ impl Core {
     }
 
     /// A new block on another one.
-    fn prepare_beside<B: Base, C: Crew>(
+    fn prepare_beside<B: Base, S: RunsScripts>(
         &mut self,
         alloc: Global,
         base: &B,
         bytes: &Bytes,
         submitted: &SubmittedBlock,
         parent: usize,
-        env: &Env<'_, C>,
+        env: &S,
         gate: &(dyn Gate + Sync),
-    ) -> Result<Prepared, Memory>
-        requires follows { Follows self.old env.now.table.now }
-        requires new { (now : ℕ)
-            × IsNew (regtest self.old.params env.now.table.now) self.old.state now
-            submitted.now.block parent }
+    ) -> Result<Prepared, Undecided>
+        requires follows { Under (S.known env.now) (λ triples. Follows self.old triples) }
+        requires new { (now : ℕ) × Under (S.known env.now) (λ triples.
+            IsNew (regtest self.old.params triples) self.old.state now
+            submitted.now.block parent) }
         requires submission { IsSubmission bytes.now (Some submitted.now) }
         requires coins { B.coins base.now ≡ coins_of self.old }
-        ensures prepared { (now : ℕ)
-            → IsNew (regtest self.old.params env.now.table.now) self.old.state now
-            submitted.now.block parent
+        ensures prepared { (now : ℕ) → Under (S.known env.now) (λ triples.
+            IsNew (regtest self.old.params triples) self.old.state now
+            submitted.now.block parent)
             → IfOk result (λ prepared.
-            IsPreparationFor (regtest self.old.params env.now.table.now) self.old
-            (step (regtest self.old.params env.now.table.now)
+            Under (S.known env.now) (λ triples. IsPreparationFor (regtest self.old.params triples) self.old
+            (step (regtest self.old.params triples)
             self.old.state (Submit now submitted.now.block))
-            self.new prepared) }
+            self.new prepared)) }
         ensures err { OnErr result (self.new ≡ self.old) }
+        ensures wants { IfErr result (IsUndecided (IsWantedByABlock (S.known env.now))) }
     {
         let place = self.add(bytes, submitted, parent)?;
         if !self.tree.better(place, self.active) {
@@ -246,12 +276,12 @@ impl Core {
                 rest: settled.rest,
                 changes: settled.changes,
             }),
-            Err(Memory) => {
+            Err(stop) => {
                 self.roll_back(Rollback {
                     first: TreeChange::BlockAdded,
                     flags: None,
                 });
-                Err(Memory)
+                Err(stop)
             }
         }
     }

@@ -1,18 +1,20 @@
 //! Tries of one block after the other, until the best that is left is valid.
 
-ghost use Rattle.std.specs.Prelude.{ℕ, ◌≡◌, ◌≤◌, ◌<◌, length, IfOk, OnErr};
+ghost use Rattle.std.specs.Prelude.{ℕ, ◌≡◌, ◌≤◌, ◌<◌, length, IfOk, OnErr, IfErr, None};
 ghost use Rattle.tree.specs.Sound.{IsBest};
 ghost use Rattle.tree.specs.State.{has_no_mark};
 ghost use Rattle.hash.specs.declared.id.Id.{Id};
 ghost use Rattle.block.specs.declared.block.Block.{Block};
 ghost use Rattle.chain.specs.Rules.{Rules};
 ghost use Rattle.chain.specs.Settle.{settle};
-ghost use Rattle.chain.specs.inside.Try.{state_after_try};
+ghost use Rattle.chain.specs.Try.{state_after_try};
 ghost use Rattle.chain.specs.Submission.{answer_added};
 ghost use Rattle.chain.specs.Regtest.{regtest};
-ghost use Rattle.activate.specs.CoreState.{coins_of};
+ghost use Rattle.activate.specs.CoreState.{IsWantedByABlock, coins_of};
 ghost use Rattle.activate.specs.inside.Paths.{FailsAt, IsAttempt};
 ghost use Rattle.activate.specs.inside.Preparation.{CanFlag, CanTry, HasOtherFlags, TryLeads, Settles, reply_to_failed_try};
+ghost use Rattle.curve.specs.Known.{Under};
+ghost use Rattle.queue.specs.Jobs.{IsUndecided};
 
 use crate::branch_try::{ActiveBranch, try_branch};
 use crate::core_state::Core;
@@ -21,11 +23,10 @@ use crate::prepared::Completion;
 use crate::try_flags::flag_failed_try;
 use chain::SubmitReply;
 use coins::{Base, Changes};
-use connect::Env;
-use queue::{Crew, Gate};
+use connect::RunsScripts;
+use queue::{Gate, Undecided};
 use std::alloc::Global;
 use tree::Flags;
-use wire::Memory;
 
 /// A settled state, before it is put in place.
 #[derive(Drop)]
@@ -40,27 +41,28 @@ pub(crate) struct Settled {
 
 impl Core {
     /// Settles the state, where this is the best block whose branch has no mark (Bitcoin Core's `ActivateBestChain`).
-    pub(crate) fn settle<B: Base, C: Crew>(
+    pub(crate) fn settle<B: Base, S: RunsScripts>(
         &mut self,
         alloc: Global,
         base: &B,
         place: usize,
-        env: &Env<'_, C>,
+        env: &S,
         gate: &(dyn Gate + Sync),
-    ) -> Result<Settled, Memory>
-        requires can { CanTry (regtest self.old.params env.now.table.now) self.old }
+    ) -> Result<Settled, Undecided>
+        requires can { Under (S.known env.now) (λ triples. CanTry (regtest self.old.params triples) self.old) }
         requires best { let s = self.old.state in
             IsBest s (has_no_mark s) (length s.blocks) place }
         requires coins { B.coins base.now ≡ coins_of self.old }
         ensures settled { IfOk result (λ s.
-            Settles (regtest self.old.params env.now.table.now) self.old self.new
-            s.flags s.rest s.changes) }
+            Under (S.known env.now) (λ triples. Settles (regtest self.old.params triples) self.old self.new
+            s.flags s.rest s.changes)) }
         ensures said { IfOk result (λ s.
-            s.said
-            ≡ answer_added (regtest self.old.params env.now.table.now)
-            (settle (regtest self.old.params env.now.table.now) self.old.state)
-            place) }
+            Under (S.known env.now) (λ triples. s.said
+            ≡ answer_added (regtest self.old.params triples)
+            (settle (regtest self.old.params triples) self.old.state)
+            place)) }
         ensures err { OnErr result (self.new ≡ self.old) }
+        ensures wants { IfErr result (IsUndecided (IsWantedByABlock (S.known env.now))) }
     {
         match self.try_block(alloc, base, place, env, gate)? {
             Attempt::Succeeds(found) => Ok(Settled {
@@ -74,30 +76,32 @@ impl Core {
     }
 
     /// The same after a try that failed.
-    fn settle_after<B: Base, C: Crew>(
+    fn settle_after<B: Base, S: RunsScripts>(
         &mut self,
         alloc: Global,
         base: &B,
         place: usize,
         failed: FailedTry,
-        env: &Env<'_, C>,
+        env: &S,
         gate: &(dyn Gate + Sync),
-    ) -> Result<Settled, Memory>
-        requires can { CanTry (regtest self.old.params env.now.table.now) self.old }
+    ) -> Result<Settled, Undecided>
+        requires can { Under (S.known env.now) (λ triples. CanTry (regtest self.old.params triples) self.old) }
         requires best { let s = self.old.state in
             IsBest s (has_no_mark s) (length s.blocks) place }
-        requires fails { FailsAt (regtest self.old.params env.now.table.now) self.old.state.blocks
-            self.old.active place failed }
+        requires fails { Under (S.known env.now) (λ triples.
+            FailsAt (regtest self.old.params triples) self.old.state.blocks
+            self.old.active place failed) }
         requires coins { B.coins base.now ≡ coins_of self.old }
         ensures settled { IfOk result (λ s.
-            Settles (regtest self.old.params env.now.table.now) self.old self.new
-            s.flags s.rest s.changes) }
+            Under (S.known env.now) (λ triples. Settles (regtest self.old.params triples) self.old self.new
+            s.flags s.rest s.changes)) }
         ensures said { IfOk result (λ s.
-            s.said
-            ≡ answer_added (regtest self.old.params env.now.table.now)
-            (settle (regtest self.old.params env.now.table.now) self.old.state)
-            place) }
+            Under (S.known env.now) (λ triples. s.said
+            ≡ answer_added (regtest self.old.params triples)
+            (settle (regtest self.old.params triples) self.old.state)
+            place)) }
         ensures err { OnErr result (self.new ≡ self.old) }
+        ensures wants { IfErr result (IsUndecided (IsWantedByABlock (S.known env.now))) }
     {
         let flags = self.tree.flags(alloc)?;
         self.flag(&failed);
@@ -108,28 +112,29 @@ impl Core {
                 changes: found.changes,
                 said: refused(&failed),
             }),
-            Err(Memory) => {
+            Err(stop) => {
                 self.tree.set_flags(flags);
-                Err(Memory)
+                Err(stop)
             }
         }
     }
 
     /// Tries the best block whose branch has no mark (Bitcoin Core's `FindMostWorkChain`), until one is valid. Each
     /// other one that is tried is marked, or a block below it is.
-    pub(crate) fn settle_rest<B: Base, C: Crew>(
+    pub(crate) fn settle_rest<B: Base, S: RunsScripts>(
         &mut self,
         alloc: Global,
         base: &B,
-        env: &Env<'_, C>,
+        env: &S,
         gate: &(dyn Gate + Sync),
-    ) -> Result<(usize, Reorganisation), Memory>
-        requires can { CanTry (regtest self.old.params env.now.table.now) self.old }
+    ) -> Result<(usize, Reorganisation), Undecided>
+        requires can { Under (S.known env.now) (λ triples. CanTry (regtest self.old.params triples) self.old) }
         requires coins { B.coins base.now ≡ coins_of self.old }
         ensures leads { IfOk result (λ found.
-            TryLeads (regtest self.old.params env.now.table.now) self.old self.new
-            found.0 found.1) }
+            Under (S.known env.now) (λ triples. TryLeads (regtest self.old.params triples) self.old self.new
+            found.0 found.1)) }
         ensures flags { HasOtherFlags self.old self.new }
+        ensures wants { IfErr result (IsUndecided (IsWantedByABlock (S.known env.now))) }
     {
         'tries: loop {
             let place = self.tree.best_usable();
@@ -150,20 +155,21 @@ impl Core {
     }
 
     /// Tries a block over the coins of the active branch.
-    fn try_block<B: Base, C: Crew>(
+    fn try_block<B: Base, S: RunsScripts>(
         &self,
         alloc: Global,
         base: &B,
         place: usize,
-        env: &Env<'_, C>,
+        env: &S,
         gate: &(dyn Gate + Sync),
-    ) -> Result<Attempt, Memory>
-        requires can { CanTry (regtest self.now.params env.now.table.now) self.now }
+    ) -> Result<Attempt, Undecided>
+        requires can { Under (S.known env.now) (λ triples. CanTry (regtest self.now.params triples) self.now) }
         requires place { place ≤ length self.now.state.blocks }
         requires coins { B.coins base.now ≡ coins_of self.now }
-        ensures { IfOk result (λ attempt.
-            IsAttempt (regtest self.now.params env.now.table.now) self.now.state.blocks
-            self.now.active place attempt) }
+        ensures attempt { IfOk result (λ attempt.
+            Under (S.known env.now) (λ triples. IsAttempt (regtest self.now.params triples) self.now.state.blocks
+            self.now.active place attempt)) }
+        ensures wants { IfErr result (IsUndecided (IsWantedByABlock (S.known env.now))) }
     {
         let active_branch = ActiveBranch {
             tree: &self.tree,

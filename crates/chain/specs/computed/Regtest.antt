@@ -11,7 +11,7 @@ use Rattle.locks.specs.MedianTime.{is_middle, median_of}
 use Rattle.std.specs.FinSet.{empty}
 use Rattle.rules.specs.declared.params.Params.{Params}
 use Rattle.rules.specs.Params as rules
-use Rattle.rules.specs.Height.{height_push}
+use Rattle.rules.specs.Context.{height_push}
 use Rattle.tree.specs.MedianTime.{median_time_past}
 use Rattle.tree.specs.Names.{names}
 use Rattle.chain.specs.Regtest.{setting_on, regtest}

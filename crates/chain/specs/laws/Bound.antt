@@ -6,8 +6,7 @@ use Rattle.txn.specs.declared.reason.Reason.{Reason}
 use Rattle.txn.specs.First.{first_broken}
 use Rattle.block.specs.Reward.{subsidy_of}
 use Rattle.curve.specs.Triple.{Triples}
-use Rattle.coins.specs.Coins.{Coins}
-use Rattle.coins.specs.Total.{total}
+use Rattle.coins.specs.Coins.{Coins, total}
 use Rattle.coins.specs.laws.Totals.{total-empty}
 use Rattle.rules.specs.declared.params.Params.{Params}
 use Rattle.connect.specs.Setting.{Setting}

@@ -16,7 +16,7 @@ use Rattle.chain.specs.Context.{first_fault}
 use Rattle.chain.specs.Submission.{submit_says, kept_blocks, outcome_by_fault, outcome_of_submission}
 use Rattle.chain.specs.Step.{Request, Submit, Invalidate, Reconsider, Precious, mark_says, outcome_of_invalidate, outcome_of_reconsider, outcome_of_precious, step, state_after_requests}
 use Rattle.chain.specs.Settled.{AllKept}
-use Rattle.chain.specs.inside.Faults.{IdsAreKeptOnce}
+use Rattle.chain.specs.Faults.{IdsAreKeptOnce}
 use Rattle.chain.specs.laws.Steps.{faultless-alone, faultless-parent}
 
 kept_or-not : (p : ℕ) → ◌≡◌ {A = Option ℕ} (Some p) None → ⊥

@@ -14,7 +14,7 @@ use Rattle.tree.specs.laws.Added.{better_there, usable_there, usable_new}
 use Rattle.chain.specs.Rules.{Rules}
 use Rattle.chain.specs.Valid.{fault, connects, branch_connects, first_to_fail}
 use Rattle.chain.specs.Settle.{active, is_candidate, settle}
-use Rattle.chain.specs.inside.Try.{fails_on, passes_on, state_after_try}
+use Rattle.chain.specs.Try.{fails_on, passes_on, state_after_try}
 use Rattle.chain.specs.Settled.{IsSettled}
 use Rattle.chain.specs.laws.Actives.{active_is, active_only, active_kept, active_usable, active_valid, can_from, can_gives}
 use Rattle.chain.specs.laws.Candidates.{valid_gives, valid_from, never_fails, candidate_gives, candidate_from}

@@ -20,7 +20,7 @@ use Rattle.chain.specs.Context.{fault_on, first_fault}
 use Rattle.chain.specs.Submission.{Outcome, submit_says, reply_by_reason, kept_blocks, answer_known, answer_added, outcome_of_added, outcome_by_fault, outcome_of_submission}
 use Rattle.chain.specs.Step.{Request, Submit, Invalidate, Reconsider, Precious, mark_says, outcome_of_invalidate, outcome_of_reconsider, outcome_of_precious, step, state_after_requests}
 use Rattle.chain.specs.Settled.{IsSettled}
-use Rattle.chain.specs.inside.Faults.{IsNew}
+use Rattle.chain.specs.Faults.{IsNew}
 use Rattle.chain.specs.laws.Actives.{active_kept, valid-genesis}
 use Rattle.chain.specs.laws.Settled.{bad_in-order, settle_twice, genesis-settle, active-settle, settled_where}
 use Rattle.chain.specs.laws.Ordinary.{fault_own, active-tip, settle-tip, active_tip-fails, settle_tip-fails, active-beside, settle-beside}

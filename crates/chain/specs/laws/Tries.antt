@@ -12,7 +12,7 @@ use Rattle.tree.specs.laws.Marks.{usable_gives, bad-flagged, better-flagged, usa
 use Rattle.chain.specs.Rules.{Rules}
 use Rattle.chain.specs.Valid.{branch_connects, first_to_fail}
 use Rattle.chain.specs.Settle.{active, is_candidate, on_candidate, becomes_seen, becomes_bad, settle}
-use Rattle.chain.specs.inside.Try.{fails_on, passes_on, state_after_try}
+use Rattle.chain.specs.Try.{fails_on, passes_on, state_after_try}
 use Rattle.chain.specs.laws.Actives.{active_is, active_only, can_from, can_gives, valid-genesis}
 use Rattle.chain.specs.laws.Candidates.{same_first, never_fails, first_failure, candidate_gives, candidate_from, on_candidate_gives, on_candidate_from}
 

@@ -16,7 +16,7 @@ use Rattle.script.specs.Kinds.{is_unspendable}
 use Rattle.coins.specs.declared.coin.Coin.{Coin}
 use Rattle.coins.specs.Coins.{Coins, outpoint_cmp, same}
 use Rattle.coins.specs.laws.Lookups.{entry_for}
-use Rattle.undo.specs.Effect.{place, spends, spendable, coin_of, makes, without, after}
+use Rattle.undo.specs.Effect.{outpoint_at, spends, spendable, coin_of, makes, without, after}
 use Rattle.undo.specs.laws.Effects.{get-without, get-with_coins}
 use Rattle.undo.specs.laws.Undoing.{once-makes}
 use Rattle.rules.specs.declared.params.Params.{Params}
@@ -64,7 +64,7 @@ each_made height coinbase id k [] paid = tt
 each_made height coinbase id k (o ∷ outputs) paid = at (is_unspendable o.script) (each_made height coinbase id (k + 1) outputs paid.1)
   where
     at : (never : Bool) → EachMade (map (λ x. (x.0, coin_of height coinbase x.1)) (spendable id (k + 1) outputs))
-        → EachMade (map (λ x. (x.0, coin_of height coinbase x.1)) (cond never [] ((place id k, o) ∷ []) ++ spendable id (k + 1) outputs))
+        → EachMade (map (λ x. (x.0, coin_of height coinbase x.1)) (cond never [] ((outpoint_at id k, o) ∷ []) ++ spendable id (k + 1) outputs))
     at true h = h
     at false h = (paid.0, h)
 

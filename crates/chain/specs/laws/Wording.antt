@@ -9,8 +9,8 @@ use Rattle.tree.specs.laws.Branches.{on-bounds, on-itself, on_chain, on_trans, o
 use Rattle.chain.specs.Rules.{Rules}
 use Rattle.chain.specs.Valid.{branch_connects, first_to_fail}
 use Rattle.chain.specs.Settle.{on_candidate, becomes_seen, becomes_bad}
-use Rattle.chain.specs.inside.Try.{fails_on, passes_on}
-use Rattle.chain.specs.inside.Faults.{IsFirstFault, Passes, OfCandidate}
+use Rattle.chain.specs.Try.{fails_on, passes_on}
+use Rattle.chain.specs.Faults.{IsFirstFault, Passes, OfCandidate}
 use Rattle.chain.specs.laws.Candidates.{below_first, same_first, first_failure, valid_from, valid_below, never_fails, on_candidate_gives, on_candidate_from}
 
 module _ {B I : Type 0} (r : Rules B I) (t : Blocks B) (c : ℕ) where

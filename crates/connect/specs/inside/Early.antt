@@ -5,7 +5,8 @@ use Rattle.std.specs.Map.{lookup}
 use Rattle.std.specs.BTreeMap.{is_at}
 use Rattle.hash.specs.declared.id.Id.{Id}
 use Rattle.txn.specs.declared.tx.Tx.{Tx}
-use Rattle.connect.specs.Early.{id_cmp, with_id}
+use Rattle.hash.specs.Id.{id_cmp}
+use Rattle.connect.specs.Early.{with_id}
 
 -- the entries are places among all transactions of the last of those before, by their ids
 abbrev pub ArePlaces : List Tx → List Tx → List (Id × ℕ) → Type 0

@@ -14,7 +14,7 @@ use Rattle.rules.specs.Alone.{begins_with_coinbase}
 use Rattle.txn.specs.Identity.{id_of}
 use Rattle.coins.specs.declared.coin.Coin.{Coin}
 use Rattle.coins.specs.Coins.{Coins}
-use Rattle.undo.specs.Effect.{place, spends, IsApplicable}
+use Rattle.undo.specs.Effect.{outpoint_at, spends, IsApplicable}
 use Rattle.connect.specs.Setting.{Setting}
 use Rattle.connect.specs.Turns.{Turn, turn, turns, effect, undo_of, spent_in, left_by, full_count}
 use Rattle.connect.specs.Faults.{has_coin, overwrites, fees, reward_of, turn_rules, connect_rules}
@@ -64,7 +64,7 @@ unfolding overwrites
 applies s t lawful h = record {
   coins = all_there t.coins (spends t.tx) (is_there s t h);
   once = lawful.once;
-  new = λ index below. none_among t.coins (place (id_of t.tx)) 0 (length t.tx.outputs) index (cleared s t h).new (omega arith) (omega (arith, below));
+  new = λ index below. none_among t.coins (outpoint_at (id_of t.tx)) 0 (length t.tx.outputs) index (cleared s t h).new (omega arith) (omega (arith, below));
   numbered = omega (arith, lawful.outputs);
 }
 

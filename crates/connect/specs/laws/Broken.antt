@@ -6,7 +6,7 @@ use Rattle.txn.specs.First.{Rules, first_broken}
 use Rattle.rules.specs.Alone.{max_block_sigops}
 use Rattle.connect.specs.Setting.{Setting}
 use Rattle.connect.specs.Turns.{Turn, plain_count, full_count}
-use Rattle.connect.specs.Faults.{overwrites, is_missing, is_early, pays_too_much, is_locked, turn_rules}
+use Rattle.connect.specs.Faults.{overwrites, is_missing, spends_immature, pays_too_much, is_locked, turn_rules}
 
 pub skip : (b : Bool) (r : Reason) (rs : Rules) → b ≡ false → first_broken ((b, r) ∷ rs) ≡ first_broken rs
 skip b r rs e = ap (λ x. cond x (Some r) (first_broken rs)) e
@@ -46,7 +46,7 @@ module _ (s : Setting) (t : Turn) where
   from_amount = (pays_too_much t, InputsBelowOutputs) ∷ from_locked
 
   abbrev from_early : Rules
-  from_early = (is_early s t, PrematureCoinbaseSpend) ∷ from_amount
+  from_early = (spends_immature s t, PrematureCoinbaseSpend) ∷ from_amount
 
   abbrev from_missing : Rules
   from_missing = (is_missing t, InputsMissingOrSpent) ∷ from_early
@@ -58,7 +58,7 @@ module _ (s : Setting) (t : Turn) where
 
   pub record UpToAge : Type 0 where
     pub coins : UpToCoins
-    pub aged : is_early s t ≡ false
+    pub aged : spends_immature s t ≡ false
 
   pub record UpToAmount : Type 0 where
     pub age : UpToAge
@@ -88,11 +88,11 @@ module _ (s : Setting) (t : Turn) where
   unfolding turn_rules
   past_coins h = skip plain TooManySigops from_missing h.plain ∙ skip (is_missing t) InputsMissingOrSpent from_early h.there
 
-  pub at_early : UpToCoins → is_early s t ≡ true → first_broken (turn_rules s t) ≡ Some PrematureCoinbaseSpend
-  at_early h e = past_coins h ∙ stop (is_early s t) PrematureCoinbaseSpend from_amount e
+  pub at_early : UpToCoins → spends_immature s t ≡ true → first_broken (turn_rules s t) ≡ Some PrematureCoinbaseSpend
+  at_early h e = past_coins h ∙ stop (spends_immature s t) PrematureCoinbaseSpend from_amount e
 
   past_age : UpToAge → first_broken (turn_rules s t) ≡ first_broken from_amount
-  past_age h = past_coins h.coins ∙ skip (is_early s t) PrematureCoinbaseSpend from_amount h.aged
+  past_age h = past_coins h.coins ∙ skip (spends_immature s t) PrematureCoinbaseSpend from_amount h.aged
 
   pub at_amount : UpToAge → pays_too_much t ≡ true → first_broken (turn_rules s t) ≡ Some InputsBelowOutputs
   at_amount h e = past_age h ∙ stop (pays_too_much t) InputsBelowOutputs from_locked e
@@ -123,12 +123,12 @@ module _ (s : Setting) (t : Turn) where
   cleared h =
       let h1 = tail_clear plain TooManySigops from_missing h in
       let h2 = tail_clear (is_missing t) InputsMissingOrSpent from_early h1 in
-      let h3 = tail_clear (is_early s t) PrematureCoinbaseSpend from_amount h2 in
+      let h3 = tail_clear (spends_immature s t) PrematureCoinbaseSpend from_amount h2 in
       let h4 = tail_clear (pays_too_much t) InputsBelowOutputs from_locked h3 in
       let h5 = tail_clear (is_locked s t) NonFinal from_full h4 in
       let h6 = tail_clear full TooManySigops last h5 in
       let coins : UpToCoins = record { plain = head_clear plain TooManySigops from_missing h; there = head_clear (is_missing t) InputsMissingOrSpent from_early h1 } in
-      let age : UpToAge = record { coins = coins; aged = head_clear (is_early s t) PrematureCoinbaseSpend from_amount h2 } in
+      let age : UpToAge = record { coins = coins; aged = head_clear (spends_immature s t) PrematureCoinbaseSpend from_amount h2 } in
       let amount : UpToAmount = record { age = age; enough = head_clear (pays_too_much t) InputsBelowOutputs from_locked h3 } in
       let locks : UpToLocks = record { amount = amount; unlocked = head_clear (is_locked s t) NonFinal from_full h4 } in
       let count : UpToCount = record { locks = locks; few = head_clear full TooManySigops last h5 } in

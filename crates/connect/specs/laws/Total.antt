@@ -19,11 +19,10 @@ use Rattle.rules.specs.Alone.{begins_with_coinbase, alone_rules}
 use Rattle.txn.specs.Identity.{id_of}
 use Rattle.script.specs.Kinds.{is_unspendable}
 use Rattle.coins.specs.declared.coin.Coin.{Coin}
-use Rattle.coins.specs.Coins.{Coins, same}
-use Rattle.coins.specs.Total.{sum_of_values, total}
+use Rattle.coins.specs.Coins.{Coins, same, sum_of_values, total}
 use Rattle.coins.specs.laws.Totals.{total-insert, total-remove}
-use Rattle.undo.specs.Effect.{place, spends, spendable, coin_of, makes, without, with_coins, after, coins_at, spent_coins}
-use Rattle.undo.specs.inside.Reverting.{AreCoins, AreNew}
+use Rattle.undo.specs.Effect.{outpoint_at, spends, spendable, coin_of, makes, without, with_coins, after, coins_at, spent_coins}
+use Rattle.undo.specs.laws.Reverting.{AreCoins, AreNew}
 use Rattle.undo.specs.laws.Effects.{other_kept, coins_next, new_next}
 use Rattle.undo.specs.laws.Undoing.{are_coins, are_new}
 use Rattle.connect.specs.Setting.{Setting}
@@ -78,7 +77,7 @@ made_at_most height b id k [] h = omega (arith, ints)
 made_at_most height b id k (o ∷ os) h = at (is_unspendable o.script) (made_at_most height b id (k + 1) os h.1)
   where
     at : (u : Bool) → values_of (map (λ o. (o.0, coin_of height b o.1)) (spendable id (k + 1) os)) ≤ℤ paid os
-        → values_of (map (λ o. (o.0, coin_of height b o.1)) (cond u [] ((place id k, o) ∷ []) ++ spendable id (k + 1) os)) ≤ℤ paid (o ∷ os)
+        → values_of (map (λ o. (o.0, coin_of height b o.1)) (cond u [] ((outpoint_at id k, o) ∷ []) ++ spendable id (k + 1) os)) ≤ℤ paid (o ∷ os)
     at true r = omega (arith, ints, h.0, paid_next o os)
     at false r = omega (arith, ints, paid_next o os)
 

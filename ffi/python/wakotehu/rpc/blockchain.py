@@ -146,13 +146,13 @@ def gettxout(node: Node, txid: Any, n: Any, include_mempool: Any) -> Optional[Ob
     id, index = digits(txid, "txid"), integer(n)
     if include_mempool is not None:
         boolean(include_mempool)
-    coin = node.bench.coin(id, index) if index >= 0 else None
-    if coin is None:
+    found = node.bench.unspent(id, index) if index >= 0 else None
+    if found is None:
         return None
-    tip = node.tip()
+    coin = found.coin
     return {
-        "bestblock": show(tip.id),
-        "confirmations": tip.height - coin.height + 1,
+        "bestblock": show(found.best),
+        "confirmations": found.confirmations,
         "value": Amount(coin.value),
         "scriptPubKey": shown(coin.script),
         "coinbase": coin.coinbase,
@@ -235,7 +235,8 @@ def gettxoutsetinfo(node: Node, hash_type: Any) -> Object:
     kind = "hash_serialized_2" if hash_type is None else text(hash_type)
     if kind not in ("hash_serialized_2", "none"):
         raise RpcError(INVALID_PARAMETER, f"{shortened(kind)} is not a valid hash_type")
-    tip, coins = node.tip(), sorted(node.bench.coins(), key=lambda it: it[:2])
+    coins = sorted(node.bench.coins(), key=lambda it: it[:2])
+    tip = node.tip()
     found: Object = {
         "height": tip.height,
         "bestblock": show(tip.id),

@@ -4,10 +4,11 @@
 import fcntl
 import os
 import re
-from typing import BinaryIO, List, NamedTuple, Optional, Tuple
+from typing import BinaryIO, List, NamedTuple, Optional, Set, Tuple, Union
 
 from ..bench import Bench
 from ..chainstate import read_id, show
+from ..pool import Pool
 from .node import Saver
 
 MAGIC = bytes.fromhex("fabfb5da")
@@ -34,7 +35,8 @@ class Folder(Saver):
     def __init__(self, path: str, sync: bool = False) -> None:
         self.path, self.sync = path, sync
         self._files: List[BinaryIO] = []
-        self._saved_table = b""
+        #: How many bytes of the table are saved.
+        self._saved = 0
         self._steps = 0
         os.makedirs(path, mode=0o700, exist_ok=True)
         self._lock = self._open(".lock")
@@ -64,16 +66,28 @@ class Folder(Saver):
             raise BadFolder(f"{self.path} was made with the heights {saved}, not {given}")
         return saved
 
-    def table(self) -> bytes:
-        """The valid signatures. A line that wasn't written whole is taken away."""
+    def table(self, given: Optional[bytes] = None) -> bytes:
+        """The valid signatures. A line that wasn't written whole is taken away. Those that are given are those that the
+        folder has; in a new one they are written."""
         with self._open("table.txt") as file:
-            self._saved_table = file.read()
-            whole = self._saved_table.rfind(b"\n") + 1
-            self._saved_table = self._saved_table[:whole]
-            file.truncate(whole)
-        return self._saved_table
+            saved = file.read()
+            self._saved = saved.rfind(b"\n") + 1
+            saved = saved[: self._saved]
+            file.truncate(self._saved)
+        if given is not None and _lines(given) != _lines(saved):
+            if saved or self._has_steps():
+                raise BadFolder(f"{self.path} was made with another table")
+            saved = given if given.endswith(b"\n") else given + b"\n"
+            with self._open("table.txt") as file:
+                file.write(saved)
+            self._saved = len(saved)
+        return saved
 
-    def replay(self, bench: Bench) -> int:
+    def _has_steps(self) -> bool:
+        with self._open("journal.txt") as file:
+            return file.read(1) != b""
+
+    def replay(self, bench: Union[Bench, Pool]) -> int:
         """Takes all commands of the folder again, and answers how many. From then on commands are added."""
         journal, blocks, table = self._open("journal.txt"), self._open("blocks.blk"), self._open("table.txt")
         self._files = [journal, blocks, table]
@@ -90,17 +104,17 @@ class Folder(Saver):
             if reply != step.reply:
                 raise BadFolder(f"journal.txt line {self._steps}: {step.reply!r} was answered, and {reply!r} now")
             place += len(line)
-        for file, end in ((journal, place), (blocks, blocks.tell()), (table, len(self._saved_table))):
+        for file, end in ((journal, place), (blocks, blocks.tell()), (table, self._saved)):
             file.truncate(end)
             file.seek(end)
         return self._steps
 
-    def after(self, bench: Bench, command: str, id: bytes, data: bytes, now: int, reply: str) -> None:
+    def after(self, bench: Union[Bench, Pool], command: str, id: bytes, data: bytes, now: int, reply: str) -> None:
         journal, blocks, table = self._files
         self._steps += 1
-        if bench.table != self._saved_table:
-            self._write(table, bench.table[len(self._saved_table) :])
-            self._saved_table = bench.table
+        if bench.table_size > self._saved:
+            self._write(table, bench.table_from(self._saved))
+            self._saved = bench.table_size
         if command == "submit":
             self._write(blocks, MAGIC + len(data).to_bytes(4, "little") + data)
         words = f"{command} {show(id)}{f' {now}' if command == 'submit' else ''}"
@@ -115,6 +129,10 @@ class Folder(Saver):
     def close(self) -> None:
         for file in (*self._files, self._lock):
             file.close()
+
+
+def _lines(table: bytes) -> Set[bytes]:
+    return {line.strip() for line in table.splitlines()} - {b""}
 
 
 def _step(line: str, place: int) -> Step:

@@ -142,6 +142,8 @@ class Server(socketserver.TCPServer):
     def __init__(self, host: str, port: int, gate: Gate, answer: Callable[[bytes], Tuple[int, bytes]]) -> None:
         self.gate, self.answer = gate, answer
         self.stopping: Callable[[], bool] = lambda: False
+        #: Called by a connection's thread as it ends.
+        self.left: Callable[[], None] = lambda: None
         self._lock = threading.Lock()
         # The connections that wait for a request, the one that waits longest first; and those that had one.
         self._waiting: "OrderedDict[socket.socket, None]" = OrderedDict()
@@ -179,6 +181,7 @@ class Server(socketserver.TCPServer):
             pass  # The client is gone, or was too slow.
         finally:
             self._ended(request)
+            self.left()
 
     def _ended(self, request: socket.socket) -> None:
         with self._lock:

@@ -27,7 +27,8 @@ def submitblock(node: Node, hexdata: Any, dummy: Any) -> Optional[str]:
     data = hexadecimal(hexdata, "Block decode failed")
     try:
         # As Bitcoin Core does: what is left over isn't looked at.
-        spelled = block_at_front(data)
+        with node.others():
+            spelled = block_at_front(data)
     except EncodingError:
         raise RpcError(DESERIALIZATION_ERROR, "Block decode failed")
     first = spelled.block.transactions[:1]
@@ -79,7 +80,7 @@ def _made(node: Node, script: bytes, transactions: Sequence[Transaction]) -> byt
     tip = node.tip()
     height = tip.height + 1
     # What no coinbase before had, so that two blocks of one parent differ.
-    extra = len(node.bench.journal).to_bytes(4, "little")
+    extra = node.bench.fresh().to_bytes(4, "little")
     made = coinbase(height, subsidy(height) + _fees(node, transactions), script, extra)
     # Cut to 32 bits, as Bitcoin Core does: a block that is too old then.
     when = max(tip.median + 1, node.now())
@@ -104,9 +105,11 @@ def _generate(node: Node, count: int, script: bytes) -> List[str]:
         raise RpcError(MISC_ERROR, f"no more than {MAX_BLOCKS} blocks by one call")
     found = []
     for _ in range(count):
-        block = _made(node, script, ())
-        reply = node.submit(block_at_front(block))
-        if reply.reply != "accepted":
+        with node.making():
+            block = _made(node, script, ())
+            reply = node.submit(block_at_front(block))
+        # Beside another call's block it may be kept on a branch of its own, as at Bitcoin Core.
+        if reply.reply not in ("accepted", "inconclusive"):
             raise RpcError(MISC_ERROR, f"ProcessNewBlock, block not accepted: {reply.text}")
         found.append(show(double_sha(block[:80])))
     return found
@@ -142,11 +145,11 @@ def generateblock(node: Node, output: Any, transactions: Any, submit: Any) -> Ob
     script = output_script(text(output))
     made = [_raw_transaction(raw) for raw in array(transactions)]
     wanted = True if submit is None else boolean(submit)
-    block = _made(node, script, made)
-    if wanted:
-        reply = node.submit(block_at_front(block))
-        if reply.reply not in ("accepted", "inconclusive"):
-            raise RpcError(VERIFY_ERROR, f"TestBlockValidity failed: {reply.text}")
+    with node.making():
+        block = _made(node, script, made)
+        reply = node.submit(block_at_front(block)) if wanted else None
+    if reply and reply.reply not in ("accepted", "inconclusive"):
+        raise RpcError(VERIFY_ERROR, f"TestBlockValidity failed: {reply.text}")
     found = {"hash": show(double_sha(block[:80]))}
     return found if wanted else {**found, "hex": block.hex()}
 

@@ -2,19 +2,22 @@
 
 import threading
 import time
-from typing import Any, Callable, Dict, List, NamedTuple, Optional, Tuple
+from contextlib import contextmanager
+from typing import Any, Callable, Dict, Iterator, List, NamedTuple, Optional, Tuple, Union
 
 from ..bench import Bench
 from ..chainstate import Reply
-from ..encoding import GENESIS, GENESIS_BLOCK, Spelled, Transaction, double_sha
+from ..encoding import GENESIS, GENESIS_BLOCK, Spelled, Transaction
+from ..errors import NodeDied, Owed
 from ..index import Kept
+from ..pool import Pool
 from .errors import INVALID_ADDRESS_OR_KEY, INVALID_PARAMETER, METHOD_NOT_FOUND, MISC_ERROR, RpcError
 
 
 class Saver:
     """Who is told of each command. This one does nothing."""
 
-    def after(self, bench: Bench, command: str, id: bytes, data: bytes, now: int, reply: str) -> None:
+    def after(self, bench: Union[Bench, Pool], command: str, id: bytes, data: bytes, now: int, reply: str) -> None:
         """After a command was taken as a step."""
 
     def close(self) -> None:
@@ -22,10 +25,11 @@ class Saver:
 
 
 class Node:
-    """A bench that calls are made on, one at a time."""
+    """A bench that calls are made on: one at a time at a `Bench`, beside one another at a `Pool`."""
 
-    def __init__(self, bench: Bench, saver: Optional[Saver] = None) -> None:
+    def __init__(self, bench: Union[Bench, Pool], saver: Optional[Saver] = None) -> None:
         self.bench = bench
+        bench.taken = self._took
         self.saver = saver or Saver()
         self.mocked = 0
         self.started = time.time()
@@ -33,8 +37,52 @@ class Node:
         #: How long the server goes on after `stop`, in seconds.
         self.pause = 0.0
         self.broken = ""
+        self._is_making = False
         #: Held by the call that runs; told when the best block changes, and at the end.
-        self.turn = threading.Condition()
+        self.turn = bench.turn if isinstance(bench, Pool) else threading.Condition()
+
+    @contextmanager
+    def others(self) -> Iterator[None]:
+        """Lets other calls run meanwhile."""
+        self.turn.release()
+        try:
+            yield
+        finally:
+            self.turn.acquire()
+
+    @contextmanager
+    def making(self) -> Iterator[None]:
+        """One call at a time makes a block, so that each stands on the one before."""
+        while self._is_making:
+            self.turn.wait()
+        self._is_making = True
+        try:
+            yield
+        finally:
+            self._is_making = False
+            self.turn.notify_all()
+
+    def leave(self) -> None:
+        """This thread makes no more calls."""
+        if isinstance(self.bench, Pool):
+            with self.turn:
+                self.bench.leave()
+
+    def close(self) -> None:
+        """Ends it: what was begun is saved."""
+        with self.turn:
+            self.stopped = True
+            if isinstance(self.bench, Pool):
+                self.bench.settle()
+            self.saver.close()
+
+    def fail(self, why: str) -> RpcError:
+        """Ends it for a fault, which is answered from now on."""
+        if not self.broken:
+            self.broken = f"A fatal internal error occurred: {why}"
+        self.stopped = True
+        self.turn.notify_all()
+        return RpcError(MISC_ERROR, self.broken)
 
     def now(self) -> int:
         return self.mocked or int(time.time())
@@ -43,28 +91,22 @@ class Node:
 
     def submit(self, spelled: Spelled) -> Reply:
         """Submits a block."""
-        now = self.now()
-        data = spelled.data
-        reply = self.bench.try_submit_spelled(spelled, now)
-        if reply.reply != "decode-failed":
-            self._took("submit", double_sha(data[:80]), data, now, reply.text)
-        return reply
+        return self.bench.try_submit_spelled(spelled, self.now())
 
     def mark(self, command: str, id: bytes) -> Reply:
         """Marks a block."""
-        reply = self.bench.try_mark(command, id)
-        self._took(command, id, b"", 0, reply.text)
-        return reply
+        return self.bench.try_mark(command, id)
 
     def _took(self, command: str, id: bytes, data: bytes, now: int, reply: str) -> None:
+        """Saves a step, in the order of the steps, before it is answered."""
         self.turn.notify_all()
+        if self.broken:
+            raise RpcError(MISC_ERROR, self.broken)
         try:
             self.saver.after(self.bench, command, id, data, now, reply)
         except OSError as error:
             # As bitcoind does where its disk takes no more: what was answered before is saved, and no more is taken.
-            self.broken = f"A fatal internal error occurred: a command can't be saved: {error}"
-            self.stopped = True
-            raise RpcError(MISC_ERROR, self.broken)
+            raise self.fail(f"a command can't be saved: {error}")
 
     # ---- reads
 
@@ -164,6 +206,8 @@ def run(node: Node, method: str, params: Any) -> Any:
             return found.run(node, *found.arguments(params))
         except RpcError:
             raise
+        except (NodeDied, Owed) as error:
+            raise node.fail(f"{type(error).__name__}: {error}")
         except Exception as error:
             # Whatever goes wrong is answered, as Bitcoin Core does with exceptions of C++.
             raise RpcError(MISC_ERROR, f"{type(error).__name__}: {error}") from error

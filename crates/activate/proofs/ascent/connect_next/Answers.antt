@@ -17,6 +17,8 @@ use Rattle.activate.specs.CoreState.{branch_blocks}
 use Rattle.activate.specs.laws.Climbing.{length-parent, setting_under, fault-next, undo-next, coins-next, medians-next}
 use Rattle.chain.specs.laws.Kept.{alone-at}
 use Rattle.chain.specs.laws.Medians.{length-medians}
+use Rattle.std.proofs.lemmas.Result.{err_from_is_err_and}
+use Rattle.activate.proofs.Wanted.{wanted_by_it}
 use Rattle.activate.proofs.ascent.connect_next.Goals as goal
 
 -- there is a median below
@@ -29,39 +31,47 @@ some t p medians l z e =
 
 pub overflow_sub-context : goal.overflow_sub-context
 overflow_sub-context g c =
+    let triples = g.S.RunsScripts.agreeing c.args.env.now in
+    let agrees = g.met.S.RunsScripts.agrees c.args.env.now in
     let t = c.args.tree.now.blocks in
     let p = c.args.place in
     let up = height-parent t p c.requires.above c.requires.place in
-    some t p c.as_slice-below.result.now (length-parent c.args.params.now c.args.env.now.table.now t p c.requires.above c.requires.place) (omega arith) (c.as_slice-below.ensures.value ∙ c.requires.medians)
+    some t p c.as_slice-below.result.now (length-parent c.args.params.now triples t p c.requires.above c.requires.place) (omega arith) (c.as_slice-below.ensures.value ∙ c.requires.medians)
 
 pub bounds-below-below : goal.bounds-below-below
 bounds-below-below g c =
+    let triples = g.S.RunsScripts.agreeing c.args.env.now in
+    let agrees = g.met.S.RunsScripts.agrees c.args.env.now in
     let t = c.args.tree.now.blocks in
     let p = c.args.place in
     let up = height-parent t p c.requires.above c.requires.place in
-    let s = some t p c.as_slice-below.result.now (length-parent c.args.params.now c.args.env.now.table.now t p c.requires.above c.requires.place) (omega arith) (c.as_slice-below.ensures.value ∙ c.requires.medians) in
+    let s = some t p c.as_slice-below.result.now (length-parent c.args.params.now triples t p c.requires.above c.requires.place) (omega arith) (c.as_slice-below.ensures.value ∙ c.requires.medians) in
     omega arith
 
-pub connect_in_layer-requires-clause-alone : goal.connect_in_layer-requires-clause-alone
-connect_in_layer-requires-clause-alone g c =
+pub connect_in_layer_by-requires-clause-alone : goal.connect_in_layer_by-requires-clause-alone
+connect_in_layer_by-requires-clause-alone g c =
+    let triples = g.S.RunsScripts.agreeing c.args.env.now in
+    let agrees = g.met.S.RunsScripts.agrees c.args.env.now in
     ap (λ (b : Block). first_broken (alone_rules b)) (c.in_ok-block.ensures ∙ c.block.ensures)
-    ∙ alone-at (regtest c.args.params.now c.args.env.now.table.now) c.args.tree.now.blocks c.args.place c.requires.kept c.requires.above c.requires.place
+    ∙ alone-at (regtest c.args.params.now triples) c.args.tree.now.blocks c.args.place (c.requires.kept triples agrees) c.requires.above c.requires.place
 
 pub returns-in-Ok-clause-fault : goal.returns-in-Ok-clause-fault
-returns-in-Ok-clause-fault g c =
+returns-in-Ok-clause-fault g c triples agrees =
     let params = c.args.params.now in
-    let triples = c.args.env.now.table.now in
+    let triples = triples in
     let s = setting_under params c.height_of.result c.as_slice-below.result.now in
     let m = c.args.layer.coins in
     let txs = c.in_ok-block.block.txs in
-    (fault-found s m txs triples None).0 (subst (λ a. IsConnectFault s m txs triples (result_err a)) c.in-Ok.is c.in_ok-done.ensures.fault)
+    (fault-found s m txs triples None).0 (subst (λ a. IsConnectFault s m txs triples (result_err a)) c.in-Ok.is (c.in_ok-done.ensures.fault triples agrees))
     ∙ fault-next params triples c.args.tree.now.blocks c.args.place c.requires.above c.requires.place c.height_of.result m c.in_ok-block.block c.height_of.ensures c.requires.coins (c.in_ok-block.ensures ∙ c.block.ensures)
     c.as_slice-below.result.now (c.as_slice-below.ensures.value ∙ c.requires.medians)
 
 pub returns-in-Ok-clause-undo : goal.returns-in-Ok-clause-undo
 returns-in-Ok-clause-undo g c =
+    let triples = g.S.RunsScripts.agreeing c.args.env.now in
+    let agrees = g.met.S.RunsScripts.agrees c.args.env.now in
     let params = c.args.params.now in
-    let triples = c.args.env.now.table.now in
+    let triples = triples in
     let s = setting_under params c.height_of.result c.as_slice-below.result.now in
     let m = c.args.layer.coins in
     let done = subst (λ a. IfOk a (λ (d : Layer × List (List Coin)). IsConnected s m c.in_ok-block.block d.0.coins d.1)) c.in-Ok.is c.in_ok-done.ensures.connected in
@@ -70,8 +80,10 @@ returns-in-Ok-clause-undo g c =
 
 pub returns-in-Ok-clause-coins : goal.returns-in-Ok-clause-coins
 returns-in-Ok-clause-coins g c =
+    let triples = g.S.RunsScripts.agreeing c.args.env.now in
+    let agrees = g.met.S.RunsScripts.agrees c.args.env.now in
     let params = c.args.params.now in
-    let triples = c.args.env.now.table.now in
+    let triples = triples in
     let s = setting_under params c.height_of.result c.as_slice-below.result.now in
     let m = c.args.layer.coins in
     let done = subst (λ a. IfOk a (λ (d : Layer × List (List Coin)). IsConnected s m c.in_ok-block.block d.0.coins d.1)) c.in-Ok.is c.in_ok-done.ensures.connected in
@@ -80,8 +92,10 @@ returns-in-Ok-clause-coins g c =
 
 pub returns-in-Ok-clause-medians : goal.returns-in-Ok-clause-medians
 returns-in-Ok-clause-medians g c =
+    let triples = g.S.RunsScripts.agreeing c.args.env.now in
+    let agrees = g.met.S.RunsScripts.agrees c.args.env.now in
     let params = c.args.params.now in
-    let triples = c.args.env.now.table.now in
+    let triples = triples in
     let t = c.args.tree.now.blocks in
     c.in_ok-push-in-Ok.ensures.items
     ∙ ap (λ (l : List ℕ). l ++ c.median.result ∷ []) c.requires.medians
@@ -89,13 +103,13 @@ returns-in-Ok-clause-medians g c =
     ∙ sym (medians-next t c.args.place c.requires.above c.requires.place)
 
 pub returns-clause-fault : goal.returns-clause-fault
-returns-clause-fault g c =
+returns-clause-fault g c triples agrees =
     let params = c.args.params.now in
-    let triples = c.args.env.now.table.now in
+    let triples = triples in
     let s = setting_under params c.height_of.result c.as_slice-below.result.now in
     let m = c.args.layer.coins in
     let txs = c.in_ok-block.block.txs in
-    (fault-found s m txs triples (Some c.in-Err.reason)).0 (subst (λ a. IsConnectFault s m txs triples (result_err a)) c.in-Err.is c.in_ok-done.ensures.fault)
+    (fault-found s m txs triples (Some c.in-Err.reason)).0 (subst (λ a. IsConnectFault s m txs triples (result_err a)) c.in-Err.is (c.in_ok-done.ensures.fault triples agrees))
     ∙ fault-next params triples c.args.tree.now.blocks c.args.place c.requires.above c.requires.place c.height_of.result m c.in_ok-block.block c.height_of.ensures c.requires.coins (c.in_ok-block.ensures ∙ c.block.ensures)
     c.as_slice-below.result.now (c.as_slice-below.ensures.value ∙ c.requires.medians)
 
@@ -106,3 +120,8 @@ returns-in-Ok-clause-base g c =
     let txs = c.in_ok-block.block.txs in
     let done = subst (λ a. IfOk a (λ (d : Layer × List (List Coin)). ◌≡◌ {A = Layer} d.0 (record c.args.layer { coins = effect h m txs }))) c.in-Ok.is c.in_ok-done.ensures.coins in
     ap (λ (l : Layer). l.base) done
+
+pub returns-in_err-done-clause-wants : goal.returns-in_err-done-clause-wants
+returns-in_err-done-clause-wants g c =
+    let passed = err_from_is_err_and c.from_residual-in_err-done.result c.from_residual-in_err-done.ensures.1 in
+    rw (passed.1, passed.2) (wanted_by_it _ _ _ _ _ c.in_err-done.ensures.stops)

@@ -42,9 +42,8 @@ connect_next-requires-clause-medians g c =
     c.loop-passed.invariant.medians ∙ ap (λ (p : ℕ). reverse (medians_of (branch_blocks t p))) (sym n.parent)
 
 pub returns-in-Err-clause-stops : goal.returns-in-Err-clause-stops
-returns-in-Err-clause-stops g c =
+returns-in-Err-clause-stops g c triples agrees =
     let params = c.args.params.now in
-    let triples = c.args.env.now.table.now in
     let t = c.args.tree.now.blocks in
     let f = c.args.path.now.fork in
     let up = c.as_slice-up.result.now in
@@ -52,8 +51,8 @@ returns-in-Err-clause-stops g c =
     let x = get_or up (length up - 1 - passed) 0 in
     let w = subst (LeadsUp t f) (sym c.as_slice-up.ensures.value) c.requires.path in
     let n = is-next t f up w passed c.loop-passed-test.true x refl in
-    let v = ap (branch_connects (regtest params triples) t) n.parent ∙ c.loop-passed.invariant.good in
-    let e : fault (regtest params triples) t x ≡ Some c.in-Err.reason = sym c.in_ok-left.ensures.fault ∙ ap result_err c.in-Err.is in
+    let v = ap (branch_connects (regtest params triples) t) n.parent ∙ c.loop-passed.invariant.good triples agrees in
+    let e : fault (regtest params triples) t x ≡ Some c.in-Err.reason = sym (c.in_ok-left.ensures.fault triples agrees) ∙ ap result_err c.in-Err.is in
     record {
       front = reverse (drop (length up - passed) up);
       place = x;
@@ -70,7 +69,6 @@ returns-in-Err-clause-stops g c =
 pub loop-passed-preserved : goal.loop-passed-preserved
 loop-passed-preserved g c =
     let params = c.args.params.now in
-    let triples = c.args.env.now.table.now in
     let t = c.args.tree.now.blocks in
     let f = c.args.path.now.fork in
     let up = c.as_slice-up.result.now in
@@ -85,14 +83,14 @@ loop-passed-preserved g c =
     let coins = subst (λ a. IfOk a (λ (d : Layer × List (List Coin)). d.0.coins ≡ coins_after t x)) c.in-Ok.is c.in_ok-left.ensures.coins in
     let base = subst (λ a. IfOk a (λ (d : Layer × List (List Coin)). d.0.base ≡ c.loop-passed.layer.base)) c.in-Ok.is c.in_ok-left.ensures.base in
     let medians = subst (λ a. OnOk a (c.connect_next.new.medians.items ≡ reverse (medians_of (branch_blocks t x)))) c.in-Ok.is c.in_ok-left.ensures.medians in
-    let good = valid-next params triples t x n.above_genesis n.kept (ap (branch_connects (regtest params triples) t) n.parent ∙ i.good) (sym c.in_ok-left.ensures.fault ∙ ap result_err c.in-Ok.is) in
     record {
       spent = c.in_ok-push-in-Ok.ensures.items
           ∙ ap (λ (l : List (List (List Coin))). l ++ c.in-Ok.spent ∷ []) i.spent
           ∙ ap (λ (u : List (List Coin)). reverse (map (undo_at t) (drop (length up - passed) up)) ++ u ∷ []) spent
           ∙ sym (reverse-append (undo_at t x ∷ []) (map (undo_at t) (drop (length up - passed) up)))
           ∙ ap (λ (l : List ℕ). reverse (map (undo_at t) l)) (sym more);
-      good = ap (branch_connects (regtest params triples) t) top ∙ good;
+      good = λ triples agrees. ap (branch_connects (regtest params triples) t) top
+          ∙ valid-next params triples t x n.above_genesis n.kept (ap (branch_connects (regtest params triples) t) n.parent ∙ i.good triples agrees) (sym (c.in_ok-left.ensures.fault triples agrees) ∙ ap result_err c.in-Ok.is);
       coins = coins ∙ ap (coins_after t) (sym top);
       medians = medians ∙ ap (λ (p : ℕ). reverse (medians_of (branch_blocks t p))) (sym top);
       base = base ∙ i.base;

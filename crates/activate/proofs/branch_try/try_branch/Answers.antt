@@ -59,8 +59,10 @@ err_part P r x e h = subst (λ a. IfErr a P) e h
 
 pub disconnect_to_fork-requires-clause-connected : goal.disconnect_to_fork-requires-clause-connected
 disconnect_to_fork-requires-clause-connected g c =
-    were-connected c.args.active_branch.now.params.now c.args.env.now.table.now c.args.active_branch.now.tree.now.blocks c.args.active_branch.now.active
-    c.requires.active c.requires.kept c.requires.good
+    let triples = g.S.RunsScripts.agreeing c.args.env.now in
+    let agrees = g.met.S.RunsScripts.agrees c.args.env.now in
+    were-connected c.args.active_branch.now.params.now triples c.args.active_branch.now.tree.now.blocks c.args.active_branch.now.active
+    c.requires.active (c.requires.kept triples agrees) (c.requires.good triples agrees)
 
 pub overflow_add-path : goal.overflow_add-path
 overflow_add-path g c = let few = c.in_ok-path.ensures.few in omega arith
@@ -76,9 +78,9 @@ connect_up-requires-clause-path g c =
     leads-up c.args.active_branch.now.tree.now.blocks c.args.active_branch.now.active c.args.place c.in_ok-path.path c.in_ok-path.ensures.path c.requires.place
 
 pub connect_up-requires-clause-good : goal.connect_up-requires-clause-good
-connect_up-requires-clause-good g c =
-    valid_below (regtest c.args.active_branch.now.params.now c.args.env.now.table.now) c.args.active_branch.now.tree.now.blocks c.args.active_branch.now.active
-    c.in_ok-path.path.fork c.requires.good c.in_ok-path.ensures.path.shared.here
+connect_up-requires-clause-good g c triples agrees =
+    valid_below (regtest c.args.active_branch.now.params.now triples) c.args.active_branch.now.tree.now.blocks c.args.active_branch.now.active
+    c.in_ok-path.path.fork (c.requires.good triples agrees) c.in_ok-path.ensures.path.shared.here
 
 pub connect_up-requires-clause-medians : goal.connect_up-requires-clause-medians
 connect_up-requires-clause-medians g c =
@@ -86,14 +88,14 @@ connect_up-requires-clause-medians g c =
     ∙ ap (take (c.in_ok-path.path.height + 1)) c.requires.branch.medians_are
     ∙ shared c.args.active_branch.now.tree.now.blocks c.args.active_branch.now.active c.args.place c.in_ok-path.path c.in_ok-path.ensures.path c.requires.active
 
-pub returns-in-Ok : goal.returns-in-Ok
-returns-in-Ok g c =
+pub returns-in-Ok-clause-attempt : goal.returns-in-Ok-clause-attempt
+returns-in-Ok-clause-attempt g c triples agrees =
     let t = c.args.active_branch.now.tree.now.blocks in
     let a = c.args.active_branch.now.active in
-    let r = regtest c.args.active_branch.now.params.now c.args.env.now.table.now in
+    let r = regtest c.args.active_branch.now.params.now triples in
     let path = c.in_ok-path.path in
     let w = c.in_ok-path.ensures.path in
-    let top : IsTop r t path.fork path.up.items c.in-Ok.ascent.undo.items c.in-Ok.ascent.layer.coins = ok_part _ _ _ c.in-Ok.is c.in_ok-ascent.ensures.top in
+    let top : IsTop r t path.fork path.up.items c.in-Ok.ascent.undo.items c.in-Ok.ascent.layer.coins = ok_part _ _ _ c.in-Ok.is c.in_ok-ascent.ensures.top triples agrees in
     let e = leads t a c.args.place path w c.requires.place in
     let after : c.in-Ok.ascent.layer.coins ≡ coins_after t c.args.place = top.left ∙ ap (coins_after t) e in
     let below : c.in-Ok.ascent.layer.base ≡ coins_after t a = ok_part _ _ _ c.in-Ok.is c.in_ok-ascent.ensures.base ∙ c.in_ok-layer.ensures.base ∙ c.over.ensures.below ∙ c.requires.coins in
@@ -107,13 +109,13 @@ returns-in-Ok g c =
       laid = ap (λ (x : Coins). after_changes x c.into_changes-changes.result) (sym below) ∙ c.into_changes-changes.ensures.laid ∙ after;
     }
 
-pub returns-in-Err : goal.returns-in-Err
-returns-in-Err g c =
+pub returns-in-Err-clause-attempt : goal.returns-in-Err-clause-attempt
+returns-in-Err-clause-attempt g c triples agrees =
     let t = c.args.active_branch.now.tree.now.blocks in
-    let r = regtest c.args.active_branch.now.params.now c.args.env.now.table.now in
+    let r = regtest c.args.active_branch.now.params.now triples in
     let path = c.in_ok-path.path in
     let w = c.in_ok-path.ensures.path in
-    let stop : IsStop r t (top_of path.fork path.up.items) path.up.items c.in-Err.stop.passed c.in-Err.stop.reason = err_part _ _ _ c.in-Err.is c.in_ok-ascent.ensures.stops in
+    let stop : IsStop r t (top_of path.fork path.up.items) path.up.items c.in-Err.stop.passed c.in-Err.stop.reason = err_part _ _ _ c.in-Err.is c.in_ok-ascent.ensures.stops triples agrees in
     record {
       path = w;
       stop = subst (λ (q : ℕ). IsStop r t q path.up.items c.in-Err.stop.passed c.in-Err.stop.reason) (leads t c.args.active_branch.now.active c.args.place path w c.requires.place) stop;

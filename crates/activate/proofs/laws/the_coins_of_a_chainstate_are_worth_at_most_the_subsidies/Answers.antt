@@ -1,7 +1,6 @@
 use Rattle.std.proofs.Common.{pos, ◌≤ℤ◌, sym, ap, ◌∙◌, subst}
 use Rattle.block.specs.Reward.{subsidy_of}
-use Rattle.coins.specs.Coins.{Coins}
-use Rattle.coins.specs.Total.{total}
+use Rattle.coins.specs.Coins.{Coins, total}
 use Rattle.tree.specs.Branches.{height}
 use Rattle.chain.specs.Settle.{active}
 use Rattle.chain.specs.Total.{subsidies}

@@ -5,20 +5,27 @@ use Rattle.coins.specs.Coins.{Coins}
 use Rattle.connect.specs.Setting.{setting}
 use Rattle.connect.specs.Scripts.{IsConnectFault}
 use Rattle.connect.specs.laws.Scripts.{fault-found}
+use Rattle.std.proofs.lemmas.Result.{err_from_is_err_and}
+use Rattle.activate.proofs.Wanted.{wanted_by_it}
 use Rattle.activate.proofs.tip_connection.connect_tip.Goals as goal
 
 pub returns-in-Err-clause-fault : goal.returns-in-Err-clause-fault
-returns-in-Err-clause-fault g c =
+returns-in-Err-clause-fault g c triples agrees =
     let coins : Coins = g.B.Base.coins c.args.base.now in
     let found : Option Reason = result_err c.in_ok-reason.field-0 in
     ap (λ r. result_err r) (sym c.in-Err.is)
-    ∙ (fault-found (setting c.args.context.now) coins c.args.block.now.txs c.args.env.now.table.now found).0
-    (subst (λ (m : Coins). IsConnectFault (setting c.args.context.now) m c.args.block.now.txs c.args.env.now.table.now found) c.over-layer.ensures.coins c.in_ok-reason.ensures.fault)
+    ∙ (fault-found (setting c.args.context.now) coins c.args.block.now.txs triples found).0
+    (subst (λ (m : Coins). IsConnectFault (setting c.args.context.now) m c.args.block.now.txs triples found) c.over-layer.ensures.coins (c.in_ok-reason.ensures.fault triples agrees))
 
 pub returns-in-Ok-clause-fault : goal.returns-in-Ok-clause-fault
-returns-in-Ok-clause-fault g c =
+returns-in-Ok-clause-fault g c triples agrees =
     let coins : Coins = g.B.Base.coins c.args.base.now in
     let found : Option Reason = result_err c.in_ok-reason.field-0 in
     ap (λ r. result_err r) (sym c.in-Ok.is)
-    ∙ (fault-found (setting c.args.context.now) coins c.args.block.now.txs c.args.env.now.table.now found).0
-    (subst (λ (m : Coins). IsConnectFault (setting c.args.context.now) m c.args.block.now.txs c.args.env.now.table.now found) c.over-layer.ensures.coins c.in_ok-reason.ensures.fault)
+    ∙ (fault-found (setting c.args.context.now) coins c.args.block.now.txs triples found).0
+    (subst (λ (m : Coins). IsConnectFault (setting c.args.context.now) m c.args.block.now.txs triples found) c.over-layer.ensures.coins (c.in_ok-reason.ensures.fault triples agrees))
+
+pub returns-in_err-reason-clause-wants : goal.returns-in_err-reason-clause-wants
+returns-in_err-reason-clause-wants g c =
+    let passed = err_from_is_err_and c.from_residual.result c.from_residual.ensures.1 in
+    rw (passed.1, passed.2) (wanted_by_it _ _ _ _ _ c.in_err-reason.ensures.stops)

@@ -1,6 +1,6 @@
 use Rattle.std.proofs.Common.{arith}
 use Rattle.std.proofs.lemmas.Int.{ints}
-use Rattle.coins.specs.Total.{total}
+use Rattle.coins.specs.Coins.{total}
 use Rattle.block.specs.Reward.{subsidy_of}
 use Rattle.tree.specs.Branches.{height}
 use Rattle.tree.specs.State.{opening}

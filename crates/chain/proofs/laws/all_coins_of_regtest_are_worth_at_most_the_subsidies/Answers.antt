@@ -1,4 +1,4 @@
-use Rattle.coins.specs.Total.{total}
+use Rattle.coins.specs.Coins.{total}
 use Rattle.block.specs.Reward.{subsidy_of}
 use Rattle.chain.specs.Regtest.{ledger, regtest}
 use Rattle.chain.specs.laws.Bound.{bounded}

@@ -1,5 +1,5 @@
 use Rattle.block.specs.Reward.{subsidy_of}
-use Rattle.coins.specs.Total.{total}
+use Rattle.coins.specs.Coins.{total}
 use Rattle.tree.specs.State.{opening}
 use Rattle.chain.specs.Settle.{active}
 use Rattle.chain.specs.Commands.{state_after_commands}

@@ -1,7 +1,7 @@
 use Rattle.std.proofs.Common.{◌≡◌, ◌+◌, List, drop, ap, ◌+ℤ◌, arith}
 use Rattle.std.proofs.lemmas.Int.{ints}
 use Rattle.coins.specs.declared.coin.Coin.{Coin}
-use Rattle.coins.specs.Total.{sum_of_values}
+use Rattle.coins.specs.Coins.{sum_of_values}
 use Rattle.connect.proofs.Steps.{drop_item}
 use Rattle.connect.proofs.amounts.worth.Goals as goal
 

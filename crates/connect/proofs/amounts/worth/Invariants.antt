@@ -1,5 +1,5 @@
 use Rattle.std.proofs.Common.{◌≡◌, ◌*◌, drop, pos, neg_ℤ, ◌≤ℤ◌, ◌+ℤ◌}
-use Rattle.coins.specs.Total.{sum_of_values}
+use Rattle.coins.specs.Coins.{sum_of_values}
 use Rattle.connect.proofs.amounts.worth.Given as goal
 
 abbrev pub invariant-loop-coin : goal.invariant-loop-coin

@@ -12,7 +12,8 @@ use Rattle.txn.specs.declared.tx.Tx.{Tx}
 use Rattle.txn.specs.Identity.{id_of}
 use Rattle.queue.specs.Jobs.{Spending, Batch, tx_at}
 use Rattle.connect.specs.Scripts.{flags_of}
-use Rattle.connect.specs.Early.{id_cmp, early_inputs, early_spendings}
+use Rattle.hash.specs.Id.{id_cmp}
+use Rattle.connect.specs.Early.{early_inputs, early_spendings}
 use Rattle.connect.specs.inside.Early.{ArePlaces}
 use Rattle.connect.proofs.Steps.{take_item}
 use Rattle.connect.proofs.EarlyInputs.{numbered_next, with_more, places_next, places_none}

@@ -1,6 +1,6 @@
 -- The session that was in the slot is the one that takes the step.
-use Rattle.std.proofs.Common.{inl, refl, subst}
-use Rattle.ffi.specs.Answers.{IsTaken}
+use Rattle.std.proofs.Common.{inl, inr, refl, subst}
+use Rattle.ffi.specs.Answers.{IsNotTaken, IsTaken}
 use Rattle.ffi.proofs.exports.step.Goals as goal
 
 pub returns-in-Ok : goal.returns-in-Ok
@@ -20,4 +20,15 @@ returns-in-Ok c =
           input_is = c.as_told.ensures.input;
         };
       }),
+    ))
+
+pub returns-in-Err : goal.returns-in-Err
+returns-in-Err c =
+    rw c.in-Some.ensures.value (inr (
+      subst (λ t. IsNotTaken t c.put.new.slot.kept.value c.in-Err.code) c.deref_mut.ensures.value (record {
+        next = _;
+        after_is = c.put.ensures;
+        step_is = c.in-Err.ensures.refused;
+      }),
+      refl,
     ))

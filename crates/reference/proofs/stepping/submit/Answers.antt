@@ -10,7 +10,7 @@ use Rattle.chain.specs.declared.reply.SubmitReply.{SubmitReply}
 use Rattle.chain.specs.Context.{first_fault}
 use Rattle.chain.specs.Submission.{Outcome, submit_says, answer_known}
 use Rattle.chain.specs.Step.{Submit, step}
-use Rattle.chain.specs.inside.Faults.{IsNew}
+use Rattle.chain.specs.Faults.{IsNew}
 use Rattle.reference.specs.inside.Replayed.{chain_rules, state_of_replayed}
 use Rattle.chain.specs.laws.Steps.{step-known, step-full, step-faulty, step-added, faultless-alone}
 use Rattle.reference.proofs.States.{count}

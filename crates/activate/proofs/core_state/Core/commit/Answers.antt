@@ -10,7 +10,7 @@ use Rattle.tree.specs.State.{State}
 use Rattle.activate.specs.declared.prepared.Completion.{Completion}
 use Rattle.activate.specs.declared.prepared.Completion.TheVariants.{Activate}
 use Rattle.rules.specs.declared.params.Params.{Params}
-use Rattle.chain.specs.inside.Try.{state_after_try}
+use Rattle.chain.specs.Try.{state_after_try}
 use Rattle.activate.specs.inside.Preparation.{IsReady, IsValidPath, core_after_commit, undo_after}
 use Rattle.chain.specs.Regtest.{regtest}
 use Rattle.activate.specs.CoreState.{CoreState}

@@ -1,55 +1,25 @@
-use Rattle.std.proofs.Common.{◌≡◌, ℕ, List, Option, Some, None, sym, ap, ◌∙◌, subst}
-use Rattle.std.specs.Option.{option_copied}
-use Rattle.block.specs.Decoding.{block_of_bytes}
-use Rattle.activate.specs.declared.prepared.Prepared.{Prepared}
-use Rattle.chain.specs.declared.reply.Reply.TheVariants as reply
-use Rattle.chain.specs.declared.reply.SubmitReply.TheVariants.{DecodeFailed}
-use Rattle.chain.specs.declared.submission.SubmittedBlock.{SubmittedBlock}
-use Rattle.chain.specs.Commands.{outcome}
-use Rattle.chain.specs.Prepared.{command_of}
-use Rattle.chain.specs.Submitted.{IsSubmission}
-use Rattle.activate.specs.inside.Preparation.{IsPreparationFor}
-use Rattle.chain.specs.Regtest.{regtest}
-use Rattle.activate.specs.CoreState.{CoreState}
-use Rattle.chain.specs.laws.Outcomes.{submitted, refused, invalidates, reconsiders, prefers}
-use Rattle.activate.proofs.Planned.{if_ok, plan-still}
+use Rattle.std.proofs.Common.{◌≡◌, Some, None, refl, sym, subst}
+use Rattle.std.specs.FinSet as set
+use Rattle.curve.specs.Triple.{Triple, Triples}
+use Rattle.curve.specs.laws.Growth.{table-alone}
+use Rattle.queue.specs.Jobs.{IsUndecided}
+use Rattle.queue.specs.laws.Undecided.{none_unknown}
+use Rattle.activate.specs.CoreState.{Follows, IsWantedByABlock}
+use Rattle.activate.proofs.Wanted.{wanted_unknown}
 use Rattle.activate.proofs.core_state.Core.prepare.Goals as goal
 
--- what a submission holds says what its bytes spell
-told : (bytes : List ℕ) (held held' : Option SubmittedBlock) → IsSubmission bytes held → held ≡ held' → IsSubmission bytes held'
-told bytes held held' is e = subst (IsSubmission bytes) e is
+pub prepare_by-requires-clause-follows : goal.prepare_by-requires-clause-follows
+prepare_by-requires-clause-follows g c triples agrees =
+    let table : Triples = c.args.env.now.table.now in
+    subst (λ (t : Triples). Follows c.args.self.now t) (sym ((table-alone table triples).0 agrees)) c.requires.follows
 
-pub returns-in-Some-clause-prepared : goal.returns-in-Some-clause-prepared
-returns-in-Some-clause-prepared g c =
-    let a : CoreState = c.args.self.now in
-    let r = regtest a.params c.args.env.now.table.now in
-    let e : block_of_bytes c.in-Submit.submission ≡ Some c.in-Some.submitted.now.block = (told c.in-Submit.submission _ _ c.block.ensures (ap option_copied c.in-Some.is)).0 in
-    if_ok c.prepare_block.result
-    (λ (prepared : Prepared) x. subst (λ t. IsPreparationFor r a t c.prepare_block.new.self prepared) (submitted r a.state c.in-Submit.submission c.in-Submit.now c.in-Some.submitted.now.block e ∙ ap (λ k. outcome r a.state (command_of k)) (sym c.in-Submit.is)) x)
-    c.prepare_block.ensures.prepared
+pub returns-in-Ok-clause-prepared : goal.returns-in-Ok-clause-prepared
+returns-in-Ok-clause-prepared g c =
+    let table : Triples = c.args.env.now.table.now in
+    c.in-Ok.ensures.prepared table ((table-alone table table).1 refl)
 
-pub returns-in-None-clause-prepared : goal.returns-in-None-clause-prepared
-returns-in-None-clause-prepared g c =
-    let a : CoreState = c.args.self.now in
-    let r = regtest a.params c.args.env.now.table.now in
-    let e : block_of_bytes c.in-Submit.submission ≡ None = told c.in-Submit.submission _ None c.block.ensures (ap option_copied c.in-None.is) in
-    plan-still r a (reply.Submit DecodeFailed) c.still.result (outcome r a.state (command_of c.args.command.now)) c.requires.follows.active_is c.still.ensures
-    (refused r a.state c.in-Submit.submission c.in-Submit.now e ∙ ap (λ k. outcome r a.state (command_of k)) (sym c.in-Submit.is))
-
-pub returns-in-Invalidate-clause-prepared : goal.returns-in-Invalidate-clause-prepared
-returns-in-Invalidate-clause-prepared g c =
-    let a : CoreState = c.args.self.now in
-    let r = regtest a.params c.args.env.now.table.now in
-    if_ok c.prepare_invalidate.result (λ (prepared : Prepared) x. subst (λ t. IsPreparationFor r a t c.prepare_invalidate.new.self prepared) (invalidates r a.state c.in-Invalidate.id ∙ ap (λ k. outcome r a.state (command_of k)) (sym c.in-Invalidate.is)) x) c.prepare_invalidate.ensures.prepared
-
-pub returns-in-Reconsider-clause-prepared : goal.returns-in-Reconsider-clause-prepared
-returns-in-Reconsider-clause-prepared g c =
-    let a : CoreState = c.args.self.now in
-    let r = regtest a.params c.args.env.now.table.now in
-    if_ok c.prepare_reconsider.result (λ (prepared : Prepared) x. subst (λ t. IsPreparationFor r a t c.prepare_reconsider.new.self prepared) (reconsiders r a.state c.in-Reconsider.id ∙ ap (λ k. outcome r a.state (command_of k)) (sym c.in-Reconsider.is)) x) c.prepare_reconsider.ensures.prepared
-
-pub returns-in-Precious-clause-prepared : goal.returns-in-Precious-clause-prepared
-returns-in-Precious-clause-prepared g c =
-    let a : CoreState = c.args.self.now in
-    let r = regtest a.params c.args.env.now.table.now in
-    if_ok c.prepare_precious.result (λ (prepared : Prepared) x. subst (λ t. IsPreparationFor r a t c.prepare_precious.new.self prepared) (prefers r a.state c.in-Precious.id ∙ ap (λ k. outcome r a.state (command_of k)) (sym c.in-Precious.is)) x) c.prepare_precious.ensures.prepared
+pub unreachable-requires : goal.unreachable-requires
+unreachable-requires g c =
+    let table : Triples = c.args.env.now.table.now in
+    let Wanted : Triple → Type 0 = IsWantedByABlock (λ t. Some (set.contains table t)) in
+    none_unknown table Wanted (λ t wanted. wanted_unknown (λ t. Some (set.contains table t)) t wanted) c.in-Err-Unknown.field-0-0.items (subst (IsUndecided Wanted) c.in-Err-Unknown.field-0-is c.in-Err-Unknown.ensures.wants)

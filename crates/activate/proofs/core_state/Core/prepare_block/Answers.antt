@@ -3,7 +3,7 @@ use Rattle.std.specs.Result.{result_err}
 use Rattle.block.specs.declared.block.Block.{Block}
 use Rattle.block.specs.Identity.{id_of}
 use Rattle.curve.specs.Triple.{Triples}
-use Rattle.chain.specs.inside.Faults.{IsNew}
+use Rattle.chain.specs.Faults.{IsNew}
 use Rattle.tree.specs.Branches.{place_of}
 use Rattle.tree.specs.Limits.{max_blocks}
 use Rattle.tree.specs.Names.{names}
@@ -27,39 +27,39 @@ known-requires g c =
     place-bound names a.state.blocks (id_of c.args.submitted.now.block.header) c.in-Some.place found
 
 pub returns-in-Some-clause-prepared : goal.returns-in-Some-clause-prepared
-returns-in-Some-clause-prepared g c =
+returns-in-Some-clause-prepared g c triples agrees =
     let a : CoreState = c.args.self.now in
-    let r = regtest a.params c.args.env.now.table.now in
+    let r = regtest a.params triples in
     let found : place_of names a.state.blocks (id_of c.args.submitted.now.block.header) ≡ Some c.in-Some.place = subst (λ (x : CoreState). place_of names x.state.blocks (id_of c.args.submitted.now.block.header) ≡ Some c.in-Some.place) c.self.view_is
     (ap (place_of names c.self.inside.tree.blocks) (sym c.requires.submission.1.id) ∙ sym c.find.ensures ∙ c.in-Some.is) in
-    plan-still r a (reply.Submit c.known.result) c.still.result (step r a.state (Submit c.args.now c.args.submitted.now.block)) c.requires.follows.active_is c.still.ensures
+    plan-still r a (reply.Submit c.known.result) c.still.result (step r a.state (Submit c.args.now c.args.submitted.now.block)) (c.requires.follows triples agrees).active_is c.still.ensures
     (ap (submit_says a.state) (c.known.ensures r) ∙ sym (step-known r a.state c.args.now c.args.submitted.now.block c.in-Some.place found))
 
 pub returns-then-len-ge-MAX_BLOCKS-clause-prepared : goal.returns-then-len-ge-MAX_BLOCKS-clause-prepared
-returns-then-len-ge-MAX_BLOCKS-clause-prepared g c =
+returns-then-len-ge-MAX_BLOCKS-clause-prepared g c triples agrees =
     let a : CoreState = c.args.self.now in
-    let r = regtest a.params c.args.env.now.table.now in
+    let r = regtest a.params triples in
     let none : place_of names a.state.blocks (id_of c.args.submitted.now.block.header) ≡ None = subst (λ (x : CoreState). place_of names x.state.blocks (id_of c.args.submitted.now.block.header) ≡ None) c.self.view_is
     (ap (place_of names c.self.inside.tree.blocks) (sym c.requires.submission.1.id) ∙ sym c.find.ensures ∙ c.in_default.is) in
     let t = c.if-len-ge-MAX_BLOCKS.true in
     let e = c.len.ensures.count in
     let full : max_blocks ≤ suc (length c.self.inside.tree.blocks) = omega arith in
-    plan-still r a (reply.Submit TreeFull) c.still-then-len-ge-MAX_BLOCKS.result (step r a.state (Submit c.args.now c.args.submitted.now.block)) c.requires.follows.active_is c.still-then-len-ge-MAX_BLOCKS.ensures
+    plan-still r a (reply.Submit TreeFull) c.still-then-len-ge-MAX_BLOCKS.result (step r a.state (Submit c.args.now c.args.submitted.now.block)) (c.requires.follows triples agrees).active_is c.still-then-len-ge-MAX_BLOCKS.ensures
     (sym (step-full r a.state c.args.now c.args.submitted.now.block none (subst (λ (x : CoreState). max_blocks ≤ suc (length x.state.blocks)) c.self.view_is full)))
 
 pub returns-in-Err-clause-prepared : goal.returns-in-Err-clause-prepared
-returns-in-Err-clause-prepared g c =
+returns-in-Err-clause-prepared g c triples agrees =
     let a : CoreState = c.args.self.now in
-    let r = regtest a.params c.args.env.now.table.now in
+    let r = regtest a.params triples in
     let none : place_of names a.state.blocks (id_of c.args.submitted.now.block.header) ≡ None = subst (λ (x : CoreState). place_of names x.state.blocks (id_of c.args.submitted.now.block.header) ≡ None) c.self.view_is
     (ap (place_of names c.self.inside.tree.blocks) (sym c.requires.submission.1.id) ∙ sym c.find.ensures ∙ c.in_default.is) in
     let t = c.if-len-ge-MAX_BLOCKS.false in
     let e = c.len.ensures.count in
     let room : suc (length c.self.inside.tree.blocks) < max_blocks = omega arith in
-    let inside : first_fault (regtest c.self.inside.params c.args.env.now.table.now) c.self.inside.tree c.args.now c.args.submitted.now.block ≡ Some c.in-Err.reason =
-    sym (subst (λ o. result_err o ≡ first_fault (regtest c.self.inside.params c.args.env.now.table.now) c.self.inside.tree c.args.now c.args.submitted.now.block) c.in-Err.is (c.fault_or_parent.ensures.fault c.args.env.now.table.now)) in
-    let fault : first_fault r a.state c.args.now c.args.submitted.now.block ≡ Some c.in-Err.reason = subst (λ (x : CoreState). first_fault (regtest x.params c.args.env.now.table.now) x.state c.args.now c.args.submitted.now.block ≡ Some c.in-Err.reason) c.self.view_is inside in
-    plan-still r a (reply.Submit (Rejected c.in-Err.reason)) c.still-in-Err.result (step r a.state (Submit c.args.now c.args.submitted.now.block)) c.requires.follows.active_is c.still-in-Err.ensures
+    let inside : first_fault (regtest c.self.inside.params triples) c.self.inside.tree c.args.now c.args.submitted.now.block ≡ Some c.in-Err.reason =
+    sym (subst (λ o. result_err o ≡ first_fault (regtest c.self.inside.params triples) c.self.inside.tree c.args.now c.args.submitted.now.block) c.in-Err.is (c.fault_or_parent.ensures.fault triples)) in
+    let fault : first_fault r a.state c.args.now c.args.submitted.now.block ≡ Some c.in-Err.reason = subst (λ (x : CoreState). first_fault (regtest x.params triples) x.state c.args.now c.args.submitted.now.block ≡ Some c.in-Err.reason) c.self.view_is inside in
+    plan-still r a (reply.Submit (Rejected c.in-Err.reason)) c.still-in-Err.result (step r a.state (Submit c.args.now c.args.submitted.now.block)) (c.requires.follows triples agrees).active_is c.still-in-Err.ensures
     (sym (step-faulty r a.state c.args.now c.args.submitted.now.block c.in-Err.reason none (subst (λ (x : CoreState). suc (length x.state.blocks) < max_blocks) c.self.view_is room) fault))
 
 -- a block is to be kept, if what was found inside says so
@@ -74,17 +74,35 @@ prepare_beside-requires-clause-new g c =
     let t = c.if-len-ge-MAX_BLOCKS.false in
     let e = c.len.ensures.count in
     let none : place_of names c.self.inside.tree.blocks (id_of c.args.submitted.now.block.header) ≡ None = ap (place_of names c.self.inside.tree.blocks) (sym c.requires.submission.1.id) ∙ sym c.find.ensures ∙ c.in_default.is in
-    let faultless : first_fault (regtest c.self.inside.params c.args.env.now.table.now) c.self.inside.tree c.args.now c.args.submitted.now.block ≡ None = sym (c.in-Ok.ensures.fault c.args.env.now.table.now) in
-    (c.args.now, new-inside _ _ c.args.env.now.table.now c.args.now c.in-Ok.parent c.args.submitted.now.block c.self.view_is none (omega arith) faultless c.in-Ok.ensures.parent)
+    let room : suc (length c.self.inside.tree.blocks) < max_blocks = omega arith in
+    (c.args.now, λ triples agrees. new-inside _ _ triples c.args.now c.in-Ok.parent c.args.submitted.now.block c.self.view_is none room (sym (c.in-Ok.ensures.fault triples)) c.in-Ok.ensures.parent)
 
 pub prepare_on_tip-requires-clause-new : goal.prepare_on_tip-requires-clause-new
 prepare_on_tip-requires-clause-new g c =
     let t = c.if-len-ge-MAX_BLOCKS.false in
     let e = c.len.ensures.count in
     let none : place_of names c.self.inside.tree.blocks (id_of c.args.submitted.now.block.header) ≡ None = ap (place_of names c.self.inside.tree.blocks) (sym c.requires.submission.1.id) ∙ sym c.find.ensures ∙ c.in_default.is in
-    let faultless : first_fault (regtest c.self.inside.params c.args.env.now.table.now) c.self.inside.tree c.args.now c.args.submitted.now.block ≡ None = sym (c.in-Ok.ensures.fault c.args.env.now.table.now) in
+    let room : suc (length c.self.inside.tree.blocks) < max_blocks = omega arith in
     let tip : c.in-Ok.parent ≡ c.args.self.now.active = c.if-parent-self.true ∙ ap (λ (x : CoreState). x.active) c.self.view_is in (
       c.args.now,
-      subst (λ (p : ℕ). IsNew (regtest c.args.self.now.params c.args.env.now.table.now) c.args.self.now.state c.args.now c.args.submitted.now.block p) tip
-          (new-inside _ _ c.args.env.now.table.now c.args.now c.in-Ok.parent c.args.submitted.now.block c.self.view_is none (omega arith) faultless c.in-Ok.ensures.parent),
+      λ triples agrees. subst (λ (p : ℕ). IsNew (regtest c.args.self.now.params triples) c.args.self.now.state c.args.now c.args.submitted.now.block p) tip
+          (new-inside _ _ triples c.args.now c.in-Ok.parent c.args.submitted.now.block c.self.view_is none room (sym (c.in-Ok.ensures.fault triples)) c.in-Ok.ensures.parent),
     )
+
+pub returns-in-Ok-clause-prepared : goal.returns-in-Ok-clause-prepared
+returns-in-Ok-clause-prepared g c =
+    let t = c.if-len-ge-MAX_BLOCKS.false in
+    let e = c.len.ensures.count in
+    let none : place_of names c.self.inside.tree.blocks (id_of c.args.submitted.now.block.header) ≡ None = ap (place_of names c.self.inside.tree.blocks) (sym c.requires.submission.1.id) ∙ sym c.find.ensures ∙ c.in_default.is in
+    let room : suc (length c.self.inside.tree.blocks) < max_blocks = omega arith in
+    let tip : c.in-Ok.parent ≡ c.args.self.now.active = c.if-parent-self.true ∙ ap (λ (x : CoreState). x.active) c.self.view_is in
+    c.prepare_on_tip.ensures.prepared c.args.now (λ triples agrees. subst (λ (p : ℕ). IsNew (regtest c.args.self.now.params triples) c.args.self.now.state c.args.now c.args.submitted.now.block p) tip
+    (new-inside _ _ triples c.args.now c.in-Ok.parent c.args.submitted.now.block c.self.view_is none room (sym (c.in-Ok.ensures.fault triples)) c.in-Ok.ensures.parent))
+
+pub returns-in-Ok-2-clause-prepared : goal.returns-in-Ok-2-clause-prepared
+returns-in-Ok-2-clause-prepared g c =
+    let t = c.if-len-ge-MAX_BLOCKS.false in
+    let e = c.len.ensures.count in
+    let none : place_of names c.self.inside.tree.blocks (id_of c.args.submitted.now.block.header) ≡ None = ap (place_of names c.self.inside.tree.blocks) (sym c.requires.submission.1.id) ∙ sym c.find.ensures ∙ c.in_default.is in
+    let room : suc (length c.self.inside.tree.blocks) < max_blocks = omega arith in
+    c.prepare_beside.ensures.prepared c.args.now (λ triples agrees. new-inside _ _ triples c.args.now c.in-Ok.parent c.args.submitted.now.block c.self.view_is none room (sym (c.in-Ok.ensures.fault triples)) c.in-Ok.ensures.parent)

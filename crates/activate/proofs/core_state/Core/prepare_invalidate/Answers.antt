@@ -19,18 +19,18 @@ use Rattle.chain.specs.laws.Findings.{invalidate_done}
 use Rattle.activate.proofs.core_state.Core.prepare_invalidate.Goals as goal
 
 pub returns-in-None-clause-prepared : goal.returns-in-None-clause-prepared
-returns-in-None-clause-prepared g c =
+returns-in-None-clause-prepared g c triples agrees =
     let a : CoreState = c.args.self.now in
-    let r = regtest a.params c.args.env.now.table.now in
+    let r = regtest a.params triples in
     let none : place_of names a.state.blocks c.args.id.now ≡ None = subst (λ (x : CoreState). place_of names x.state.blocks c.args.id.now ≡ None) c.self.view_is (sym c.find.ensures ∙ c.in-None.is) in
-    plan-still r a (reply.Mark NotFound) c.still.result (step r a.state (Invalidate c.args.id.now)) c.requires.follows.active_is c.still.ensures (sym (step_not-found r a.state c.args.id.now none).0)
+    plan-still r a (reply.Mark NotFound) c.still.result (step r a.state (Invalidate c.args.id.now)) (c.requires.follows triples agrees).active_is c.still.ensures (sym (step_not-found r a.state c.args.id.now none).0)
 
 pub returns-in-Some-eq0-clause-prepared : goal.returns-in-Some-eq0-clause-prepared
-returns-in-Some-eq0-clause-prepared g c =
+returns-in-Some-eq0-clause-prepared g c triples agrees =
     let a : CoreState = c.args.self.now in
-    let r = regtest a.params c.args.env.now.table.now in
+    let r = regtest a.params triples in
     let zero : place_of names a.state.blocks c.args.id.now ≡ Some 0 = subst (λ (x : CoreState). place_of names x.state.blocks c.args.id.now ≡ Some 0) c.self.view_is (sym c.find.ensures ∙ c.in-Some-eq0.is ∙ ap (λ (p : ℕ). Some p) c.in-Some-eq0.field-0-test) in
-    plan-still r a (reply.Mark Genesis) c.still-in-Some-eq0.result (step r a.state (Invalidate c.args.id.now)) c.requires.follows.active_is c.still-in-Some-eq0.ensures (sym (step-genesis r a.state c.args.id.now zero))
+    plan-still r a (reply.Mark Genesis) c.still-in-Some-eq0.result (step r a.state (Invalidate c.args.id.now)) (c.requires.follows triples agrees).active_is c.still-in-Some-eq0.ensures (sym (step-genesis r a.state c.args.id.now zero))
 
 pub mark-requires-clause-kept : goal.mark-requires-clause-kept
 mark-requires-clause-kept g c =
@@ -39,24 +39,25 @@ mark-requires-clause-kept g c =
     place-bound names a.state.blocks c.args.id.now c.in-Some.place found
 
 pub settle_marks-requires-clause-can : goal.settle_marks-requires-clause-can
-settle_marks-requires-clause-can g c =
+settle_marks-requires-clause-can g c triples agrees =
     let a : CoreState = c.args.self.now in
-    let r = regtest a.params c.args.env.now.table.now in
+    let r = regtest a.params triples in
     let n = c.in-Some.place-test in
-    subst (λ (x : CoreState). CanTry (regtest x.params c.args.env.now.table.now) x) (sym c.mark.ensures) (can-marked r a c.in-Some.place (omega arith) (can-follows r a c.requires.follows.sound c.requires.follows.kept c.requires.follows.active_is))
+    subst (λ (x : CoreState). CanTry (regtest x.params triples) x) (sym c.mark.ensures) (can-marked r a c.in-Some.place (omega arith) (can-follows r a (c.requires.follows triples agrees).sound (c.requires.follows triples agrees).kept (c.requires.follows triples agrees).active_is))
 
 pub settle_marks-requires-clause-flags : goal.settle_marks-requires-clause-flags
 settle_marks-requires-clause-flags g c =
+    let triples = g.S.RunsScripts.agreeing c.args.env.now in
+    let agrees = g.met.S.RunsScripts.agrees c.args.env.now in
     let a : CoreState = c.args.self.now in
-    let r = regtest a.params c.args.env.now.table.now in
+    let r = regtest a.params triples in
     let kept : c.in_ok-flags.flags ≡ flags_of a.state = c.in_ok-flags.ensures ∙ ap (λ (x : CoreState). flags_of x.state) c.self.view_is in
-    fit-before r a c.mark.new.self c.in_ok-flags.flags (can-follows r a c.requires.follows.sound c.requires.follows.kept c.requires.follows.active_is) kept (ap (λ (x : CoreState). x.state.blocks) c.mark.ensures)
+    fit-before r a c.mark.new.self c.in_ok-flags.flags (can-follows r a (c.requires.follows triples agrees).sound (c.requires.follows triples agrees).kept (c.requires.follows triples agrees).active_is) kept (ap (λ (x : CoreState). x.state.blocks) c.mark.ensures)
 
 pub returns-clause-prepared : goal.returns-clause-prepared
 returns-clause-prepared g c =
     let a : CoreState = c.args.self.now in
     let m : CoreState = c.mark.new.self in
-    let r = regtest a.params c.args.env.now.table.now in
     let p = c.in-Some.place in
     let n = c.in-Some.place-test in
     let z : 0 < p = omega arith in
@@ -64,8 +65,10 @@ returns-clause-prepared g c =
     let kept : c.in_ok-flags.flags ≡ flags_of a.state = c.in_ok-flags.ensures ∙ ap (λ (x : CoreState). flags_of x.state) c.self.view_is in
     let rollback : record m { state = with_flags (Some (flags_of a.state)) m.state } ≡ a = ap (λ (x : CoreState). record x { state = with_flags (Some (flags_of a.state)) x.state }) c.mark.ensures in
     let state : m.state ≡ with_mark a.state p = ap (λ (x : CoreState). x.state) c.mark.ensures in
-    let says : mark_says (settle r m.state) Done ≡ step r a.state (Invalidate c.args.id.now) = invalidate_done a.params c.args.env.now.table.now a.state c.args.id.now p found m.state (settle r m.state) z state refl in
     if_ok c.settle_marks.result
-    (λ (prepared : Prepared) x. subst (λ t. IsPreparationFor r a t c.settle_marks.new.self prepared) says
-    (subst (λ q. IsPreparationFor (regtest q c.args.env.now.table.now) a (mark_says (settle (regtest q c.args.env.now.table.now) m.state) Done) c.settle_marks.new.self prepared) (ap (λ (x : CoreState). x.params) c.mark.ensures) x))
+    (λ (prepared : Prepared) x triples agrees.
+    let r = regtest a.params triples in
+    let says : mark_says (settle r m.state) Done ≡ step r a.state (Invalidate c.args.id.now) = invalidate_done a.params triples a.state c.args.id.now p found m.state (settle r m.state) z state refl in
+    subst (λ t. IsPreparationFor r a t c.settle_marks.new.self prepared) says
+    (subst (λ q. IsPreparationFor (regtest q triples) a (mark_says (settle (regtest q triples) m.state) Done) c.settle_marks.new.self prepared) (ap (λ (x : CoreState). x.params) c.mark.ensures) (x triples agrees)))
     (c.settle_marks.ensures.prepared a (flags-before a m c.in_ok-flags.flags kept rollback))

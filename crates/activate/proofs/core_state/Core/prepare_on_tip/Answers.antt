@@ -6,13 +6,13 @@ use Rattle.coins.specs.Coins.{Coins}
 use Rattle.coins.specs.Changes.{AreChanges}
 use Rattle.undo.specs.declared.block_undo.BlockUndo.{BlockUndo}
 use Rattle.connect.specs.Turns.{effect, undo_of}
-use Rattle.tree.specs.Branches.{height}
+use Rattle.tree.specs.Branches.{height, place_of}
 use Rattle.tree.specs.Names.{names}
 use Rattle.tree.specs.State.{with_block}
 use Rattle.tree.specs.Sound.{IsFresh}
 use Rattle.tree.specs.laws.Parents.{height-place}
 use Rattle.chain.specs.Regtest.{regtest}
-use Rattle.chain.specs.inside.Faults.{IsNew}
+use Rattle.chain.specs.Faults.{IsNew}
 use Rattle.chain.specs.Step.{Submit, step}
 use Rattle.activate.specs.inside.Preparation.{IsPreparationFor}
 use Rattle.activate.specs.CoreState.{CoreState, branch_blocks, coins_of}
@@ -28,61 +28,70 @@ use Rattle.activate.proofs.core_state.Core.prepare_on_tip.Goals as goal
 
 pub overflow_add-context : goal.overflow_add-context
 overflow_add-context g c =
+    let triples = g.S.RunsScripts.agreeing c.args.env.now in
+    let agrees = g.met.S.RunsScripts.agrees c.args.env.now in
     let l = height-place c.self.inside.tree.blocks c.self.inside.active c.self.inside.active (omega arith) c.self.invariant.0 in
     let k = c.self.invariant.0 in
     let e = c.height-height.ensures.value in
-    let m = c.requires.new.1.room in
+    let m = (c.requires.new.1 triples agrees).room in
     let s = ap (λ (x : CoreState). length x.state.blocks) c.self.view_is in
     omega arith
 
 pub overflow_cast-context : goal.overflow_cast-context
 overflow_cast-context g c =
+    let triples = g.S.RunsScripts.agreeing c.args.env.now in
+    let agrees = g.met.S.RunsScripts.agrees c.args.env.now in
     let l = height-place c.self.inside.tree.blocks c.self.inside.active c.self.inside.active (omega arith) c.self.invariant.0 in
     let k = c.self.invariant.0 in
     let e = c.height-height.ensures.value in
-    let m = c.requires.new.1.room in
+    let m = (c.requires.new.1 triples agrees).room in
     let s = ap (λ (x : CoreState). length x.state.blocks) c.self.view_is in
     omega arith
 
 pub connect_tip-requires-clause-alone : goal.connect_tip-requires-clause-alone
-connect_tip-requires-clause-alone g c = faultless-alone (regtest c.args.self.now.params c.args.env.now.table.now) c.args.self.now.state c.requires.new.0 c.args.submitted.now.block c.requires.new.1.faultless
+connect_tip-requires-clause-alone g c =
+    let triples = g.S.RunsScripts.agreeing c.args.env.now in
+    let agrees = g.met.S.RunsScripts.agrees c.args.env.now in
+    faultless-alone (regtest c.args.self.now.params triples) c.args.self.now.state c.requires.new.0 c.args.submitted.now.block (c.requires.new.1 triples agrees).faultless
 
 pub returns-in-Err-clause-prepared : goal.returns-in-Err-clause-prepared
-returns-in-Err-clause-prepared g c now is =
+returns-in-Err-clause-prepared g c now was triples agrees =
+    let is = was triples agrees in
     let a : CoreState = c.args.self.now in
-    let r = regtest a.params c.args.env.now.table.now in
+    let r = regtest a.params triples in
     let t = c.self.inside.tree.blocks in
     let p = c.self.inside.active in
     let found : Option Reason = result_err c.in_ok-connected.connected in
-    let inside : (regtest c.self.inside.params c.args.env.now.table.now).connect_fault (branch_blocks t p) c.args.submitted.now.block ≡ found =
-    fault-tip c.self.inside.params c.args.env.now.table.now t p c.args.submitted.now.block (g.B.Base.coins c.args.base.now) found _ c.in_ok-connected.ensures.fault (c.requires.coins ∙ sym (ap coins_of c.self.view_is))
+    let inside : (regtest c.self.inside.params triples).connect_fault (branch_blocks t p) c.args.submitted.now.block ≡ found =
+    fault-tip c.self.inside.params triples t p c.args.submitted.now.block (g.B.Base.coins c.args.base.now) found _ (c.in_ok-connected.ensures.fault triples agrees) (c.requires.coins ∙ sym (ap coins_of c.self.view_is))
     (setting-tip c.self.inside.params t p _ c.self.invariant.0 (ap (λ (n : ℕ). n + 1) c.height-height.ensures.value) c.median.ensures (c.as_slice.ensures.value ∙ c.self.invariant.1.medians_are) refl) in
     let own : r.connect_fault (branch_blocks a.state.blocks a.active) c.args.submitted.now.block ≡ found =
-    subst (λ (x : CoreState). (regtest x.params c.args.env.now.table.now).connect_fault (branch_blocks x.state.blocks x.active) c.args.submitted.now.block ≡ found) c.self.view_is inside in
+    subst (λ (x : CoreState). (regtest x.params triples).connect_fault (branch_blocks x.state.blocks x.active) c.args.submitted.now.block ≡ found) c.self.view_is inside in
     let fork : p ≡ a.active = ap (λ (x : CoreState). x.active) c.self.view_is in
     let ok : c.add.new.self ≡ record a { state = with_block a.state c.args.submitted.now.block a.active } = c.in_ok-place.ensures.ok ∙ ap (λ (q : ℕ). record a { state = with_block a.state c.args.submitted.now.block q }) fork in
     let fresh : IsFresh names (with_block a.state c.args.submitted.now.block a.active) = subst (λ (x : CoreState). IsFresh names x.state) ok c.in_ok-place.ensures.fresh in
-    let can = can-follows r a c.requires.follows.sound c.requires.follows.kept c.requires.follows.active_is in
+    let can = can-follows r a (c.requires.follows triples agrees).sound (c.requires.follows triples agrees).kept (c.requires.follows triples agrees).active_is in
     let bad : r.connect_fault (branch_blocks a.state.blocks a.active) c.args.submitted.now.block ≡ Some c.in-Err.reason = own ∙ ap (λ o. result_err o) c.in-Err.is in
     subst (λ (x : CoreState). IsPreparationFor r a (step r a.state (Submit now c.args.submitted.now.block)) x (record { reply = reply.Submit (Rejected c.in-Err.reason); rollback = record { first = BlockAdded; flags = None }; rest = Mark c.in_ok-place.place; changes = c.new.result })) (sym ok)
-    (plan-fails a.params c.args.env.now.table.now a c.requires.follows.sound c.requires.follows.active_is can c.args.submitted.now.block now is fresh c.in-Err.reason bad _ c.in_ok-place.place c.in_ok-place.ensures.place refl refl refl c.new.ensures refl)
+    (plan-fails a.params triples a (c.requires.follows triples agrees).sound (c.requires.follows triples agrees).active_is can c.args.submitted.now.block now is fresh c.in-Err.reason bad _ c.in_ok-place.place c.in_ok-place.ensures.place refl refl refl c.new.ensures refl)
 
 pub returns-in-Ok-clause-prepared : goal.returns-in-Ok-clause-prepared
-returns-in-Ok-clause-prepared g c now is =
+returns-in-Ok-clause-prepared g c now was triples agrees =
+    let is = was triples agrees in
     let a : CoreState = c.args.self.now in
-    let r = regtest a.params c.args.env.now.table.now in
+    let r = regtest a.params triples in
     let t = c.self.inside.tree.blocks in
     let p = c.self.inside.active in
     let found : Option Reason = result_err c.in_ok-connected.connected in
-    let inside : (regtest c.self.inside.params c.args.env.now.table.now).connect_fault (branch_blocks t p) c.args.submitted.now.block ≡ found =
-    fault-tip c.self.inside.params c.args.env.now.table.now t p c.args.submitted.now.block (g.B.Base.coins c.args.base.now) found _ c.in_ok-connected.ensures.fault (c.requires.coins ∙ sym (ap coins_of c.self.view_is))
+    let inside : (regtest c.self.inside.params triples).connect_fault (branch_blocks t p) c.args.submitted.now.block ≡ found =
+    fault-tip c.self.inside.params triples t p c.args.submitted.now.block (g.B.Base.coins c.args.base.now) found _ (c.in_ok-connected.ensures.fault triples agrees) (c.requires.coins ∙ sym (ap coins_of c.self.view_is))
     (setting-tip c.self.inside.params t p _ c.self.invariant.0 (ap (λ (n : ℕ). n + 1) c.height-height.ensures.value) c.median.ensures (c.as_slice.ensures.value ∙ c.self.invariant.1.medians_are) refl) in
     let own : r.connect_fault (branch_blocks a.state.blocks a.active) c.args.submitted.now.block ≡ found =
-    subst (λ (x : CoreState). (regtest x.params c.args.env.now.table.now).connect_fault (branch_blocks x.state.blocks x.active) c.args.submitted.now.block ≡ found) c.self.view_is inside in
+    subst (λ (x : CoreState). (regtest x.params triples).connect_fault (branch_blocks x.state.blocks x.active) c.args.submitted.now.block ≡ found) c.self.view_is inside in
     let fork : p ≡ a.active = ap (λ (x : CoreState). x.active) c.self.view_is in
     let ok : c.add.new.self ≡ record a { state = with_block a.state c.args.submitted.now.block a.active } = c.in_ok-place.ensures.ok ∙ ap (λ (q : ℕ). record a { state = with_block a.state c.args.submitted.now.block q }) fork in
     let fresh : IsFresh names (with_block a.state c.args.submitted.now.block a.active) = subst (λ (x : CoreState). IsFresh names x.state) ok c.in_ok-place.ensures.fresh in
-    let can = can-follows r a c.requires.follows.sound c.requires.follows.kept c.requires.follows.active_is in
+    let can = can-follows r a (c.requires.follows triples agrees).sound (c.requires.follows triples agrees).kept (c.requires.follows triples agrees).active_is in
     let connected = c.in-Ok.connected in
     let good : r.connect_fault (branch_blocks a.state.blocks a.active) c.args.submitted.now.block ≡ None = own ∙ ap (λ o. result_err o) c.in-Ok.is in
     let high : c.height-height.result ≡ height a.state.blocks a.active = c.height-height.ensures.value ∙ ap (λ (x : CoreState). height x.state.blocks x.active) c.self.view_is in
@@ -100,5 +109,17 @@ returns-in-Ok-clause-prepared g c now is =
     let one : path.up.items ≡ c.in_ok-place.place ∷ [] = c.push_reserved.ensures.items ∙ ap (λ (l : List ℕ). l ++ (c.in_ok-place.place ∷ [])) c.in_ok-up.ensures.items in
     let two : undo.items ≡ connected.undo ∷ [] = c.push_reserved-in-Ok.ensures.items ∙ ap (λ (l : List (List (List Coin))). l ++ (connected.undo ∷ [])) c.in_ok-undo.ensures.items in
     subst (λ (x : CoreState). IsPreparationFor r a (step r a.state (Submit now c.args.submitted.now.block)) x (record { reply = reply.Submit Accepted; rollback = record { first = BlockAdded; flags = None }; rest = Activate c.in_ok-place.place path undo; changes = connected.changes })) (sym ok)
-    (plan-moves a.params c.args.env.now.table.now a c.requires.follows.sound c.requires.follows.active_is can c.args.submitted.now.block now is fresh good _ c.in_ok-place.place path undo connected.undo c.in_ok-place.ensures.place refl refl refl
+    (plan-moves a.params triples a (c.requires.follows triples agrees).sound (c.requires.follows triples agrees).active_is can c.args.submitted.now.block now is fresh good _ c.in_ok-place.place path undo connected.undo c.in_ok-place.ensures.place refl refl refl
     fork high one two taken changes refl)
+
+pub add-requires-clause-room : goal.add-requires-clause-room
+add-requires-clause-room g c =
+    let triples = g.S.RunsScripts.agreeing c.args.env.now in
+    let agrees = g.met.S.RunsScripts.agrees c.args.env.now in
+    (c.requires.new.1 triples agrees).room
+
+pub add-requires-clause-new : goal.add-requires-clause-new
+add-requires-clause-new g c =
+    let triples = g.S.RunsScripts.agreeing c.args.env.now in
+    let agrees = g.met.S.RunsScripts.agrees c.args.env.now in
+    ap (place_of names c.args.self.now.state.blocks) c.requires.submission.1.id ∙ (c.requires.new.1 triples agrees).unknown

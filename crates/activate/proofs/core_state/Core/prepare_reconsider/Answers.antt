@@ -20,11 +20,11 @@ use Rattle.chain.specs.laws.Findings.{reconsider_done}
 use Rattle.activate.proofs.core_state.Core.prepare_reconsider.Goals as goal
 
 pub returns-in_default-clause-prepared : goal.returns-in_default-clause-prepared
-returns-in_default-clause-prepared g c =
+returns-in_default-clause-prepared g c triples agrees =
     let a : CoreState = c.args.self.now in
-    let r = regtest a.params c.args.env.now.table.now in
+    let r = regtest a.params triples in
     let none : place_of names a.state.blocks c.args.id.now ≡ None = subst (λ (x : CoreState). place_of names x.state.blocks c.args.id.now ≡ None) c.self.view_is (sym c.find.ensures ∙ c.in_default.is) in
-    plan-still r a (reply.Mark NotFound) c.still.result (step r a.state (Reconsider c.args.id.now)) c.requires.follows.active_is c.still.ensures (sym (step_not-found r a.state c.args.id.now none).1)
+    plan-still r a (reply.Mark NotFound) c.still.result (step r a.state (Reconsider c.args.id.now)) (c.requires.follows triples agrees).active_is c.still.ensures (sym (step_not-found r a.state c.args.id.now none).1)
 
 pub clear-requires : goal.clear-requires
 clear-requires g c =
@@ -33,10 +33,10 @@ clear-requires g c =
     place-bound names a.state.blocks c.args.id.now c.in-Some.place found
 
 pub settle_marks-requires-clause-can : goal.settle_marks-requires-clause-can
-settle_marks-requires-clause-can g c =
+settle_marks-requires-clause-can g c triples agrees =
     let a : CoreState = c.args.self.now in
-    let r = regtest a.params c.args.env.now.table.now in
-    subst (λ (x : CoreState). CanTry (regtest x.params c.args.env.now.table.now) x) (sym c.in_ok-clear.ensures.ok) (can-cleared r a c.in-Some.place (can-follows r a c.requires.follows.sound c.requires.follows.kept c.requires.follows.active_is))
+    let r = regtest a.params triples in
+    subst (λ (x : CoreState). CanTry (regtest x.params triples) x) (sym c.in_ok-clear.ensures.ok) (can-cleared r a c.in-Some.place (can-follows r a (c.requires.follows triples agrees).sound (c.requires.follows triples agrees).kept (c.requires.follows triples agrees).active_is))
 
 blocks_same : (s : State Block) (p : ℕ) → ◌≡◌ {A = Blocks Block} (without_marks s p).blocks s.blocks
 unfolding without_marks
@@ -44,10 +44,12 @@ blocks_same s p = refl
 
 pub settle_marks-requires-clause-flags : goal.settle_marks-requires-clause-flags
 settle_marks-requires-clause-flags g c =
+    let triples = g.S.RunsScripts.agreeing c.args.env.now in
+    let agrees = g.met.S.RunsScripts.agrees c.args.env.now in
     let a : CoreState = c.args.self.now in
-    let r = regtest a.params c.args.env.now.table.now in
+    let r = regtest a.params triples in
     let kept : c.in_ok-flags.flags ≡ flags_of a.state = c.in_ok-flags.ensures ∙ ap (λ (x : CoreState). flags_of x.state) c.self.view_is in
-    fit-before r a c.clear.new.self c.in_ok-flags.flags (can-follows r a c.requires.follows.sound c.requires.follows.kept c.requires.follows.active_is) kept
+    fit-before r a c.clear.new.self c.in_ok-flags.flags (can-follows r a (c.requires.follows triples agrees).sound (c.requires.follows triples agrees).kept (c.requires.follows triples agrees).active_is) kept
     (ap (λ (x : CoreState). x.state.blocks) c.in_ok-clear.ensures.ok ∙ blocks_same a.state c.in-Some.place)
 
 pub settle_marks-requires-clause-coins : goal.settle_marks-requires-clause-coins
@@ -63,15 +65,16 @@ pub returns-clause-prepared : goal.returns-clause-prepared
 returns-clause-prepared g c =
     let a : CoreState = c.args.self.now in
     let m : CoreState = c.clear.new.self in
-    let r = regtest a.params c.args.env.now.table.now in
     let p = c.in-Some.place in
     let found : place_of names a.state.blocks c.args.id.now ≡ Some p = subst (λ (x : CoreState). place_of names x.state.blocks c.args.id.now ≡ Some p) c.self.view_is (sym c.find.ensures ∙ c.in-Some.is) in
     let kept : c.in_ok-flags.flags ≡ flags_of a.state = c.in_ok-flags.ensures ∙ ap (λ (x : CoreState). flags_of x.state) c.self.view_is in
     let state : m.state ≡ without_marks a.state p = ap (λ (x : CoreState). x.state) c.in_ok-clear.ensures.ok in
-    let says : mark_says (settle r m.state) Done ≡ step r a.state (Reconsider c.args.id.now) = reconsider_done a.params c.args.env.now.table.now a.state c.args.id.now p found m.state (settle r m.state) state refl in
     if_ok c.settle_marks.result
-    (λ (prepared : Prepared) x. subst (λ t. IsPreparationFor r a t c.settle_marks.new.self prepared) says
-    (subst (λ q. IsPreparationFor (regtest q c.args.env.now.table.now) a (mark_says (settle (regtest q c.args.env.now.table.now) m.state) Done) c.settle_marks.new.self prepared) (ap (λ (x : CoreState). x.params) c.in_ok-clear.ensures.ok) x))
+    (λ (prepared : Prepared) x triples agrees.
+    let r = regtest a.params triples in
+    let says : mark_says (settle r m.state) Done ≡ step r a.state (Reconsider c.args.id.now) = reconsider_done a.params triples a.state c.args.id.now p found m.state (settle r m.state) state refl in
+    subst (λ t. IsPreparationFor r a t c.settle_marks.new.self prepared) says
+    (subst (λ q. IsPreparationFor (regtest q triples) a (mark_says (settle (regtest q triples) m.state) Done) c.settle_marks.new.self prepared) (ap (λ (x : CoreState). x.params) c.in_ok-clear.ensures.ok) (x triples agrees)))
     (c.settle_marks.ensures.prepared a (flags-before a m c.in_ok-flags.flags kept (back_same a m p c.in_ok-clear.ensures.ok)))
 
 pub returns-clause-err : goal.returns-clause-err

@@ -9,16 +9,21 @@ use Rattle.activate.proofs.Plans.{said-once, settles-once}
 use Rattle.activate.proofs.core_state.Core.settle.Goals as goal
 
 pub returns-in-Succeeds-clause-settled : goal.returns-in-Succeeds-clause-settled
-returns-in-Succeeds-clause-settled g c =
+returns-in-Succeeds-clause-settled g c triples agrees =
     let a : CoreState = c.args.self.now in
-    let r = regtest a.params c.args.env.now.table.now in
+    let r = regtest a.params triples in
     let move = c.in-Succeeds.found in
-    let told : LeadsTo r a.state.blocks a.active c.args.place move = subst (λ (x : Attempt). IsAttempt r a.state.blocks a.active c.args.place x) c.in-Succeeds.is c.in_ok-found.ensures in
-    settles-once r a c.args.place move c.requires.can c.requires.best told (Activate c.args.place move.path move.undo) refl
+    let told : LeadsTo r a.state.blocks a.active c.args.place move = subst (λ (x : Attempt). IsAttempt r a.state.blocks a.active c.args.place x) c.in-Succeeds.is (c.in_ok-found.ensures.attempt triples agrees) in
+    settles-once r a c.args.place move (c.requires.can triples agrees) c.requires.best told (Activate c.args.place move.path move.undo) refl
 
 pub returns-in-Succeeds-clause-said : goal.returns-in-Succeeds-clause-said
-returns-in-Succeeds-clause-said g c =
+returns-in-Succeeds-clause-said g c triples agrees =
     let a : CoreState = c.args.self.now in
-    let r = regtest a.params c.args.env.now.table.now in
-    let told : LeadsTo r a.state.blocks a.active c.args.place c.in-Succeeds.found = subst (λ (x : Attempt). IsAttempt r a.state.blocks a.active c.args.place x) c.in-Succeeds.is c.in_ok-found.ensures in
-    said-once r a c.requires.can c.args.place c.requires.best told.good
+    let r = regtest a.params triples in
+    let told : LeadsTo r a.state.blocks a.active c.args.place c.in-Succeeds.found = subst (λ (x : Attempt). IsAttempt r a.state.blocks a.active c.args.place x) c.in-Succeeds.is (c.in_ok-found.ensures.attempt triples agrees) in
+    said-once r a (c.requires.can triples agrees) c.args.place c.requires.best told.good
+
+pub settle_after-requires-clause-fails : goal.settle_after-requires-clause-fails
+settle_after-requires-clause-fails g c triples agrees =
+    let a : CoreState = c.args.self.now in
+    subst (λ (x : Attempt). IsAttempt (regtest a.params triples) a.state.blocks a.active c.args.place x) c.in-Fails.is (c.in_ok-found.ensures.attempt triples agrees)

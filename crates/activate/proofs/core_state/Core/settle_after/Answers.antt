@@ -7,71 +7,82 @@ use Rattle.activate.specs.declared.prepared.Completion.TheVariants.{Activate}
 use Rattle.activate.specs.inside.Preparation.{CanTry, HasOtherFlags, TryLeads, with_flags}
 use Rattle.chain.specs.Regtest.{regtest}
 use Rattle.activate.specs.CoreState.{CoreState, coins_of}
-use Rattle.chain.specs.inside.Try.{state_after_try}
+use Rattle.chain.specs.Try.{state_after_try}
 use Rattle.activate.proofs.Plans.{back-other, can-tried, coins-other, fit-other, leads-after, other-tried, other_none, other_trans, passed-less, said-after, settles-leads}
 use Rattle.activate.proofs.core_state.Core.settle_after.Goals as goal
 
 pub settle_rest-requires-clause-can : goal.settle_rest-requires-clause-can
-settle_rest-requires-clause-can g c =
+settle_rest-requires-clause-can g c triples agrees =
     let a : CoreState = c.args.self.now in
-    let r = regtest a.params c.args.env.now.table.now in
-    subst (λ (x : CoreState). CanTry (regtest x.params c.args.env.now.table.now) x) (sym (c.flag.ensures (regtest c.args.self.now.params c.args.env.now.table.now) c.args.place (record { can = c.requires.can; kept = c.requires.best.kept; fails = c.requires.fails }))) (can-tried r a c.args.place c.requires.can)
+    let r = regtest a.params triples in
+    subst (λ (x : CoreState). CanTry (regtest x.params triples) x) (sym (c.flag.ensures (regtest c.args.self.now.params triples) c.args.place (record { can = (c.requires.can triples agrees); kept = c.requires.best.kept; fails = (c.requires.fails triples agrees) }))) (can-tried r a c.args.place (c.requires.can triples agrees))
 
 pub settle_rest-requires-clause-coins : goal.settle_rest-requires-clause-coins
 settle_rest-requires-clause-coins g c =
+    let triples = g.S.RunsScripts.agreeing c.args.env.now in
+    let agrees = g.met.S.RunsScripts.agrees c.args.env.now in
     let a : CoreState = c.args.self.now in
-    let r = regtest a.params c.args.env.now.table.now in
+    let r = regtest a.params triples in
     let n : CoreState = record a { state = state_after_try r a.state c.args.place } in
-    c.requires.coins ∙ sym (coins-other a n (other-tried r a a c.args.place (other_none a))) ∙ sym (ap coins_of (c.flag.ensures (regtest c.args.self.now.params c.args.env.now.table.now) c.args.place (record { can = c.requires.can; kept = c.requires.best.kept; fails = c.requires.fails })))
+    c.requires.coins ∙ sym (coins-other a n (other-tried r a a c.args.place (other_none a))) ∙ sym (ap coins_of (c.flag.ensures (regtest c.args.self.now.params triples) c.args.place (record { can = (c.requires.can triples agrees); kept = c.requires.best.kept; fails = (c.requires.fails triples agrees) })))
 
 pub refused-requires : goal.refused-requires
-refused-requires g c = passed-less (regtest c.args.self.now.params c.args.env.now.table.now) c.args.self.now c.requires.can c.args.place c.requires.best c.args.failed c.requires.fails
+refused-requires g c =
+    let triples = g.S.RunsScripts.agreeing c.args.env.now in
+    let agrees = g.met.S.RunsScripts.agrees c.args.env.now in
+    passed-less (regtest c.args.self.now.params triples) c.args.self.now (c.requires.can triples agrees) c.args.place c.requires.best c.args.failed (c.requires.fails triples agrees)
 
 pub returns-in-Ok-clause-settled : goal.returns-in-Ok-clause-settled
-returns-in-Ok-clause-settled g c =
+returns-in-Ok-clause-settled g c triples agrees =
     let a : CoreState = c.args.self.now in
     let b : CoreState = c.settle_rest.new.self in
-    let r = regtest a.params c.args.env.now.table.now in
+    let r = regtest a.params triples in
     let n : CoreState = record a { state = state_after_try r a.state c.args.place } in
     let found = c.in-Ok.found in
-    let leads : TryLeads r n b c.in-Ok.other found = subst (λ (x : CoreState). TryLeads (regtest x.params c.args.env.now.table.now) x b c.in-Ok.other found) (c.flag.ensures (regtest c.args.self.now.params c.args.env.now.table.now) c.args.place (record { can = c.requires.can; kept = c.requires.best.kept; fails = c.requires.fails })) c.in-Ok.ensures.leads in
-    let flags : HasOtherFlags a b = other_trans a n b (other-tried r a a c.args.place (other_none a)) (subst (λ (x : CoreState). HasOtherFlags x b) (c.flag.ensures (regtest c.args.self.now.params c.args.env.now.table.now) c.args.place (record { can = c.requires.can; kept = c.requires.best.kept; fails = c.requires.fails })) c.in-Ok.ensures.flags) in
+    let leads : TryLeads r n b c.in-Ok.other found = subst (λ (x : CoreState). TryLeads (regtest x.params triples) x b c.in-Ok.other found) (c.flag.ensures (regtest c.args.self.now.params triples) c.args.place (record { can = (c.requires.can triples agrees); kept = c.requires.best.kept; fails = (c.requires.fails triples agrees) })) (c.in-Ok.ensures.leads triples agrees) in
+    let flags : HasOtherFlags a b = other_trans a n b (other-tried r a a c.args.place (other_none a)) (subst (λ (x : CoreState). HasOtherFlags x b) (c.flag.ensures (regtest c.args.self.now.params triples) c.args.place (record { can = (c.requires.can triples agrees); kept = c.requires.best.kept; fails = (c.requires.fails triples agrees) })) c.in-Ok.ensures.flags) in
     let kept : c.in_ok-flags.flags ≡ flags_of a.state = c.in_ok-flags.ensures ∙ ap (λ (x : CoreState). flags_of x.state) c.self.view_is in
-    settles-leads r a b c.in-Ok.other found c.in_ok-flags.flags c.requires.can flags kept (leads-after r a b c.args.place c.in-Ok.other found c.requires.can c.requires.best leads) (Activate c.in-Ok.other found.path found.undo) refl
+    settles-leads r a b c.in-Ok.other found c.in_ok-flags.flags (c.requires.can triples agrees) flags kept (leads-after r a b c.args.place c.in-Ok.other found (c.requires.can triples agrees) c.requires.best leads) (Activate c.in-Ok.other found.path found.undo) refl
 
 pub returns-in-Ok-clause-said : goal.returns-in-Ok-clause-said
-returns-in-Ok-clause-said g c =
+returns-in-Ok-clause-said g c triples agrees =
     c.refused.ensures
-    ∙ said-after (regtest c.args.self.now.params c.args.env.now.table.now) c.args.self.now c.requires.can c.args.place c.requires.best c.args.failed c.requires.fails
+    ∙ said-after (regtest c.args.self.now.params triples) c.args.self.now (c.requires.can triples agrees) c.args.place c.requires.best c.args.failed (c.requires.fails triples agrees)
 
 pub set_flags-requires-clause-same : goal.set_flags-requires-clause-same
 set_flags-requires-clause-same g c =
+    let triples = g.S.RunsScripts.agreeing c.args.env.now in
+    let agrees = g.met.S.RunsScripts.agrees c.args.env.now in
     let a : CoreState = c.args.self.now in
     let b : CoreState = c.settle_rest.new.self in
-    let r = regtest a.params c.args.env.now.table.now in
+    let r = regtest a.params triples in
     let n : CoreState = record a { state = state_after_try r a.state c.args.place } in
-    let flags : HasOtherFlags a b = other_trans a n b (other-tried r a a c.args.place (other_none a)) (subst (λ (x : CoreState). HasOtherFlags x b) (c.flag.ensures (regtest c.args.self.now.params c.args.env.now.table.now) c.args.place (record { can = c.requires.can; kept = c.requires.best.kept; fails = c.requires.fails })) c.in-Err.ensures.flags) in
+    let flags : HasOtherFlags a b = other_trans a n b (other-tried r a a c.args.place (other_none a)) (subst (λ (x : CoreState). HasOtherFlags x b) (c.flag.ensures (regtest c.args.self.now.params triples) c.args.place (record { can = (c.requires.can triples agrees); kept = c.requires.best.kept; fails = (c.requires.fails triples agrees) })) c.in-Err.ensures.flags) in
     let kept : c.in_ok-flags.flags ≡ flags_of a.state = c.in_ok-flags.ensures ∙ ap (λ (x : CoreState). flags_of x.state) c.self.view_is in
-    subst (λ (x : CoreState). c.in_ok-flags.flags.len ≡ suc (length x.state.blocks)) (sym c.self-2.view_is) (fit-other r a b c.in_ok-flags.flags flags c.requires.can kept).0
+    subst (λ (x : CoreState). c.in_ok-flags.flags.len ≡ suc (length x.state.blocks)) (sym c.self-2.view_is) (fit-other r a b c.in_ok-flags.flags flags (c.requires.can triples agrees) kept).0
 
 pub set_flags-requires-clause-genesis : goal.set_flags-requires-clause-genesis
 set_flags-requires-clause-genesis g c =
+    let triples = g.S.RunsScripts.agreeing c.args.env.now in
+    let agrees = g.met.S.RunsScripts.agrees c.args.env.now in
     let a : CoreState = c.args.self.now in
     let b : CoreState = c.settle_rest.new.self in
-    let r = regtest a.params c.args.env.now.table.now in
+    let r = regtest a.params triples in
     let n : CoreState = record a { state = state_after_try r a.state c.args.place } in
-    let flags : HasOtherFlags a b = other_trans a n b (other-tried r a a c.args.place (other_none a)) (subst (λ (x : CoreState). HasOtherFlags x b) (c.flag.ensures (regtest c.args.self.now.params c.args.env.now.table.now) c.args.place (record { can = c.requires.can; kept = c.requires.best.kept; fails = c.requires.fails })) c.in-Err.ensures.flags) in
+    let flags : HasOtherFlags a b = other_trans a n b (other-tried r a a c.args.place (other_none a)) (subst (λ (x : CoreState). HasOtherFlags x b) (c.flag.ensures (regtest c.args.self.now.params triples) c.args.place (record { can = (c.requires.can triples agrees); kept = c.requires.best.kept; fails = (c.requires.fails triples agrees) })) c.in-Err.ensures.flags) in
     let kept : c.in_ok-flags.flags ≡ flags_of a.state = c.in_ok-flags.ensures ∙ ap (λ (x : CoreState). flags_of x.state) c.self.view_is in
-    (fit-other r a b c.in_ok-flags.flags flags c.requires.can kept).1
+    (fit-other r a b c.in_ok-flags.flags flags (c.requires.can triples agrees) kept).1
 
 pub returns-clause-err : goal.returns-clause-err
 returns-clause-err g c =
+    let triples = g.S.RunsScripts.agreeing c.args.env.now in
+    let agrees = g.met.S.RunsScripts.agrees c.args.env.now in
     let a : CoreState = c.args.self.now in
     let b : CoreState = c.settle_rest.new.self in
-    let r = regtest a.params c.args.env.now.table.now in
+    let r = regtest a.params triples in
     let n : CoreState = record a { state = state_after_try r a.state c.args.place } in
     let f = c.in_ok-flags.flags in
-    let flags : HasOtherFlags a b = other_trans a n b (other-tried r a a c.args.place (other_none a)) (subst (λ (x : CoreState). HasOtherFlags x b) (c.flag.ensures (regtest c.args.self.now.params c.args.env.now.table.now) c.args.place (record { can = c.requires.can; kept = c.requires.best.kept; fails = c.requires.fails })) c.in-Err.ensures.flags) in
+    let flags : HasOtherFlags a b = other_trans a n b (other-tried r a a c.args.place (other_none a)) (subst (λ (x : CoreState). HasOtherFlags x b) (c.flag.ensures (regtest c.args.self.now.params triples) c.args.place (record { can = (c.requires.can triples agrees); kept = c.requires.best.kept; fails = (c.requires.fails triples agrees) })) c.in-Err.ensures.flags) in
     let kept : f ≡ flags_of a.state = c.in_ok-flags.ensures ∙ ap (λ (x : CoreState). flags_of x.state) c.self.view_is in
     ap (λ (s : State Block). tracked c.self-2.inside.params s c.self-2.inside.active (length c.self-2.inside.undo.items)) c.set_flags.ensures
     ∙ ap (λ (x : CoreState). record x { state = with_flags (Some f) x.state }) c.self-2.view_is
@@ -81,4 +92,7 @@ returns-clause-err g c =
     tracked params state active kept = record { params = params; state = state; active = active; undo_kept = kept }
 
 pub flag-requires : goal.flag-requires
-flag-requires g c = (regtest c.args.self.now.params c.args.env.now.table.now, c.args.place, record { can = c.requires.can; kept = c.requires.best.kept; fails = c.requires.fails })
+flag-requires g c =
+    let triples = g.S.RunsScripts.agreeing c.args.env.now in
+    let agrees = g.met.S.RunsScripts.agrees c.args.env.now in
+    (regtest c.args.self.now.params triples, c.args.place, record { can = (c.requires.can triples agrees); kept = c.requires.best.kept; fails = (c.requires.fails triples agrees) })

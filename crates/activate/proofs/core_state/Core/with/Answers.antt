@@ -4,7 +4,7 @@ use Rattle.block.specs.declared.block.Block.{Block}
 use Rattle.block.specs.declared.genesis.TheConstants.{GENESIS_TIME}
 use Rattle.tree.specs.Branches.{Blocks}
 use Rattle.tree.specs.State.{State, opening}
-use Rattle.activate.specs.CoreState.{Follows, CoreState, coins_of, genesis_alone}
+use Rattle.activate.specs.CoreState.{Follows, CoreState, coins_of, opened_core}
 use Rattle.activate.specs.laws.Growing.{branch_opening}
 use Rattle.activate.proofs.Openings.{opens}
 use Rattle.activate.proofs.core_state.Core.with.Goals as goal
@@ -34,7 +34,7 @@ returns-clause-follows c triples =
     let tracked : State Block → ℕ → CoreState = λ s n. record { params = c.args.params; state = s; active = 0; undo_kept = n } in
     let kept = length c.in_ok-with_capacity.field-0.items in
     let none : kept ≡ 0 = ap (λ (l : List (List (List Coin))). length l) c.in_ok-with_capacity.ensures.items in
-    let is : tracked c.in_ok-new.field-0 kept ≡ genesis_alone c.args.params = ap (λ (s : State Block). tracked s kept) c.in_ok-new.ensures ∙ ap (tracked opening) none in (
+    let is : tracked c.in_ok-new.field-0 kept ≡ opened_core c.args.params = ap (λ (s : State Block). tracked s kept) c.in_ok-new.ensures ∙ ap (tracked opening) none in (
       subst (λ (x : CoreState). Follows x triples) (sym is) start.follows,
       ap coins_of is ∙ sym start.coins_are,
     )

@@ -1,0 +1,11 @@
+-- A set of valid signatures that agrees with what a session knows.
+use Rattle.curve.specs.Known.{Agrees}
+use Rattle.connect.specs.laws.Agreeing.{table_agrees, found_agrees}
+use Rattle.ffi.specs.declared.signatures.Signatures.{Signatures}
+use Rattle.ffi.specs.declared.signatures.Signatures.TheVariants.{Listed, Found}
+use Rattle.ffi.specs.Signatures.{valid_in}
+use Rattle.ffi.specs.inside.Signatures.{known_in}
+
+pub agrees_in : (it : Signatures) → Agrees (known_in it) (valid_in it)
+agrees_in (Listed table) = table_agrees table
+agrees_in (Found found) = found_agrees found
