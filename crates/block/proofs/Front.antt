@@ -11,7 +11,7 @@ use Rattle.txn.specs.computed.Reading.{tx_at}
 use Rattle.block.specs.declared.header.Header.{Header}
 use Rattle.block.specs.declared.block.Block.{Block}
 use Rattle.block.specs.Grammar.{header}
-use Rattle.block.specs.Decoding.{block_alone, whole_block, block_of_bytes}
+use Rattle.block.specs.Decoding.{unless_more, whole_block, block_of_bytes}
 use Rattle.block.specs.computed.Reading.{header_at, block_at}
 use Rattle.block.specs.laws.Reading.{header_decides}
 
@@ -19,7 +19,7 @@ abbrev Is : Block → Option Block → Type 0
 Is b None = ⊥
 Is b (Some x) = x ≡ b
 
-told_alone : (x b : Block) (rest : List ℕ) → block_alone x rest ≡ Some b → x.header ≡ b.header
+told_alone : (x b : Block) (rest : List ℕ) → unless_more x rest ≡ Some b → x.header ≡ b.header
 told_alone x b [] e = ap (λ (o : Option Block). (unwrap_or o x).header) e
 told_alone x b (y ∷ ys) e = absurd (subst (Is b) (sym e) refl)
 

@@ -9,7 +9,7 @@ use Rattle.block.specs.declared.block.Block.{Block}
 use Rattle.block.specs.Grammar.{block}
 use Rattle.block.specs.computed.Reading.{block_at}
 use Rattle.block.specs.laws.Reading.{block_decides}
-use Rattle.block.specs.Decoding.{block_alone, whole_block, block_of_bytes}
+use Rattle.block.specs.Decoding.{unless_more, whole_block, block_of_bytes}
 
 ok_is : {A : Type 0} (x y : A) → ◌≡◌ {A = Result A WireFault} (Ok x) (Ok y) → x ≡ y
 ok_is x y h = cc
@@ -28,7 +28,7 @@ read-spelled {A} g part d bytes rest x fits read = elim (d.total bytes fits) [
       let both : ◌≡◌ {A = Result (A × List ℕ) WireFault} (Err r.fault) (Ok (x, rest)) = sym (d.refuses r.fault bytes r.faulty) ∙ read in absurd cc
 ]
 
-alone : (x b : Block) (rest : List ℕ) → block_alone x rest ≡ Some b → (x ≡ b) × (rest ≡ [])
+alone : (x b : Block) (rest : List ℕ) → unless_more x rest ≡ Some b → (x ≡ b) × (rest ≡ [])
 alone x b [] h = (cc, refl)
 alone x b (y ∷ rest) h = absurd cc
 

@@ -7,12 +7,12 @@ use Rattle.block.specs.declared.fault.ReadFault.TheVariants as faults
 use Rattle.block.specs.computed.Reading.{block_at}
 
 -- a block with nothing behind it
-abbrev pub block_alone : Block → List ℕ → Option Block
-block_alone b [] = Some b
-block_alone b (x ∷ xs) = None
+abbrev pub unless_more : Block → List ℕ → Option Block
+unless_more b [] = Some b
+unless_more b (x ∷ xs) = None
 
 abbrev pub whole_block : Result (Block × List ℕ) WireFault → Option Block
-whole_block (Ok x) = block_alone x.0 x.1
+whole_block (Ok x) = unless_more x.0 x.1
 whole_block (Err fault) = None
 
 -- the block that the bytes spell, all of them

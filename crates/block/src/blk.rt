@@ -15,10 +15,10 @@ use std::alloc::Global;
 use std::marker::Model;
 use wire::Cursor;
 
-/// What stands before each of regtest's records (Bitcoin Core's message start).
+/// What each of regtest's records begins with (Bitcoin Core's message start).
 const MAGIC: [u8; 4] = [0xfa, 0xbf, 0xb5, 0xda];
 
-/// How many bytes stand before a record's block: the magic, and the block's length in four.
+/// How many bytes come before a record's block: the magic, and the block's length in four.
 const HEAD: usize = 8;
 
 /// Whether a reader of a blk file goes on.
@@ -76,7 +76,7 @@ fn end<R: Source>(source: &mut R, front: &[u8], place: u64) -> Result<(), BlkFau
     Ok(())
 }
 
-/// The next record's block, or none at the file's end. The place is that of the bytes to come.
+/// The next record's block, or none at the file's end. The place is where the bytes to come begin.
 fn next_record<R: Source>(
     alloc: Global,
     source: &mut R,
@@ -165,7 +165,7 @@ impl<R: Source> BlkReader<R> {
         // A fault is that of the bytes at the record's place, and the reader has stopped.
         ensures refused { IfErr result (λ e. self.old.stage ≡ stages.Reading
             → IsFault self.old.offset self.old.to_come e) }
-        // What stands at the record's place is what is told, unless a read fails or memory runs out.
+        // What is at the record's place is what is answered, unless a read fails or memory runs out.
         ensures reads { (block after : List ℕ) → self.old.stage ≡ stages.Reading
             → IsRecord block self.old.to_come after
             → MatchResult result (λ found. MatchOption found

@@ -8,10 +8,10 @@ use std::alloc::AllocError;
 use std::error::Error;
 use std::fmt;
 
-/// Why a blk file could not be read on. An offset is that of a record's start, from the start of the file.
+/// Why a blk file could not be read on. An offset is where a record begins, from the start of the file.
 #[derive(Clone, Copy, Debug, PartialEq, Eq)]
 pub enum BlkFault {
-    /// Neither a record nor zero bytes alone stand at this offset.
+    /// There is neither a record nor zero bytes alone at this offset.
     Foreign(u64),
     /// The record at this offset ends early.
     Cut(u64),

@@ -41,7 +41,7 @@ impl Eq for Block {
 }
 
 impl Block {
-    /// The block's id, which is that of its header alone.
+    /// The block's id, which is its header's.
     pub fn id(&self) -> Id
         ensures { result ≡ id_of self.now.header }
     {

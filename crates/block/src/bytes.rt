@@ -8,7 +8,7 @@ use std::marker::Model;
 use std::sync::Arc;
 use wire::Memory;
 
-/// The bytes of a block, or what was handed in for one. They never change, and all copies share them. A clause sees
+/// The bytes of a block, or what was submitted as one. They never change, and all copies share them. A clause sees
 /// their list.
 #[derive(Drop)]
 pub struct Bytes {

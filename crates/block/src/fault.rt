@@ -17,7 +17,7 @@ pub enum ReadFault {
     LongForm,
     /// A count is above [`wire::LIMIT`].
     TooLarge,
-    /// Bytes stand after the block.
+    /// There are bytes after the block.
     Extra,
     /// There is no memory for it.
     Memory,

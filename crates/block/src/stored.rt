@@ -16,7 +16,7 @@ use std::alloc::Global;
 use std::marker::Model;
 use wire::Memory;
 
-/// A block, kept as the bytes that were handed in for it, and decoded where it is needed (as Bitcoin Core's
+/// A block, kept as the bytes that were submitted, and decoded where it is needed (as Bitcoin Core's
 /// `ReadBlockFromDisk`). Its time is at hand. A clause sees the block.
 #[derive(Debug, Drop)]
 pub struct StoredBlock {

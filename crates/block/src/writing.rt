@@ -2,7 +2,7 @@
 
 ghost use Rattle.std.specs.Prelude.{◌≡◌, ◌++◌, OnOk, OnErr};
 ghost use Rattle.wire.specs.Grammar.{counted_list};
-ghost use Rattle.wire.specs.inside.Writing.{Extends};
+ghost use Rattle.wire.specs.laws.Writing.{Extends};
 ghost use Rattle.txn.specs.Grammar.{transaction};
 ghost use Rattle.block.specs.Grammar as grammar;
 ghost use Rattle.block.specs.Limits.{AreWithin, IsWithinLimits};

@@ -1,10 +1,10 @@
 -- Coins as a finite map from outpoints.
-use Rattle.std.specs.Prelude.{ℕ, ℤ, Bool, List, Option, None, Some, refl}
+use Rattle.std.specs.Prelude.{ℤ, pos, ◌+ℤ◌, List, [], ◌∷◌, ℕ, Bool, Option, None, Some, refl}
+use Rattle.std.specs.FinMap as map
 use Rattle.std.specs.declared.cmp.Ordering.{Ordering}
 use Rattle.std.specs.Ordering.{nat_cmp, ordering_then, eq_by_cmp}
 use Rattle.std.specs.Cmp.Lexicographic.{slice_cmp}
 use Rattle.std.specs.Coded.{Coded, code_by, coded×, coded_ℕ, coded_ℤ, coded_bool, coded_list}
-use Rattle.std.specs.FinMap as map
 use Rattle.txn.specs.declared.outpoint.OutPoint.{OutPoint}
 pub use Rattle.coins.specs.declared.coin.Coin.{Coin}
 
@@ -34,6 +34,15 @@ put m at (Some coin) = map.insert m at coin
 abbrev pub few_or_many : List (OutPoint × Coin) → Option Coins → Coins
 few_or_many few None = map.from_entries few
 few_or_many few (Some many) = many
+
+-- the sum of the values of coins
+abbrev pub sum_of_values : List Coin → ℤ
+sum_of_values [] = pos 0
+sum_of_values (coin ∷ coins) = coin.value +ℤ sum_of_values coins
+
+-- of all coins, in satoshis
+unfoldable pub total : Coins → ℤ
+total m = sum_of_values (map.values m)
 
 -- ---- how such values are told apart
 

@@ -1,6 +1,5 @@
 pub mod Changes
 pub mod Coins
 pub mod Entries
-pub mod Total
 pub mod inside
 pub mod laws

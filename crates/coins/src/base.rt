@@ -1,4 +1,4 @@
-//! What a layer of changes can stand on.
+//! What a layer of changes can have as its base.
 
 ghost use Rattle.std.specs.Prelude.{◌≡◌};
 ghost use Rattle.std.specs.Option.{option_copied};

@@ -1,4 +1,4 @@
-//! A layer of changes over a base, on which further layers can stand.
+//! A layer of changes over a base, which can be the base of further layers.
 
 ghost use Rattle.std.specs.Prelude.{◌≡◌, IfOk, OnOk, OnErr, None, Some, IsSome, is_some};
 ghost use Rattle.std.specs.Option.{option_copied};
@@ -66,7 +66,7 @@ impl<'a, B: Base> Cache<'a, B> {
         }
     }
 
-    /// Whether a coin stands at an outpoint where none stands below: the base isn't looked at.
+    /// Whether the layer has a coin at an outpoint where its base has none: the base isn't looked at.
     pub fn has_above(&self, at: &OutPoint) -> bool
         requires { map.get self.now.base at.now ≡ None }
         ensures { result ≡ is_some (map.get self.now.coins at.now) }

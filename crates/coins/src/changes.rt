@@ -19,7 +19,7 @@ use std::marker::Model;
 use txn::OutPoint;
 use wire::Memory;
 
-/// A coin that changes: its outpoint, and the coin that stands there after, or None where it is gone.
+/// A coin that changes: its outpoint, and the coin that is there after, or None where it is gone.
 pub type Change = (OutPoint, Option<Coin>);
 
 /// Coins that change, by rising outpoints: the entries of a layer, as they stood in it. A clause sees their list.

@@ -8,8 +8,8 @@ ghost use Rattle.coins.specs.inside.Shards.{many_from};
 ghost use Rattle.coins.specs.laws.Lookups.{entry_for};
 
 use crate::base::Base;
+use crate::batch_write::nothing;
 use crate::coin::Coin;
-use crate::laying::nothing;
 use crate::shards::Shards;
 use std::alloc::Global;
 use std::collections::BTreeMap;
@@ -82,7 +82,7 @@ impl CoinMap {
         self.get(at).is_some()
     }
 
-    /// What is to stand at an outpoint. Where a coin is to come one stands, so it takes no memory.
+    /// What is to be at an outpoint. Where a coin is to come there is one, so it takes no memory.
     pub(crate) fn set(&mut self, at: OutPoint, coin: Option<Coin>)
         requires { is_some coin ≡ true → is_some (map.get self.old at) ≡ true }
         ensures { self.new ≡ put self.old at coin }
@@ -113,7 +113,7 @@ fn spread(
     many: &mut Option<Shards>,
 ) -> Result<(), Memory>
     ensures coins { few_or_many few.new.entries many.new ≡ few_or_many few.old.entries many.old }
-    // They stand in many maps from then on, and not before.
+    // They are in many maps from then on, and not before.
     ensures moved { OnOk result (IsTrue (is_some many.new) ↔
         (IsTrue (is_some many.old) ⊎ (many_from ≤ length few.old.entries))) }
     ensures err { OnErr result
@@ -128,7 +128,7 @@ fn spread(
     Ok(())
 }
 
-/// Many maps with some coin wherever one of these stands.
+/// Many maps with some coin wherever there is one of these.
 fn rooms(alloc: Global, few: &BTreeMap<OutPoint, Coin>) -> Result<Shards, Memory>
     ensures room { IfOk result (λ shards. HasRoomFor shards (comings few.now.entries)) }
     ensures others { IfOk result (λ shards. Covered map.empty shards (comings few.now.entries)) }

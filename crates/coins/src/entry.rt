@@ -23,7 +23,7 @@ pub enum CacheEntry {
     Clean,
     /// DIRTY: it may differ from below. A coin, or none where that was spent.
     Dirty(Option<Coin>),
-    /// DIRTY and FRESH: a coin where none stands below, so that nothing is left once it is spent.
+    /// DIRTY and FRESH: a coin where the base has none, so that nothing is left once it is spent.
     Fresh(Coin),
 }
 
@@ -94,7 +94,7 @@ pub(crate) fn coin_of(entry: Option<CacheEntry>) -> Option<Coin>
     }
 }
 
-/// Puts an entry at an outpoint. Where one stands already, it takes no memory.
+/// Puts an entry at an outpoint. Where there is one already, it takes no memory.
 pub(crate) fn write(
     entries: &mut BTreeMap<OutPoint, CacheEntry>,
     at: OutPoint,
@@ -114,7 +114,7 @@ fn forget(entries: &mut BTreeMap<OutPoint, CacheEntry>, at: &OutPoint)
     entries.remove(at);
 }
 
-/// Takes the coin that stands at an outpoint, if there is one. It is copied only where it isn't the layer's own.
+/// Takes the coin at an outpoint, if there is one. It is copied only where it isn't the layer's own.
 pub(crate) fn take<B: Base>(
     entries: &mut BTreeMap<OutPoint, CacheEntry>,
     base: &B,

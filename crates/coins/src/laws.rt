@@ -4,9 +4,8 @@ ghost use Rattle.std.specs.Prelude.{◌≡◌, ◌+ℤ◌, ◌-ℤ◌, pos, None
 ghost use Rattle.std.specs.FinMap as map;
 ghost use Rattle.txn.specs.declared.outpoint.OutPoint.{OutPoint};
 ghost use Rattle.coins.specs.declared.coin.Coin.{Coin};
-ghost use Rattle.coins.specs.Coins.{Coins};
+ghost use Rattle.coins.specs.Coins.{Coins, total};
 ghost use Rattle.coins.specs.Changes.{Changes, AreChanges, after_changes};
-ghost use Rattle.coins.specs.Total.{total};
 
 /// The changes from some coins to others, laid over the first, give the others.
 pub fn changes_lead_to_the_coins()
@@ -20,7 +19,7 @@ pub fn changes_are_one_list()
         AreChanges before after others → changes ≡ others }
 {}
 
-/// No coins are worth nothing.
+/// Without coins the total is 0.
 pub fn no_coins_are_worth_nothing()
     ensures { total map.empty ≡ pos 0 }
 {}

@@ -2,13 +2,13 @@
 #![tactic(auto)]
 
 mod base;
+mod batch_write;
 mod cache;
 mod changes;
 mod coin;
 mod coin_map;
 mod entry;
 pub mod laws;
-mod laying;
 mod shards;
 mod writes;
 

@@ -53,7 +53,7 @@ impl Shards {
         self.maps[shard_of(at)].get(at)
     }
 
-    /// Puts a coin at an outpoint. Where one stands already, it takes no memory.
+    /// Puts a coin at an outpoint. Where there is one already, it takes no memory.
     pub(crate) fn insert(&mut self, at: OutPoint, coin: Coin) -> Result<(), Memory>
         ensures ok { OnOk result (self.new ≡ map.insert self.old at coin) }
         ensures err { OnErr result (self.new ≡ self.old) }
@@ -70,7 +70,7 @@ impl Shards {
     }
 }
 
-/// The place of the map that an outpoint's coin stands in: its id's first bits.
+/// The place of the map that has an outpoint's coin: its id's first bits.
 fn shard_of(at: &OutPoint) -> usize
     ensures place { result ≡ place at.now }
     ensures below { result < 8192 }

@@ -1,4 +1,4 @@
-//! What a layer wrote, apart from what it stands on.
+//! What a layer wrote, apart from its base.
 
 use crate::entry::CacheEntry;
 use std::collections::BTreeMap;

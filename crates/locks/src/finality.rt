@@ -9,7 +9,7 @@ use txn::{LOCKTIME_THRESHOLD, Tx, TxIn};
 /// The sequence number of an input that asks for no lock time (Bitcoin Core's `SEQUENCE_FINAL`).
 pub const SEQUENCE_FINAL: u32 = 0xffff_ffff;
 
-/// Whether a transaction may stand in a block of this height (Bitcoin Core's `IsFinalTx`). The cutoff is the
+/// Whether a transaction may be in a block of this height (Bitcoin Core's `IsFinalTx`). The cutoff is the
 /// time that its lock time must lie below: the median time past of the block's parent (BIP 113).
 #[tactic(auto, unfolding(crate::specs::Finality::is_final))]
 pub fn is_final(tx: &Tx, height: u32, cutoff: u32) -> bool
@@ -20,7 +20,7 @@ pub fn is_final(tx: &Tx, height: u32, cutoff: u32) -> bool
         || asks_for_none(tx.inputs.as_slice())
 }
 
-/// Whether a lock time, a height or a time, lies below that of the block.
+/// Whether a lock time, a height or a time, lies below the block's.
 fn has_passed(lock_time: u32, height: u32, cutoff: u32) -> bool
     ensures { result ≡ has_passed lock_time height cutoff }
 {

@@ -32,7 +32,7 @@ pub struct LockStart {
 }
 
 /// Whether a transaction's relative locks are met in a block of this height (BIP 68; Bitcoin Core's
-/// `SequenceLocks`). A start stands for each input, in order; the cutoff is the median time past of the
+/// `SequenceLocks`). There is a start for each input, in order; the cutoff is the median time past of the
 /// block's parent.
 #[tactic(auto, unfolding(crate::specs::Relative::are_met))]
 pub fn relative_ok(tx: &Tx, starts: &[LockStart], height: u32, cutoff: u32) -> bool

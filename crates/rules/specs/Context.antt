@@ -1,5 +1,6 @@
 -- The rules that a block obeys by its place in the tree.
-use Rattle.std.specs.Prelude.{ℕ, ◌+◌, ◌==◌, ◌&&◌, not, nat_lt, nat_le, if◌then◌else◌, List, [], ◌∷◌, ◌++◌}
+use Rattle.std.specs.Prelude.{ℕ, ◌+◌, ◌&&◌, List, [], ◌∷◌, length, nat_le, pos, if◌then◌else◌, ◌==◌, not, nat_lt, ◌++◌}
+use Rattle.script.specs.Num.{shortest_bytes}
 use Rattle.std.specs.List.{list_all, starts_with}
 use Rattle.txn.specs.declared.tx.Tx.{Tx}
 use Rattle.txn.specs.declared.reason.Reason.TheVariants.{WrongBits, TimeTooOld, TimeTooNew, BadVersion, NonFinal, CoinbaseHeight}
@@ -9,8 +10,12 @@ use Rattle.locks.specs.Finality.{is_final}
 use Rattle.rules.specs.declared.in_force.InForce.{InForce}
 use Rattle.txn.specs.Check.{first_script}
 use Rattle.txn.specs.First.{Rules}
-use Rattle.rules.specs.Height.{height_push}
-use Rattle.rules.specs.InForce.{is_outdated}
+use Rattle.rules.specs.Params.{is_outdated}
+
+-- OP_1 to OP_16 for 1 to 16, and else a push of the shortest number
+unfoldable pub height_push : ℕ → List ℕ
+height_push height =
+    if nat_le 1 height && nat_le height 16 then (0x50 + height) ∷ [] else length (shortest_bytes (pos height)) ∷ shortest_bytes (pos height)
 
 -- regtest's target, in its compact form
 abbrev pub regtest_bits : ℕ

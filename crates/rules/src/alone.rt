@@ -37,7 +37,7 @@ pub fn block_alone(alloc: Global, block: &Block) -> Result<Option<Reason>, Memor
     block_alone_with(alloc, block, &id, &ids)
 }
 
-/// The same with the block's id and those of its transactions, got before, so that each is hashed once.
+/// The same with ids that were got before, the block's and its transactions', so that each is hashed once.
 #[tactic(auto, unfolding(crate::specs::Alone::alone_rules))]
 pub fn block_alone_with(
     alloc: Global,

@@ -54,7 +54,7 @@ fn finality_cutoff(header: &Header, height: u32, median: u32, params: &Params) -
 /// The first rule that a header breaks by its place (Bitcoin Core's `ContextualCheckBlockHeader`).
 ///
 /// The cutoff is the median time past of its parent; `now` is the time of the clock; both and the header's
-/// time are in seconds since 1970. The rules on versions are those of the height.
+/// time are in seconds since 1970. Which rules on versions are in force is the height's matter.
 pub fn header_context(
     header: &Header,
     height: u32,

@@ -2,7 +2,7 @@
 
 ghost use Rattle.std.specs.Prelude.{◌≡◌, ◌==◌};
 ghost use Rattle.std.specs.List.{starts_with};
-ghost use Rattle.rules.specs.Height.{height_push};
+ghost use Rattle.rules.specs.Context.{height_push};
 
 use script::opcode::OP_1;
 

@@ -1,7 +1,7 @@
 //! Which rules a block obeys that came with soft forks.
 
 ghost use Rattle.std.specs.Prelude.{◌≡◌};
-ghost use Rattle.rules.specs.InForce.{is_outdated};
+ghost use Rattle.rules.specs.Params.{is_outdated};
 
 /// The rules of soft forks that are in force for a block: [`Params::at`](crate::Params::at) gives those of its height.
 #[derive(Clone, Copy, Debug, PartialEq, Eq)]

@@ -20,7 +20,7 @@ pub fn one_split()
         → Splits script list left → (ops script ≡ list) × (rest script ≡ left) }
 {}
 
-/// An opcode's bytes tell its number and what it pushes.
+/// An opcode's bytes say its number and what it pushes.
 pub fn one_meaning()
     ensures number { (number : ℕ) (pushed op : List ℕ) → Spells number pushed op
         → number_of op ≡ number }

@@ -13,7 +13,7 @@ use crate::ops::{Ops, number, pushed};
 /// What a CHECKMULTISIG counts that gets its number of keys from the script.
 #[derive(Clone, Copy, Debug, PartialEq, Eq)]
 pub enum Counting {
-    /// 20, whatever stands before it.
+    /// 20, whatever comes before it.
     Plain,
     /// The number that OP_1 to OP_16 directly before it names, else 20.
     Accurate,

@@ -19,7 +19,8 @@ use Rattle.tree.specs.Branches.{Kept, Blocks, has, older_of, id_at, place_of}
 use Rattle.tree.specs.Sound.{IsFresh}
 use Rattle.tree.specs.State.{State, rank, without_last}
 use Rattle.tree.specs.MedianTime.{median_time_past}
-use Rattle.tree.specs.Names.{names, id_cmp}
+use Rattle.hash.specs.Id.{id_cmp}
+use Rattle.tree.specs.Names.{names}
 use Rattle.tree.specs.Nodes.{kept_of, blocks_of, blank, mark_at, state_of}
 use Rattle.tree.specs.inside.Nodes.{IsNode, IsMark, IsRight, AreIds}
 use Rattle.tree.specs.inside.Slots.{AreInOrder, slot_of, leaves_of}

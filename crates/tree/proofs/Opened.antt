@@ -10,7 +10,8 @@ use Rattle.tree.specs.declared.node.Mark.{Mark}
 use Rattle.tree.specs.Branches.{down_from, branch, before, height, parent_at, block_at, id_at, place_of}
 use Rattle.tree.specs.State.{opening, has_no_mark, rank, rank_in}
 use Rattle.tree.specs.MedianTime.{median_time_past}
-use Rattle.tree.specs.Names.{names, id_cmp}
+use Rattle.hash.specs.Id.{id_cmp}
+use Rattle.tree.specs.Names.{names}
 use Rattle.tree.specs.Nodes.{blocks_of, mark_at, places_where, state_of}
 use Rattle.tree.specs.inside.Nodes.{IsNode, IsMark, IsRight, first_node, first_mark}
 use Rattle.tree.specs.inside.Slots.{slot_of, leaves_of}

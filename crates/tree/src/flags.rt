@@ -5,8 +5,8 @@ ghost use Rattle.tree.specs.Branches.{has};
 ghost use Rattle.tree.specs.Nodes.{blocks_of, mark_at, places_where, state_of};
 ghost use Rattle.tree.specs.inside.Nodes.{AreNodes, AreUsable};
 
+use crate::marks::spoil;
 use crate::node::{Mark, Node};
-use crate::spoiling::spoil;
 use std::alloc::Global;
 use std::marker::Model;
 use wire::Memory;

@@ -39,7 +39,7 @@ pub fn the_rank_is_the_place_of_the_last_call()
         (rank_in calls b < rank_in calls a) ↔ (first_called calls a b ≡ Some a) }
 {}
 
-/// A block stands on one that came before it, and is one higher.
+/// A block's parent came before it, and is one lower.
 pub fn a_block_is_one_higher_than_its_parent<B>()
     ensures { (t : Blocks B) (p : ℕ) → 0 < p → p ≤ length t → (parent_at t p < p) ×
         (height t p ≡ suc (height t (parent_at t p))) × (on t p (parent_at t p) ≡ true) }
@@ -50,7 +50,7 @@ pub fn taking_back_undoes_adding<B>()
     ensures { (s : State B) (b : B) (p : ℕ) → without_last (with_block s b p) ≡ s }
 {}
 
-/// The id of genesis is that of its header, though nobody hashes it.
+/// The id of genesis is its header's, though nobody hashes it.
 pub fn genesis_has_the_id_of_its_header()
     ensures { id_of genesis.header ≡ names.genesis_id }
 {

@@ -1,22 +1,21 @@
 //! The tree of kept blocks: branches, marks, which block is the better one, and tips.
 #![tactic(auto)]
 
-mod calling;
-mod clearing;
+mod branch;
 mod fault;
 mod flags;
-mod growing;
+mod genesis;
 pub mod laws;
+mod leaves;
+mod marks;
+mod median_time;
 mod node;
-mod opening;
-mod past;
-mod spoiling;
-mod standing;
+mod precious;
+mod rank;
 mod tip;
+mod tip_order;
 mod tips;
-mod top;
 mod tree;
-mod walk;
 
 pub use fault::AddFault;
 pub use flags::Flags;

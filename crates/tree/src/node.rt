@@ -8,7 +8,7 @@ use hash::Id;
 pub(crate) struct Node {
     pub(crate) block: StoredBlock,
     pub(crate) id: Id,
-    /// The place of the block that it stands on; 0 for genesis.
+    /// The place of its parent; 0 for genesis.
     pub(crate) parent: usize,
     pub(crate) height: usize,
     /// The median time past, in seconds since 1970.

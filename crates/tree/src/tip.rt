@@ -2,7 +2,7 @@
 
 use hash::Id;
 
-/// The active block, or one on which no other stands (Bitcoin Core's `getchaintips`).
+/// The active block, or one without a child (Bitcoin Core's `getchaintips`).
 #[derive(Clone, Copy, Debug, PartialEq, Eq)]
 pub struct Tip {
     pub id: Id,

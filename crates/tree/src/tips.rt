@@ -8,7 +8,7 @@ ghost use Rattle.tree.specs.inside.Slots.{is_leaf, leaves_of};
 ghost use Rattle.tree.specs.Tips.{goes_first, is_tip, sort_places, tip_of_id, status, tip};
 
 use crate::tip::{Status, Tip};
-use crate::top::Top;
+use crate::tip_order::Top;
 use crate::tree::{MAX_BLOCKS, Tree};
 use std::alloc::Global;
 use wire::Memory;
@@ -53,7 +53,7 @@ fn top(tree: &Tree, place: usize) -> Top
     }
 }
 
-/// What is told of the tip at this place, `active` being the branch of `best` from genesis on.
+/// What is said of the tip at this place, `active` being the branch of `best` from genesis on.
 pub(crate) fn tip_at(tree: &Tree, best: usize, active: &[usize], place: usize) -> Tip
     requires best { best ≤ length tree.now.blocks }
     requires active { active.now ≡ reverse (branch tree.now.blocks best) }

@@ -13,18 +13,17 @@ ghost use Rattle.tree.specs.Tips.{tip_of_id, tips};
 ghost use Rattle.tree.specs.MedianTime.{median_time_past};
 ghost use Rattle.tree.specs.Names.{names};
 
-use crate::calling::last_call;
-use crate::clearing::{related, take_marks};
+use crate::branch::branch_of;
 use crate::fault::AddFault;
 use crate::flags::{Flags, flags_of, put_back};
-use crate::growing::{enter, holds, leave, node_on};
+use crate::genesis::genesis_node;
+use crate::leaves::{enter, holds, leave, node_on};
+use crate::marks::{related, spoil, take_marks};
 use crate::node::{Mark, Node};
-use crate::opening::genesis_node;
-use crate::spoiling::spoil;
-use crate::standing::Standing;
+use crate::precious::last_call;
+use crate::rank::Standing;
 use crate::tip::Tip;
 use crate::tips::{tip_at, tops};
-use crate::walk::branch_of;
 use block::{GENESIS_ID, StoredBlock};
 use hash::Id;
 use std::alloc::Global;
@@ -44,7 +43,7 @@ pub struct Tree {
     /// The places that were called precious, in the order of the calls.
     calls: Vec<usize>,
     ids: BTreeMap<Id, usize>,
-    /// The places of the blocks on which no other stands.
+    /// The places of the blocks without a child.
     leaves: Vec<usize>,
 }
 
@@ -120,7 +119,7 @@ impl Tree {
         self.nodes[place].id
     }
 
-    /// The place of the block that this one stands on; 0 for genesis.
+    /// The place of a block's parent; 0 for genesis.
     pub fn parent(&self, place: usize) -> usize
         requires { place ≤ length self.now.blocks }
         ensures { result ≡ parent_at self.now.blocks place }
@@ -208,7 +207,7 @@ impl Tree {
         branch_of(alloc, self.nodes.as_slice(), place)
     }
 
-    /// Whether no other block stands on it.
+    /// Whether it has no child.
     pub(crate) fn is_leaf(&self, place: usize) -> bool
         requires { place ≤ length self.now.blocks }
         ensures { result ≡ is_leaf self.now.blocks place }
@@ -216,7 +215,7 @@ impl Tree {
         holds(self.leaves.as_slice(), self.nodes[place].slot, place)
     }
 
-    /// The blocks on which no other stands.
+    /// The blocks without a child.
     pub(crate) fn leaves(&self) -> &[usize]
         ensures leaves { result.now ≡ leaves_of self.now.blocks }
         ensures order { AreInOrder self.now.blocks }

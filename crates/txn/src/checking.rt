@@ -98,7 +98,7 @@ fn has_twice(alloc: Global, inputs: &[TxIn]) -> Result<bool, Memory>
     }
     let mut outpoints = prevs(alloc, inputs)?;
     outpoints.sort_unstable();
-    // What stands twice in a sorted list stands at two places that follow each other.
+    // What is twice in a sorted list is at two places that follow each other.
     for later in 1..outpoints.len() {
         if outpoints[later - 1] == outpoints[later] {
             return Ok(true);

@@ -1,9 +1,8 @@
 //! The ids of many transactions.
 
 ghost use Rattle.std.specs.Prelude.{◌≡◌, ◌≤◌, ◌++◌, IfOk, length, take};
-ghost use Rattle.lanes.specs.inside.Lane.{lanes};
 ghost use Rattle.txn.specs.Identity.{ids_of};
-ghost use Rattle.txn.specs.inside.Marks.{AreMarks};
+ghost use Rattle.txn.specs.inside.Marks.{AreMarks, lanes};
 
 use crate::tx::Tx;
 use crate::writing::write;

@@ -11,7 +11,7 @@ use std::fmt;
 pub enum Reason {
     /// The id is above the target.
     HighHash,
-    /// The header's root isn't that of the transactions.
+    /// The header's root isn't the transactions' root.
     BadMerkleRoot,
     /// Two equal hashes are paired in the Merkle tree, so another list has this root too.
     DuplicateTransactions,

@@ -3,7 +3,7 @@
 ghost use Rattle.std.specs.Prelude.{◌≡◌, ◌≤◌, ◌++◌, length, OnOk, OnErr};
 ghost use Rattle.wire.specs.Grammar.{sized_bytes, counted_list};
 ghost use Rattle.wire.specs.Spelling.{limit};
-ghost use Rattle.wire.specs.inside.Writing.{Extends};
+ghost use Rattle.wire.specs.laws.Writing.{Extends};
 ghost use Rattle.txn.specs.Grammar.{outpoint, input, output, transaction};
 ghost use Rattle.txn.specs.Limits.{AreInputsWithin, AreOutputsWithin, IsWithinLimits};
 

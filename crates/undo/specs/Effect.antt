@@ -17,14 +17,14 @@ abbrev pub spends : Tx → List OutPoint
 spends tx = if is_coinbase tx then [] else prevs tx.inputs
 
 -- the outpoint of the output at a place
-abbrev pub place : Id → ℕ → OutPoint
-place id index = record { id = id; index = index }
+abbrev pub outpoint_at : Id → ℕ → OutPoint
+outpoint_at id index = record { id = id; index = index }
 
 -- the outputs from a place on that can be coins, by their outpoints
 abbrev pub spendable : Id → ℕ → List TxOut → List (OutPoint × TxOut)
 spendable id index [] = []
 spendable id index (output ∷ outputs) =
-    (if is_unspendable output.script then [] else (place id index, output) ∷ []) ++ spendable id (index + 1) outputs
+    (if is_unspendable output.script then [] else (outpoint_at id index, output) ∷ []) ++ spendable id (index + 1) outputs
 
 -- the coin that an output makes
 abbrev pub coin_of : ℕ → Bool → TxOut → Coin
@@ -59,7 +59,7 @@ spent_coins m tx = coins_at m (spends tx)
 pub record IsApplicable (m : Coins) (tx : Tx) (id : Id) : Type 0 where
   pub coins : AllByRecursion (λ outpoint. IsSome (coin_map.get m outpoint)) (spends tx)
   pub once : IsDistinct same (spends tx)
-  pub new : (index : ℕ) → index < length tx.outputs → coin_map.get m (place id index) ≡ None
+  pub new : (index : ℕ) → index < length tx.outputs → coin_map.get m (outpoint_at id index) ≡ None
   -- an output's place is a number of 32 bits
   pub numbered : length tx.outputs ≤ 2 ^ 32
 

@@ -9,7 +9,7 @@ ghost use Rattle.script.specs.Kinds.{is_unspendable};
 ghost use Rattle.coins.specs.Coins.{Coins, same};
 ghost use Rattle.coins.specs.Entries.{over, IsSound};
 ghost use Rattle.undo.specs.Effect.{spends, spendable, coin_of, makes, without, with_coins, after, coins_at, spent_coins, IsApplicable};
-ghost use Rattle.undo.specs.inside.Reverting.{AreNew};
+ghost use Rattle.undo.specs.laws.Reverting.{AreNew};
 
 use crate::block_undo::Spent;
 use coins::{Base, Cache, Coin, Writes};
@@ -76,7 +76,7 @@ pub fn apply_in_layer<'b, B: Base>(
 }
 
 /// Takes the coins that a transaction spends, each looked up once: None where one isn't there, and the layer is
-/// dropped then, as it is at want of memory. A coinbase spends none.
+/// dropped then, as it is when memory runs out. A coinbase spends none.
 pub fn take_inputs<'b, B: Base>(
     alloc: Global,
     mut layer: Cache<'b, B>,

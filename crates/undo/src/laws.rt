@@ -11,8 +11,8 @@ ghost use Rattle.txn.specs.declared.tx.Tx.{Tx};
 ghost use Rattle.txn.specs.Check.{is_coinbase};
 ghost use Rattle.script.specs.Kinds.{is_unspendable};
 ghost use Rattle.coins.specs.Coins.{Coins, same};
-ghost use Rattle.undo.specs.Effect.{spends, place, coin_of, after, spent_coins, IsApplicable};
-ghost use Rattle.undo.specs.inside.Reverting.{coins_before};
+ghost use Rattle.undo.specs.Effect.{spends, outpoint_at, coin_of, after, spent_coins, IsApplicable};
+ghost use Rattle.undo.specs.laws.Reverting.{coins_before};
 
 /// What a transaction spends is gone after it.
 pub fn what_is_spent_is_gone()
@@ -21,12 +21,12 @@ pub fn what_is_spent_is_gone()
         None) (spends tx) }
 {}
 
-/// At each output's place stands its coin, and nothing where it can't be one.
+/// At each output's place is its coin, and nothing where it can't be one.
 pub fn each_output_makes_its_coin()
     ensures { (coins : Coins) (tx : Tx) (id : Id) (height : ℕ) → IsApplicable coins tx id →
         (index : ℕ) (other : TxOut) → index < length tx.outputs →
         (let output = get_or tx.outputs index other in
-        coin_map.get (after coins tx id height) (place id index) ≡
+        coin_map.get (after coins tx id height) (outpoint_at id index) ≡
         (if is_unspendable output.script then None else
         Some (coin_of height (is_coinbase tx) output))) }
 {}
@@ -35,7 +35,7 @@ pub fn each_output_makes_its_coin()
 pub fn all_other_coins_stay()
     ensures { (coins : Coins) (tx : Tx) (id : Id) (height : ℕ) (outpoint : OutPoint) →
         list_any (same outpoint) (spends tx) ≡ false →
-        ((index : ℕ) → index < length tx.outputs → ¬ (outpoint ≡ place id index)) →
+        ((index : ℕ) → index < length tx.outputs → ¬ (outpoint ≡ outpoint_at id index)) →
         coin_map.get (after coins tx id height) outpoint ≡ coin_map.get coins outpoint }
 {}
 

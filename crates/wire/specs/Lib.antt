@@ -1,5 +1,4 @@
 pub mod Spelling
 pub mod Grammar
-pub mod inside
 pub mod computed
 pub mod laws

@@ -10,7 +10,7 @@ use Rattle.block.specs.Grammar.{block}
 use Rattle.block.specs.computed.Reading.{block_at}
 use Rattle.block.specs.laws.Reading.{block_decides}
 use Rattle.block.specs.Whole.{Faulty, HasExtra}
-use Rattle.block.specs.Decoding.{block_alone, whole_block, block_of_bytes}
+use Rattle.block.specs.Decoding.{unless_more, whole_block, block_of_bytes}
 
 pub read_again : (bytes : List ℕ) (b : Block) → block.Lawful b → bytes ≡ block.spell b → block_at bytes ≡ Ok (b, [])
 read_again bytes b lawful e = ap block_at (e ∙ sym (append-nil (block.spell b))) ∙ block_decides.again b [] lawful
@@ -25,7 +25,7 @@ read_extra bytes x = ap block_at x.3 ∙ block_decides.again x.0 x.1 x.2
 pub decoded-spelled : (bytes : List ℕ) (b : Block) → block.Lawful b → bytes ≡ block.spell b → block_of_bytes bytes ≡ Some b
 decoded-spelled bytes b lawful e = ap whole_block (read_again bytes b lawful e)
 
-none_with_more : (b : Block) (rest : List ℕ) → 0 < length rest → block_alone b rest ≡ None
+none_with_more : (b : Block) (rest : List ℕ) → 0 < length rest → unless_more b rest ≡ None
 none_with_more b [] lt = absurd (omega (arith, lt))
 none_with_more b (x ∷ xs) lt = refl
 

@@ -10,8 +10,7 @@ use Rattle.std.specs.FinMap.Entries.{find, put, by_order}
 use Rattle.std.proofs.lemmas.Int.{ints}
 use Rattle.txn.specs.declared.outpoint.OutPoint.{OutPoint}
 use Rattle.coins.specs.declared.coin.Coin.{Coin}
-use Rattle.coins.specs.Coins.{Coins, outpoint_cmp, same}
-use Rattle.coins.specs.Total.{sum_of_values, total}
+use Rattle.coins.specs.Coins.{Coins, outpoint_cmp, same, sum_of_values, total}
 use Rattle.coins.specs.laws.Lookups.{total_order, same_coins, same-true, same-self}
 
 abbrev values : List (OutPoint × Coin) → ℤ

@@ -11,7 +11,8 @@ use Rattle.tree.specs.inside.Slots.{AreInOrder, slot_of, leaves_of}
 use Rattle.tree.specs.State.{State, has_no_mark, rank}
 use Rattle.tree.specs.Limits.{max_blocks}
 use Rattle.tree.specs.MedianTime.{median_time_past}
-use Rattle.tree.specs.Names.{names, genesis, id_cmp}
+use Rattle.hash.specs.Id.{id_cmp}
+use Rattle.tree.specs.Names.{names, genesis}
 use Rattle.tree.specs.Nodes.{blocks_of, mark_at, state_of}
 
 -- of a node, by its place

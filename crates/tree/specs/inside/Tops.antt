@@ -2,7 +2,7 @@
 use Rattle.std.specs.Prelude.{ℕ, ◌-◌}
 use Rattle.std.specs.declared.cmp.Ordering.{Ordering}
 use Rattle.std.specs.Ordering.{nat_cmp, ordering_then}
-use Rattle.tree.specs.declared.top.Top.{Top}
+use Rattle.tree.specs.declared.tip_order.Top.{Top}
 use Rattle.tree.specs.Branches.{Blocks, height}
 use Rattle.tree.specs.Limits.{max_blocks}
 

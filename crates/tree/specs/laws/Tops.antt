@@ -11,7 +11,7 @@ use Rattle.std.proofs.lemmas.List.{get_or-map, length-map}
 use Rattle.std.proofs.lemmas.List.Elements.{All-map, All-head, All-tail}
 use Rattle.std.proofs.lemmas.List.Sorted.{IsPermutation-map, All-permutation, sum_by-IsPermutation, sorted_far, ranks_by}
 use Rattle.block.specs.declared.block.Block.{Block}
-use Rattle.tree.specs.declared.top.Top.{Top}
+use Rattle.tree.specs.declared.tip_order.Top.{Top}
 use Rattle.tree.specs.Branches.{Blocks, has, places, height}
 use Rattle.tree.specs.Limits.{max_blocks}
 use Rattle.tree.specs.inside.Tops.{top_at, top_cmp}

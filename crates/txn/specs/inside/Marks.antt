@@ -1,8 +1,11 @@
 -- Transactions that are spelled one after the other.
 use Rattle.std.specs.Prelude.{◌≡◌, ◌≤◌, ◌<◌, ℕ, ◌+◌, ◌-◌, List, length, take, drop, slice_index, slice_index_or}
-use Rattle.lanes.specs.inside.Lane.{lanes}
 use Rattle.txn.specs.declared.tx.Tx.{Tx}
 use Rattle.txn.specs.Grammar.{transaction}
+
+-- how many messages are hashed at once (`lanes::LANES`)
+abbrev pub lanes : ℕ
+lanes = 8
 
 -- the first k transactions are spelled in the bytes, each from its mark to the next
 pub record AreMarks (txs : List Tx) (bytes marks : List ℕ) (k : ℕ) : Type 0 where

@@ -14,8 +14,8 @@ use Rattle.script.specs.Kinds.{is_unspendable}
 use Rattle.coins.specs.declared.coin.Coin.{Coin}
 use Rattle.coins.specs.Coins.{Coins, same}
 use Rattle.coins.specs.laws.Lookups.{same_coins, same-true, same-self, same-sym, entry_for}
-use Rattle.undo.specs.Effect.{spends, place, spendable, coin_of, makes, without, with_coins, after, coins_at, spent_coins, IsApplicable, IsApplied}
-use Rattle.undo.specs.inside.Reverting.{coins_before, IsRevertible, AreCoins, AreNew}
+use Rattle.undo.specs.Effect.{spends, outpoint_at, spendable, coin_of, makes, without, with_coins, after, coins_at, spent_coins, IsApplicable, IsApplied}
+use Rattle.undo.specs.laws.Reverting.{coins_before, IsRevertible, AreCoins, AreNew}
 use Rattle.undo.specs.laws.Effects.{get-without, get-with_coins, all_from, all_at, found_key}
 
 -- ---- the outpoints of outputs
@@ -23,14 +23,14 @@ use Rattle.undo.specs.laws.Effects.{get-without, get-with_coins, all_from, all_a
 index_of : OutPoint → ℕ
 index_of p = p.index
 
-other_place : (b : Bool) (id : Id) (j k : ℕ) → j < k → same (place id j) (place id k) ≡ b → b ≡ false
+other_place : (b : Bool) (id : Id) (j k : ℕ) → j < k → same (outpoint_at id j) (outpoint_at id k) ≡ b → b ≡ false
 unfolding index_of
-other_place true id j k l h = let e : j ≡ k = ap index_of (same-true (place id j) (place id k) h) in absurd (omega arith)
+other_place true id j k l h = let e : j ≡ k = ap index_of (same-true (outpoint_at id j) (outpoint_at id k) h) in absurd (omega arith)
 other_place false id j k l h = refl
 
 -- each stands at the place of an output from this one on
 abbrev From : Id → ℕ → ℕ → OutPoint → Type 0
-From id k n q = (j : ℕ) × (k ≤ j) × (j < k + n) × (q ≡ place id j)
+From id k n q = (j : ℕ) × (k ≤ j) × (j < k + n) × (q ≡ outpoint_at id j)
 
 from_more : (id : Id) (k n : ℕ) (q : OutPoint) → From id (k + 1) n q → From id k (n + 1) q
 from_more id k n q f = (f.0, omega arith, omega arith, f.3)
@@ -39,18 +39,18 @@ later : (P : OutPoint → Type 0) (id : Id) (k : ℕ) (os : List TxOut) → ((q 
 later P id k [] h = tt
 later P id k (o ∷ os) h = at (is_unspendable o.script) (later P id (k + 1) os (λ q f. h q (let g = from_more id k (length os) q f in (g.0, g.1, omega arith, g.3))))
   where
-    at : (b : Bool) → AllByRecursion P (keys_of (spendable id (k + 1) os)) → AllByRecursion P (keys_of (cond b [] ((place id k, o) ∷ []) ++ spendable id (k + 1) os))
+    at : (b : Bool) → AllByRecursion P (keys_of (spendable id (k + 1) os)) → AllByRecursion P (keys_of (cond b [] ((outpoint_at id k, o) ∷ []) ++ spendable id (k + 1) os))
     at true r = r
-    at false r = (h (place id k) (k, omega arith, omega arith, refl), r)
+    at false r = (h (outpoint_at id k) (k, omega arith, omega arith, refl), r)
 
 pub once_spendable : (id : Id) (k : ℕ) (os : List TxOut) → IsDistinct same (keys_of (spendable id k os))
 unfolding IsDistinct
 once_spendable id k [] = tt
 once_spendable id k (o ∷ os) = at (is_unspendable o.script) (once_spendable id (k + 1) os)
   where
-    at : (b : Bool) → IsDistinct same (keys_of (spendable id (k + 1) os)) → IsDistinct same (keys_of (cond b [] ((place id k, o) ∷ []) ++ spendable id (k + 1) os))
+    at : (b : Bool) → IsDistinct same (keys_of (spendable id (k + 1) os)) → IsDistinct same (keys_of (cond b [] ((outpoint_at id k, o) ∷ []) ++ spendable id (k + 1) os))
     at true r = r
-    at false r = (later (λ q. same (place id k) q ≡ false) id (k + 1) os (λ q f. ap (same (place id k)) f.3 ∙ other_place (same (place id k) (place id f.0)) id k f.0 (omega arith) refl), r)
+    at false r = (later (λ q. same (outpoint_at id k) q ≡ false) id (k + 1) os (λ q f. ap (same (outpoint_at id k)) f.3 ∙ other_place (same (outpoint_at id k) (outpoint_at id f.0)) id k f.0 (omega arith) refl), r)
 
 -- what is made stands at the same outpoints
 pub keys-made : (f : TxOut → Coin) (es : List (OutPoint × TxOut)) → keys_of (map (λ o. (o.0, f o.1)) es) ≡ keys_of es
@@ -216,23 +216,23 @@ found_next : (f : TxOut → Coin) (b : Bool) (p q : OutPoint) (o : TxOut) (es : 
 found_next f true p q o es h = refl
 found_next f false p q o es h = ap (λ b. cond b (Some (f o)) (entry_for (map (λ x. (x.0, f x.1)) es) q)) h
 
-other_way : (id : Id) (j k : ℕ) → j < k → same (place id k) (place id j) ≡ false
-other_way id j k l = same-sym (place id k) (place id j) ∙ other_place (same (place id j) (place id k)) id j k l refl
+other_way : (id : Id) (j k : ℕ) → j < k → same (outpoint_at id k) (outpoint_at id j) ≡ false
+other_way id j k l = same-sym (outpoint_at id k) (outpoint_at id j) ∙ other_place (same (outpoint_at id j) (outpoint_at id k)) id j k l refl
 
-none_later : (f : TxOut → Coin) (id : Id) (k : ℕ) (os : List TxOut) → entry_for (map (λ x. (x.0, f x.1)) (spendable id (k + 1) os)) (place id k) ≡ None
-none_later f id k os = apart_from (place id k) (map (λ x. (x.0, f x.1)) (spendable id (k + 1) os))
-    (subst (AllByRecursion (λ y. same (place id k) y ≡ false)) (sym (keys-made f (spendable id (k + 1) os)))
-    (later (λ y. same (place id k) y ≡ false) id (k + 1) os (λ q g. ap (same (place id k)) g.3 ∙ other_place (same (place id k) (place id g.0)) id k g.0 (omega (arith, g.1)) refl)))
+none_later : (f : TxOut → Coin) (id : Id) (k : ℕ) (os : List TxOut) → entry_for (map (λ x. (x.0, f x.1)) (spendable id (k + 1) os)) (outpoint_at id k) ≡ None
+none_later f id k os = apart_from (outpoint_at id k) (map (λ x. (x.0, f x.1)) (spendable id (k + 1) os))
+    (subst (AllByRecursion (λ y. same (outpoint_at id k) y ≡ false)) (sym (keys-made f (spendable id (k + 1) os)))
+    (later (λ y. same (outpoint_at id k) y ≡ false) id (k + 1) os (λ q g. ap (same (outpoint_at id k)) g.3 ∙ other_place (same (outpoint_at id k) (outpoint_at id g.0)) id k g.0 (omega (arith, g.1)) refl)))
 
 found-makes : (f : TxOut → Coin) (id : Id) (k : ℕ) (os : List TxOut) (i : ℕ) (d : TxOut) → i < length os
-    → entry_for (map (λ x. (x.0, f x.1)) (spendable id k os)) (place id (k + i)) ≡ cond (is_unspendable (get_or os i d).script) None (Some (f (get_or os i d)))
+    → entry_for (map (λ x. (x.0, f x.1)) (spendable id k os)) (outpoint_at id (k + i)) ≡ cond (is_unspendable (get_or os i d).script) None (Some (f (get_or os i d)))
 found-makes f id k [] i d h = absurd (omega arith)
 found-makes f id k (o ∷ os) zero d h =
-    ap (λ j. entry_for (with_first f (is_unspendable o.script) (place id k) o (spendable id (k + 1) os)) (place id j)) (omega arith)
-    ∙ found_first f (is_unspendable o.script) (place id k) o (spendable id (k + 1) os) (none_later f id k os)
+    ap (λ j. entry_for (with_first f (is_unspendable o.script) (outpoint_at id k) o (spendable id (k + 1) os)) (outpoint_at id j)) (omega arith)
+    ∙ found_first f (is_unspendable o.script) (outpoint_at id k) o (spendable id (k + 1) os) (none_later f id k os)
 found-makes f id k (o ∷ os) (suc i) d h =
-    found_next f (is_unspendable o.script) (place id k) (place id (k + suc i)) o (spendable id (k + 1) os) (other_way id k (k + suc i) (omega arith))
-    ∙ ap (λ j. entry_for (map (λ x. (x.0, f x.1)) (spendable id (k + 1) os)) (place id j)) (omega arith)
+    found_next f (is_unspendable o.script) (outpoint_at id k) (outpoint_at id (k + suc i)) o (spendable id (k + 1) os) (other_way id k (k + suc i) (omega arith))
+    ∙ ap (λ j. entry_for (map (λ x. (x.0, f x.1)) (spendable id (k + 1) os)) (outpoint_at id j)) (omega arith)
     ∙ found-makes f id (k + 1) os i d (omega arith)
 
 pub get-after : (m : Coins) (tx : Tx) (id : Id) (height : ℕ) (q : OutPoint) → coin_map.get (after m tx id height) q ≡ option_or (entry_for (makes tx id height) q) (cond (list_any (same q) (spends tx)) None (coin_map.get m q))
@@ -247,13 +247,13 @@ output_here false d c o h = refl
 
 -- at the place of an output its coin, if it can be one
 pub output-after : (m : Coins) (tx : Tx) (id : Id) (height : ℕ) → IsApplicable m tx id → (i : ℕ) (d : TxOut) → i < length tx.outputs
-    → coin_map.get (after m tx id height) (place id i) ≡ cond (is_unspendable (get_or tx.outputs i d).script) None (Some (coin_of height (is_coinbase tx) (get_or tx.outputs i d)))
+    → coin_map.get (after m tx id height) (outpoint_at id i) ≡ cond (is_unspendable (get_or tx.outputs i d).script) None (Some (coin_of height (is_coinbase tx) (get_or tx.outputs i d)))
 output-after m tx id height h i d l =
     let f = coin_of height (is_coinbase tx) in
-    get-after m tx id height (place id i)
-    ∙ ap (λ (o : Option Coin). option_or o (cond (list_any (same (place id i)) (spends tx)) None (coin_map.get m (place id i))))
-    (ap (λ j. entry_for (makes tx id height) (place id j)) (omega arith) ∙ found-makes f id 0 tx.outputs i d l)
-    ∙ output_here (is_unspendable (get_or tx.outputs i d).script) (list_any (same (place id i)) (spends tx)) (f (get_or tx.outputs i d)) (coin_map.get m (place id i)) (h.new i l)
+    get-after m tx id height (outpoint_at id i)
+    ∙ ap (λ (o : Option Coin). option_or o (cond (list_any (same (outpoint_at id i)) (spends tx)) None (coin_map.get m (outpoint_at id i))))
+    (ap (λ j. entry_for (makes tx id height) (outpoint_at id j)) (omega arith) ∙ found-makes f id 0 tx.outputs i d l)
+    ∙ output_here (is_unspendable (get_or tx.outputs i d).script) (list_any (same (outpoint_at id i)) (spends tx)) (f (get_or tx.outputs i d)) (coin_map.get m (outpoint_at id i)) (h.new i l)
 
 none_made : (m : Coins) (tx : Tx) (id : Id) (height : ℕ) → IsApplicable m tx id → (q : OutPoint) → IsSome (coin_map.get m q) → entry_for (makes tx id height) q ≡ None
 none_made m tx id height h q some = at (entry_for (makes tx id height) q) refl
@@ -273,7 +273,7 @@ gone-after m tx id height h = all_from (λ q. coin_map.get (after m tx id height
     ∙ ap (λ (o : Option Coin). option_or o (cond (list_any (same q) (spends tx)) None (coin_map.get m q))) (none_made m tx id height h q (all_at (λ x. IsSome (coin_map.get m x)) (spends tx) h.coins q t))
     ∙ ap (λ b. cond b None (coin_map.get m q)) t)
 
-not_a_place : (id : Id) (os : List TxOut) (q : OutPoint) → ((i : ℕ) → i < length os → ¬ (q ≡ place id i)) → AllByRecursion (λ y. same q y ≡ false) (keys_of (spendable id 0 os))
+not_a_place : (id : Id) (os : List TxOut) (q : OutPoint) → ((i : ℕ) → i < length os → ¬ (q ≡ outpoint_at id i)) → AllByRecursion (λ y. same q y ≡ false) (keys_of (spendable id 0 os))
 not_a_place id os q h = later (λ y. same q y ≡ false) id 0 os (λ y f. at (same q y) y f refl)
   where
     at : (b : Bool) (y : OutPoint) → From id 0 (length os) y → same q y ≡ b → b ≡ false
@@ -281,7 +281,7 @@ not_a_place id os q h = later (λ y. same q y ≡ false) id 0 os (λ y f. at (sa
     at false y f e = refl
 
 -- and all else stays
-pub stays-after : (m : Coins) (tx : Tx) (id : Id) (height : ℕ) (q : OutPoint) → list_any (same q) (spends tx) ≡ false → ((i : ℕ) → i < length tx.outputs → ¬ (q ≡ place id i))
+pub stays-after : (m : Coins) (tx : Tx) (id : Id) (height : ℕ) (q : OutPoint) → list_any (same q) (spends tx) ≡ false → ((i : ℕ) → i < length tx.outputs → ¬ (q ≡ outpoint_at id i))
     → coin_map.get (after m tx id height) q ≡ coin_map.get m q
 stays-after m tx id height q t h =
     get-after m tx id height q

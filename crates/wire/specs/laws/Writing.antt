@@ -2,7 +2,10 @@
 use Rattle.std.proofs.Common.{Bool, true, false, Result, Ok, Err, ◌≡◌, ℕ, List, [], ◌++◌, length, take, refl, sym, ◌∙◌, ap, append_assoc}
 use Rattle.std.specs.Prelude.{if◌then◌else◌, OnOk, OnErr}
 use Rattle.std.proofs.lemmas.List.{append-nil, take_at}
-use Rattle.wire.specs.inside.Writing.{Extends}
+
+-- the old bytes are at the front of the new
+unfoldable pub Extends : List ℕ → List ℕ → Type 0
+Extends old new = (more : List ℕ) × (new ≡ old ++ more)
 
 pub extends-same : (old new : List ℕ) → new ≡ old → Extends old new
 unfolding Extends

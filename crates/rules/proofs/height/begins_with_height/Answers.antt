@@ -1,6 +1,6 @@
 use Rattle.std.proofs.Common.{◌≡◌, ◌==◌, ◌/◌, ◌%◌, ◌∙◌, get_or, ap, sym, arith}
 use Rattle.std.specs.List.{starts_with}
-use Rattle.rules.specs.Height.{height_push}
+use Rattle.rules.specs.Context.{height_push}
 use Rattle.rules.proofs.Pushes.{none, opcode, one, two, three, four, five}
 use Rattle.rules.proofs.height.begins_with_height.Goals as goal
 

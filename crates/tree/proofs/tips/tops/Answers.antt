@@ -1,6 +1,6 @@
 use Rattle.std.proofs.Common.{List, subst}
 use Rattle.std.specs.List.Sorted.{IsPermutation}
-use Rattle.tree.specs.declared.top.Top.{Top}
+use Rattle.tree.specs.declared.tip_order.Top.{Top}
 use Rattle.tree.specs.laws.Tops.{sorted_tips}
 use Rattle.tree.proofs.tips.tops.Goals as goal
 

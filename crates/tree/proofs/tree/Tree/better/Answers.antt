@@ -1,5 +1,5 @@
 use Rattle.std.proofs.Common.{Bool, ltb, eqb, ◌&&◌, ◌||◌, ap, ◌∙◌}
-use Rattle.tree.specs.declared.standing.Standing.{Standing}
+use Rattle.tree.specs.declared.rank.Standing.{Standing}
 use Rattle.tree.specs.State.{beats}
 use Rattle.tree.proofs.tree.Tree.better.Goals as goal
 

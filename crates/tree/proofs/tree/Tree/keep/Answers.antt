@@ -10,7 +10,8 @@ use Rattle.tree.specs.declared.node.Mark.{Mark}
 use Rattle.tree.specs.Branches.{Kept, place_of}
 use Rattle.tree.specs.Sound.{IsFresh}
 use Rattle.tree.specs.State.{State, has_no_mark, with_block}
-use Rattle.tree.specs.Names.{names, id_cmp}
+use Rattle.hash.specs.Id.{id_cmp}
+use Rattle.tree.specs.Names.{names}
 use Rattle.tree.specs.Nodes.{blocks_of, kept_of, state_of}
 use Rattle.tree.specs.inside.Nodes.{IsNode, IsRight}
 use Rattle.tree.specs.inside.Slots.{AreInOrder, leaves_of}

@@ -5,7 +5,8 @@ use Rattle.std.specs.Ordering.{eq_by_cmp}
 use Rattle.hash.specs.declared.id.Id.{Id}
 use Rattle.tree.specs.declared.node.Node.{Node}
 use Rattle.tree.specs.declared.node.Mark.{Mark}
-use Rattle.tree.specs.Names.{names, id_cmp}
+use Rattle.hash.specs.Id.{id_cmp}
+use Rattle.tree.specs.Names.{names}
 use Rattle.tree.specs.Nodes.{state_of}
 use Rattle.tree.specs.inside.Nodes.{IsRight, first_node, first_mark}
 use Rattle.tree.proofs.Opened.{opened, right_opened}

@@ -1,5 +1,5 @@
 use Rattle.std.proofs.Common.{ℕ, ap, ◌∙◌, arith}
-use Rattle.tree.specs.declared.standing.Standing.{Standing}
+use Rattle.tree.specs.declared.rank.Standing.{Standing}
 use Rattle.tree.specs.Branches.{height}
 use Rattle.tree.proofs.Views.{kept, node_at, rank_at}
 use Rattle.tree.proofs.tree.Tree.standing.Goals as goal

@@ -1,7 +1,7 @@
 use Rattle.std.proofs.Common.{◌≡◌, ℕ, List, [], ◌∷◌, map, refl, ap, ◌∙◌}
 use Rattle.std.proofs.lemmas.List.{take_all}
 use Rattle.block.specs.declared.block.Block.{Block}
-use Rattle.tree.specs.declared.top.Top.{Top}
+use Rattle.tree.specs.declared.tip_order.Top.{Top}
 use Rattle.tree.specs.declared.tip.Tip.{Tip}
 use Rattle.tree.specs.Names.{names}
 use Rattle.tree.specs.inside.Tops.{top_at}

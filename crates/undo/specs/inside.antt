@@ -1,2 +1,0 @@
--- What private functions and invariants alone cite.
-pub mod Reverting
