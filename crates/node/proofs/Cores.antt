@@ -12,26 +12,25 @@ use Rattle.coins.specs.Changes.{Changes, AreChanges}
 use Rattle.chain.specs.declared.command.Command.{Command}
 use Rattle.chain.specs.declared.reply.Reply.{Reply}
 use Rattle.chain.specs.declared.entry.Entry.{Entry}
-use Rattle.chain.specs.Commands.{outcome}
 use Rattle.chain.specs.History.{entry_of}
 use Rattle.chain.specs.Regtest.{regtest, ledger}
 use Rattle.chain.specs.Replay.{coins}
 use Rattle.chain.specs.Settle.{active, best, tips}
 use Rattle.chain.specs.Settled.{IsSettled}
-use Rattle.activate.specs.CoreState.{CoreState, Follows, genesis_alone}
+use Rattle.activate.specs.CoreState.{CoreState, Follows, opened_core}
 use Rattle.activate.specs.CoreState as core_state
 use Rattle.view.specs.Origin.{Origin}
-use Rattle.view.specs.ViewState.{IsExact, IsInfo, IsLegal, coins_of, opening_view}
+use Rattle.view.specs.ViewState.{IsExact, IsInfo, IsLegal, coins_after, opening_view}
 use Rattle.view.specs.declared.chain_info.ChainInfo.{ChainInfo}
 use Rattle.view.specs.laws.Exact.{opening_exact}
 use Rattle.node.specs.inside.Keeping.{is_step}
-use Rattle.node.specs.inside.PublishedState.{IsCoreOf, with_its_coins, entry_with_reply}
+use Rattle.node.specs.inside.PublishedState.{IsCoreOf, IsCoreStep, with_its_coins, entry_with_reply}
 use Rattle.node.proofs.Few.{height-few}
 use Rattle.node.proofs.Kept.{Stepped, opens, taken_kept}
 use Rattle.node.proofs.Publications.{state_of-push, owed_legal}
 
 -- the coins that a core stands on are those of its history
-pub coins_are : (o : Origin) (core : CoreState) (journal : List Entry) → IsCoreOf o core journal → core_state.coins_of core ≡ coins_of o journal
+pub coins_are : (o : Origin) (core : CoreState) (journal : List Entry) → IsCoreOf o core journal → core_state.coins_of core ≡ coins_after o journal
 coins_are o core journal k =
     ap (λ (a : ℕ). core_state.coins_after core.state.blocks a) k.is_chainstate.follows.active_is
     ∙ ap (λ (p : Params). coins (regtest p o.triples) ledger core.state) k.params_are
@@ -62,9 +61,12 @@ with_reply o core xs e r legal k = record {
 }
 
 -- what a command did to a core, its coins beside it
-pub stepped : (o : Origin) (old new : CoreState) (c : Command) (r : Reply) → (new.state, r) ≡ outcome (regtest old.params o.triples) old.state c → new.params ≡ old.params → Follows new o.triples
-    → Stepped o (with_its_coins old) (with_its_coins new) c r
-stepped o old new c r outcome_is params follows = record { outcome_is = outcome_is; params_are = params; is_chainstate = record { follows = follows; coins_are = refl } }
+pub stepped : (o : Origin) (old new : CoreState) (c : Command) (r : Reply) (changes : Changes) → IsCoreStep o.triples old new c r changes → Stepped o (with_its_coins old) (with_its_coins new) c r
+stepped o old new c r changes step = record {
+  outcome_is = step.outcome_is;
+  params_are = step.params_are;
+  is_chainstate = record { follows = step.follows; coins_are = refl };
+}
 
 -- after a step it stands last, and its reply may stand there too
 module _ (o : Origin) (old new : CoreState) (journal : List Entry) (number : ℕ) (c : Command) (r : Reply) (kept : IsCoreOf o old journal)
@@ -78,17 +80,17 @@ module _ (o : Origin) (old new : CoreState) (journal : List Entry) (number : ℕ
   pub owed_core : IsCoreOf o new (journal ++ entry_of number c None ∷ [])
   owed_core = with_reply o new journal (entry_of number c (Some r)) None (owed_legal o journal (entry_of number c (Some r)) replied_legal) whole
 
-  pub owed_changes : (changes : Changes) → AreChanges (core_state.coins_of old) (core_state.coins_of new) changes → AreChanges (coins_of o journal) (coins_of o (journal ++ entry_of number c None ∷ [])) changes
+  pub owed_changes : (changes : Changes) → AreChanges (core_state.coins_of old) (core_state.coins_of new) changes → AreChanges (coins_after o journal) (coins_after o (journal ++ entry_of number c None ∷ [])) changes
   owed_changes changes h =
-      subst (λ (m : Coins). AreChanges m (coins_of o (journal ++ entry_of number c None ∷ [])) changes) (coins_are o old journal kept)
+      subst (λ (m : Coins). AreChanges m (coins_after o (journal ++ entry_of number c None ∷ [])) changes) (coins_are o old journal kept)
       (subst (λ (m : Coins). AreChanges (core_state.coins_of old) m changes) (coins_are o new (journal ++ entry_of number c None ∷ []) owed_core) h)
 
 -- a new core is that of the empty history
-pub opening_core : (o : Origin) (core : CoreState) (journal : List Entry) → core ≡ genesis_alone o.params → Follows core o.triples → core_state.coins_of core ≡ coin_map.empty → journal ≡ [] → IsCoreOf o core journal
+pub opening_core : (o : Origin) (core : CoreState) (journal : List Entry) → core ≡ opened_core o.params → Follows core o.triples → core_state.coins_of core ≡ coin_map.empty → journal ≡ [] → IsCoreOf o core journal
 opening_core o core journal is follows none empty =
     opens o (with_its_coins core) journal (λ i. record { core = is i; coins = none i }) (record { follows = follows; coins_are = refl }) empty
 
 -- what is published at first
-pub opening_shown : (o : Origin) (core : CoreState) (x : ChainInfo) → core ≡ genesis_alone o.params → Follows core o.triples → core_state.coins_of core ≡ coin_map.empty → x.best ≡ best (regtest core.params o.triples) core.state
+pub opening_shown : (o : Origin) (core : CoreState) (x : ChainInfo) → core ≡ opened_core o.params → Follows core o.triples → core_state.coins_of core ≡ coin_map.empty → x.best ≡ best (regtest core.params o.triples) core.state
     → x.height ≡ height core.state.blocks (active (regtest core.params o.triples) core.state) → x.tips ≡ map tip_of_id (tips (regtest core.params o.triples) core.state) → IsExact (opening_view o x)
 opening_shown o core x is follows none b h t = opening_exact o x (tells o core [] x (opening_core o core [] is follows none refl) b h t)

@@ -14,19 +14,19 @@ use Rattle.chain.specs.Commands.{command_step, outcome}
 use Rattle.chain.specs.Regtest.{regtest}
 use Rattle.chain.specs.Machine.{Machine}
 use Rattle.chain.specs.History.{state_left, state_after_entries, Answers, entry_of}
-use Rattle.activate.specs.CoreState.{WithCoins, IsChainstate, genesis_alone}
+use Rattle.activate.specs.CoreState.{WithCoins, IsChainstate, opened_core}
 use Rattle.chain.specs.laws.History.{state_after-append, legal_push}
 use Rattle.view.specs.Origin.{Origin, machine}
-use Rattle.view.specs.ViewState.{IsLegal, state_of}
-use Rattle.node.specs.inside.Keeping.{IsKept, IsReplyTo, IsUndecodable, is_step}
+use Rattle.view.specs.ViewState.{IsLegal, state_after}
+use Rattle.node.specs.inside.Keeping.{KeepsHistory, IsReplyTo, IsUndecodable, is_step}
 use Rattle.node.proofs.Comes.{comes}
 use Rattle.node.proofs.Few.{AreFew, few-outcome}
 
 -- genesis alone
-pub opens : (o : Origin) (chain : WithCoins) (journal : List Entry) → chain ≡ record { core = genesis_alone o.params; coins = coin_map.empty } → IsChainstate chain o.triples → journal ≡ [] → IsKept o chain journal
+pub opens : (o : Origin) (chain : WithCoins) (journal : List Entry) → chain ≡ record { core = opened_core o.params; coins = coin_map.empty } → IsChainstate chain o.triples → journal ≡ [] → KeepsHistory o chain journal
 opens o chain journal is sound none = record {
   legal = subst (λ (j : List Entry). IsLegal o j) (sym none) tt;
-  state_is = ap (λ (c : WithCoins). c.core.state) is ∙ ap (λ (j : List Entry). state_of o j) (sym none);
+  state_is = ap (λ (c : WithCoins). c.core.state) is ∙ ap (λ (j : List Entry). state_after o j) (sym none);
   params_are = ap (λ (c : WithCoins). c.core.params) is;
   is_chainstate = sound;
   few = subst (λ (c : WithCoins). AreFew c.core.state) (sym is) (omega arith);
@@ -38,7 +38,7 @@ pub record Stepped (o : Origin) (old new : WithCoins) (c : Command) (r : Reply) 
   pub params_are : new.core.params ≡ old.core.params
   pub is_chainstate : IsChainstate new o.triples
 
-module _ (o : Origin) (old new : WithCoins) (journal : List Entry) (number : ℕ) (c : Command) (r : Reply) (kept : IsKept o old journal) (stepped : Stepped o old new c r) where
+module _ (o : Origin) (old new : WithCoins) (journal : List Entry) (number : ℕ) (c : Command) (r : Reply) (kept : KeepsHistory o old journal) (stepped : Stepped o old new c r) where
   abbrev s : State Block
   s = old.core.state
 
@@ -70,14 +70,14 @@ module _ (o : Origin) (old new : WithCoins) (journal : List Entry) (number : ℕ
     pub taken_reply : IsReplyTo c r
     taken_reply = taken.1
 
-    pub taken_kept : number < o.seats → (more : List Entry) → more ≡ journal ++ entry_of number c (Some r) ∷ [] → IsKept o new more
+    pub taken_kept : number < o.seats → (more : List Entry) → more ≡ journal ++ entry_of number c (Some r) ∷ [] → KeepsHistory o new more
     taken_kept lt more is =
         let m : Machine = machine o in
         let e : Entry = entry_of number c (Some r) in
         let now : s ≡ state_after_entries m m.opening journal = kept.state_is in
         let stepped_now : m.step (state_after_entries m m.opening journal) c ≡ Some (new.core.state, r) = subst (λ (x : State Block). m.step x c ≡ Some (new.core.state, r)) now taken.0 in
         let right : Answers (Some r) (m.step (state_after_entries m m.opening journal) c) = subst (λ (x : Option (Outcome Block)). Answers (Some r) x) (sym stepped_now) refl in
-        subst (λ (j : List Entry). IsKept o new j) (sym is) (record {
+        subst (λ (j : List Entry). KeepsHistory o new j) (sym is) (record {
           legal = legal_push m o.seats m.opening journal e kept.legal (record { seat_is = lt; reply_is = right });
           state_is = sym (state_after-append m m.opening journal (e ∷ []) ∙ ap (state_left (state_after_entries m m.opening journal)) stepped_now);
           params_are = params-new;
@@ -99,9 +99,9 @@ module _ (o : Origin) (old new : WithCoins) (journal : List Entry) (number : ℕ
     pub stayed_bytes : IsUndecodable c
     stayed_bytes = stayed.1
 
-    pub stayed_kept : (same : List Entry) → same ≡ journal → IsKept o new same
+    pub stayed_kept : (same : List Entry) → same ≡ journal → KeepsHistory o new same
     stayed_kept same is =
-        subst (λ (j : List Entry). IsKept o new j) (sym is) (record {
+        subst (λ (j : List Entry). KeepsHistory o new j) (sym is) (record {
           legal = kept.legal;
           state_is = ap (λ (x : Outcome Block). x.0) stayed.0 ∙ kept.state_is;
           params_are = params-new;

@@ -9,7 +9,7 @@ use Rattle.chain.specs.declared.reply.Reply.{Reply}
 use Rattle.chain.specs.declared.entry.Entry.{Entry}
 use Rattle.chain.specs.History.{own_of, entry_of}
 use Rattle.chain.specs.laws.History.{own_of-append, own_of-one}
-use Rattle.node.specs.Pass.{owed_entry, all_owed, answered_entries}
+use Rattle.node.specs.Pass.{owed_entry, all_owed, up_to_last_answered}
 
 -- what begins a beginning begins the whole
 pub begins_whole : {A : Type 0} (xs ys zs : List A) → IsPrefix xs ys → IsPrefix ys zs → IsPrefix xs zs
@@ -41,11 +41,11 @@ set_back [] i d = refl
 set_back (x ∷ xs) zero d = refl
 set_back (x ∷ xs) (suc i) d = ap (λ ys. x ∷ ys) (set_back xs i d)
 
-answered_begin : (xs : List Entry) → IsPrefix (answered_entries xs) xs
+answered_begin : (xs : List Entry) → IsPrefix (up_to_last_answered xs) xs
 answered_begin [] = ([], refl)
 answered_begin (x ∷ xs) = by (all_owed (x ∷ xs)) (answered_begin xs)
   where
-    by : (b : Bool) → IsPrefix (answered_entries xs) xs → IsPrefix (cond b [] (x ∷ answered_entries xs)) (x ∷ xs)
+    by : (b : Bool) → IsPrefix (up_to_last_answered xs) xs → IsPrefix (cond b [] (x ∷ up_to_last_answered xs)) (x ∷ xs)
     by true r = (x ∷ xs, refl)
     by false r = (r.0, ap (λ ys. x ∷ ys) r.1)
 
@@ -57,17 +57,17 @@ owed_behind : (xs ys : List Entry) → all_owed ys ≡ true → all_owed (xs ++ 
 owed_behind [] ys h = h
 owed_behind (x ∷ xs) ys h = ap (λ b. is_none x.reply && b) (owed_behind xs ys h)
 
-none_answered : (ys : List Entry) → all_owed ys ≡ true → answered_entries ys ≡ []
+none_answered : (ys : List Entry) → all_owed ys ≡ true → up_to_last_answered ys ≡ []
 none_answered [] h = refl
-none_answered (y ∷ ys) h = ap (λ b. cond b [] (y ∷ answered_entries ys)) h
+none_answered (y ∷ ys) h = ap (λ b. cond b [] (y ∷ up_to_last_answered ys)) h
 
 -- what is owed at the end isn't among the answered ones
-answered_behind : (xs ys : List Entry) → all_owed ys ≡ true → answered_entries (xs ++ ys) ≡ answered_entries xs
+answered_behind : (xs ys : List Entry) → all_owed ys ≡ true → up_to_last_answered (xs ++ ys) ≡ up_to_last_answered xs
 answered_behind [] ys h = none_answered ys h
 answered_behind (x ∷ xs) ys h = λ i. cond (is_none x.reply && owed_behind xs ys h i) [] (x ∷ answered_behind xs ys h i)
 
 -- of a seat's own entries those up to the last answered one begin its entries in what it has seen
-pub own_begins : (n place : ℕ) (seen : List Entry) (owed : List Command) → IsPrefix (answered_entries (own_of n (take place seen) ++ map (owed_entry n) owed)) (own_of n seen)
+pub own_begins : (n place : ℕ) (seen : List Entry) (owed : List Command) → IsPrefix (up_to_last_answered (own_of n (take place seen) ++ map (owed_entry n) owed)) (own_of n seen)
 own_begins n place seen owed =
     let xs = own_of n (take place seen) in
     let front : IsPrefix xs (own_of n seen) = (own_of n (drop place seen), sym (own_of-append n (take place seen) (drop place seen)) ∙ ap (own_of n) (take-append-drop place seen)) in

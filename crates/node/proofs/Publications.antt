@@ -17,7 +17,7 @@ use Rattle.chain.specs.Replay.{coins}
 use Rattle.chain.specs.Settle.{active}
 use Rattle.chain.specs.laws.History.{state_after-append, legal_push, legal_front, stands_within}
 use Rattle.view.specs.Origin.{Origin, machine}
-use Rattle.view.specs.ViewState.{ViewState, IsExact, IsInfo, IsLegal, state_of, coins_of, after_publication, after_publications}
+use Rattle.view.specs.ViewState.{ViewState, IsExact, IsInfo, IsLegal, state_after, coins_after, after_publication, after_publications}
 use Rattle.view.specs.Following.{IsNext, IsOwed, AllOwed, AllFollow}
 use Rattle.view.specs.declared.chain_info.ChainInfo.{ChainInfo}
 use Rattle.view.specs.declared.publication.Publication.{Publication}
@@ -25,7 +25,7 @@ use Rattle.view.specs.laws.Exact.{all_exact, same_origin}
 use Rattle.node.specs.inside.PublishedState.{Shows, AreDue, entry_with_reply}
 
 -- the state after an entry is that after its command
-pub state_of-push : (o : Origin) (xs : List Entry) (e d : Entry) → e.command ≡ d.command → state_of o (xs ++ e ∷ []) ≡ state_of o (xs ++ d ∷ [])
+pub state_of-push : (o : Origin) (xs : List Entry) (e d : Entry) → e.command ≡ d.command → state_after o (xs ++ e ∷ []) ≡ state_after o (xs ++ d ∷ [])
 state_of-push o xs e d same =
     let m = machine o in
     let s : State Block = state_after_entries m m.opening xs in
@@ -46,7 +46,7 @@ owed_legal o xs e h =
     })
 
 -- what stands after a state is one
-one_info : (o : Origin) (xs ys : List Entry) (a b : ChainInfo) → state_of o xs ≡ state_of o ys → IsInfo o xs a → IsInfo o ys b → a ≡ b
+one_info : (o : Origin) (xs ys : List Entry) (a b : ChainInfo) → state_after o xs ≡ state_after o ys → IsInfo o xs a → IsInfo o ys b → a ≡ b
 one_info o xs ys a b same h k =
     let m = machine o in
     let best : a.best ≡ b.best = h.best_is ∙ ap (λ (s : State Block). m.best s) same ∙ sym k.best_is in
@@ -114,14 +114,14 @@ again_owed x o seen e changes p q qs shows of follow same =
 
 -- the coins that stand after an entry stand after it with another reply
 changes_of : (x : ViewState) (o : Origin) (seen journal : List Entry) (e : Entry) (changes : Changes) (p : Publication) → Shows x o seen → journal ≡ seen ++ entry_with_reply e None ∷ [] → entry_with_reply p.entry None ≡ entry_with_reply e None → p.changes ≡ changes
-    → AreChanges x.coins (coins_of x.origin journal) changes → AreChanges x.coins (coins_of x.origin (x.journal ++ p.entry ∷ [])) p.changes
+    → AreChanges x.coins (coins_after x.origin journal) changes → AreChanges x.coins (coins_after x.origin (x.journal ++ p.entry ∷ [])) p.changes
 changes_of x o seen journal e changes p shows is same eq h =
-    let state : state_of x.origin journal ≡ state_of x.origin (x.journal ++ p.entry ∷ []) =
-    ap (state_of x.origin) is ∙ state_of-push x.origin seen (entry_with_reply e None) p.entry (ap (λ (f : Entry). f.command) (sym same)) ∙ ap (λ (es : List Entry). state_of x.origin (es ++ p.entry ∷ [])) (sym shows.journal_is) in
-    let coins : coins_of x.origin journal ≡ coins_of x.origin (x.journal ++ p.entry ∷ []) = coins_same x.origin journal (x.journal ++ p.entry ∷ []) state in
-    subst (λ (cs : Changes). AreChanges x.coins (coins_of x.origin (x.journal ++ p.entry ∷ [])) cs) (sym eq) (subst (λ m. AreChanges x.coins m changes) coins h)
+    let state : state_after x.origin journal ≡ state_after x.origin (x.journal ++ p.entry ∷ []) =
+    ap (state_after x.origin) is ∙ state_of-push x.origin seen (entry_with_reply e None) p.entry (ap (λ (f : Entry). f.command) (sym same)) ∙ ap (λ (es : List Entry). state_after x.origin (es ++ p.entry ∷ [])) (sym shows.journal_is) in
+    let coins : coins_after x.origin journal ≡ coins_after x.origin (x.journal ++ p.entry ∷ []) = coins_same x.origin journal (x.journal ++ p.entry ∷ []) state in
+    subst (λ (cs : Changes). AreChanges x.coins (coins_after x.origin (x.journal ++ p.entry ∷ [])) cs) (sym eq) (subst (λ m. AreChanges x.coins m changes) coins h)
   where
-    coins_same : (k : Origin) (xs ys : List Entry) → state_of k xs ≡ state_of k ys → coins_of k xs ≡ coins_of k ys
+    coins_same : (k : Origin) (xs ys : List Entry) → state_after k xs ≡ state_after k ys → coins_after k xs ≡ coins_after k ys
     coins_same k xs ys h = ap (λ (s : State Block). coins (regtest k.params k.triples) ledger s) h
 
 -- it follows what is pending
@@ -203,8 +203,8 @@ both_some P Q R None f h k = h
 
 -- what is due once a step is taken
 pub due_taken : (is_new : Bool) (x : ViewState) (pending : List Publication) (o : Origin) (seen journal more : List Entry) (before changes : Changes) → Shows x o seen → AreDue false is_new x pending journal before → journal ≡ seen
-    → AreChanges (coins_of o journal) (coins_of o more) changes → AreDue true true x pending more changes
+    → AreChanges (coins_after o journal) (coins_after o more) changes → AreDue true true x pending more changes
 due_taken is_new x pending o seen journal more before changes shows none same h =
-    let here : coins_of o journal ≡ x.coins = sym (shows.exact.coins_are ∙ (λ i. coins_of (shows.origin_is i) ((shows.journal_is ∙ sym same) i))) in
-    let after : coins_of o more ≡ coins_of x.origin more = ap (λ (k : Origin). coins_of k more) (sym shows.origin_is) in
-    (none, subst (λ m. AreChanges m (coins_of x.origin more) changes) here (subst (λ m. AreChanges (coins_of o journal) m changes) after h))
+    let here : coins_after o journal ≡ x.coins = sym (shows.exact.coins_are ∙ (λ i. coins_after (shows.origin_is i) ((shows.journal_is ∙ sym same) i))) in
+    let after : coins_after o more ≡ coins_after x.origin more = ap (λ (k : Origin). coins_after k more) (sym shows.origin_is) in
+    (none, subst (λ m. AreChanges m (coins_after x.origin more) changes) here (subst (λ m. AreChanges (coins_after o journal) m changes) after h))

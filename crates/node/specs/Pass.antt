@@ -52,13 +52,13 @@ all_owed [] = true
 all_owed (e ∷ es) = is_none e.reply && all_owed es
 
 -- the entries up to the last whose reply isn't owed
-abbrev pub answered_entries : List Entry → List Entry
-answered_entries [] = []
-answered_entries (e ∷ es) = if all_owed (e ∷ es) then [] else e ∷ answered_entries es
+abbrev pub up_to_last_answered : List Entry → List Entry
+up_to_last_answered [] = []
+up_to_last_answered (e ∷ es) = if all_owed (e ∷ es) then [] else e ∷ up_to_last_answered es
 
 -- the seat's entries in what it has seen begin with its own up to the last whose reply isn't owed
 abbrev pub IsOwn : Pass → Type 0
-IsOwn p = IsPrefix (answered_entries p.mine) (own_of p.number p.seen)
+IsOwn p = IsPrefix (up_to_last_answered p.mine) (own_of p.number p.seen)
 
 -- the step stands last in what the seat has then seen, with this reply, and the seat's entries are its own
 pub record IsWrite (p q : Pass) (command : Command) (at : ℕ) (reply : Reply) : Type 0 where

@@ -3,17 +3,17 @@
 
 mod answer;
 mod early;
+mod entries;
 mod fault;
 pub mod laws;
-mod looks;
 mod naming;
 mod node;
 mod note;
-mod own;
 mod published_history;
 mod reader_home;
 mod reading;
 mod seat;
+mod view_reads;
 mod writing;
 
 pub use answer::{Stamped, UnspentOutput};

@@ -5,7 +5,7 @@ ghost use Rattle.std.specs.Prelude.{IfOk, IfErr, OnOk};
 ghost use Rattle.view.specs.Origin.{origin};
 ghost use Rattle.view.specs.ViewState.{IsLegal};
 ghost use Rattle.node.specs.Pass.{Pass, IsStanding, opening_passes};
-ghost use Rattle.node.specs.Opening.{IsWorkerCount, IsSeatCount, IsOpenFault};
+ghost use Rattle.node.specs.Opening.{IsAllowedCount, IsOpenFault};
 ghost use Rattle.node.specs.declared.fault.Fault.TheVariants as faults;
 
 use crate::fault::{Fault, OpenFault};
@@ -52,7 +52,7 @@ impl<'g, J: Naming> NodeOf<&'g (dyn Gate + Sync), J> {
         gate: &'g (dyn Gate + Sync),
     ) -> Result<(Node<'g, J>, Vec<Seat<'g, J>>), OpenFault>
         requires { opening ≡ J.origin }
-        ensures counts { OnOk result (IsWorkerCount workers × IsSeatCount J.origin.seats) }
+        ensures counts { OnOk result (IsAllowedCount workers × IsAllowedCount J.origin.seats) }
         ensures seats { IfOk result (λ r. r.1.items ≡ opening_passes J.origin J.origin.seats) }
         ensures refused { IfErr result (λ fault. IsOpenFault workers J.origin.seats fault) }
     {
@@ -74,7 +74,7 @@ impl<'g, J: Naming> NodeOf<&'g (dyn Gate + Sync), J> {
         Ok((node, list))
     }
 
-    /// The whole history, in which each seat that is handed in has just its own entries, the owed ones too.
+    /// The whole history, in which each seat that is passed has just its own entries, the owed ones too.
     ///
     /// The seats are those of this node that came back, each once. It waits for nobody and takes no memory; the two
     /// copies of what is published are never given back.

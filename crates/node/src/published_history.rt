@@ -5,22 +5,22 @@ ghost use Rattle.std.specs.Prelude.{◌≡◌, ◌<◌, ◌≤◌, ◌∷◌, �
 ghost use Rattle.std.specs.Arc.{arc_value};
 ghost use Rattle.chain.specs.declared.entry.Entry.{Entry as EntryValue};
 ghost use Rattle.chain.specs.Prepared.{command_of};
-ghost use Rattle.activate.specs.CoreState.{Follows, genesis_alone};
+ghost use Rattle.activate.specs.CoreState.{Follows, opened_core};
 ghost use Rattle.view.specs.Beginning.{count_of};
 ghost use Rattle.view.specs.ViewState.{IsLegal};
 ghost use Rattle.node.specs.inside.Keeping.{is_step};
 ghost use Rattle.node.specs.inside.PublishedState.{IsStepAnswer, IsTaken, Shows, opening_state, entry_with_reply};
 
 mod attempt;
-mod lent_step;
 mod opening;
+mod view_step;
 mod writer_home;
 
 use crate::naming::SeatToken;
 use crate::published_history::attempt::{Attempt, attempt_to_publish};
-pub(crate) use crate::published_history::lent_step::Refusal;
-use crate::published_history::lent_step::{chain_info, step_by_reader};
 pub(crate) use crate::published_history::opening::{Opened, open_history};
+pub(crate) use crate::published_history::view_step::Refusal;
+use crate::published_history::view_step::{chain_info, step_by_reader};
 use crate::published_history::writer_home::WriterHome;
 use crate::reader_home::ReaderHome;
 use activate::Core;
@@ -45,7 +45,7 @@ pub(crate) struct PublishedHistory<J: Naming> {
     hub: Arc<Hub>,
     /// The history that is published.
     note: Note,
-    /// The whole history: where a step is owed it stands last, without its reply.
+    /// The whole history: a step that is owed is its last entry, without its reply.
     journal: Vec<Entry>,
     owed: bool,
     /// The owed step is in no pending publication, and then these are its changes.
@@ -124,7 +124,7 @@ impl<J: Naming> PublishedHistory<J> {
         home: WriterHome<J>,
         reader: ViewReader<J>,
     ) -> PublishedHistory<J>
-        requires core { (core ≡ genesis_alone J.origin.params) × Follows core J.origin.triples }
+        requires core { (core ≡ opened_core J.origin.params) × Follows core J.origin.triples }
         requires hub { (arc_value hub).counter ≡ count_of J.origin.book }
         requires empty { note.entries ≡ [] }
         requires book { note.book ≡ J.origin.book }

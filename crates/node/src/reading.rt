@@ -2,7 +2,7 @@
 
 ghost use Rattle.std.specs.Prelude.{◌≡◌, IfOk, IfErr, take, drop};
 ghost use Rattle.view.specs.Origin.{machine};
-ghost use Rattle.view.specs.ViewState.{IsExact, state_of};
+ghost use Rattle.view.specs.ViewState.{IsExact, state_after};
 ghost use Rattle.node.specs.Told.{output_at, shown_tips};
 
 use crate::answer::{Stamped, UnspentOutput};
@@ -20,7 +20,7 @@ use wire::Memory;
 /// The output at an outpoint of a view, if it isn't spent.
 fn output(alloc: Global, view: &View, outpoint: &OutPoint) -> Result<Option<UnspentOutput>, Memory>
     requires { IsExact view.now }
-    ensures { let o = view.now.origin in let s = state_of o view.now.journal in
+    ensures { let o = view.now.origin in let s = state_after o view.now.journal in
         IfOk result (λ found. found ≡ output_at o outpoint.now s) }
 {
     match view.unspent(outpoint) {
@@ -32,7 +32,7 @@ fn output(alloc: Global, view: &View, outpoint: &OutPoint) -> Result<Option<Unsp
 /// The tips of a view.
 fn tips(alloc: Global, view: &View) -> Result<Vec<Tip>, Memory>
     requires { IsExact view.now }
-    ensures { let o = view.now.origin in let s = state_of o view.now.journal in
+    ensures { let o = view.now.origin in let s = state_after o view.now.journal in
         IfOk result (λ list. list.items ≡ shown_tips o s) }
 {
     Ok(Vec::from_slice(alloc, view.tips())?)

@@ -4,9 +4,9 @@ ghost use Rattle.std.specs.Prelude.{◌≡◌, [], true, length};
 ghost use mathlib.Core.List.{IsPrefix};
 ghost use Rattle.view.specs.ViewState.{IsLegal};
 
+use crate::entries::{begins, own_are};
 use crate::naming::SeatToken;
 use crate::note::Note;
-use crate::own::{begins, own_are};
 use crate::reader_home::ReaderHome;
 use chain::{Command, Entry};
 use curve::Table;

@@ -9,11 +9,11 @@ ghost use Rattle.node.specs.inside.PublishedState.{IsStepAnswer};
 
 use crate::answer::Stamped;
 use crate::fault::Fault;
-use crate::looks::{look_after, look_before};
 use crate::naming::SeatToken;
 use crate::node::Node;
 use crate::published_history::{PublishedHistory, Refusal};
 use crate::seat::Seat;
+use crate::view_reads::{look_after, look_before};
 use chain::{Bytes, Entry, MarkReply, PreparedCommand, Reply, Submission, SubmitReply};
 use hash::Id;
 use queue::{Threaded, Verdicts};

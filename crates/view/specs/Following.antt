@@ -4,7 +4,7 @@ use Rattle.coins.specs.Changes.{AreChanges}
 use Rattle.chain.specs.declared.entry.Entry.{Entry}
 use Rattle.chain.specs.History.{entry_of}
 use Rattle.view.specs.declared.publication.Publication.{Publication}
-use Rattle.view.specs.ViewState.{ViewState, IsInfo, IsLegal, coins_of, after_publication}
+use Rattle.view.specs.ViewState.{ViewState, IsInfo, IsLegal, coins_after, after_publication}
 
 -- it brings the next entry: the history with it is legal, its list names the coins that change and no other, and its
 -- best block, height and tips are those after it
@@ -13,7 +13,7 @@ pub record IsNext (x : ViewState) (p : Publication) : Type 0 where
   pub book_is : p.before.book ≡ x.origin.book
   pub before_is : p.before.entries ≡ x.journal
   pub legal : IsLegal x.origin (x.journal ++ p.entry ∷ [])
-  pub changes_are : AreChanges x.coins (coins_of x.origin (x.journal ++ p.entry ∷ [])) p.changes
+  pub changes_are : AreChanges x.coins (coins_after x.origin (x.journal ++ p.entry ∷ [])) p.changes
   pub info_is : IsInfo x.origin (x.journal ++ p.entry ∷ []) p.info
 
 -- it brings the last entry again, its reply now owed

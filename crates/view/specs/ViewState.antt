@@ -19,19 +19,19 @@ use Rattle.view.specs.declared.chain_info.ChainInfo.{ChainInfo}
 use Rattle.view.specs.declared.publication.Publication.{Publication}
 
 -- the state after a history
-abbrev pub state_of : Origin → List Entry → State Block
-state_of o journal = let m = machine o in state_after_entries m m.opening journal
+abbrev pub state_after : Origin → List Entry → State Block
+state_after o journal = let m = machine o in state_after_entries m m.opening journal
 
 -- the coins after it
-abbrev pub coins_of : Origin → List Entry → Coins
-coins_of o journal = coins (regtest o.params o.triples) ledger (state_of o journal)
+abbrev pub coins_after : Origin → List Entry → Coins
+coins_after o journal = coins (regtest o.params o.triples) ledger (state_after o journal)
 
 -- the best block, its height and the tips after it
 pub record IsInfo (o : Origin) (journal : List Entry) (x : ChainInfo) : Type 0 where
-  pub best_is : x.best ≡ (machine o).best (state_of o journal)
-  pub height_is : x.height ≡ height (state_of o journal).blocks (active (regtest o.params o.triples) (state_of o journal))
+  pub best_is : x.best ≡ (machine o).best (state_after o journal)
+  pub height_is : x.height ≡ height (state_after o journal).blocks (active (regtest o.params o.triples) (state_after o journal))
   pub height_fits : x.height < max_blocks
-  pub tips_are : x.tips ≡ map tip_of_id ((machine o).tips (state_of o journal))
+  pub tips_are : x.tips ≡ map tip_of_id ((machine o).tips (state_after o journal))
 
 -- the history that the readers' token knows, without and with its last entry; the published entries; and what
 -- stands after them
@@ -51,7 +51,7 @@ IsLegal o journal = Legal (machine o) o.seats journal
 pub record IsExact (x : ViewState) : Type 0 where
   pub whole : x.journal ≡ x.before ++ option_to_list x.last
   pub legal : IsLegal x.origin x.journal
-  pub coins_are : x.coins ≡ coins_of x.origin x.journal
+  pub coins_are : x.coins ≡ coins_after x.origin x.journal
   pub info_is : IsInfo x.origin x.journal x.info
 
 -- before any entry there are no coins

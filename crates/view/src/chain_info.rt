@@ -1,4 +1,4 @@
-//! What stands after a history beside the coins: the best block, its height, and the tips.
+//! What there is after a history beside the coins: the best block, its height, and the tips.
 
 ghost use Rattle.std.specs.Prelude.{◌≡◌, IfOk};
 

@@ -17,7 +17,7 @@ use std::alloc::{AllocError, Global};
 use std::marker::Model;
 use std::sync::Arc;
 
-/// The history so far, and what stands after it.
+/// The history so far, and what there is after it.
 #[derive(Drop)]
 pub struct View {
     alloc: Global,

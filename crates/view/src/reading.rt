@@ -7,7 +7,7 @@ ghost use Rattle.chain.specs.Settle.{active};
 ghost use Rattle.tree.specs.Branches.{height};
 ghost use Rattle.tree.specs.Tips.{tip_of_id};
 ghost use Rattle.view.specs.Origin.{machine};
-ghost use Rattle.view.specs.ViewState.{IsExact, state_of};
+ghost use Rattle.view.specs.ViewState.{IsExact, state_after};
 
 use crate::chain_info::ChainInfo;
 use crate::history_view::View;
@@ -63,7 +63,7 @@ impl View {
     pub fn best(&self) -> Id
         requires { IsExact self.now }
         ensures { let o = self.now.origin in
-            result ≡ (machine o).best (state_of o self.now.journal) }
+            result ≡ (machine o).best (state_after o self.now.journal) }
     {
         self.info.best
     }
@@ -72,7 +72,7 @@ impl View {
     pub fn height(&self) -> usize
         requires { IsExact self.now }
         ensures { let r = regtest self.now.origin.params self.now.origin.triples in
-            let s = state_of self.now.origin self.now.journal in
+            let s = state_after self.now.origin self.now.journal in
             result ≡ height s.blocks (active r s) }
     {
         self.info.height
@@ -82,7 +82,7 @@ impl View {
     pub fn tips(&self) -> &[Tip]
         requires { IsExact self.now }
         ensures { let o = self.now.origin in
-            result.now ≡ map tip_of_id ((machine o).tips (state_of o self.now.journal)) }
+            result.now ≡ map tip_of_id ((machine o).tips (state_after o self.now.journal)) }
     {
         self.info.tips.as_slice()
     }
@@ -91,7 +91,7 @@ impl View {
     pub fn unspent(&self, outpoint: &OutPoint) -> Option<(&Coin, u32)>
         requires { IsExact self.now }
         ensures { let o = self.now.origin in
-            let found = (machine o).coin (state_of o self.now.journal) outpoint.now in
+            let found = (machine o).coin (state_after o self.now.journal) outpoint.now in
             MatchOption result (found ≡ None) (λ x. found ≡ Some (x.0.now, x.1)) }
     {
         match self.coins.get(outpoint) {
@@ -105,7 +105,7 @@ impl View {
         requires { IsExact self.now }
         ensures { let o = self.now.origin in
             let r = regtest o.params o.triples in
-            result ≡ confirmations r (state_of o self.now.journal) height }
+            result ≡ confirmations r (state_after o self.now.journal) height }
     {
         let blocks = self.info.height as u32 + 1;
         blocks.saturating_sub(height)

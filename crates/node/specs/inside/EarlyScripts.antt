@@ -10,17 +10,17 @@ use Rattle.connect.specs.Early.{early_spendings}
 use Rattle.chain.specs.declared.submission.SubmittedBlock.{SubmittedBlock}
 use Rattle.chain.specs.Regtest.{regtest}
 use Rattle.chain.specs.Settle.{active, best}
-use Rattle.view.specs.ViewState.{ViewState, state_of}
+use Rattle.view.specs.ViewState.{ViewState, state_after}
 
 -- the block stands on the best block of a view
 abbrev pub StandsOnBest : ViewState → SubmittedBlock → Type 0
-StandsOnBest v b = b.block.header.prev ≡ best (regtest v.origin.params v.origin.triples) (state_of v.origin v.journal)
+StandsOnBest v b = b.block.header.prev ≡ best (regtest v.origin.params v.origin.triples) (state_after v.origin v.journal)
 
 -- of each input whose coin the view has, or an earlier transaction of the block makes, its script, under the rules of the
 -- height above the view's
 abbrev pub scripts_over : ViewState → Params → SubmittedBlock → Batch
 scripts_over v params b =
-    let s = state_of v.origin v.journal in
+    let s = state_after v.origin v.journal in
     record {
       txs = b.block.txs;
       flags = flags_of (at params (height s.blocks (active (regtest v.origin.params v.origin.triples) s) + 1));

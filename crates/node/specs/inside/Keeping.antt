@@ -11,12 +11,12 @@ use Rattle.chain.specs.declared.entry.Entry.{Entry}
 use Rattle.chain.specs.Submission.{kept_blocks}
 use Rattle.activate.specs.CoreState.{WithCoins, IsChainstate}
 use Rattle.view.specs.Origin.{Origin}
-use Rattle.view.specs.ViewState.{IsLegal, state_of}
+use Rattle.view.specs.ViewState.{IsLegal, state_after}
 
 -- the entries are a legal history, and the chainstate is theirs; its tree is no greater than it may be
-pub record IsKept (o : Origin) (chain : WithCoins) (journal : List Entry) : Type 0 where
+pub record KeepsHistory (o : Origin) (chain : WithCoins) (journal : List Entry) : Type 0 where
   pub legal : IsLegal o journal
-  pub state_is : chain.core.state ≡ state_of o journal
+  pub state_is : chain.core.state ≡ state_after o journal
   pub params_are : chain.core.params ≡ o.params
   pub is_chainstate : IsChainstate chain o.triples
   pub few : kept_blocks chain.core.state ≤ max_blocks

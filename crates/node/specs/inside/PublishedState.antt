@@ -1,19 +1,22 @@
 -- The history of a node of many seats, as it lies under the lock, and what is published of it.
 use Rattle.std.specs.Prelude.{◌≡◌, ◌⊎◌, ℕ, Bool, true, false, List, [], ◌∷◌, ◌++◌, Option, Some, None}
+use Rattle.curve.specs.Triple.{Triples}
 use Rattle.coins.specs.Changes.{Changes, AreChanges}
 use Rattle.chain.specs.declared.command.Command.{Command}
 use Rattle.chain.specs.declared.reply.Reply.{Reply}
 use Rattle.chain.specs.declared.reply.Reply.TheVariants as reply
 use Rattle.chain.specs.declared.reply.SubmitReply.TheVariants.{DecodeFailed}
 use Rattle.chain.specs.declared.entry.Entry.{Entry}
+use Rattle.chain.specs.Commands.{outcome}
 use Rattle.chain.specs.History.{entry_of}
+use Rattle.chain.specs.Regtest.{regtest}
 use Rattle.activate.specs.CoreState.{CoreState, WithCoins}
 use Rattle.activate.specs.CoreState as core_state
 use Rattle.view.specs.Origin.{Origin}
-use Rattle.view.specs.ViewState.{ViewState, IsExact, IsLegal, coins_of}
+use Rattle.view.specs.ViewState.{ViewState, IsExact, IsLegal, coins_after}
 use Rattle.view.specs.Following.{AllFollow}
 use Rattle.view.specs.declared.publication.Publication.{Publication}
-use Rattle.node.specs.inside.Keeping.{IsKept, IsReplyTo, IsUndecodable, is_step}
+use Rattle.node.specs.inside.Keeping.{KeepsHistory, IsReplyTo, IsUndecodable, is_step}
 
 -- what the history is of, its entries, and whether the last of them is owed to readers, who don't see it yet
 pub record PublishedState : Type 0 where
@@ -27,7 +30,14 @@ with_its_coins c = record { core = c; coins = core_state.coins_of c }
 
 -- the entries are a legal history, and the core is as they lead to
 abbrev pub IsCoreOf : Origin → CoreState → List Entry → Type 0
-IsCoreOf o core journal = IsKept o (with_its_coins core) journal
+IsCoreOf o core journal = KeepsHistory o (with_its_coins core) journal
+
+-- the core went by the step of a command, under these valid signatures: this is the reply, and these coins change
+pub record IsCoreStep (triples : Triples) (old new : CoreState) (c : Command) (r : Reply) (changes : Changes) : Type 0 where
+  pub outcome_is : (new.state, r) ≡ outcome (regtest old.params triples) old.state c
+  pub changes_are : AreChanges (core_state.coins_of old) (core_state.coins_of new) changes
+  pub params_are : new.params ≡ old.params
+  pub follows : core_state.Follows new triples
 
 -- the entry, with this reply
 abbrev pub entry_with_reply : Entry → Option Reply → Entry
@@ -48,7 +58,7 @@ pub record Shows (x : ViewState) (o : Origin) (seen : List Entry) : Type 0 where
 -- owed entry changes; or publications of that entry
 abbrev pub AreDue : Bool → Bool → ViewState → List Publication → List Entry → Changes → Type 0
 AreDue false is_new x pending journal changes = pending ≡ []
-AreDue true true x pending journal changes = (pending ≡ []) × AreChanges x.coins (coins_of x.origin journal) changes
+AreDue true true x pending journal changes = (pending ≡ []) × AreChanges x.coins (coins_after x.origin journal) changes
 AreDue true false x pending journal changes =
     (p : Publication) × (ps : List Publication) × (pending ≡ p ∷ ps) × AllFollow x (p ∷ ps)
     × (journal ≡ x.journal ++ entry_with_reply p.entry None ∷ [])

@@ -7,7 +7,7 @@ ghost use Rattle.view.specs.Origin.{origin};
 ghost use Rattle.node.specs.inside.PublishedState.{opening_state};
 
 use crate::published_history::PublishedHistory;
-use crate::published_history::lent_step::chain_info;
+use crate::published_history::view_step::chain_info;
 use crate::published_history::writer_home::WriterHome;
 use activate::Core;
 use curve::Table;

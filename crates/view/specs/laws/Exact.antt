@@ -24,11 +24,11 @@ use Rattle.chain.specs.laws.Steps.{opening_sound}
 use Rattle.view.specs.declared.chain_info.ChainInfo.{ChainInfo}
 use Rattle.view.specs.declared.publication.Publication.{Publication}
 use Rattle.view.specs.Origin.{Origin, machine}
-use Rattle.view.specs.ViewState.{ViewState, IsExact, IsInfo, IsLegal, state_of, coins_of, but_last, after_publication, after_publications, opening_view}
+use Rattle.view.specs.ViewState.{ViewState, IsExact, IsInfo, IsLegal, state_after, coins_after, but_last, after_publication, after_publications, opening_view}
 use Rattle.view.specs.Following.{IsNext, IsOwed, AllOwed, AllFollow}
 
 -- genesis leaves no coins
-opening_coins : (o : Origin) → coin_map.empty ≡ coins_of o []
+opening_coins : (o : Origin) → coin_map.empty ≡ coins_after o []
 opening_coins o =
     let r = regtest o.params o.triples in
     let sound = opening_sound r in
@@ -59,7 +59,7 @@ next_exact x p exact h =
     subst IsExact (sym (after_by x p true h.is_new h.book_is)) (record {
       whole = ap (λ (es : List Entry). es ++ p.entry ∷ []) (sym h.before_is);
       legal = h.legal;
-      coins_are = laid-changes x.coins (coins_of x.origin (x.journal ++ p.entry ∷ [])) p.changes h.changes_are;
+      coins_are = laid-changes x.coins (coins_after x.origin (x.journal ++ p.entry ∷ [])) p.changes h.changes_are;
       info_is = h.info_is;
     })
 
@@ -83,7 +83,7 @@ module _ (o : Origin) (before : List Entry) (e : Entry) where
   abbrev owed_entry : Entry
   owed_entry = entry_of e.seat e.command None
 
-  owed_state : state_of o (before ++ e ∷ []) ≡ state_of o (before ++ owed_entry ∷ [])
+  owed_state : state_after o (before ++ e ∷ []) ≡ state_after o (before ++ owed_entry ∷ [])
   owed_state =
       let m = machine o in
       state_after-append m m.opening before (e ∷ []) ∙ sym (state_after-append m m.opening before (owed_entry ∷ []))
@@ -98,7 +98,7 @@ module _ (o : Origin) (before : List Entry) (e : Entry) where
       })
 
 -- what stands after a history stands after one of the same state
-same_info : (o : Origin) (xs ys : List Entry) (info : ChainInfo) → state_of o xs ≡ state_of o ys → IsInfo o xs info → IsInfo o ys info
+same_info : (o : Origin) (xs ys : List Entry) (info : ChainInfo) → state_after o xs ≡ state_after o ys → IsInfo o xs info → IsInfo o ys info
 same_info o xs ys info same h = record {
   best_is = h.best_is ∙ ap (λ (s : State Block). (machine o).best s) same;
   height_is = h.height_is ∙ ap (λ (s : State Block). height s.blocks (active (regtest o.params o.triples) s)) same;
@@ -115,8 +115,8 @@ owed_exact x p exact h =
     let was : x.journal ≡ x.before ++ e ∷ [] = exact.whole ∙ ap (λ (l : Option Entry). x.before ++ option_to_list l) h.entry_is.1 in
     let front : but_last x.journal ≡ x.before = ap but_last was ∙ but_last-one x.before e in
     let journal : but_last x.journal ++ p.entry ∷ [] ≡ now = ap (λ (es : List Entry). es ++ p.entry ∷ []) front ∙ ap (λ (y : Entry). x.before ++ y ∷ []) h.entry_is.2 in
-    let state : state_of o x.journal ≡ state_of o now = ap (state_of o) was ∙ owed_state o x.before e in
-    let state_here : state_of o x.journal ≡ state_of o (but_last x.journal ++ p.entry ∷ []) = state ∙ ap (state_of o) (sym journal) in
+    let state : state_after o x.journal ≡ state_after o now = ap (state_after o) was ∙ owed_state o x.before e in
+    let state_here : state_after o x.journal ≡ state_after o (but_last x.journal ++ p.entry ∷ []) = state ∙ ap (state_after o) (sym journal) in
     subst IsExact (sym (after_by x p false h.is_new h.book_is)) (record {
       whole = ap (λ (es : List Entry). es ++ p.entry ∷ []) (front ∙ sym h.before_is);
       legal = subst (λ (es : List Entry). IsLegal o es) (sym journal) (owed_legal o x.before e (subst (λ (es : List Entry). IsLegal o es) was exact.legal));

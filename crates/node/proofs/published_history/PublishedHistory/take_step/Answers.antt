@@ -1,18 +1,14 @@
 use Rattle.std.proofs.Common.{◌≡◌, ℕ, ◌<◌, ◌++◌, ◌∷◌, [], List, true, false, Some, None, inl, inr, refl, ap, sym, ◌∙◌, subst}
-use Rattle.curve.specs.Triple.{Triples}
 use Rattle.chain.specs.declared.command.Command.{Command}
 use Rattle.chain.specs.declared.entry.Entry.{Entry}
-use Rattle.chain.specs.Commands.{outcome}
 use Rattle.chain.specs.History.{entry_of}
 use Rattle.chain.specs.Prepared.{command_of}
-use Rattle.chain.specs.Regtest.{regtest}
-use Rattle.activate.specs.CoreState.{Follows}
 use Rattle.view.specs.Origin.{Origin}
-use Rattle.view.specs.ViewState.{IsLegal, state_of}
+use Rattle.view.specs.ViewState.{IsLegal, state_after}
 use Rattle.node.specs.inside.Keeping.{is_step}
 use Rattle.node.specs.inside.PublishedState.{PublishedState, with_its_coins, with_owed}
 use Rattle.node.proofs.Cores.{stepped, replied_legal, owed_core, owed_changes}
-use Rattle.node.proofs.Kept.{Stepped, stayed_kept, stayed_reply, stayed_bytes, taken_reply}
+use Rattle.node.proofs.Kept.{stayed_kept, stayed_reply, stayed_bytes, taken_reply}
 use Rattle.node.proofs.Publications.{due_taken, if_some}
 use Rattle.node.proofs.published_history.PublishedHistory.take_step.Goals as goal
 
@@ -26,7 +22,7 @@ step_by_reader-requires-clause-state g c _ _ =
     let o : Origin = g.J.Naming.origin in
     let owed : s.owed ≡ false = ap (λ (h : PublishedState). h.owed) c.self.view_is ∙ c.requires.shown in
     let log : s.journal.items ≡ s.note.entries = rw owed at i.2 in
-    i.0.state_is ∙ ap (λ (l : List Entry). state_of o l) log
+    i.0.state_is ∙ ap (λ (l : List Entry). state_after o l) log
 
 pub invariant_of-self-then-not-is_step : goal.invariant_of-self-then-not-is_step
 invariant_of-self-then-not-is_step g c =
@@ -37,9 +33,7 @@ invariant_of-self-then-not-is_step g c =
     let k = command_of c.args.command.now in
     let r = c.in_ok-reply.reply in
     let core = c.step_by_reader.new.core in
-    let did : Stepped n (with_its_coins s.core) (with_its_coins core) k r =
-    stepped o s.core core k r (subst (λ (t : Triples). (core.state, r) ≡ outcome (regtest s.core.params t) s.core.state k) (c.deref.ensures ∙ i.6) c.in_ok-reply.ensures.outcome) c.in_ok-reply.ensures.params
-    (subst (λ (t : Triples). Follows core t) (c.deref.ensures ∙ i.6) c.in_ok-reply.ensures.follows) in
+    let did = stepped o s.core core k r c.in_ok-reply.changes c.in_ok-reply.ensures.step in
     let none : is_step r ≡ false = sym c.is_step.ensures ∙ c.if-not-is_step.true in
     rw c.reserve.ensures.items (
       stayed_kept n (with_its_coins s.core) (with_its_coins core) s.journal.items c.args.token.now k r i.0 did none s.journal.items refl,
@@ -60,9 +54,7 @@ returns-then-not-is_step-clause-takes g c =
     let k = command_of c.args.command.now in
     let r = c.in_ok-reply.reply in
     let core = c.step_by_reader.new.core in
-    let did : Stepped n (with_its_coins s.core) (with_its_coins core) k r =
-    stepped o s.core core k r (subst (λ (t : Triples). (core.state, r) ≡ outcome (regtest s.core.params t) s.core.state k) (c.deref.ensures ∙ i.6) c.in_ok-reply.ensures.outcome) c.in_ok-reply.ensures.params
-    (subst (λ (t : Triples). Follows core t) (c.deref.ensures ∙ i.6) c.in_ok-reply.ensures.follows) in
+    let did = stepped o s.core core k r c.in_ok-reply.changes c.in_ok-reply.ensures.step in
     let none : is_step r ≡ false = sym c.is_step.ensures ∙ c.if-not-is_step.true in
     let same : record { origin = o; journal = c.reserve.new.self.items; owed = s.owed } ≡ c.args.self.now = ap (λ (l : List Entry). record { origin = o; journal = l; owed = s.owed }) c.reserve.ensures.items ∙ c.self.view_is in
     inr (
@@ -80,9 +72,7 @@ invariant_of-self-2 g c =
     let k = command_of c.args.command.now in
     let r = c.in_ok-reply.reply in
     let core = c.step_by_reader.new.core in
-    let did : Stepped n (with_its_coins s.core) (with_its_coins core) k r =
-    stepped o s.core core k r (subst (λ (t : Triples). (core.state, r) ≡ outcome (regtest s.core.params t) s.core.state k) (c.deref.ensures ∙ i.6) c.in_ok-reply.ensures.outcome) c.in_ok-reply.ensures.params
-    (subst (λ (t : Triples). Follows core t) (c.deref.ensures ∙ i.6) c.in_ok-reply.ensures.follows) in
+    let did = stepped o s.core core k r c.in_ok-reply.changes c.in_ok-reply.ensures.step in
     let some : is_step r ≡ true = sym c.is_step.ensures ∙ c.if-not-is_step.false in
     let seat : c.args.token.now < o.seats = subst (λ (n : ℕ). n < o.seats) c.number.ensures.is c.number.ensures.below in
     let e : Entry = entry_of c.args.token.now k None in
@@ -90,7 +80,7 @@ invariant_of-self-2 g c =
     c.push_reserved.ensures.items ∙ ap (λ (l : List Entry). l ++ entry_of c.number.result c.in-Ok.asked None ∷ []) c.reserve.ensures.items ∙ ap (λ (n : ℕ). s.journal.items ++ entry_of n c.in-Ok.asked None ∷ []) c.number.ensures.is ∙ ap (λ (q : Command). s.journal.items ++ entry_of c.args.token.now q None ∷ []) c.in-Ok.ensures in
     let owed : s.owed ≡ false = ap (λ (h : PublishedState). h.owed) c.self.view_is ∙ c.requires.shown in
     let log : s.journal.items ≡ s.note.entries = rw owed at i.2 in
-    let changes = owed_changes o s.core core s.journal.items c.args.token.now k r i.0 did some seat c.in_ok-reply.changes c.in_ok-reply.ensures.changes in
+    let changes = owed_changes o s.core core s.journal.items c.args.token.now k r i.0 did some seat c.in_ok-reply.changes c.in_ok-reply.ensures.step.changes_are in
     rw items (
       owed_core o s.core core s.journal.items c.args.token.now k r i.0 did some seat,
       i.1,
@@ -110,9 +100,7 @@ returns-clause-takes g c =
     let k = command_of c.args.command.now in
     let r = c.in_ok-reply.reply in
     let core = c.step_by_reader.new.core in
-    let did : Stepped n (with_its_coins s.core) (with_its_coins core) k r =
-    stepped o s.core core k r (subst (λ (t : Triples). (core.state, r) ≡ outcome (regtest s.core.params t) s.core.state k) (c.deref.ensures ∙ i.6) c.in_ok-reply.ensures.outcome) c.in_ok-reply.ensures.params
-    (subst (λ (t : Triples). Follows core t) (c.deref.ensures ∙ i.6) c.in_ok-reply.ensures.follows) in
+    let did = stepped o s.core core k r c.in_ok-reply.changes c.in_ok-reply.ensures.step in
     let some : is_step r ≡ true = sym c.is_step.ensures ∙ c.if-not-is_step.false in
     let seat : c.args.token.now < o.seats = subst (λ (n : ℕ). n < o.seats) c.number.ensures.is c.number.ensures.below in
     let e : Entry = entry_of c.args.token.now k None in

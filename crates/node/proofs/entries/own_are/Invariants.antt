@@ -1,7 +1,7 @@
 use Rattle.std.proofs.Common.{◌≡◌, ◌≤◌, length, take, map}
 use Rattle.chain.specs.History.{own_of}
 use Rattle.node.specs.Pass.{owed_entry}
-use Rattle.node.proofs.own.own_are.Given as goal
+use Rattle.node.proofs.entries.own_are.Given as goal
 
 abbrev pub invariant-loop-entry : goal.invariant-loop-entry
 invariant-loop-entry l = record {

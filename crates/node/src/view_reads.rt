@@ -6,7 +6,7 @@ ghost use Rattle.chain.specs.History.{own_of};
 ghost use Rattle.view.specs.ViewState.{IsLegal};
 ghost use Rattle.node.specs.Pass.{owed_entry};
 
-use crate::own::{is_same, own_are};
+use crate::entries::{is_same, own_are};
 use crate::reader_home::ReaderHome;
 use chain::{Command, Entry};
 use view::{Naming, Note, View};

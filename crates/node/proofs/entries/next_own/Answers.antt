@@ -3,8 +3,8 @@ use Rattle.std.specs.Option.{is_some}
 use Rattle.std.proofs.lemmas.Option.{get_or_from_slice_get}
 use Rattle.chain.specs.declared.entry.Entry.{Entry}
 use Rattle.node.proofs.Owning.{own_next}
-use Rattle.node.proofs.own.next_own.Goals.{then-is_some-via-then-is_some, then-is_some-via-else-is_some+in_ok-get+then-not-is_same_command}
-use Rattle.node.proofs.own.next_own.Goals as goal
+use Rattle.node.proofs.entries.next_own.Goals.{then-is_some-via-then-is_some, then-is_some-via-else-is_some+in_ok-get+then-not-is_same_command}
+use Rattle.node.proofs.entries.next_own.Goals as goal
 
 pub returns-then-is_some : goal.returns-then-is_some
 returns-then-is_some c p =

@@ -1,16 +1,15 @@
 //! A step over the coins that are published, as a reader finds them.
 
 ghost use Rattle.std.specs.Prelude.{◌≡◌, ◌≤◌, All, IfOk, OnErr, Decides, map};
-ghost use Rattle.coins.specs.Changes.{AreChanges};
 ghost use Rattle.curve.specs.Triple.{Triples};
 ghost use Rattle.tree.specs.Branches.{height};
 ghost use Rattle.tree.specs.Tips.{tip_of_id};
-ghost use Rattle.chain.specs.Commands.{outcome};
 ghost use Rattle.chain.specs.Prepared.{command_of};
 ghost use Rattle.chain.specs.Regtest.{regtest};
 ghost use Rattle.chain.specs.Settle.{active, best, tips};
-ghost use Rattle.activate.specs.CoreState.{Follows, coins_of};
-ghost use Rattle.view.specs.ViewState.{IsExact, state_of};
+ghost use Rattle.activate.specs.CoreState.{Follows};
+ghost use Rattle.view.specs.ViewState.{IsExact, state_after};
+ghost use Rattle.node.specs.inside.PublishedState.{IsCoreStep};
 
 use crate::reader_home::ReaderHome;
 use activate::Core;
@@ -54,16 +53,10 @@ fn step_over_view<C: Crew>(
     requires book { note.now.book ≡ view.now.origin.book }
     requires params { core.old.params ≡ view.now.origin.params }
     requires table { env.now.table.now ≡ view.now.origin.triples }
-    requires state { core.old.state ≡ state_of view.now.origin note.now.entries }
+    requires state { core.old.state ≡ state_after view.now.origin note.now.entries }
     requires follows { Follows core.old env.now.table.now }
-    ensures outcome { IfOk result (λ done.
-        (core.new.state, done.0)
-        ≡ outcome (regtest core.old.params env.now.table.now) core.old.state
-        (command_of command.now)) }
-    ensures changes { IfOk result (λ done.
-        AreChanges (coins_of core.old) (coins_of core.new) done.1) }
-    ensures params { core.new.params ≡ core.old.params }
-    ensures follows { Follows core.new env.now.table.now }
+    ensures step { let triples = view.now.origin.triples in
+        IfOk result (λ done. IsCoreStep triples core.old core.new (command_of command.now) done.0 done.1) }
     ensures err { OnErr result (core.new ≡ core.old) }
 {
     let Some(found) = view.note() else {
@@ -91,17 +84,11 @@ pub(crate) fn step_by_reader<J: Naming, C: Crew>(
     requires book { note.now.book ≡ J.origin.book }
     requires params { core.old.params ≡ J.origin.params }
     requires table { env.now.table.now ≡ J.origin.triples }
-    requires state { core.old.state ≡ state_of J.origin note.now.entries }
+    requires state { core.old.state ≡ state_after J.origin note.now.entries }
     requires follows { Follows core.old env.now.table.now }
     ensures home { home.new ≡ home.old }
-    ensures outcome { IfOk result (λ done.
-        (core.new.state, done.0)
-        ≡ outcome (regtest core.old.params env.now.table.now) core.old.state
-        (command_of command.now)) }
-    ensures changes { IfOk result (λ done.
-        AreChanges (coins_of core.old) (coins_of core.new) done.1) }
-    ensures params { core.new.params ≡ core.old.params }
-    ensures follows { Follows core.new env.now.table.now }
+    ensures step { let triples = J.origin.triples in
+        IfOk result (λ done. IsCoreStep triples core.old core.new (command_of command.now) done.0 done.1) }
     ensures err { OnErr result (core.new ≡ core.old) }
 {
     let Some(reading) = home.enter() else {
@@ -112,7 +99,7 @@ pub(crate) fn step_by_reader<J: Naming, C: Crew>(
     done
 }
 
-/// The best block, its height and the tips, as a core tells them.
+/// The best block, its height and the tips of a core.
 pub(crate) fn chain_info(alloc: Global, core: &Core) -> Result<ChainInfo, Memory>
     ensures best { (triples : Triples) → Follows core.now triples
         → let r = regtest core.now.params triples in

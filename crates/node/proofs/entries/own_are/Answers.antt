@@ -4,7 +4,7 @@ use Rattle.chain.specs.declared.entry.Entry.{Entry}
 use Rattle.chain.specs.History.{own_of}
 use Rattle.chain.specs.laws.History.{own_of-append}
 use Rattle.node.specs.Pass.{owed_entry}
-use Rattle.node.proofs.own.own_are.Goals as goal
+use Rattle.node.proofs.entries.own_are.Goals as goal
 
 pub loop-entry-preserved : goal.loop-entry-preserved
 loop-entry-preserved c =

@@ -1,7 +1,7 @@
 use Rattle.std.proofs.Common.{◌≡◌, ℕ, List, length, take, drop, take_all, ◌++◌, refl, ap, sym, ◌∙◌, subst, arith}
 use Rattle.std.proofs.lemmas.List.{take-append-drop}
 use Rattle.chain.specs.declared.entry.Entry.{Entry}
-use Rattle.node.proofs.own.begins.Goals as goal
+use Rattle.node.proofs.entries.begins.Goals as goal
 
 pub returns : goal.returns
 returns c =
