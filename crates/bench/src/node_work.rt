@@ -247,7 +247,9 @@ where
 {
     let alloc = rt.alloc();
     // few at a small size
-    let start = start(alloc, payments.min(coins), coins)?;
+    let mut start = start(alloc, payments.min(coins), coins)?;
+    // The first step that is timed brings up to date the copy that the last one before it didn't change.
+    start.add(alloc, Vec::new(alloc))?;
     let written = paying(alloc, start.branch, start.coins.as_slice(), STEPS)?;
     let Start { blocks, .. } = start;
     at_node(rt, 1, 1, blocks, &Work::Turns(written))

@@ -3,7 +3,7 @@
 use crate::check::Check;
 use crate::fault::Fault;
 use crate::filling::Filling;
-use crate::spends::{Spend, Spends, digest, key, put_push, put_signature, signature, spender};
+use crate::spends::{Spend, Spends, key, put_push, signature, signed_input, spender};
 use crate::timing::Outcome;
 use curve::Table;
 use interp::{Job, verify};
@@ -107,16 +107,13 @@ pub fn long_code(alloc: Global) -> Result<Spends, Fault> {
     let mut filling = Filling::new(11);
     let key = key(&mut filling, 0);
     let signature = signature(&mut filling);
-    let mut input = Vec::new(alloc);
-    put_signature(&mut input, &signature)?;
-    put_push(&mut input, key.as_slice())?;
-    let mut spends = one(alloc, input.as_slice(), long_script(alloc)?)?;
-    if let Some(spend) = spends.list.as_slice().first() {
-        let digest = digest(&spend.tx, 0, spend.spent.as_slice());
-        spends
-            .table
-            .add(key.as_slice(), signature.as_slice(), &digest)?;
-    }
+    let input = signed_input(alloc, &signature, &key)?;
+    let tx = spender(alloc, &mut Filling::new(8), input.as_slice())?;
+    let spent = long_script(alloc)?;
+    let spend = Spend { tx, spent };
+    let mut spends = Spends::new(alloc);
+    spends.sign(&spend, &key, &signature)?;
+    spends.list.push(spend)?;
     Ok(spends)
 }
 
@@ -136,9 +133,7 @@ pub fn long_script(alloc: Global) -> Result<Vec<u8>, Memory> {
 pub fn long_script_alone(alloc: Global) -> Result<Vec<u8>, Memory> {
     let mut filling = Filling::new(17);
     let key = key(&mut filling, 0);
-    let mut script = Vec::new(alloc);
-    put_signature(&mut script, &signature(&mut filling))?;
-    put_push(&mut script, key.as_slice())?;
+    let mut script = signed_input(alloc, &signature(&mut filling), &key)?;
     script.extend_from_slice(long_script(alloc)?.as_slice())?;
     Ok(script)
 }

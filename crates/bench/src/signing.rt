@@ -13,6 +13,7 @@ use std::alloc::Global;
 use std::rt::Clock;
 use std::time::Instant;
 use txn::{Inputs, OutPoint, Outputs, Script, Tx, TxIn};
+use wire::Memory;
 
 /// A transaction of so many inputs of one script, and no output.
 fn transaction(alloc: Global, size: usize, script: &[u8]) -> Result<Tx, Fault> {
@@ -50,29 +51,71 @@ pub fn digests<R: AllocGlobal + Clock>(rt: &R, size: usize) -> Result<Outcome, F
 
 const OP_CHECKSIG: u8 = 0xac;
 
+/// A transaction whose inputs all have one signature, and the script of a key that they spend.
+#[derive(Drop)]
+struct Signed {
+    key: [u8; 33],
+    signature: [u8; 70],
+    tx: Tx,
+    spent: Vec<u8>,
+}
+
+impl Signed {
+    /// One of so many inputs.
+    fn new(alloc: Global, size: usize) -> Result<Signed, Fault> {
+        let mut filling = Filling::new(13);
+        let key = key(&mut filling, 0);
+        let signature = signature(&mut filling);
+        let mut input = Vec::new(alloc);
+        put_signature(&mut input, &signature)?;
+        let tx = transaction(alloc, size, input.as_slice())?;
+        let spent = to_key(alloc, &key)?;
+        Ok(Signed {
+            key,
+            signature,
+            tx,
+            spent,
+        })
+    }
+
+    /// The table in which the signature is valid for each of these inputs.
+    fn table(&self, alloc: Global) -> Result<Table, Memory> {
+        let mut table = Table::new(alloc);
+        for number in 0..self.tx.inputs.len() {
+            let digest = digest(&self.tx, number, self.spent.as_slice());
+            table.add(self.key.as_slice(), self.signature.as_slice(), &digest)?;
+        }
+        Ok(table)
+    }
+
+    /// A job for each input.
+    fn jobs(&self, alloc: Global) -> Result<Vec<Job<'_>>, Memory> {
+        let mut jobs = Vec::with_capacity(alloc, self.tx.inputs.len())?;
+        for input in 0..self.tx.inputs.len() {
+            jobs.push(Job {
+                tx: &self.tx,
+                input,
+                spent: self.spent.as_slice(),
+                flags: Flags::ALL,
+            })?;
+        }
+        Ok(jobs)
+    }
+}
+
+/// The push of a key, and CHECKSIG.
+fn to_key(alloc: Global, key: &[u8; 33]) -> Result<Vec<u8>, Memory> {
+    let mut script = Vec::new(alloc);
+    put_push(&mut script, key.as_slice())?;
+    script.push(OP_CHECKSIG)?;
+    Ok(script)
+}
+
 /// CHECKSIG of each input of one transaction of so many.
 pub fn each_input<R: AllocGlobal + Clock>(rt: &R, size: usize) -> Result<Outcome, Fault> {
-    let mut filling = Filling::new(13);
-    let key = key(&mut filling, 0);
-    let signature = signature(&mut filling);
-    let mut input = Vec::new(rt.alloc());
-    put_signature(&mut input, &signature)?;
-    let tx = transaction(rt.alloc(), size, input.as_slice())?;
-    let mut spent = Vec::new(rt.alloc());
-    put_push(&mut spent, key.as_slice())?;
-    spent.push(OP_CHECKSIG)?;
-    let mut table = Table::new(rt.alloc());
-    let mut jobs = Vec::with_capacity(rt.alloc(), size)?;
-    for number in 0..size {
-        let digest = digest(&tx, number, spent.as_slice());
-        table.add(key.as_slice(), signature.as_slice(), &digest)?;
-        jobs.push(Job {
-            tx: &tx,
-            input: number,
-            spent: spent.as_slice(),
-            flags: Flags::ALL,
-        })?;
-    }
+    let signed = Signed::new(rt.alloc(), size)?;
+    let table = signed.table(rt.alloc())?;
+    let jobs = signed.jobs(rt.alloc())?;
     let begin = Instant::now(rt)?;
     let count = accepted(rt.alloc(), jobs.as_slice(), &table)?;
     Outcome::since(rt, begin, Check::Count(count))

@@ -35,6 +35,19 @@ impl Spends {
         }
     }
 
+    /// Makes a key's signature valid for the input of a spend.
+    pub fn sign(
+        &mut self,
+        spend: &Spend,
+        key: &[u8; 33],
+        signature: &[u8; 70],
+    ) -> Result<(), Memory> {
+        let digest = digest(&spend.tx, 0, spend.spent.as_slice());
+        self.table
+            .add(key.as_slice(), signature.as_slice(), &digest)?;
+        Ok(())
+    }
+
     /// A job for each of them, with all rules in force.
     pub fn jobs(&self, alloc: Global) -> Result<Vec<Job<'_>>, Memory> {
         let mut jobs = Vec::with_capacity(alloc, self.list.len())?;
@@ -109,29 +122,58 @@ pub fn digest(tx: &Tx, input: usize, code: &[u8]) -> [u8; 32] {
     [0; 32]
 }
 
+/// The push of a signature with its hash type, and of its key.
+pub fn signed_input(
+    alloc: Global,
+    signature: &[u8; 70],
+    key: &[u8; 33],
+) -> Result<Vec<u8>, Memory> {
+    let mut input = Vec::new(alloc);
+    put_signature(&mut input, signature)?;
+    put_push(&mut input, key.as_slice())?;
+    Ok(input)
+}
+
 /// Payments to the hash of a key.
 pub fn to_keys(alloc: Global, size: usize) -> Result<Spends, Fault> {
     let mut filling = Filling::new(6);
     let mut spends = Spends::new(alloc);
     for number in 0..size {
-        let key = key(&mut filling, number as u64);
-        let signature = signature(&mut filling);
-        let mut input = Vec::new(alloc);
-        put_signature(&mut input, &signature)?;
-        put_push(&mut input, key.as_slice())?;
-        let tx = spender(alloc, &mut filling, input.as_slice())?;
-        let spent = Vec::from_slice(alloc, to_key_hash(&hash160(key.as_slice())).as_slice())?;
-        let digest = digest(&tx, 0, spent.as_slice());
-        spends
-            .table
-            .add(key.as_slice(), signature.as_slice(), &digest)?;
-        spends.list.push(Spend { tx, spent })?;
+        put_to_key(alloc, &mut filling, number as u64, &mut spends)?;
     }
     Ok(spends)
 }
 
+/// Puts a payment to the hash of the key of this number behind others.
+fn put_to_key(
+    alloc: Global,
+    filling: &mut Filling,
+    number: u64,
+    spends: &mut Spends,
+) -> Result<(), Fault> {
+    let key = key(filling, number);
+    let signature = signature(filling);
+    let input = signed_input(alloc, &signature, &key)?;
+    let spend = spend_of_key(alloc, filling, input.as_slice(), &key)?;
+    spends.sign(&spend, &key, &signature)?;
+    spends.list.push(spend)?;
+    Ok(())
+}
+
+/// A payment with an input of this script, which spends one to the hash of a key.
+fn spend_of_key(
+    alloc: Global,
+    filling: &mut Filling,
+    input: &[u8],
+    key: &[u8; 33],
+) -> Result<Spend, Fault> {
+    let tx = spender(alloc, filling, input)?;
+    let spent = Vec::from_slice(alloc, to_key_hash(&hash160(key.as_slice())).as_slice())?;
+    Ok(Spend { tx, spent })
+}
+
 /// The bare script of two of three keys.
-fn two_of_three(alloc: Global, keys: &[[u8; 33]; 3]) -> Result<Vec<u8>, Memory> {
+fn two_of_three(alloc: Global, keys: &[[u8; 33]]) -> Result<Vec<u8>, Memory> {
     let mut bytes = vec![in alloc; 0x52]?;
     for key in keys {
         put_push(&mut bytes, key.as_slice())?;
@@ -140,30 +182,46 @@ fn two_of_three(alloc: Global, keys: &[[u8; 33]; 3]) -> Result<Vec<u8>, Memory> 
     Ok(bytes)
 }
 
+/// The pushes of two signatures, behind the element that CHECKMULTISIG takes too much.
+fn input_of_two(alloc: Global, signatures: &[[u8; 70]]) -> Result<Vec<u8>, Memory> {
+    let mut input = vec![in alloc; 0]?;
+    for signature in signatures {
+        put_signature(&mut input, signature)?;
+    }
+    Ok(input)
+}
+
 /// Payments to two of three keys, signed by the first two.
 pub fn to_two_of_three(alloc: Global, size: usize) -> Result<Spends, Fault> {
     let mut filling = Filling::new(7);
     let mut spends = Spends::new(alloc);
     for number in 0..size {
         let first = (number as u64).wrapping_mul(3);
-        let mut keys = [[0; 33]; 3];
-        for (at, place) in keys.iter_mut().enumerate() {
-            *place = key(&mut filling, first.wrapping_add(at as u64));
-        }
-        let signatures = [signature(&mut filling), signature(&mut filling)];
-        let mut input = vec![in alloc; 0]?;
-        for signature in &signatures {
-            put_signature(&mut input, signature)?;
-        }
-        let tx = spender(alloc, &mut filling, input.as_slice())?;
-        let spent = two_of_three(alloc, &keys)?;
-        let digest = digest(&tx, 0, spent.as_slice());
-        for (signature, key) in signatures.iter().zip(keys.iter()) {
-            spends
-                .table
-                .add(key.as_slice(), signature.as_slice(), &digest)?;
-        }
-        spends.list.push(Spend { tx, spent })?;
+        put_to_two_of_three(alloc, &mut filling, first, &mut spends)?;
     }
     Ok(spends)
+}
+
+/// Puts a payment to two of the three keys from this number on behind others.
+fn put_to_two_of_three(
+    alloc: Global,
+    filling: &mut Filling,
+    first: u64,
+    spends: &mut Spends,
+) -> Result<(), Fault> {
+    let keys = [
+        key(filling, first),
+        key(filling, first.wrapping_add(1)),
+        key(filling, first.wrapping_add(2)),
+    ];
+    let signatures = [signature(filling), signature(filling)];
+    let input = input_of_two(alloc, signatures.as_slice())?;
+    let tx = spender(alloc, filling, input.as_slice())?;
+    let spent = two_of_three(alloc, keys.as_slice())?;
+    let spend = Spend { tx, spent };
+    for (signature, key) in signatures.iter().zip(keys.iter()) {
+        spends.sign(&spend, key, signature)?;
+    }
+    spends.list.push(spend)?;
+    Ok(())
 }

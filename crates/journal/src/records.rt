@@ -10,7 +10,7 @@ ghost use Rattle.journal.specs.declared.records.RecordFault.TheVariants as fault
 use chain::{Command, Entry};
 use std::alloc::{AllocError, Global};
 
-/// What stands before each of regtest's records (Bitcoin Core's message start).
+/// What each of regtest's records begins with (Bitcoin Core's message start).
 const MAGIC: [u8; 4] = [0xfa, 0xbf, 0xb5, 0xda];
 
 /// Why a blk file isn't made.

@@ -7,25 +7,25 @@ use std::alloc::{AllocError, Global};
 /// Fewer blocks than these are drawn each by itself.
 const MIN_RUN: usize = 4;
 
-/// A block, or a run: blocks one on the other, on each of which no other stands, of one status and none marked.
+/// A block, or a run: blocks one on the other, without another child, of one status and none marked.
 #[derive(Drop)]
 pub struct Piece<'t> {
     pub first: &'t Node,
     pub last: &'t Node,
     /// How many blocks it has.
     pub count: usize,
-    /// The line that it stands in, from 0, which is that of the active branch.
+    /// The line that it is in, from 0, which is the active branch's.
     pub row: usize,
-    /// The place of the piece that it stands on.
+    /// The place of the piece that it is built on.
     pub below: Option<usize>,
     /// Whether it is the highest of the active branch.
     pub is_best: bool,
-    /// What stands before it on a terminal.
+    /// What is written before it on a terminal.
     pub lead: String,
 }
 
 /// In which order pieces come: a piece, and then those on it.
-#[derive(Clone, Copy, PartialEq, Eq)]
+#[derive(Clone, Copy)]
 pub enum Order {
     /// What goes on in the same row comes first, and then the other branches, the highest first: so no branch is
     /// crossed by one that begins lower.
@@ -42,7 +42,7 @@ struct Start {
     /// None where it begins a row.
     row: Option<usize>,
     lead: String,
-    /// What stands before the pieces of its row that follow.
+    /// What is written before the pieces of its row that follow.
     rest: String,
 }
 
@@ -164,7 +164,7 @@ fn add_starts(
     order: Order,
     starts: &mut Vec<Start>,
 ) -> Result<(), AllocError> {
-    if order == Order::MainLast {
+    if matches!(order, Order::MainLast) {
         add_main(alloc, branching, rest, starts)?;
     }
     let mut is_last = branching.main.is_none();
@@ -181,7 +181,7 @@ fn add_starts(
             is_last = false;
         }
     }
-    if order == Order::MainFirst {
+    if matches!(order, Order::MainFirst) {
         add_main(alloc, branching, rest, starts)?;
     }
     Ok(())
@@ -206,8 +206,8 @@ fn add_main(
     Ok(())
 }
 
-/// What stands on a terminal before a branch, and before what follows in it: thick on the active branch, and open where
-/// nothing more stands on the block.
+/// What is written on a terminal before a branch, and before what follows in it: thick on the active branch, and open
+/// where nothing more is built on the block.
 fn columns(is_active: bool, is_last: bool) -> (&'static str, &'static str) {
     match (is_active, is_last) {
         (true, false) => ("┠─", "┃ "),

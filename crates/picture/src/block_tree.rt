@@ -13,7 +13,7 @@ pub struct TreeBlock {
     pub is_marked: bool,
 }
 
-/// A block at its place: what it stands on, and what stands on it, linked in the order in which it came.
+/// A block at its place: its parent, and its children, linked in the order in which they came.
 #[derive(Drop)]
 pub(crate) struct Node {
     pub block: TreeBlock,
@@ -30,7 +30,7 @@ pub struct BlockTree {
 }
 
 impl BlockTree {
-    /// The block that all others stand on, at place 0 and height 0.
+    /// The block that all others are built on, at place 0 and height 0.
     pub fn new(alloc: Global, genesis: TreeBlock) -> Result<BlockTree, AllocError> {
         let mut nodes = Vec::new(alloc);
         nodes.push(Node::new(genesis, 0))?;
@@ -70,13 +70,19 @@ impl BlockTree {
     /// The places of the blocks on the one of a place, as they came.
     pub(crate) fn children(&self, alloc: Global, place: usize) -> Result<Vec<usize>, AllocError> {
         let mut children = Vec::new(alloc);
-        let mut next = self.node(place).and_then(|node| node.first_child);
+        let mut next = match self.node(place) {
+            Some(node) => node.first_child,
+            None => None,
+        };
         for _ in 0..self.nodes.len() {
             let Some(child) = next else {
                 break;
             };
             children.push(child)?;
-            next = self.node(child).and_then(|node| node.next_sibling);
+            next = match self.node(child) {
+                Some(node) => node.next_sibling,
+                None => None,
+            };
         }
         Ok(children)
     }

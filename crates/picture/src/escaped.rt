@@ -2,7 +2,7 @@
 
 use std::fmt;
 
-/// A text as it stands in XML, as far as so many letters of it: the rest is told by dots.
+/// A text as XML has it, cut after so many letters: dots say that there is more.
 #[derive(Clone, Copy)]
 pub struct Escaped<'s> {
     pub text: &'s str,
@@ -19,18 +19,26 @@ impl<'s> Escaped<'s> {
     }
 }
 
+/// The entity of a letter that XML uses itself.
+fn entity(letter: char) -> Option<&'static str> {
+    match letter {
+        '&' => Some("&amp;"),
+        '<' => Some("&lt;"),
+        '>' => Some("&gt;"),
+        '"' => Some("&quot;"),
+        _ => None,
+    }
+}
+
 impl fmt::Display for Escaped<'_> {
     fn fmt<W: fmt::Write>(&self, f: &mut fmt::Formatter<W>) -> fmt::Result {
         for (place, letter) in self.text.chars().enumerate() {
             if place >= self.most {
                 return f.write_str("…");
             }
-            match letter {
-                '&' => f.write_str("&amp;")?,
-                '<' => f.write_str("&lt;")?,
-                '>' => f.write_str("&gt;")?,
-                '"' => f.write_str("&quot;")?,
-                _ => f.write_char(letter)?,
+            match entity(letter) {
+                Some(name) => f.write_str(name)?,
+                None => f.write_char(letter)?,
             }
         }
         Ok(())

@@ -1,4 +1,4 @@
-//! Where pieces stand in a picture.
+//! Where pieces are in a picture.
 
 use crate::arrangement::Piece;
 use std::alloc::{AllocError, Global};

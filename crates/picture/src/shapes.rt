@@ -13,7 +13,7 @@ pub struct Shape {
     pub status: Status,
     pub is_marked: bool,
     pub is_best: bool,
-    /// How many blocks it stands for.
+    /// How many blocks it shows.
     pub count: usize,
     pub x: usize,
     /// The last of its points; `x` where it is one.

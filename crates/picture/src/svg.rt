@@ -10,7 +10,7 @@ use std::alloc::{AllocError, Global};
 use std::fmt;
 use std::fmt::Write as _;
 
-/// So many letters of a name stand above its block.
+/// So many letters of a name are written above its block.
 const MAX_LABEL: usize = 13;
 
 /// How far behind a block the line turns to a branch, in pixels.
@@ -104,7 +104,7 @@ pub fn to_svg(alloc: Global, tree: &BlockTree) -> Result<String, AllocError> {
     Ok(text)
 }
 
-/// The pieces of a tree, and where they stand.
+/// The pieces of a tree, and where they are.
 #[derive(Clone, Copy)]
 struct Picture<'p, 'c, 't> {
     pieces: &'p [Piece<'t>],

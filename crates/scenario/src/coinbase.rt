@@ -1,7 +1,7 @@
 //! The coinbase of a block that a scenario defines.
 
 ghost use Rattle.std.specs.Prelude.{◌≡◌, ◌≤◌, ◌++◌, [], ◌∷◌, length, IfOk, OnOk};
-ghost use Rattle.rules.specs.Height.{height_push};
+ghost use Rattle.rules.specs.Context.{height_push};
 ghost use Rattle.scenario.specs.inside.Coinbase.{said_or, script_of, coinbase_of};
 
 use crate::recipe::CoinbaseRecipe;
@@ -76,7 +76,7 @@ fn output_script(alloc: Global, said: Option<Script>) -> Result<Script, Memory>
 
 /// The script that pushes a height (BIP 34): an opcode of its own for 1 to 16, else the number in the fewest
 /// bytes, of which the highest bit is the sign's.
-#[tactic(auto, unfolding(rules::specs::Height::height_push))]
+#[tactic(auto, unfolding(rules::specs::Context::height_push))]
 fn height_push(alloc: Global, height: u32) -> Result<Vec<u8>, Memory>
     ensures { IfOk result (λ script. script.items ≡ height_push height) }
 {

@@ -15,13 +15,13 @@ pub enum Complaint {
     Blank,
     /// No line begins with the word.
     Unknown,
-    /// The line can't stand at its place.
+    /// The line isn't allowed at its place.
     Misplaced,
-    /// A line of the word stands above the first client.
+    /// A line of the word is above the first client.
     Above,
-    /// A line of the word stands below a client.
+    /// A line of the word is below a client.
     Below,
-    /// A line of the word stands right after those of a transaction.
+    /// A line of the word comes right after a transaction's lines.
     Loose,
     /// A line that begins with its first word is spelled so.
     Spelling(&'static str),

@@ -39,7 +39,7 @@ pub struct Named {
 /// The genesis block.
 pub fn genesis(alloc: Global) -> Result<Named, Memory> {
     let mut bytes = Cursor::new(&GENESIS[COINBASE_AT..]);
-    // Its bytes have no fault, so want of memory is the only one.
+    // Its bytes have no fault, so running out of memory is the only one.
     let coinbase = txn::read(alloc, &mut bytes).map_err(|_| Memory)?;
     Ok(Named {
         name: String::from_str(alloc, "genesis")?,

@@ -10,7 +10,7 @@ use Rattle.txn.specs.declared.tx.Tx.{Tx}
 use Rattle.txn.specs.Check.{is_only_null, prevs}
 use Rattle.txn.specs.Coinbase.{null}
 use Rattle.coins.specs.Coins.{Coins, outpoint_cmp, same}
-use Rattle.undo.specs.Effect.{place, IsApplicable}
+use Rattle.undo.specs.Effect.{outpoint_at, IsApplicable}
 
 abbrev pub input_of : OutPoint → TxIn
 input_of prev = record { prev = prev; script = []; sequence = 0 }
@@ -26,6 +26,6 @@ unfolding IsDistinct
 coinbase_applies m tx id e input outputs = record {
   coins = subst (λ (is : List TxIn). AllByRecursion (λ p. IsSome (coin_map.get m p)) (cond (is_only_null is) [] (prevs is))) (sym input) tt;
   once = subst (λ (is : List TxIn). IsDistinct same (cond (is_only_null is) [] (prevs is))) (sym input) tt;
-  new = λ i l. ap (λ (x : Coins). coin_map.get x (place id i)) e ∙ get-empty outpoint_cmp (place id i);
+  new = λ i l. ap (λ (x : Coins). coin_map.get x (outpoint_at id i)) e ∙ get-empty outpoint_cmp (outpoint_at id i);
   numbered = few (length tx.outputs) outputs;
 }

@@ -5,6 +5,7 @@ use crate::options::STANDARD;
 use crate::serve::turn::Turn;
 use crate::serve::words::Facts;
 use crossbeam_channel::Sender;
+use memchr::memchr;
 use serving::{Asked, Refusal, Request, RequestId, info_line, read_request, refusal_line};
 use std::alloc::Global;
 use std::io;
@@ -12,7 +13,7 @@ use std::io::{BufRead, BufReader, Error, ErrorKind, Read};
 use std::sync::Wait;
 
 /// How many bytes a line has at most: a block of 33,554,432 bytes in hexadecimal digits fits.
-const MAX_LINE: u64 = 70_000_000;
+const MAX_LINE: usize = 70_000_000;
 
 /// How many bytes are read at once.
 const READ_AHEAD: usize = 65_536;
@@ -22,6 +23,17 @@ const READ_AHEAD: usize = 65_536;
 enum Line {
     Whole(Vec<u8>),
     TooLong,
+}
+
+/// What was at hand of a line.
+#[derive(Drop)]
+enum Piece {
+    Middle,
+    Last,
+    /// Nothing: the input has ended.
+    None,
+    /// More than a line may have.
+    TooMuch,
 }
 
 /// What comes after a line.
@@ -71,18 +83,42 @@ where
 /// The next line, without its end; the last may lack it. One that is too long is skipped.
 fn read_line<I: BufRead>(alloc: Global, input: &mut I) -> io::Result<Option<Line>> {
     let mut line = Vec::new(alloc);
-    let read = input.take(MAX_LINE + 1).read_until(b'\n', &mut line)?;
-    if read == 0 {
-        return Ok(None);
+    for _ in 0..u64::MAX {
+        match read_piece(input, &mut line)? {
+            Piece::Middle => {}
+            Piece::Last => return Ok(Some(Line::Whole(line))),
+            Piece::None if line.is_empty() => return Ok(None),
+            Piece::None => return Ok(Some(Line::Whole(line))),
+            Piece::TooMuch => {
+                drop(line);
+                input.skip_until(b'\n')?;
+                return Ok(Some(Line::TooLong));
+            }
+        }
     }
-    if line.last() == Some(&b'\n') {
-        line.pop();
-    } else if read as u64 > MAX_LINE {
-        drop(line);
-        input.skip_until(b'\n')?;
-        return Ok(Some(Line::TooLong));
+    Ok(None)
+}
+
+/// Adds what is at hand of a line, without its end.
+fn read_piece<I: BufRead>(input: &mut I, line: &mut Vec<u8>) -> io::Result<Piece> {
+    let bytes = match input.fill_buf() {
+        Ok(bytes) => bytes,
+        Err(error) if error.kind() == ErrorKind::Interrupted => return Ok(Piece::Middle),
+        Err(error) => return Err(error),
+    };
+    if bytes.is_empty() {
+        return Ok(Piece::None);
     }
-    Ok(Some(Line::Whole(line)))
+    let (front, taken, piece) = match memchr(b'\n', bytes) {
+        Some(end) => (&bytes[..end], end + 1, Piece::Last),
+        None => (bytes, bytes.len(), Piece::Middle),
+    };
+    if front.len() > MAX_LINE.saturating_sub(line.len()) {
+        return Ok(Piece::TooMuch);
+    }
+    line.extend_from_slice(front)?;
+    input.consume(taken);
+    Ok(piece)
 }
 
 /// Has a line wait for its seat, or answers it.

@@ -3,7 +3,7 @@ use Rattle.std.specs.Prelude.{ℕ, pos, List, [], ◌∷◌, ◌++◌, length, O
 use Rattle.txn.specs.declared.tx.Tx.{Tx}
 use Rattle.txn.specs.Coinbase.{null}
 use Rattle.block.specs.Reward.{subsidy_of}
-use Rattle.rules.specs.Height.{height_push}
+use Rattle.rules.specs.Context.{height_push}
 use Rattle.scenario.specs.declared.recipe.CoinbaseRecipe.{CoinbaseRecipe}
 
 -- what a line says, or else the default
