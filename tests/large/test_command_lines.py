@@ -42,7 +42,7 @@ class TwoAudits(SavedTest):
         return int(self.read("report").split()[0])
 
     def test_the_definition_and_the_chainstate(self) -> None:
-        source = os.path.join(ROOT, "refusals", "shim.c")
+        source = os.path.join(ROOT, "tests", "refusals", "shim.c")
         subprocess.run(["cc", "-O2", "-shared", "-fPIC", "-o", self.path("shim.so"), source], check=True)
         self.make_folder("saved")
         made = {}

@@ -126,7 +126,7 @@ class RefusedCoins(ProgramTest):
     def setUp(self) -> None:
         super().setUp()
         self.shim = self.path("forks.so")
-        source = os.path.join(ROOT, "refusals", "forks.c")
+        source = os.path.join(ROOT, "tests", "refusals", "forks.c")
         subprocess.run(["cc", "-O2", "-Wall", "-shared", "-fPIC", "-o", self.shim, source], check=True)
         text = lines(
             "chain c 104 genesis",

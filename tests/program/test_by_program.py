@@ -30,8 +30,8 @@ TABLE = "aa 3006020101020101 010000000000000000000000000000000000000000000000000
 
 class ByProgram(ScenarioTest):
     def test_all_scenarios_are_read(self) -> None:
-        """The table has 26 scenarios, of which one is in no list."""
-        self.assertEqual((len(BRANCHES), len(SPENDS), len(NAMED)), (14, 11, 26))
+        """The table has 29 scenarios, of which one is in no list."""
+        self.assertEqual((len(BRANCHES), len(SPENDS), len(NAMED)), (17, 11, 29))
         alone = NAMED["A_LONG_BRANCH_TAKEN_BACK"]
         self.assertEqual(sorted(NAMED.values()), sorted([*BRANCHES, *SPENDS, alone]))
 

@@ -202,7 +202,7 @@ class Saving(ProgramTest):
             self.expect(["audit", "--quick", "--saved", "saved"], "", Played(0, "agrees\n", ""))
 
     def test_a_run_that_is_killed_at_random(self) -> None:
-        """A run that saves is killed some time after its last answer. refusals/saves.py ends one at each of its calls."""
+        """A run that saves is killed some time after its last answer. tests/refusals/saves.py ends one at each of its calls."""
         self.make_folder("third")
         begun = time.monotonic()
         self.save(LONG, "third")

@@ -10,7 +10,7 @@ import running
 from running import ROOT, ProgramTest
 from serving import Names, Served
 
-sys.path.append(os.path.join(ROOT, "soak"))
+sys.path.append(os.path.join(ROOT, "tests", "soak"))
 from deal import BASE, CLIENTS, Dealer  # noqa: E402
 
 WRITES = ("submit", "invalidate", "reconsider", "precious")
@@ -43,7 +43,7 @@ class Caller(threading.Thread):
             self.wrong.append(repr(error))
 
     def ask_all(self) -> None:
-        now, last = MOMENT, 0
+        now, last = MOMENT, self.seen[self.seat]
         for place, command in enumerate(self.commands):
             if command.startswith("now "):
                 now = int(command.split()[1])
@@ -90,8 +90,8 @@ class Threads(ProgramTest):
         words = ["--seats", "16", "--workers", str(1 + seed % 3), "--blk", "base/blocks.blk", "--save", folder]
         served = Served(self.folder, *words)
         self.addCleanup(served.kill)
-        seen = [0] * 16
-        # The chain stands before the first request. The sixteenth reads.
+        # The chain stands before the first request, submitted by the first seat. The sixteenth reads.
+        seen = [BASE] + [0] * 15
         lists = [commands[BASE:] for commands in scenario.commands] + [["best", "tips"] * 20]
         self.assertEqual(len(lists), CLIENTS + 1)
         callers = [Caller(served, names, seat, commands, seen) for seat, commands in enumerate(lists)]
