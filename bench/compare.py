@@ -57,7 +57,7 @@ NODE = [
     *[(f"read-best-{n}", f"`getbestblockhash` so often by each of {n} seats", [100_000]) for n in READERS],
     *[(f"read-beside-{n}", f"as read-coin-{n}, beside a seat that submits blocks of 2,000 payments", [100_000]) for n in READERS],
     ("slowest", "the slowest of a million reads beside a seat that submits blocks of so many payments", [500, 4000]),
-    ("publish-1", "ten blocks over so many coins, each of which changes one coin", [10_000, 1_000_000]),
+    ("publish-1", "ten blocks over so many coins, behind an empty one; each changes one coin", [10_000, 1_000_000]),
     ("publish-100", "the same, 101 coins", [10_000, 1_000_000]),
     ("publish-10000", "the same, 10,001 coins", [10_000, 1_000_000]),
     ("seats-1", "four branches of so many blocks of 1,000 payments on one base, beside a longer one, by one seat", [100]),
@@ -92,6 +92,16 @@ MEMORY = [
     ("hold-coins", "a coin with a script of 25 bytes, in a map", 0, 170, [500_000, 1_000_000]),
     ("keep-coins", "a coin with a script of one byte, in a node, without its share of its block", 27, 170, [100_000, 200_000]),
 ]
+
+# How long ours may take where the baseline takes 1, without SHA instructions where it has them hidden; 1 where no other
+# number is wanted.
+GOALS = {
+    "merkle": 0.6, "ids": 0.7, "digests": 0.6, "each-input": 0.35,
+    "coins-insert": 1.1, "coins-look-up": 1.1, "coins-spend": 1.1, "connect-1": 1.1, "connect-4": 1.1,
+    "queue-1": 1.1, "queue-2": 1.1, "queue-4": 1.1, "queue-8": 1.1,
+    "swaps": 1.5, "reorganise": 1.1,
+    "publish-1": 1.5, "publish-100": 1.2, "publish-10000": 1.1,
+}
 
 # How much more a block may cost on the second chain of `blocks-above` than on the first.
 MOST_GROWTH = 1.1
@@ -249,8 +259,8 @@ def table_of_node(rows, has_sha, machine):
         "",
         "A node and its seats, least of 3 to 15 runs:",
         "",
-        f"| workload | size | what | ours | baseline | ratio{without} |",
-        "|---|---:|---|---:|---:|---:|" + ("---:|---:|" if has_sha else ""),
+        f"| workload | size | what | ours | baseline | ratio{without} | at most |",
+        "|---|---:|---|---:|---:|---:|" + ("---:|---:|" if has_sha else "") + "---|",
         *lines_of(rows, {row[0] for row in rows}),
         "",
         goals_of_a_node(rows, machine),
@@ -300,8 +310,8 @@ def table(rows, has_sha):
         f"The machine's load at the end was {os.getloadavg()[2]:.0f} on {cores} cores, the run's own among it. What the workloads are: "
         "[README](README.md).",
         "",
-        f"| workload | size | what | ours | baseline | ratio{without} |",
-        "|---|---:|---|---:|---:|---:|" + ("---:|---:|" if has_sha else ""),
+        f"| workload | size | what | ours | baseline | ratio{without} | at most |",
+        "|---|---:|---|---:|---:|---:|" + ("---:|---:|" if has_sha else "") + "---|",
     ]
     return "\n".join([*text, *lines_of(rows, EACH_SIZE), "", growth_of_a_block(rows)]) + "\n"
 
@@ -314,7 +324,9 @@ def lines_of(rows, in_each_size):
             cells = [f"{times[0]:.6f}"]
             for other in times[1:]:
                 cells += [f"{other:.6f}", f"{times[0] / other:.2f}"]
-            text.append(f"| {workload} | {size:,} | {what} | " + " | ".join(cells) + " |")
+            most = GOALS.get(workload, 1)
+            verdict = "met" if times[0] / times[-1] <= most else "missed"
+            text.append(f"| {workload} | {size:,} | {what} | " + " | ".join(cells) + f" | {most:g}, {verdict} |")
     return text
 
 

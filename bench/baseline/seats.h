@@ -166,6 +166,8 @@ static std::string slowest(size_t size) {
 }
 static std::string published(size_t coins, size_t payments) {
     Start base = started(std::min(payments, coins), coins);
+    // A node with two copies brings the second up to date in the first step that is timed.
+    base.blocks.push_back(base.branch.next());
     return in_turn(base.blocks, paying(base.branch, base.coins, 10), 1);
 }
 // The lock knows no seats, so one branch takes as long by one thread as in turn.
