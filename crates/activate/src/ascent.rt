@@ -23,7 +23,7 @@ use tree::Tree;
 use txn::{Reason, ids};
 use undo::BlockUndo;
 
-/// What the walk up a path comes to where each block connects.
+/// What a walk up a path leaves where each block connects.
 #[derive(Drop)]
 pub(crate) struct Ascent<'b, B: Base> {
     /// The layer that the blocks were applied to.
@@ -32,7 +32,7 @@ pub(crate) struct Ascent<'b, B: Base> {
     pub(crate) undo: Vec<BlockUndo>,
 }
 
-/// What it comes to where one doesn't.
+/// What it leaves where one doesn't.
 #[derive(Drop)]
 pub(crate) struct Stop {
     /// How many blocks connect before that one.
@@ -41,7 +41,7 @@ pub(crate) struct Stop {
 }
 
 /// Connects the blocks of a path to the coins of the fork's branch, from the lowest on, up to the first that
-/// has a fault, where the layer is dropped. The medians are those of the fork's branch by height.
+/// has a fault, where the layer is dropped. The medians are the fork's branch's, by height.
 pub(crate) fn connect_up<'b, B: Base, S: RunsScripts>(
     alloc: Global,
     mut layer: Cache<'b, B>,
@@ -89,7 +89,7 @@ pub(crate) fn connect_up<'b, B: Base, S: RunsScripts>(
     Ok(Ok(Ascent { layer, undo }))
 }
 
-/// Connects the block at a place to the coins of its parent's branch, and adds its median to those of that. The
+/// Connects the block at a place to the coins of its parent's branch, and adds its median to that branch's. The
 /// first rule that it breaks leaves the medians.
 fn connect_next<'b, B: Base, S: RunsScripts>(
     alloc: Global,

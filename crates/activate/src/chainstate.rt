@@ -191,7 +191,7 @@ impl Chainstate {
         }
     }
 
-    /// Takes commands one after the other. Want of memory leaves it after those before the one that lacked it.
+    /// Takes commands one after the other. Out of memory leaves it behind the last command that was taken.
     pub fn run<C: Crew>(
         &mut self,
         alloc: Global,

@@ -17,9 +17,9 @@ use txn::ids;
 use undo::BlockUndo;
 use wire::Memory;
 
-/// Takes the active blocks above the fork back from the coins (Bitcoin Core's `DisconnectTip`). The places are those of
-/// the active branch by height, and the undo is that of its highest blocks; where it ends above the fork, that of the
-/// blocks between is made anew. At want of memory the layer is dropped.
+/// Takes the active blocks above the fork back from the coins (Bitcoin Core's `DisconnectTip`). The places are
+/// the active branch's by height, and the undo is of its highest blocks; where it ends above the fork, the undo of the
+/// blocks between is made anew. Out of memory, it drops the layer.
 pub(crate) fn disconnect_to_fork<'b, B: Base>(
     alloc: Global,
     layer: Cache<'b, B>,

@@ -27,7 +27,7 @@ pub fn no_coin_of_a_chainstate_is_worth_less_than_nothing()
         → AreNotNegative c.coins }
 {}
 
-/// The coins that a core asks of who lends them are those of the definition.
+/// The coins that a core asks of who lends them are the definition's.
 pub fn the_coins_of_a_core_are_the_replay_of_the_active_branch()
     ensures { (c : CoreState) (triples : Triples) → Follows c triples
         → coins_of c ≡ coins (regtest c.params triples) ledger c.state }

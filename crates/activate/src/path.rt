@@ -1,4 +1,4 @@
-//! The path from the active block to another one, and what a try of it comes to.
+//! The path from the active block to another one, and the outcome of a try of it.
 
 use coins::Changes;
 use txn::Reason;
@@ -34,7 +34,7 @@ pub(crate) struct FailedTry {
     pub(crate) reason: Reason,
 }
 
-/// What a try of a block comes to.
+/// The outcome of a try of a block.
 #[derive(Drop)]
 pub(crate) enum Attempt {
     Succeeds(Reorganisation),

@@ -1,4 +1,4 @@
-//! What a command comes to, before it is put in place.
+//! What a command does, before it is done.
 
 use crate::path::BranchPath;
 use chain::Reply;

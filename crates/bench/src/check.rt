@@ -1,9 +1,9 @@
-//! What a workload comes to, which the baseline's must equal.
+//! A workload's result, which the baseline's must equal.
 
 use hash::Id;
 use std::fmt;
 
-/// What a workload comes to: a digest, an id or a number.
+/// A workload's result: a digest, an id or a number.
 #[derive(Drop)]
 pub enum Check {
     /// Printed as its bytes stand, in hexadecimal.

@@ -12,7 +12,7 @@ use std::rt::Clock;
 use std::time::Instant;
 use txn::OutPoint;
 
-/// Outpoints and coins by chance.
+/// Random outpoints and coins.
 #[derive(Drop)]
 struct Hoard {
     filling: Filling,

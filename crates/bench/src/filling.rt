@@ -1,4 +1,4 @@
-//! Bytes by chance, the same in each run.
+//! Random bytes, the same in each run.
 
 /// A generator (splitmix64), which the baseline has too.
 #[derive(Drop)]

@@ -60,7 +60,7 @@ fn read_each<J: Naming, R: AllocGlobal>(
     Ok(sum)
 }
 
-/// Each seat reads each place, on a thread of its own. The time is that of all; all that was read is summed.
+/// Each seat reads each place, on a thread of its own. The time is of all together; all that was read is summed.
 pub fn reads<J: Naming, R>(
     rt: &R,
     node: &Node<'_, J>,

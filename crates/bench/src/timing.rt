@@ -5,7 +5,7 @@ use crate::fault::Fault;
 use std::rt::Clock;
 use std::time::{Duration, Instant};
 
-/// What a workload came to, and how long it took without its preparation.
+/// A workload's result, and how long it took without its preparation.
 #[derive(Drop)]
 pub struct Outcome {
     pub check: Check,

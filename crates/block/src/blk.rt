@@ -162,7 +162,7 @@ impl<R: Source> BlkReader<R> {
         ensures none { IfOk result (λ found. IfNone found
             (IsEnd self.old.to_come × (self.new.to_come ≡ [])
             × (self.new.offset ≡ self.old.offset) × (self.new.stage ≡ stages.Ended))) }
-        // A fault is that of the bytes at the record's place, and the reader has stopped.
+        // A fault is of the bytes at the record's place, and the reader has stopped.
         ensures refused { IfErr result (λ e. self.old.stage ≡ stages.Reading
             → IsFault self.old.offset self.old.to_come e) }
         // What is at the record's place is what is answered, unless a read fails or memory runs out.

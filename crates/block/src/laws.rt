@@ -30,7 +30,7 @@ pub fn one_split()
         → Splits file blocks rest → Splits file others last → (blocks ≡ others) × (rest ≡ last) }
 {}
 
-/// The blocks that a run of calls gives, until one gives none, are those of the file's records, in order.
+/// The blocks that a run of calls gives, until one gives none, are the file's records' blocks, in order.
 pub fn a_run_gives_the_records()
     ensures { (file : List ℕ) (blocks : List (List ℕ)) (rest : List ℕ)
         → Gave file blocks rest → IsLast rest → Splits file blocks rest }

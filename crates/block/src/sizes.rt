@@ -35,7 +35,7 @@ fn txs_size(txs: &[Tx]) -> u64
     sum
 }
 
-/// The bytes of a transaction: those of its inputs and outputs with their counts, and its version and lock time.
+/// The bytes of a transaction: of its inputs and outputs with their counts, and of its version and lock time.
 #[tactic(auto, using(crate::proofs::Lengths::of_transaction))]
 fn tx_size(tx: &Tx) -> u64
     ensures { result ≡ min (length (grammar.transaction.spell tx.now)) (2 ^ 64 - 1) }
@@ -68,7 +68,7 @@ fn outputs_size(outputs: &[TxOut]) -> u64
     sum
 }
 
-/// The bytes of an input: its outpoint's, its script's, and those of its sequence.
+/// The bytes of an input: of its outpoint, its script and its sequence.
 #[tactic(auto, using(crate::proofs::Lengths::of_input))]
 fn input_size(input: &TxIn) -> u64
     ensures { result ≡ min (length (grammar.input.spell input.now)) (2 ^ 64 - 1) }

@@ -6,7 +6,7 @@ ghost use Rattle.chain.specs.ReplyText.{text_of_submit, text_of_mark, text_of_re
 use std::fmt;
 use txn::Reason;
 
-/// What a submission came to (Bitcoin Core's `submitblock`).
+/// The reply to a submission (Bitcoin Core's `submitblock`).
 #[derive(Clone, Copy, Debug, PartialEq, Eq)]
 pub enum SubmitReply {
     /// The block is the active one.
@@ -44,7 +44,7 @@ impl fmt::Display for SubmitReply {
     }
 }
 
-/// What `invalidate`, `reconsider` or `precious` came to.
+/// The reply to `invalidate`, `reconsider` or `precious`.
 #[derive(Clone, Copy, Debug, PartialEq, Eq)]
 pub enum MarkReply {
     Done,

@@ -1,4 +1,4 @@
-//! Lists of changes laid over a plain map.
+//! Lists of changes written into a plain map.
 
 ghost use Rattle.std.specs.Prelude.{◌≡◌, ◌⊎◌, ◌∷◌, [], ◌++◌, IfErr, OnOk, OnErr, Some, true, is_some};
 ghost use Rattle.std.specs.FinMap as map;

@@ -18,7 +18,7 @@ use txn::OutPoint;
 use wire::Memory;
 
 /// A layer of changes over a base (Bitcoin Core's `CCoinsViewCache`). A clause sees the coins of the
-/// base, and those of the layer.
+/// base, and the layer's entries.
 #[derive(Drop)]
 pub struct Cache<'a, B: Base> {
     base: &'a B,

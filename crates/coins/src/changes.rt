@@ -106,7 +106,7 @@ fn list(alloc: Global, entries: &BTreeMap<OutPoint, CacheEntry>) -> Result<Vec<C
     Ok(list)
 }
 
-/// Those of these entries that change what is below. The others are dropped where they stand, which takes no memory.
+/// The entries that change what is below. The others are dropped in place, which takes no memory.
 pub(crate) fn changing<B: Base>(
     entries: BTreeMap<OutPoint, CacheEntry>,
     base: &B,

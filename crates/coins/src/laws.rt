@@ -7,7 +7,7 @@ ghost use Rattle.coins.specs.declared.coin.Coin.{Coin};
 ghost use Rattle.coins.specs.Coins.{Coins, total};
 ghost use Rattle.coins.specs.Changes.{Changes, AreChanges, after_changes};
 
-/// The changes from some coins to others, laid over the first, give the others.
+/// The changes from some coins to others, applied to the first, give the others.
 pub fn changes_lead_to_the_coins()
     ensures { (before after : Coins) (changes : Changes) → AreChanges before after changes →
         after_changes before changes ≡ after }

@@ -18,7 +18,7 @@ use undo::BlockUndo;
 use wire::Memory;
 
 /// Applies a block of this height that was connected to these coins before: it looks at no rule and no script again.
-/// It gives what the block spends. The layer is the caller's own: at want of memory, when part of the block may be
+/// It gives what the block spends. The layer is the caller's own: out of memory, when part of the block may be
 /// applied, it is dropped.
 pub fn apply_in_layer<'b, B: Base>(
     alloc: Global,

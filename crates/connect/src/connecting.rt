@@ -38,7 +38,7 @@ use wire::Memory;
 /// Connects a block to the coins of its parent's branch: the first rule that it breaks over them, its scripts
 /// last, or else the coins after it with what it spent (Bitcoin Core's `ConnectBlock`).
 ///
-/// The ids are those of its transactions, got before by `txn::ids`. The answer depends on neither the crew, the
+/// The ids are its transactions', from `txn::ids`. The answer depends on neither the crew, the
 /// number of workers, the gate nor the early verdicts.
 pub fn connect<B: Base, C: Crew>(
     alloc: Global,
@@ -60,7 +60,7 @@ pub fn connect<B: Base, C: Crew>(
     // With its undo it can be taken back by `disconnect`.
     ensures connected { IfOk result (λ answer. IfOk answer (λ undo.
         IsConnected (setting context.now) cache.old.coins block.now cache.new.coins undo)) }
-    // A reason leaves the coins as they were, and so does want of memory.
+    // A reason leaves the coins as they were, and so does running out of memory.
     ensures kept { IfOk result (λ answer. OnErr answer (cache.new ≡ cache.old)) }
     ensures err { OnErr result (cache.new ≡ cache.old) }
 {
@@ -139,7 +139,7 @@ fn attempt<B: Base, S: RunsScripts>(
 }
 
 /// The same as [`connect`] in a layer that is the caller's own, on which other blocks may have written before. It is
-/// given back where the block connects, with what that spent, and dropped at a reason or want of memory.
+/// given back where the block connects, with what that spent, and dropped at a reason or out of memory.
 pub fn connect_in_layer<'b, B: Base, C: Crew>(
     alloc: Global,
     layer: Cache<'b, B>,

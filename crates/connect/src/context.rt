@@ -7,13 +7,13 @@ use curve::Table;
 use queue::{Crew, Verdicts};
 use rules::Params;
 
-/// Where a block stands: on which branch, and under which rules.
+/// A block's place: its branch, and the rules that are in force there.
 #[derive(Clone, Copy)]
 pub struct Context<'a> {
     pub height: u32,
     /// The median time past of its parent, in seconds since 1970.
     pub cutoff: u32,
-    /// The medians time past of its parent's branch by height, that of genesis first.
+    /// The medians time past of its parent's branch by height, genesis first.
     pub medians: &'a [u32],
     pub params: &'a Params,
 }

@@ -38,7 +38,7 @@ pub fn disconnect<B: Base>(
 }
 
 /// The same as [`disconnect`] in a layer that is the caller's own, which is given back where the block was taken back:
-/// at want of memory, when part of it may be, it is dropped.
+/// out of memory, when part of it may be, it is dropped.
 pub fn disconnect_in_layer<'b, B: Base>(
     alloc: Global,
     layer: Cache<'b, B>,

@@ -53,7 +53,7 @@ pub(crate) fn first_refused<'a, S: RunsScripts>(
     }))
 }
 
-/// The rules of scripts that are in force with those of blocks (Bitcoin Core's `GetBlockScriptFlags`).
+/// The script rules that are in force where these rules of blocks are (Bitcoin Core's `GetBlockScriptFlags`).
 pub(crate) fn flags_of(rules: InForce) -> Flags
     ensures { result ≡ flags_of rules }
 {

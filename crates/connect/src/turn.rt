@@ -79,7 +79,7 @@ pub(crate) fn connect_tx<'b, B: Base>(
         IfOk result (λ done. Passes (setting context.now) layer.entry t done.layer done.spent
         done.passed.fee done.passed.counted) }
 {
-    // Asked before its inputs are taken: one may spend what stands where an output is to come.
+    // Asked before its inputs are taken: one may spend the coin at an outpoint of its own.
     let overwriting = overwrites_in_turn(&layer, tx, id, lookup);
     let Taken {
         layer,
@@ -167,7 +167,7 @@ fn test_amount(coins: &[Coin], context: &Context, tx: &Tx) -> Result<i128, Reaso
     Ok(worth - paid)
 }
 
-/// The relative locks, and the signature operations with those of scripts that are paid to by their hash.
+/// The relative locks, and the signature operations, pay-to-script-hash ones too.
 fn test_locks(
     alloc: Global,
     coins: &[Coin],

@@ -18,7 +18,7 @@ pub fn same_members()
     ensures { (a b : Triples) → ((t : Triple) → set.contains a t ≡ set.contains b t) → a ≡ b }
 {}
 
-/// With a table one set agrees, that of its triples.
+/// With a table one set agrees, its triples.
 pub fn a_table_is_the_set_that_agrees()
     ensures { (table triples : Triples)
         → Agrees (λ t. Some (set.contains table t)) triples ↔ triples ≡ table }

@@ -85,7 +85,7 @@ fn word_end(line: &[u8]) -> Option<usize>
     line.iter().position(|byte| *byte == b' ')
 }
 
-/// The bytes that a word stands for, if it does.
+/// The bytes that a word spells, if it spells some.
 fn read_bytes(alloc: Global, word: &[u8]) -> Result<Option<Vec<u8>>, AllocError>
     ensures { IfOk result (λ read. MatchOption read
         ((bytes : List ℕ) → ¬ StandsFor word.now bytes) (λ v. StandsFor word.now v.items)) }
@@ -103,7 +103,7 @@ fn read_bytes(alloc: Global, word: &[u8]) -> Result<Option<Vec<u8>>, AllocError>
     }
 }
 
-/// The digest that a word of 64 digits stands for.
+/// The digest that a word of 64 digits spells.
 fn read_digest(word: &[u8]) -> Option<[u8; 32]>
     ensures { MatchOption result ((digest : List ℕ) → ¬ IsDigest word.now digest)
         (IsDigest word.now) }

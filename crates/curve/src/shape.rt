@@ -23,7 +23,7 @@ pub fn der_shape(bytes: &[u8]) -> bool
     bytes.is_empty() || is_signature(bytes)
 }
 
-/// The places are those of `30`, a length, `02`, a length, R, `02`, a length, S and the hash type.
+/// The bytes are `30`, a length, `02`, a length, R, `02`, a length, S and the hash type.
 fn is_signature(bytes: &[u8]) -> bool
     ensures { IsTrue result ↔ IsSignature bytes.now }
 {

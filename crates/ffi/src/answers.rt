@@ -17,7 +17,7 @@ pub(crate) const CLOSED: u32 = 2;
 pub(crate) const BAD_TABLE: u32 = 3;
 /// There is no such thing: no coin, no tip, no block.
 pub(crate) const NONE: u32 = 4;
-/// The room that was handed in is too small; what is needed is told.
+/// The caller's room is too small; the answer says how much is needed.
 pub(crate) const TOO_SMALL: u32 = 5;
 /// The slot holds a session already.
 pub(crate) const FULL: u32 = 6;
@@ -25,7 +25,7 @@ pub(crate) const FULL: u32 = 6;
 pub(crate) const NO_INPUT: u32 = 24;
 /// As many are wanted as there are inputs, or 1 to 11 times.
 pub(crate) const MISMATCH: u32 = 25;
-/// The scripts come to a signature of which nothing is known.
+/// A script asks for a signature of which nothing is known.
 pub(crate) const UNKNOWN: u32 = 29;
 /// A signature is said to be valid and not to be.
 pub(crate) const CONTRADICTION: u32 = 30;

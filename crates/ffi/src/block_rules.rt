@@ -123,7 +123,7 @@ pub extern "C" fn ffi_block_place(
     }
 }
 
-/// How many bytes the block has of the record at the front of a blk file's bytes: it stands behind the record's first 8.
+/// How many bytes the block has of the record at the front of a blk file's bytes, behind the record's first 8.
 #[unsafe(no_mangle)]
 pub extern "C" fn ffi_record(alloc: Global, bytes: &[u8], size: &mut u64) -> u32
     ensures told { IsRecordTold bytes.now size.old size.new result }

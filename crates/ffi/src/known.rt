@@ -24,7 +24,7 @@ use txn::Tx;
 use wire::Cursor;
 
 /// Whether an input of a transaction may spend a script under these rules, by two tables: of signatures that are valid
-/// and of others that aren't. Where the scripts come to one of which nothing is known, its line is put at the front of
+/// and of others that aren't. Where the scripts ask for one of which nothing is known, its line is put at the front of
 /// what is passed for it. Where a line of a table can't be read, `line` is its number, from 1.
 #[unsafe(no_mangle)]
 pub extern "C" fn ffi_verify_known(

@@ -7,7 +7,7 @@ ghost use Rattle.curve.specs.Lines.{IsTableOf, lines};
 ghost use Rattle.curve.specs.Triple.{Triples, triple_of};
 ghost use Rattle.ffi.specs.Tables.{line_of};
 
-/// What `ffi_table_line` tells, put behind any table's text, makes the table that has that triple too, and no other.
+/// The line that `ffi_table_line` gives, put behind any table's text, adds its triple to the table, and no other.
 pub fn a_line_adds_its_triple()
     ensures { (text key signature digest : List ℕ) (triples : Triples) → IsBytes key
         → IsBytes signature → IsBytes digest → length digest ≡ 32

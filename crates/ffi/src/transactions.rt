@@ -1,4 +1,4 @@
-//! What is asked of a transaction. It is read at the front of bytes; what stands behind it isn't looked at.
+//! What is asked of a transaction. It is read at the front of bytes; the bytes behind it aren't looked at.
 
 ghost use Rattle.std.specs.Prelude.{◌≡◌, ◌+◌, ◌⊎◌, length, map, IfOk, IfErr, Ok};
 ghost use Rattle.txn.specs.Grammar.{transaction};
@@ -52,7 +52,7 @@ pub(crate) fn broken(reason: Option<Reason>) -> u32
     }
 }
 
-/// A number as 64 bits tell it: the highest stands for all above it.
+/// A number in 64 bits: the highest is given for all above it too.
 pub(crate) fn counted(n: u128) -> u64
     ensures { result ≡ counted n }
 {
@@ -128,7 +128,7 @@ pub extern "C" fn ffi_tx_final(
     }
 }
 
-/// Whether its relative locks are met in a block of this height. A start stands for each input, in order; the cutoff
+/// Whether its relative locks are met in a block of this height. There is a start for each input, in order; the cutoff
 /// is the median time past of the block's parent.
 #[unsafe(no_mangle)]
 pub extern "C" fn ffi_tx_locks(

@@ -1,4 +1,4 @@
-//! The replies of a journal beside those of its replay.
+//! The replies of a journal beside its replay's.
 
 ghost use Rattle.std.specs.Prelude.{◌≡◌, IfOk, IfSome, None, Some, option_map, slice_get};
 ghost use Rattle.tree.specs.State.{opening};

@@ -82,7 +82,7 @@ pub(crate) fn sum(x: Words, y: Words) -> Words
     x + y
 }
 
-/// The word of `new` in each lane that runs, and in any other that of `old`.
+/// The word of `new` in each lane that runs, and of `old` in any other.
 #[inline(always)]
 pub(crate) fn chosen(runs: Words, new: Words, old: Words) -> Words
     ensures { EachLane result (λ l.

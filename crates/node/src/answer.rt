@@ -7,7 +7,7 @@ use std::alloc::Global;
 use txn::Script;
 use wire::Memory;
 
-/// An answer, and where it stands. For a read that is the number of steps before it, and for a step its
+/// An answer with its stamp. For a read the stamp is the number of steps before it, and for a step its
 /// own place, from 1.
 #[derive(Clone, Debug, Drop, PartialEq, Eq)]
 pub struct Stamped<T> {

@@ -41,7 +41,7 @@ fn jobs_over<'c>(
 impl<'t, J: Naming> Seat<'t, J> {
     ghost use Rattle.node.specs.Pass.{IsLater, IsOwn};
 
-    /// The scripts that can be run before the lock is taken: those of a block that breaks no rule by itself, and whose
+    /// The scripts that can be run before the lock is taken: of a block that breaks no rule by itself, and whose
     /// parent is the best block that the seat sees. The view was left when they are given.
     #[tactic(auto, using(crate::proofs::Owning::own_begins))]
     pub(crate) fn early_jobs<'c>(

@@ -76,7 +76,7 @@ impl<'g, J: Naming> NodeOf<&'g (dyn Gate + Sync), J> {
 
     /// The whole history, in which each seat that is passed has just its own entries, the owed ones too.
     ///
-    /// The seats are those of this node that came back, each once. It waits for nobody and takes no memory; the two
+    /// The seats are this node's that came back, each once. It waits for nobody and takes no memory; the two
     /// copies of what is published are never given back.
     pub fn finish(self, seats: &mut [Seat<'_, J>]) -> Result<Vec<Entry>, Fault>
         ensures legal { IfOk result (λ history. IsLegal J.origin history.items) }

@@ -6,7 +6,7 @@ use std::alloc::{AllocError, Global};
 /// A block that is drawn.
 #[derive(Debug, Drop)]
 pub struct TreeBlock {
-    /// Its name, or what stands for one.
+    /// Its name, or what is shown in place of one.
     pub label: String,
     pub status: Status,
     /// Whether it is marked itself, and not only a block below it.

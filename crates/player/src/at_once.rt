@@ -57,7 +57,7 @@ impl<'t, J: Naming> Place<'t, J> {
         Ok(())
     }
 
-    /// Makes those of these calls whose turn it is at the seat of this number. It is told before each what its neighbour has
+    /// Makes the calls whose turn it is at the seat of this number. It is told before each what its neighbour has
     /// seen, and writes how much that is.
     fn ask_in_ring<R>(
         &mut self,
@@ -79,7 +79,7 @@ impl<'t, J: Naming> Place<'t, J> {
                 let (seat, log) = (&mut self.seat, &mut self.log);
                 ask_again(rt, asked.definitions, node, seat, call, false, log)?;
                 board.lay(rt, number, self.seat.note());
-                // so that the others come to their calls in between
+                // so that the others get to make their calls in between
                 yield_now();
             }
         }

@@ -25,7 +25,7 @@ impl<J: Naming> Board<J> {
         self.notes.len()
     }
 
-    /// Tells the seat of this number what the one before it has seen: how many entries.
+    /// Tells the seat of this number how many entries the one before it has seen.
     pub fn tell<R: Wait>(&self, rt: &R, number: usize, seat: &mut Seat<'_, J>) -> Option<u64> {
         let last = self.notes.len().wrapping_sub(1);
         let place = self.notes.get(number.checked_sub(1).unwrap_or(last))?;

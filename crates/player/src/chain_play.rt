@@ -165,7 +165,7 @@ where
 /// A chainstate, and its state.
 type Standing<'t> = (Chain<'t>, State);
 
-/// Makes the call of this place: what stands then. The state is written where that is asked for.
+/// Makes the call of this place, and gives the state after it, which is written where that is asked for.
 fn made<'t, R>(
     rt: &R,
     asked: &Asked<'_>,

@@ -114,7 +114,7 @@ fn two_readers<J: Naming>(
     Ok((another_reader(writer)?, another_reader(writer)?))
 }
 
-/// A publication that tells its writer nothing.
+/// A publication of which its writer learns nothing.
 struct Again;
 
 impl Outcome<View, ()> for Again {

@@ -1,4 +1,4 @@
-//! A node: the first client's calls are made at all its seats in turn, those of the others at a seat each.
+//! A node: the first client's calls are made at all its seats in turn, each other client's at a seat of its own.
 
 ghost use Rattle.std.specs.Prelude.{◌≡◌};
 
@@ -193,7 +193,7 @@ where
     Ok(seats)
 }
 
-/// Writes what the seat of this number answered: as its own in a ring, else as those of its client.
+/// Writes what the seat of this number answered: as its own in a ring, else as its client's.
 fn write_place(
     alloc: Global,
     asked: &Asked<'_>,

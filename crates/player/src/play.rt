@@ -40,7 +40,7 @@ fn text_of<I: Read + Drop>(
     }
 }
 
-/// The heights of soft forks: those of the command line, else those of the scenario of this name.
+/// The heights of soft forks: the command line's, else the ones of the scenario of this name.
 fn heights_of<'w>(options: &Options<'w>) -> &'w str {
     match (options.text(HEIGHTS), find(options.list)) {
         (Some(heights), _) => heights,
@@ -144,7 +144,7 @@ where
 }
 
 /// Plays in turn, in each of which another allocation is the first that is refused, until none is. The lines of a play are
-/// printed where they aren't those of the play before.
+/// printed where they differ from the play before.
 fn play_refused<R>(rt: &R, asked: &Asked<'_>, gate: &Meeting) -> anyhow::Result<()>
 where
     R: AllocGlobal + Env + Print + Threads + Wait + Sync,

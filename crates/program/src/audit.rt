@@ -11,7 +11,7 @@ use std::io::{IsTerminal, Write};
 use std::rt::Files;
 use std::time::Clock;
 
-/// What an audit comes to.
+/// The outcome of an audit.
 #[derive(Clone, Copy, Debug)]
 pub struct Audited {
     pub finding: Finding,

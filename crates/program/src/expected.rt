@@ -24,7 +24,7 @@ pub fn compare(alloc: Global, expected: &[u8], written: &str) -> Result<(), Faul
     Ok(())
 }
 
-/// A line's text, or what stands for bytes that are none.
+/// A line's text, or what is shown in place of bytes that are no text.
 fn text_of(alloc: Global, line: Option<&[u8]>) -> Result<Option<String>, Fault<'static>> {
     let Some(line) = line else {
         return Ok(None);

@@ -14,7 +14,7 @@ use std::collections::BTreeMap;
 /// So many digits stand for a block without a name.
 const DIGITS: usize = 8;
 
-/// A block that was submitted, and the one that it stands on.
+/// A block that was submitted, and its parent.
 #[derive(Clone, Copy)]
 struct Submitted {
     id: Id,
@@ -25,7 +25,7 @@ struct Submitted {
 #[derive(Clone, Copy)]
 struct Kept {
     id: Id,
-    /// The place of the block that it stands on.
+    /// The place of its parent.
     parent: usize,
     status: Status,
 }
@@ -65,7 +65,7 @@ pub fn history_tree(
     Ok(tree_of(alloc, kept.as_slice(), definitions)?)
 }
 
-/// The blocks that are kept, genesis first, each behind the one that it stands on. Of each submission there is the reply
+/// The blocks that are kept, genesis first, each behind its parent. Of each submission there is the reply
 /// to it when it is made once more.
 fn kept_blocks(
     alloc: Global,
@@ -125,7 +125,7 @@ fn set_active(kept: &mut [Kept], best: Id) {
     }
 }
 
-/// The tree of these blocks. One is marked itself where it is invalid, and the one that it stands on isn't.
+/// The tree of these blocks. One is marked itself where it is invalid, and its parent isn't.
 fn tree_of(
     alloc: Global,
     kept: &[Kept],

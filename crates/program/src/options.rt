@@ -20,7 +20,7 @@ const WORKERS: usize = 2;
 /// How many seats a served node has by default.
 const SEATS: usize = 4;
 
-/// The heights of soft forks by default, those of regtest.
+/// The heights of soft forks by default, regtest's.
 const HEIGHTS: &str = "1,1,1,1";
 
 /// What the command line asks for.
@@ -56,7 +56,7 @@ pub struct RunOptions<'w> {
     pub svg: Option<&'w str>,
 }
 
-/// Where what was saved of a run stands.
+/// Where a saved run is.
 #[derive(Clone, Copy)]
 pub enum Saved<'w> {
     /// In the files of a folder.

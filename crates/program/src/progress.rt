@@ -7,7 +7,7 @@ use std::time::{Clock, Duration, Instant};
 /// How many seconds lie between two lines, at least.
 const PAUSE: u64 = 1;
 
-/// Tells on a stream how far a run or an audit is.
+/// Reports on a stream how far a run or an audit is.
 #[derive(Drop)]
 pub struct Progress<'c, 'e, C, E> {
     clock: &'c C,
@@ -87,7 +87,7 @@ impl<'c, 'e, C: Clock, E: Write> Progress<'c, 'e, C, E> {
         }
     }
 
-    /// Tells how far it is, where the last line was told long enough ago.
+    /// Reports how far it is, where the last report is old enough.
     fn tell_at_times(&mut self) {
         let Some(times) = self.times else {
             return;

@@ -13,9 +13,9 @@ use std::io::Write;
 /// The names of a run's clients.
 #[derive(Drop)]
 pub struct Clients<'t> {
-    /// Those of the history's first entries, one by one, whatever seat they were played at.
+    /// The answers of the history's first entries, one by one, whatever seat they were played at.
     pub earlier: Vec<&'t str>,
-    /// Those of all others, by their seats.
+    /// The answers of all others, by their seats.
     pub seats: Vec<&'t str>,
 }
 

@@ -123,7 +123,7 @@ fn status<E: Write>(alloc: Global, outcome: Result<u8, Fault<'_>>, form: Form, e
     }
 }
 
-/// Writes a fault's line. Where that fails too, the status alone tells of it.
+/// Writes a fault's line. Where that fails too, the status alone says so.
 fn tell<E: Write>(alloc: Global, fault: &Fault<'_>, form: Form, err: &mut E) {
     let is_text = form != Form::Json || matches!(fault, Fault::CommandLine(_));
     let _ = match objects::fault(alloc, fault) {

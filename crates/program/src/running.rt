@@ -15,7 +15,7 @@ use std::thread;
 use std::thread::Threads;
 use std::time::Clock;
 
-/// Runs the clients, each on a seat of its own. The answers of the first are written as they come, those of each other
+/// Runs the clients, each on a seat of its own. The answers of the first are written as they come, the answers of each other
 /// one when it and all before it have ended.
 pub fn run_clients<J: Naming, R, E, O>(
     rt: &R,
@@ -162,7 +162,7 @@ where
     Ok(())
 }
 
-/// The client of a blk file, whose answers are written as they come. The file's fault comes before that of the output.
+/// The client of a blk file, whose answers are written as they come. The file's fault comes before the output's.
 pub fn run_records<J: Naming, R, E, O>(
     rt: &R,
     file: &[u8],

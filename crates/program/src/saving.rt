@@ -1,8 +1,8 @@
 //! The files that a run leaves in a folder.
 //!
 //! Each is made under its name and `.new` first, the journal's before all others, and renamed when all are whole, the
-//! journal's first. That one rename decides. Where `journal.txt.new` stands, the folder holds what it held before; where
-//! it doesn't, another file that still stands under its name and `.new` is the one that counts.
+//! journal's first. That one rename decides. Where there is a `journal.txt.new`, the folder holds what it held before;
+//! where there is none, another file that still has its name with `.new` is the one that counts.
 
 use crate::fault::Fault;
 use crate::report::Report;
@@ -188,7 +188,7 @@ fn make<'w, R: Files>(
     }
 }
 
-/// Makes a file anew: what stands there already is neither followed nor written to.
+/// Makes a file anew: one that is there already is neither followed nor written to.
 fn make_new<R: Files>(rt: &R, place: &Place, bytes: &[u8]) -> io::Result<()> {
     if let Ok(found) = fs::symlink_metadata(rt, place.path.as_str()) {
         if found.is_dir() {
@@ -226,7 +226,7 @@ fn remove<'w, R: Files>(rt: &R, folder: &'w str, place: &Place) -> Result<(), Fa
     }
 }
 
-/// Whether something of this name stands there, if only a symlink to nothing.
+/// Whether something of this name is there, if only a symlink to nothing.
 fn stands<R: Files>(rt: &R, path: &str) -> bool {
     fs::symlink_metadata(rt, path).is_ok()
 }

@@ -1,4 +1,4 @@
-//! Who writes what clients are answered, and tells how far they are.
+//! Who writes what clients are answered, and reports how far they are.
 
 use crate::answer::Answer;
 use crate::fault::Fault;
@@ -20,7 +20,7 @@ pub struct Writer<'c, 'e, 'o, C, E, O> {
 }
 
 impl<C: Clock, E: Write, O: Write> Writer<'_, '_, '_, C, E, O> {
-    /// The answers to come are those of this client.
+    /// The answers that follow are this client's.
     pub fn client(&mut self, name: &str) -> Result<(), Fault<'static>> {
         self.name = String::from_str(self.alloc, name)?;
         self.output.client(name)

@@ -39,7 +39,7 @@ pub trait Crew {
         requires workers { (1 ≤ workers) × (workers ≤ 16) }
         requires few { length jobs.now < 2 ^ 32 }
         requires inputs { All HasInput jobs.now }
-        // Jobs of one number are of one transaction, which is compared once with that of a verdict.
+        // Jobs of one number are of one transaction, which is compared once with a verdict's.
         requires numbered { AreNumbered numbers.now jobs.now }
         requires same_table { All (λ v. v.triples ≡ table.now) verdicts.now }
         ensures { IfOk result (λ place. IsFirstFailure table.now jobs.now place) };

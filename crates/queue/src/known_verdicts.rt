@@ -14,7 +14,7 @@ use wire::Memory;
 
 /// Of each job its answer, where a verdict fits it. Without any verdict it is no list at all.
 ///
-/// A job whose number is that of the job before it is of the same transaction, which isn't compared again.
+/// A job with the number of the job before it is of the same transaction, which isn't compared again.
 pub(crate) fn known_answers(
     alloc: Global,
     jobs: &[Job],
@@ -92,7 +92,7 @@ fn answer_in(index: &Index, slot: Option<Slot>, job: &Job) -> Option<bool>
     index.answer(slot?, job)
 }
 
-/// Whether the number at a place is that of the place before it.
+/// Whether the number at a place equals the one before it.
 fn goes_on(numbers: &[usize], place: usize) -> bool
     ensures { IsTrue result → (number : ℕ) × (1 ≤ place) ×
         (slice_get numbers.now (place - 1) ≡ Some number) ×

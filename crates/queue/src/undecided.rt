@@ -11,7 +11,7 @@ use wire::Memory;
 pub enum Undecided {
     /// There was no memory.
     Memory,
-    /// Scripts come to these signatures, and whether they are valid isn't known: of each job that stops the one at
+    /// Scripts ask for these signatures, and whether they are valid isn't known: of each job that stops the one at
     /// which it stops.
     Unknown(Vec<KeptTriple>),
 }

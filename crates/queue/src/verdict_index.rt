@@ -65,7 +65,7 @@ impl<'a> Index<'a> {
 
     /// A verdict that fits a job. There is one where any of them fits it.
     ///
-    /// Where the verdict that fitted the job before is handed in, and both jobs are of one transaction, that isn't
+    /// Where the caller gives the verdict that fitted the job before, and both jobs are of one transaction, that isn't
     /// compared again.
     pub fn find(&self, before: Option<Slot>, job: &Job) -> Option<Slot>
         requires input { HasInput job.now }

@@ -57,7 +57,7 @@ pub fn first_failure_with<R: Threads + Sync, G: Gate + Sync>(
     requires workers { (1 ≤ workers) × (workers ≤ 16) }
     requires few { length jobs.now < 2 ^ 32 }
     requires inputs { All HasInput jobs.now }
-    // Jobs of one number are of one transaction, which is compared once with that of a verdict.
+    // Jobs of one number are of one transaction, which is compared once with a verdict's.
     requires numbered { AreNumbered numbers.now jobs.now }
     // The verdicts are of this table.
     requires same_table { All (λ v. v.triples ≡ table.now) verdicts.now }
@@ -248,7 +248,7 @@ fn find<G: Gate, C: Places>(
     Ok(Some(place))
 }
 
-/// The answer for a place: the one that is known, or else that of running it.
+/// The answer for a place: the known one, or else what running it gives.
 fn answer<G: Gate, C: Places>(
     alloc: Global,
     list: &C,

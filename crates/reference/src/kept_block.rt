@@ -18,7 +18,7 @@ pub(crate) struct KeptBlock {
     pub(crate) id: Id,
     /// The place of its parent; 0 for genesis.
     pub(crate) parent: usize,
-    /// What the replay of its branch came to. It is a function of the branch, so it was found when the block came.
+    /// The outcome of the replay of its branch. It is a function of the branch, so it was found when the block came.
     pub(crate) trial: Trial,
 }
 

@@ -49,7 +49,7 @@ impl Replayed {
         Ok(old)
     }
 
-    /// Keeps a block that was made of this id, on this parent. The trial is that of its branch.
+    /// Keeps a block that was made of this id, on this parent. The trial is of its branch.
     pub(crate) fn add(
         &mut self,
         block: Block,

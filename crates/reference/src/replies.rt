@@ -1,5 +1,5 @@
 //! The definition of the chainstate as a program. It replays the branch of each block from genesis when the block comes,
-//! and keeps nothing but the blocks, what these replays came to, the marks and the calls.
+//! and keeps nothing but the blocks, the outcomes of these replays, the marks and the calls.
 
 ghost use Rattle.std.specs.Prelude.{◌≡◌, IfOk};
 ghost use Rattle.tree.specs.State.{opening};

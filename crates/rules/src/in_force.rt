@@ -3,7 +3,7 @@
 ghost use Rattle.std.specs.Prelude.{◌≡◌};
 ghost use Rattle.rules.specs.Params.{is_outdated};
 
-/// The rules of soft forks that are in force for a block: [`Params::at`](crate::Params::at) gives those of its height.
+/// The rules of soft forks that are in force for a block: [`Params::at`](crate::Params::at) gives them by its height.
 #[derive(Clone, Copy, Debug, PartialEq, Eq)]
 pub struct InForce {
     /// BIP 34: the coinbase begins with the block's height, and the version is at least 2.

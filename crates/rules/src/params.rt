@@ -20,7 +20,7 @@ pub struct Params {
 }
 
 impl Params {
-    /// Those of regtest: all rules from height 1 on.
+    /// Regtest's: all rules from height 1 on.
     pub fn regtest() -> Params
         ensures { result ≡ regtest }
     {

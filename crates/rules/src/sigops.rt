@@ -8,7 +8,7 @@ ghost use Rattle.rules.specs.Alone.{tx_sigops};
 use script::{Counting, sigops};
 use txn::{Tx, TxIn, TxOut};
 
-/// Those of all scripts of transactions, counted plainly.
+/// The operations of all scripts of transactions, counted plainly.
 pub(crate) fn txs_sigops(txs: &[Tx]) -> u128
     ensures { result ≡ min (sum_by tx_sigops txs.now) (2 ^ 128 - 1) }
 {
@@ -19,7 +19,7 @@ pub(crate) fn txs_sigops(txs: &[Tx]) -> u128
     sum
 }
 
-/// Those of all scripts of a transaction, whether or not they are run, counted plainly (Bitcoin Core's
+/// The operations of all scripts of a transaction, whether or not they are run, counted plainly (Bitcoin Core's
 /// `GetLegacySigOpCount`).
 pub fn tx_sigops(tx: &Tx) -> u128
     ensures { result ≡ min (tx_sigops tx.now) (2 ^ 128 - 1) }

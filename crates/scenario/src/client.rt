@@ -14,7 +14,7 @@ use txn::OutPoint;
 /// The words of a command, as an answer repeats them.
 #[derive(Clone, Copy)]
 pub enum Words<'d, 't> {
-    /// Those of this line.
+    /// The bytes of this line.
     Line(&'t str),
     /// The submission of the block of this name.
     Submit(&'d str),
@@ -23,7 +23,7 @@ pub enum Words<'d, 't> {
 /// The bytes of a submission.
 #[derive(Drop)]
 pub enum Payload<'d> {
-    /// Those of a block of the definitions, or of its front.
+    /// The bytes of a block of the definitions, or of its front.
     Lent(&'d [u8]),
     Own(Vec<u8>),
 }

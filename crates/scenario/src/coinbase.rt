@@ -46,7 +46,7 @@ pub fn coinbase(
     })
 }
 
-/// The script that is said, by default one by which the coinbase differs from those of other heights and names.
+/// The script that is said, by default one that makes the coinbase unlike any other height's or name's.
 fn input_script(
     alloc: Global,
     said: Option<Script>,

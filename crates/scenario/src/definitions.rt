@@ -117,7 +117,7 @@ impl Definitions {
         }
     }
 
-    /// A line of its own, which ends those of a transaction.
+    /// A line of its own, which ends a transaction's lines.
     fn definition(&mut self, words: &[&str]) -> Result<(), LineFault> {
         match words {
             ["tx", name, version, lock_time] => {
@@ -320,7 +320,7 @@ impl Definitions {
     }
 }
 
-/// What a name stands for, to be handed to another program.
+/// What a name means, for another program.
 #[derive(Drop)]
 pub struct Shown {
     pub id: Id,

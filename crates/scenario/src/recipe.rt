@@ -1,4 +1,4 @@
-//! What a `block` line says of its block. Where it says nothing there is None, and the default stands.
+//! What a `block` line says of its block. Where it says nothing there is None, and the default holds.
 
 use crate::complaint::Complaint;
 use crate::fault::LineFault;

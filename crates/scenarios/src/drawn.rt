@@ -269,7 +269,7 @@ impl Drawn {
         Ok(value)
     }
 
-    /// The output of this number, by default that of genesis, which is no coin.
+    /// The output of this number, by default genesis's, which is no coin.
     fn made(&self, number: usize) -> Result<Output, AllocError> {
         match self.outputs.get(number) {
             Some(output) => Ok(Output {

@@ -20,7 +20,7 @@ pub struct Scenario {
     /// command line has them.
     pub heights: &'static str,
     pub definitions: &'static str,
-    /// A line for each command, `COMMAND = ANSWER @STAMP`. The stamp of an `each` is that of its first answer.
+    /// A line for each command, `COMMAND = ANSWER @STAMP`. The stamp of an `each` is its first answer's.
     /// `now N` has no answer.
     pub told: &'static str,
 }

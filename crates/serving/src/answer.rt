@@ -57,7 +57,7 @@ pub struct Step<'a> {
     pub reply: &'a str,
 }
 
-/// How a node was opened. The heights are those of BIP 34, BIP 65, BIP 66, and of BIPs 68, 112 and 113.
+/// How a node was opened. The heights are of BIP 34, BIP 65, BIP 66, and of BIPs 68, 112 and 113.
 #[derive(Clone, Copy)]
 pub struct Info<'a> {
     pub program: &'a str,

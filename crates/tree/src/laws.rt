@@ -32,8 +32,8 @@ pub fn a_call_raises_one_block<B>()
         beats (with_call s p) a b ≡ beats s a b }
 {}
 
-/// Of two blocks that were called, the one called later has the higher rank: it stands first in the list in which
-/// each block stands once, where its last call put it.
+/// Of two blocks that were called, the one called later has the higher rank: it comes first in the list that
+/// has each block once, where its last call put it.
 pub fn the_rank_is_the_place_of_the_last_call()
     ensures { (calls : List ℕ) (a b : ℕ) → has calls a ≡ true → has calls b ≡ true → (a ≡ b → ⊥) →
         (rank_in calls b < rank_in calls a) ↔ (first_called calls a b ≡ Some a) }

@@ -5,8 +5,8 @@ ghost use Rattle.txn.specs.Reason.{number_of, text_of};
 
 use std::fmt;
 
-/// Why a block is refused. The texts are Bitcoin Core's, but for two of our own: that of `BadVersion`, to which Core
-/// adds the number, and that of `ScriptRefused`.
+/// Why a block is refused. The texts are Bitcoin Core's, but for two of our own: `BadVersion`'s, to which Core
+/// adds the number, and `ScriptRefused`'s.
 #[derive(Clone, Copy, Debug, PartialEq, Eq)]
 pub enum Reason {
     /// The id is above the target.

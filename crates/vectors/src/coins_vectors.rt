@@ -33,7 +33,7 @@ fn value_at<B: Base>(base: &B, number: u8) -> Option<i64> {
 /// The values at so many places.
 type Values = [Option<i64>; 24];
 
-/// A run by chance (xorshift64) over layers, with the values that have to stand at the places.
+/// A random run (xorshift64) over layers, with the values that have to be at the places.
 #[derive(Drop)]
 struct Trial {
     random: u64,
@@ -92,7 +92,7 @@ impl Trial {
         Ok(())
     }
 
-    /// The highest layer, which is dropped or kept by chance.
+    /// The highest layer, which is dropped or kept at random.
     fn high<B: Base>(&mut self, alloc: Global, base: &B) -> Result<Option<Writes>, Memory>
         ensures { IfOk result (λ kept. IfSome kept (λ writes. IsSound (B.coins base.now) writes)) }
     {

@@ -586,7 +586,7 @@ fn is_connected_with<'a, B: Base>(
     Ok(connect(alloc, cache, context, block, &ids, &env, gate)?.is_ok())
 }
 
-/// A script whose verdict is handed in isn't run, and without the verdict it is.
+/// A script whose verdict the caller gives isn't run, and without the verdict it is.
 #[test]
 fn a_verdict_got_before(rt: HostRuntime) -> Result<(), Fail> {
     let alloc = rt.alloc();

@@ -55,7 +55,7 @@ fn jobs<'a>(alloc: Global, tx: &'a Tx, spent: &[&'a [u8]]) -> Result<Vec<Job<'a>
     Ok(jobs)
 }
 
-/// The same, to be run early: those of the first transaction's inputs, as far as it has some.
+/// The same, to be run early: of the first transaction's inputs, as far as it has some.
 fn early<'t>(alloc: Global, txs: &'t [Tx], spent: &[&[u8]]) -> Result<EarlyJobs<'t>, Memory> {
     let mut jobs = EarlyJobs::new(alloc, txs, Flags::ALL);
     for (input, script) in spent.iter().enumerate() {
@@ -277,7 +277,7 @@ fn next(state: u64) -> u64 {
     b ^ (b << 17)
 }
 
-/// Scripts by chance, up to 40 of them, and the number after those that were drawn.
+/// Random scripts, up to 40 of them, and the number behind the drawn ones.
 fn draw(alloc: Global, start: u64) -> Result<(u64, Vec<&'static [u8]>), AllocError> {
     let mut state = next(start);
     let count = (state % 41) as usize;

@@ -2,8 +2,8 @@
 
 use std::marker::Brand;
 
-/// Which history it is, and what that is of. It is the type parameter of readers, of the writer, and of all that stands
-/// on them, so that only those of one history fit each other. No program implements it: `Brand` stands for any.
+/// Which history it is, and of which origin. It is the type parameter of readers, of the writer, and of all that is made
+/// of them, so that only what is of one history fits together. No program implements it: `Brand` does for all.
 pub trait Naming: Send + Sync {
     ghost use Rattle.view.specs.Origin.{Origin};
 

@@ -25,7 +25,7 @@ pub(crate) enum NoPlace {
     Full,
 }
 
-/// An entry, what it changes and what stands after it. It is put behind the others, or, where it is none more, in
+/// An entry, what it changes and the state after it. It is put behind the others, or, where it is none more, in
 /// place of the last.
 #[derive(Drop)]
 pub struct Publication {

@@ -1,4 +1,4 @@
-//! What `invalidate`, `reconsider` and `precious` come to.
+//! What `invalidate`, `reconsider` and `precious` do.
 
 ghost use Rattle.std.specs.Prelude.{◌≡◌, ◌<◌, ◌≤◌, IfOk, OnErr, OnOk, Some, length, if◌then◌else◌, IfErr, None};
 ghost use Rattle.tree.specs.State.{with_call, without_marks, with_mark, has_no_mark};

@@ -1,4 +1,4 @@
-//! What a command comes to.
+//! What a command does, found out before anything is changed.
 
 ghost use Rattle.std.specs.Prelude.{◌≡◌, ℕ, ◌≤◌, ◌<◌, IfOk, None, Some, OnOk, OnErr, suc, length, IfErr};
 ghost use Rattle.hash.specs.declared.id.Id.{Id};
@@ -50,8 +50,8 @@ pub(crate) fn still(alloc: Global, reply: Reply) -> Prepared
 }
 
 impl Core {
-    /// Looks at everything that a command comes to, and gets all memory for it. Where it refuses nothing has changed;
-    /// else the tree is as the rollback tells how to take back.
+    /// Finds out everything that a command does, and gets all memory for it. Where it refuses nothing has changed;
+    /// else the tree is changed, and the rollback says how to take that back.
     pub(crate) fn prepare<B: Base, C: Crew>(
         &mut self,
         alloc: Global,
@@ -109,7 +109,7 @@ impl Core {
         }
     }
 
-    /// What a submitted block comes to (Bitcoin Core's `ProcessNewBlock`).
+    /// What a submitted block does (Bitcoin Core's `ProcessNewBlock`).
     fn prepare_block<B: Base, S: RunsScripts>(
         &mut self,
         alloc: Global,

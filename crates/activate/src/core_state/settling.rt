@@ -35,7 +35,7 @@ pub(crate) struct Settled {
     pub(crate) flags: Option<Flags>,
     pub(crate) rest: Completion,
     pub(crate) changes: Changes,
-    /// What a submission of the block that was tried first comes to.
+    /// The reply to the submission of the block that was tried first.
     pub(crate) said: SubmitReply,
 }
 
@@ -183,7 +183,7 @@ impl Core {
     }
 }
 
-/// What a submission of a block comes to that was tried and isn't valid: its own fault, if that is the first on its
+/// The reply to the submission of a block that was tried and isn't valid: its own fault, if that is the first on its
 /// branch.
 fn refused(failed: &FailedTry) -> SubmitReply
     requires { failed.now.passed < length failed.now.path.up.items }

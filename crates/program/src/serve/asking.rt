@@ -67,7 +67,7 @@ where
     }
 }
 
-/// The line that answers a call. That of a step takes no memory after it.
+/// The line that answers a call. After a step it takes no memory.
 fn answered<J: Naming, R>(
     rt: &R,
     node: &Node<'_, J>,

@@ -64,7 +64,7 @@ where
     })
 }
 
-/// Submits the records of a blk file in their order. The steps are those of the client that no other has the name of.
+/// Submits the records of a blk file in their order. The steps are a client's whose name no other has.
 fn submit_file<J: Naming, R>(
     rt: &R,
     node: &Node<'_, J>,

@@ -116,7 +116,7 @@ where
     })
 }
 
-/// What stands in a place, which is empty then.
+/// Takes what is in a place, which is empty then.
 fn taken<T: Drop, R: Wait>(rt: &R, place: &Mutex<Option<T>>) -> Option<T> {
     let mut guard = place.lock(rt);
     guard.take()

@@ -2,7 +2,7 @@
 
 use super::{REGTEST, Scenario};
 
-/// Those of branches, marks and soft forks.
+/// The scenarios of branches, marks and soft forks.
 pub const BRANCHES: [Scenario; 17] = [
     NOTHING_BUT_GENESIS,
     THE_FIRST_TWO_BLOCKS,
