@@ -8,8 +8,8 @@ from bitcoin.core.script import CScript, RawSignatureHash
 
 from blocks import Maker
 from wakotehu.encoding import (
-    GENESIS, EncodingError, Input, Output, Transaction, merkle_root, push, read_block, read_transaction,
-    signature_digest, write_transaction,
+    GENESIS, EncodingError, Input, Output, Transaction, block_at_front, merkle_root, push, read_block,
+    read_transaction, signature_digest, write_transaction,
 )  # fmt: skip
 from wakotehu.signatures import read_signature
 
@@ -46,6 +46,29 @@ class EncodingTest(unittest.TestCase):
             txs = [self.transaction() for _ in range(count)]
             made = [CTransaction.deserialize(write_transaction(tx)) for tx in txs]
             self.assertEqual(merkle_root([tx.id for tx in txs]), CBlock.build_merkle_tree_from_txs(made)[-1])
+
+    def test_the_block_at_the_front_is_the_one_that_is_read(self):
+        cut = 0
+        for _ in range(2000):
+            count = self.chance.randrange(4)
+            whole = bytearray(self.chance.randbytes(80) + bytes([count]))
+            for _ in range(count):
+                whole += write_transaction(self.transaction())
+            for _ in range(self.chance.randrange(3)):
+                whole[self.chance.randrange(80, len(whole))] = self.chance.choice([0, 1, 253, 254, 255])
+            data = bytes(whole[: self.chance.choice([len(whole), self.chance.randrange(len(whole) + 1)])])
+            try:
+                front = block_at_front(data)
+            except EncodingError:
+                # No beginning of the bytes is a block.
+                cut += 1
+                self.assertRaises(EncodingError, read_block, data)
+                continue
+            block = read_block(front.data)
+            self.assertEqual(front.header, block.header)
+            self.assertEqual([front.transaction(n) for n in range(len(front.ids))], block.transactions)
+            self.assertTrue(data.startswith(front.data))
+        self.assertGreater(cut, 200)
 
     def test_digests(self):
         for _ in range(300):

@@ -39,7 +39,7 @@ class Index:
 
     def add(self, id: bytes, spelled: Spelled) -> None:
         """Adds a block of this id, whose parent is there."""
-        header, height = spelled.block.header, self.blocks[spelled.block.header.parent].height + 1
+        header, height = spelled.header, self.blocks[spelled.header.parent].height + 1
         self.highest = max(self.highest, height)
         for tx, (begin, end) in zip(spelled.ids, spelled.places):
             self.transactions.setdefault(tx, (id, begin, end))

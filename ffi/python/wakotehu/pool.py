@@ -175,7 +175,7 @@ class Pool(Walks):
         that nothing stands on."""
         if reply.reply != "rejected":
             return reply.reply in ("accepted", "inconclusive")
-        known = spelled.block.header.parent in self.index.blocks
+        known = spelled.header.parent in self.index.blocks
         return known and any(tip.id == id for tip in self._asked(Seat.getchaintips).value)
 
     def _step(self, ask: Callable[[Seat], Stamped[Reply]], take_up: Callable[[Reply], None]) -> Reply:

@@ -31,8 +31,7 @@ def submitblock(node: Node, hexdata: Any, dummy: Any) -> Optional[str]:
             spelled = block_at_front(data)
     except EncodingError:
         raise RpcError(DESERIALIZATION_ERROR, "Block decode failed")
-    first = spelled.block.transactions[:1]
-    if not first or not first[0].is_coinbase:
+    if not spelled.ids or not spelled.transaction(0).is_coinbase:
         raise RpcError(DESERIALIZATION_ERROR, "Block does not start with a coinbase")
     reply = node.submit(spelled)
     if reply.reply == "decode-failed":
