@@ -1,3 +1,4 @@
+pub mod Beginnings
 pub mod Inputs
 pub mod Lists
 pub mod Outputs

@@ -1,2 +1,4 @@
 pub mod Kind
 pub mod Digest
+pub mod Midstates
+pub mod inside

@@ -8,6 +8,7 @@ ghost use Rattle.txn.specs.Grammar as grammar;
 ghost use Rattle.script.specs.Removal.{bytes_of};
 ghost use Rattle.sighash.specs.Digest.{other_input, blank_output, signed_inputs, signed_outputs};
 ghost use Rattle.sighash.specs.Kind as kinds;
+ghost use Rattle.sighash.specs.inside.Beginning.{among};
 
 use crate::kind::{frees_sequences, is_alone, is_none, is_single};
 use sha2::{Digest, Sha256};
@@ -83,7 +84,7 @@ fn feed_other(hasher: &mut Sha256, input: &TxIn, kind: u32)
 }
 
 /// Feeds inputs that aren't the signed one.
-fn feed_others(hasher: &mut Sha256, inputs: &[TxIn], kind: u32)
+pub fn feed_others(hasher: &mut Sha256, inputs: &[TxIn], kind: u32)
     ensures { (fed : List ℕ) → Holds256 hasher.old fed
         → let others = map (other_input kind) inputs.now in
         Holds256 hasher.new (fed ++ flat_map grammar.input.spell others) }
@@ -93,25 +94,36 @@ fn feed_others(hasher: &mut Sha256, inputs: &[TxIn], kind: u32)
     }
 }
 
-/// Feeds the inputs, of which number `n` is the signed one.
+/// Feeds inputs, of which number `n` is the signed one, without their count.
+pub fn feed_among(hasher: &mut Sha256, inputs: &[TxIn], n: usize, code: &[&[u8]], kind: u32)
+    requires { n < length inputs.now }
+    ensures { (fed : List ℕ) → Holds256 hasher.old fed
+        → let signed = among kind n (concat (bytes_of code.now)) inputs.now in
+        Holds256 hasher.new (fed ++ flat_map grammar.input.spell signed) }
+{
+    let (before, rest) = inputs.split_at(n);
+    let (signed, after) = rest.split_at(1);
+    let input = &signed[0];
+    feed_others(hasher, before, kind);
+    feed_input(hasher, input, code, input.sequence);
+    feed_others(hasher, after, kind);
+}
+
+/// Feeds the inputs after their count, of which number `n` is the signed one.
 pub fn feed_signed_inputs(hasher: &mut Sha256, inputs: &[TxIn], n: usize, code: &[&[u8]], kind: u32)
     requires { n < length inputs.now }
     ensures { (fed : List ℕ) → Holds256 hasher.old fed
         → let signed = signed_inputs kind n (concat (bytes_of code.now)) inputs.now in
         Holds256 hasher.new (fed ++ (counted_list grammar.input).spell signed) }
 {
-    let (before, rest) = inputs.split_at(n);
-    let (signed, after) = rest.split_at(1);
-    let input = &signed[0];
     if is_alone(kind) {
+        let input = &inputs[n];
         feed_count(hasher, 1);
         feed_input(hasher, input, code, input.sequence);
         return;
     }
     feed_count(hasher, inputs.len() as u128);
-    feed_others(hasher, before, kind);
-    feed_input(hasher, input, code, input.sequence);
-    feed_others(hasher, after, kind);
+    feed_among(hasher, inputs, n, code, kind);
 }
 
 /// Feeds so many outputs of value -1 without a script.

@@ -1,6 +1,6 @@
 //! What a signature signs, by its hash type.
 
-ghost use Rattle.std.specs.Prelude.{◌≡◌};
+ghost use Rattle.std.specs.Prelude.{◌≡◌, ◌↔◌, IsTrue, false};
 ghost use Rattle.sighash.specs.Kind as kinds;
 
 /// Whether no output is signed (NONE).
@@ -29,4 +29,12 @@ pub fn is_alone(kind: u32) -> bool
     ensures { result ≡ kinds.is_alone kind }
 {
     kind / 128 % 2 == 1
+}
+
+/// Whether all inputs are signed, with their sequences.
+pub fn signs_inputs(kind: u32) -> bool
+    ensures { IsTrue result ↔
+        ((kinds.is_alone kind ≡ false) × (kinds.frees_sequences kind ≡ false)) }
+{
+    !is_alone(kind) && !frees_sequences(kind)
 }

@@ -3,6 +3,8 @@
 
 mod feeding;
 mod kind;
+mod midstates;
 mod signing;
 
+pub use midstates::Midstates;
 pub use signing::digest;

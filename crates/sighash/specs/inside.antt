@@ -1,0 +1,2 @@
+-- What private functions and invariants alone cite.
+pub mod Beginning

@@ -1,0 +1,135 @@
+//! What the digests of one transaction's inputs have in common.
+
+ghost use Rattle.std.specs.Prelude.{◌≡◌, ◌≤◌, ◌<◌, IfOk, length};
+ghost use Rattle.std.specs.List.{concat};
+ghost use Rattle.sha2.specs.Hashers.{Holds256};
+ghost use Rattle.script.specs.Removal.{bytes_of};
+ghost use Rattle.sighash.specs.Digest.{digest_of};
+ghost use Rattle.sighash.specs.inside.Beginning.{beginning, AreMidstates, AreMidstates-prop};
+
+use crate::feeding::{feed_among, feed_others};
+use crate::kind::signs_inputs;
+use crate::signing::digest;
+use hash::finish;
+use sha2::{Digest, Sha256};
+use std::alloc::Global;
+use txn::Tx;
+use txn::feeding::{feed_count, feed_outputs};
+use wire::Memory;
+
+/// So many inputs are between one state and the next.
+const STEP: usize = 16;
+
+/// Of a transaction with fewer inputs no state is kept.
+const FEWEST: usize = 32;
+
+/// The hash type ALL.
+const ALL: u32 = 1;
+
+/// A transaction, with the hasher's states at every 16th of its inputs (Bitcoin Core's word is midstate).
+///
+/// Where all inputs are signed with their sequences, a message begins with the version, the count of inputs, and the
+/// inputs before the signed one without scripts. That of each later input begins with the same, so it is hashed once.
+#[derive(Drop)]
+pub struct Midstates<'a> {
+    pub tx: &'a Tx,
+    states: Vec<Sha256>,
+    ghost fed: { AreMidstates tx.now states.items } by { AreMidstates-prop tx.now states.items },
+}
+
+impl<'a> Midstates<'a> {
+    ghost use Rattle.sighash.specs.Midstates.{AreOf};
+
+    /// Those of a transaction. None of one with fewer than 32 inputs, for which no memory is taken.
+    pub fn of(alloc: Global, tx: &'a Tx) -> Result<Midstates<'a>, Memory>
+        ensures { IfOk result (λ midstates. midstates.tx.now ≡ tx.entry.now) }
+    {
+        if tx.inputs.len() < FEWEST {
+            return Ok(Midstates::none(alloc, tx));
+        }
+        let states = states_of(alloc, tx)?;
+        Ok(Midstates { tx, states })
+    }
+
+    /// Those of each of some transactions, by their places. Where none has 32 inputs it is no list at all.
+    pub fn of_each(alloc: Global, txs: &'a [Tx]) -> Result<Vec<Midstates<'a>>, Memory>
+        ensures { IfOk result (λ list. AreOf txs.entry.now list.items) }
+    {
+        if !txs.iter().any(|tx| tx.inputs.len() >= FEWEST) {
+            return Ok(Vec::new(alloc));
+        }
+        let mut list = Vec::with_capacity(alloc, txs.len())?;
+        for tx in txs {
+            list.push(Midstates::of(alloc, tx)?)?;
+        }
+        Ok(list)
+    }
+
+    /// None of a transaction: each digest hashes the whole message.
+    pub fn none(alloc: Global, tx: &'a Tx) -> Midstates<'a>
+        ensures { result.tx.now ≡ tx.entry.now }
+    {
+        Midstates {
+            tx,
+            states: Vec::new(alloc),
+        }
+    }
+
+    /// What [`digest`] gives for the transaction.
+    pub fn digest(&self, input: usize, code: &[&[u8]], kind: u32) -> [u8; 32]
+        requires { input < length self.now.tx.now.inputs }
+        ensures { result ≡ digest_of self.now.tx.now input (concat (bytes_of code.now)) kind }
+    {
+        if !signs_inputs(kind) {
+            return digest(self.tx, input, code, kind);
+        }
+        let (mut hasher, from) = self.nearest(input);
+        let (_, rest) = self.tx.inputs.as_slice().split_at(from);
+        feed_among(&mut hasher, rest, input - from, code, kind);
+        feed_outputs(&mut hasher, self.tx.outputs.as_slice());
+        hasher.update(self.tx.lock_time.to_le_bytes());
+        hasher.update(kind.to_le_bytes());
+        finish(hasher)
+    }
+
+    /// A hasher that was fed all that is before an input, which is this one or an earlier one, and that one's number.
+    fn nearest(&self, input: usize) -> (Sha256, usize)
+        ensures near { result.1 ≤ input }
+        ensures fed { Holds256 result.0 (beginning self.now.tx.now result.1) }
+    {
+        let steps = input / STEP;
+        if steps > 0 {
+            if let Some(state) = self.states.get(steps - 1) {
+                return (state.clone().unwrap(), steps * STEP);
+            }
+        }
+        (begun(self.tx), 0)
+    }
+}
+
+/// A hasher that was fed what is before the first input.
+fn begun(tx: &Tx) -> Sha256
+    ensures { Holds256 result (beginning tx.now 0) }
+{
+    let mut hasher = Sha256::new();
+    hasher.update(tx.version.to_le_bytes());
+    feed_count(&mut hasher, tx.inputs.len() as u128);
+    hasher
+}
+
+/// The states of a transaction: the first is before input 16.
+fn states_of(alloc: Global, tx: &Tx) -> Result<Vec<Sha256>, Memory>
+    ensures { IfOk result (λ states. AreMidstates tx.now states.items) }
+{
+    let inputs = tx.inputs.as_slice();
+    let count = inputs.len() / STEP;
+    let mut states = Vec::with_capacity(alloc, count)?;
+    let mut hasher = begun(tx);
+    for place in 0..count {
+        let (_, rest) = inputs.split_at(STEP * place);
+        let (next, _) = rest.split_at(STEP);
+        feed_others(&mut hasher, next, ALL);
+        states.push(hasher.clone().unwrap())?;
+    }
+    Ok(states)
+}
