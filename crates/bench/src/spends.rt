@@ -57,6 +57,7 @@ impl Spends {
                 input: 0,
                 spent: spend.spent.as_slice(),
                 flags: Flags::ALL,
+                midstates: None,
             })?;
         }
         Ok(jobs)

@@ -1,7 +1,8 @@
 -- Lists of scripts that have to accept.
-use Rattle.std.proofs.Common.{◌≡◌, inl, inr, ℕ, zero, suc, ◌+◌, ◌<◌, List, [], ◌∷◌, ◌++◌, length, get_or, map, Option, Some, None, slice_get, refl, sym, ap, ap₂, subst, ◌∙◌, arith}
+use Rattle.std.proofs.Common.{◌≡◌, All, inl, inr, ℕ, zero, suc, ◌+◌, ◌<◌, List, [], ◌∷◌, ◌++◌, length, get_or, map, Option, Some, None, slice_get, refl, sym, ap, ap₂, subst, ◌∙◌, arith}
 use Rattle.std.specs.List.{zip, enumerate_from, AllZip, Any}
-use Rattle.std.proofs.lemmas.List.{map-append, length-map}
+use Rattle.std.proofs.lemmas.List.{map-append, length-map, length_push}
+use Rattle.std.proofs.lemmas.List.Elements.{All-push}
 use Rattle.txn.specs.declared.reason.Reason.TheVariants.{ScriptRefused}
 use Rattle.txn.specs.declared.tx.Tx.{Tx}
 use Rattle.coins.specs.declared.coin.Coin.{Coin}
@@ -9,7 +10,7 @@ use Rattle.interp.specs.declared.flags.Flags.{Flags}
 use Rattle.curve.specs.Known.{Known}
 use Rattle.curve.specs.Triple.{Triple, Triples}
 use Rattle.interp.specs.declared.job.Job.{Job}
-use Rattle.queue.specs.Jobs.{question, question_of, IsAccepted, AcceptsAt, FailsAt, IsWanted, IsWantedIn}
+use Rattle.queue.specs.Jobs.{HasInput, question, question_of, IsAccepted, AcceptsAt, FailsAt, IsWanted, IsWantedIn}
 use Rattle.connect.specs.Scripts.{Check, input_checks, IsFirstRefused}
 use Rattle.connect.specs.inside.Listing.{checks_from}
 
@@ -60,6 +61,18 @@ input_push flags place tx coins x =
 pub checks_push : (places : List ℕ) (jobs : List Job) (place : ℕ) (job : Job) → length places ≡ length jobs → zip (places ++ place ∷ []) (map question_of (jobs ++ job ∷ [])) ≡ zip places (map question_of jobs) ++ (place, question_of job) ∷ []
 checks_push places jobs place job even =
     ap (zip (places ++ place ∷ [])) (map-append question_of jobs (job ∷ [])) ∙ zip_push places (map question_of jobs) place (question_of job) (even ∙ sym (length-map jobs question_of))
+
+-- with one job more
+
+pub job_count : (before after : List Job) (job : Job) → after ≡ before ++ job ∷ [] → length after ≡ length before + 1
+job_count before after job pushed = ap length pushed ∙ length_push before job
+
+pub job_inputs : (before after : List Job) (job : Job) → after ≡ before ++ job ∷ [] → All HasInput before → HasInput job → All HasInput after
+job_inputs before after job pushed all has = subst (λ (l : List Job). All HasInput l) (sym pushed) (All-push HasInput before job all has)
+
+pub job_checks : (places numbers : List ℕ) (before after : List Job) (place : ℕ) (job : Job) → length places ≡ length before → numbers ≡ places ++ place ∷ [] → after ≡ before ++ job ∷ []
+    → zip numbers (map question_of after) ≡ zip places (map question_of before) ++ (place, question_of job) ∷ []
+job_checks places numbers before after place job even more pushed = ap₂ (λ (l : List ℕ) (k : List Job). zip l (map question_of k)) more pushed ∙ checks_push places before place job even
 
 pub listed_next : (flags : Flags) (place : ℕ) (tx : Tx) (txs : List Tx) (coins : List Coin) (undo : List (List Coin)) → checks_from flags place (tx ∷ txs) (coins ∷ undo) ≡ input_checks flags place tx coins ++ checks_from flags (place + 1) txs undo
 unfolding checks_from

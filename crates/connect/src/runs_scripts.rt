@@ -19,6 +19,9 @@ pub trait RunsScripts {
     /// A set of valid signatures that agrees with it.
     ghost agreeing: { Self → Triples };
 
+    /// Whether there are verdicts that were got before, so that maybe no job is run.
+    fn has_verdicts(&self) -> bool;
+
     /// The least place whose job isn't accepted, or none; or the signatures that have to be found out first.
     fn first_failure(
         &self,
@@ -50,6 +53,10 @@ impl<'a, C: Crew> RunsScripts for Env<'a, C> {
 
     ghost agrees = { λ env. table_agrees env.table.now };
 
+    fn has_verdicts(&self) -> bool {
+        !self.early.is_empty()
+    }
+
     fn first_failure(
         &self,
         alloc: Global,
@@ -80,6 +87,10 @@ impl RunsScripts for KnownSignatures {
     ghost agreeing = { λ found. found.valid };
 
     ghost agrees = { found_agrees };
+
+    fn has_verdicts(&self) -> bool {
+        false
+    }
 
     fn first_failure(
         &self,

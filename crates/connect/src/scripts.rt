@@ -1,9 +1,10 @@
 //! The scripts of a block, run after all else.
 
-ghost use Rattle.std.specs.Prelude.{◌≡◌, ◌+◌, ◌<◌, ◌≤◌, ◌^◌, ◌++◌, All, IfErr, IfOk, OnOk, length, sum_by};
+ghost use Rattle.std.specs.Prelude.{◌≡◌, ◌+◌, ◌<◌, ◌≤◌, ◌^◌, ◌++◌, All, IfErr, IfOk, IfSome, OnOk, length, sum_by};
 ghost use Rattle.std.specs.List.{AllZip, Any};
 ghost use Rattle.curve.specs.Known.{Under};
 ghost use Rattle.queue.specs.Jobs.{HasInput, IsUndecided, IsWanted};
+ghost use Rattle.sighash.specs.Midstates.{AreOf};
 ghost use Rattle.connect.specs.Scripts.{flags_of, input_checks, IsFirstRefused};
 ghost use Rattle.connect.specs.inside.Listing.{checks_from, checks_in, IsEven};
 
@@ -12,13 +13,14 @@ use coins::Coin;
 use interp::{Flags, Job};
 use queue::{Gate, Undecided};
 use rules::InForce;
+use sighash::Midstates;
 use std::alloc::Global;
 use txn::{Reason, Tx};
 use undo::BlockUndo;
 use wire::Memory;
 
 /// The scripts of a block that have to accept, by transaction and then by input, each with the place of its
-/// transaction. They borrow the coins that the block spends from its undo.
+/// transaction. They borrow the coins that the block spends from its undo, and share midstates.
 #[derive(Drop)]
 struct Checks<'a> {
     jobs: Vec<Job<'a>>,
@@ -42,7 +44,8 @@ pub(crate) fn first_refused<'a, S: RunsScripts>(
     ensures stops { IfErr result (IsUndecided (λ t. Any (λ check.
         IsWanted (S.known env.now) check.1 t) (checks_from (flags_of rules) 1 txs.now undo.now))) }
 {
-    let checks = list(alloc, txs, undo, flags_of(rules))?;
+    let midstates = midstates(alloc, txs, env)?;
+    let checks = list(alloc, txs, undo, &midstates, flags_of(rules))?;
     let found = env.first_failure(alloc, &checks.jobs, &checks.places, gate)?;
     let Some(place) = found else {
         return Ok(None);
@@ -51,6 +54,20 @@ pub(crate) fn first_refused<'a, S: RunsScripts>(
         transaction: checks.places[place],
         input: checks.jobs[place].input,
     }))
+}
+
+/// The midstates of the transactions, or none where verdicts may spare their jobs.
+fn midstates<'a, S: RunsScripts>(
+    alloc: Global,
+    txs: &'a [Tx],
+    env: &S,
+) -> Result<Vec<Midstates<'a>>, Memory>
+    ensures { IfOk result (λ list. AreOf txs.entry.now list.items) }
+{
+    if env.has_verdicts() {
+        return Ok(Vec::new(alloc));
+    }
+    Midstates::of_each(alloc, txs)
 }
 
 /// The script rules that are in force where these rules of blocks are (Bitcoin Core's `GetBlockScriptFlags`).
@@ -69,9 +86,11 @@ fn list<'a>(
     alloc: Global,
     txs: &'a [Tx],
     undo: &'a BlockUndo,
+    midstates: &'a [Midstates<'a>],
     flags: Flags,
 ) -> Result<Checks<'a>, Memory>
     requires alike { AllZip (λ tx coins. length coins ≤ length tx.inputs) txs.now undo.now }
+    requires midstates { AreOf txs.now midstates.now }
     ensures checks_from { IfOk result (λ checks.
         checks_in checks ≡ checks_from flags 1 txs.now undo.now) }
     ensures even { IfOk result (λ checks. IsEven checks) }
@@ -88,6 +107,7 @@ fn list<'a>(
             &mut checks,
             index + 1,
             &txs[index],
+            midstates.get(index),
             undo.as_slice()[index].as_slice(),
             flags,
         )?;
@@ -100,10 +120,12 @@ fn add<'a>(
     checks: &mut Checks<'a>,
     place: usize,
     tx: &'a Tx,
+    midstates: Option<&'a Midstates<'a>>,
     coins: &'a [Coin],
     flags: Flags,
 ) -> Result<(), Memory>
     requires each { length coins.now ≤ length tx.now.inputs }
+    requires midstates { IfSome midstates (λ m. m.now.tx.now ≡ tx.now) }
     requires even { IsEven checks.old }
     requires inputs { All HasInput checks.old.jobs.items }
     ensures checks_from { OnOk result (checks_in checks.new ≡ checks_in checks.old ++
@@ -119,6 +141,7 @@ fn add<'a>(
             input,
             spent: coin.script.as_slice(),
             flags,
+            midstates,
         })?;
         checks.places.push(place)?;
     }

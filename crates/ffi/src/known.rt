@@ -147,6 +147,7 @@ fn judge(
         input,
         spent,
         flags,
+        midstates: None,
     };
     verify_with(alloc, &job, known)
 }

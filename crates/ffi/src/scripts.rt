@@ -241,6 +241,7 @@ fn judge(
         input,
         spent,
         flags,
+        midstates: None,
     };
     verify(alloc, &job, table)
 }

@@ -43,6 +43,10 @@ impl RunsScripts for Signatures {
 
     ghost agrees = { agrees_in };
 
+    fn has_verdicts(&self) -> bool {
+        false
+    }
+
     fn first_failure(
         &self,
         alloc: Global,

@@ -1,6 +1,10 @@
 //! What is verified.
 
+ghost use Rattle.std.specs.Prelude.{◌≡◌, IfSome};
+ghost use Rattle.std.proofs.Props.{props};
+
 use crate::flags::Flags;
+use sighash::Midstates;
 use txn::Tx;
 
 /// An input of a transaction, by its number from 0, the script of the output that it spends, and the rules
@@ -11,4 +15,7 @@ pub struct Job<'a> {
     pub input: usize,
     pub spent: &'a [u8],
     pub flags: Flags,
+    /// The transaction's midstates, which its jobs share. Without them each digest hashes the whole message.
+    pub midstates: Option<&'a Midstates<'a>>,
+    pub ghost same_tx: { IfSome midstates (λ m. m.now.tx.now ≡ tx.now) } by { Prim.hlevel props },
 }

@@ -90,7 +90,10 @@ pub fn digest_for(job: &Job, code: &[&[u8]], signature: &[u8]) -> [u8; 32]
         Some(kind) => u32::from(*kind),
         None => 0,
     };
-    sighash::digest(job.tx, job.input, code, kind)
+    match job.midstates {
+        Some(midstates) => midstates.digest(job.input, code, kind),
+        None => sighash::digest(job.tx, job.input, code, kind),
+    }
 }
 
 /// Whether a signature that isn't empty is valid for a key over this digest.

@@ -48,7 +48,8 @@ fn early_answers<R: Threads + Sync, G: Gate + Sync>(
     ensures each { IfOk result (λ yeses. length yeses.items ≡ length jobs.now.spendings) }
     ensures right { IfOk result (λ yeses. AreAnswers (questions jobs.now) table.now yeses.items) }
 {
-    let jobs = jobs.jobs(alloc)?;
+    let midstates = jobs.midstates(alloc)?;
+    let jobs = jobs.jobs(alloc, &midstates)?;
     let list = JobList {
         jobs: &jobs,
         verdicts: &[],

@@ -5,6 +5,7 @@ ghost use Rattle.std.specs.Option.{IfNone};
 
 use crate::verdict_index::Key;
 use interp::{Flags, Job};
+use sighash::Midstates;
 use std::alloc::Global;
 use std::marker::Model;
 use txn::Tx;
@@ -60,6 +61,7 @@ impl<'t> Model for EarlyJobs<'t> {
 impl<'t> EarlyJobs<'t> {
     ghost use Rattle.queue.specs.Jobs.{HasInput, Question, Spending, question_of, questions, spending, tx_at, IsThere};
     ghost use Rattle.queue.specs.inside.Pairing.{key_of};
+    ghost use Rattle.sighash.specs.Midstates.{AreOf};
 
     /// No input of these transactions.
     pub fn new(alloc: Global, txs: &'t [Tx], flags: Flags) -> EarlyJobs<'t>
@@ -102,8 +104,20 @@ impl<'t> EarlyJobs<'t> {
         self.list.is_empty()
     }
 
-    /// They as jobs, which borrow the scripts.
-    pub(crate) fn jobs(&self, alloc: Global) -> Result<Vec<Job<'_>>, Memory>
+    /// The midstates of their transactions.
+    pub(crate) fn midstates(&self, alloc: Global) -> Result<Vec<Midstates<'_>>, Memory>
+        ensures { IfOk result (λ list. AreOf self.now.txs list.items) }
+    {
+        Midstates::of_each(alloc, self.txs)
+    }
+
+    /// They as jobs, which borrow the scripts and the midstates.
+    pub(crate) fn jobs<'a>(
+        &'a self,
+        alloc: Global,
+        midstates: &'a [Midstates<'a>],
+    ) -> Result<Vec<Job<'a>>, Memory>
+        requires { AreOf self.now.txs midstates.now }
         ensures asked { IfOk result (λ jobs. map question_of jobs.items ≡ questions self.now) }
         ensures inputs { IfOk result (λ jobs. All HasInput jobs.items) }
     {
@@ -114,6 +128,7 @@ impl<'t> EarlyJobs<'t> {
                 input: listed.input,
                 spent: listed.spent.as_slice(),
                 flags: self.flags,
+                midstates: midstates.get(listed.place),
             })?;
         }
         Ok(jobs)

@@ -50,6 +50,7 @@ fn jobs<'a>(alloc: Global, tx: &'a Tx, spent: &[&'a [u8]]) -> Result<Vec<Job<'a>
             input,
             spent: *script,
             flags: Flags::ALL,
+            midstates: None,
         })?;
     }
     Ok(jobs)
@@ -231,6 +232,7 @@ fn answered<R: Threads + Sync + AllocGlobal>(
         input: 0,
         spent,
         flags,
+        midstates: None,
     }];
     if !are_ready(&list) {
         return Err(Memory);

@@ -16,16 +16,16 @@ use Rattle.connect.proofs.scripts.first_refused.Goals as goal
 
 pub first_failure-requires-clause-numbered : goal.first_failure-requires-clause-numbered
 first_failure-requires-clause-numbered g c =
-    let listed : zip c.deref-2.result.now (map question_of c.deref.result.now) ≡ checks_from c.flags_of.result 1 c.args.txs.now c.args.undo.now =
-    ap₂ (λ (l : List ℕ) (k : List Job). zip l (map question_of k)) c.deref-2.ensures.value c.deref.ensures.value ∙ c.in_ok-checks.ensures.checks_from in
-    numbered c.flags_of.result c.args.txs.now c.args.undo.now c.deref-2.result.now c.deref.result.now listed
+    let listed : zip c.deref-3.result.now (map question_of c.deref-2.result.now) ≡ checks_from c.flags_of.result 1 c.args.txs.now c.args.undo.now =
+    ap₂ (λ (l : List ℕ) (k : List Job). zip l (map question_of k)) c.deref-3.ensures.value c.deref-2.ensures.value ∙ c.in_ok-checks.ensures.checks_from in
+    numbered c.flags_of.result c.args.txs.now c.args.undo.now c.deref-3.result.now c.deref-2.result.now listed
 
 pub returns-in_default-clause-answer : goal.returns-in_default-clause-answer
 returns-in_default-clause-answer g c triples agrees =
     let checks = c.in_ok-checks.checks in
     let all : checks_in checks ≡ checks_from (flags_of c.args.rules) 1 c.args.txs.now c.args.undo.now = c.in_ok-checks.ensures.checks_from ∙ ap (λ (f : Flags). checks_from f 1 c.args.txs.now c.args.undo.now) c.flags_of.ensures in
     let none : IsFirstFailure triples checks.jobs.items None =
-    subst (λ (l : List Job). IsFirstFailure triples l None) c.deref.ensures.value (subst (λ (o : Option ℕ). IsFirstFailure triples c.deref.result.now o) c.in_default.is (c.in_ok-found.ensures.answer triples agrees)) in
+    subst (λ (l : List Job). IsFirstFailure triples l None) c.deref-2.ensures.value (subst (λ (o : Option ℕ). IsFirstFailure triples c.deref-2.result.now o) c.in_default.is (c.in_ok-found.ensures.answer triples agrees)) in
     subst (λ (l : List Check). IsFirstRefused triples l None) all (none_refused triples checks.places.items checks.jobs.items none)
 
 pub index-requires : goal.index-requires
@@ -34,7 +34,7 @@ index-requires g c =
     let triples = g.S.RunsScripts.agreeing c.args.env.now in
     let agrees : Agrees (g.S.RunsScripts.known c.args.env.now) triples = g.met.S.RunsScripts.agrees c.args.env.now in
     let first : IsFirstFailure triples checks.jobs.items (Some c.in-Some.place) =
-    subst (λ (l : List Job). IsFirstFailure triples l (Some c.in-Some.place)) c.deref.ensures.value (subst (λ (o : Option ℕ). IsFirstFailure triples c.deref.result.now o) c.in-Some.is (c.in_ok-found.ensures.answer triples agrees)) in
+    subst (λ (l : List Job). IsFirstFailure triples l (Some c.in-Some.place)) c.deref-2.ensures.value (subst (λ (o : Option ℕ). IsFirstFailure triples c.deref-2.result.now o) c.in-Some.is (c.in_ok-found.ensures.answer triples agrees)) in
     let below = below_of checks.jobs.items c.in-Some.place first.0.0 first.0.1 in
     omega (arith, c.in_ok-checks.ensures.even)
 
@@ -44,7 +44,7 @@ index-requires-2 g c =
     let triples = g.S.RunsScripts.agreeing c.args.env.now in
     let agrees : Agrees (g.S.RunsScripts.known c.args.env.now) triples = g.met.S.RunsScripts.agrees c.args.env.now in
     let first : IsFirstFailure triples checks.jobs.items (Some c.in-Some.place) =
-    subst (λ (l : List Job). IsFirstFailure triples l (Some c.in-Some.place)) c.deref.ensures.value (subst (λ (o : Option ℕ). IsFirstFailure triples c.deref.result.now o) c.in-Some.is (c.in_ok-found.ensures.answer triples agrees)) in
+    subst (λ (l : List Job). IsFirstFailure triples l (Some c.in-Some.place)) c.deref-2.ensures.value (subst (λ (o : Option ℕ). IsFirstFailure triples c.deref-2.result.now o) c.in-Some.is (c.in_ok-found.ensures.answer triples agrees)) in
     let below = below_of checks.jobs.items c.in-Some.place first.0.0 first.0.1 in
     omega arith
 
@@ -54,7 +54,7 @@ returns-clause-answer g c triples agrees =
     let place = c.in-Some.place in
     let all : checks_in checks ≡ checks_from (flags_of c.args.rules) 1 c.args.txs.now c.args.undo.now = c.in_ok-checks.ensures.checks_from ∙ ap (λ (f : Flags). checks_from f 1 c.args.txs.now c.args.undo.now) c.flags_of.ensures in
     let first : IsFirstFailure triples checks.jobs.items (Some place) =
-    subst (λ (l : List Job). IsFirstFailure triples l (Some place)) c.deref.ensures.value (subst (λ (o : Option ℕ). IsFirstFailure triples c.deref.result.now o) c.in-Some.is (c.in_ok-found.ensures.answer triples agrees)) in
+    subst (λ (l : List Job). IsFirstFailure triples l (Some place)) c.deref-2.ensures.value (subst (λ (o : Option ℕ). IsFirstFailure triples c.deref-2.result.now o) c.in-Some.is (c.in_ok-found.ensures.answer triples agrees)) in
     let below = below_of checks.jobs.items place first.0.0 first.0.1 in
     let even : length checks.places.items ≡ length checks.jobs.items = c.in_ok-checks.ensures.even in
     subst (λ (l : List Check). IsFirstRefused triples l (Some (ScriptRefused c.index.result.now c.index-2.result.now.input))) all
@@ -66,7 +66,7 @@ returns-in_err-found-clause-stops g c =
     let checks = c.in_ok-checks.checks in
     let all : checks_in checks ≡ checks_from (flags_of c.args.rules) 1 c.args.txs.now c.args.undo.now = c.in_ok-checks.ensures.checks_from ∙ ap (λ (f : Flags). checks_from f 1 c.args.txs.now c.args.undo.now) c.flags_of.ensures in
     let passed = err_from_is_err_and c.from_residual-in_err-found.result c.from_residual-in_err-found.ensures.1 in
-    let known_so : (t : Triple) → IsWantedIn known c.deref.result.now t → Any (λ check. IsWanted known check.1 t) (checks_from (flags_of c.args.rules) 1 c.args.txs.now c.args.undo.now) = λ t wanted.
+    let known_so : (t : Triple) → IsWantedIn known c.deref-2.result.now t → Any (λ check. IsWanted known check.1 t) (checks_from (flags_of c.args.rules) 1 c.args.txs.now c.args.undo.now) = λ t wanted.
     subst (λ (l : List Check). Any (λ check. IsWanted known check.1 t) l) all
-    (wanted_check known checks.places.items checks.jobs.items c.in_ok-checks.ensures.even t (subst (λ (l : List Job). IsWantedIn known l t) c.deref.ensures.value wanted)) in
+    (wanted_check known checks.places.items checks.jobs.items c.in_ok-checks.ensures.even t (subst (λ (l : List Job). IsWantedIn known l t) c.deref-2.ensures.value wanted)) in
     rw (passed.1, passed.2) (undecided_weaker _ _ known_so _ c.in_err-found.ensures.stops)

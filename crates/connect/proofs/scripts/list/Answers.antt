@@ -1,9 +1,10 @@
-use Rattle.std.proofs.Common.{rules, ◌≡◌, ◌+◌, ◌≤◌, ◌++◌, ◌∷◌, List, length, drop, sum_by, sym, ap, ap₂, subst, ◌∙◌, arith}
+use Rattle.std.proofs.Common.{rules, IfSome, ◌≡◌, ◌+◌, ◌≤◌, ◌++◌, ◌∷◌, List, length, drop, sum_by, sym, ap, ap₂, subst, ◌∙◌, arith}
 use Rattle.std.specs.List.{AllZip}
 use Rattle.std.proofs.lemmas.List.{append_assoc, append-nil}
 use Rattle.std.proofs.lemmas.List.Sums.{sum_by-cons}
 use Rattle.txn.specs.declared.tx.Tx.{Tx}
 use Rattle.coins.specs.declared.coin.Coin.{Coin}
+use Rattle.queue.specs.laws.Lending.{lent_of}
 use Rattle.connect.specs.Scripts.{Check, input_checks}
 use Rattle.connect.specs.inside.Listing.{checks_from, checks_in}
 use Rattle.connect.proofs.Steps.{drop_item, drop_of_length-le, item_of}
@@ -12,6 +13,12 @@ use Rattle.connect.proofs.scripts.list.Goals as goal
 
 Fits : Tx → List Coin → Type 0
 Fits tx coins = length coins ≤ length tx.inputs
+
+pub add-requires-clause-midstates : goal.add-requires-clause-midstates
+add-requires-clause-midstates c =
+    let txs = c.args.txs.now in
+    let x = c.index-txs-index.result in
+    subst (λ (tx : Tx). IfSome c.get.result (λ m. m.now.tx.now ≡ tx)) (sym c.index-txs-index.is) (lent_of txs c.args.midstates.now c.loop-index.index c.get.result x c.requires.midstates c.get.ensures.lookup)
 
 pub loop-index-preserved : goal.loop-index-preserved
 unfolding Fits
