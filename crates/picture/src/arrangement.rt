@@ -24,6 +24,13 @@ pub struct Piece<'t> {
     pub lead: String,
 }
 
+impl Piece<'_> {
+    /// Whether it is on the active branch.
+    pub fn is_active(&self) -> bool {
+        self.first.block.status == Status::Active
+    }
+}
+
 /// In which order pieces come: a piece, and then those on it.
 #[derive(Clone, Copy)]
 pub enum Order {

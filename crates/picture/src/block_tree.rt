@@ -4,7 +4,7 @@ use crate::status::Status;
 use std::alloc::{AllocError, Global};
 
 /// A block that is drawn.
-#[derive(Debug, Drop)]
+#[derive(Drop)]
 pub struct TreeBlock {
     /// Its name, or what is shown in place of one.
     pub label: String,
@@ -52,8 +52,10 @@ impl BlockTree {
                 below.first_child = Some(place);
             }
         }
-        if let Some(sibling) = before.and_then(|before| self.nodes.get_mut(before)) {
-            sibling.next_sibling = Some(place);
+        if let Some(before) = before {
+            if let Some(sibling) = self.nodes.get_mut(before) {
+                sibling.next_sibling = Some(place);
+            }
         }
         Ok(Some(place))
     }

@@ -1,22 +1,19 @@
 //! Text in XML.
 
-use std::fmt;
+use std::alloc::{AllocError, Global};
 
-/// A text as XML has it, cut after so many letters: dots say that there is more.
-#[derive(Clone, Copy)]
-pub struct Escaped<'s> {
-    pub text: &'s str,
-    pub most: usize,
-}
-
-impl<'s> Escaped<'s> {
-    /// All of a text.
-    pub fn whole(text: &'s str) -> Escaped<'s> {
-        Escaped {
-            text,
-            most: usize::MAX,
+/// Writes a text as XML has it, cut after so many letters: dots say that there is more.
+pub fn write_escaped(text: &str, most: usize, xml: &mut String) -> Result<(), AllocError> {
+    for (place, letter) in text.chars().enumerate() {
+        if place >= most {
+            return write!(xml, "…");
+        }
+        match entity(letter) {
+            Some(name) => write!(xml, "{name}")?,
+            None => write!(xml, "{letter}")?,
         }
     }
+    Ok(())
 }
 
 /// The entity of a letter that XML uses itself.
@@ -27,20 +24,5 @@ fn entity(letter: char) -> Option<&'static str> {
         '>' => Some("&gt;"),
         '"' => Some("&quot;"),
         _ => None,
-    }
-}
-
-impl fmt::Display for Escaped<'_> {
-    fn fmt<W: fmt::Write>(&self, f: &mut fmt::Formatter<W>) -> fmt::Result {
-        for (place, letter) in self.text.chars().enumerate() {
-            if place >= self.most {
-                return f.write_str("…");
-            }
-            match entity(letter) {
-                Some(name) => f.write_str(name)?,
-                None => f.write_char(letter)?,
-            }
-        }
-        Ok(())
     }
 }

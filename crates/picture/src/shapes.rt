@@ -2,7 +2,7 @@
 //! is marked.
 
 use crate::status::Status;
-use std::fmt;
+use std::alloc::{AllocError, Global};
 
 /// Half of a shape's width, in pixels.
 pub const HALF: usize = 9;
@@ -21,52 +21,65 @@ pub struct Shape {
     pub y: usize,
 }
 
-impl fmt::Display for Shape {
-    fn fmt<W: fmt::Write>(&self, f: &mut fmt::Formatter<W>) -> fmt::Result {
-        let Shape { x, y, .. } = *self;
+impl Shape {
+    /// As elements of SVG.
+    pub fn write(&self, svg: &mut String) -> Result<(), AllocError> {
         if self.count > 1 {
-            return self.write_run(f);
+            return self.write_run(svg);
         }
+        self.write_block(svg)?;
+        if self.is_marked {
+            let (left, top) = (self.x.saturating_sub(4), self.y.saturating_sub(4));
+            write!(
+                svg,
+                "<path class=\"cross\" d=\"M{left} {top}l8 8m0 -8l-8 8\"/>"
+            )?;
+        }
+        self.write_best(svg)
+    }
+
+    /// A block, without what is drawn over it.
+    fn write_block(&self, svg: &mut String) -> Result<(), AllocError> {
+        let Shape { x, y, .. } = *self;
         match self.status {
-            Status::Active => write!(f, "<circle cx=\"{x}\" cy=\"{y}\" r=\"{HALF}\"/>")?,
-            Status::ValidFork => {
-                write!(
-                    f,
-                    "<circle class=\"open\" cx=\"{x}\" cy=\"{y}\" r=\"{HALF}\"/>"
-                )?;
-            }
+            Status::Active => write!(svg, "<circle cx=\"{x}\" cy=\"{y}\" r=\"{HALF}\"/>"),
+            Status::ValidFork => write!(
+                svg,
+                "<circle class=\"open\" cx=\"{x}\" cy=\"{y}\" r=\"{HALF}\"/>"
+            ),
             Status::ValidHeaders => {
                 let (left, top) = (x.saturating_sub(HALF), y.saturating_sub(HALF));
                 let side = 2 * HALF;
-                write!(f, "<rect class=\"open\" x=\"{left}\" y=\"{top}\" ")?;
-                write!(f, "width=\"{side}\" height=\"{side}\"/>")?;
+                write!(
+                    svg,
+                    "<rect class=\"open\" x=\"{left}\" y=\"{top}\" width=\"{side}\" height=\"{side}\"/>"
+                )
             }
             Status::Invalid => {
                 let class = if self.is_marked { "full" } else { "open" };
                 let left = x.saturating_sub(12);
                 write!(
-                    f,
+                    svg,
                     "<path class=\"{class}\" d=\"M{left} {y}l12 -12 12 12 -12 12z\"/>"
-                )?;
+                )
             }
         }
-        if self.is_marked {
-            let (left, top) = (x.saturating_sub(4), y.saturating_sub(4));
-            write!(
-                f,
-                "<path class=\"cross\" d=\"M{left} {top}l8 8m0 -8l-8 8\"/>"
-            )?;
-        }
-        if self.is_best {
-            write!(f, "<circle class=\"best\" cx=\"{x}\" cy=\"{y}\" r=\"14\"/>")?;
-        }
-        Ok(())
     }
-}
 
-impl Shape {
+    /// The ring round the best block.
+    fn write_best(&self, svg: &mut String) -> Result<(), AllocError> {
+        if !self.is_best {
+            return Ok(());
+        }
+        let Shape { end, y, .. } = *self;
+        write!(
+            svg,
+            "<circle class=\"best\" cx=\"{end}\" cy=\"{y}\" r=\"14\"/>"
+        )
+    }
+
     /// A run, with how many blocks it has.
-    fn write_run<W: fmt::Write>(&self, f: &mut fmt::Formatter<W>) -> fmt::Result {
+    fn write_run(&self, svg: &mut String) -> Result<(), AllocError> {
         let class = match self.status {
             Status::Active => "full",
             _ => "open",
@@ -79,23 +92,17 @@ impl Shape {
         let width = self.end.saturating_sub(self.x).saturating_add(2 * HALF);
         let height = 2 * HALF;
         write!(
-            f,
+            svg,
             "<rect class=\"{class}\" x=\"{left}\" y=\"{top}\" rx=\"{corner}\" "
         )?;
-        write!(f, "width=\"{width}\" height=\"{height}\"/>")?;
-        if self.is_best {
-            write!(
-                f,
-                "<circle class=\"best\" cx=\"{}\" cy=\"{}\" r=\"14\"/>",
-                self.end, self.y
-            )?;
-        }
+        write!(svg, "width=\"{width}\" height=\"{height}\"/>")?;
+        self.write_best(svg)?;
         let middle = self.x.saturating_add(self.end) / 2;
         let base = self.y.saturating_add(4);
+        let count = self.count;
         write!(
-            f,
-            "<text class=\"in-{class}\" x=\"{middle}\" y=\"{base}\">{} blocks</text>",
-            self.count
+            svg,
+            "<text class=\"in-{class}\" x=\"{middle}\" y=\"{base}\">{count} blocks</text>"
         )
     }
 }

@@ -1,7 +1,7 @@
 //! What is known of a block.
 
 /// What is known of a block (Bitcoin Core's words, as in `getchaintips`).
-#[derive(Clone, Copy, Debug, PartialEq, Eq)]
+#[derive(Clone, Copy, PartialEq, Eq)]
 pub enum Status {
     /// It is on the active branch.
     Active,

@@ -2,13 +2,11 @@
 
 use crate::arrangement::{Order, Piece, pieces};
 use crate::block_tree::BlockTree;
-use crate::escaped::Escaped;
+use crate::escaped::write_escaped;
 use crate::geometry::Columns;
 use crate::shapes::Shape;
 use crate::status::Status;
 use std::alloc::{AllocError, Global};
-use std::fmt;
-use std::fmt::Write as _;
 
 /// So many letters of a name are written above its block.
 const MAX_LABEL: usize = 13;
@@ -63,198 +61,187 @@ struct Meaning {
 }
 
 /// What the shapes mean.
-fn meanings() -> [Meaning; 6] {
-    [
-        Meaning::of(Status::Active, "active"),
-        Meaning {
-            is_best: true,
-            ..Meaning::of(Status::Active, "best")
-        },
-        Meaning::of(Status::ValidFork, "valid-fork"),
-        Meaning::of(Status::ValidHeaders, "valid-headers"),
-        Meaning::of(Status::Invalid, "invalid"),
-        Meaning {
-            is_marked: true,
-            ..Meaning::of(Status::Invalid, "marked")
-        },
-    ]
-}
+const MEANINGS: [Meaning; 6] = [
+    ACTIVE,
+    Meaning {
+        is_best: true,
+        word: "best",
+        ..ACTIVE
+    },
+    Meaning {
+        status: Status::ValidFork,
+        word: "valid-fork",
+        ..ACTIVE
+    },
+    Meaning {
+        status: Status::ValidHeaders,
+        word: "valid-headers",
+        ..ACTIVE
+    },
+    INVALID,
+    Meaning {
+        is_marked: true,
+        word: "marked",
+        ..INVALID
+    },
+];
 
-impl Meaning {
-    fn of(status: Status, word: &'static str) -> Meaning {
-        Meaning {
-            status,
-            is_marked: false,
-            is_best: false,
-            word,
-        }
-    }
-}
+const ACTIVE: Meaning = Meaning {
+    status: Status::Active,
+    is_marked: false,
+    is_best: false,
+    word: "active",
+};
+
+const INVALID: Meaning = Meaning {
+    status: Status::Invalid,
+    word: "invalid",
+    ..ACTIVE
+};
 
 /// A tree as a picture: heights from left to right, the active branch above and thick, the others below it.
 pub fn to_svg(alloc: Global, tree: &BlockTree) -> Result<String, AllocError> {
     let pieces = pieces(alloc, tree, Order::MainFirst)?;
-    let columns = Columns::new(alloc, pieces.as_slice())?;
-    let picture = Picture {
-        pieces: pieces.as_slice(),
-        columns: &columns,
+    let pieces = pieces.as_slice();
+    let columns = Columns::new(alloc, pieces)?;
+    let mut svg = String::new(alloc);
+    write_page(&columns, &mut svg)?;
+    // Lines lie below all shapes, and the active branch lies over the others.
+    write_lines(pieces, &columns, false, &mut svg)?;
+    write_lines(pieces, &columns, true, &mut svg)?;
+    for piece in pieces {
+        write_piece(piece, &columns, &mut svg)?;
+    }
+    for (place, meaning) in MEANINGS.iter().enumerate() {
+        write_meaning(place, meaning, columns.legend(), &mut svg)?;
+    }
+    writeln!(svg, "</svg>")?;
+    Ok(svg)
+}
+
+/// The page that all is drawn on.
+fn write_page(columns: &Columns, svg: &mut String) -> Result<(), AllocError> {
+    let (width, height) = (columns.width(), columns.height());
+    write!(
+        svg,
+        "<svg xmlns=\"http://www.w3.org/2000/svg\" width=\"{width}\" height=\"{height}\" "
+    )?;
+    writeln!(svg, "viewBox=\"0 0 {width} {height}\" role=\"img\">")?;
+    writeln!(
+        svg,
+        "<title>Block tree</title>\n{STYLE}<rect class=\"page\" width=\"{width}\" height=\"{height}\"/>"
+    )
+}
+
+/// The lines that lead to the pieces of the active branch, or to all others.
+fn write_lines(
+    pieces: &[Piece<'_>],
+    columns: &Columns,
+    is_active: bool,
+    svg: &mut String,
+) -> Result<(), AllocError> {
+    for piece in pieces {
+        if piece.is_active() == is_active {
+            if let Some(place) = piece.below {
+                write_line(piece, pieces.get(place), columns, svg)?;
+            }
+        }
+    }
+    Ok(())
+}
+
+/// The line to a piece from the one below.
+fn write_line(
+    piece: &Piece<'_>,
+    below: Option<&Piece<'_>>,
+    columns: &Columns,
+    svg: &mut String,
+) -> Result<(), AllocError> {
+    let Some(below) = below else {
+        return Ok(());
     };
-    let mut text = String::new(alloc);
-    write!(text, "{picture}").map_err(|_| AllocError)?;
-    Ok(text)
+    let class = if piece.is_active() { "thick" } else { "line" };
+    let (x, y) = (columns.x(below.last.height), columns.y(below.row));
+    let (end, bottom) = (columns.x(piece.first.height), columns.y(piece.row));
+    write!(svg, "<path class=\"{class}\" d=\"M{x} {y}")?;
+    if bottom == y {
+        return writeln!(svg, "H{end}\"/>");
+    }
+    let turn = x.saturating_add(TURN);
+    writeln!(svg, "H{turn}V{bottom}H{end}\"/>")
 }
 
-/// The pieces of a tree, and where they are.
-#[derive(Clone, Copy)]
-struct Picture<'p, 'c, 't> {
-    pieces: &'p [Piece<'t>],
-    columns: &'c Columns,
+/// A piece with its names, heights, and what a pointer over it is told.
+fn write_piece(piece: &Piece<'_>, columns: &Columns, svg: &mut String) -> Result<(), AllocError> {
+    let block = &piece.first.block;
+    let word = block.status.word();
+    let marked = if block.is_marked { ", marked" } else { "" };
+    write!(svg, "<g class=\"{word}\"><title>")?;
+    write_names(piece, usize::MAX, svg)?;
+    write!(svg, ", {word}{marked}</title>")?;
+    let shape = Shape {
+        status: block.status,
+        is_marked: block.is_marked,
+        is_best: piece.is_best,
+        count: piece.count,
+        x: columns.x(piece.first.height),
+        end: columns.x(piece.last.height),
+        y: columns.y(piece.row),
+    };
+    shape.write(svg)?;
+    write_labels(piece, &shape, svg)
 }
 
-impl fmt::Display for Picture<'_, '_, '_> {
-    fn fmt<W: fmt::Write>(&self, f: &mut fmt::Formatter<W>) -> fmt::Result {
-        let (width, height) = (self.columns.width(), self.columns.height());
-        write!(
-            f,
-            "<svg xmlns=\"http://www.w3.org/2000/svg\" width=\"{width}\" "
-        )?;
-        writeln!(
-            f,
-            "height=\"{height}\" viewBox=\"0 0 {width} {height}\" role=\"img\">"
-        )?;
-        writeln!(f, "<title>Block tree</title>")?;
-        f.write_str(STYLE)?;
-        writeln!(
-            f,
-            "<rect class=\"page\" width=\"{width}\" height=\"{height}\"/>"
-        )?;
-        // Lines lie below all shapes, and the active branch lies over the others.
-        for piece in self.pieces {
-            if piece.first.block.status != Status::Active {
-                self.write_line(piece, "line", f)?;
-            }
-        }
-        for piece in self.pieces {
-            if piece.first.block.status == Status::Active {
-                self.write_line(piece, "thick", f)?;
-            }
-        }
-        for piece in self.pieces {
-            self.write_piece(piece, f)?;
-        }
-        self.write_meanings(f)?;
-        f.write_str("</svg>\n")
+/// The names above a piece, and the heights below it.
+fn write_labels(piece: &Piece<'_>, shape: &Shape, svg: &mut String) -> Result<(), AllocError> {
+    let middle = shape.x.saturating_add(shape.end) / 2;
+    let (above, below) = (shape.y.saturating_sub(20), shape.y.saturating_add(28));
+    write!(svg, "<text x=\"{middle}\" y=\"{above}\">")?;
+    write_names(piece, MAX_LABEL, svg)?;
+    write!(
+        svg,
+        "</text><text class=\"heights\" x=\"{middle}\" y=\"{below}\">"
+    )?;
+    let (first, last) = (piece.first.height, piece.last.height);
+    if piece.count > 1 {
+        return writeln!(svg, "{first} to {last}</text></g>");
     }
-}
-
-impl Picture<'_, '_, '_> {
-    /// The line from the piece below to a piece.
-    fn write_line<W: fmt::Write>(
-        &self,
-        piece: &Piece<'_>,
-        class: &str,
-        f: &mut fmt::Formatter<W>,
-    ) -> fmt::Result {
-        let Some(below) = piece.below.and_then(|below| self.pieces.get(below)) else {
-            return Ok(());
-        };
-        let (x, y) = (self.columns.x(below.last.height), self.columns.y(below.row));
-        let (end, bottom) = (
-            self.columns.x(piece.first.height),
-            self.columns.y(piece.row),
-        );
-        let turn = x.saturating_add(TURN);
-        write!(f, "<path class=\"{class}\" d=\"M{x} {y}")?;
-        if bottom != y {
-            write!(f, "H{turn}V{bottom}")?;
-        }
-        writeln!(f, "H{end}\"/>")
-    }
-
-    /// A piece with its names, heights, and what a pointer over it is told.
-    fn write_piece<W: fmt::Write>(
-        &self,
-        piece: &Piece<'_>,
-        f: &mut fmt::Formatter<W>,
-    ) -> fmt::Result {
-        let block = &piece.first.block;
-        let (x, y) = (
-            self.columns.x(piece.first.height),
-            self.columns.y(piece.row),
-        );
-        let end = self.columns.x(piece.last.height);
-        let shape = Shape {
-            status: block.status,
-            is_marked: block.is_marked,
-            is_best: piece.is_best,
-            count: piece.count,
-            x,
-            end,
-            y,
-        };
-        let middle = x.saturating_add(end) / 2;
-        let (above, below) = (y.saturating_sub(20), y.saturating_add(28));
-        write!(f, "<g class=\"{}\"><title>", block.status.word())?;
-        write_names(piece, usize::MAX, f)?;
-        write!(f, ", {}", block.status.word())?;
-        if block.is_marked {
-            f.write_str(", marked")?;
-        }
-        write!(f, "</title>{shape}<text x=\"{middle}\" y=\"{above}\">")?;
-        write_names(piece, MAX_LABEL, f)?;
-        write!(
-            f,
-            "</text><text class=\"heights\" x=\"{middle}\" y=\"{below}\">"
-        )?;
-        write_heights(piece, f)?;
-        f.write_str("</text></g>\n")
-    }
-
-    /// What the shapes mean.
-    fn write_meanings<W: fmt::Write>(&self, f: &mut fmt::Formatter<W>) -> fmt::Result {
-        let y = self.columns.legend();
-        for (place, meaning) in meanings().iter().enumerate() {
-            let x = place.saturating_mul(MEANING).saturating_add(36);
-            let shape = Shape {
-                status: meaning.status,
-                is_marked: meaning.is_marked,
-                is_best: meaning.is_best,
-                count: 1,
-                x,
-                end: x,
-                y,
-            };
-            let (left, base) = (x.saturating_add(20), y.saturating_add(4));
-            write!(f, "<g class=\"{}\">{shape}", meaning.status.word())?;
-            writeln!(
-                f,
-                "<text class=\"meaning\" x=\"{left}\" y=\"{base}\">{}</text></g>",
-                meaning.word
-            )?;
-        }
-        Ok(())
-    }
+    writeln!(svg, "{first}</text></g>")
 }
 
 /// The name of a block, or the first and the last of a run, of each so many letters.
-fn write_names<W: fmt::Write>(
-    piece: &Piece<'_>,
-    most: usize,
-    f: &mut fmt::Formatter<W>,
-) -> fmt::Result {
-    let text = piece.first.block.label.as_str();
-    write!(f, "{}", Escaped { text, most })?;
+fn write_names(piece: &Piece<'_>, most: usize, svg: &mut String) -> Result<(), AllocError> {
+    write_escaped(piece.first.block.label.as_str(), most, svg)?;
     if piece.count > 1 {
-        let text = piece.last.block.label.as_str();
-        write!(f, " .. {}", Escaped { text, most })?;
+        write!(svg, " .. ")?;
+        return write_escaped(piece.last.block.label.as_str(), most, svg);
     }
     Ok(())
 }
 
-fn write_heights<W: fmt::Write>(piece: &Piece<'_>, f: &mut fmt::Formatter<W>) -> fmt::Result {
-    write!(f, "{}", piece.first.height)?;
-    if piece.count > 1 {
-        write!(f, " to {}", piece.last.height)?;
-    }
-    Ok(())
+/// What the shape at a place of the line means that lies so far from above.
+fn write_meaning(
+    place: usize,
+    meaning: &Meaning,
+    y: usize,
+    svg: &mut String,
+) -> Result<(), AllocError> {
+    let x = place.saturating_mul(MEANING).saturating_add(36);
+    let shape = Shape {
+        status: meaning.status,
+        is_marked: meaning.is_marked,
+        is_best: meaning.is_best,
+        count: 1,
+        x,
+        end: x,
+        y,
+    };
+    let (left, base) = (x.saturating_add(20), y.saturating_add(4));
+    write!(svg, "<g class=\"{}\">", meaning.status.word())?;
+    shape.write(svg)?;
+    let word = meaning.word;
+    writeln!(
+        svg,
+        "<text class=\"meaning\" x=\"{left}\" y=\"{base}\">{word}</text></g>"
+    )
 }
