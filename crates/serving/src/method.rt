@@ -5,7 +5,7 @@ ghost use Rattle.serving.specs.Requests.{method_name};
 ghost use Rattle.serving.specs.declared.method.Method.{Method as AnyMethod};
 
 /// A method, as a request names it.
-#[derive(Clone, Copy, Debug, PartialEq, Eq)]
+#[derive(Clone, Copy)]
 pub enum Method {
     Submit,
     Invalidate,

@@ -8,7 +8,7 @@ use json::is_number;
 use std::alloc::{AllocError, Global};
 
 /// The text of a JSON number.
-#[derive(Debug, Drop)]
+#[derive(Drop)]
 pub struct Numeral {
     text: String,
     ghost is_number: { IsNumber (string_bytes text) },

@@ -17,14 +17,14 @@ use std::alloc::{AllocError, Global};
 use txn::OutPoint;
 
 /// A line, as it is read: the id that its answer has, and what it asks.
-#[derive(Debug, Drop)]
+#[derive(Drop)]
 pub struct Request {
     pub id: RequestId,
     pub asked: Asked,
 }
 
 /// What a line asks.
-#[derive(Debug, Drop)]
+#[derive(Drop)]
 pub enum Asked {
     /// To have the seat of this number answer a call.
     Seat(usize, Call),
@@ -37,7 +37,7 @@ pub enum Asked {
 }
 
 /// What a seat is asked.
-#[derive(Debug, Drop)]
+#[derive(Drop)]
 pub enum Call {
     /// To take the block of these bytes, at this moment in seconds since 1970.
     Submit(Vec<u8>, u64),

@@ -10,7 +10,7 @@ use json::Value;
 use std::alloc::{AllocError, Global};
 
 /// The id of a request, which its answer repeats: null, a number by its digits, or a text.
-#[derive(Debug, Drop)]
+#[derive(Drop)]
 pub enum RequestId {
     Null,
     Number(Numeral),

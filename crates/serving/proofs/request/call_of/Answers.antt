@@ -2,8 +2,9 @@ use Rattle.serving.proofs.request.call_of.Goals as goal
 use Rattle.std.proofs.Common.{sym, subst, inr}
 use Rattle.std.specs.Prelude.{IfOk, IfErr}
 use Rattle.serving.specs.Requests.{IsCall}
+use Rattle.serving.specs.declared.method.Method.TheVariants as method
 use Rattle.serving.specs.inside.Given.{given, IsNoCall}
-use Rattle.serving.proofs.Refusing.{is-param, invalidate-no-id, reconsider-no-id, precious-no-id}
+use Rattle.serving.proofs.Refusing.{is-param, takes}
 
 pub returns-in-Submit-clause-ok : goal.returns-in-Submit-clause-ok
 returns-in-Submit-clause-ok c =
@@ -39,16 +40,16 @@ pub returns-in-Err-clause-err : goal.returns-in-Err-clause-err
 returns-in-Err-clause-err c =
     let none = c.in-Err.ensures.err in
     subst (λ m. IsNoCall c.args.seats m (given c.args.params.now) c.in-Err.refusal) (sym c.in-Invalidate.is)
-    (inr (is-param none.0, invalidate-no-id c.args.seats (given c.args.params.now) none.1))
+    (inr (is-param none.0, λ call h. let id = takes c.args.seats method.Invalidate (given c.args.params.now) call h in none.1 id.0 id.1))
 
 pub returns-in-Err-id-clause-err : goal.returns-in-Err-id-clause-err
 returns-in-Err-id-clause-err c =
     let none = c.in-Err-id.ensures.err in
     subst (λ m. IsNoCall c.args.seats m (given c.args.params.now) c.in-Err-id.refusal) (sym c.in-Reconsider.is)
-    (inr (is-param none.0, reconsider-no-id c.args.seats (given c.args.params.now) none.1))
+    (inr (is-param none.0, λ call h. let id = takes c.args.seats method.Reconsider (given c.args.params.now) call h in none.1 id.0 id.1))
 
 pub returns-in-Err-id-2-clause-err : goal.returns-in-Err-id-2-clause-err
 returns-in-Err-id-2-clause-err c =
     let none = c.in-Err-id-2.ensures.err in
     subst (λ m. IsNoCall c.args.seats m (given c.args.params.now) c.in-Err-id-2.refusal) (sym c.in-Precious.is)
-    (inr (is-param none.0, precious-no-id c.args.seats (given c.args.params.now) none.1))
+    (inr (is-param none.0, λ call h. let id = takes c.args.seats method.Precious (given c.args.params.now) call h in none.1 id.0 id.1))

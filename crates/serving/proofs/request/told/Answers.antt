@@ -1,9 +1,10 @@
 use Rattle.serving.proofs.request.told.Goals as goal
 use Rattle.std.proofs.Common.{inr}
+use Rattle.serving.specs.declared.method.Method.TheVariants as method
 use Rattle.serving.specs.inside.Given.{given}
-use Rattle.serving.proofs.Refusing.{is-param, told-no-seat}
+use Rattle.serving.proofs.Refusing.{is-param, takes}
 
 pub returns-in-Err-clause-err : goal.returns-in-Err-clause-err
 returns-in-Err-clause-err c =
     let none = c.in-Err.ensures.err in
-    inr (is-param none.0, told-no-seat c.args.seats (given c.args.params.now) none.1)
+    inr (is-param none.0, λ call h. let from = takes c.args.seats method.Told (given c.args.params.now) call h in none.1 from.0 from.1)
