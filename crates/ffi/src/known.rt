@@ -127,11 +127,11 @@ fn tell_found(
     }
 }
 
-fn judge(
+fn judge<'a>(
     alloc: Global,
-    tx: &Tx,
+    tx: &'a Tx,
     input: usize,
-    spent: &[u8],
+    spent: &'a [u8],
     flags: &ShownFlags,
     known: &KnownSignatures,
 ) -> Result<bool, Unverified>

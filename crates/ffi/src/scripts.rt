@@ -223,11 +223,11 @@ fn tell_verdict(
     }
 }
 
-fn judge(
+fn judge<'a>(
     alloc: Global,
-    tx: &Tx,
+    tx: &'a Tx,
     input: usize,
-    spent: &[u8],
+    spent: &'a [u8],
     flags: &ShownFlags,
     table: &Table,
 ) -> Result<bool, Memory>
