@@ -221,6 +221,3 @@ class Openings(unittest.TestCase):
     def test_the_largest_numbers(self) -> None:
         given = Played(play("node", client("a", ["invalidate genesis"] * 17), workers=16, seats=16))
         self.assertEqual([step.seat for step in given.steps()], [*range(16), 0])
-
-    def test_texts(self) -> None:
-        self.assertEqual(play("texts"), "workers seats memory\nreaders memory owed closed\n")

@@ -5,7 +5,7 @@ import os
 import tempfile
 import unittest
 
-from playing_lists import play
+from playing_lists import in_parallel, play
 
 # A chain of 100, and three payments.
 PAYMENTS = """\
@@ -81,6 +81,26 @@ class Workers(unittest.TestCase):
         for scenario in (BY_A_REORGANISATION, ON_ANOTHER_BLOCK):
             self.expect(["--workers", "3"], scenario, True)
             self.expect(["--workers", "1"], scenario, False)
+
+    def test_from_2_to_16_workers(self) -> None:
+        """As many scripts as there are workers are run at once, before the lock and under it."""
+
+        def met(case: tuple[int, bool]) -> str:
+            workers, beside = case
+            names = [f"P{number}" for number in range(workers)]
+            spent = ["c1.cb:0", *(f"{name}:0" for name in names)]
+            payments = "".join(f"tx {name} 1 0\nin {prev} -\nout 5000000000 51\n" for name, prev in zip(names, spent))
+            blocks = ["k", "m0", "m1"] if beside else ["m0"]
+            scenario = (
+                f"chain c 100 genesis\n{payments}block k c100\nblock m0 c100 {' '.join(names)}\nblock m1 m0\n"
+                f"client a\neach c 1 100\n{''.join(f'submit {name}{chr(10)}' for name in blocks)}"
+            )
+            return run([*RUN, "--workers", str(workers)], scenario, wanted=workers).gate
+
+        cases = [(workers, beside) for workers in range(2, 17) for beside in (False, True)]
+        for (workers, beside), gate in zip(cases, in_parallel(met, cases)):
+            with self.subTest(workers=workers, beside=beside):
+                self.assertEqual(gate, f"gate = met, {workers} begun, {workers} ended\n")
 
 
 class Streams(unittest.TestCase):

@@ -13,12 +13,25 @@ BAD = (
     "aa 3006020101020101 010000000000000000000000000000000000000000000000000000000000000\n"
 )
 
+# Lines in another order and spelling, and how they are saved.
+LOOSE = TABLE + "  00ff   -  " + "0" * 62 + "ff "
+SORTED = "00ff - " + "0" * 62 + "ff\naa 3006020101020101 01" + "0" * 62 + "\n"
+
 
 class TableFiles(ProgramTest):
     def test_a_table_that_is_read(self) -> None:
         self.write("table.txt", TABLE)
         words = ["run", "--table", "table.txt", "--scenario", "-"]
         self.expect(words, "client a\n", Played(0, "client a\njournal\n", ""))
+
+    def test_a_table_that_is_saved(self) -> None:
+        """Triples are sorted, each a line of three words; what is saved is read again and saved as it is."""
+        self.make_folder("saved")
+        for text in (LOOSE, SORTED):
+            self.write("table.txt", text)
+            words = ["run", "--table", "table.txt", "--save", "saved", "--scenario", "-"]
+            self.expect(words, "client a\n", Played(0, "client a\njournal\n", ""))
+            self.assertEqual(self.read("saved/table.txt"), SORTED)
 
     def test_a_table_that_is_not_read(self) -> None:
         """A table's line is named before a scenario's."""

@@ -18,14 +18,15 @@ mod program_play;
 mod round;
 mod seat_calls;
 mod state;
+mod texts;
 
 use anyhow::Context;
 use meeting::Meeting;
-use node::{Fault, OpenFault};
 use options::Options;
 use play::play;
 use program_play::play_program;
 use std::env;
+use texts::print_texts;
 
 fn main(rt: HostRuntime) -> anyhow::Result<()> {
     let words: Vec<String> = env::args(&rt)?.skip(1).collect(rt.alloc())?;
@@ -36,21 +37,7 @@ fn main(rt: HostRuntime) -> anyhow::Result<()> {
         options.number("looks", 10_000_000),
     );
     match options.door {
-        "texts" => {
-            println!(&rt;
-                "{} {} {}",
-                OpenFault::Workers,
-                OpenFault::Seats,
-                OpenFault::Memory
-            )?;
-            println!(&rt;
-                "{} {} {} {}",
-                OpenFault::Readers,
-                Fault::Memory,
-                Fault::Owed,
-                Fault::Closed
-            )?;
-        }
+        "texts" => print_texts(&rt)?,
         "program" => play_program(&rt, &options, rt.stdin(), &gate)?,
         _ => play(&rt, &options, rt.stdin(), &gate)?,
     }

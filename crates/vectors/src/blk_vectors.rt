@@ -60,10 +60,15 @@ impl<S: Source> Source for FailsOnce<S> {
 
 /// The genesis block's record, and these bytes after it.
 fn record(alloc: Global, after: &[u8]) -> Result<Vec<u8>, AllocError> {
-    let mut file = Vec::from_slice(alloc, &HEAD)?;
-    file.extend_from_slice(&GENESIS)?;
-    file.extend_from_slice(after)?;
+    let mut file = Vec::new(alloc);
+    for part in [HEAD.as_slice(), GENESIS.as_slice(), after] {
+        put(&mut file, part)?;
+    }
     Ok(file)
+}
+
+fn put(file: &mut Vec<u8>, part: &[u8]) -> Result<(), AllocError> {
+    file.extend_from_slice(part)
 }
 
 #[test]

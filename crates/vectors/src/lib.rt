@@ -8,12 +8,8 @@ mod block_vectors;
 #[cfg(test)]
 mod coins_vectors;
 #[cfg(test)]
-mod connect_cases;
-#[cfg(test)]
 mod connect_vectors;
 #[cfg(test)]
 mod queue_vectors;
-#[cfg(test)]
-mod text_vectors;
 #[cfg(test)]
 mod undo_vectors;

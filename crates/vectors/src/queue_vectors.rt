@@ -1,4 +1,4 @@
-//! Jobs on several workers, and verdicts got before.
+//! Verdicts got before.
 
 ghost use Rattle.std.specs.Prelude.{◌≡◌, ◌<◌, ◌≤◌, ◌^◌, length, All, IsTrue};
 ghost use Rattle.queue.specs.Jobs.{HasInput};
@@ -6,12 +6,12 @@ ghost use Rattle.queue.specs.Jobs.{HasInput};
 use curve::Table;
 use hash::Id;
 use interp::{Flags, Job};
-use queue::{Alone, Crew, EarlyJobs, Gate, Open, Threaded, Verdicts, check_early, first_failure};
+use queue::{Alone, Crew, EarlyJobs, Gate, Threaded, Verdicts, check_early};
 use std::alloc::{AllocError, Global};
+use std::sync::atomic::AtomicU64;
 use std::sync::atomic::Ordering::SeqCst;
-use std::sync::atomic::{AtomicBool, AtomicU64};
 use std::test::Fail;
-use std::thread::{Threads, yield_now};
+use std::thread::Threads;
 use txn::{Inputs, OutPoint, Outputs, Script, Tx, TxIn};
 use wire::Memory;
 
@@ -21,9 +21,9 @@ const GOOD: &[u8] = &[0x51];
 const BAD: &[u8] = &[0x00];
 
 /// A transaction of so many inputs with empty scripts.
-fn transaction(alloc: Global, count: u32) -> Result<Tx, AllocError> {
+fn transaction(alloc: Global, count: usize) -> Result<Tx, AllocError> {
     let mut inputs = Vec::new(alloc);
-    for index in 0..count {
+    for index in 0..count.min(1000) as u32 {
         inputs.push(TxIn {
             prev: OutPoint {
                 id: Id([7; 32]),
@@ -41,22 +41,7 @@ fn transaction(alloc: Global, count: u32) -> Result<Tx, AllocError> {
     })
 }
 
-/// The jobs of a transaction's inputs, which spend these scripts.
-fn jobs<'a>(alloc: Global, tx: &'a Tx, spent: &[&'a [u8]]) -> Result<Vec<Job<'a>>, AllocError> {
-    let mut jobs = Vec::new(alloc);
-    for (input, script) in spent.iter().enumerate() {
-        jobs.push(Job {
-            tx,
-            input,
-            spent: *script,
-            flags: Flags::ALL,
-            midstates: None,
-        })?;
-    }
-    Ok(jobs)
-}
-
-/// The same, to be run early: of the first transaction's inputs, as far as it has some.
+/// Jobs to be run early: of the first transaction's inputs, which spend these scripts, as far as it has some.
 fn early<'t>(alloc: Global, txs: &'t [Tx], spent: &[&[u8]]) -> Result<EarlyJobs<'t>, Memory> {
     let mut jobs = EarlyJobs::new(alloc, txs, Flags::ALL);
     for (input, script) in spent.iter().enumerate() {
@@ -67,104 +52,25 @@ fn early<'t>(alloc: Global, txs: &'t [Tx], spent: &[&[u8]]) -> Result<EarlyJobs<
     Ok(jobs)
 }
 
-/// Whether there are few jobs, each of an input that is there.
-pub(crate) fn are_ready(jobs: &[Job]) -> bool
-    ensures few { IsTrue result → length jobs.now < 2 ^ 32 }
-    ensures inputs { IsTrue result → All HasInput jobs.now }
-{
-    jobs.len() < 1000 && jobs.iter().all(|job| job.input < job.tx.inputs.len())
-}
-
-/// The least job that isn't accepted, where each is compared by itself with the verdicts.
-fn failing_with<C: Crew>(
-    crew: &C,
-    alloc: Global,
-    jobs: &[Job],
-    verdicts: &[Verdicts],
-    table: &Table,
-    workers: usize,
-    gate: &(dyn Gate + Sync),
-) -> Result<Option<usize>, Memory>
-    requires ready { C.is_ready crew.now }
-    requires workers { (1 ≤ workers) × (workers ≤ 16) }
-    requires few { length jobs.now < 2 ^ 32 }
-    requires inputs { All HasInput jobs.now }
-    requires same_table { All (λ v. v.triples ≡ table.now) verdicts.now }
-{
-    crew.first_failure_with(alloc, jobs, &[], verdicts, table, workers, gate)
-}
-
-/// Holds each job until so many have begun.
-#[derive(Drop)]
-struct Meeting {
-    wanted: u64,
-    entered: AtomicU64,
-    late: AtomicBool,
-}
-
-impl Meeting {
-    fn new(wanted: u64) -> Meeting {
-        Meeting {
-            wanted,
-            entered: AtomicU64::new(0),
-            late: AtomicBool::new(false),
-        }
-    }
-}
-
-impl Gate for Meeting {
-    fn begin(&self, _job: usize) {
-        self.entered.fetch_add(1, SeqCst);
-        for _ in 0..10_000_000 {
-            if self.entered.load(SeqCst) >= self.wanted {
-                return;
-            }
-            yield_now();
-        }
-        self.late.store(true, SeqCst);
-    }
-
-    fn end(&self, _job: usize) {}
-}
-
-#[test]
-fn each_worker_runs_a_job(rt: HostRuntime) -> Result<(), Fail> {
-    let table = Table::new(rt.alloc());
-    let tx = transaction(rt.alloc(), 16)?;
-    let spent = [GOOD; 16];
-    for workers in 2..17 {
-        let list = jobs(rt.alloc(), &tx, &spent[..workers])?;
-        assert!(rt; are_ready(&list));
-        let gate = Meeting::new(workers as u64);
-        let answer = first_failure(&rt, rt.alloc(), &list, &table, workers, &gate)?;
-        let found = (answer, gate.late.load(SeqCst), gate.entered.load(SeqCst));
-        assert!(rt;
-            found == (None, false, workers as u64),
-            "{workers}: {found:?}"
-        );
-    }
-    Ok(())
-}
-
 /// Counts the jobs that begin and those that end, and adds up the places of the first.
 #[derive(Drop)]
-pub(crate) struct Tally {
-    pub count: AtomicU64,
+struct Tally {
+    count: AtomicU64,
     places: AtomicU64,
     ended: AtomicU64,
 }
 
 impl Tally {
     /// How many began, the sum of their places, and how many ended.
-    fn sums(&self) -> (u64, u64, u64) {
-        (
+    fn sums(&self) -> [u64; 3] {
+        [
             self.count.load(SeqCst),
             self.places.load(SeqCst),
             self.ended.load(SeqCst),
-        )
+        ]
     }
 
-    pub(crate) fn new() -> Tally {
+    fn new() -> Tally {
         Tally {
             count: AtomicU64::new(0),
             places: AtomicU64::new(0),
@@ -184,65 +90,140 @@ impl Gate for Tally {
     }
 }
 
-#[test]
-fn a_job_above_a_failing_one_is_not_run(rt: HostRuntime) -> Result<(), Fail> {
-    let table = Table::new(rt.alloc());
-    let tx = transaction(rt.alloc(), 3)?;
-    let list = jobs(rt.alloc(), &tx, &[BAD, GOOD, BAD])?;
-    assert!(rt; are_ready(&list));
-    let gate = Tally::new();
-    let answer = first_failure(&rt, rt.alloc(), &list, &table, 1, &gate)?;
-    assert_eq!(rt; (answer, gate.sums()), (Some(0), (1, 0, 1)));
-    Ok(())
-}
-
-/// Three verdicts, and a list of the first job alone.
-#[test]
-fn more_verdicts_than_jobs(rt: HostRuntime) -> Result<(), Fail> {
-    let table = Table::new(rt.alloc());
-    let txs = [transaction(rt.alloc(), 3)?];
-    let list = early(rt.alloc(), &txs, &[GOOD, BAD, GOOD])?;
-    let gate = Tally::new();
-    let verdicts = [check_early(&rt, rt.alloc(), list, &table, 2, &gate)?];
-    assert!(rt; verdicts[0].answers() == [true, false, true].as_slice());
-    assert!(rt; gate.sums() == (3, 3, 3));
-    let fewer = jobs(rt.alloc(), &txs[0], &[GOOD])?;
-    assert!(rt; are_ready(&fewer));
-    let threaded = Threaded { rt: &rt };
-    let answer = failing_with(&threaded, rt.alloc(), &fewer, &verdicts, &table, 1, &gate)?;
-    assert!(rt; answer == None && gate.count.load(SeqCst) == 3);
-    Ok(())
-}
-
-/// How a job's script is answered by two workers or by the caller alone, where there is a verdict of an equal
-/// transaction's first input that spends a script that accepts under all rules, and how many scripts were run in all.
-fn answered<R: Threads + Sync + AllocGlobal>(
-    rt: &R,
-    spent: &[u8],
+/// Scripts that are run early, and a job that is asked for then.
+struct Row {
+    name: &'static str,
+    /// The scripts that the inputs of a transaction spend, and whether each accepts.
+    early: &'static [&'static [u8]],
+    accepted: &'static [bool],
+    /// The script that the first input of an equal transaction spends, and under which rules.
+    spent: &'static [u8],
     flags: Flags,
-) -> Result<(Option<usize>, Option<usize>, u64), Memory> {
+    /// What is answered to that job.
+    answer: Option<usize>,
+    /// How many scripts begin in all, where the caller alone is asked and then two workers, the sum of their places, and how
+    /// many end.
+    sums: [u64; 3],
+}
+
+/// One script that accepts under all rules, and the same job.
+const SAME: Row = Row {
+    name: "the same job",
+    early: &[GOOD],
+    accepted: &[true],
+    spent: GOOD,
+    flags: Flags::ALL,
+    answer: None,
+    sums: [1, 0, 1],
+};
+
+const ROWS: [Row; 4] = [
+    SAME,
+    Row {
+        name: "other rules",
+        flags: Flags::NONE,
+        sums: [3, 0, 3],
+        ..SAME
+    },
+    Row {
+        name: "another script",
+        spent: BAD,
+        answer: Some(0),
+        sums: [3, 0, 3],
+        ..SAME
+    },
+    Row {
+        name: "more verdicts than jobs",
+        early: &[GOOD, BAD, GOOD],
+        accepted: &[true, false, true],
+        sums: [3, 3, 3],
+        ..SAME
+    },
+];
+
+#[test]
+fn a_verdict_is_of_an_equal_job_alone(rt: HostRuntime) -> Result<(), Fail> {
+    for row in &ROWS {
+        assert!(rt; is_as_told(&rt, row)?, "{}", row.name);
+    }
+    Ok(())
+}
+
+/// Whether scripts are run and answered as a row has it.
+fn is_as_told<R>(rt: &R, row: &Row) -> Result<bool, Memory>
+where
+    R: Threads + Sync + AllocGlobal,
+{
     let alloc = rt.alloc();
     let table = Table::new(alloc);
-    let txs = [transaction(alloc, 1)?];
+    let txs = [transaction(alloc, row.early.len())?];
     let gate = Tally::new();
-    let verdicts = [check_early(rt, alloc, early(alloc, &txs, &[GOOD])?, &table, 2, &gate)?];
-    let equal = transaction(alloc, 1)?;
-    let list = [Job {
-        tx: &equal,
-        input: 0,
-        spent,
-        flags,
-        midstates: None,
-    }];
-    if !are_ready(&list) {
-        return Err(Memory);
-    }
-    let alone = failing_with(&Alone, alloc, &list, &verdicts, &table, 1, &gate)?;
-    let threaded = by_threads(rt, alloc, &list, &verdicts, &table, &gate)?;
-    Ok((alone, threaded, gate.count.load(SeqCst)))
+    let jobs = early(alloc, &txs, row.early)?;
+    let verdicts = [check_early(rt, alloc, jobs, &table, 2, &gate)?];
+    let is_accepted = are_equal(verdicts[0].answers(), row.accepted);
+    let equal = transaction(alloc, row.early.len())?;
+    let is_answered = is_answered(rt, row, &equal, &verdicts, &table, &gate)?;
+    Ok(is_accepted && is_answered && gate.sums() == row.sums)
 }
 
-/// The least job that isn't accepted, by two workers.
+fn are_equal(found: &[bool], wanted: &[bool]) -> bool {
+    found == wanted
+}
+
+/// Whether the job is answered as a row has it, by the caller alone and by two workers.
+fn is_answered<R>(
+    rt: &R,
+    row: &Row,
+    tx: &Tx,
+    verdicts: &[Verdicts],
+    table: &Table,
+    gate: &Tally,
+) -> Result<bool, Memory>
+where
+    R: Threads + Sync + AllocGlobal,
+    requires same_table { All (λ v. v.triples ≡ table.now) verdicts.now }
+{
+    let jobs = [Job {
+        tx,
+        input: 0,
+        spent: row.spent,
+        flags: row.flags,
+        midstates: None,
+    }];
+    if !are_ready(&jobs) {
+        return Ok(false);
+    }
+    let alone = failing(&Alone, rt.alloc(), &jobs, verdicts, table, gate)?;
+    let threaded = by_threads(rt, rt.alloc(), &jobs, verdicts, table, gate)?;
+    Ok([alone, threaded] == [row.answer; 2])
+}
+
+/// Whether there are few jobs, each of an input that is there.
+fn are_ready(jobs: &[Job]) -> bool
+    ensures few { IsTrue result → length jobs.now < 2 ^ 32 }
+    ensures inputs { IsTrue result → All HasInput jobs.now }
+{
+    jobs.len() < 1000 && jobs.iter().all(|job| job.input < job.tx.inputs.len())
+}
+
+/// The least job that isn't accepted, where each is compared by itself with the verdicts.
+fn failing<C: Crew>(
+    crew: &C,
+    alloc: Global,
+    jobs: &[Job],
+    verdicts: &[Verdicts],
+    table: &Table,
+    gate: &(dyn Gate + Sync),
+) -> Result<Option<usize>, Memory>
+    requires ready { C.is_ready crew.now }
+    requires few { length jobs.now < 2 ^ 32 }
+    requires inputs { All HasInput jobs.now }
+    requires same_table { All (λ v. v.triples ≡ table.now) verdicts.now }
+{
+    crew.first_failure_with(alloc, jobs, &[], verdicts, table, 2, gate)
+}
+
+/// The same of two workers. The crew is made where its type is a parameter (`connect::Env` says why).
 fn by_threads<R: Threads + Sync>(
     rt: &R,
     alloc: Global,
@@ -255,58 +236,5 @@ fn by_threads<R: Threads + Sync>(
     requires inputs { All HasInput jobs.now }
     requires same_table { All (λ v. v.triples ≡ table.now) verdicts.now }
 {
-    failing_with(&Threaded { rt }, alloc, jobs, verdicts, table, 2, gate)
-}
-
-#[test]
-fn a_verdict_is_of_an_equal_job_alone(rt: HostRuntime) -> Result<(), Fail> {
-    let found = [
-        answered(&rt, GOOD, Flags::ALL)?,
-        answered(&rt, GOOD, Flags::NONE)?,
-        answered(&rt, BAD, Flags::ALL)?,
-    ];
-    assert_eq!(rt;
-        found,
-        [(None, None, 1), (None, None, 3), (Some(0), Some(0), 3)]
-    );
-    Ok(())
-}
-
-/// The next of a row of numbers by Marsaglia's xorshift.
-fn next(state: u64) -> u64 {
-    let a = state ^ (state << 13);
-    let b = a ^ (a >> 7);
-    b ^ (b << 17)
-}
-
-/// Random scripts, up to 40 of them, and the number behind the drawn ones.
-fn draw(alloc: Global, start: u64) -> Result<(u64, Vec<&'static [u8]>), AllocError> {
-    let mut state = next(start);
-    let count = (state % 41) as usize;
-    let mut spent = Vec::new(alloc);
-    for _ in 0..count {
-        state = next(state);
-        spent.push(if state % 8 == 0 { BAD } else { GOOD })?;
-    }
-    Ok((state, spent))
-}
-
-/// 1,000 lists of up to 40 jobs, and the plain loop over each.
-#[test]
-fn random_lists_and_the_plain_loop(rt: HostRuntime) -> Result<(), Fail> {
-    let table = Table::new(rt.alloc());
-    let tx = transaction(rt.alloc(), 40)?;
-    let mut state = 88_172_645_463_325_252;
-    for _ in 0..1000 {
-        let (after, spent) = draw(rt.alloc(), state)?;
-        state = after;
-        let expected = spent.iter().position(|script| *script == BAD);
-        let list = jobs(rt.alloc(), &tx, &spent)?;
-        assert!(rt; are_ready(&list));
-        for workers in [1, 2, 8, 16] {
-            let answer = first_failure(&rt, rt.alloc(), &list, &table, workers, &Open)?;
-            assert!(rt; answer == expected, "{expected:?}, not {answer:?}");
-        }
-    }
-    Ok(())
+    failing(&Threaded { rt }, alloc, jobs, verdicts, table, gate)
 }

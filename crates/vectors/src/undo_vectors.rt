@@ -16,29 +16,35 @@ fn spending(alloc: Global, prev: OutPoint) -> Result<Tx, Memory>
         ≡ record { prev = prev; script = []; sequence = 0 } ∷ []) }
     ensures outputs { IfOk result (λ tx. length tx.outputs ≡ 2) }
 {
-    let input = TxIn {
+    let mut inputs = Vec::new(alloc);
+    inputs.push(TxIn {
         prev,
         script: Script::from_vec(Vec::new(alloc)),
         sequence: 0,
-    };
-    let spendable = TxOut {
-        value: 50,
-        script: Script::from_vec(vec![in alloc; 0x51]?),
-    };
-    let unspendable = TxOut {
-        value: 7,
-        script: Script::from_vec(vec![in alloc; 0x6a]?),
-    };
-    let mut inputs = Vec::new(alloc);
-    inputs.push(input)?;
-    let mut outputs = Vec::new(alloc);
-    outputs.push(spendable)?;
-    outputs.push(unspendable)?;
+    })?;
+    let outputs = outputs(alloc)?;
     Ok(Tx {
         version: 1,
         inputs: Inputs::from_vec(inputs),
         outputs: Outputs::from_vec(outputs),
         lock_time: 0,
+    })
+}
+
+/// An output of 50 that can be a coin, and one that can't: it begins with OP_RETURN.
+fn outputs(alloc: Global) -> Result<Vec<TxOut>, Memory>
+    ensures { IfOk result (λ outputs. length outputs.items ≡ 2) }
+{
+    let mut outputs = Vec::new(alloc);
+    outputs.push(output(alloc, 50, 0x51)?)?;
+    outputs.push(output(alloc, 7, 0x6a)?)?;
+    Ok(outputs)
+}
+
+fn output(alloc: Global, value: i64, op: u8) -> Result<TxOut, Memory> {
+    Ok(TxOut {
+        value,
+        script: Script::from_vec(vec![in alloc; op]?),
     })
 }
 
@@ -54,7 +60,6 @@ fn a_coinbase(rt: HostRuntime) -> Result<(), Fail> {
     let mut layer = Cache::over(rt.alloc(), &map);
     let tx = spending(rt.alloc(), OutPoint::NULL)?;
     let spent = apply_tx(rt.alloc(), &mut layer, &tx, ID, 9)?;
-    // The second output begins with OP_RETURN.
     let applied = [value_at(&layer, 0), value_at(&layer, 1)];
     revert_tx(rt.alloc(), &mut layer, &tx, ID, &spent)?;
     assert_eq!(rt; (applied, value_at(&layer, 0)), ([Some(50), None], None));
