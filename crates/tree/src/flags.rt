@@ -1,9 +1,9 @@
 //! The flags of all blocks, kept to be put back.
 
-ghost use Rattle.std.specs.Prelude.{◌≡◌, ℕ, ◌<◌, false, true, length, [], IfOk};
+ghost use Rattle.std.specs.Prelude.{◌≡◌, ℕ, ◌<◌, false, true, length, IfOk};
 ghost use Rattle.tree.specs.Branches.{has};
-ghost use Rattle.tree.specs.Nodes.{blocks_of, mark_at, places_where, state_of};
-ghost use Rattle.tree.specs.inside.Nodes.{AreNodes, AreUsable};
+ghost use Rattle.tree.specs.Nodes.{blocks_of, mark_at, places_where};
+ghost use Rattle.tree.specs.inside.Nodes.{AreNodes, HasFlags};
 
 use crate::marks::spoil;
 use crate::node::{Mark, Node};
@@ -55,12 +55,7 @@ pub(crate) fn put_back(nodes: &[Node], marks: &mut [Mark], flags: &Flags)
     requires len { flags.now.len ≡ length nodes.now }
     requires genesis { has flags.now.bad 0 ≡ false }
     requires usable { (mark_at marks.old 0).usable ≡ true }
-    ensures same { length marks.new ≡ length nodes.now }
-    ensures bad { places_where (λ m. m.bad) marks.new ≡ flags.now.bad }
-    ensures seen { places_where (λ m. m.seen) marks.new ≡ flags.now.seen }
-    ensures rank { (x : ℕ) → x < length nodes.now → (mark_at marks.new x).rank ≡
-        (mark_at marks.old x).rank }
-    ensures usable { AreUsable (state_of nodes.now marks.new []) marks.new (length nodes.now) }
+    ensures { HasFlags nodes.now marks.old marks.new flags.now }
 {
     set_each(marks, flags);
     spoil(nodes, marks, 1);

@@ -1,5 +1,5 @@
 -- What is always right in the program's tree, and what its functions do to the nodes and marks.
-use Rattle.std.specs.Prelude.{◌≡◌, ℕ, ◌<◌, ◌≤◌, Bool, true, false, not, ◌&&◌, List, length, reverse, slice_index_or}
+use Rattle.std.specs.Prelude.{◌≡◌, ℕ, ◌<◌, ◌≤◌, Bool, true, false, not, ◌&&◌, List, [], length, reverse, slice_index_or}
 use Rattle.std.specs.Map.{lookup}
 use Rattle.std.specs.BTreeMap.{is_at}
 use Rattle.hash.specs.declared.id.Id.{Id}
@@ -13,7 +13,8 @@ use Rattle.tree.specs.Limits.{max_blocks}
 use Rattle.tree.specs.MedianTime.{median_time_past}
 use Rattle.hash.specs.Id.{id_cmp}
 use Rattle.tree.specs.Names.{names, genesis}
-use Rattle.tree.specs.Nodes.{blocks_of, mark_at, state_of}
+use Rattle.tree.specs.Flags.{FlagsOf}
+use Rattle.tree.specs.Nodes.{blocks_of, mark_at, places_where, state_of}
 
 -- of a node, by its place
 pub record IsNode (t : Blocks Block) (p : ℕ) (n : Node) : Type 0 where
@@ -64,6 +65,14 @@ pub record MarksTaken (m n : Mark) (told : Bool) : Type 0 where
 
 abbrev pub AreUsable : State Block → List Mark → ℕ → Type 0
 AreUsable s marks n = (p : ℕ) → p < n → (mark_at marks p).usable ≡ has_no_mark s p
+
+-- of marks that have other flags now: the ranks are as before, and which branches are usable is as the flags say
+pub record HasFlags (nodes : List Node) (old new : List Mark) (flags : FlagsOf) : Type 0 where
+  pub same : length new ≡ length nodes
+  pub bad : places_where (λ m. m.bad) new ≡ flags.bad
+  pub seen : places_where (λ m. m.seen) new ≡ flags.seen
+  pub rank : (p : ℕ) → p < length nodes → (mark_at new p).rank ≡ (mark_at old p).rank
+  pub usable : AreUsable (state_of nodes new []) new (length nodes)
 
 abbrev pub first_node : Node
 first_node = record { block = genesis; id = names.genesis_id; parent = 0; height = 0; median = genesis.header.time; slot = 0 }
