@@ -68,7 +68,7 @@ most_undo = 288
 abbrev pub lesser_of : ℕ → ℕ → ℕ
 lesser_of a b = if nat_le a b then a else b
 
--- where the active block of b stands on that of a, undo is kept of one block more, up to that many
+-- where the active block of b is a child of a's, undo is kept of one block more, up to that many
 abbrev pub HasOneMore : CoreState → CoreState → Type 0
 HasOneMore a b =
     0 < b.active → parent_at b.state.blocks b.active ≡ a.active → b.undo_kept ≡ lesser_of most_undo (suc a.undo_kept)
@@ -83,6 +83,6 @@ UndoFollows a b =
 
 -- ---- what a step wants
 
--- a script of some block, over some coins, comes to a signature of which nothing is known
+-- a script of some block, over some coins, asks for a signature of which nothing is known
 abbrev pub IsWantedByABlock : Known → Triple → Type 0
 IsWantedByABlock known t = (s : Setting) × (coins : Coins) × (txs : List Tx) × IsWantedByBlock s coins txs known t

@@ -18,7 +18,7 @@ head len = magic ++ little_bytes 4 len
 abbrev pub record_bytes : List ℕ → List ℕ
 record_bytes block = head (length block) ++ block
 
--- the record of a block stands at the front, and these bytes after it
+-- the record of a block is at the front, and these bytes after it
 abbrev pub IsRecord : List ℕ → List ℕ → List ℕ → Type 0
 IsRecord block rest after = (length block ≤ limit) × (rest ≡ record_bytes block ++ after)
 
@@ -58,7 +58,7 @@ IsOutside Read = ⊤
 IsOutside Memory = ⊤
 IsOutside Stopped = ⊥
 
--- how many failed reads a fault tells of
+-- how many failed reads a fault is for
 abbrev pub failures : BlkFault → ℕ
 failures (Foreign at) = 0
 failures (Cut at) = 0

@@ -1,4 +1,4 @@
--- The block that stored bytes stand for.
+-- The block that stored bytes spell.
 use Rattle.std.specs.Prelude.{ℕ, List, [], Option, Some, None}
 use Rattle.std.specs.Option.{unwrap_or}
 use Rattle.block.specs.declared.block.Block.{Block}

@@ -25,7 +25,7 @@ Answers reply None = ⊥
 Answers None (Some x) = Unit {0}
 Answers (Some reply) (Some x) = reply ≡ x.1
 
--- the entry may stand where the state is s: it is of a seat that was handed out
+-- the entry may come where the state is s: it is of a seat that was given out
 pub record Stands (m : Machine) (seats : ℕ) (s : m.State) (e : Entry) : Type 0 where
   pub seat_is : e.seat < seats
   pub reply_is : Answers e.reply (m.step s e.command)
@@ -34,7 +34,7 @@ abbrev pub LegalFrom : (m : Machine) → ℕ → m.State → List Entry → Type
 LegalFrom m seats s [] = Unit {0}
 LegalFrom m seats s (e ∷ es) = Stands m seats s e × LegalFrom m seats (state_left s (m.step s e.command)) es
 
--- each entry stands at its place
+-- each entry may come at its place
 abbrev pub Legal : (m : Machine) → ℕ → List Entry → Type 0
 Legal m seats history = LegalFrom m seats m.opening history
 

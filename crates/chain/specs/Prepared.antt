@@ -1,4 +1,4 @@
--- The command that stands behind a prepared one.
+-- The command that was prepared.
 use Rattle.chain.specs.declared.command.Command.{Command}
 use Rattle.chain.specs.declared.command.Command.TheVariants as command
 use Rattle.chain.specs.declared.submission.PreparedCommand.{PreparedCommand}

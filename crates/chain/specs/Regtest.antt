@@ -24,7 +24,7 @@ abbrev pub medians_of : List Block → List ℕ
 medians_of [] = []
 medians_of (b ∷ older) = median_time_past (b ∷ older) ∷ medians_of older
 
--- where a block stands that comes on a branch: it is as high as the branch is long
+-- the place of a block that comes on a branch: it is as high as the branch is long
 abbrev pub setting_on : Params → List Block → Setting
 setting_on params branch = record {
   height = length branch;
@@ -41,7 +41,7 @@ ledger = record { empty = coin_map.empty; after = λ coins b height. effect heig
 abbrev pub AreNotNegative : Coins → Type 0
 AreNotNegative coins = (outpoint : OutPoint) → IfSome (coin_map.get coins outpoint) (λ coin. pos 0 ≤ℤ coin.value)
 
--- what all subsidies come to at most: 15,000 bitcoin, without the 50 of height 0
+-- the sum of all subsidies at most: 15,000 bitcoin, without the 50 of height 0
 abbrev pub most_satoshis : ℕ
 most_satoshis = 14950 * 100000000
 

@@ -1,4 +1,4 @@
--- What a submitted block comes to (Bitcoin Core's `submitblock`).
+-- What a submitted block does (Bitcoin Core's `submitblock`).
 use Rattle.std.specs.Prelude.{ℕ, suc, ◌==◌, nat_le, not, if◌then◌else◌, length, Option, Some, None, unwrap_or}
 use Rattle.txn.specs.declared.reason.Reason.{Reason}
 use Rattle.tree.specs.Branches.{has, place_of}

@@ -7,7 +7,7 @@ use Rattle.block.specs.Identity.{id_of}
 use Rattle.rules.specs.Alone.{alone_rules}
 use Rattle.chain.specs.declared.submission.SubmittedBlock.{SubmittedBlock}
 
--- with a block stand its id, its transactions' ids, and the first rule that it breaks by itself
+-- with a block come its id, its transactions' ids, and the first rule that it breaks by itself
 pub record IsJudged (b : SubmittedBlock) : Type 0 where
   pub id : b.id ≡ id_of b.block.header
   pub ids : b.ids.items ≡ ids_of b.block.txs

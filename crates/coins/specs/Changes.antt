@@ -1,4 +1,4 @@
--- Lists of changes: outpoints, each with the coin that stands there after, or None where it is gone.
+-- Lists of changes: outpoints, each with the coin that is there after, or None where it is gone.
 use Rattle.std.specs.Prelude.{◌≡◌, List, [], ◌∷◌, Option, None, Some}
 use Rattle.std.specs.List.Sorted.{IsStrictlySortedBy}
 use Rattle.std.specs.Map.{lookup, keys_of}
@@ -14,7 +14,7 @@ Changes = List (OutPoint × Option Coin)
 abbrev pub change_at : Changes → OutPoint → Option (Option Coin)
 change_at cs q = lookup (is_at (outpoint_cmp q)) cs
 
--- by rising outpoints, so that none stands twice
+-- by rising outpoints, so that none comes twice
 abbrev pub IsInOrder : Changes → Type 0
 IsInOrder cs = IsStrictlySortedBy outpoint_cmp (keys_of cs)
 

@@ -20,7 +20,7 @@ same = eq_by_cmp outpoint_cmp
 abbrev pub Coins : Type 0
 Coins = map.FinMap outpoint_cmp Coin
 
--- the coins of a layer, and those of what it stands on
+-- the coins of a layer, and the ones of its base
 pub record Layer : Type 0 where
   pub base : Coins
   pub coins : Coins
@@ -30,7 +30,7 @@ abbrev pub put : Coins → OutPoint → Option Coin → Coins
 put m at None = map.remove m at
 put m at (Some coin) = map.insert m at coin
 
--- the coins of a plain map: those of its one map, or of its many, once it has these
+-- the coins of a plain map: of its one map, or of its many, once it has these
 abbrev pub few_or_many : List (OutPoint × Coin) → Option Coins → Coins
 few_or_many few None = map.from_entries few
 few_or_many few (Some many) = many

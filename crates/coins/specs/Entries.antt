@@ -12,7 +12,7 @@ use Rattle.coins.specs.Changes.{Changes}
 abbrev pub Entries : Type 0
 Entries = List (OutPoint × CacheEntry)
 
--- what stands at an outpoint with this entry, by what stands there below
+-- the coin at an outpoint with this entry, by the coin there below
 abbrev pub stands : CacheEntry → Option Coin → Option Coin
 stands Clean below = below
 stands (Dirty coin) below = coin
@@ -27,7 +27,7 @@ over m (e ∷ es) = put (over m es) e.0 (stands e.1 (map.get m e.0))
 abbrev pub entry_at : Entries → OutPoint → Option CacheEntry
 entry_at es q = lookup (is_at (outpoint_cmp q)) es
 
--- where an entry is fresh, no coin stands below
+-- where an entry is fresh, there is no coin below
 abbrev pub MarkHolds : Option CacheEntry → Option Coin → Type 0
 MarkHolds None below = Unit {0}
 MarkHolds (Some Clean) below = Unit {0}

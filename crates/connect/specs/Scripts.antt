@@ -16,7 +16,7 @@ use Rattle.connect.specs.Setting.{Setting}
 use Rattle.connect.specs.Turns.{spent_in, turns}
 use Rattle.connect.specs.Faults.{connect_rules}
 
--- the rules of scripts that are in force with those of blocks (`GetBlockScriptFlags`)
+-- the script rules that are in force where these rules of blocks are (`GetBlockScriptFlags`)
 abbrev pub flags_of : InForce → Flags
 flags_of rules = record { dersig = rules.bip66; cltv = rules.bip65; csv = rules.csv }
 
@@ -52,7 +52,7 @@ abbrev pub IsConnectFault : Setting → Coins → List Tx → Triples → Option
 IsConnectFault s m txs triples found =
     IsBefore (first_broken (connect_rules s m txs)) (IsFirstRefused triples (script_checks s m txs)) found
 
--- no other rule is broken, and a script of the block comes to a signature of which nothing is known
+-- no other rule is broken, and a script of the block asks for a signature of which nothing is known
 pub record IsWantedByBlock (s : Setting) (m : Coins) (txs : List Tx) (known : Known) (t : Triple) : Type 0 where
   pub passes : first_broken (connect_rules s m txs) ≡ None
   pub script : Any (λ check. IsWanted known check.1 t) (script_checks s m txs)

@@ -1,4 +1,4 @@
--- Where a block stands.
+-- A block's place.
 use Rattle.std.specs.Prelude.{ℕ, ◌-◌, List, slice_index}
 use Rattle.rules.specs.declared.in_force.InForce.{InForce}
 use Rattle.rules.specs.Params.{at}

@@ -28,11 +28,11 @@ is_digit c = nat_le 48 c && nat_le c 57 || nat_le 97 c && nat_le c 102
 abbrev pub IsHex : List ℕ → List ℕ → Type 0
 IsHex word bytes = AllPass is_digit word × (decode_of word ≡ Ok bytes)
 
--- a word stands for bytes, `-` for none
+-- a word spells bytes, `-` none
 abbrev pub StandsFor : List ℕ → List ℕ → Type 0
 StandsFor word bytes = ((word ≡ codes "-") × (bytes ≡ [])) ⊎ IsHex word bytes
 
--- a word stands for a digest, in 64 digits
+-- a word spells a digest, in 64 digits
 abbrev pub IsDigest : List ℕ → List ℕ → Type 0
 IsDigest word digest = (length word ≡ 64) × IsHex word digest
 
@@ -60,7 +60,7 @@ pub record IsFirstBad (ls : List (List ℕ)) (n : ℕ) : Type 0 where
   pub readable : All IsReadable before
   pub bad : ¬ IsReadable line
 
--- why lines are no table; of want of memory nothing is said
+-- why lines are no table; of running out of memory nothing is said
 abbrev pub IsFaultOf : List (List ℕ) → TableFault → Type 0
 IsFaultOf ls (BadLine n) = IsFirstBad ls n
 IsFaultOf ls Memory = Unit {0}

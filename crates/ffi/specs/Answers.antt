@@ -101,7 +101,7 @@ IsAnswered (Some s) after c before told result =
     ((result ≡ 0) × IsTaken s after c told)
     ⊎ (IsNotTaken s after result × (told ≡ before))
 
--- a verdict is handed in
+-- a verdict is given
 pub record IsLearnt (s : SessionState) (after : Option SessionState) (t : Triple) (valid : Bool) (code : ℕ) : Type 0 where
   pub next : SessionState
   pub after_is : after ≡ Some next

@@ -17,7 +17,7 @@ pub record IsHeaderShown (h : Header) (id parent : Name) (result : ℕ) : Type 0
   pub id_is : id.bytes ≡ (block_identity.id_of h).0
   pub parent_is : parent.bytes ≡ h.prev.0
 
--- a header stands at the front, and is told; or none does, and nothing is written
+-- a header is at the front, and is given; or none is, and nothing is written
 abbrev pub IsHeaderTold : List ℕ → Name → Name → Type 0 → ℕ → Type 0
 IsHeaderTold bytes id parent kept result =
     ((h : Header) × (rest : List ℕ) × header.Lawful h × (bytes ≡ header.spell h ++ rest) × IsHeaderShown h id parent result)

@@ -22,7 +22,7 @@ pub record IsAgreed (tx : Tx) (input : ℕ) (spent : List ℕ) (flags : Flags) (
   pub told_is : told ≡ bit yes
   pub verdict : Under (verdict_in found) (λ triples. IsTrue yes ↔ Accepts tx input spent flags triples)
 
--- of a triple nothing is known, and the scripts come to it whatever else is valid
+-- of a triple nothing is known, and the scripts ask for it whatever else is valid
 pub record IsWanted (tx : Tx) (input : ℕ) (spent : List ℕ) (flags : Flags) (found : Verdicts) (t : Triple) : Type 0 where
   pub unknown : verdict_in found t ≡ None
   pub asked : Under (verdict_in found) (λ triples. Asks tx input spent flags triples t)

@@ -16,7 +16,7 @@ input_row i = record { id = record { bytes = i.prev.id.0 }; script = length i.sc
 abbrev pub output_row : TxOut → OutputRow
 output_row o = record { value = o.value; script = length o.script }
 
--- the scripts of the inputs, and then those of the outputs
+-- the scripts of the inputs, and then of the outputs
 abbrev pub input_scripts : List TxIn → List ℕ
 input_scripts inputs = flat_map (λ i. i.script) inputs
 

@@ -61,7 +61,7 @@ IsBlockTold bytes None told kept result =
 abbrev pub IsFaultTold : ReadFault → ℕ → Type 0
 IsFaultTold fault result = (result ≡ read_number fault) ⊎ (result ≡ 1)
 
--- what stands at the front of a blk file's bytes: a record, the end, or a fault; or there is no memory for the record
+-- what is at the front of a blk file's bytes: a record, the end, or a fault; or there is no memory for the record
 abbrev pub IsRecordTold : List ℕ → ℕ → ℕ → ℕ → Type 0
 IsRecordTold bytes before size result =
     ((block : List ℕ) × (after : List ℕ) × IsRecord block bytes after × (result ≡ 0) × (size ≡ length block))

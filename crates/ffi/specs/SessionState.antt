@@ -59,7 +59,7 @@ pub record KeepsRules (before after : SessionState) : Type 0 where
   pub triples : after.triples ≡ before.triples
 
 -- ---- a step that is none
--- signatures have to be found out first: of none of them a verdict is known, and a script comes to each. All else stays
+-- signatures have to be found out first: of none of them a verdict is known, and a script asks for each. All else stays
 pub record IsWanting (before after : SessionState) : Type 0 where
   pub wanted : List Triple
   pub after_is : after ≡ record before { wanted = wanted }

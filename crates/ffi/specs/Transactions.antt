@@ -12,7 +12,7 @@ use Rattle.ffi.specs.declared.shown.ShownTx.{ShownTx}
 use Rattle.ffi.specs.declared.shown.Start.{Start}
 use Rattle.ffi.specs.Refusals.{bit, broken_number}
 
--- the highest number of 64 bits stands for all above it
+-- the highest number of 64 bits is given for all above it too
 abbrev pub counted : ℕ → ℕ
 counted n = min n (2 ^ 64 - 1)
 
@@ -32,7 +32,7 @@ pub record ShowsTx (tx : Tx) (shown : ShownTx) : Type 0 where
 abbrev pub start_of : Start → LockStart
 start_of s = record { height = s.height; median = s.median }
 
--- a start stands for each input, and it is told whether all locks are met; or the numbers differ
+-- there is a start for each input, and the answer is whether all locks are met; or the numbers differ
 abbrev pub AreLocksTold : Tx → List Start → ℕ → ℕ → ℕ → Type 0 → ℕ → Type 0
 AreLocksTold tx starts height cutoff met kept result =
     ((length starts ≡ length tx.inputs) × (result ≡ 0) × (met ≡ bit (are_met tx (map start_of starts) height cutoff)))

@@ -1,4 +1,4 @@
--- Which signatures scripts come to, as relations: those of `Rules`, up to a signature that is asked for (Bitcoin Core's
+-- Which signatures scripts ask for, as relations: those of `Rules`, up to a signature that is asked for (Bitcoin Core's
 -- calls of `CheckSig`).
 use Rattle.std.specs.Prelude.{◌≡◌, ◌⊎◌, ℕ, ◌<◌, ◌≤◌, List, [], ◌∷◌, ◌++◌, length, true, false, Option, None, Some, IfSome, slice_get}
 use Rattle.std.specs.Box.{box_value}
@@ -63,7 +63,7 @@ StepAsks p (number ∷ bytes) s t = (counted : State) × Counts number s counted
     × (is_executing counted ≡ true) × RowAsks p (row_of (number ∷ bytes)) counted t
 
 -- ---- a script
--- one of some opcodes, behind which stands what is left of the script, or the first of them goes through and one of the
+-- one of some opcodes, behind which is what is left of the script, or the first of them goes through and one of the
 -- others asks
 abbrev pub StepsAsk : Spending → List ℕ → List (List ℕ) → State → Triple → Type 0
 StepsAsk p left [] s t = ⊥

@@ -1,4 +1,4 @@
--- What elements stand for: truths (Bitcoin Core's `CastToBool`), and numbers.
+-- What elements mean: truths (Bitcoin Core's `CastToBool`), and numbers.
 use Rattle.std.specs.Prelude.{◌==◌, [], ◌∷◌, Bool, true, false, not, ◌||◌, ◌&&◌, pos, ℤ}
 use Rattle.interp.specs.Stack.{Bytes}
 

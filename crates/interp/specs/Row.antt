@@ -19,7 +19,7 @@ use Rattle.interp.specs.Timelocks.{locks_until, locks_for}
 -- what is done to the main stack alone
 pub data Effect : Type 0 where
   Puts : Bytes → Effect
-  -- takes so many elements; in their place come those of these numbers, where 0 is the lowest
+  -- takes so many elements; in their place come the ones of these numbers, where 0 is the lowest
   Moves : ℕ → List ℕ → Effect
   -- takes the top, or the two on top, the lower first; leaves others in their place, the lowest first, or fails
   One : (Bytes → Option (List Bytes)) → Effect
@@ -191,7 +191,7 @@ rows =
     ∷ (0xb2, Asks (λ flags. flags.csv) (λ p n. locks_for p.tx p.input n))  -- OP_CHECKSEQUENCEVERIFY
     ∷ []
 
--- an opcode that stands in no row fails
+-- an opcode without a row fails
 abbrev pub row_among : List (ℕ × Row) → ℕ → Row
 row_among [] number = Fails
 row_among (row ∷ others) number = if number == row.0 then row.1 else row_among others number

@@ -193,7 +193,7 @@ AcceptsInner p script left =
     (is_push_only script ≡ true) × ((inner : Bytes) × (others : Stack) × (left ≡ inner ∷ others) × RunsToTrue p inner others)
 
 -- the input script runs from an empty stack; the spent script, on the stack that it left, ends with a true top; and
--- so does the inner script, where the spent script is that of BIP 16
+-- so does the inner script, where the spent script is BIP 16's
 abbrev pub Accepts : Tx → ℕ → List ℕ → Flags → Triples → Type 0
 Accepts tx input spent flags triples =
     let p = spending_of tx input flags triples in

@@ -26,7 +26,7 @@ pieces_of signatures = map push_of signatures ++ (0xab ∷ []) ∷ []
 abbrev pub signed_code : List ℕ → List Bytes → List ℕ
 signed_code code signatures = without (pieces_of signatures) code
 
--- the last byte of a signature is its type; what stands before it is the signature proper
+-- the last byte of a signature is its type; the bytes before it are the signature proper
 abbrev pub type_of : Bytes → ℕ
 type_of signature = slice_index signature (length signature - 1)
 

@@ -19,7 +19,7 @@ stack_with (x ∷ xs) rest = stack_with xs (x ∷ rest)
 abbrev pub nth : List Bytes → ℕ → Bytes
 nth xs k = slice_index_or xs k []
 
--- n elements lie on a rest; in their place come those of these numbers, where the lowest of the n is number 0
+-- n elements lie on a rest; in their place come the ones of these numbers, where the lowest of the n is number 0
 pub record Rearranges (n : ℕ) (left : List ℕ) (old new : Stack) : Type 0 where
   pub taken : List Bytes
   pub rest : Stack

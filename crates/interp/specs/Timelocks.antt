@@ -21,7 +21,7 @@ unfoldable pub locks_until : Tx → ℕ → ℕ → Bool
 locks_until tx input n =
     is_same (is_height n) (is_height tx.lock_time) && nat_le n tx.lock_time && not (sequence_of tx input == sequence_final)
 
--- the low 16 bits of one aren't above those of the other, and bit 22 is the same in both
+-- the low 16 bits of one aren't above the other's, and bit 22 is the same in both
 unfoldable pub is_as_long : ℕ → ℕ → Bool
 is_as_long n sequence = (bit_at n 22 == bit_at sequence 22) && nat_le (n % 2 ^ 16) (sequence % 2 ^ 16)
 

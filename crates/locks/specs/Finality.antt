@@ -1,4 +1,4 @@
--- Finality: whether the time has come before which a transaction asks to stand in no block.
+-- Finality: whether the time has come before which a transaction asks to be in no block.
 use Rattle.std.specs.Prelude.{ℕ, ◌==◌, ◌||◌, Bool, nat_lt, if◌then◌else◌}
 use Rattle.std.specs.List.{list_all}
 use Rattle.txn.specs.declared.tx.Tx.{Tx}

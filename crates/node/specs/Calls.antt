@@ -10,7 +10,7 @@ use Rattle.node.specs.declared.fault.Fault.{Fault}
 use Rattle.node.specs.declared.fault.Fault.TheVariants.{Memory, Owed, Closed}
 use Rattle.node.specs.Pass.{Pass, IsWrite, IsNoStep, owed_entry}
 
--- the reply of a step stands in the history; bytes that are no block stand nowhere
+-- the reply of a step is in the history; bytes that are no block are nowhere in it
 abbrev pub IsSubmitAnswer : Pass → Pass → List ℕ → ℕ → ℕ → SubmitReply → Type 0
 IsSubmitAnswer p q bytes now at DecodeFailed = (block_of_bytes bytes ≡ None) × IsNoStep p q at
 IsSubmitAnswer p q bytes now at value = IsWrite p q (command.Submit bytes now) at (reply.Submit value)

@@ -17,7 +17,7 @@ pub record Pass : Type 0 where
   pub seen : List Entry
   pub mine : List Entry
 
--- a beginning of a history, as one seat tells it another
+-- a beginning of a history, as one seat gives it to another
 pub record Heard : Type 0 where
   pub origin : Origin
   pub seen : List Entry
@@ -60,7 +60,7 @@ up_to_last_answered (e ∷ es) = if all_owed (e ∷ es) then [] else e ∷ up_to
 abbrev pub IsOwn : Pass → Type 0
 IsOwn p = IsPrefix (up_to_last_answered p.mine) (own_of p.number p.seen)
 
--- the step stands last in what the seat has then seen, with this reply, and the seat's entries are its own
+-- the step is the last that the seat has then seen, with this reply, and the seat's entries are its own
 pub record IsWrite (p q : Pass) (command : Command) (at : ℕ) (reply : Reply) : Type 0 where
   pub last : let e = entry_of p.number command (Some reply) in
       (before : List Entry) × (q.seen ≡ before ++ e ∷ []) × IsPrefix p.seen before

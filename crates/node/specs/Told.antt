@@ -7,7 +7,7 @@ use Rattle.tree.specs.Tips.{tip_of_id}
 use Rattle.view.specs.Origin.{Origin, machine}
 use Rattle.node.specs.declared.answer.UnspentOutput.{UnspentOutput}
 
--- a coin and how many blocks confirm it, as a seat tells them
+-- a coin and how many blocks confirm it, as a seat reads them
 abbrev pub unspent_output : Coin × ℕ → UnspentOutput
 unspent_output (coin, confirmations) = record {
   value = coin.value;
@@ -17,10 +17,10 @@ unspent_output (coin, confirmations) = record {
   confirmations = confirmations;
 }
 
--- the output at an outpoint, as a seat tells it, where it isn't spent
+-- the output at an outpoint, as a seat reads it, where it isn't spent
 abbrev pub output_at : (o : Origin) → OutPoint → (machine o).State → Option UnspentOutput
 output_at o at s = option_map unspent_output ((machine o).coin s at)
 
--- the tips, as a seat tells them
+-- the tips, as a seat reads them
 abbrev pub shown_tips : (o : Origin) → (machine o).State → List Tip
 shown_tips o s = map tip_of_id ((machine o).tips s)

@@ -98,15 +98,15 @@ IsFirstFailure triples jobs (Some least) = FailsAt triples jobs least × ((place
 
 -- ---- where there is no answer
 
--- of a triple nothing is known, and the question comes to it under every set that agrees
+-- of a triple nothing is known, and the question asks for it under every set that agrees
 abbrev pub IsWanted : Known → Question → Triple → Type 0
 IsWanted known q t = (known t ≡ None) × Under known (λ triples. Asks q.tx q.input q.spent q.flags triples t)
 
--- one of these jobs comes to it
+-- one of these jobs asks for it
 abbrev pub IsWantedIn : Known → List Job → Triple → Type 0
 IsWantedIn known jobs t = Any (λ job. IsWanted known (question_of job) t) jobs
 
--- there are signatures to find out first, and this holds of each; of want of memory nothing is said
+-- there are signatures to find out first, and this holds of each; of running out of memory nothing is said
 abbrev pub IsUndecided : (Triple → Type 0) → Undecided → Type 0
 IsUndecided Wanted Memory = Unit {0}
 IsUndecided Wanted (Unknown unknown) = (0 < length unknown.items) × All Wanted unknown.items

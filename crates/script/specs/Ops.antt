@@ -26,7 +26,7 @@ abbrev pub op_len : List ℕ → Option ℕ
 op_len [] = None
 op_len (number ∷ bytes) = option_and_then (within bytes) (operand_len number bytes)
 
--- the opcode at the front, and those of what follows it
+-- the opcode at the front, and the ones of what follows it
 abbrev pub cut_first : (List ℕ → List (List ℕ)) → List ℕ → Option ℕ → List (List ℕ)
 cut_first others bytes None = []
 cut_first others bytes (Some len) = take len bytes ∷ others (drop len bytes)

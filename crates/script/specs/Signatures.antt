@@ -31,7 +31,7 @@ sigops counting script = sigops_after counting 0xff (ops script)
 unfoldable pub last_pushed : List ℕ → List ℕ
 last_pushed script = fold (λ _ op. pushed_of op) [] (ops script)
 
--- BIP 16: those of the inner script, which is what the input script pushes last
+-- BIP 16: the operations of the inner script, which is what the input script pushes last
 unfoldable pub p2sh_sigops : List ℕ → List ℕ → ℕ
 p2sh_sigops input spent =
     if is_p2sh spent && is_push_only input then sigops Accurate (last_pushed input) else 0

@@ -122,7 +122,7 @@ about refusal.Owed = no_members
 about refusal.Closed = no_members
 about refusal.Unsaved = no_members
 
--- its code, without the minus: those of JSON-RPC, and from 32001 on those of a node
+-- its code, without the minus: JSON-RPC's, and from 32001 on a node's
 abbrev pub code_of : Refusal → ℕ
 code_of refusal.Parse = 32700
 code_of refusal.TooLong = 32600

@@ -26,7 +26,7 @@ IsJson line j = IsUtf8 line × (document line ≡ Some j)
 
 -- ---- parameters
 
--- where there are any, they stand in an object
+-- where there are any, they are in an object
 abbrev pub AreNamed : Option Json → Type 0
 AreNamed None = ⊤
 AreNamed (Some null) = ⊥

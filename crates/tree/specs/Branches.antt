@@ -4,7 +4,7 @@ use Rattle.std.specs.Prelude.{ℕ, zero, suc, ◌==◌, Bool, if◌then◌else�
 use Rattle.std.specs.List.{list_any}
 use Rattle.tree.specs.Naming.{Naming}
 
--- a kept block, and the place of the block that it stands on
+-- a kept block, and the place of its parent
 pub record Kept (B : Type 0) : Type 0 where
   pub block : B
   pub parent : ℕ
@@ -56,7 +56,7 @@ module _ {B : Type 0} where
   unfoldable pub height : Blocks B → ℕ → ℕ
   height t p = length (before t p)
 
-  -- the place of the block that p stands on; 0 for genesis
+  -- the place of the parent of p; 0 for genesis
   unfoldable pub parent_at : Blocks B → ℕ → ℕ
   parent_at t p = first_of (before t p)
 

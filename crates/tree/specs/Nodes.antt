@@ -15,11 +15,11 @@ abbrev pub after_first : {A : Type 0} → List A → List A
 after_first [] = []
 after_first (x ∷ xs) = xs
 
--- the first node is that of genesis
+-- the first node is genesis
 unfoldable pub blocks_of : List Node → Blocks Block
 blocks_of nodes = reverse (map kept_of (after_first nodes))
 
--- where no mark stands
+-- where there is no mark
 abbrev pub blank : Mark
 blank = record { bad = false; seen = false; usable = false; rank = 0 }
 

@@ -26,7 +26,7 @@ sort_places first [] = []
 sort_places first (p ∷ ps) = put_in first p (sort_places first ps)
 
 module _ {B : Type 0} where
-  -- the active block, or one on which no other stands
+  -- the active block, or one without a child
   unfoldable pub is_tip : Blocks B → ℕ → ℕ → Bool
   is_tip t a p = (p == a) || not (list_any (λ k. k.parent == p) t)
 
@@ -54,6 +54,6 @@ module _ {B I : Type 0} (names : Naming B I) where
   unfoldable pub tips : State B → ℕ → List (TipOf I)
   tips s a = map (tip s a) (sort_places (goes_first s.blocks) (filter (is_tip s.blocks a) (places s.blocks)))
 
--- as the program tells it
+-- as the program gives it
 abbrev pub tip_of_id : TipOf Id → Tip
 tip_of_id t = record { id = t.id; height = t.height; length = t.length; status = t.status }

@@ -14,7 +14,7 @@ use Rattle.txn.specs.First.{Rules}
 abbrev pub max_money : ℤ
 max_money = pos (21000000 * 100000000)
 
--- one outpoint stands at two places
+-- one outpoint is at two places
 abbrev pub has_twice : List OutPoint → Bool
 has_twice [] = false
 has_twice (p ∷ ps) = list_any (same_outpoint p) ps || has_twice ps

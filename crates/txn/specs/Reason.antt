@@ -37,7 +37,7 @@ number_of InputsBelowOutputs = 27
 number_of CoinbaseAmount = 28
 number_of (ScriptRefused t i) = 29
 
--- as it is printed: Bitcoin Core's text, but for those of BadVersion and ScriptRefused
+-- as it is printed: Bitcoin Core's text, but for BadVersion's and ScriptRefused's
 abbrev pub text_of : Reason → List ℕ
 text_of HighHash = codes "high-hash"
 text_of BadMerkleRoot = codes "bad-txnmrklroot"

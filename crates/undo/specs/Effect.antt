@@ -12,7 +12,7 @@ use Rattle.script.specs.Kinds.{is_unspendable}
 use Rattle.coins.specs.declared.coin.Coin.{Coin}
 use Rattle.coins.specs.Coins.{Coins, same}
 
--- the outpoints that a transaction spends: those of its inputs, and none of a coinbase
+-- the outpoints that a transaction spends: its inputs' ones, and none of a coinbase
 abbrev pub spends : Tx → List OutPoint
 spends tx = if is_coinbase tx then [] else prevs tx.inputs
 

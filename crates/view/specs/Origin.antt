@@ -6,7 +6,7 @@ use Rattle.rules.specs.declared.params.Params.{Params}
 use Rattle.chain.specs.Machine.{Machine}
 use Rattle.chain.specs.Chainstate.{chainstate}
 
--- the book that the history stands in, the heights of soft forks, the valid signatures, and how many seats there are
+-- the book that the history is in, the heights of soft forks, the valid signatures, and how many seats there are
 pub record Origin : Type 0 where
   pub book : Book
   pub params : Params

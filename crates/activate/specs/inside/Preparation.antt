@@ -152,7 +152,7 @@ pub record TryLeads (r : Rules Block Id) (a b : CoreState) (p : ℕ) (move : Reo
 unfoldable pub reply_to_failed_try : FailedTry → SubmitReply
 reply_to_failed_try failed = if failed.passed + 1 == length failed.path.up.items then Rejected failed.reason else Inconclusive
 
--- ---- what a command comes to
+-- ---- what a command does
 
 -- b is a before the command, with what preparing it did to the tree; the coins and the state that the command leaves are
 -- those after the rest is put in place

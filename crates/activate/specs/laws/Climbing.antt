@@ -35,7 +35,7 @@ use Rattle.chain.specs.laws.Candidates.{valid_gives}
 use Rattle.chain.specs.laws.Coins.{length-blocks, length-older, step-up, fault-parent}
 use Rattle.activate.specs.laws.Fork.{setting_at, connected-at}
 
--- ---- where the next block stands
+-- ---- the place of the next block
 
 -- the last of the medians by height is that of the highest block
 last-median : (bs : List Block) → 0 < length bs → get_or (reverse (medians_of bs)) (length (reverse (medians_of bs)) - 1) 0 ≡ median_time_past bs
