@@ -1,6 +1,6 @@
 /*
  * The calls that users make. This file is trusted: nothing proves it. It tests what C hands in, names chainstates by
- * numbers, lets one call at a time into each, keeps a copy of the blocks, and goes over those of the active branch for
+ * numbers, lets one call at a time into each, keeps a copy of the blocks, and goes over the active branch's for
  * the coins; the work is done by the proved functions ffi_*, of crates/ffi.
  *
  * What it owes them: each pointer points to what its type says and to nothing that another argument points to; a slot
@@ -71,7 +71,7 @@ struct block {
 /* Reasons that a block may be refused for over the coins: these two, and all from the third on. */
 enum { BAD_BLK_SIGOPS = 15, BAD_TXNS_NONFINAL = 22, BAD_TXNS_BIP30 = 24 };
 
-/* Blocks by their ids: each stands where the first bytes of its id say, or in the next place that was free. `room` is 0
+/* Blocks by their ids: each is where the first bytes of its id say, or in the next place that was free. `room` is 0
  * or a power of two, and at most half of the places are taken. */
 struct blocks {
     struct block *places;
@@ -106,7 +106,7 @@ static wakotehu_code leave(wakotehu_handle handle, uint32_t code) {
     return (wakotehu_code)code;
 }
 
-/* ---- what is handed in */
+/* ---- what the caller gives */
 
 static const uint8_t no_bytes[1];
 
@@ -115,7 +115,7 @@ static bool readable(const void *bytes, size_t length) { return (bytes || !lengt
 
 /* ---- the copies of blocks */
 
-/* The place where a block of this id stands, or would stand. */
+/* The place where a block of this id is, or would be. */
 static struct block *place_in(const struct blocks *blocks, const uint8_t *id) {
     size_t at;
     memcpy(&at, id, sizeof at);

@@ -11,7 +11,7 @@
  *     can't be tested. What a call writes and what it reads may not overlap.
  *   - WAKOTEHU_MEMORY: there was no memory, and nothing changed.
  *   - Where a call doesn't answer WAKOTEHU_OK, what its pointers lead to stays as it was, but for what is said of a code.
- *   - All memory that is handed in stays the caller's. The library hands out none: there is nothing to free but the
+ *   - All memory that the caller gives stays the caller's. The library hands out none: there is nothing to free but the
  *     handle, by wakotehu_close.
  *   - An id is 32 bytes in the order in which they are hashed and sent; programs print them the other way round.
  *   - Moments are seconds since 1970, values are satoshis.
@@ -54,7 +54,7 @@ typedef enum {
     WAKOTEHU_FOREIGN = 26,  /* no record of a blk file, and not zero bytes alone */
     WAKOTEHU_CUT = 27,      /* the record ends early */
     WAKOTEHU_TOO_LONG = 28, /* the record says a length above 33,554,432 */
-    WAKOTEHU_UNKNOWN = 29,  /* the scripts come to a signature of which nothing is known */
+    WAKOTEHU_UNKNOWN = 29,  /* the scripts ask for a signature of which nothing is known */
     WAKOTEHU_CONTRADICTION = 30, /* one signature is said to be valid and not to be */
     WAKOTEHU_WANTS = 31     /* signatures have to be found out first: see wakotehu_open_by_need */
 } wakotehu_code;
@@ -67,7 +67,7 @@ typedef struct {
     uint32_t bip34, bip65, bip66, csv;
 } wakotehu_heights;
 
-/* What a command came to. */
+/* The reply to a command. */
 typedef enum {
     WAKOTEHU_ACCEPTED = 1,               /* the block is the active one */
     WAKOTEHU_INCONCLUSIVE = 2,           /* the block is kept, and another is the active one */
@@ -123,7 +123,7 @@ typedef struct {
 wakotehu_code wakotehu_open(wakotehu_handle *handle, const wakotehu_heights *heights, const char *table,
                             size_t length, uint64_t *line);
 
-/* The same, but no table says which signatures are valid: they are found out by need. A command whose scripts come to
+/* The same, but no table says which signatures are valid: they are found out by need. A command whose scripts ask for
  * signatures of which nothing is known is answered WAKOTEHU_WANTS. It is no command then: nothing has changed. The caller
  * asks by wakotehu_wants for all at which a script of the block stops, finds out whether they are valid, hands the
  * verdicts in by wakotehu_learn, and makes the same call again. No verdict changes a reply that was given. */
@@ -188,7 +188,7 @@ wakotehu_code wakotehu_block(wakotehu_handle handle, const uint8_t *id, uint8_t 
 typedef int (*wakotehu_coin_call)(void *context, const uint8_t *id, uint32_t index, const wakotehu_coin *coin,
                                   const uint8_t *script);
 
-/* Calls `call` once for each coin: those of the highest block first, then by the order of its outputs. `context` is
+/* Calls `call` once for each coin: the highest block's first, then by the order of its outputs. `context` is
  * handed on. Where there is no memory, WAKOTEHU_MEMORY is answered, and some coins may have been told. It reads the
  * blocks of the active branch again, so it takes about as long as submitting them. */
 wakotehu_code wakotehu_coins(wakotehu_handle handle, wakotehu_coin_call call, void *context);
@@ -311,7 +311,7 @@ wakotehu_code wakotehu_block_transactions(const uint8_t *bytes, size_t length, w
 wakotehu_code wakotehu_block_place(const uint8_t *bytes, size_t length, uint32_t height, uint32_t median, uint64_t now,
                                    const wakotehu_heights *heights, uint32_t *reason);
 
-/* How many bytes the block has of the record at the front of a blk file's bytes; it stands behind the record's first 8.
+/* How many bytes the block has of the record at the front of a blk file's bytes, behind the record's first 8.
  * WAKOTEHU_NONE at the end: zero bytes alone. */
 wakotehu_code wakotehu_record(const uint8_t *bytes, size_t length, uint64_t *block);
 
@@ -359,7 +359,7 @@ wakotehu_code wakotehu_verify(const uint8_t *bytes, size_t length, uint64_t inpu
  * wakotehu_table_add puts it behind a table: find out whether it is valid, put the line behind one table or the other, and
  * call again. `needed` is how many bytes the line has, at most WAKOTEHU_MOST_ASKED; where `room` is less, nothing is
  * written there, and the answer is WAKOTEHU_TOO_SMALL. WAKOTEHU_CONTRADICTION: a triple is in both tables.
- * WAKOTEHU_BAD_TABLE: `line` is that of the first table or, where that can be read, of the second; may be null. */
+ * WAKOTEHU_BAD_TABLE: `line` is of the first table or, where that can be read, of the second; may be null. */
 wakotehu_code wakotehu_verify_known(const uint8_t *bytes, size_t length, uint64_t input, const uint8_t *spent,
                                     size_t spent_length, const wakotehu_flags *flags, const char *valid,
                                     size_t valid_length, const char *invalid, size_t invalid_length, uint64_t *line,

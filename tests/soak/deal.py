@@ -1,4 +1,4 @@
-"""Scenarios by chance: blocks on any recent block, and what many clients ask of them."""
+"""Random scenarios: blocks on any recent block, and what many clients ask of them."""
 
 from __future__ import annotations
 

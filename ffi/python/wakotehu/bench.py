@@ -24,7 +24,7 @@ class Entry(NamedTuple):
 class Bench(Walks):
     """A chainstate of real signatures, which libsecp256k1 finds out as they are asked for.
 
-    Where the scripts of a block come to signatures of which nothing is known, the chainstate takes no step and names
+    Where the scripts of a block ask for signatures of which nothing is known, the chainstate takes no step and names
     them; libsecp256k1 says whether they are valid, and the block comes again. A verdict never changes, and no reply that
     was given depends on one that came later: both are proved. Blocks that break a rule by themselves or by their place
     run no script.
@@ -65,7 +65,7 @@ class Bench(Walks):
         return len(self._table)
 
     def table_from(self, place: int) -> bytes:
-        """What stands in `table` from a place on."""
+        """The bytes of `table` from a place on."""
         return bytes(self._table[place:])
 
     def __reduce_ex__(self, protocol: object) -> NoReturn:

@@ -56,7 +56,7 @@ class Tip(NamedTuple):
 
 
 class Reply(NamedTuple):
-    """What a command came to, in the words of the program: "accepted", "bad-cb-amount", "blk-bad-inputs 1:0", .."""
+    """The reply to a command, in the words of the program: "accepted", "bad-cb-amount", "blk-bad-inputs 1:0", .."""
 
     text: str
     reply: str
@@ -85,7 +85,7 @@ class Chainstate:
     heights: from which heights BIPs 34, 65, 66 and 68 with 112 and 113 are in force.
     table: the valid signatures, as lines of a key, a signature without its hash type and a digest, in hexadecimal and
         parted by spaces. No other signature is valid.
-    by_need: no table says which are valid. A command whose scripts come to signatures of which nothing is known raises
+    by_need: no table says which are valid. A command whose scripts ask for signatures of which nothing is known raises
         `Wants`, and is none; `learn` hands in what was found out, and the command is made again. `Bench` does so.
 
     Ids are bytes in the order in which they are hashed; `show` prints them as everywhere. One thread at a time may be
@@ -240,7 +240,7 @@ class Chainstate:
         return Coin(coin.value, script.raw[: coin.script], coin.height, bool(coin.coinbase))
 
     def coins(self) -> List[Tuple[bytes, int, Coin]]:
-        """All coins, as the id of a transaction, an output's number, and the coin: those of the highest block first.
+        """All coins, as the id of a transaction, an output's number, and the coin: the highest block's first.
 
         An exception, Ctrl-C too, ends the walk and is raised.
         """

@@ -500,7 +500,7 @@ def verify_known(
     valid: Union[str, bytes, Table] = b"", invalid: Union[str, bytes, Table] = b"",
 ) -> Union[bool, Triple]:  # fmt: skip
     """The same where the signatures of one table are valid, those of another aren't, and of all others nothing is known:
-    the verdict, whatever else is valid; or a triple that the scripts come to, and of which nothing is known. A triple in
+    the verdict, whatever else is valid; or a triple that the scripts ask for, and of which nothing is known. A triple in
     both tables raises `Refused`."""
     line, yes, needed = c_uint64(), c_uint32(), c_uint64()
     room = ctypes.create_string_buffer(_MOST_ASKED)

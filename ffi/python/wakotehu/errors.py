@@ -31,7 +31,7 @@ class Owed(Error):
 
 
 class BadRequest(Error):
-    """A node didn't take a request. `code` and `data` are those of docs/SERVE.md."""
+    """A node didn't take a request. `code` and `data` are in docs/SERVE.md."""
 
     def __init__(self, code: int, message: str, data: Optional[str] = None) -> None:
         super().__init__(f"{message} ({code})" + (f": {data}" if data else ""))
@@ -241,7 +241,7 @@ _KINDS: List[Type[Rejected]] = [
     BadTxnsPrematureSpendOfCoinbase, BadTxnsInBelowout, BadCbAmount, BlkBadInputs,
 ]  # fmt: skip
 
-#: The reasons by their numbers; "" stands at 0.
+#: The reasons by their numbers; "" is at 0.
 REASONS: List[str] = ["", *(kind.reason for kind in _KINDS)]
 
 #: The exception of each reason.

@@ -19,7 +19,7 @@ class Kept(NamedTuple):
 
 
 class Index:
-    """Blocks by their ids, the active branch by heights, and where each transaction stands.
+    """Blocks by their ids, the active branch by heights, and where each transaction is.
 
     A block's parent has to be there before it. The active branch is moved by `follow`, in as many steps as blocks leave
     it and come.

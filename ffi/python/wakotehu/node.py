@@ -371,7 +371,7 @@ class Node:
     """A node of 1 to 16 seats in a process of its own.
 
     seats, workers: 1 to 16 each; so many threads check a block's scripts.
-    heights: from which heights BIPs 34, 65, 66 and 68 with 112 and 113 are in force; those of regtest by default.
+    heights: from which heights BIPs 34, 65, 66 and 68 with 112 and 113 are in force; regtest's by default.
     table: the valid signatures, as lines of a key, a signature without its hash type and a digest, in hexadecimal and
         parted by spaces. No other signature is valid.
     program: the program's path; see `program_path`.

@@ -18,7 +18,7 @@ SEATS = 16
 
 
 class Pool(Walks):
-    """What `Bench` has, over the seats of a `Node`. No signatures are valid but those of the table.
+    """What `Bench` has, over the seats of a `Node`. No signatures are valid but the table's.
 
     A thread has a seat from its first call until `leave`; where all are taken it shares the one that the fewest threads
     have. Who calls holds `turn`, and it is let go while the node answers: so a read waits for no submission of another

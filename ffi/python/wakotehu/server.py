@@ -1,5 +1,5 @@
 """A server on the loopback that answers the calls of bitcoind's JSON-RPC: over a `Bench`, with real signatures, or over
-the seats of a `Node`, where the valid signatures are handed in.
+the seats of a `Node`, where a table has the valid signatures.
 
     wakotehu-server -datadir=/tmp/bench
     wakotehu-server -table=/tmp/signatures
@@ -110,7 +110,7 @@ def _parser() -> _Parser:
 def _given(words: Sequence[str]) -> argparse.Namespace:
     parser = _parser()
     if any(word.lstrip("-").partition("=")[0] == "port" and not word.startswith("--") for word in words):
-        parser.error("-port is that of bitcoind's peers, of which there are none here: -rpcport is the server's")
+        parser.error("-port is for bitcoind's peers, of which there are none here: -rpcport is the server's")
     given = parser.parse(words)
     if given.rpcpassword is not None:
         parser.error("-rpcpassword would be shown by ps: put it into the file of -conf or into WAKOTEHU_RPCPASSWORD")

@@ -137,7 +137,7 @@ class Peer:
     # ---- what is asked of it
 
     def submit(self, block: bytes) -> str:
-        """What a submission came to, in its words; "accepted" for null."""
+        """The reply to a submission, in its words; "accepted" for null."""
         answer = self.try_calls([("submitblock", [block.hex()])])[0]
         if isinstance(answer, PeerError):
             if answer.code == -22:

@@ -35,7 +35,7 @@ class Gate:
         self._salted.append([user, salt, digest])
 
     def lets_in(self, header: Optional[str]) -> bool:
-        """Whether an HTTP header `Authorization` is that of a known user. It takes the same time for any wrong one."""
+        """Whether an HTTP header `Authorization` is a known user's. It takes the same time for any wrong one."""
         if self.anyone:
             return True
         if header is None or not header.startswith("Basic ") or len(header) > 4096:
@@ -55,7 +55,7 @@ class Gate:
 
 def write_cookie(path: str) -> str:
     """Writes a new password to a file that its owner alone can read, and answers it. The file is made anew under another
-    name, then renamed: no link that stands there is followed."""
+    name, then renamed: no link that is there is followed."""
     password = secrets.token_hex(32)
     number, made = tempfile.mkstemp(prefix=".cookie.", dir=os.path.dirname(path))
     try:

@@ -57,7 +57,7 @@ def setmocktime(node: Node, timestamp: Any) -> None:
 
 @call("Wallet", "label", "address_type")
 def getnewaddress(node: Node, label: Any, address_type: Any) -> str:
-    """An address for bitcoin-cli's -generate. There is no wallet: it is that of the script 51, which anyone spends."""
+    """An address for bitcoin-cli's -generate. There is no wallet: it is the address of the script 51, which anyone spends."""
     return address(SCRIPT_PREFIX, hash160(b"\x51"))
 
 
@@ -88,7 +88,7 @@ def getrawmempool(node: Node, verbose: Any, mempool_sequence: Any) -> Any:
 
 @call("Network")
 def getnetworkinfo(node: Node) -> Object:
-    """The state of the network: there are no peers. The version is that of Bitcoin Core whose answers these are."""
+    """The state of the network: there are no peers. The version is of the Bitcoin Core whose answers these are."""
     return {
         "version": 210000,
         "subversion": f"/Wakotehu:{__version__}/",

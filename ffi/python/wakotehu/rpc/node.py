@@ -52,7 +52,7 @@ class Node:
 
     @contextmanager
     def making(self) -> Iterator[None]:
-        """One call at a time makes a block, so that each stands on the one before."""
+        """One call at a time makes a block, so that each is a child of the one before."""
         while self._is_making:
             self.turn.wait()
         self._is_making = True
