@@ -1,14 +1,17 @@
 //! A transaction of many inputs, each of which is signed by itself.
 
+ghost use Rattle.std.specs.Prelude.{◌≡◌};
+
 use crate::check::Check;
 use crate::fault::Fault;
 use crate::filling::Filling;
 use crate::scripts::accepted;
-use crate::spends::{digest, key, put_push, put_signature, signature};
+use crate::spends::{ALL, digest, key, put_push, put_signature, signature};
 use crate::timing::Outcome;
 use curve::Table;
 use hash::Id;
 use interp::{Flags, Job};
+use sighash::Midstates;
 use std::alloc::Global;
 use std::rt::Clock;
 use std::time::Instant;
@@ -43,10 +46,19 @@ pub fn digests<R: AllocGlobal + Clock>(rt: &R, size: usize) -> Result<Outcome, F
     let code = [OP_CHECKSIG; 25];
     let mut last = [0; 32];
     let begin = Instant::now(rt)?;
+    let midstates = Midstates::of(rt.alloc(), &tx)?;
     for number in 0..size {
-        last = digest(&tx, number % 1000, code.as_slice());
+        last = shared_digest(&midstates, number % 1000, code.as_slice());
     }
     Outcome::since(rt, begin, Check::Digest(last))
+}
+
+/// What a signature of an input signs, by ALL. Where there is no such input, zeros.
+fn shared_digest(midstates: &Midstates, input: usize, code: &[u8]) -> [u8; 32] {
+    if input < midstates.tx.inputs.len() {
+        return midstates.digest(input, &[code], u32::from(ALL));
+    }
+    [0; 32]
 }
 
 const OP_CHECKSIG: u8 = 0xac;
@@ -89,7 +101,13 @@ impl Signed {
     }
 
     /// A job for each input.
-    fn jobs(&self, alloc: Global) -> Result<Vec<Job<'_>>, Memory> {
+    fn jobs<'a>(
+        &'a self,
+        alloc: Global,
+        midstates: &'a Midstates<'a>,
+    ) -> Result<Vec<Job<'a>>, Memory>
+        requires { midstates.now.tx.now ≡ self.now.tx.now }
+    {
         let mut jobs = Vec::with_capacity(alloc, self.tx.inputs.len())?;
         for input in 0..self.tx.inputs.len() {
             jobs.push(Job {
@@ -97,6 +115,7 @@ impl Signed {
                 input,
                 spent: self.spent.as_slice(),
                 flags: Flags::ALL,
+                midstates: Some(midstates),
             })?;
         }
         Ok(jobs)
@@ -115,8 +134,9 @@ fn to_key(alloc: Global, key: &[u8; 33]) -> Result<Vec<u8>, Memory> {
 pub fn each_input<R: AllocGlobal + Clock>(rt: &R, size: usize) -> Result<Outcome, Fault> {
     let signed = Signed::new(rt.alloc(), size)?;
     let table = signed.table(rt.alloc())?;
-    let jobs = signed.jobs(rt.alloc())?;
     let begin = Instant::now(rt)?;
+    let midstates = Midstates::of(rt.alloc(), &signed.tx)?;
+    let jobs = signed.jobs(rt.alloc(), &midstates)?;
     let count = accepted(rt.alloc(), jobs.as_slice(), &table)?;
     Outcome::since(rt, begin, Check::Count(count))
 }
