@@ -12,7 +12,7 @@ use std::rt::Files;
 use std::time::Clock;
 
 /// The outcome of an audit.
-#[derive(Clone, Copy, Debug)]
+#[derive(Clone, Copy)]
 pub struct Audited {
     pub finding: Finding,
     /// The reply that the line should have which differs.

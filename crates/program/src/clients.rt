@@ -15,7 +15,7 @@ use std::thread::Threads;
 pub const BLK_MOMENT: u64 = 4_294_967_295;
 
 /// Why a client ends before its commands do.
-#[derive(Clone, Copy, Debug)]
+#[derive(Clone, Copy)]
 pub enum Ended {
     /// There was no memory for an answer.
     Memory,

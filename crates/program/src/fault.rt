@@ -16,7 +16,7 @@ use wire::Memory;
 const MAX_ERROR: usize = 512;
 
 /// Why a run ends without its whole output. Its `Display` is the line that users read, and a second one that says why.
-#[derive(Debug, Drop)]
+#[derive(Drop)]
 pub enum Fault<'w> {
     /// The command line isn't one of ours: `clap`'s text.
     CommandLine(clap::Error),
@@ -57,7 +57,7 @@ pub enum Fault<'w> {
 }
 
 /// Why a blk file isn't read on.
-#[derive(Clone, Copy, Debug, PartialEq, Eq)]
+#[derive(Clone, Copy)]
 pub enum Stop {
     /// There is neither a record nor a rest of zero bytes.
     Foreign,
@@ -68,7 +68,7 @@ pub enum Stop {
 }
 
 /// The first line of an output that isn't the one that was expected.
-#[derive(Debug, Drop)]
+#[derive(Drop)]
 pub struct Difference {
     /// From 1.
     pub line: usize,

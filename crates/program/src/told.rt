@@ -18,7 +18,7 @@ pub enum Told<'d> {
 }
 
 /// A block, with its name.
-#[derive(Clone, Copy, Debug)]
+#[derive(Clone, Copy)]
 pub struct Block<'d> {
     pub id: Id,
     pub label: Label<'d>,
