@@ -75,7 +75,9 @@ pub fn read_clients<'d, 't>(
 ) -> Result<Vec<Client<'d, 't>>, ScenarioFault> {
     let mut clients = Vec::new(alloc);
     for line in lines {
-        read_line(alloc, definitions, line, &mut clients).map_err(|fault| fault.at(line.number))?;
+        if let Err(fault) = read_line(alloc, definitions, line, &mut clients) {
+            return Err(fault.at(line.number));
+        }
     }
     Ok(clients)
 }
@@ -102,8 +104,10 @@ fn add_client<'d, 't>(
     name: &'t str,
     clients: &mut Vec<Client<'d, 't>>,
 ) -> Result<(), LineFault> {
-    if clients.iter().any(|client| client.name == name) {
-        return Err(LineFault::of_word(alloc, name, Complaint::Taken));
+    for client in clients.iter() {
+        if client.name == name {
+            return Err(LineFault::of_word(alloc, name, Complaint::Taken));
+        }
     }
     if clients.len() >= MAX_CLIENTS {
         return Err(LineFault::of_line(Complaint::Clients));

@@ -7,7 +7,7 @@ use std::fmt;
 const MAX_TOLD: usize = 72;
 
 /// What is wrong with a line of a scenario, or with one of its words.
-#[derive(Clone, Copy, Debug, PartialEq, Eq)]
+#[derive(Clone, Copy)]
 pub enum Complaint {
     /// The line's bytes are no UTF-8.
     NoText,
@@ -64,7 +64,7 @@ pub enum Complaint {
 }
 
 /// What is wrong with a line: a complaint, of one of its words where it is one.
-#[derive(Debug, Drop)]
+#[derive(Drop)]
 pub struct Why {
     /// The front of the word.
     word: Option<String>,

@@ -64,9 +64,9 @@ impl Definitions {
         definitions.insert(genesis(alloc)?)?;
         definitions.order.clear();
         for line in lines {
-            definitions
-                .define(line)
-                .map_err(|fault| fault.at(line.number))?;
+            if let Err(fault) = definitions.define(line) {
+                return Err(fault.at(line.number));
+            }
         }
         definitions.finish_draft()?;
         Ok(definitions)
@@ -74,9 +74,10 @@ impl Definitions {
 
     /// The block of this name.
     pub fn find(&self, name: &str) -> Result<&Named, LineFault> {
-        self.blocks
-            .get(name)
-            .ok_or_else(|| self.refused(name, Complaint::NoBlock))
+        match self.blocks.get(name) {
+            Some(block) => Ok(block),
+            None => Err(self.refused(name, Complaint::NoBlock)),
+        }
     }
 
     /// That a word has this fault.
@@ -239,7 +240,10 @@ impl Definitions {
             Some((block, COINBASE)) => self.find(block)?.coinbase.as_ref(),
             _ => self.transactions.get(name),
         };
-        known.ok_or_else(|| self.refused(name, Complaint::NoTransaction))
+        match known {
+            Some(known) => Ok(known),
+            None => Err(self.refused(name, Complaint::NoTransaction)),
+        }
     }
 
     /// The outpoint that a word names: `null`, or an output.

@@ -5,7 +5,7 @@ use std::alloc::{AllocError, AllocFailed, Global};
 use wire::Memory;
 
 /// Why a scenario isn't read.
-#[derive(Debug, Drop)]
+#[derive(Drop)]
 pub enum ScenarioFault {
     /// This line, counted from 1, can't be read, and why.
     Line(usize, Why),
@@ -26,7 +26,7 @@ impl From<AllocError> for ScenarioFault {
 }
 
 /// Why a line of the scenario has no effect.
-#[derive(Debug, Drop)]
+#[derive(Drop)]
 pub enum LineFault {
     /// It isn't a line that can stand there.
     Unreadable,

@@ -4,7 +4,7 @@ use hash::Id;
 use std::fmt;
 
 /// A block's id as it is printed: the first name that was given to it, else its digits.
-#[derive(Clone, Copy, Debug)]
+#[derive(Clone, Copy)]
 pub enum Label<'d> {
     Name(&'d str),
     Digits(Id),

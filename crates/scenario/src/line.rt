@@ -61,12 +61,17 @@ impl Line<'_> {
         if self.words.is_empty() {
             return Err(LineFault::of_line(Complaint::NoText));
         }
-        let is_blank = |word: &&&str| word.bytes().any(|byte| byte == b'\t' || byte == b'\r');
-        match self.words.iter().find(is_blank) {
-            Some(word) => Err(LineFault::of_word(alloc, word, Complaint::Blank)),
-            None => Ok(()),
+        for word in self.words.iter() {
+            if holds_blank(word) {
+                return Err(LineFault::of_word(alloc, word, Complaint::Blank));
+            }
         }
+        Ok(())
     }
+}
+
+fn holds_blank(word: &str) -> bool {
+    word.bytes().any(|byte| byte == b'\t' || byte == b'\r')
 }
 
 /// The number that a line after the last would have.
@@ -109,10 +114,7 @@ pub fn number<N: FromStr>(alloc: Global, word: &str, range: &'static str) -> Res
 where
     N::Err: Drop,
 {
-    if !is_decimal(word) {
-        return Err(no_number(alloc, word, range));
-    }
-    word.parse::<N>().map_err(|_| no_number(alloc, word, range))
+    parsed(alloc, word, word, range)
 }
 
 /// A number in decimal digits, with `-` before one below zero, that its place can hold.
@@ -120,14 +122,26 @@ pub fn signed<N: FromStr>(alloc: Global, word: &str, range: &'static str) -> Res
 where
     N::Err: Drop,
 {
-    if !is_decimal(word.strip_prefix('-').unwrap_or(word)) {
-        return Err(no_number(alloc, word, range));
-    }
-    word.parse::<N>().map_err(|_| no_number(alloc, word, range))
+    let digits = word.strip_prefix('-').unwrap_or(word);
+    parsed(alloc, word, digits, range)
 }
 
-fn no_number(alloc: Global, word: &str, range: &'static str) -> LineFault {
-    LineFault::of_word(alloc, word, Complaint::Number(range))
+/// The number of a word that has these digits, if they are decimal and its place can hold it.
+fn parsed<N: FromStr>(
+    alloc: Global,
+    word: &str,
+    digits: &str,
+    range: &'static str,
+) -> Result<N, LineFault>
+where
+    N::Err: Drop,
+{
+    if is_decimal(digits) {
+        if let Ok(number) = word.parse::<N>() {
+            return Ok(number);
+        }
+    }
+    Err(LineFault::of_word(alloc, word, Complaint::Number(range)))
 }
 
 fn is_decimal(word: &str) -> bool {
@@ -151,16 +165,18 @@ pub fn bytes(alloc: Global, word: &str) -> Result<Vec<u8>, LineFault> {
 
 /// Four bytes in lower-case hexadecimal digits.
 pub fn array(alloc: Global, word: &str) -> Result<[u8; 4], LineFault> {
-    let read = <[u8; 4]>::from_hex(word)
-        .ok()
-        .filter(|_| is_lower_case(word));
-    read.ok_or_else(|| LineFault::of_word(alloc, word, Complaint::Digits(8)))
+    match <[u8; 4]>::from_hex(word) {
+        Ok(bytes) if is_lower_case(word) => Ok(bytes),
+        _ => Err(LineFault::of_word(alloc, word, Complaint::Digits(8))),
+    }
 }
 
 /// An id in lower-case digits, as ids are printed.
 pub fn id(alloc: Global, word: &str) -> Result<Id, LineFault> {
-    let read = Id::read(word.as_bytes()).filter(|_| is_lower_case(word));
-    read.ok_or_else(|| LineFault::of_word(alloc, word, Complaint::Digits(64)))
+    match Id::read(word.as_bytes()) {
+        Some(id) if is_lower_case(word) => Ok(id),
+        _ => Err(LineFault::of_word(alloc, word, Complaint::Digits(64))),
+    }
 }
 
 fn is_lower_case(word: &str) -> bool {
