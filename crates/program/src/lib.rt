@@ -4,6 +4,7 @@
 mod answer;
 mod audit;
 mod clients;
+mod command_line;
 mod drawing;
 mod expected;
 mod fault;
