@@ -6,14 +6,16 @@ use crate::serve::turn::Turn;
 use crate::serve::words::Facts;
 use arrayvec::ArrayString;
 use crossbeam_channel::{Receiver, Sender};
+use hash::Id;
 use journal::{Asked, block_of};
-use node::{Entry, Naming, Node, Seat};
+use node::{Entry, Naming, Node, Seat, Tip, UnspentOutput};
 use serving::{Answer, Call, Refusal, RequestId, Stamped, Step, answer_line, refusal_line};
 use std::alloc::{AllocError, Global};
 use std::fmt;
 use std::fmt::Write as _;
 use std::sync::Wait;
 use std::thread::Threads;
+use wire::Memory;
 
 /// How long a reply's text is at most.
 const MAX_REPLY: usize = 128;
@@ -81,79 +83,92 @@ where
     R: AllocGlobal + Threads + Wait + Sync,
 {
     let alloc = rt.alloc();
-    let room = Vec::with_capacity(alloc, ROOM.saturating_add(id.len())).map_err(short)?;
-    let (at, answer) = match call {
+    let Ok(room) = Vec::with_capacity(alloc, ROOM.saturating_add(id.len())) else {
+        return Err(Refusal::Memory);
+    };
+    match call {
         Call::Submit(block, now) => {
-            let reply = seat
-                .submit(rt, node, block.as_slice(), now)
-                .map_err(refused)?;
-            return replied(alloc, room, id, reply.at, &reply.value);
+            let reply = seat.submit(rt, node, block.as_slice(), now);
+            replied(alloc, room, id, reply)
         }
-        Call::Invalidate(block) => {
-            let reply = seat.invalidate(rt, node, block).map_err(refused)?;
-            return replied(alloc, room, id, reply.at, &reply.value);
-        }
-        Call::Reconsider(block) => {
-            let reply = seat.reconsider(rt, node, block).map_err(refused)?;
-            return replied(alloc, room, id, reply.at, &reply.value);
-        }
-        Call::Precious(block) => {
-            let reply = seat.precious(rt, node, block).map_err(refused)?;
-            return replied(alloc, room, id, reply.at, &reply.value);
-        }
-        Call::Output(outpoint) => {
-            let found = seat.gettxout(alloc, node, &outpoint).map_err(refused)?;
-            let output = found.value.as_ref().map(|output| output_of(output));
-            return stamped(alloc, room, id, found.at, Answer::Output(output));
-        }
-        Call::Tips => {
-            let tips = seat.getchaintips(alloc, node).map_err(refused)?;
-            return stamped(
-                alloc,
-                room,
-                id,
-                tips.at,
-                Answer::Tips(tips.value.as_slice()),
-            );
-        }
+        Call::Invalidate(block) => replied(alloc, room, id, seat.invalidate(rt, node, block)),
+        Call::Reconsider(block) => replied(alloc, room, id, seat.reconsider(rt, node, block)),
+        Call::Precious(block) => replied(alloc, room, id, seat.precious(rt, node, block)),
+        Call::Output(outpoint) => found(alloc, room, id, seat.gettxout(alloc, node, &outpoint)),
+        Call::Best => best(alloc, room, id, seat.getbestblockhash(node)),
+        Call::Tips => listed_tips(alloc, room, id, seat.getchaintips(alloc, node)),
         Call::Journal(from, to) => {
-            let entries = seat
-                .journal(alloc, node, from.saturating_sub(1), to)
-                .map_err(refused)?;
-            return listed(
-                alloc,
-                room,
-                id,
-                facts,
-                from,
-                entries.at,
-                entries.value.as_slice(),
-            );
+            let entries = seat.journal(alloc, node, from.saturating_sub(1), to);
+            listed(alloc, room, id, facts, from, entries)
         }
-        Call::Best => {
-            let best = seat.getbestblockhash(node).map_err(refused)?;
-            (best.at, Answer::Best(best.value))
-        }
-        Call::Note => (seat.note().len(), Answer::Place),
+        Call::Note => stamped(alloc, room, id, seat.note().len(), Answer::Place),
         Call::Told(from) => {
             board.tell(rt, from, seat);
-            (seat.note().len(), Answer::Place)
+            stamped(alloc, room, id, seat.note().len(), Answer::Place)
         }
-    };
-    stamped(alloc, room, id, at, answer)
+    }
 }
 
 /// The line of a reply to a step.
-fn replied<T: fmt::Display>(
+fn replied<T: fmt::Display + Copy>(
     alloc: Global,
     room: Vec<u8>,
     id: &RequestId,
-    at: u64,
-    reply: &T,
+    reply: Result<node::Stamped<T>, node::Fault>,
 ) -> Result<Vec<u8>, Refusal> {
-    let mut word = ArrayString::<MAX_REPLY>::new();
-    let _ = write!(word, "{reply}");
-    stamped(alloc, room, id, at, Answer::Reply(word.as_str()))
+    match reply {
+        Ok(node::Stamped { at, value }) => {
+            let mut word = ArrayString::<MAX_REPLY>::new();
+            let _ = write!(word, "{value}");
+            stamped(alloc, room, id, at, Answer::Reply(word.as_str()))
+        }
+        Err(fault) => Err(refused(fault)),
+    }
+}
+
+/// The line of an output, if there is one.
+fn found(
+    alloc: Global,
+    room: Vec<u8>,
+    id: &RequestId,
+    found: Result<node::Stamped<Option<UnspentOutput>>, node::Fault>,
+) -> Result<Vec<u8>, Refusal> {
+    match found {
+        Ok(node::Stamped { at, value }) => {
+            let output = match &value {
+                Some(output) => Some(output_of(output)),
+                None => None,
+            };
+            stamped(alloc, room, id, at, Answer::Output(output))
+        }
+        Err(fault) => Err(refused(fault)),
+    }
+}
+
+fn best(
+    alloc: Global,
+    room: Vec<u8>,
+    id: &RequestId,
+    best: Result<node::Stamped<Id>, node::Fault>,
+) -> Result<Vec<u8>, Refusal> {
+    match best {
+        Ok(node::Stamped { at, value }) => stamped(alloc, room, id, at, Answer::Best(value)),
+        Err(fault) => Err(refused(fault)),
+    }
+}
+
+fn listed_tips(
+    alloc: Global,
+    room: Vec<u8>,
+    id: &RequestId,
+    tips: Result<node::Stamped<Vec<Tip>>, node::Fault>,
+) -> Result<Vec<u8>, Refusal> {
+    match tips {
+        Ok(node::Stamped { at, value }) => {
+            stamped(alloc, room, id, at, Answer::Tips(value.as_slice()))
+        }
+        Err(fault) => Err(refused(fault)),
+    }
 }
 
 fn stamped(
@@ -163,7 +178,10 @@ fn stamped(
     at: u64,
     answer: Answer<'_>,
 ) -> Result<Vec<u8>, Refusal> {
-    answer_line(alloc, room, id, &Stamped { at, answer }).map_err(short)
+    match answer_line(alloc, room, id, &Stamped { at, answer }) {
+        Ok(line) => Ok(line),
+        Err(AllocError) => Err(Refusal::Memory),
+    }
 }
 
 /// The line of some entries, of which the first has this number.
@@ -173,21 +191,42 @@ fn listed(
     id: &RequestId,
     facts: &Facts<'_>,
     first: u64,
-    at: u64,
-    entries: &[Entry],
+    entries: Result<node::Stamped<Vec<Entry>>, node::Fault>,
 ) -> Result<Vec<u8>, Refusal> {
+    let node::Stamped { at, value } = match entries {
+        Ok(entries) => entries,
+        Err(fault) => return Err(refused(fault)),
+    };
+    let Ok(texts) = texts_of(alloc, facts, first, value.as_slice()) else {
+        return Err(Refusal::Memory);
+    };
+    let Ok(steps) = steps_of(alloc, texts.as_slice()) else {
+        return Err(Refusal::Memory);
+    };
+    stamped(alloc, room, id, at, Answer::Steps(steps.as_slice()))
+}
+
+/// The texts of entries, of which the first has this number.
+fn texts_of(
+    alloc: Global,
+    facts: &Facts<'_>,
+    first: u64,
+    entries: &[Entry],
+) -> Result<Vec<EntryText>, Memory> {
     let mut texts = Vec::new(alloc);
     for (place, entry) in entries.iter().enumerate() {
         let number = first.saturating_add(place as u64);
-        texts
-            .push(entry_text(alloc, facts, number, entry)?)
-            .map_err(|_| Refusal::Memory)?;
+        texts.push(entry_text(alloc, facts, number, entry)?)?;
     }
+    Ok(texts)
+}
+
+fn steps_of<'e>(alloc: Global, texts: &'e [EntryText]) -> Result<Vec<Step<'e>>, AllocError> {
     let mut steps = Vec::new(alloc);
-    for text in texts.as_slice() {
-        steps.push(text.step()).map_err(|_| Refusal::Memory)?;
+    for text in texts {
+        steps.push(text.step())?;
     }
-    stamped(alloc, room, id, at, Answer::Steps(steps.as_slice()))
+    Ok(steps)
 }
 
 /// An entry by its texts.
@@ -219,21 +258,19 @@ fn entry_text(
     facts: &Facts<'_>,
     number: u64,
     entry: &Entry,
-) -> Result<EntryText, Refusal> {
+) -> Result<EntryText, Memory> {
     let place = number.saturating_sub(1) as usize;
     let client = facts.clients.name(place, entry.seat);
-    let block = block_of(alloc, entry).map_err(|_| Refusal::Memory)?;
+    let Ok(block) = block_of(alloc, entry) else {
+        return Err(Memory);
+    };
     Ok(EntryText {
         number,
-        client: String::from_str(alloc, client).map_err(short)?,
+        client: String::from_str(alloc, client)?,
         asked: Asked::from_command(&entry.command),
-        block: block.to_string(alloc).map_err(short)?,
-        reply: reply_text(alloc, entry.reply).map_err(short)?,
+        block: block.to_string(alloc)?,
+        reply: reply_text(alloc, entry.reply)?,
     })
-}
-
-fn short(_error: AllocError) -> Refusal {
-    Refusal::Memory
 }
 
 /// What a fault of a seat is told as.
