@@ -13,7 +13,10 @@ pub fn read_file<'w, R>(rt: &R, file: &'w str) -> Result<Vec<u8>, Fault<'w>>
 where
     R: Files + AllocGlobal,
 {
-    fs::read(rt, file).map_err(|error| unread(error, file))
+    match fs::read(rt, file) {
+        Ok(bytes) => Ok(bytes),
+        Err(error) => Err(unread(error, file)),
+    }
 }
 
 /// The bytes of a scenario's file, which may be the standard input.
@@ -54,7 +57,10 @@ pub fn print<O: Write>(out: &mut O, text: &str) -> Result<(), Fault<'static>> {
 
 /// Writes bytes to the standard output.
 pub fn print_bytes<O: Write>(out: &mut O, bytes: &[u8]) -> Result<(), Fault<'static>> {
-    print_all(out, bytes).map_err(|error| Fault::CannotWrite(STANDARD, error))
+    match print_all(out, bytes) {
+        Ok(()) => Ok(()),
+        Err(error) => Err(Fault::CannotWrite(STANDARD, error)),
+    }
 }
 
 fn print_all<O: Write>(out: &mut O, bytes: &[u8]) -> io::Result<()> {

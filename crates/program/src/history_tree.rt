@@ -138,8 +138,7 @@ fn tree_of(
     };
     let mut tree = BlockTree::new(alloc, genesis)?;
     for block in kept.iter().skip(1) {
-        let below = kept.get(block.parent).map(|below| below.status);
-        let is_marked = block.status == Status::Invalid && below != Some(Status::Invalid);
+        let is_marked = block.status == Status::Invalid && !is_invalid(kept.get(block.parent));
         let label = label_of(alloc, block.id, definitions)?;
         let _ = tree.add(
             block.parent,
@@ -153,14 +152,23 @@ fn tree_of(
     Ok(tree)
 }
 
+fn is_invalid(block: Option<&Kept>) -> bool {
+    match block {
+        Some(block) => block.status == Status::Invalid,
+        None => false,
+    }
+}
+
 /// The name of a block, or the first of its id's digits.
 fn label_of(
     alloc: Global,
     id: Id,
     definitions: Option<&Definitions>,
 ) -> Result<String, AllocError> {
-    if let Some(Label::Name(name)) = definitions.map(|definitions| definitions.label(id)) {
-        return String::from_str(alloc, name);
+    if let Some(definitions) = definitions {
+        if let Label::Name(name) = definitions.label(id) {
+            return String::from_str(alloc, name);
+        }
     }
     let digits = id.to_string(alloc)?;
     match digits.as_str().get(..DIGITS) {

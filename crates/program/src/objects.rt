@@ -87,7 +87,10 @@ pub fn fault(alloc: Global, fault: &Fault<'_>) -> Result<String, AllocError> {
 
 /// The object, and the end of its line.
 fn into_line(object: Object) -> Result<String, AllocError> {
-    String::from_utf8(object.line()?).map_err(|_| AllocError)
+    match String::from_utf8(object.line()?) {
+        Ok(line) => Ok(line),
+        Err(_) => Err(AllocError),
+    }
 }
 
 /// What a seat answered, and its text where that isn't the answer.

@@ -8,11 +8,10 @@ use crate::objects;
 use journal::Step;
 use scenario::Label;
 use std::alloc::Global;
-use std::fmt::Write as _;
 use std::io::Write;
 
 /// How a line is written.
-#[derive(Clone, Copy, Debug, PartialEq, Eq)]
+#[derive(Clone, Copy, PartialEq, Eq)]
 pub enum Form {
     Text,
     /// A JSON object for each answer and each line of the journal.
@@ -62,7 +61,7 @@ impl<'o, O: Write> Output<'o, O> {
         let mut text = String::new(self.alloc);
         for answer in answers {
             match self.form {
-                Form::Text => write!(text, "{answer}").map_err(|_| Fault::Memory)?,
+                Form::Text => write!(text, "{answer}")?,
                 Form::Json => text.push_str(objects::answer(self.alloc, client, answer)?.as_str())?,
                 Form::Tree => {}
             }

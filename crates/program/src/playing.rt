@@ -86,7 +86,7 @@ where
         gate,
         &definitions,
         clients.as_slice(),
-        blk.as_ref().map(|file| file.as_slice()),
+        lent(&blk),
         &mut writer,
     )?;
     let Writer {
@@ -127,7 +127,10 @@ where
         Some(folder) => check_folder(rt, folder),
         None => Ok(()),
     };
-    let checked = checked.and_then(|()| check_picture(rt, options.svg));
+    let checked = match checked {
+        Ok(()) => check_picture(rt, options.svg),
+        Err(fault) => Err(fault),
+    };
     if let (Err(_), Some(file)) = (&checked, blk) {
         let mut records = Records::new(rt.alloc(), SliceSource::new(file.as_slice()));
         if read_out(&mut records).is_err() {
@@ -188,13 +191,20 @@ where
         Some(file) => Some(read_file(rt, file)?),
         None => None,
     };
-    let table = read_table(rt.alloc(), table.as_ref().map(|text| text.as_slice()))?;
+    let table = read_table(rt.alloc(), lent(&table))?;
     Ok(Inputs {
         scenario,
         blk,
         table,
         expected,
     })
+}
+
+fn lent(bytes: &Option<Vec<u8>>) -> Option<&[u8]> {
+    match bytes {
+        Some(bytes) => Some(bytes.as_slice()),
+        None => None,
+    }
 }
 
 /// How the node is opened.

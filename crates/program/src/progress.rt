@@ -36,11 +36,6 @@ struct Times {
 impl<'c, 'e, C: Clock, E: Write> Progress<'c, 'e, C, E> {
     /// Of a run that begins now. Only where it is wanted something is told.
     pub fn new(clock: &'c C, stream: &'e mut E, is_wanted: bool) -> Progress<'c, 'e, C, E> {
-        let now = if is_wanted {
-            Instant::now(clock).ok()
-        } else {
-            None
-        };
         Progress {
             clock,
             stream,
@@ -48,10 +43,7 @@ impl<'c, 'e, C: Clock, E: Write> Progress<'c, 'e, C, E> {
                 commands: 0,
                 blocks: 0,
             },
-            times: now.map(|now| Times {
-                begun: now,
-                told: now,
-            }),
+            times: if is_wanted { times(clock) } else { None },
         }
     }
 
@@ -120,6 +112,17 @@ impl<'c, 'e, C: Clock, E: Write> Progress<'c, 'e, C, E> {
                 )
             }
         };
+    }
+}
+
+/// Of work that begins now.
+fn times<C: Clock>(clock: &C) -> Option<Times> {
+    match Instant::now(clock) {
+        Ok(now) => Some(Times {
+            begun: now,
+            told: now,
+        }),
+        Err(_) => None,
     }
 }
 

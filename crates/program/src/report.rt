@@ -7,7 +7,6 @@ use journal::{Asked, Step, block_of};
 use node::{Command, Entry};
 use scenario::Definitions;
 use std::alloc::{AllocError, Global};
-use std::fmt::Write as _;
 use std::io::Write;
 
 /// The names of a run's clients.
@@ -77,7 +76,7 @@ impl<'d, 't> Report<'d, 't> {
     pub fn journal_in_digits(&self, alloc: Global) -> Result<String, AllocError> {
         let mut text = String::new(alloc);
         for (place, (entry, id)) in self.entries.iter().zip(self.blocks.iter()).enumerate() {
-            writeln!(text, "{}", self.step(place + 1, entry, *id)).map_err(|_| AllocError)?;
+            writeln!(text, "{}", self.step(place + 1, entry, *id))?;
         }
         Ok(text)
     }

@@ -96,11 +96,10 @@ where
         Err(error) => return Err(unsaved(error, folder, JOURNAL)),
     };
     finish_last(rt, folder, &places)?;
-    let made = make_all(rt, folder, &places, report, table, heights).and_then(|()| put_in_place(
-        rt,
-        folder,
-        &places.journal,
-    ));
+    let made = match make_all(rt, folder, &places, report, table, heights) {
+        Ok(()) => put_in_place(rt, folder, &places.journal),
+        Err(fault) => Err(fault),
+    };
     if let Err(fault) = made {
         let _ = take_away(rt, folder, &places);
         return Err(fault);
@@ -293,8 +292,9 @@ where
 {
     let is_new = counts_new && is_file(rt, place.new.as_str());
     let path = if is_new { &place.new } else { &place.path };
-    fs::read(rt, path.as_str()).map_err(|error| match error.kind() {
-        ErrorKind::OutOfMemory => Fault::Memory,
-        _ => Fault::CannotOpen(folder, place.name, error),
-    })
+    match fs::read(rt, path.as_str()) {
+        Ok(bytes) => Ok(bytes),
+        Err(error) if error.kind() == ErrorKind::OutOfMemory => Err(Fault::Memory),
+        Err(error) => Err(Fault::CannotOpen(folder, place.name, error)),
+    }
 }
