@@ -25,9 +25,6 @@ const TIMED: usize = 100;
 /// So many blocks on genesis stand beside the two branches of a reorganisation.
 const BESIDE: usize = 10_000;
 
-/// So many bytes of data stand in a heavy block, which makes it almost as long as a block may be.
-pub const DATA: usize = 999_000;
-
 /// The submission of a branch's next block, without payments.
 fn next(alloc: Global, branch: &mut Branch) -> Result<Command, Fault> {
     let bytes = branch.next_bytes(alloc, Vec::new(alloc))?;
@@ -82,11 +79,7 @@ pub fn chained<R: AllocGlobal + Clock>(rt: &R, size: usize) -> Result<Outcome, F
 
 /// The same with blocks of almost a megabyte, one output of which is data.
 pub fn heavily_chained<R: AllocGlobal + Clock>(rt: &R, size: usize) -> Result<Outcome, Fault> {
-    let heavy = Branch {
-        data: DATA,
-        ..Branch::new(1)
-    };
-    above(rt, heavy, 0, size)
+    above(rt, Branch::heavy(1), 0, size)
 }
 
 /// A hundred blocks, submitted above so many.

@@ -3,7 +3,10 @@
 use crate::check::Check;
 use crate::fault::Fault;
 use crate::filling::Filling;
-use crate::payments::{script, to_key_hash};
+use crate::lists::put;
+use crate::payments::{coin, to_key_hash};
+use crate::plan::{shuffle, start};
+use crate::start::{Start, TRUE, WORTH};
 use crate::timing::Outcome;
 use coins::{Base, Cache, Coin, CoinMap};
 use hash::Id;
@@ -31,63 +34,86 @@ impl Hoard {
             index: (self.filling.next() % 4) as u32,
         };
         let hash: [u8; 20] = self.filling.bytes();
-        let coin = Coin {
-            value: (self.filling.next() % 5_000_000_000) as i64,
-            script: script(alloc, to_key_hash(&hash).as_slice())?,
-            height: 7,
-            coinbase: false,
-        };
-        Ok((at, coin))
+        let value = (self.filling.next() % 5_000_000_000) as i64;
+        Ok((at, coin(alloc, value, to_key_hash(&hash).as_slice())?))
     }
+}
+
+/// Puts a coin into a map.
+pub fn put_coin(map: &mut CoinMap, at: OutPoint, coin: Coin) -> Result<(), Fault> {
+    map.insert(at, coin)?;
+    Ok(())
 }
 
 /// So many coins in a map, and where they are, in another order than they came in.
 pub fn filled(alloc: Global, size: usize) -> Result<(CoinMap, Vec<OutPoint>), Fault> {
     let mut hoard = Hoard::new();
     let mut map = CoinMap::new(alloc);
-    let mut places = Vec::with_capacity(alloc, size)?;
+    let mut places = Vec::new(alloc);
     for _ in 0..size {
         let (at, coin) = hoard.next(alloc)?;
-        map.insert(at, coin)?;
-        places.push(at)?;
+        put_coin(&mut map, at, coin)?;
+        put(&mut places, at)?;
     }
-    let mut filling = Filling::new(15);
-    for at in 0..places.len() {
-        let other = (filling.next() % places.len() as u64) as usize;
-        places.as_mut_slice().swap(at, other);
-    }
+    shuffle(places.as_mut_slice());
     Ok((map, places))
+}
+
+/// So many coins.
+fn hoarded(alloc: Global, size: usize) -> Result<Vec<(OutPoint, Coin)>, Fault> {
+    let mut hoard = Hoard::new();
+    let mut coins = Vec::new(alloc);
+    for _ in 0..size {
+        put(&mut coins, hoard.next(alloc)?)?;
+    }
+    Ok(coins)
 }
 
 /// So many coins into a map.
 pub fn inserted<R: AllocGlobal + Clock>(rt: &R, size: usize) -> Result<Outcome, Fault> {
-    let mut hoard = Hoard::new();
-    let mut coins = Vec::with_capacity(rt.alloc(), size)?;
-    for _ in 0..size {
-        coins.push(hoard.next(rt.alloc())?)?;
-    }
+    let coins = hoarded(rt.alloc(), size)?;
     let mut map = CoinMap::new(rt.alloc());
     let mut sum = 0u64;
     let begin = Instant::now(rt)?;
     for (at, coin) in coins {
         sum = sum.wrapping_add(coin.value.unsigned_abs());
-        map.insert(at, coin)?;
+        put_coin(&mut map, at, coin)?;
     }
     Outcome::since(rt, begin, Check::Count(sum))
+}
+
+/// What the coins at these places are worth, which are looked up one by one.
+fn looks(clock: &impl Clock, base: &impl Base, places: &[OutPoint]) -> Result<Outcome, Fault> {
+    let mut sum = 0u64;
+    let begin = Instant::now(clock)?;
+    for at in places {
+        if let Some(coin) = base.get(at) {
+            sum = sum.wrapping_add(coin.value.unsigned_abs());
+        }
+    }
+    Outcome::since(clock, begin, Check::Count(sum))
 }
 
 /// Each of so many coins of a map, looked up through a layer.
 pub fn looked_up<R: AllocGlobal + Clock>(rt: &R, size: usize) -> Result<Outcome, Fault> {
     let (map, places) = filled(rt.alloc(), size)?;
-    let layer = Cache::over(rt.alloc(), &map);
-    let mut sum = 0u64;
-    let begin = Instant::now(rt)?;
-    for at in places.as_slice() {
-        if let Some(coin) = layer.get(at) {
-            sum = sum.wrapping_add(coin.value.unsigned_abs());
-        }
+    looks(rt, &Cache::over(rt.alloc(), &map), places.as_slice())
+}
+
+/// So many coins looked up in a map by themselves, at the places that the readers of a node have.
+pub fn read_from_a_map<R: AllocGlobal + Clock>(rt: &R, size: usize) -> Result<Outcome, Fault> {
+    let Start { spread, .. } = start(rt.alloc(), 0, size)?;
+    let map = spread_coins(rt.alloc(), spread.as_slice())?;
+    looks(rt, &map, spread.as_slice())
+}
+
+/// The coins that a chain leaves at these places.
+fn spread_coins(alloc: Global, places: &[OutPoint]) -> Result<CoinMap, Fault> {
+    let mut map = CoinMap::new(alloc);
+    for at in places {
+        put_coin(&mut map, *at, coin(alloc, WORTH / 10, TRUE)?)?;
     }
-    Outcome::since(rt, begin, Check::Count(sum))
+    Ok(map)
 }
 
 /// Each of so many coins of a map, looked for and spent in a layer.
@@ -113,7 +139,7 @@ pub fn held<R: AllocGlobal + Clock>(rt: &R, size: usize) -> Result<Outcome, Faul
     for _ in 0..size {
         let (at, coin) = hoard.next(rt.alloc())?;
         sum = sum.wrapping_add(coin.value.unsigned_abs());
-        map.insert(at, coin)?;
+        put_coin(&mut map, at, coin)?;
     }
     Outcome::since(rt, begin, Check::Count(sum))
 }

@@ -1,12 +1,15 @@
 //! Blocks from bytes and back, judged by themselves, and blk files.
 
+use crate::branch::bytes_of;
 use crate::check::Check;
-use crate::fault::Fault;
+use crate::fault::{Fault, read_again};
+use crate::lists::put_bytes;
 use crate::payments::block_of;
 use crate::timing::Outcome;
-use block::{BlkReader, GENESIS, SliceSource};
+use block::{BlkReader, Block, GENESIS, SliceSource};
 use hash::{Id, double_sha};
 use rules::block_alone;
+use std::alloc::Global;
 use std::rt::Clock;
 use std::time::Instant;
 use txn::ids;
@@ -19,14 +22,20 @@ const NONE: Id = Id([0; 32]);
 
 /// Reading a block of so many payments from its bytes. The last payment's id is the check.
 pub fn decode<R: AllocGlobal + Clock>(rt: &R, size: usize) -> Result<Outcome, Fault> {
-    let mut bytes = Vec::new(rt.alloc());
-    block::write(&block_of(rt.alloc(), size)?, &mut bytes)?;
+    let bytes = bytes_of(rt.alloc(), &block_of(rt.alloc(), size)?)?;
     let begin = Instant::now(rt)?;
-    let block = block::read(rt.alloc(), bytes.as_slice()).map_err(|_| Fault::Unread)?;
+    let block = read_again(block::read(rt.alloc(), bytes.as_slice()))?;
     let spent = begin.elapsed(rt)?;
-    let last = block.txs.as_slice().last().map(|tx| tx.id());
-    let check = Check::Id(last.unwrap_or(NONE));
+    let check = Check::of_id(last_id(&block));
     Ok(Outcome { check, spent })
+}
+
+/// The id of the last transaction.
+fn last_id(block: &Block) -> Id {
+    match block.txs.as_slice() {
+        [.., tx] => tx.id(),
+        [] => NONE,
+    }
 }
 
 /// The ids of so many payments.
@@ -35,7 +44,7 @@ pub fn payment_ids<R: AllocGlobal + Clock>(rt: &R, size: usize) -> Result<Outcom
     let begin = Instant::now(rt)?;
     let ids = ids(rt.alloc(), block.txs.as_slice())?;
     let last = ids.as_slice().last().copied();
-    Outcome::since(rt, begin, Check::Id(last.unwrap_or(NONE)))
+    Outcome::since(rt, begin, Check::of_id(last.unwrap_or(NONE)))
 }
 
 /// The rules that a block of so many payments obeys by itself. Its Merkle root is the check if it does.
@@ -44,7 +53,7 @@ pub fn alone<R: AllocGlobal + Clock>(rt: &R, size: usize) -> Result<Outcome, Fau
     let begin = Instant::now(rt)?;
     let broken = block_alone(rt.alloc(), &block)?;
     let check = match broken {
-        None => Check::Id(block.header.root),
+        None => Check::of_id(block.header.root),
         Some(reason) => Check::Count(u64::from(reason.number())),
     };
     Outcome::since(rt, begin, check)
@@ -57,25 +66,37 @@ pub fn write<R: AllocGlobal + Clock>(rt: &R, size: usize) -> Result<Outcome, Fau
     let begin = Instant::now(rt)?;
     block::write(&block, &mut bytes)?;
     let spent = begin.elapsed(rt)?;
-    let check = Check::Digest(double_sha(bytes.as_slice()));
+    let check = Check::of_digest(double_sha(bytes.as_slice()));
     Ok(Outcome { check, spent })
 }
 
 /// Reading a blk file of so many records. The bytes of all of them are counted.
 pub fn records<R: AllocGlobal + Clock>(rt: &R, size: usize) -> Result<Outcome, Fault> {
-    let mut file = Vec::new(rt.alloc());
-    for _ in 0..size {
-        file.extend_from_slice(MAGIC.as_slice())?;
-        file.extend_from_slice((GENESIS.len() as u32).to_le_bytes().as_slice())?;
-        file.extend_from_slice(GENESIS.as_slice())?;
-    }
+    let file = blk_file(rt.alloc(), size)?;
     let begin = Instant::now(rt)?;
-    let mut reader = BlkReader::new(rt.alloc(), SliceSource::new(file.as_slice()));
+    let bytes = read_records(rt.alloc(), file.as_slice(), size)?;
+    Outcome::since(rt, begin, Check::Count(bytes))
+}
+
+/// A file that has the genesis block so often.
+fn blk_file(alloc: Global, count: usize) -> Result<Vec<u8>, Fault> {
+    let mut file = Vec::new(alloc);
+    for _ in 0..count {
+        put_bytes(&mut file, MAGIC.as_slice())?;
+        put_bytes(&mut file, (GENESIS.len() as u32).to_le_bytes().as_slice())?;
+        put_bytes(&mut file, GENESIS.as_slice())?;
+    }
+    Ok(file)
+}
+
+/// How many bytes the first records have.
+fn read_records(alloc: Global, file: &[u8], count: usize) -> Result<u64, Fault> {
+    let mut reader = BlkReader::new(alloc, SliceSource::new(file));
     let mut bytes = 0u64;
-    for _ in 0..size {
-        if let Some(record) = reader.next().map_err(|_| Fault::Unread)? {
+    for _ in 0..count {
+        if let Some(record) = read_again(reader.next())? {
             bytes = bytes.wrapping_add(record.len() as u64);
         }
     }
-    Outcome::since(rt, begin, Check::Count(bytes))
+    Ok(bytes)
 }

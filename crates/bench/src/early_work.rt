@@ -1,57 +1,41 @@
 //! Scripts that were run before their block is connected.
 
-use crate::check::Check;
-use crate::connecting::connect_with;
+use crate::coin_work::put_coin;
+use crate::connecting::{HEIGHT, timed};
 use crate::fault::Fault;
-use crate::payments::{block_with, script};
+use crate::lists::{one, put};
+use crate::payments::{block_with, coin, input, output, transaction};
 use crate::timing::Outcome;
-use coins::{Cache, Coin, CoinMap};
-use connect::{Context, early_jobs};
+use block::Block;
+use coins::CoinMap;
+use connect::early_jobs;
 use curve::Table;
 use hash::Id;
-use queue::{Alone, Open, check_early};
-use rules::{Params, block_alone_with};
+use queue::{Alone, EarlyJobs, Open, check_early};
+use rules::Params;
 use std::alloc::Global;
 use std::rt::Clock;
 use std::thread::Threads;
-use std::time::Instant;
-use txn::{Inputs, OutPoint, Outputs, Tx, TxIn, TxOut, ids};
-
-/// The height of the block.
-const HEIGHT: u32 = 101;
+use txn::{OutPoint, Tx, ids};
 
 /// A transaction that spends so many coins whose script accepts, after they were put in.
 fn wide_tx(alloc: Global, map: &mut CoinMap, size: usize) -> Result<Tx, Fault> {
-    let mut inputs = Vec::with_capacity(alloc, size)?;
+    let mut inputs = Vec::new(alloc);
     for index in 0..size.min(1_000_000) as u32 {
-        let prev = OutPoint {
-            id: Id([7; 32]),
-            index,
-        };
-        let coin = Coin {
-            value: 5000,
-            script: script(alloc, &[0x51])?,
-            height: 7,
-            coinbase: false,
-        };
-        map.insert(prev, coin)?;
-        inputs.push(TxIn {
-            prev,
-            script: script(alloc, &[])?,
-            sequence: 0xffff_ffff,
-        })?;
+        let id = Id([7; 32]);
+        let prev = OutPoint { id, index };
+        put_coin(map, prev, coin(alloc, 5000, &[0x51])?)?;
+        put(&mut inputs, input(alloc, prev, &[])?)?;
     }
-    let mut outputs = Vec::with_capacity(alloc, 1)?;
-    outputs.push(TxOut {
-        value: 5000,
-        script: script(alloc, &[0x51])?,
-    })?;
-    Ok(Tx {
-        version: 1,
-        inputs: Inputs::from_vec(inputs),
-        outputs: Outputs::from_vec(outputs),
-        lock_time: 0,
-    })
+    let outputs = one(alloc, output(alloc, 5000, &[0x51])?)?;
+    Ok(transaction(inputs, outputs))
+}
+
+/// The scripts of a block that can be run before it's connected.
+fn jobs<'b>(alloc: Global, map: &CoinMap, block: &'b Block) -> Result<EarlyJobs<'b>, Fault> {
+    let ids = ids(alloc, block.txs.as_slice())?;
+    let flags = Params::regtest().at(HEIGHT);
+    Ok(early_jobs(alloc, map, block, &ids, flags)?)
 }
 
 /// A block whose one transaction has so many inputs, connected where the verdicts of all of them are at hand. The inputs
@@ -62,33 +46,10 @@ where
 {
     let alloc = rt.alloc();
     let mut map = CoinMap::new(alloc);
-    let txs = vec![in alloc; wide_tx(alloc, &mut map, size)?]?;
+    let txs = one(alloc, wide_tx(alloc, &mut map, size)?)?;
     let block = block_with(alloc, txs)?;
-    let params = Params::regtest();
-    let ids = ids(alloc, block.txs.as_slice())?;
-    if block_alone_with(alloc, &block, &block.id(), &ids)?.is_some() {
-        return Err(Fault::Unread);
-    }
     let table = Table::new(alloc);
-    let jobs = early_jobs(alloc, &map, &block, &ids, params.at(HEIGHT))?;
+    let jobs = jobs(alloc, &map, &block)?;
     let verdicts = [check_early(rt, alloc, jobs, &table, 4, &Open)?];
-    let context = Context {
-        height: HEIGHT,
-        cutoff: 1_296_688_602,
-        medians: &[],
-        params: &params,
-    };
-    let mut cache = Cache::over(alloc, &map);
-    let begin = Instant::now(rt)?;
-    let answer = connect_with(
-        alloc, &mut cache, &context, &block, &ids, &table, 1, &verdicts, &Alone,
-    )?;
-    let count = match answer {
-        Ok(undo) => match undo.as_slice() {
-            [spent] => spent.len() as u64,
-            _ => return Err(Fault::Unread),
-        },
-        Err(_) => return Err(Fault::Unread),
-    };
-    Outcome::since(rt, begin, Check::Count(count))
+    timed(rt, &map, &block, &table, 1, &verdicts, &Alone)
 }

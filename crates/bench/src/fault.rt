@@ -5,7 +5,7 @@ use std::{fmt, io};
 use wire::Memory;
 
 /// Why a run ends without its lines. Its `Display` is the line on the standard error.
-#[derive(Debug, Drop)]
+#[derive(Drop)]
 pub enum Fault {
     /// The command line has other words than a workload's name and a size.
     Words,
@@ -16,6 +16,14 @@ pub enum Fault {
     Unread,
     /// A node isn't opened, or doesn't answer.
     Node,
+}
+
+/// What was made here, or that it isn't read again.
+pub fn read_again<T, E: Drop>(read: Result<T, E>) -> Result<T, Fault> {
+    match read {
+        Ok(value) => Ok(value),
+        Err(_) => Err(Fault::Unread),
+    }
 }
 
 impl fmt::Display for Fault {

@@ -3,9 +3,11 @@
 use crate::check::Check;
 use crate::fault::Fault;
 use crate::filling::Filling;
+use crate::lists::put;
 use crate::timing::Outcome;
 use block::merkle;
 use hash::{Id, double_sha};
+use std::alloc::Global;
 use std::rt::Clock;
 use std::time::Instant;
 
@@ -18,7 +20,7 @@ pub fn double_sha_chain(clock: &impl Clock, size: usize) -> Result<Outcome, Faul
         digest = double_sha(message.as_slice());
         put_front(&mut message, &digest);
     }
-    Outcome::since(clock, begin, Check::Digest(digest))
+    Outcome::since(clock, begin, Check::of_digest(digest))
 }
 
 fn put_front(message: &mut [u8; 80], digest: &[u8; 32]) {
@@ -34,7 +36,7 @@ pub fn ripemd_chain(clock: &impl Clock, size: usize) -> Result<Outcome, Fault> {
         digest = ripemd::digest(message.as_slice());
         message[..20].copy_from_slice(digest.as_slice());
     }
-    Outcome::since(clock, begin, Check::Short(digest))
+    Outcome::since(clock, begin, Check::of_short(digest))
 }
 
 /// RIPEMD-160 of a message of so many bytes.
@@ -43,17 +45,22 @@ pub fn ripemd_long<R: AllocGlobal + Clock>(rt: &R, size: usize) -> Result<Outcom
     Filling::new(3).fill(message.as_mut_slice());
     let begin = Instant::now(rt)?;
     let digest = ripemd::digest(message.as_slice());
-    Outcome::since(rt, begin, Check::Short(digest))
+    Outcome::since(rt, begin, Check::of_short(digest))
 }
 
 /// The Merkle root of so many ids.
 pub fn merkle_root<R: AllocGlobal + Clock>(rt: &R, size: usize) -> Result<Outcome, Fault> {
-    let mut filling = Filling::new(4);
-    let mut ids = Vec::with_capacity(rt.alloc(), size)?;
-    for _ in 0..size {
-        ids.push(Id(filling.bytes()))?;
-    }
+    let ids = some_ids(rt.alloc(), size)?;
     let begin = Instant::now(rt)?;
     let (root, _) = merkle(rt.alloc(), ids.as_slice())?;
-    Outcome::since(rt, begin, Check::Id(root))
+    Outcome::since(rt, begin, Check::of_id(root))
+}
+
+fn some_ids(alloc: Global, size: usize) -> Result<Vec<Id>, Fault> {
+    let mut filling = Filling::new(4);
+    let mut ids = Vec::new(alloc);
+    for _ in 0..size {
+        put(&mut ids, Id(filling.bytes()))?;
+    }
+    Ok(ids)
 }

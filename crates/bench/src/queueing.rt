@@ -7,11 +7,13 @@ use crate::check::Check;
 use crate::fault::Fault;
 use crate::spends::{Spends, to_keys};
 use crate::timing::Outcome;
+use curve::Table;
 use interp::Job;
 use queue::{Open, first_failure};
 use std::rt::Clock;
 use std::thread::Threads;
 use std::time::Instant;
+use wire::Memory;
 
 /// Whether the queue takes these jobs: there are fewer than 2^32, each of an input that is there.
 fn are_ready(jobs: &[Job]) -> bool
@@ -43,15 +45,24 @@ where
     R: AllocGlobal + Clock + Threads + Sync,
 {
     let jobs = spends.jobs(rt.alloc())?;
-    let jobs = jobs.as_slice();
-    let workers = workers.clamp(1, 16);
     let mut count = 0u64;
     let begin = Instant::now(rt)?;
     for _ in 0..times {
-        if are_ready(jobs) {
-            let failure = first_failure(rt, rt.alloc(), jobs, &spends.table, workers, &Open)?;
-            count = count.wrapping_add(u64::from(failure.is_none()));
-        }
+        let is_accepted = are_accepted(rt, jobs.as_slice(), &spends.table, workers)?;
+        count = count.wrapping_add(u64::from(is_accepted));
     }
     Outcome::since(rt, begin, Check::Count(count))
+}
+
+/// Whether no job fails.
+fn are_accepted<R>(rt: &R, jobs: &[Job], table: &Table, workers: usize) -> Result<bool, Memory>
+where
+    R: AllocGlobal + Threads + Sync,
+{
+    if !are_ready(jobs) {
+        return Ok(false);
+    }
+    let workers = workers.clamp(1, 16);
+    let failure = first_failure(rt, rt.alloc(), jobs, table, workers, &Open)?;
+    Ok(failure.is_none())
 }

@@ -24,6 +24,9 @@ pub enum Look {
     Coin,
     /// `getbestblockhash` as often. It is counted.
     Best,
+    /// The first of two: each coin a hundred times by one seat. What they are worth is summed; the time is that of the slowest
+    /// read.
+    Slowest,
 }
 
 /// One read.
@@ -35,7 +38,7 @@ fn read<J: Naming, R: AllocGlobal>(
     look: Look,
 ) -> Result<u64, Fault> {
     match look {
-        Look::Coin => Ok(match seat.gettxout(rt.alloc(), node, at)?.value {
+        Look::Coin | Look::Slowest => Ok(match seat.gettxout(rt.alloc(), node, at)?.value {
             Some(output) => output.value.unsigned_abs(),
             None => 0,
         }),
@@ -60,8 +63,28 @@ fn read_each<J: Naming, R: AllocGlobal>(
     Ok(sum)
 }
 
-/// Each seat reads each place, on a thread of its own. The time is of all together; all that was read is summed.
+/// Each seat reads each place, or the first looks for the slowest read.
 pub fn reads<J: Naming, R>(
+    rt: &R,
+    node: &Node<'_, J>,
+    places: &[OutPoint],
+    look: Look,
+    seats: &mut [Seat<'_, J>],
+) -> Result<Outcome, Fault>
+where
+    R: AllocGlobal + Clock + Threads + Sync,
+{
+    match look {
+        Look::Slowest => match seats.first_mut() {
+            Some(seat) => slowest_of(rt, node, places, seat),
+            None => Err(Fault::Node),
+        },
+        _ => at_once(rt, node, places, look, seats),
+    }
+}
+
+/// Each seat reads each place, on a thread of its own. The time is of all together; all that was read is summed.
+fn at_once<J: Naming, R>(
     rt: &R,
     node: &Node<'_, J>,
     places: &[OutPoint],
@@ -79,53 +102,6 @@ where
     let begin = Instant::now(rt)?;
     thread::for_each_mut(rt, seats, 16, &ask);
     Outcome::since(rt, begin, Check::Count(sum.load(SeqCst)))
-}
-
-/// Submits blocks until it is told to end.
-fn submit_until<J: Naming, R>(
-    rt: &R,
-    node: &Node<'_, J>,
-    blocks: &[Vec<u8>],
-    is_over: &AtomicBool,
-    seat: &mut Seat<'_, J>,
-) -> Result<(), Fault>
-where
-    R: Threads + Wait + Sync,
-{
-    for bytes in blocks {
-        if is_over.load(SeqCst) {
-            return Ok(());
-        }
-        seat.submit(rt, node, bytes.as_slice(), NOW)?;
-    }
-    Ok(())
-}
-
-/// The same while the first seat submits blocks.
-pub fn reads_beside<J: Naming, R>(
-    rt: &R,
-    node: &Node<'_, J>,
-    seats: &mut [Seat<'_, J>],
-    places: &[OutPoint],
-    blocks: &[Vec<u8>],
-) -> Result<Outcome, Fault>
-where
-    R: AllocGlobal + Clock + Threads + Wait + Sync,
-{
-    let Some((writer, readers)) = seats.split_first_mut() else {
-        return Err(Fault::Node);
-    };
-    let is_over = AtomicBool::new(false);
-    let write = || submit_until(rt, node, blocks, &is_over, writer);
-    let ask = || {
-        let over = &is_over;
-        let outcome = reads(rt, node, places, Look::Coin, readers);
-        over.store(true, SeqCst);
-        outcome
-    };
-    let (written, outcome) = thread::join(rt, write, ask);
-    written?;
-    outcome
 }
 
 /// The slowest of so many rounds of reads, and what was read.
@@ -156,12 +132,33 @@ where
     })
 }
 
-/// The slowest read of the second seat while the first submits blocks.
-pub fn slowest_beside<J: Naming, R>(
+/// Submits blocks until it is told to end.
+fn submit_until<J: Naming, R>(
+    rt: &R,
+    node: &Node<'_, J>,
+    blocks: &[Vec<u8>],
+    is_over: &AtomicBool,
+    seat: &mut Seat<'_, J>,
+) -> Result<(), Fault>
+where
+    R: Threads + Wait + Sync,
+{
+    for bytes in blocks {
+        if is_over.load(SeqCst) {
+            return Ok(());
+        }
+        seat.submit(rt, node, bytes.as_slice(), NOW)?;
+    }
+    Ok(())
+}
+
+/// Reads while the first seat submits blocks.
+pub fn reads_beside<J: Naming, R>(
     rt: &R,
     node: &Node<'_, J>,
     seats: &mut [Seat<'_, J>],
     places: &[OutPoint],
+    look: Look,
     blocks: &[Vec<u8>],
 ) -> Result<Outcome, Fault>
 where
@@ -170,14 +167,11 @@ where
     let Some((writer, readers)) = seats.split_first_mut() else {
         return Err(Fault::Node);
     };
-    let Some(reader) = readers.first_mut() else {
-        return Err(Fault::Node);
-    };
     let is_over = AtomicBool::new(false);
     let write = || submit_until(rt, node, blocks, &is_over, writer);
     let ask = || {
         let over = &is_over;
-        let outcome = slowest_of(rt, node, places, reader);
+        let outcome = reads(rt, node, places, look, readers);
         over.store(true, SeqCst);
         outcome
     };

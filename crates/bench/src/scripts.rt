@@ -3,6 +3,7 @@
 use crate::check::Check;
 use crate::fault::Fault;
 use crate::filling::Filling;
+use crate::lists::{put, put_bytes, put_times};
 use crate::spends::{Spend, Spends, key, put_push, signature, signed_input, spender};
 use crate::timing::Outcome;
 use curve::Table;
@@ -30,24 +31,16 @@ const OP_HASH256: u8 = 0xaa;
 
 const OP_CHECKSIG: u8 = 0xac;
 
-/// Verifies each job of these, and counts those that are accepted.
-pub fn verify_each<R: AllocGlobal + Clock>(rt: &R, spends: &Spends) -> Result<Outcome, Fault> {
-    let jobs = spends.jobs(rt.alloc())?;
-    let begin = Instant::now(rt)?;
-    let count = accepted(rt.alloc(), jobs.as_slice(), &spends.table)?;
-    Outcome::since(rt, begin, Check::Count(count))
-}
-
-/// Verifies one job so often.
-pub fn verify_again<R: AllocGlobal + Clock>(
+/// Verifies each job of these, so often, and counts those that are accepted.
+pub fn verify_each<R: AllocGlobal + Clock>(
     rt: &R,
     spends: &Spends,
-    size: usize,
+    times: usize,
 ) -> Result<Outcome, Fault> {
     let jobs = spends.jobs(rt.alloc())?;
     let begin = Instant::now(rt)?;
     let mut count = 0u64;
-    for _ in 0..size {
+    for _ in 0..times {
         count = count.wrapping_add(accepted(rt.alloc(), jobs.as_slice(), &spends.table)?);
     }
     Outcome::since(rt, begin, Check::Count(count))
@@ -68,7 +61,7 @@ pub fn accepted(alloc: Global, jobs: &[Job], table: &Table) -> Result<u64, Memor
 fn one(alloc: Global, input: &[u8], spent: Vec<u8>) -> Result<Spends, Fault> {
     let mut spends = Spends::new(alloc);
     let tx = spender(alloc, &mut Filling::new(8), input)?;
-    spends.list.push(Spend { tx, spent })?;
+    put(&mut spends.list, Spend { tx, spent })?;
     Ok(spends)
 }
 
@@ -78,10 +71,17 @@ pub fn swaps(alloc: Global) -> Result<Spends, Fault> {
     let mut input = Vec::new(alloc);
     for _ in 0..2 {
         let element: [u8; 520] = filling.bytes();
-        input.extend_from_slice(&[0x4d, 8, 2])?;
-        input.extend_from_slice(element.as_slice())?;
+        put_bytes(&mut input, &[0x4d, 8, 2])?;
+        put_bytes(&mut input, element.as_slice())?;
     }
-    one(alloc, input.as_slice(), vec![in alloc; OP_SWAP; 201]?)
+    one(alloc, input.as_slice(), times(alloc, OP_SWAP, 201)?)
+}
+
+/// An opcode so often.
+fn times(alloc: Global, op: u8, count: usize) -> Result<Vec<u8>, Fault> {
+    let mut script = Vec::new(alloc);
+    put_times(&mut script, op, count)?;
+    Ok(script)
 }
 
 /// 200 times HASH256.
@@ -89,16 +89,21 @@ pub fn hashes(alloc: Global) -> Result<Spends, Fault> {
     let element: [u8; 32] = Filling::new(10).bytes();
     let mut input = Vec::new(alloc);
     put_push(&mut input, element.as_slice())?;
-    one(alloc, input.as_slice(), vec![in alloc; OP_HASH256; 200]?)
+    one(alloc, input.as_slice(), times(alloc, OP_HASH256, 200)?)
 }
 
 /// 9,700 opcodes under 100 open conditions.
 pub fn conditions(alloc: Global) -> Result<Spends, Fault> {
-    let mut spent = vec![in alloc; OP_0]?;
-    spent.resize(101, OP_IF)?;
-    spent.resize(9801, OP_1)?;
-    spent.resize(9901, OP_ENDIF)?;
-    spent.push(OP_1)?;
+    let mut spent = Vec::new(alloc);
+    for (op, count) in [
+        (OP_0, 1),
+        (OP_IF, 100),
+        (OP_1, 9700),
+        (OP_ENDIF, 100),
+        (OP_1, 1),
+    ] {
+        put_times(&mut spent, op, count)?;
+    }
     one(alloc, &[], spent)
 }
 
@@ -113,27 +118,28 @@ pub fn long_code(alloc: Global) -> Result<Spends, Fault> {
     let spend = Spend { tx, spent };
     let mut spends = Spends::new(alloc);
     spends.sign(&spend, &key, &signature)?;
-    spends.list.push(spend)?;
+    put(&mut spends.list, spend)?;
     Ok(spends)
 }
 
 /// 66 CHECKSIG of the two elements that the input leaves, in a script of 9,600 opcodes, nearly all in a branch that
 /// isn't taken. So it is what a signature signs that costs.
-pub fn long_script(alloc: Global) -> Result<Vec<u8>, Memory> {
-    let mut script = vec![in alloc; OP_0, OP_IF]?;
-    script.resize(9401, OP_1)?;
-    script.push(OP_ENDIF)?;
+pub fn long_script(alloc: Global) -> Result<Vec<u8>, Fault> {
+    let mut script = Vec::new(alloc);
+    for (op, count) in [(OP_0, 1), (OP_IF, 1), (OP_1, 9399), (OP_ENDIF, 1)] {
+        put_times(&mut script, op, count)?;
+    }
     for _ in 0..66 {
-        script.extend_from_slice(&[OP_2DUP, OP_CHECKSIG, OP_DROP])?;
+        put_bytes(&mut script, &[OP_2DUP, OP_CHECKSIG, OP_DROP])?;
     }
     Ok(script)
 }
 
 /// The same of a signature and a key that it pushes itself.
-pub fn long_script_alone(alloc: Global) -> Result<Vec<u8>, Memory> {
+pub fn long_script_alone(alloc: Global) -> Result<Vec<u8>, Fault> {
     let mut filling = Filling::new(17);
     let key = key(&mut filling, 0);
     let mut script = signed_input(alloc, &signature(&mut filling), &key)?;
-    script.extend_from_slice(long_script(alloc)?.as_slice())?;
+    put_bytes(&mut script, long_script(alloc)?.as_slice())?;
     Ok(script)
 }

@@ -5,44 +5,39 @@ ghost use Rattle.std.specs.Prelude.{◌≡◌};
 use crate::check::Check;
 use crate::fault::Fault;
 use crate::filling::Filling;
+use crate::lists::put;
+use crate::payments::{input, nowhere, transaction};
 use crate::scripts::accepted;
-use crate::spends::{ALL, digest, key, put_push, put_signature, signature};
+use crate::spends::{ALL, add_valid, digest, key, put_push, put_signature, signature};
 use crate::timing::Outcome;
 use curve::Table;
-use hash::Id;
 use interp::{Flags, Job};
 use sighash::Midstates;
 use std::alloc::Global;
 use std::rt::Clock;
 use std::time::Instant;
-use txn::{Inputs, OutPoint, Outputs, Script, Tx, TxIn};
-use wire::Memory;
+use txn::{Tx, TxIn};
 
 /// A transaction of so many inputs of one script, and no output.
-fn transaction(alloc: Global, size: usize, script: &[u8]) -> Result<Tx, Fault> {
+fn of_inputs(alloc: Global, size: usize, script: &[u8]) -> Result<Tx, Fault> {
     let mut filling = Filling::new(12);
-    let mut inputs = Vec::with_capacity(alloc, size)?;
+    let mut inputs = Vec::new(alloc);
     for _ in 0..size {
-        inputs.push(TxIn {
-            prev: OutPoint {
-                id: Id(filling.bytes()),
-                index: 0,
+        let input = input(alloc, nowhere(&mut filling), script)?;
+        put(
+            &mut inputs,
+            TxIn {
+                sequence: 0,
+                ..input
             },
-            script: Script::from_vec(Vec::from_slice(alloc, script)?),
-            sequence: 0,
-        })?;
+        )?;
     }
-    Ok(Tx {
-        version: 1,
-        inputs: Inputs::from_vec(inputs),
-        outputs: Outputs::from_vec(Vec::new(alloc)),
-        lock_time: 0,
-    })
+    Ok(transaction(inputs, Vec::new(alloc)))
 }
 
 /// So many digests of a transaction of 1,000 inputs.
 pub fn digests<R: AllocGlobal + Clock>(rt: &R, size: usize) -> Result<Outcome, Fault> {
-    let tx = transaction(rt.alloc(), 1000, &[])?;
+    let tx = of_inputs(rt.alloc(), 1000, &[])?;
     let code = [OP_CHECKSIG; 25];
     let mut last = [0; 32];
     let begin = Instant::now(rt)?;
@@ -50,7 +45,7 @@ pub fn digests<R: AllocGlobal + Clock>(rt: &R, size: usize) -> Result<Outcome, F
     for number in 0..size {
         last = shared_digest(&midstates, number % 1000, code.as_slice());
     }
-    Outcome::since(rt, begin, Check::Digest(last))
+    Outcome::since(rt, begin, Check::of_digest(last))
 }
 
 /// What a signature of an input signs, by ALL. Where there is no such input, zeros.
@@ -80,7 +75,7 @@ impl Signed {
         let signature = signature(&mut filling);
         let mut input = Vec::new(alloc);
         put_signature(&mut input, &signature)?;
-        let tx = transaction(alloc, size, input.as_slice())?;
+        let tx = of_inputs(alloc, size, input.as_slice())?;
         let spent = to_key(alloc, &key)?;
         Ok(Signed {
             key,
@@ -91,11 +86,11 @@ impl Signed {
     }
 
     /// The table in which the signature is valid for each of these inputs.
-    fn table(&self, alloc: Global) -> Result<Table, Memory> {
+    fn table(&self, alloc: Global) -> Result<Table, Fault> {
         let mut table = Table::new(alloc);
         for number in 0..self.tx.inputs.len() {
             let digest = digest(&self.tx, number, self.spent.as_slice());
-            table.add(self.key.as_slice(), self.signature.as_slice(), &digest)?;
+            add_valid(&mut table, &self.key, &self.signature, &digest)?;
         }
         Ok(table)
     }
@@ -105,7 +100,7 @@ impl Signed {
         &'a self,
         alloc: Global,
         midstates: &'a Midstates<'a>,
-    ) -> Result<Vec<Job<'a>>, Memory>
+    ) -> Result<Vec<Job<'a>>, Fault>
         requires { midstates.now.tx.now ≡ self.now.tx.now }
     {
         let mut jobs = Vec::with_capacity(alloc, self.tx.inputs.len())?;
@@ -123,10 +118,10 @@ impl Signed {
 }
 
 /// The push of a key, and CHECKSIG.
-fn to_key(alloc: Global, key: &[u8; 33]) -> Result<Vec<u8>, Memory> {
+fn to_key(alloc: Global, key: &[u8; 33]) -> Result<Vec<u8>, Fault> {
     let mut script = Vec::new(alloc);
     put_push(&mut script, key.as_slice())?;
-    script.push(OP_CHECKSIG)?;
+    put(&mut script, OP_CHECKSIG)?;
     Ok(script)
 }
 
@@ -134,9 +129,9 @@ fn to_key(alloc: Global, key: &[u8; 33]) -> Result<Vec<u8>, Memory> {
 pub fn each_input<R: AllocGlobal + Clock>(rt: &R, size: usize) -> Result<Outcome, Fault> {
     let signed = Signed::new(rt.alloc(), size)?;
     let table = signed.table(rt.alloc())?;
-    let begin = Instant::now(rt)?;
     let midstates = Midstates::of(rt.alloc(), &signed.tx)?;
     let jobs = signed.jobs(rt.alloc(), &midstates)?;
+    let begin = Instant::now(rt)?;
     let count = accepted(rt.alloc(), jobs.as_slice(), &table)?;
     Outcome::since(rt, begin, Check::Count(count))
 }

@@ -2,13 +2,13 @@
 
 use crate::fault::Fault;
 use crate::filling::Filling;
-use crate::payments::{script, spending, to_key_hash};
+use crate::lists::{one, put, put_bytes};
+use crate::payments::{nowhere, output, spending, to_key_hash};
 use curve::Table;
-use hash::{Id, hash160};
+use hash::hash160;
 use interp::{Flags, Job};
 use std::alloc::Global;
-use txn::{OutPoint, Tx, TxOut};
-use wire::Memory;
+use txn::Tx;
 
 /// The hash type ALL.
 pub const ALL: u8 = 1;
@@ -41,27 +41,41 @@ impl Spends {
         spend: &Spend,
         key: &[u8; 33],
         signature: &[u8; 70],
-    ) -> Result<(), Memory> {
+    ) -> Result<(), Fault> {
         let digest = digest(&spend.tx, 0, spend.spent.as_slice());
-        self.table
-            .add(key.as_slice(), signature.as_slice(), &digest)?;
-        Ok(())
+        add_valid(&mut self.table, key, signature, &digest)
     }
 
     /// A job for each of them, with all rules in force.
-    pub fn jobs(&self, alloc: Global) -> Result<Vec<Job<'_>>, Memory> {
-        let mut jobs = Vec::with_capacity(alloc, self.list.len())?;
+    pub fn jobs(&self, alloc: Global) -> Result<Vec<Job<'_>>, Fault> {
+        let mut jobs = Vec::new(alloc);
         for spend in self.list.as_slice() {
-            jobs.push(Job {
-                tx: &spend.tx,
-                input: 0,
-                spent: spend.spent.as_slice(),
-                flags: Flags::ALL,
-                midstates: None,
-            })?;
+            put(&mut jobs, job(&spend.tx, 0, spend.spent.as_slice()))?;
         }
         Ok(jobs)
     }
+}
+
+/// The job of an input that spends this script, with all rules in force.
+pub fn job<'a>(tx: &'a Tx, input: usize, spent: &'a [u8]) -> Job<'a> {
+    Job {
+        tx,
+        input,
+        spent,
+        flags: Flags::ALL,
+        midstates: None,
+    }
+}
+
+/// Makes a key's signature of a digest valid.
+pub fn add_valid(
+    table: &mut Table,
+    key: &[u8; 33],
+    signature: &[u8; 70],
+    digest: &[u8; 32],
+) -> Result<(), Fault> {
+    table.add(key.as_slice(), signature.as_slice(), digest)?;
+    Ok(())
 }
 
 /// A compressed key of this number, in whose order the keys are.
@@ -86,33 +100,24 @@ pub fn signature(filling: &mut Filling) -> [u8; 70] {
 }
 
 /// Puts the push of these bytes, of which there are at most 75, behind a script.
-pub fn put_push(script: &mut Vec<u8>, bytes: &[u8]) -> Result<(), Memory> {
-    script.push((bytes.len() % 76) as u8)?;
-    script.extend_from_slice(bytes)?;
-    Ok(())
+pub fn put_push(script: &mut Vec<u8>, bytes: &[u8]) -> Result<(), Fault> {
+    put(script, (bytes.len() % 76) as u8)?;
+    put_bytes(script, bytes)
 }
 
 /// Puts the push of a signature with its hash type behind a script.
-pub fn put_signature(script: &mut Vec<u8>, signature: &[u8; 70]) -> Result<(), Memory> {
-    script.push(71)?;
-    script.extend_from_slice(signature.as_slice())?;
-    script.push(ALL)?;
-    Ok(())
+pub fn put_signature(script: &mut Vec<u8>, signature: &[u8; 70]) -> Result<(), Fault> {
+    put(script, 71)?;
+    put_bytes(script, signature.as_slice())?;
+    put(script, ALL)
 }
 
 /// A transaction with one input of this script, and one output.
 pub fn spender(alloc: Global, filling: &mut Filling, input: &[u8]) -> Result<Tx, Fault> {
-    let prev = OutPoint {
-        id: Id(filling.bytes()),
-        index: 0,
-    };
+    let prev = nowhere(filling);
     let hash: [u8; 20] = filling.bytes();
-    let mut outputs = Vec::with_capacity(alloc, 1)?;
-    outputs.push(TxOut {
-        value: 1000,
-        script: script(alloc, to_key_hash(&hash).as_slice())?,
-    })?;
-    spending(alloc, prev, script(alloc, input)?, outputs)
+    let outputs = one(alloc, output(alloc, 1000, to_key_hash(&hash).as_slice())?)?;
+    spending(alloc, prev, input, outputs)
 }
 
 /// What a signature of an input signs, by ALL. Where there is no such input, zeros.
@@ -124,11 +129,7 @@ pub fn digest(tx: &Tx, input: usize, code: &[u8]) -> [u8; 32] {
 }
 
 /// The push of a signature with its hash type, and of its key.
-pub fn signed_input(
-    alloc: Global,
-    signature: &[u8; 70],
-    key: &[u8; 33],
-) -> Result<Vec<u8>, Memory> {
+pub fn signed_input(alloc: Global, signature: &[u8; 70], key: &[u8; 33]) -> Result<Vec<u8>, Fault> {
     let mut input = Vec::new(alloc);
     put_signature(&mut input, signature)?;
     put_push(&mut input, key.as_slice())?;
@@ -157,8 +158,7 @@ fn put_to_key(
     let input = signed_input(alloc, &signature, &key)?;
     let spend = spend_of_key(alloc, filling, input.as_slice(), &key)?;
     spends.sign(&spend, &key, &signature)?;
-    spends.list.push(spend)?;
-    Ok(())
+    put(&mut spends.list, spend)
 }
 
 /// A payment with an input of this script, which spends one to the hash of a key.
@@ -174,18 +174,18 @@ fn spend_of_key(
 }
 
 /// The bare script of two of three keys.
-fn two_of_three(alloc: Global, keys: &[[u8; 33]]) -> Result<Vec<u8>, Memory> {
-    let mut bytes = vec![in alloc; 0x52]?;
+fn two_of_three(alloc: Global, keys: &[[u8; 33]]) -> Result<Vec<u8>, Fault> {
+    let mut bytes = one(alloc, 0x52)?;
     for key in keys {
         put_push(&mut bytes, key.as_slice())?;
     }
-    bytes.extend_from_slice(&[0x53, 0xae])?;
+    put_bytes(&mut bytes, &[0x53, 0xae])?;
     Ok(bytes)
 }
 
 /// The pushes of two signatures, behind the element that CHECKMULTISIG takes too much.
-fn input_of_two(alloc: Global, signatures: &[[u8; 70]]) -> Result<Vec<u8>, Memory> {
-    let mut input = vec![in alloc; 0]?;
+fn input_of_two(alloc: Global, signatures: &[[u8; 70]]) -> Result<Vec<u8>, Fault> {
+    let mut input = one(alloc, 0)?;
     for signature in signatures {
         put_signature(&mut input, signature)?;
     }
@@ -220,9 +220,8 @@ fn put_to_two_of_three(
     let tx = spender(alloc, filling, input.as_slice())?;
     let spent = two_of_three(alloc, keys.as_slice())?;
     let spend = Spend { tx, spent };
-    for (signature, key) in signatures.iter().zip(keys.iter()) {
-        spends.sign(&spend, key, signature)?;
-    }
-    spends.list.push(spend)?;
-    Ok(())
+    let [first, second, _] = &keys;
+    spends.sign(&spend, first, &signatures[0])?;
+    spends.sign(&spend, second, &signatures[1])?;
+    put(&mut spends.list, spend)
 }

@@ -1,11 +1,13 @@
 //! Chains with coins for payments.
 
-use crate::branch::Branch;
+use crate::branch::{Branch, bytes_of};
 use crate::fault::Fault;
 use crate::filling::Filling;
-use crate::payments::{script, signed, spending};
+use crate::lists::put;
+use crate::payments::{output, signed, spending};
+use hash::Id;
 use std::alloc::Global;
-use txn::{OutPoint, Outputs, Tx, TxOut, ids};
+use txn::{OutPoint, Tx, TxOut, ids};
 
 /// So many blocks stand below the first that spends a coinbase.
 const UNRIPE: usize = 100;
@@ -32,12 +34,9 @@ pub struct Paid<'s> {
 
 impl Paid<'_> {
     fn outputs(&self, alloc: Global) -> Result<Vec<TxOut>, Fault> {
-        let mut outputs = Vec::with_capacity(alloc, self.outputs)?;
+        let mut outputs = Vec::new(alloc);
         for _ in 0..self.outputs {
-            outputs.push(TxOut {
-                value: self.worth,
-                script: script(alloc, self.script)?,
-            })?;
+            put(&mut outputs, output(alloc, self.worth, self.script)?)?;
         }
         Ok(outputs)
     }
@@ -50,10 +49,11 @@ pub fn payments(
     coins: &[OutPoint],
     paid: &Paid<'_>,
 ) -> Result<Vec<Tx>, Fault> {
-    let mut payments = Vec::with_capacity(alloc, coins.len())?;
+    let mut payments = Vec::new(alloc);
     for prev in coins {
-        let input = script(alloc, signed(filling).as_slice())?;
-        payments.push(spending(alloc, *prev, input, paid.outputs(alloc)?)?)?;
+        let input = signed(filling);
+        let tx = spending(alloc, *prev, input.as_slice(), paid.outputs(alloc)?)?;
+        put(&mut payments, tx)?;
     }
     Ok(payments)
 }
@@ -62,9 +62,15 @@ pub fn payments(
 pub fn put_made(alloc: Global, made: &mut Vec<OutPoint>, payments: &[Tx]) -> Result<(), Fault> {
     let ids = ids(alloc, payments)?;
     for (tx, id) in payments.iter().zip(ids.iter()) {
-        for index in 0..tx.outputs.len().min(1_000_000) as u32 {
-            made.push(OutPoint { id: *id, index })?;
-        }
+        put_outputs(made, id, tx.outputs.len())?;
+    }
+    Ok(())
+}
+
+/// Puts so many outputs of a transaction behind others.
+fn put_outputs(made: &mut Vec<OutPoint>, id: &Id, count: usize) -> Result<(), Fault> {
+    for index in 0..count.min(1_000_000) as u32 {
+        put(made, OutPoint { id: *id, index })?;
     }
     Ok(())
 }
@@ -104,17 +110,14 @@ impl Start {
     /// One more block without payments, whose coinbase is spent later.
     fn ripen(&mut self, alloc: Global) -> Result<(), Fault> {
         let block = self.branch.next_block(alloc, Vec::new(alloc))?;
-        let mut bytes = Vec::new(alloc);
-        block::write(&block, &mut bytes)?;
-        self.blocks.push(bytes)?;
+        put(&mut self.blocks, bytes_of(alloc, &block)?)?;
         put_made(alloc, &mut self.unripe, block.txs.as_slice())
     }
 
     /// One more block, of these payments.
     pub fn add(&mut self, alloc: Global, payments: Vec<Tx>) -> Result<(), Fault> {
         let bytes = self.branch.next_bytes(alloc, payments)?;
-        self.blocks.push(bytes)?;
-        Ok(())
+        put(&mut self.blocks, bytes)
     }
 
     /// Spends coinbases for so many coins of a script, in blocks of up to 20,000.
@@ -180,18 +183,32 @@ pub fn paying(
 ) -> Result<Vec<Vec<u8>>, Fault> {
     let mut branch = branch;
     let mut filling = Filling::new(u64::from(branch.number).wrapping_add(20));
+    let mut coins = copied(alloc, coins)?;
+    let mut blocks = Vec::new(alloc);
+    for _ in 0..count {
+        let payments = paid_again(alloc, &mut filling, &mut coins)?;
+        put(&mut blocks, branch.next_bytes(alloc, payments)?)?;
+    }
+    Ok(blocks)
+}
+
+/// A payment of each of these coins, in whose place their outputs come.
+fn paid_again(
+    alloc: Global,
+    filling: &mut Filling,
+    coins: &mut Vec<OutPoint>,
+) -> Result<Vec<Tx>, Fault> {
     let paid = Paid {
         outputs: 1,
         worth: WORTH,
         script: TRUE,
     };
-    let mut coins = Vec::from_slice(alloc, coins)?;
-    let mut blocks = Vec::with_capacity(alloc, count)?;
-    for _ in 0..count {
-        let payments = payments(alloc, &mut filling, coins.as_slice(), &paid)?;
-        coins.clear();
-        put_made(alloc, &mut coins, payments.as_slice())?;
-        blocks.push(branch.next_bytes(alloc, payments)?)?;
-    }
-    Ok(blocks)
+    let payments = payments(alloc, filling, coins.as_slice(), &paid)?;
+    coins.clear();
+    put_made(alloc, coins, payments.as_slice())?;
+    Ok(payments)
+}
+
+fn copied(alloc: Global, coins: &[OutPoint]) -> Result<Vec<OutPoint>, Fault> {
+    Ok(Vec::from_slice(alloc, coins)?)
 }

@@ -29,8 +29,8 @@ where
     R: AllocGlobal + Clock + Threads + Wait + Sync,
     O: Write,
 {
-    for (workload, name, size) in ALL {
-        let check = workload.run(rt, size)?.check;
+    for (workload, name, size) in &ALL {
+        let check = workload.run(rt, *size)?.check;
         writeln!(out, "{name} {size} {check}")?;
     }
     Ok(())
@@ -42,7 +42,9 @@ where
     O: Write,
 {
     let workload = Workload::named(name).ok_or(Fault::Words)?;
-    let size = size.parse::<usize>().map_err(|_| Fault::Words)?;
+    let Ok(size) = size.parse::<usize>() else {
+        return Err(Fault::Words);
+    };
     let outcome = workload.run(rt, size)?;
     let seconds = outcome.spent.as_secs_f64();
     writeln!(out, "{name} {size} {seconds:.9} {}", outcome.check)?;

@@ -1,13 +1,17 @@
 //! The workloads by their names.
 
+use crate::branch::Branch;
 use crate::fault::Fault;
+use crate::node_work::at_node;
+use crate::plan::Plan;
 use crate::read_work::Look;
 use crate::spends::{to_keys, to_two_of_three};
 use crate::timing::Outcome;
 use crate::{
-    chain_work, coin_work, connecting, decoding, early_work, hashing, node_work, queueing, scripts,
+    chain_work, coin_work, connecting, decoding, early_work, hashing, plan, queueing, scripts,
     signing,
 };
+use std::alloc::Global;
 use std::rt::Clock;
 use std::sync::Wait;
 use std::thread::Threads;
@@ -126,9 +130,9 @@ pub const ALL: [(Workload, &str, usize); 61] = [
 
 impl Workload {
     pub fn named(name: &str) -> Option<Workload> {
-        for (workload, own, _) in ALL {
-            if own == name {
-                return Some(workload);
+        for (workload, own, _) in &ALL {
+            if *own == name {
+                return Some(*workload);
             }
         }
         None
@@ -149,12 +153,12 @@ impl Workload {
             Workload::Ids => decoding::payment_ids(rt, size),
             Workload::Alone => decoding::alone(rt, size),
             Workload::Records => decoding::records(rt, size),
-            Workload::KeyHash => scripts::verify_each(rt, &to_keys(alloc, size)?),
-            Workload::TwoOfThree => scripts::verify_each(rt, &to_two_of_three(alloc, size)?),
-            Workload::Swaps => scripts::verify_again(rt, &scripts::swaps(alloc)?, size),
-            Workload::Hashes => scripts::verify_again(rt, &scripts::hashes(alloc)?, size),
-            Workload::LongCode => scripts::verify_again(rt, &scripts::long_code(alloc)?, size),
-            Workload::Conditions => scripts::verify_again(rt, &scripts::conditions(alloc)?, size),
+            Workload::KeyHash => scripts::verify_each(rt, &to_keys(alloc, size)?, 1),
+            Workload::TwoOfThree => scripts::verify_each(rt, &to_two_of_three(alloc, size)?, 1),
+            Workload::Swaps => scripts::verify_each(rt, &scripts::swaps(alloc)?, size),
+            Workload::Hashes => scripts::verify_each(rt, &scripts::hashes(alloc)?, size),
+            Workload::LongCode => scripts::verify_each(rt, &scripts::long_code(alloc)?, size),
+            Workload::Conditions => scripts::verify_each(rt, &scripts::conditions(alloc)?, size),
             Workload::Digests => signing::digests(rt, size),
             Workload::EachInput => signing::each_input(rt, size),
             Workload::Queue(workers) => queueing::payments(rt, size, workers),
@@ -162,6 +166,8 @@ impl Workload {
             Workload::CoinsInsert => coin_work::inserted(rt, size),
             Workload::CoinsLookUp => coin_work::looked_up(rt, size),
             Workload::CoinsSpend => coin_work::spent(rt, size),
+            Workload::HoldCoins => coin_work::held(rt, size),
+            Workload::ReadMap => coin_work::read_from_a_map(rt, size),
             Workload::Connect(workers) => connecting::connected(rt, size, workers),
             Workload::EarlyWide => early_work::wide(rt, size),
             Workload::Chain => chain_work::chained(rt, size),
@@ -169,29 +175,24 @@ impl Workload {
             Workload::ChainBeside => chain_work::kept_beside(rt, size),
             Workload::BlocksAbove => chain_work::blocks_above(rt, size),
             Workload::Reorganise => chain_work::reorganised(rt, size),
-            _ => self.run_at_node(rt, size),
+            _ => at_node(rt, self.plan(alloc, size)?),
         }
     }
 
-    /// Those of a node and its seats.
-    fn run_at_node<R>(self, rt: &R, size: usize) -> Result<Outcome, Fault>
-    where
-        R: AllocGlobal + Clock + Threads + Wait + Sync,
-    {
+    /// What a node's seats do.
+    fn plan(self, alloc: Global, size: usize) -> Result<Plan, Fault> {
         match self {
-            Workload::ReadMap => node_work::map_reads(rt, size),
-            Workload::ReadCoin(readers) => node_work::read(rt, size, readers, Look::Coin),
-            Workload::ReadBest(readers) => node_work::read(rt, size, readers, Look::Best),
-            Workload::ReadBeside(readers) => node_work::read_beside(rt, size, readers),
-            Workload::Slowest => node_work::slowest(rt, size),
-            Workload::Publish(payments) => node_work::published(rt, size, payments),
-            Workload::Seats(seats) => node_work::branches(rt, size, seats),
-            Workload::Turns(seats) => node_work::turns(rt, size, seats),
-            Workload::Workers(workers) => node_work::worked(rt, size, workers),
-            Workload::Keep => node_work::keep(rt, size),
-            Workload::KeepHeavy => node_work::keep_heavy(rt, size),
-            Workload::KeepCoins => node_work::keep_coins(rt, size),
-            _ => coin_work::held(rt, size),
+            Workload::ReadCoin(readers) => plan::reads(alloc, size, readers, Look::Coin),
+            Workload::ReadBest(readers) => plan::reads(alloc, size, readers, Look::Best),
+            Workload::ReadBeside(readers) => plan::reads_beside(alloc, size, readers),
+            Workload::Slowest => plan::slowest(alloc, size),
+            Workload::Publish(payments) => plan::published(alloc, size, payments),
+            Workload::Seats(seats) => plan::branches(alloc, size, seats),
+            Workload::Turns(seats) => plan::turns(alloc, size, seats),
+            Workload::Workers(workers) => plan::worked(alloc, size, workers),
+            Workload::KeepHeavy => Ok(plan::kept(alloc, Branch::heavy(1), size)),
+            Workload::KeepCoins => plan::kept_coins(alloc, size),
+            _ => Ok(plan::kept(alloc, Branch::new(1), size)),
         }
     }
 }

@@ -1,0 +1,201 @@
+//! The chains over which a node is timed, and what its seats do there.
+
+use crate::branch::Branch;
+use crate::fault::Fault;
+use crate::filling::Filling;
+use crate::read_work::Look;
+use crate::scripts::long_script_alone;
+use crate::start::{Start, TRUE, paying};
+use std::alloc::Global;
+use txn::OutPoint;
+
+/// So many payments stand in a block beside which is read, and in each of branches that are submitted at once.
+const PAYMENTS: usize = 1000;
+
+/// So many payments are submitted while the slowest read is looked for.
+const SLOWEST: usize = 120_000;
+
+/// The most blocks of them.
+const MANY: usize = 240;
+
+/// So many steps are timed where it is asked what one costs.
+const STEPS: usize = 10;
+
+/// So many branches are submitted at once.
+const BRANCHES: u32 = 4;
+
+/// The most coins that are read where the slowest read is looked for, a hundred times each.
+const READ: usize = 10_000;
+
+/// What the seats of a node do.
+#[derive(Drop)]
+pub enum Work {
+    /// Each reads each place.
+    Reads(Vec<OutPoint>, Look),
+    /// The first submits blocks, and the others read.
+    Beside(Vec<OutPoint>, Look, Vec<Vec<u8>>),
+    /// They submit blocks in turn.
+    Turns(Vec<Vec<u8>>),
+    /// They share branches.
+    Branches(Vec<Vec<Vec<u8>>>),
+    /// The first submits so many blocks on this branch, each as it is made.
+    Kept(Branch, usize),
+}
+
+/// A node, and what is timed on it.
+#[derive(Drop)]
+pub struct Plan {
+    pub seats: usize,
+    pub workers: usize,
+    /// The blocks that are submitted before, which isn't timed.
+    pub below: Vec<Vec<u8>>,
+    pub work: Work,
+}
+
+/// A chain that leaves so many coins for payments, and so many to be read, whose places stand in another order.
+pub fn start(alloc: Global, payments: usize, coins: usize) -> Result<Start, Fault> {
+    let mut start = Start::new(alloc)?;
+    start.fan(alloc, payments.saturating_add(coins / 10), TRUE)?;
+    start.spread(alloc, coins)?;
+    shuffle(start.spread.as_mut_slice());
+    Ok(start)
+}
+
+/// Puts places into another order.
+pub fn shuffle(places: &mut [OutPoint]) {
+    let mut filling = Filling::new(15);
+    for at in 0..places.len() {
+        let other = (filling.next() % places.len() as u64) as usize;
+        places.swap(at, other);
+    }
+}
+
+/// So many coins read by each of so many seats.
+pub fn reads(alloc: Global, coins: usize, seats: usize, look: Look) -> Result<Plan, Fault> {
+    let Start { blocks, spread, .. } = start(alloc, 0, coins)?;
+    Ok(Plan {
+        seats,
+        workers: 1,
+        below: blocks,
+        work: Work::Reads(spread, look),
+    })
+}
+
+/// The same while another seat submits blocks of 2,000 payments.
+pub fn reads_beside(alloc: Global, coins: usize, readers: usize) -> Result<Plan, Fault> {
+    let start = start(alloc, PAYMENTS.saturating_mul(2), coins)?;
+    let count = (coins / 1000).clamp(2, 60);
+    beside(alloc, start, count, readers, Look::Coin)
+}
+
+/// The slowest of a million reads while another seat submits blocks of so many payments.
+pub fn slowest(alloc: Global, payments: usize) -> Result<Plan, Fault> {
+    let start = start(alloc, payments, payments.saturating_mul(20).min(READ))?;
+    let count = SLOWEST.checked_div(payments).unwrap_or(0).min(MANY);
+    beside(alloc, start, count, 1, Look::Slowest)
+}
+
+/// Reads of a chain's coins beside so many blocks that pay its others.
+fn beside(
+    alloc: Global,
+    start: Start,
+    count: usize,
+    readers: usize,
+    look: Look,
+) -> Result<Plan, Fault> {
+    let written = paying(alloc, start.branch, start.coins.as_slice(), count)?;
+    let Start { blocks, spread, .. } = start;
+    Ok(Plan {
+        seats: readers.saturating_add(1),
+        workers: 1,
+        below: blocks,
+        work: Work::Beside(spread, look, written),
+    })
+}
+
+/// So many blocks that pay a chain's coins, by so many seats in turn.
+fn in_turn(
+    alloc: Global,
+    start: Start,
+    count: usize,
+    seats: usize,
+    workers: usize,
+) -> Result<Plan, Fault> {
+    let written = paying(alloc, start.branch, start.coins.as_slice(), count)?;
+    Ok(Plan {
+        seats,
+        workers,
+        below: start.blocks,
+        work: Work::Turns(written),
+    })
+}
+
+/// So many blocks of 1,000 payments on one branch.
+pub fn turns(alloc: Global, count: usize, seats: usize) -> Result<Plan, Fault> {
+    in_turn(alloc, start(alloc, PAYMENTS, 0)?, count, seats, 1)
+}
+
+/// Ten blocks of so many payments over so many coins, each of which changes two coins for a payment and one more.
+pub fn published(alloc: Global, coins: usize, payments: usize) -> Result<Plan, Fault> {
+    // few at a small size
+    let mut start = start(alloc, payments.min(coins), coins)?;
+    // The first step that is timed brings up to date the copy that the last one before it didn't change.
+    start.add(alloc, Vec::new(alloc))?;
+    in_turn(alloc, start, STEPS, 1, 1)
+}
+
+/// A block of so many payments whose scripts are what costs, each with 66 CHECKSIG over 9,600 opcodes, submitted to a
+/// node of so many workers.
+pub fn worked(alloc: Global, payments: usize, workers: usize) -> Result<Plan, Fault> {
+    let script = long_script_alone(alloc)?;
+    let mut start = Start::new(alloc)?;
+    start.fan(alloc, payments, script.as_slice())?;
+    in_turn(alloc, start, 1, 1, workers)
+}
+
+/// A node of so many coins, at which nothing is timed.
+pub fn kept_coins(alloc: Global, coins: usize) -> Result<Plan, Fault> {
+    in_turn(alloc, start(alloc, 0, coins)?, 0, 1, 1)
+}
+
+/// Four branches of so many blocks of 1,000 payments on one base, beside a longer one, by so many seats at once.
+pub fn branches(alloc: Global, count: usize, seats: usize) -> Result<Plan, Fault> {
+    let mut start = start(alloc, PAYMENTS, 0)?;
+    let branches = branches_of(alloc, start.branch, start.coins.as_slice(), count)?;
+    for _ in 0..count.saturating_add(1) {
+        start.add(alloc, Vec::new(alloc))?;
+    }
+    Ok(Plan {
+        seats,
+        workers: 1,
+        below: start.blocks,
+        work: Work::Branches(branches),
+    })
+}
+
+fn branches_of(
+    alloc: Global,
+    base: Branch,
+    coins: &[OutPoint],
+    count: usize,
+) -> Result<Vec<Vec<Vec<u8>>>, Fault> {
+    let mut branches = Vec::new(alloc);
+    for number in 0..BRANCHES {
+        let branch = Branch {
+            number: number.wrapping_add(2),
+            ..base
+        };
+        branches.push(paying(alloc, branch, coins, count)?)?;
+    }
+    Ok(branches)
+}
+
+/// So many blocks without payments, each submitted as it is made.
+pub fn kept(alloc: Global, branch: Branch, count: usize) -> Plan {
+    Plan {
+        seats: 1,
+        workers: 1,
+        below: Vec::new(alloc),
+        work: Work::Kept(branch, count),
+    }
+}
