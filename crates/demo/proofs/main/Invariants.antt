@@ -1,4 +1,0 @@
-use Rattle.demo.proofs.main.Given as goal
-
-abbrev pub ghosts-run : goal.ghosts-run
-ghosts-run g a = record { origin = a.opening }
