@@ -43,7 +43,7 @@ impl<'c, 'e, C: Clock, E: Write> Progress<'c, 'e, C, E> {
                 commands: 0,
                 blocks: 0,
             },
-            times: if is_wanted { times(clock) } else { None },
+            times: if is_wanted { begun(clock) } else { None },
         }
     }
 
@@ -115,8 +115,8 @@ impl<'c, 'e, C: Clock, E: Write> Progress<'c, 'e, C, E> {
     }
 }
 
-/// Of work that begins now.
-fn times<C: Clock>(clock: &C) -> Option<Times> {
+/// The times of work that begins now, where there is a clock.
+fn begun<C: Clock>(clock: &C) -> Option<Times> {
     match Instant::now(clock) {
         Ok(now) => Some(Times {
             begun: now,
