@@ -1,7 +1,5 @@
 //! A transaction of many inputs, each of which is signed by itself.
 
-ghost use Rattle.std.specs.Prelude.{◌≡◌};
-
 use crate::check::Check;
 use crate::fault::Fault;
 use crate::filling::Filling;
@@ -94,26 +92,28 @@ impl Signed {
         }
         Ok(table)
     }
+}
 
-    /// A job for each input.
-    fn jobs<'a>(
-        &'a self,
-        alloc: Global,
-        midstates: &'a Midstates<'a>,
-    ) -> Result<Vec<Job<'a>>, Fault>
-        requires { midstates.now.tx.now ≡ self.now.tx.now }
-    {
-        let mut jobs = Vec::with_capacity(alloc, self.tx.inputs.len())?;
-        for input in 0..self.tx.inputs.len() {
-            jobs.push(Job {
-                tx: &self.tx,
-                input,
-                spent: self.spent.as_slice(),
-                flags: Flags::ALL,
-                midstates: Some(midstates),
-            })?;
-        }
-        Ok(jobs)
+/// A job for each input of a transaction, whose digests share its midstates.
+fn jobs<'a>(
+    alloc: Global,
+    midstates: &'a Midstates<'a>,
+    spent: &'a [u8],
+) -> Result<Vec<Job<'a>>, Fault> {
+    let mut jobs = Vec::new(alloc);
+    for input in 0..midstates.tx.inputs.len() {
+        put(&mut jobs, shared_job(midstates, input, spent))?;
+    }
+    Ok(jobs)
+}
+
+fn shared_job<'a>(midstates: &'a Midstates<'a>, input: usize, spent: &'a [u8]) -> Job<'a> {
+    Job {
+        tx: midstates.tx,
+        input,
+        spent,
+        flags: Flags::ALL,
+        midstates: Some(midstates),
     }
 }
 
@@ -129,9 +129,9 @@ fn to_key(alloc: Global, key: &[u8; 33]) -> Result<Vec<u8>, Fault> {
 pub fn each_input<R: AllocGlobal + Clock>(rt: &R, size: usize) -> Result<Outcome, Fault> {
     let signed = Signed::new(rt.alloc(), size)?;
     let table = signed.table(rt.alloc())?;
-    let midstates = Midstates::of(rt.alloc(), &signed.tx)?;
-    let jobs = signed.jobs(rt.alloc(), &midstates)?;
     let begin = Instant::now(rt)?;
+    let midstates = Midstates::of(rt.alloc(), &signed.tx)?;
+    let jobs = jobs(rt.alloc(), &midstates, signed.spent.as_slice())?;
     let count = accepted(rt.alloc(), jobs.as_slice(), &table)?;
     Outcome::since(rt, begin, Check::Count(count))
 }
