@@ -35,7 +35,7 @@ def play(door: str, text: str = "", rest: Iterable[str] = (), folder: str | None
 def play_list(
     door: str, name: str, text: str = "", rest: Iterable[str] = (), folder: str | None = None, **settings: object
 ) -> str:
-    """The same of a list by its name."""
+    """As `play`, with a list by its name."""
     numbers = [f"{key.replace('_', '-')}={int(value) if isinstance(value, bool) else value}" for key, value in settings.items()]
     words = [PLAYER, door, name, *numbers, *(["--", *rest] if rest else [])]
     ended = subprocess.run(words, input=text, capture_output=True, text=True, cwd=folder, timeout=SECONDS)

@@ -34,7 +34,7 @@ def pay(name: str, spent: str, value: int = 50, sequence: int = 0xFFFFFFFF, vers
 
 
 # Coins of 50 satoshis, made at height 101: five whose script accepts, and six that pay to the inner script. The blocks that are
-# judged stand on u5, of height 210, and the median time past there is 11,000 seconds after that of the coins: so at most 110
+# judged stand on u5, of height 210, and the median time past there is 11,000 seconds after the coins': so at most 110
 # blocks and 21 units of 512 seconds lie between.
 COINS = (
     "chain c 100 genesis\n"
@@ -213,7 +213,7 @@ class Scripts(unittest.TestCase):
         given = Played(play("node", definitions + client("a", commands), wanted=0))
         found = re.fullmatch(r"gate = met, (\d+) begun, \1 ended", "".join(given.gate))
         assert found, given.gate
-        # That of the payment which makes the coins isn't counted.
+        # The script of the payment which makes the coins isn't counted.
         return given.clients["a"][-1].split(" = ")[1].partition(" @")[0], int(found[1]) - 1
 
     def test_scripts_above_a_refusal(self) -> None:

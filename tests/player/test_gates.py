@@ -68,7 +68,7 @@ class Row(NamedTuple):
 
 # Two blocks of 300 inputs on the same one. The gate opens when more scripts have begun than one seat has workers, so both are
 # before the lock. The block that comes second is never connected, and yet all its scripts are run: they are run before the
-# lock, as those of the first one, and not again under it.
+# lock, as the first one's, and not again under it.
 MANY_AT_TWO_SEATS = Row(
     2,
     2 * MANY,

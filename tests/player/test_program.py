@@ -120,7 +120,7 @@ class Streams(unittest.TestCase):
         self.assertIn(1, statuses)
 
     def test_the_first_client_is_written_as_it_comes(self) -> None:
-        """Each answer of the first client is written by itself; those of the second all at once, behind them."""
+        """Each answer of the first client is written by itself; the second's all at once, behind them."""
         scenario = "block b1 genesis\nclient a\nsubmit b1\nbest\ntips\nclient b\nbest\ntips\n"
         given = run(RUN, scenario)
         fronts = ["client a\n", "submit b1 = ", "best = ", "tips = ", "client b\n", "best = ", "journal\n"]

@@ -1,6 +1,6 @@
 """Seats of a node over lists drawn at random: sixteen in turn, four that share a list on running threads, and a ring of sixteen.
 
-The history's replies are those of the definition, its best blocks and tips those of the chainstate of one thread. Each seat's
+The history's replies are the definition's, its best blocks and tips the ones of the chainstate of one thread. Each seat's
 answers are those at their places in it, and never stand before the ones that it had earlier: so whatever two seats saw, one
 saw a beginning of what the other did.
 """
@@ -58,7 +58,7 @@ class Right:
 
 class Seats(ListTest):
     def expect_replies(self, steps: list[Step], right: Right) -> None:
-        """A history's steps are numbered from 1, and their replies those of the chainstate and of the definition."""
+        """A history's steps are numbered from 1, and their replies are the chainstate's and the definition's."""
         self.assertEqual([it.place for it in steps], list(range(1, len(steps) + 1)))
         given = [f"{step.words()[-1]} = {step.reply}" for step in steps]
         self.expect_lines(given, right.replies)

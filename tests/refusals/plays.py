@@ -1,7 +1,7 @@
 """Plays of the program `player` while allocations are refused beneath it, and what each must print.
 
-A play is asked again where it is refused memory. What it prints is that of the table of scenarios, but for the replies that were
-owed; at a chainstate also its state after each command. `player` prints the lines of a play where they aren't those of the play
+A play is asked again where it is refused memory. What it prints is in the table of scenarios, but for the replies that were
+owed; at a chainstate also its state after each command. `player` prints the lines of a play where they differ from the play
 before, and before them a line for each call in which memory was refused.
 """
 import collections

@@ -148,7 +148,7 @@ impl Chainstate {
         self.step_prepared_by(alloc, &prepared, env, gate)
     }
 
-    /// The same of a command that was prepared before.
+    /// As `step_by`, with a command that was prepared before.
     pub fn step_prepared_by<S: RunsScripts>(
         &mut self,
         alloc: Global,

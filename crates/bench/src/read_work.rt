@@ -24,8 +24,8 @@ pub enum Look {
     Coin,
     /// `getbestblockhash` as often. It is counted.
     Best,
-    /// The first of two: each coin a hundred times by one seat. What they are worth is summed; the time is that of the slowest
-    /// read.
+    /// The first of two: each coin a hundred times by one seat. What they are worth is summed; the time is of the
+    /// slowest read.
     Slowest,
 }
 

@@ -143,7 +143,7 @@ where
     Ok((written?, read?, seen?))
 }
 
-/// The same of the first three of some seats.
+/// Asks the first three of some seats.
 fn ask_first_three<J: Naming, R>(
     rt: &R,
     asked: &Asked<'_>,

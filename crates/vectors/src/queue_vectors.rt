@@ -223,7 +223,7 @@ fn failing<C: Crew>(
     crew.first_failure_with(alloc, jobs, &[], verdicts, table, 2, gate)
 }
 
-/// The same of two workers. The crew is made where its type is a parameter (`connect::Env` says why).
+/// The same by two workers. The crew is made where its type is a parameter (`connect::Env` says why).
 fn by_threads<R: Threads + Sync>(
     rt: &R,
     alloc: Global,

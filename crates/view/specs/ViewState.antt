@@ -47,7 +47,7 @@ pub record ViewState : Type 0 where
 abbrev pub IsLegal : Origin → List Entry → Type 0
 IsLegal o journal = Legal (machine o) o.seats journal
 
--- the entries are those of the token, they are legal, and what is published beside them is the state after them
+-- the entries are the token's, they are legal, and what is published beside them is the state after them
 pub record IsExact (x : ViewState) : Type 0 where
   pub whole : x.journal ≡ x.before ++ option_to_list x.last
   pub legal : IsLegal x.origin x.journal

@@ -280,7 +280,7 @@ class SeatsTest(unittest.TestCase):
 
 
 class FolderOverSeatsTest(test_datadir.FolderCase):
-    """A folder, with a table that is handed in."""
+    """A folder, with a table from outside."""
 
     def setUp(self):
         super().setUp()
@@ -303,7 +303,7 @@ class FolderOverSeatsTest(test_datadir.FolderCase):
         self.assertEqual(again.process.wait(10), 0)
 
     def test_the_program_judges_what_many_did(self):
-        """Sixteen connections submit branches, and the journal is that of the node."""
+        """Sixteen connections submit branches, and the journal is the node's."""
         server = self.at_seats()
         server.call("setmocktime", LATER)
 

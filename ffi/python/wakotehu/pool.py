@@ -130,7 +130,7 @@ class Pool(Walks):
             self._newest = number
 
     def _read(self, ask: Callable[[Seat], Stamped[T]]) -> Stamped[T]:
-        """The same of a read, which comes after each step that was answered."""
+        """Makes a read, which comes after each step that was answered."""
         number, newest = self._number(), self._newest
         if self._seen[number] < self._seen[newest]:
             with self.others():
