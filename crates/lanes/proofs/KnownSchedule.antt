@@ -1,5 +1,7 @@
--- The schedule of the padding of 64 bytes, with the constants of the rounds added.
-use Rattle.std.proofs.Common.{◌≡◌, ◌<◌, ◌∙◌, ℕ, List, [], ◌∷◌, slice_index, refl, ap, arith}
+-- The schedule of a block that all lanes have in common, and of the padding of 64 bytes with the constants of the rounds added.
+use Rattle.std.proofs.Common.{◌≡◌, ◌<◌, ◌+◌, ◌∙◌, ℕ, List, [], ◌∷◌, length, slice_index, slice_set, inl, inr, refl, ap, arith}
+use Rattle.std.proofs.lemmas.Bool.{cases_lt}
+use Rattle.std.proofs.lemmas.List.{get_or-set_same, get_or-set_other}
 use Rattle.std.proofs.lemmas.Simd.{get_or-zip2}
 use lib.Lanes.{zip2}
 use Rattle.sha2.specs.Sha256.{add32, padding, schedule, first_words, round_constants}
@@ -23,3 +25,13 @@ all_sums = refl
 pub sums-at : (t : ℕ) → t < 64 → slice_index sums t ≡ add32 (slice_index (schedule (padding 64) 48) t) (slice_index round_constants t)
 sums-at t lt = ap (λ (words : List ℕ). slice_index words t) all_sums
     ∙ get_or-zip2 add32 (schedule (padding 64) 48) round_constants t 0 0 0 (omega (arith, length-schedule (padding 64) 48)) (omega arith)
+
+-- one word more
+pub word_more : (words ws : List ℕ) (t x : ℕ) → t < length words → ((j : ℕ) → j < t → slice_index words j ≡ slice_index ws j) → x ≡ slice_index ws t
+    → (j : ℕ) → j < t + 1 → slice_index (slice_set words t x) j ≡ slice_index ws j
+word_more words ws t x room before is j lt = elim (cases_lt j t) [
+  | inl less ↦ get_or-set_other words t j x 0 (omega (arith, less)) ∙ before j less
+  | inr ge ↦
+      let e : j ≡ t = omega (arith, ge, lt) in
+      rw e (get_or-set_same words t x 0 room ∙ is)
+]

@@ -2,6 +2,7 @@ mod Bitwise
 mod Cases
 mod InOrder
 mod KnownSchedule
+mod Midstates
 mod Padding
 mod Pairing
 mod Vectors

@@ -1,13 +1,14 @@
 -- The blocks of messages with their padding.
-use Rattle.std.proofs.Common.{◌≡◌, ℕ, suc, ◌+◌, ◌-◌, ◌*◌, ◌/◌, ◌%◌, ◌^◌, ◌<◌, ◌≤◌, ◌⊎◌, inl, inr, List, ◌∷◌, ◌++◌, length, take, drop, min, set, replicate, sym, ap, ◌∙◌, append_assoc, arith, w64}
+use Rattle.std.proofs.Common.{◌≡◌, ℕ, suc, ◌+◌, ◌-◌, ◌*◌, ◌/◌, ◌%◌, ◌^◌, ◌<◌, ◌≤◌, ◌⊎◌, inl, inr, Bool, if◌then◌else◌, List, ◌∷◌, ◌++◌, length, take, drop, min, set, replicate, sym, ap, ◌∙◌, append_assoc, arith, w64}
 use Rattle.std.proofs.lemmas.List.{length-append, length-drop, length-replicate, take-append-le, drop-append-le, drop-drop, drop-take, take-take, drop-replicate, take-replicate, set_at}
+use Rattle.std.proofs.lemmas.Bool.{cases_lt, le-ltb, lt-ltb}
 use Rattle.std.proofs.Math.Seq.{take-append-add}
 use Rattle.std.proofs.lemmas.Slice.{take-put_mid}
 use Rattle.std.specs.Int.{to_be_bytes}
 use borrow.Rule.Slice.PartMut.{put_mid}
 use Rattle.sha2.proofs.Absorbing256.{hash_after_next}
 use Rattle.sha2.specs.Sha256.{compress, final_hash, hash_after, initial_hash_256, padded_message, padding}
-use Rattle.lanes.specs.inside.Padded.{IsTail, after_blocks, block, block_count}
+use Rattle.lanes.specs.inside.Padded.{IsTail, after_blocks, block, block_count, padded_len}
 
 length-zeros : (n : ℕ) → length (replicate {A = ℕ} n 0) ≡ n
 length-zeros n = length-replicate {A = ℕ} n 0
@@ -69,31 +70,49 @@ tail-written rest bits r e k len below top lt eight =
     take-put_mid e k b bits (e + 8) (omega (arith, eight)) room
     ∙ ap (λ (l : List ℕ). l ++ bits) front ∙ append_assoc rest (0x80 ∷ replicate (e - r - 1) 0) bits
 
-pub tail-is : (m rest bits : List ℕ) (r e k : ℕ) → rest ≡ drop (length m / 64 * 64) m → length rest ≡ r → bits ≡ to_be_bytes w64 (length m * 8 % 2 ^ 64)
-    → ((r < 56) × (e ≡ 56)) ⊎ ((56 ≤ r) × (e ≡ 120)) → IsTail m (put_mid e k (set (put_mid 0 r (replicate 128 0) rest) r 0x80) bits)
-tail-is m rest bits r e k is len eb which =
-    let q : ℕ = length m / 64 in
-    let last : r ≡ length m % 64 = omega (arith, ap length is, length-drop (q * 64) m, len) in
+pub len-one : (rest : List ℕ) → length rest < 56 → padded_len rest ≡ 64
+len-one rest lt = ap (λ (b : Bool). if b then 64 else 128) (lt-ltb (length rest) 56 lt)
+
+pub len-two : (rest : List ℕ) → 56 ≤ length rest → padded_len rest ≡ 128
+len-two rest ge = ap (λ (b : Bool). if b then 64 else 128) (le-ltb (length rest) 56 ge)
+
+-- the length modulo 2 ^ 64 is enough
+pub padded-is : (copied rest bits : List ℕ) (r e k len n : ℕ) → copied ≡ rest → length rest ≡ r → r < 64 → bits ≡ to_be_bytes w64 (len * 8 % 2 ^ 64)
+    → ((r < 56) × (e ≡ 56)) ⊎ ((56 ≤ r) × (e ≡ 120)) → len ≡ n % 2 ^ 64 → n % 64 ≡ r
+    → take (padded_len rest) (put_mid e k (set (put_mid 0 r (replicate 128 0) copied) r 0x80) bits) ≡ rest ++ padding n
+padded-is copied rest bits r e k len n same_rest lr lt eb which el last =
     let eight : length bits ≡ 8 = ap length eb in
-    let count : (block_count m - q) * 64 ≡ e + 8 = elim which [
-      | inl w ↦ omega (arith, w.0, w.1, last, count-one m (omega (arith, w.0, last)))
-      | inr w ↦ omega (arith, w.0, w.1, last, count-two m (omega (arith, w.0, last)))
+    let count : padded_len rest ≡ e + 8 = elim which [
+      | inl w ↦ len-one rest (omega (arith, w.0, lr)) ∙ omega (arith, w.1)
+      | inr w ↦ len-two rest (omega (arith, w.0, lr)) ∙ omega (arith, w.1)
     ] in
-    let gap : e - r - 1 ≡ (119 - length m % 64) % 64 = elim which [
+    let gap : e - r - 1 ≡ (119 - n % 64) % 64 = elim which [
       | inl w ↦ omega (arith, w.0, w.1, last)
-      | inr w ↦ omega (arith, w.0, w.1, last)
+      | inr w ↦ omega (arith, w.0, w.1, last, lt)
     ] in
     let below : r < e = elim which [
       | inl w ↦ omega (arith, w.0, w.1)
-      | inr w ↦ omega (arith, w.0, w.1, last)
+      | inr w ↦ omega (arith, w.0, w.1, lt)
     ] in
     let top : e ≤ 120 = elim which [
       | inl w ↦ omega (arith, w.1)
       | inr w ↦ omega (arith, w.1)
     ] in
-    ap (λ (n : ℕ). take n (put_mid e k (set (put_mid 0 r (replicate 128 0) rest) r 0x80) bits)) count
-    ∙ tail-written rest bits r e k len below top (omega (arith, last)) eight
-    ∙ (λ i. is i ++ (0x80 ∷ (replicate {A = ℕ} (gap i) 0 ++ eb i)))
+    let same : len * 8 % 2 ^ 64 ≡ n * 8 % 2 ^ 64 = omega (arith, el) in
+    (λ i. take (count i) (put_mid e k (set (put_mid 0 r (replicate 128 0) (same_rest i)) r 0x80) bits))
+    ∙ tail-written rest bits r e k lr below top lt eight
+    ∙ (λ i. rest ++ (0x80 ∷ (replicate {A = ℕ} (gap i) 0 ++ (eb ∙ ap (to_be_bytes w64) same) i)))
+
+-- the tail of a message
+pub tail-is : (m rest tail : List ℕ) → rest ≡ drop (length m / 64 * 64) m → take (padded_len rest) tail ≡ rest ++ padding (length m) → IsTail m tail
+tail-is m rest tail is e =
+    let q : ℕ = length m / 64 in
+    let last : length rest ≡ length m % 64 = omega (arith, ap length is, length-drop (q * 64) m) in
+    let count : (block_count m - q) * 64 ≡ padded_len rest = elim (cases_lt (length rest) 56) [
+      | inl lt ↦ omega (arith, count-one m (omega (arith, lt, last)), len-one rest lt)
+      | inr ge ↦ omega (arith, count-two m (omega (arith, ge, last)), len-two rest ge)
+    ] in
+    ap (λ (n : ℕ). take n tail) count ∙ e ∙ ap (λ (l : List ℕ). l ++ padding (length m)) is
     ∙ sym (drop-append-le (q * 64) m (padding (length m)) (omega arith))
 
 pub count-few : (m : List ℕ) → block_count m ≤ length m / 64 + 2

@@ -4,8 +4,9 @@ use Rattle.std.proofs.lemmas.Simd.{get_or-zip2, length-zip2, length-replicate, g
 use lib.Lanes.{zip2, Each1}
 use Rattle.std.proofs.Math.ListN.{get_or, get_or-map}
 use Rattle.sha2.specs.Sha256.{add32}
-use Rattle.lanes.specs.inside.Lane.{lanes, EachLane}
-use Rattle.lanes.specs.inside.State.{lane_of}
+use Rattle.lanes.specs.Lane.{lanes}
+use Rattle.lanes.specs.inside.EachLane.{EachLane}
+use Rattle.lanes.specs.State.{lane_of}
 
 -- each lane has its own word
 pub itself : (v : List ℕ) → length v ≡ lanes → EachLane v (λ l. slice_index v l)

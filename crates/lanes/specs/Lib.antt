@@ -1,5 +1,8 @@
+pub mod Lane
 pub mod Level
 pub mod Messages
+pub mod Midstate
+pub mod State
 pub mod inside
 pub use Rattle.hash.specs.Double
 pub use Rattle.hash.specs.Id

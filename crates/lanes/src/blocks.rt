@@ -2,7 +2,7 @@
 
 ghost use Rattle.std.specs.Prelude.{◌≡◌, ◌+◌, ◌*◌, ◌<◌, ◌≤◌, ◌++◌, ℕ, List, length, slice_index};
 ghost use Rattle.sha2.specs.Sha256.{word_at};
-ghost use Rattle.lanes.specs.inside.Lane.{lanes};
+ghost use Rattle.lanes.specs.Lane.{lanes};
 
 use crate::words::{LANES, Words};
 use hash::Id;

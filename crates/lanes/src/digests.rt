@@ -3,9 +3,9 @@
 ghost use Rattle.std.specs.Prelude.{◌≡◌, ◌*◌, ◌<◌, ◌++◌, ◌∷◌, [], ℕ, List, slice_index, slice_index_or};
 ghost use Rattle.sha2.specs.Sha256.{digest_bytes, final_hash, initial_hash_256, padding, word_at};
 ghost use Rattle.hash.specs.declared.id.Id as whole;
-ghost use Rattle.lanes.specs.inside.Lane.{lanes};
+ghost use Rattle.lanes.specs.Lane.{lanes};
 ghost use Rattle.lanes.specs.Messages.{message_id};
-ghost use Rattle.lanes.specs.inside.State.{lane, lane_of};
+ghost use Rattle.lanes.specs.State.{lane, lane_of};
 
 use crate::rounds::{State, compressed, initial};
 use crate::words::{LANES, Words};

@@ -2,11 +2,11 @@
 
 ghost use Rattle.std.specs.Prelude.{◌≡◌, ◌+◌, ◌*◌, ◌/◌, ◌<◌, ◌≤◌, ◌++◌, ℕ, List, [], length, drop, slice_index, slice_index_or};
 ghost use Rattle.sha2.specs.Sha256.{word_at};
-ghost use Rattle.lanes.specs.inside.Lane.{lanes};
+ghost use Rattle.lanes.specs.Lane.{lanes};
 ghost use Rattle.lanes.specs.Level.{pair_ids};
 ghost use Rattle.lanes.specs.inside.Level.{IsPairedUpTo, pair_at};
 ghost use Rattle.lanes.specs.Messages.{message_id};
-ghost use Rattle.lanes.specs.inside.State.{lane_of};
+ghost use Rattle.lanes.specs.State.{lane_of};
 
 use crate::blocks::word;
 use crate::digests::hashed_again;

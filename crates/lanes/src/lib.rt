@@ -6,10 +6,13 @@ mod constants;
 mod digests;
 mod level;
 mod many;
+mod midstate;
 mod padded;
 mod rounds;
+mod schedule;
 mod words;
 
 pub use level::pairs;
 pub use many::double_sha_many;
+pub use midstate::Midstate;
 pub use words::LANES;

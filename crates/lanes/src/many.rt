@@ -2,11 +2,11 @@
 
 ghost use Rattle.std.specs.Prelude.{◌≡◌, ◌+◌, ◌*◌, ◌<◌, ◌≤◌, ℕ, [], length, slice_index, slice_index_or};
 ghost use Rattle.sha2.specs.Sha256.{final_hash, initial_hash_256, word_at};
-ghost use Rattle.lanes.specs.inside.Lane.{lanes};
+ghost use Rattle.lanes.specs.Lane.{lanes};
 ghost use Rattle.lanes.specs.Messages.{ids_of};
 ghost use Rattle.lanes.specs.inside.Messages.{message_at};
 ghost use Rattle.lanes.specs.inside.Padded.{AreBlocks, AreCounts, AreTails};
-ghost use Rattle.lanes.specs.inside.State.{lane, lane_of};
+ghost use Rattle.lanes.specs.State.{lane, lane_of};
 
 use crate::blocks::word;
 use crate::digests::hashed_again;
@@ -70,7 +70,7 @@ fn words(blocks: &[[u8; 64]; LANES], i: usize) -> Words
 
 // The words of each block.
 #[inline(always)]
-fn load(blocks: &[[u8; 64]; LANES]) -> [Words; 16]
+pub(crate) fn load(blocks: &[[u8; 64]; LANES]) -> [Words; 16]
     ensures { (l : ℕ) → l < lanes → (k : ℕ) → k < 16
         → slice_index (lane_of result l) k ≡ word_at (slice_index_or blocks.now l []) (4 * k) }
 {

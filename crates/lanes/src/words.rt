@@ -3,7 +3,7 @@
 ghost use Rattle.std.specs.Prelude.{◌≡◌, ◌/◌, ◌^◌, ◌<◌, if◌then◌else◌, nat_lt, slice_index};
 ghost use Rattle.std.specs.Int.{w32, rotate_right};
 ghost use Rattle.sha2.specs.Sha256.{add32, ch, maj, big_sigma0, big_sigma1, small_sigma0, small_sigma1};
-ghost use Rattle.lanes.specs.inside.Lane.{EachLane};
+ghost use Rattle.lanes.specs.inside.EachLane.{EachLane};
 
 use std::simd::prelude::*;
 

@@ -1,2 +1,4 @@
 -- What private functions and invariants alone cite.
+pub mod Ahead
 pub mod Beginning
+pub mod Flat

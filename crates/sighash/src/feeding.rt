@@ -59,7 +59,7 @@ fn feed_input(hasher: &mut Sha256, input: &TxIn, pieces: &[&[u8]], sequence: u32
 }
 
 /// What follows the id in an input that isn't the signed one: the index, an empty script, and the sequence.
-fn after_id(index: u32, sequence: u32) -> [u8; 9]
+pub fn after_id(index: u32, sequence: u32) -> [u8; 9]
     ensures { result ≡ (number 4).spell index ++ (sized_bytes.spell [] ++ (number 4).spell sequence) }
 {
     let index = index.to_le_bytes();

@@ -1,16 +1,21 @@
 //! What the digests of one transaction's inputs have in common.
 
-ghost use Rattle.std.specs.Prelude.{◌≡◌, ◌≤◌, ◌<◌, IfOk, length};
+ghost use Rattle.std.specs.Prelude.{◌≡◌, ◌≤◌, ◌<◌, IfOk, IfSome, length};
 ghost use Rattle.std.specs.List.{concat};
 ghost use Rattle.sha2.specs.Hashers.{Holds256};
 ghost use Rattle.script.specs.Removal.{bytes_of};
 ghost use Rattle.sighash.specs.Digest.{digest_of};
+ghost use Rattle.sighash.specs.inside.Ahead.{AreGroups, AreGroups-prop};
 ghost use Rattle.sighash.specs.inside.Beginning.{beginning, AreMidstates, AreMidstates-prop};
 
+use crate::ahead::{Group, groups};
 use crate::feeding::{feed_among, feed_others};
+use crate::joined::are_code;
 use crate::kind::signs_inputs;
 use crate::signing::digest;
+use crate::spent::SpentScripts;
 use hash::finish;
+use lanes::LANES;
 use sha2::{Digest, Sha256};
 use std::alloc::Global;
 use txn::Tx;
@@ -24,7 +29,7 @@ const STEP: usize = 16;
 const FEWEST: usize = 32;
 
 /// The hash type ALL.
-const ALL: u32 = 1;
+pub const ALL: u32 = 1;
 
 /// A transaction, with the hasher's states at every 16th of its inputs (Bitcoin Core's word is midstate).
 ///
@@ -34,33 +39,47 @@ const ALL: u32 = 1;
 pub struct Midstates<'a> {
     pub tx: &'a Tx,
     states: Vec<Sha256>,
+    groups: Vec<Option<Group>>,
     ghost fed: { AreMidstates tx.now states.items } by { AreMidstates-prop tx.now states.items },
+    ghost found: { AreGroups tx.now groups.items } by { AreGroups-prop tx.now groups.items },
 }
 
 impl<'a> Midstates<'a> {
     ghost use Rattle.sighash.specs.Midstates.{AreOf};
 
-    /// Those of a transaction. None of one with fewer than 32 inputs, for which no memory is taken.
-    pub fn of(alloc: Global, tx: &'a Tx) -> Result<Midstates<'a>, Memory>
+    /// The midstates of the transaction at a place, whose inputs spend these scripts. None of one with fewer than 32
+    /// inputs, for which no memory is taken.
+    pub fn of<S: SpentScripts>(
+        alloc: Global,
+        tx: &'a Tx,
+        place: usize,
+        spent: &S,
+    ) -> Result<Midstates<'a>, Memory>
         ensures { IfOk result (λ midstates. midstates.tx.now ≡ tx.entry.now) }
     {
         if tx.inputs.len() < FEWEST {
             return Ok(Midstates::none(alloc, tx));
         }
         let states = states_of(alloc, tx)?;
-        Ok(Midstates { tx, states })
+        let groups = groups(alloc, tx, place, spent)?;
+        Ok(Midstates { tx, states, groups })
     }
 
-    /// Those of each of some transactions, by their places. Where none has 32 inputs it is no list at all.
-    pub fn of_each(alloc: Global, txs: &'a [Tx]) -> Result<Vec<Midstates<'a>>, Memory>
+    /// Those of each of some transactions, by their places, whose inputs spend these scripts. Where none has 32 inputs
+    /// it is no list at all.
+    pub fn of_each<S: SpentScripts>(
+        alloc: Global,
+        txs: &'a [Tx],
+        spent: &S,
+    ) -> Result<Vec<Midstates<'a>>, Memory>
         ensures { IfOk result (λ list. AreOf txs.entry.now list.items) }
     {
         if !txs.iter().any(|tx| tx.inputs.len() >= FEWEST) {
             return Ok(Vec::new(alloc));
         }
         let mut list = Vec::with_capacity(alloc, txs.len())?;
-        for tx in txs {
-            list.push(Midstates::of(alloc, tx)?)?;
+        for place in 0..txs.len() {
+            list.push(Midstates::of(alloc, &txs[place], place, spent)?)?;
         }
         Ok(list)
     }
@@ -72,6 +91,7 @@ impl<'a> Midstates<'a> {
         Midstates {
             tx,
             states: Vec::new(alloc),
+            groups: Vec::new(alloc),
         }
     }
 
@@ -83,6 +103,9 @@ impl<'a> Midstates<'a> {
         if !signs_inputs(kind) {
             return digest(self.tx, input, code, kind);
         }
+        if let Some(digest) = self.found_ahead(input, code, kind) {
+            return digest;
+        }
         let (mut hasher, from) = self.nearest(input);
         let (_, rest) = self.tx.inputs.as_slice().split_at(from);
         feed_among(&mut hasher, rest, input - from, code, kind);
@@ -90,6 +113,26 @@ impl<'a> Midstates<'a> {
         hasher.update(self.tx.lock_time.to_le_bytes());
         hasher.update(kind.to_le_bytes());
         finish(hasher)
+    }
+
+    /// The digest, if it was found ahead.
+    fn found_ahead(&self, input: usize, code: &[&[u8]], kind: u32) -> Option<[u8; 32]>
+        requires { input < length self.now.tx.now.inputs }
+        ensures { IfSome result (λ digest.
+            digest ≡ digest_of self.now.tx.now input (concat (bytes_of code.now)) kind) }
+    {
+        if kind != ALL {
+            return None;
+        }
+        let found = self.groups.get(input / LANES)?;
+        let group = found.as_ref()?;
+        let lane = input % LANES;
+        let codes = group.codes.as_slice();
+        let width = codes.len() / LANES;
+        if !are_code(code, &codes[lane * width..lane * width + width]) {
+            return None;
+        }
+        Some(group.digests[lane].0)
     }
 
     /// A hasher that was fed all that is before an input, which is this one or an earlier one, and that one's number.

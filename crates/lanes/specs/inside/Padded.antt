@@ -1,7 +1,7 @@
 -- The blocks of a message with its padding (FIPS 180-4, 5.1.1 and 5.2.1).
-use Rattle.std.specs.Prelude.{◌≡◌, ℕ, ◌-◌, ◌*◌, ◌/◌, ◌<◌, List, [], length, take, drop, min, slice_index, slice_index_or}
+use Rattle.std.specs.Prelude.{◌≡◌, ℕ, ◌-◌, ◌*◌, ◌/◌, ◌<◌, if◌then◌else◌, nat_lt, List, [], length, take, drop, min, slice_index, slice_index_or}
 use Rattle.std.specs.Borrow.{Bor}
-use Rattle.lanes.specs.inside.Lane.{lanes}
+use Rattle.lanes.specs.Lane.{lanes}
 use Rattle.lanes.specs.inside.Messages.{message_at}
 use Rattle.sha2.specs.Sha256.{hash_after, initial_hash_256, padded_message}
 
@@ -12,6 +12,10 @@ block_count message = length (padded_message message) / 64
 -- its block i
 abbrev pub block : List ℕ → ℕ → List ℕ
 block message i = take 64 (drop (i * 64) (padded_message message))
+
+-- how long the last bytes of a message are with the padding
+abbrev pub padded_len : List ℕ → ℕ
+padded_len rest = if nat_lt (length rest) 56 then 64 else 128
 
 -- the tail begins with what follows the message's whole blocks: its last bytes and the padding
 abbrev pub IsTail : List ℕ → List ℕ → Type 0

@@ -2,7 +2,7 @@ use Rattle.std.proofs.Common.{◌≡◌, ℕ, List, slice_index, sym, length, Fi
 use lib.Lanes.{Each1}
 use Rattle.std.proofs.lemmas.Nat.{from_be_bytes-to_be_bytes_4}
 use Rattle.sha2.specs.Sha256.{digest_bytes}
-use Rattle.lanes.specs.inside.Lane.{lanes}
+use Rattle.lanes.specs.Lane.{lanes}
 use Rattle.lanes.proofs.Cases.{below_16}
 use Rattle.lanes.proofs.Vectors.{everywhere, fits_word}
 use Rattle.lanes.proofs.digests.digest_block.Goals as goal

@@ -1,6 +1,6 @@
 use Rattle.std.proofs.Common.{◌≡◌, ◌++◌, ℕ, List, sym, ◌∙◌, ap}
 use Rattle.sha2.specs.Sha256.{compress, digest_bytes, padding, sha256}
-use Rattle.lanes.specs.inside.State.{lane}
+use Rattle.lanes.specs.State.{lane}
 use Rattle.lanes.proofs.Whole.{length_digest, of_32}
 use Rattle.lanes.proofs.digests.hashed_again.Goals as goal
 

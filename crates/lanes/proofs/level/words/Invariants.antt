@@ -1,6 +1,6 @@
 use Rattle.std.proofs.Common.{◌≡◌, ◌*◌, ◌<◌, ℕ, length, slice_index}
 use Rattle.sha2.specs.Sha256.{word_at}
-use Rattle.lanes.specs.inside.Lane.{lanes}
+use Rattle.lanes.specs.Lane.{lanes}
 use Rattle.lanes.specs.inside.Level.{pair_at}
 use Rattle.lanes.proofs.level.words.Given as goal
 

@@ -1,5 +1,5 @@
 use Rattle.std.proofs.Common.{◌≡◌, ◌<◌, ℕ, [], length, slice_index_or}
-use Rattle.lanes.specs.inside.Lane.{lanes}
+use Rattle.lanes.specs.Lane.{lanes}
 use Rattle.lanes.specs.inside.Messages.{message_at}
 use Rattle.lanes.specs.inside.Padded.{block, block_count}
 use Rattle.lanes.proofs.many.blocks.Given as goal

@@ -1,5 +1,5 @@
 use Rattle.std.proofs.Common.{◌≡◌, ◌<◌, ◌≤◌, ℕ, length, slice_index}
-use Rattle.lanes.specs.inside.Lane.{lanes}
+use Rattle.lanes.specs.Lane.{lanes}
 use Rattle.lanes.proofs.many.running.Given as goal
 
 abbrev pub invariant-lanes : goal.invariant-lanes

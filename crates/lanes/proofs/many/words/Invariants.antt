@@ -1,6 +1,6 @@
 use Rattle.std.proofs.Common.{◌≡◌, ◌*◌, ◌<◌, ℕ, [], length, slice_index, slice_index_or}
 use Rattle.sha2.specs.Sha256.{word_at}
-use Rattle.lanes.specs.inside.Lane.{lanes}
+use Rattle.lanes.specs.Lane.{lanes}
 use Rattle.lanes.proofs.many.words.Given as goal
 
 abbrev pub invariant-lanes : goal.invariant-lanes

@@ -1,5 +1,5 @@
 use Rattle.std.proofs.Common.{refl}
-use Rattle.lanes.specs.inside.State.{lane}
+use Rattle.lanes.specs.State.{lane}
 use Rattle.sha2.specs.Sha256.{rounds}
 use Rattle.lanes.proofs.rounds.all_early.Goals as goal
 

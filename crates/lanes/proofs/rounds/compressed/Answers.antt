@@ -1,5 +1,5 @@
 use Rattle.std.proofs.Common.{arith, ◌≡◌, ◌*◌, ◌∙◌, ap}
-use Rattle.lanes.specs.inside.State.{lane, lane_of}
+use Rattle.lanes.specs.State.{lane, lane_of}
 use Rattle.sha2.specs.Sha256.{add_state, compress}
 use Rattle.sha2.proofs.Schedule256.{IsRoundsAt_at, IsWindow_first}
 use Rattle.std.proofs.lemmas.List.{length-map}

@@ -1,7 +1,7 @@
 use Rattle.std.proofs.Common.{◌≡◌, ℕ, List, ◌<◌, ◌*◌, slice_index}
 use Rattle.sha2.specs.Sha256.{IsRoundsAt, word_at}
-use Rattle.lanes.specs.inside.Lane.{lanes}
-use Rattle.lanes.specs.inside.State.{lane, lane_of}
+use Rattle.lanes.specs.Lane.{lanes}
+use Rattle.lanes.specs.State.{lane, lane_of}
 use Rattle.lanes.proofs.rounds.compressed.Given as goal
 
 abbrev pub invariant-schedule : goal.invariant-schedule

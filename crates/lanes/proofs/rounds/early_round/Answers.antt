@@ -1,7 +1,7 @@
 use Rattle.std.proofs.Common.{refl, sym}
 use Rattle.lanes.proofs.Vectors.{lane_of-at}
 use Rattle.sha2.proofs.Schedule256.{rounds_first}
-use Rattle.lanes.specs.inside.State.{lane, lane_of}
+use Rattle.lanes.specs.State.{lane, lane_of}
 use Rattle.lanes.proofs.rounds.early_round.Goals as goal
 
 pub returns : goal.returns
