@@ -1,5 +1,5 @@
 -- Coins as a finite map from outpoints.
-use Rattle.std.specs.Prelude.{ℤ, pos, ◌+ℤ◌, List, [], ◌∷◌, ℕ, Bool, Option, None, Some, refl}
+use Rattle.std.specs.Prelude.{ℤ, pos, ◌+ℤ◌, List, [], ◌∷◌, ◌++◌, ℕ, Bool, Option, None, Some, refl}
 use Rattle.std.specs.FinMap as map
 use Rattle.std.specs.declared.cmp.Ordering.{Ordering}
 use Rattle.std.specs.Ordering.{nat_cmp, ordering_then, eq_by_cmp}
@@ -30,10 +30,10 @@ abbrev pub put : Coins → OutPoint → Option Coin → Coins
 put m at None = map.remove m at
 put m at (Some coin) = map.insert m at coin
 
--- the coins of a plain map: of its one map, or of its many, once it has these
-abbrev pub few_or_many : List (OutPoint × Coin) → Option Coins → Coins
-few_or_many few None = map.from_entries few
-few_or_many few (Some many) = many
+-- the coins of a plain map: of its many maps, once it has these, and of its one map where they have none
+abbrev pub few_and_many : List (OutPoint × Coin) → Option Coins → Coins
+few_and_many few None = map.from_entries few
+few_and_many few (Some many) = map.from_entries (map.entries many ++ few)
 
 -- the sum of the values of coins
 abbrev pub sum_of_values : List Coin → ℤ

@@ -1,17 +1,16 @@
 //! Lists of changes written into a plain map.
 
-ghost use Rattle.std.specs.Prelude.{◌≡◌, ◌⊎◌, ◌∷◌, [], ◌++◌, IfErr, OnOk, OnErr, Some, true, is_some};
+ghost use Rattle.std.specs.Prelude.{◌≡◌, IfErr, OnOk, OnErr, IfOk, reverse};
 ghost use Rattle.std.specs.FinMap as map;
-ghost use Rattle.txn.specs.declared.outpoint.OutPoint.{OutPoint};
 ghost use Rattle.coins.specs.Coins.{Coins};
 ghost use Rattle.coins.specs.Changes.{IsInOrder, after_changes};
 ghost use Rattle.coins.specs.Entries.{named, own_coin};
-ghost use Rattle.coins.specs.inside.Changes.{Opened, Covered, HasRoomFor};
+ghost use Rattle.coins.specs.inside.Changes.{Undoes, comers, goers};
 
-use crate::changes::Changes;
+use crate::changes::{Change, Changes};
 use crate::coin::Coin;
 use crate::coin_map::CoinMap;
-use crate::entry::{CacheEntry, coin_of, holds_coin};
+use crate::entry::{CacheEntry, holds_coin};
 use std::alloc::Global;
 use std::collections::BTreeMap;
 use txn::{OutPoint, Script};
@@ -19,28 +18,31 @@ use wire::Memory;
 
 impl CoinMap {
     /// Lays changes over this map: all of them, or none. Their coins are copied.
+    ///
+    /// The coins that come are put in first, since that may be refused memory, and the others are taken away after that.
     pub fn lay(&mut self, alloc: Global, changes: &Changes) -> Result<(), Memory>
         ensures ok { OnOk result (self.new ≡ after_changes self.old changes.now) }
         ensures err { OnErr result (self.new ≡ self.old) }
     {
-        match self.lay_taken(alloc, changes.copy()?) {
-            Ok(()) => Ok(()),
-            Err(_) => Err(Memory),
+        let mut before = Vec::new(alloc);
+        if bring_all(self, &mut before, changes.entries()).is_err() {
+            put_back(self, before);
+            return Err(Memory);
         }
+        take_away(self, changes.entries());
+        Ok(())
     }
 
-    /// Lays changes over this map: all of them, or none. Their coins are moved, and given back when memory runs out.
+    /// The same, of a list that isn't needed any more. It is given back when memory runs out.
     pub fn lay_taken(&mut self, alloc: Global, changes: Changes) -> Result<(), Changes>
         ensures ok { OnOk result (self.new ≡ after_changes self.old changes) }
         ensures err { OnErr result (self.new ≡ self.old) }
         ensures given_back { IfErr result (λ back. back ≡ changes) }
     {
-        let entries = changes.into_entries();
-        if make_room(alloc, self, &entries).is_err() {
-            return Err(Changes::from_entries(entries));
+        match self.lay(alloc, &changes) {
+            Ok(()) => Ok(()),
+            Err(_) => Err(changes),
         }
-        set_all(self, entries);
-        Ok(())
     }
 }
 
@@ -54,70 +56,62 @@ pub(crate) fn nothing(alloc: Global) -> Coin {
     }
 }
 
-/// Has some coin wherever one is going to be written, or leaves the map as it was.
-fn make_room(
-    alloc: Global,
+/// Puts in all coins that come, and notes of each what was there before.
+fn bring_all(
     coins: &mut CoinMap,
+    before: &mut Vec<Change>,
     entries: &BTreeMap<OutPoint, CacheEntry>,
 ) -> Result<(), Memory>
-    ensures room { OnOk result (HasRoomFor coins.new (named entries.now.entries)) }
-    ensures others { OnOk result (Covered coins.old coins.new (named entries.now.entries)) }
-    ensures err { OnErr result (coins.new ≡ coins.old) }
+    requires in_order { IsInOrder (named entries.now.entries) }
+    ensures noted { (m : Coins) → Undoes m coins.old (reverse before.old.items) →
+        Undoes m coins.new (reverse before.new.items) }
+    ensures ok { OnOk result
+        (coins.new ≡ after_changes coins.old (comers (named entries.now.entries))) }
 {
-    let mut added = Vec::new(alloc);
     for (at, entry) in entries {
-        if open(alloc, coins, &mut added, *at, entry).is_err() {
-            close_all(coins, &added);
-            return Err(Memory);
+        if let Some(coin) = entry.own_coin()? {
+            bring(coins, before, *at, coin)?;
         }
     }
     Ok(())
 }
 
-/// Has some coin where one is going to be written. Where there is none, the outpoint is noted first.
-fn open(
-    alloc: Global,
+/// Puts in a coin, and notes what was there before.
+fn bring(
     coins: &mut CoinMap,
-    added: &mut Vec<OutPoint>,
+    before: &mut Vec<Change>,
     at: OutPoint,
-    entry: &CacheEntry,
+    coin: Coin,
 ) -> Result<(), Memory>
-    ensures opened { (m : Coins) → Opened coins.old m added.old.items →
-        Opened coins.new m added.new.items }
-    ensures added { (added.new.items ≡ added.old.items) ⊎
-        (added.new.items ≡ added.old.items ++ at ∷ []) }
-    ensures keeps { (q : OutPoint) → is_some (map.get coins.old q) ≡ true →
-        is_some (map.get coins.new q) ≡ true }
-    ensures ready { let coin = own_coin (Some entry.now) in
-        OnOk result (is_some coin ≡ true → is_some (map.get coins.new at) ≡ true) }
+    ensures noted { (m : Coins) → Undoes m coins.old (reverse before.old.items) →
+        Undoes m coins.new (reverse before.new.items) }
+    ensures ok { OnOk result (coins.new ≡ map.insert coins.old at coin) }
 {
-    if !holds_coin(Some(entry)) {
-        return Ok(());
-    }
-    if coins.has(&at) {
-        return Ok(());
-    }
-    added.push(at)?;
-    coins.insert(at, nothing(alloc))?;
+    before.reserve(1)?;
+    let old = coins.exchange(at, coin)?;
+    before.push_reserved((at, old));
     Ok(())
 }
 
-/// Takes away the coins at these outpoints.
-fn close_all(coins: &mut CoinMap, added: &[OutPoint])
-    ensures { Opened coins.old coins.new added.now }
+/// Puts back what was noted, the last first, which takes no memory.
+fn put_back(coins: &mut CoinMap, before: Vec<Change>)
+    requires { (m : Coins) × Undoes m coins.old (reverse before.items) }
+    ensures { (m : Coins) → Undoes m coins.old (reverse before.items) → coins.new ≡ m }
 {
-    for at in added {
-        coins.remove(at);
+    let mut before = before;
+    while let Some((at, coin)) = before.pop() {
+        coins.set(at, coin);
     }
 }
 
-/// Writes all that entries name where there is room for it, which takes no memory.
-fn set_all(coins: &mut CoinMap, entries: BTreeMap<OutPoint, CacheEntry>)
-    requires in_order { IsInOrder (named entries.entries) }
-    requires room { HasRoomFor coins.old (named entries.entries) }
-    ensures { coins.new ≡ after_changes coins.old (named entries.entries) }
+/// Takes away all coins that go.
+fn take_away(coins: &mut CoinMap, entries: &BTreeMap<OutPoint, CacheEntry>)
+    requires in_order { IsInOrder (named entries.now.entries) }
+    ensures { coins.new ≡ after_changes coins.old (goers (named entries.now.entries)) }
 {
     for (at, entry) in entries {
-        coins.set(at, coin_of(Some(entry)));
+        if !holds_coin(Some(entry)) {
+            coins.remove(at);
+        }
     }
 }

@@ -57,13 +57,12 @@ impl Changes {
         Changes { entries }
     }
 
-    /// Their entries, given up.
-    pub(crate) fn into_entries(self) -> BTreeMap<OutPoint, CacheEntry>
-        ensures named { named result.entries ≡ self }
-        ensures in_order { IsInOrder (named result.entries) }
+    /// Their entries.
+    pub(crate) fn entries(&self) -> &BTreeMap<OutPoint, CacheEntry>
+        ensures named { named result.now.entries ≡ self.now }
+        ensures in_order { IsInOrder (named result.now.entries) }
     {
-        let Changes { entries } = self;
-        entries
+        &self.entries
     }
 
     /// Equal changes.

@@ -53,14 +53,30 @@ impl Shards {
         self.maps[shard_of(at)].get(at)
     }
 
+    pub(crate) fn has(&self, at: &OutPoint) -> bool
+        ensures { result ≡ is_some (map.get self.now at.now) }
+    {
+        self.get(at).is_some()
+    }
+
     /// Puts a coin at an outpoint. Where there is one already, it takes no memory.
     pub(crate) fn insert(&mut self, at: OutPoint, coin: Coin) -> Result<(), Memory>
         ensures ok { OnOk result (self.new ≡ map.insert self.old at coin) }
         ensures err { OnErr result (self.new ≡ self.old) }
         ensures present { is_some (map.get self.old at) ≡ true → IsOk result }
     {
-        self.maps[shard_of(&at)].insert(at, coin)?;
+        self.exchange(at, coin)?;
         Ok(())
+    }
+
+    /// Puts a coin at an outpoint, and gives the one that was there, in which case it takes no memory.
+    pub(crate) fn exchange(&mut self, at: OutPoint, coin: Coin) -> Result<Option<Coin>, Memory>
+        ensures old { IfOk result (λ old. old ≡ map.get self.old at) }
+        ensures ok { OnOk result (self.new ≡ map.insert self.old at coin) }
+        ensures err { OnErr result (self.new ≡ self.old) }
+        ensures present { is_some (map.get self.old at) ≡ true → IsOk result }
+    {
+        Ok(self.maps[shard_of(&at)].insert(at, coin)?)
     }
 
     pub(crate) fn remove(&mut self, at: &OutPoint)

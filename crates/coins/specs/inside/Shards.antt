@@ -4,13 +4,13 @@ use Rattle.std.specs.List.{slice_index}
 use Rattle.std.specs.BTreeMap.{BTreeMap}
 use Rattle.std.specs.FinMap as map
 use Rattle.txn.specs.declared.outpoint.OutPoint.{OutPoint}
-use Rattle.coins.specs.Coins.{Coin, Coins, outpoint_cmp}
+use Rattle.coins.specs.Coins.{Coin, Coins}
 use Rattle.coins.specs.laws.Lookups.{entry_for}
 
 abbrev pub Maps : Type 0
 Maps = List (BTreeMap OutPoint Coin)
 
--- a coin that comes where one map holds so many, or more, has them moved into many
+-- a coin that comes where one map holds so many, or more, has many maps opened
 abbrev pub many_from : ℕ
 many_from = 102400
 

@@ -1,6 +1,6 @@
 use Rattle.std.proofs.Common.{sym, ap, ◌∙◌, Some, Option}
 use Rattle.std.specs.FinMap as map
-use Rattle.coins.specs.Coins.{Coins, few_or_many}
+use Rattle.coins.specs.Coins.{Coins, few_and_many}
 use Rattle.std.specs.Prelude.{is_some}
 use Rattle.coins.specs.laws.Lookups.{get-entries}
 use Rattle.coins.proofs.Rooms.{changed_put}
@@ -12,7 +12,7 @@ replace-requires c =
     let k = c.args.at in
     ap (λ o. is_some o) (
     sym (get-entries es k)
-    ∙ ap (λ (o : Option Coins). map.get (few_or_many es o) k) (sym c.in-None.is)
+    ∙ ap (λ (o : Option Coins). map.get (few_and_many es o) k) (sym c.in-None.is)
     ∙ ap (λ (m : Coins). map.get m k) c.self.view_is)
     ∙ c.requires
 
@@ -21,6 +21,6 @@ returns-in-None c =
     let es = c.self.inside.few.entries in
     let fs = c.replace.new.entries.entries in
     let k = c.args.at in
-    ap (few_or_many fs) c.in-None.is
+    ap (few_and_many fs) c.in-None.is
     ∙ changed_put es fs k (Some c.args.coin) c.replace.ensures
-    ∙ ap (λ (m : Coins). map.insert m k c.args.coin) (ap (few_or_many es) (sym c.in-None.is) ∙ c.self.view_is)
+    ∙ ap (λ (m : Coins). map.insert m k c.args.coin) (ap (few_and_many es) (sym c.in-None.is) ∙ c.self.view_is)

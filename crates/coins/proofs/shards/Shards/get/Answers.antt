@@ -1,10 +1,9 @@
-use Rattle.std.proofs.Common.{◌≡◌, sym, ap, subst, ◌∙◌, Some, None, Option}
-use Rattle.std.specs.Prelude.{get_or, slice_set, is_some}
+use Rattle.std.proofs.Common.{sym, ap, ◌∙◌}
+use Rattle.std.specs.Prelude.{get_or}
 use Rattle.std.specs.BTreeMap.{BTreeMap}
 use Rattle.std.specs.FinMap as map
 use Rattle.txn.specs.declared.outpoint.OutPoint.{OutPoint}
 use Rattle.coins.specs.Coins.{Coin, Coins}
-use Rattle.coins.specs.inside.Shards.{Maps, AreShards, together}
 use Rattle.coins.specs.laws.Lookups.{entry_for}
 use Rattle.coins.proofs.Gathering.{found}
 use Rattle.coins.proofs.shards.Shards.get.Goals as goal

@@ -1,11 +1,8 @@
-use Rattle.std.proofs.Common.{◌≡◌, sym, ap, subst, ◌∙◌, Some, None, Option}
-use Rattle.std.specs.Prelude.{get_or, slice_set, is_some}
-use Rattle.std.specs.BTreeMap.{BTreeMap}
+use Rattle.std.proofs.Common.{sym, ap, subst, ◌∙◌, None}
+use Rattle.std.specs.Prelude.{get_or, slice_set}
 use Rattle.std.specs.FinMap as map
-use Rattle.txn.specs.declared.outpoint.OutPoint.{OutPoint}
-use Rattle.coins.specs.Coins.{Coin, Coins}
-use Rattle.coins.specs.inside.Shards.{Maps, AreShards, together}
-use Rattle.coins.specs.laws.Lookups.{entry_for}
+use Rattle.coins.specs.Coins.{Coins}
+use Rattle.coins.specs.inside.Shards.{AreShards, together}
 use Rattle.coins.proofs.Gathering.{shards_written, together_written}
 use Rattle.coins.proofs.shards.Shards.remove.Goals as goal
 
