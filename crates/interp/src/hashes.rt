@@ -36,17 +36,17 @@ fn sha256(bytes: &[u8]) -> [u8; 32]
     sha2::Sha256::digest(bytes)
 }
 
-// What is taken, and the digest that is pushed.
-macro_rules! row {
-    ($alloc:ident, $stack:ident; $a:ident -> $digest:expr) => {{
-        if $stack.len() == 0 {
-            return Ok(false);
-        }
-        let top = $stack.pop();
-        let $a = top.as_slice();
-        $stack.push(Element::from_slice($alloc, &$digest)?)?;
-        Ok(true)
-    }};
+/// The digest of some bytes.
+fn digest_of(alloc: Global, bytes: &[u8], by: Hash) -> Result<Element, Memory>
+    ensures { IfOk result (λ digest. digest ≡ hash_of by bytes.now) }
+{
+    match by {
+        Hash::Ripemd160 => Element::from_slice(alloc, &ripemd::digest(bytes)),
+        Hash::Sha1 => Element::from_slice(alloc, &sha1(bytes)),
+        Hash::Sha256 => Element::from_slice(alloc, &sha256(bytes)),
+        Hash::Hash160 => Element::from_slice(alloc, &hash160(bytes)),
+        Hash::DoubleSha256 => Element::from_slice(alloc, &double_sha(bytes)),
+    }
 }
 
 /// Puts a digest in place of the top, if there is one.
@@ -55,11 +55,10 @@ pub fn digest_top(alloc: Global, stack: &mut Pile<Element>, by: Hash) -> Result<
     ensures { IfOk result (λ there. Gives there
         (on_one (λ x. Some (hash_of by x ∷ [])) stack.old) stack.new) }
 {
-    match by {
-        Hash::Ripemd160 => row!(alloc, stack; a -> ripemd::digest(a)),
-        Hash::Sha1 => row!(alloc, stack; a -> sha1(a)),
-        Hash::Sha256 => row!(alloc, stack; a -> sha256(a)),
-        Hash::Hash160 => row!(alloc, stack; a -> hash160(a)),
-        Hash::DoubleSha256 => row!(alloc, stack; a -> double_sha(a)),
+    if stack.len() == 0 {
+        return Ok(false);
     }
+    let top = stack.pop();
+    stack.push(digest_of(alloc, top.as_slice(), by)?)?;
+    Ok(true)
 }

@@ -98,19 +98,52 @@ macro_rules! row {
     }};
 }
 
+/// What an opcode makes of a number.
+fn changed(by: Unary, a: i64) -> i64
+    requires above { negsuc (2 ^ 31) <ℤ a }
+    requires below { a <ℤ pos (2 ^ 31) }
+    ensures { result ≡ unary_of by a }
+{
+    match by {
+        Unary::Add1 => a + 1,
+        Unary::Sub1 => a - 1,
+        Unary::Negate => -a,
+        Unary::Abs => a.abs(),
+        Unary::Not => i64::from(a == 0),
+        Unary::NotZero => i64::from(a != 0),
+    }
+}
+
 /// Changes the number on top, if there is one.
 #[tactic(auto, unfolding(crate::specs::computed::Step::on_number))]
 #[inline(never)]
 pub fn change_number(alloc: Global, stack: &mut Pile<Element>, by: Unary) -> Result<bool, Memory>
     ensures { IfOk result (λ there. Gives there (on_number (unary_of by) stack.old) stack.new) }
 {
+    row!(alloc, stack; a -> changed(by, a))
+}
+
+/// The number that an opcode makes of two.
+fn joined(by: Binary, a: i64, b: i64) -> i64
+    requires a_above { negsuc (2 ^ 31) <ℤ a }
+    requires a_below { a <ℤ pos (2 ^ 31) }
+    requires b_above { negsuc (2 ^ 31) <ℤ b }
+    requires b_below { b <ℤ pos (2 ^ 31) }
+    ensures { result ≡ binary_of by a b }
+{
     match by {
-        Unary::Add1 => row!(alloc, stack; a -> a + 1),
-        Unary::Sub1 => row!(alloc, stack; a -> a - 1),
-        Unary::Negate => row!(alloc, stack; a -> -a),
-        Unary::Abs => row!(alloc, stack; a -> a.abs()),
-        Unary::Not => row!(alloc, stack; a -> i64::from(a == 0)),
-        Unary::NotZero => row!(alloc, stack; a -> i64::from(a != 0)),
+        Binary::Add => a + b,
+        Binary::Sub => a - b,
+        Binary::BoolAnd => i64::from(a != 0 && b != 0),
+        Binary::BoolOr => i64::from(a != 0 || b != 0),
+        Binary::NumEqual => i64::from(a == b),
+        Binary::NumNotEqual => i64::from(a != b),
+        Binary::Less => i64::from(a < b),
+        Binary::Greater => i64::from(a > b),
+        Binary::LessOrEqual => i64::from(a <= b),
+        Binary::GreaterOrEqual => i64::from(a >= b),
+        Binary::Min => a.min(b),
+        Binary::Max => a.max(b),
     }
 }
 
@@ -121,20 +154,7 @@ pub fn join_numbers(alloc: Global, stack: &mut Pile<Element>, by: Binary) -> Res
     ensures { IfOk result (λ there. Gives there
         (on_two_numbers (binary_of by) stack.old) stack.new) }
 {
-    match by {
-        Binary::Add => row!(alloc, stack; a b -> a + b),
-        Binary::Sub => row!(alloc, stack; a b -> a - b),
-        Binary::BoolAnd => row!(alloc, stack; a b -> i64::from(a != 0 && b != 0)),
-        Binary::BoolOr => row!(alloc, stack; a b -> i64::from(a != 0 || b != 0)),
-        Binary::NumEqual => row!(alloc, stack; a b -> i64::from(a == b)),
-        Binary::NumNotEqual => row!(alloc, stack; a b -> i64::from(a != b)),
-        Binary::Less => row!(alloc, stack; a b -> i64::from(a < b)),
-        Binary::Greater => row!(alloc, stack; a b -> i64::from(a > b)),
-        Binary::LessOrEqual => row!(alloc, stack; a b -> i64::from(a <= b)),
-        Binary::GreaterOrEqual => row!(alloc, stack; a b -> i64::from(a >= b)),
-        Binary::Min => row!(alloc, stack; a b -> a.min(b)),
-        Binary::Max => row!(alloc, stack; a b -> a.max(b)),
-    }
+    row!(alloc, stack; a b -> joined(by, a, b))
 }
 
 /// Whether a number lies from the second on and below the third, if the three are there.

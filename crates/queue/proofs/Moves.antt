@@ -7,6 +7,7 @@ use lib.ListN.{get_elem?}
 use Rattle.atomic_table.specs.Table.{State, Me, Step, keeps, stepped, opening, Allows, Splits, Joins}
 use Rattle.atomic_table.proofs.Lists.{at_set, at_snoc, set_again}
 use Rattle.queue.specs.declared.claims.Share.{Share}
+use Rattle.queue.specs.inside.ClaimedPlaces.{claims_in}
 use Rattle.queue.specs.inside.Claims.{share, times, misses, total, Fits, AreClaimed, Keeps, claims_next, looks, reads_noted, notes, kept_share, given_share, joined_share, spent_share}
 use Rattle.queue.proofs.Totals.{times-append, misses-append, times-here, times-apart, misses-none, misses-one, total-set, total-snoc, total-le, total-nothing}
 
@@ -79,13 +80,13 @@ module _ {C : Type 0} where
     abbrev Holds : State (Unit {0}) (Share C) → Type 0
     Holds = Keeps count Refuses list
 
-    pub claims : (slots id : ℕ) (me : Me (Unit {0}) (Share C)) (st : Step (Unit {0})) → misses (count list) me.0.claimed < me.0.parts → Allows Holds slots id me 0 (λ n. (n + 1) % 2 ^ 64) (claims_next st me)
+    pub claims : (slots id : ℕ) (me : Me (Unit {0}) (Share C)) (st : Step (Unit {0})) → misses (claims_in (count list)) me.0.claimed < me.0.parts → Allows Holds slots id me 0 (λ n. (n + 1) % 2 ^ 64) (claims_next st me)
     claims slots id me st may s kept homes at small =
         let c : ℕ = kept.1 in
         let noted : ℕ = kept.2 in
         let r = kept.4 in
         let found : get_or s.words 0 0 ≡ c = ap (λ (ws : List ℕ). get_or ws 0 0) kept.3 in
-        let most = misses-most (count list) list c s.views r in
+        let most = misses-most (claims_in (count list)) list c s.views r in
         let b = r.bound in
         let few = kept.0 in
         let next : (get_or s.words 0 0 + 1) % 18446744073709551616 ≡ suc c = omega arith in
@@ -95,13 +96,13 @@ module _ {C : Type 0} where
           w,
           keeps,
           tt,
-          (kept.0, suc c, noted, words', claimed-more (count list) list c s.views id me.0 r at may, kept.5),
+          (kept.0, suc c, noted, words', claimed-more (claims_in (count list)) list c s.views id me.0 r at may, kept.5),
           (ap (λ (n : ℕ). (share me.0.list me.0.parts (me.0.claimed ++ n ∷ []), me.1)) (sym found), λ x le. here x (subst (λ (n : ℕ). n ≤ x) found le)),
         )
 
     -- a step that changes no view, and the words to these
     stays : (s : State (Unit {0}) (Share C)) (kept : Holds s) (id : ℕ) (me : Me (Unit {0}) (Share C)) → get_elem? s.views id ≡ some me.0 → (i n noted : ℕ) → set s.words i n ≡ kept.1 ∷ noted ∷ [] → (noted < count list → Refuses list noted) → Holds (stepped s i n id me.1 me.0 keeps)
-    stays s kept id me at i n noted words' refused = (kept.0, kept.1, noted, words', subst (AreClaimed (count list) list kept.1) (sym (set_again s.views id me.0 at)) kept.4, refused)
+    stays s kept id me at i n noted words' refused = (kept.0, kept.1, noted, words', subst (AreClaimed (claims_in (count list)) list kept.1) (sym (set_again s.views id me.0 at)) kept.4, refused)
 
     pub reads : (slots id : ℕ) (me : Me (Unit {0}) (Share C)) (st : Step (Unit {0})) → Allows Holds slots id me 0 (λ n. n) (looks st me)
     reads slots id me st s kept homes at small =
@@ -115,7 +116,7 @@ module _ {C : Type 0} where
           stays s kept id me at 0 (get_or s.words 0 0) kept.2 words' kept.5,
           (
             refl,
-            λ all x. let a = alone (count list) list c s.views id me.0 x r at all in (
+            λ all x. let a = alone (claims_in (count list)) list c s.views id me.0 x r at all in (
               (λ below. let o = r.once x (subst (λ (n : ℕ). x < n) found below) in omega arith),
               (λ above. let o = r.none x (subst (λ (n : ℕ). n ≤ x) found above) in omega arith),
             ),
@@ -157,10 +158,10 @@ module _ {C : Type 0} where
         let right : Share C = given_share v in
         let views' : List (Share C) = set s.views id left in
         let both : (f : Share C → ℕ) → total f (views' ++ right ∷ []) + f v ≡ total f s.views + f left + f right = (λ f. let a = total-set f s.views id v left at in let b = total-snoc f views' right in omega arith) in
-        let most : misses (count list) v.claimed ≡ 0 = ap (misses (count list)) none_yet in
+        let most : misses (claims_in (count list)) v.claimed ≡ 0 = ap (misses (claims_in (count list))) none_yet in
         let mine = r.fits id v at in
-        let fits_all = fits-set (count list) list s.views id left r.fits record { few = omega arith; idle = λ _. none_yet; same = mine.same } in
-        let fits_right : Fits (count list) list right = record { few = omega arith; idle = λ _. refl; same = mine.same } in (
+        let fits_all = fits-set (claims_in (count list)) list s.views id left r.fits record { few = omega arith; idle = λ _. none_yet; same = mine.same } in
+        let fits_right : Fits (claims_in (count list)) list right = record { few = omega arith; idle = λ _. refl; same = mine.same } in (
           kept.0,
           c,
           kept.2,
@@ -168,9 +169,9 @@ module _ {C : Type 0} where
           record {
             once = λ place below. let o = r.once place below in let b = both (λ u. times place u.claimed) in omega arith;
             none = λ place above. let o = r.none place above in let b = both (λ u. times place u.claimed) in omega arith;
-            bound = (let o = r.bound in let b = both (λ u. misses (count list) u.claimed) in omega arith);
+            bound = (let o = r.bound in let b = both (λ u. misses (claims_in (count list)) u.claimed) in omega arith);
             parts = (let o = r.parts in let b = both (λ u. u.parts) in omega arith);
-            fits = λ j u e. ⊎_elim (λ was. fits_all j u was) (λ (same : right ≡ u). subst (Fits (count list) list) same fits_right) (at_snoc views' right u j e);
+            fits = λ j u e. ⊎_elim (λ was. fits_all j u was) (λ (same : right ≡ u). subst (Fits (claims_in (count list)) list) same fits_right) (at_snoc views' right u j e);
           },
           kept.5,
         )
@@ -186,8 +187,8 @@ module _ {C : Type 0} where
         (λ f. let a = total-set f s.views id v both at in let b = total-set f views' other w spent_share there in omega arith) in
         let mine = r.fits id v at in
         let theirs = r.fits other w was in
-        let fits_both : Fits (count list) list both = record {
-          few = (let m = misses-append (count list) v.claimed w.claimed in let a = mine.few in let b = theirs.few in omega arith);
+        let fits_both : Fits (claims_in (count list)) list both = record {
+          few = (let m = misses-append (claims_in (count list)) v.claimed w.claimed in let a = mine.few in let b = theirs.few in omega arith);
           idle = λ (no_part : v.parts + w.parts ≡ 0). ap (λ (l : List ℕ). l ++ w.claimed) (mine.idle (omega arith)) ∙ theirs.idle (omega arith);
           same = mine.same;
         } in (
@@ -198,9 +199,9 @@ module _ {C : Type 0} where
           record {
             once = λ place below. let o = r.once place below in let b = sums (λ u. times place u.claimed) in let a = times-append place v.claimed w.claimed in omega arith;
             none = λ place above. let o = r.none place above in let b = sums (λ u. times place u.claimed) in let a = times-append place v.claimed w.claimed in omega arith;
-            bound = (let o = r.bound in let b = sums (λ u. misses (count list) u.claimed) in let a = misses-append (count list) v.claimed w.claimed in omega arith);
+            bound = (let o = r.bound in let b = sums (λ u. misses (claims_in (count list)) u.claimed) in let a = misses-append (claims_in (count list)) v.claimed w.claimed in omega arith);
             parts = (let o = r.parts in let b = sums (λ u. u.parts) in omega arith);
-            fits = fits-set (count list) list views' other spent_share (fits-set (count list) list s.views id both r.fits fits_both) (spent-fits (count list) list);
+            fits = fits-set (claims_in (count list)) list views' other spent_share (fits-set (claims_in (count list)) list s.views id both r.fits fits_both) (spent-fits (claims_in (count list)) list);
           },
           kept.5,
         )
@@ -221,9 +222,9 @@ module _ {C : Type 0} where
       λ (below : 18446744073709551615 < count list). absurd (omega arith),
     )
       where
-        root : Fits (count list) list (share (Some list) 16 [])
+        root : Fits (claims_in (count list)) list (share (Some list) 16 [])
         root = record { few = omega arith; idle = λ (no_part : 16 ≡ 0). absurd (omega arith); same = λ other is. cc }
 
-        one : (j : ℕ) (u : Share C) → get_elem? (share (Some list) 16 [] ∷ []) j ≡ some u → Fits (count list) list u
-        one zero u e = subst (Fits (count list) list) (some-injective (share (Some list) 16 []) u e) root
+        one : (j : ℕ) (u : Share C) → get_elem? (share (Some list) 16 [] ∷ []) j ≡ some u → Fits (claims_in (count list)) list u
+        one zero u e = subst (Fits (claims_in (count list)) list) (some-injective (share (Some list) 16 []) u e) root
         one (suc j) u e = absurd (some-ne-none u (sym e))

@@ -1,5 +1,5 @@
-//! The two words that the workers share, and their rule: how many places were claimed, and the least place that
-//! was noted as refused.
+//! The two words that the workers share, and their rule: how many claims were made, and the least place that was noted
+//! as refused.
 
 ghost use Rattle.queue.specs.inside.Claims.{claims_next, looks, reads_noted, notes};
 
@@ -7,8 +7,8 @@ use crate::checks::Places;
 use atomic_table::{Join, Play, Shared, Split, TableRule};
 use std::collections::LinkedList;
 
-/// What a worker's seat knows: the list, the places that it claimed, and its parts of sixteen, of which who has all
-/// knows that nobody else claimed a place. It is for proofs alone: no value of it is made.
+/// What a worker's seat knows: the list, the claims that it made, and its parts of sixteen, of which who has all
+/// knows that nobody else made a claim. It is for proofs alone: no value of it is made.
 pub struct Share<C> {
     pub list: Option<C>,
     pub parts: u64,
@@ -27,14 +27,14 @@ impl<C: Places> TableRule<(), Share<C>, C> for Claims {
     ghost first = { λ list. share (Some list) 16 [] };
 }
 
-/// Claims the next place (fetch_add on the first word).
+/// Makes the next claim (fetch_add on the first word).
 pub struct Claim;
 
 impl<C> Play<(), Share<C>> for Claim {
     ghost then = { claims_next };
 }
 
-/// Reads how many places were claimed.
+/// Reads how many claims were made.
 pub struct Look;
 
 impl<C> Play<(), Share<C>> for Look {

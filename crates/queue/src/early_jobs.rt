@@ -5,8 +5,9 @@ ghost use Rattle.std.specs.Option.{IfNone};
 
 use crate::verdict_index::Key;
 use interp::{Flags, Job};
-use sighash::Midstates;
+use sighash::{Midstates, SpentScripts};
 use std::alloc::Global;
+use std::cmp::Ordering;
 use std::marker::Model;
 use txn::Tx;
 use wire::Memory;
@@ -30,6 +31,11 @@ pub(crate) struct Listed {
 }
 
 impl Listed {
+    /// How it is ordered beside an input of the transaction at a place.
+    fn compare(&self, place: usize, input: usize) -> Ordering {
+        self.place.cmp(&place).then(self.input.cmp(&input))
+    }
+
     /// Whether it is of the input and the script of the job.
     fn asks(&self, job: &Job) -> bool
         ensures { IsTrue result ↔
@@ -108,7 +114,7 @@ impl<'t> EarlyJobs<'t> {
     pub(crate) fn midstates(&self, alloc: Global) -> Result<Vec<Midstates<'_>>, Memory>
         ensures { IfOk result (λ list. AreOf self.now.txs list.items) }
     {
-        Midstates::of_each(alloc, self.txs)
+        Midstates::of_each(alloc, self.txs, self)
     }
 
     /// They as jobs, which borrow the scripts and the midstates.
@@ -201,5 +207,16 @@ impl<'t> EarlyJobs<'t> {
             }
         }
         None
+    }
+}
+
+// They are pushed in order of their places and inputs, mostly; one that isn't may not be found, and costs time alone.
+impl<'t> SpentScripts for EarlyJobs<'t> {
+    fn script(&self, place: usize, input: usize) -> Option<&[u8]> {
+        let at = self
+            .list
+            .binary_search_by(|listed| listed.compare(place, input))
+            .ok()?;
+        Some(self.list.get(at)?.spent.as_slice())
     }
 }

@@ -3,6 +3,7 @@
 
 mod by_known;
 mod checks;
+mod claimed_places;
 mod claims;
 mod crew;
 mod early;

@@ -16,11 +16,12 @@ use std::collections::BTreeMap;
 use txn::OutPoint;
 use wire::Memory;
 
-/// By what a verdict is found: the first outpoint that its transaction spends, and the number of the input.
+/// By what a verdict is found: the number of the input, and the first outpoint that its transaction spends. The number
+/// comes first, so that keys of one transaction, which may have thousands of inputs, differ before their ids are compared.
 #[derive(Clone, Copy, Debug, PartialEq, Eq, PartialOrd, Ord)]
 pub struct Key {
-    pub outpoint: OutPoint,
     pub input: usize,
+    pub outpoint: OutPoint,
 }
 
 /// A verdict: in which of the lists, and at which place of it.

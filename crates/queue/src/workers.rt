@@ -2,9 +2,10 @@
 
 ghost use Rattle.std.specs.Prelude.{◌≡◌, ◌<◌, ◌≤◌, ◌^◌, [], ◌∷◌, length, All, IfOk, MatchBool, None};
 ghost use Rattle.queue.specs.Jobs.{HasInput, AreNumbered, IsFirstFailure};
-ghost use Rattle.queue.specs.inside.Report.{IsCounter, Sits, IsLeastOf, IsLeastBelow, Reports};
+ghost use Rattle.queue.specs.inside.Report.{IsCounter, Sits, IsLeastOf, IsLeastBelow, Reports, IsBetween};
 
 use crate::checks::Places;
+use crate::claimed_places::{begin_of, claims_in};
 use crate::claims::{Claim, Halves, Look, Note, ReadNoted, Seat, Words};
 use crate::gate::Gate;
 use crate::jobs::JobList;
@@ -186,7 +187,7 @@ fn in_threads<R: Threads + Sync, G: Gate + Sync, C: Places + Sync>(
     (seat, lesser_found(my_found, their_found))
 }
 
-/// Claims places and finds their answers, until there is no place left. Gives the least place that is refused, as far
+/// Makes claims and finds the answers of their places, until there is no place left. Gives the least place that is refused, as far
 /// as this worker's go.
 fn work<G: Gate, C: Places>(
     alloc: Global,
@@ -204,19 +205,50 @@ fn work<G: Gate, C: Places>(
         Reports (C.count list.now) (C.accepts list.now) (C.refuses list.now) seat.new.me.0.claimed
         place) }
 {
+    let count = list.count_places();
     let mut least = None;
     let mut past = 0;
     'claims: loop {
-        let place = words.fetch_add::<Claim>(seat, 0, 1) as usize;
-        if place >= list.count_places() {
+        let claim = words.fetch_add::<Claim>(seat, 0, 1) as usize;
+        if claim >= claims_in(count) {
             return Ok(least);
         }
+        let begin = begin_of(count, claim);
+        let end = begin_of(count, claim + 1);
+        match find_between(alloc, list, words, seat, begin, end, gate) {
+            Ok(found) => least = lesser(least, found),
+            Err(refused) => return Err(refused),
+        }
+        past = claim + 1;
+    }
+}
+
+/// The least place that is refused between two, the second not among them, or a lesser one, or none.
+fn find_between<G: Gate, C: Places>(
+    alloc: Global,
+    list: &C,
+    words: &Words<C>,
+    seat: &mut Seat<C>,
+    begin: usize,
+    end: usize,
+    gate: &G,
+) -> Result<Option<usize>, Memory>
+    requires words { IsCounter words.now.table_id × (words.now.key ≡ list.now) }
+    requires seat { Sits words.now.table_id list.now seat.old }
+    requires places { end ≤ C.count list.now }
+    ensures seat { (seat.new.table_id ≡ seat.old.table_id) × (seat.new.me ≡ seat.old.me) }
+    ensures found { IfOk result (λ found.
+        IsLeastOf (C.count list.now) (C.accepts list.now) (C.refuses list.now)
+        (IsBetween begin end) found) }
+{
+    let mut least = None;
+    for place in begin..end {
         match find(alloc, list, words, seat, place, gate) {
             Ok(found) => least = lesser(least, found),
             Err(refused) => return Err(refused),
         }
-        past = place + 1;
     }
+    Ok(least)
 }
 
 /// The answer for a place that this worker claimed: the place, or a lesser one, where it is refused, else none.
@@ -235,7 +267,7 @@ fn find<G: Gate, C: Places>(
     requires place { place < C.count list.now }
     ensures seat { (seat.new.table_id ≡ seat.old.table_id) × (seat.new.me ≡ seat.old.me) }
     ensures found { IfOk result (λ found.
-        IsLeastOf (C.count list.now) (C.accepts list.now) (C.refuses list.now) (place ∷ []) found) }
+        IsLeastOf (C.count list.now) (C.accepts list.now) (C.refuses list.now) (λ x. x ≡ place) found) }
 {
     let noted = words.load::<ReadNoted>(seat, 1) as usize;
     if noted < place {

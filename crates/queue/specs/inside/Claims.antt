@@ -1,17 +1,18 @@
--- The rule of the workers' words: each place below the counter was claimed once, by the seat that knows of it, and
--- a place that was noted is refused.
+-- The rule of the workers' words: each claim below the counter was made once, by the seat that knows of it, and a place
+-- that was noted is refused.
 use Rattle.std.specs.Prelude.{◌≡◌, ℕ, ◌+◌, ◌-◌, ◌/◌, ◌^◌, ◌<◌, ◌≤◌, ◌==◌, ltb, if◌then◌else◌, List, [], ◌∷◌, ◌++◌, Option, Some, None}
 use mathlib.Core.Option.{some}
 use lib.ListN.{get_elem?}
 use Rattle.atomic_table.specs.Table.{State, Me, Step}
 use Rattle.queue.specs.declared.claims.Share.{Share}
+use Rattle.queue.specs.inside.ClaimedPlaces.{claims_in}
 
--- how often the place was claimed
+-- how often the claim was made
 abbrev pub times : ℕ → List ℕ → ℕ
 times place [] = 0
 times place (x ∷ xs) = (if x == place then 1 else 0) + times place xs
 
--- how many claims were beyond the list
+-- how many claims were beyond those that take places
 abbrev pub misses : ℕ → List ℕ → ℕ
 misses count [] = 0
 misses count (x ∷ xs) = (if ltb x count then 0 else 1) + misses count xs
@@ -41,13 +42,13 @@ module _ {C : Type 0} where
 
   -- the first word counts the claims, and the second is a refused place or none
   abbrev pub Keeps : (C → ℕ) → (C → ℕ → Type 0) → C → State (Unit {0}) (Share C) → Type 0
-  Keeps count Refuses list s = (count list < 2 ^ 32) × (counter : ℕ) × (noted : ℕ) × (s.words ≡ counter ∷ noted ∷ []) × AreClaimed (count list) list counter s.views × (noted < count list → Refuses list noted)
+  Keeps count Refuses list s = (count list < 2 ^ 32) × (counter : ℕ) × (noted : ℕ) × (s.words ≡ counter ∷ noted ∷ []) × AreClaimed (claims_in (count list)) list counter s.views × (noted < count list → Refuses list noted)
 
-  -- the place was above all that the seat had claimed, and is claimed now
+  -- the claim was above all that the seat had made, and is made now
   abbrev pub claims_next : Step (Unit {0}) → Me (Unit {0}) (Share C) → ℕ → Me (Unit {0}) (Share C) → Type 0
   claims_next step me place me' = (me' ≡ (share me.0.list me.0.parts (me.0.claimed ++ place ∷ []), me.1)) × ((x : ℕ) → place ≤ x → times x me.0.claimed ≡ 0)
 
-  -- a seat with all parts claimed each place below the counter, and no other
+  -- a seat with all parts made each claim below the counter, and no other
   abbrev pub looks : Step (Unit {0}) → Me (Unit {0}) (Share C) → ℕ → Me (Unit {0}) (Share C) → Type 0
   looks step me counter me' = (me' ≡ me) × (me.0.parts ≡ 16 → (x : ℕ) → (x < counter → times x me.0.claimed ≡ 1) × (counter ≤ x → times x me.0.claimed ≡ 0))
 

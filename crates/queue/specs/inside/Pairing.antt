@@ -43,7 +43,7 @@ key_of q = record { outpoint = first_outpoint q.tx.inputs; input = q.input }
 
 abbrev pub key_cmp : Key → Key → Ordering
 key_cmp a b =
-    ordering_then (ordering_then (slice_cmp nat_cmp a.outpoint.id.0 b.outpoint.id.0) (nat_cmp a.outpoint.index b.outpoint.index)) (nat_cmp a.input b.input)
+    ordering_then (nat_cmp a.input b.input) (ordering_then (slice_cmp nat_cmp a.outpoint.id.0 b.outpoint.id.0) (nat_cmp a.outpoint.index b.outpoint.index))
 
 abbrev pub slot_for : List (Key × Slot) → Key → Option Slot
 slot_for entries key = lookup (is_at (key_cmp key)) entries

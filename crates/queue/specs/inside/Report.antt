@@ -3,6 +3,7 @@ use Rattle.std.specs.Prelude.{◌≡◌, ℕ, ◌<◌, ◌≤◌, List, [], min,
 use Rattle.atomic_table.specs.Seated.{TableId}
 use Rattle.atomic_table.specs.declared.shared.Seat.{Seat}
 use Rattle.queue.specs.declared.claims.Share.{Share}
+use Rattle.queue.specs.inside.ClaimedPlaces.{claims_in, claim_of}
 use Rattle.queue.specs.inside.Claims.{times}
 
 -- a table of the two words
@@ -13,11 +14,19 @@ IsCounter id = (id.words ≡ 2) × (id.slots ≡ 0)
 abbrev pub Sits : TableId → {C : Type 0} → C → Seat (Unit {0}) (Share C) → Type 0
 Sits id list seat = (seat.table_id ≡ id) × (seat.me.1 ≡ []) × (seat.me.0.list ≡ Some list)
 
+-- a place from the first on, and before the second
+abbrev pub IsBetween : ℕ → ℕ → ℕ → Type 0
+IsBetween begin end place = (begin ≤ place) × (place < end)
+
+-- a place of a list of so many that one of these claims takes
+abbrev pub IsClaimed : ℕ → List ℕ → ℕ → Type 0
+IsClaimed count claimed place = 0 < times (claim_of count place) claimed
+
 module _ (count : ℕ) (Accepts Refuses : ℕ → Type 0) where
   -- the least place that is refused, as far as these places go
-  abbrev pub IsLeastOf : List ℕ → Option ℕ → Type 0
-  IsLeastOf claimed None = (place : ℕ) → place < count → 0 < times place claimed → Accepts place
-  IsLeastOf claimed (Some least) = (least < count) × Refuses least × ((place : ℕ) → place < least → 0 < times place claimed → Accepts place)
+  abbrev pub IsLeastOf : (ℕ → Type 0) → Option ℕ → Type 0
+  IsLeastOf Among None = (place : ℕ) → place < count → Among place → Accepts place
+  IsLeastOf Among (Some least) = (least < count) × Refuses least × ((place : ℕ) → place < least → Among place → Accepts place)
 
   -- the least of all places that is refused, or none
   abbrev pub IsLeastBelow : Option ℕ → Type 0
@@ -27,9 +36,9 @@ module _ (count : ℕ) (Accepts Refuses : ℕ → Type 0) where
   -- there was no place left, and this is the least one that is refused
   pub record Reports (claimed : List ℕ) (place : Option ℕ) : Type 0 where
     pub last : ℕ
-    pub is_past : count ≤ last
+    pub is_past : claims_in count ≤ last
     pub is_claimed : 0 < times last claimed
-    pub least : IsLeastOf claimed place
+    pub least : IsLeastOf (IsClaimed count claimed) place
 
 -- the lesser of two places
 abbrev pub lesser_of : Option ℕ → Option ℕ → Option ℕ
