@@ -6,7 +6,6 @@ use Rattle.coins.specs.declared.coin.Coin.{Coin}
 use Rattle.tree.specs.Branches.{Blocks, branch, height, older_of}
 use Rattle.tree.specs.Names.{names}
 use Rattle.tree.specs.laws.Branches.{branch_head, branch_there, height_there}
-use Rattle.tree.specs.laws.Parents.{height-place}
 use Rattle.tree.specs.laws.Added.{blocks-old}
 use Rattle.chain.specs.Regtest.{medians_of}
 use Rattle.activate.specs.inside.Keeping.{HasRoom, IsBranch}

@@ -1,23 +1,18 @@
 -- What holds of the states that commands leave.
-use Rattle.std.proofs.Common.{◌≡◌, ℕ, zero, suc, ◌+◌, ◌<◌, List, [], ◌∷◌, length, take, get_or, Option, Some, None, arith, sym, refl, ap, ◌∙◌, subst}
-use Rattle.std.specs.Option.{unwrap_or}
+use Rattle.std.proofs.Common.{◌≡◌, sym, refl, ap, ◌∙◌, subst}
 use Rattle.hash.specs.declared.id.Id.{Id}
 use Rattle.block.specs.declared.block.Block.{Block}
-use Rattle.block.specs.Decoding.{block_of_bytes}
 use Rattle.curve.specs.Triple.{Triples}
 use Rattle.rules.specs.declared.params.Params.{Params}
 use Rattle.tree.specs.State.{State}
 use Rattle.chain.specs.declared.command.Command.{Command}
-use Rattle.chain.specs.declared.command.Command.TheVariants as command
 use Rattle.activate.specs.declared.prepared.Prepared.{Prepared}
 use Rattle.activate.specs.declared.prepared.Completion.{Completion}
 use Rattle.activate.specs.declared.prepared.Completion.TheVariants.{Nothing, Mark, Activate}
-use Rattle.chain.specs.declared.reply.SubmitReply.TheVariants.{DecodeFailed}
 use Rattle.chain.specs.Rules.{Rules}
-use Rattle.chain.specs.Submission.{Outcome, submit_says}
+use Rattle.chain.specs.Submission.{Outcome}
 use Rattle.chain.specs.Settle.{active}
-use Rattle.chain.specs.Step.{Request, Submit, Invalidate, Reconsider, Precious, step}
-use Rattle.chain.specs.Commands.{submit_step, command_step, outcome, state_after_commands}
+use Rattle.chain.specs.Commands.{outcome}
 use Rattle.chain.specs.Settled.{IsSettled, AllKept}
 use Rattle.chain.specs.Regtest.{regtest}
 use Rattle.activate.specs.CoreState.{CoreState, Follows}

@@ -5,7 +5,6 @@ use Rattle.std.proofs.lemmas.Bool.Decides.{leb_tells}
 use Rattle.hash.specs.declared.id.Id.{Id}
 use Rattle.block.specs.declared.block.Block.{Block}
 use Rattle.tree.specs.Branches.{Blocks, first_of, rest_of, branch, before, height, on, parent_at}
-use Rattle.tree.specs.State.{State, with_mark}
 use Rattle.tree.specs.Tips.{last_shared}
 use Rattle.tree.specs.laws.Above.{above, above-end, above-step, IsShared, last-shared}
 use Rattle.tree.specs.laws.Branches.{on-bounds, on-itself}

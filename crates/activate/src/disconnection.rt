@@ -1,21 +1,33 @@
 //! The blocks of the active branch, taken back from the coins.
 
-ghost use Rattle.std.specs.Prelude.{◌≡◌, ◌≤◌, ◌<◌, ◌+◌, true, length, reverse, IfOk};
+ghost use Rattle.std.specs.Prelude.{◌≡◌, ◌≤◌, ◌<◌, ◌+◌, [], true, length, reverse, IfOk};
+ghost use Rattle.std.proofs.Common.{get_or};
+ghost use Rattle.txn.specs.Identity.{ids_of};
 ghost use Rattle.tree.specs.Branches.{branch, on, height};
 ghost use Rattle.tree.specs.Limits.{max_blocks};
 ghost use Rattle.activate.specs.CoreState.{coins_after};
 ghost use Rattle.activate.specs.inside.Keeping.{highest_undo};
 ghost use Rattle.activate.specs.inside.Paths.{AreConnected};
-ghost use Rattle.activate.specs.inside.Disconnection.{place_at, IsConnectedBranch, IsUndoAbove};
+ghost use Rattle.activate.specs.inside.Disconnection.{place_at, AreIdsAbove, IsConnectedBranch, IsUndoAbove};
 
+use block::Block;
 use coins::{Base, Cache, CoinMap};
 use connect::{apply_in_layer, disconnect_in_layer};
+use hash::Id;
 use std::alloc::Global;
 use std::collections::VecDeque;
 use tree::Tree;
 use txn::ids;
 use undo::BlockUndo;
-use wire::Memory;
+use wire::{Memory, Parts};
+
+/// What a replay leaves of the blocks above one height up to another, the lowest first.
+#[derive(Drop)]
+struct Replayed {
+    undo: VecDeque<BlockUndo>,
+    /// The ids of their transactions, which aren't hashed again where the blocks are taken back.
+    ids: Vec<Parts<Id>>,
+}
 
 /// Takes the active blocks above the fork back from the coins (Bitcoin Core's `DisconnectTip`). The places are
 /// the active branch's by height, and the undo is of its highest blocks; where it ends above the fork, the undo of the
@@ -43,14 +55,15 @@ pub(crate) fn disconnect_to_fork<'b, B: Base>(
     // Undo is kept of the blocks above this height.
     let kept = tree.height(active) - undo.len();
     if kept <= low {
-        return disconnect_blocks(alloc, layer, tree, places, kept, undo, low);
+        return disconnect_blocks(alloc, layer, tree, places, kept, undo, &[], low);
     }
-    let layer = disconnect_blocks(alloc, layer, tree, places, kept, undo, kept)?;
-    let again = replayed_undo(alloc, tree, places, low, kept)?;
-    disconnect_blocks(alloc, layer, tree, places, low, &again, low)
+    let layer = disconnect_blocks(alloc, layer, tree, places, kept, undo, &[], kept)?;
+    let made = replay_blocks(alloc, tree, places, low, kept)?;
+    disconnect_blocks(alloc, layer, tree, places, low, &made.undo, &made.ids, low)
 }
 
-/// Takes blocks of a branch back down to a height, with the undo of its blocks above the height `low`.
+/// Takes blocks of a branch back down to a height, with the undo of its blocks above the height `low`, and the ids of
+/// their transactions as far as they are known.
 fn disconnect_blocks<'b, B: Base>(
     alloc: Global,
     mut layer: Cache<'b, B>,
@@ -58,10 +71,12 @@ fn disconnect_blocks<'b, B: Base>(
     places: &[usize],
     low: usize,
     undo: &VecDeque<BlockUndo>,
+    known: &[Parts<Id>],
     down_to: usize,
 ) -> Result<Cache<'b, B>, Memory>
     requires branch { IsConnectedBranch tree.now.blocks places.now }
     requires undo { IsUndoAbove tree.now.blocks places.now low undo.now.items }
+    requires known { AreIdsAbove tree.now.blocks places.now low known.now }
     requires inside { low + length undo.now.items < length places.now }
     requires from { low ≤ down_to }
     requires to { down_to ≤ low + length undo.now.items }
@@ -76,30 +91,45 @@ fn disconnect_blocks<'b, B: Base>(
     for done in 0..low + undo.len() - down_to {
         let index = undo.len() - 1 - done;
         let block = tree.block(places[low + 1 + index]).read(alloc)?;
-        let ids = ids(alloc, block.txs.as_slice())?;
+        let ids = ids_at(alloc, known, index, &block)?;
         layer = disconnect_in_layer(alloc, layer, &block, &ids, &undo[index])?;
     }
     Ok(layer)
 }
 
+/// The ids of a block's transactions: those at a place of a list, or else hashed.
+fn ids_at(alloc: Global, known: &[Parts<Id>], at: usize, block: &Block) -> Result<Vec<Id>, Memory>
+    requires { at < length known.now → get_or known.now at [] ≡ ids_of block.now.txs }
+    ensures { IfOk result (λ ids. ids.items ≡ ids_of block.now.txs) }
+{
+    match known.get(at) {
+        Some(known) => Ok(Vec::from_slice(alloc, known.as_slice())?),
+        None => ids(alloc, block.txs.as_slice()),
+    }
+}
+
 /// The undo of the blocks above one height up to another, made anew by a replay from genesis.
-fn replayed_undo(
+fn replay_blocks(
     alloc: Global,
     tree: &Tree,
     places: &[usize],
     low: usize,
     high: usize,
-) -> Result<VecDeque<BlockUndo>, Memory>
+) -> Result<Replayed, Memory>
     requires branch { IsConnectedBranch tree.now.blocks places.now }
     requires few { length places.now ≤ max_blocks }
     requires order { low ≤ high }
     requires inside { high < length places.now }
-    ensures count { IfOk result (λ undo. low + length undo.items ≡ high) }
-    ensures undo { IfOk result (λ undo. IsUndoAbove tree.now.blocks places.now low undo.items) }
+    ensures count { IfOk result (λ found. low + length found.undo.items ≡ high) }
+    ensures undo { IfOk result (λ found.
+        IsUndoAbove tree.now.blocks places.now low found.undo.items) }
+    ensures ids { IfOk result (λ found.
+        AreIdsAbove tree.now.blocks places.now low found.ids.items) }
 {
     let base = CoinMap::new(alloc);
     let mut coins = Cache::over(alloc, &base);
     let mut undo = VecDeque::new(alloc);
+    let mut known = Vec::new(alloc);
     for height in 1..high + 1 {
         let block = tree.block(places[height]).read(alloc)?;
         let ids = ids(alloc, block.txs.as_slice())?;
@@ -107,7 +137,8 @@ fn replayed_undo(
         coins = left;
         if height > low {
             undo.push_back(spent)?;
+            known.push(Parts::from_vec(ids))?;
         }
     }
-    Ok(undo)
+    Ok(Replayed { undo, ids: known })
 }

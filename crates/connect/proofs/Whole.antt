@@ -1,5 +1,5 @@
 -- A block's transactions but the first, with what they spend.
-use Rattle.std.proofs.Common.{◌≡◌, ℕ, ◌+◌, ◌≤◌, Bool, true, false, cond, List, [], ◌∷◌, ◌++◌, length, map, drop, sum_by, Option, Some, None, refl, sym, ap, subst, ◌∙◌, arith}
+use Rattle.std.proofs.Common.{◌≡◌, ℕ, ◌+◌, ◌-◌, ◌≤◌, Bool, true, false, cond, List, [], ◌∷◌, ◌++◌, length, map, take, drop, sum_by, Option, Some, None, refl, sym, ap, ap₂, subst, ◌∙◌, arith}
 use Rattle.std.specs.Option.{option_to_list}
 use Rattle.std.specs.List.{AllZip, flat_map, enumerate_from}
 use Rattle.std.specs.FinMap as coin_map
@@ -18,12 +18,14 @@ use Rattle.interp.specs.declared.flags.Flags.{Flags}
 use Rattle.coins.specs.declared.coin.Coin.{Coin}
 use Rattle.coins.specs.Coins.{Coins}
 use Rattle.undo.specs.Effect.{spends, coins_at, spent_coins}
+use Rattle.rules.specs.declared.in_force.InForce.{InForce}
 use Rattle.connect.specs.Setting.{Setting}
 use Rattle.connect.specs.Turns.{Turn, turn, turns, spent_in, undo_of, left_by, full_count}
 use Rattle.connect.specs.Faults.{connect_rules}
 use Rattle.connect.specs.Scripts.{Check, flags_of, input_checks, script_checks, IsFirstRefused, IsBefore, IsConnectFault}
 use Rattle.connect.specs.inside.Listing.{checks_from}
 use Rattle.connect.specs.laws.Alone.{inputs_of, IsLawfulBlock}
+use Rattle.connect.proofs.Steps.{tail_of}
 use Rattle.connect.proofs.Blocks.{turns_none, turns_next, later_turns, undo_is}
 use Rattle.connect.proofs.Checks.{listed_next, listed_none}
 
@@ -138,3 +140,22 @@ block_checks s m txs h =
 
 pub fault_is : (s : Setting) (m : Coins) (txs : List Tx) (triples : Triples) (found : Option Reason) → first_broken (connect_rules s m txs) ≡ None → IsFirstRefused triples (script_checks s m txs) found → IsConnectFault s m txs triples found
 fault_is s m txs triples found none h = subst (λ o. IsBefore o (IsFirstRefused triples (script_checks s m txs)) found) (sym none) h
+
+-- ---- what is listed for the queue, where the slice behind the coinbase and the coins spent are the block's
+
+pub record Listed (s : Setting) (m : Coins) (txs slice : List Tx) (undo : List (List Coin)) : Type 0 where
+  pub fits : AllZip Fits (take (length slice - 1) (drop 1 slice)) undo
+  pub few : sum_by (λ (coins : List Coin). length coins) undo ≤ inputs_of txs
+  pub checks : (rules : InForce) → rules ≡ s.rules → checks_from (flags_of rules) 1 (take (length slice - 1) (drop 1 slice)) undo ≡ script_checks s m txs
+
+pub listed : (s : Setting) (m : Coins) (b : Block) (slice : List Tx) (undo : List (List Coin)) → IsLawfulBlock b → slice ≡ b.txs → undo ≡ undo_of s.height m b.txs → Listed s m b.txs slice undo
+listed s m b slice undo lawful same spent =
+    let coinbase : CoinbaseFirst b.txs = lawful_coinbase_first b lawful in
+    let others : take (length slice - 1) (drop 1 slice) ≡ drop 1 b.txs = tail_of slice ∙ ap (drop 1) same in
+    record {
+      fits = subst (λ (l : List Tx). AllZip Fits l undo) (sym others) (subst (λ (l : List (List Coin)). AllZip Fits (drop 1 b.txs) l) (sym spent) (block_fits s m b.txs coinbase));
+      few = omega (arith, ap (λ (l : List (List Coin)). sum_by (λ (coins : List Coin). length coins) l) spent, block_few s m b.txs coinbase);
+      checks = λ rules is. ap (λ (r : InForce). checks_from (flags_of r) 1 (take (length slice - 1) (drop 1 slice)) undo) is
+          ∙ ap₂ (λ (l : List Tx) (k : List (List Coin)). checks_from (flags_of s.rules) 1 l k) others spent
+          ∙ block_checks s m b.txs coinbase;
+    }

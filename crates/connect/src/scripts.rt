@@ -13,7 +13,7 @@ use coins::Coin;
 use interp::{Flags, Job};
 use queue::{Gate, Undecided};
 use rules::InForce;
-use sighash::Midstates;
+use sighash::{Midstates, SpentScripts};
 use std::alloc::Global;
 use txn::{Reason, Tx};
 use undo::BlockUndo;
@@ -44,7 +44,8 @@ pub(crate) fn first_refused<'a, S: RunsScripts>(
     ensures stops { IfErr result (IsUndecided (λ t. Any (λ check.
         IsWanted (S.known env.now) check.1 t) (checks_from (flags_of rules) 1 txs.now undo.now))) }
 {
-    let midstates = midstates(alloc, txs, env)?;
+    let coins = SpentCoins { undo };
+    let midstates = midstates(alloc, txs, &coins, env)?;
     let checks = list(alloc, txs, undo, &midstates, flags_of(rules))?;
     let found = env.first_failure(alloc, &checks.jobs, &checks.places, gate)?;
     let Some(place) = found else {
@@ -60,6 +61,7 @@ pub(crate) fn first_refused<'a, S: RunsScripts>(
 fn midstates<'a, S: RunsScripts>(
     alloc: Global,
     txs: &'a [Tx],
+    spent: &SpentCoins,
     env: &S,
 ) -> Result<Vec<Midstates<'a>>, Memory>
     ensures { IfOk result (λ list. AreOf txs.entry.now list.items) }
@@ -67,7 +69,20 @@ fn midstates<'a, S: RunsScripts>(
     if env.has_verdicts() {
         return Ok(Vec::new(alloc));
     }
-    Midstates::of_each(alloc, txs)
+    Midstates::of_each(alloc, txs, spent)
+}
+
+/// The coins that transactions spend.
+#[derive(Drop)]
+struct SpentCoins<'a> {
+    undo: &'a BlockUndo,
+}
+
+impl<'a> SpentScripts for SpentCoins<'a> {
+    fn script(&self, place: usize, input: usize) -> Option<&[u8]> {
+        let coins = self.undo.as_slice().get(place)?;
+        Some(coins.as_slice().get(input)?.script.as_slice())
+    }
 }
 
 /// The script rules that are in force where these rules of blocks are (Bitcoin Core's `GetBlockScriptFlags`).

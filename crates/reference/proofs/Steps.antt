@@ -1,15 +1,12 @@
 -- What a command comes to, by what was found.
-use Rattle.std.proofs.Common.{◌≡◌, ℕ, zero, suc, ◌<◌, ◌≤◌, Bool, true, false, cond, not, ◌||◌, List, length, Option, Some, None, sym, refl, ap, ◌∙◌, arith}
-use Rattle.std.specs.Option.{option_or}
-use Rattle.std.proofs.lemmas.Bool.{eq-eqb, ne_eqb, and_parts, lt-ltb, le-ltb}
-use Rattle.txn.specs.declared.reason.Reason.{Reason}
-use Rattle.txn.specs.declared.reason.Reason.TheVariants.{ParentNotFound, ParentInvalid}
+use Rattle.std.proofs.Common.{◌≡◌, ℕ, ◌<◌, Bool, true, false, cond, ◌||◌, List, length, Option, Some, sym, refl, ap, ◌∙◌, arith}
+use Rattle.std.proofs.lemmas.Bool.{eq-eqb, ne_eqb, and_parts}
 use Rattle.hash.specs.declared.id.Id.{Id}
 use Rattle.block.specs.declared.block.Block.{Block}
 use Rattle.curve.specs.Triple.{Triples}
 use Rattle.rules.specs.declared.params.Params.{Params}
-use Rattle.tree.specs.Branches.{Blocks, has, branch, height, blocks_at, place_of}
-use Rattle.tree.specs.State.{State, has_no_mark, with_mark, without_marks, with_call}
+use Rattle.tree.specs.Branches.{Blocks, has, branch, blocks_at, place_of}
+use Rattle.tree.specs.State.{State, has_no_mark}
 use Rattle.tree.specs.Names.{names}
 use Rattle.tree.specs.laws.Added.{place-bound}
 use Rattle.tree.specs.laws.Marks.{bad-flagged}
@@ -18,13 +15,10 @@ use Rattle.reference.specs.declared.replayed.Replayed.{Replayed}
 use Rattle.reference.specs.declared.branch_replay.Trial.{Trial}
 use Rattle.reference.specs.declared.branch_replay.Trial.TheVariants.{Valid, Fails, Below}
 use Rattle.chain.specs.declared.reply.SubmitReply.TheVariants.{Accepted, Inconclusive}
-use Rattle.chain.specs.declared.reply.MarkReply.TheVariants.{Done}
 use Rattle.chain.specs.Rules.{Rules}
 use Rattle.chain.specs.Valid.{fault, first_to_fail}
 use Rattle.chain.specs.Settle.{active, on_candidate, becomes_bad, becomes_seen, settle}
-use Rattle.chain.specs.Context.{fault_on, first_fault}
 use Rattle.chain.specs.Submission.{submit_says, reply_by_reason, answer_added, outcome_of_added}
-use Rattle.chain.specs.Step.{Invalidate, Reconsider, Precious, mark_says, outcome_of_invalidate, outcome_of_reconsider, outcome_of_precious, step}
 use Rattle.chain.specs.Regtest.{regtest}
 use Rattle.reference.specs.inside.Replayed.{IsRight, blocks_of, state_of_replayed, trial_on, is_first, reply_by_trial}
 use Rattle.chain.specs.laws.Settled.{active-settle, settle-blocks}

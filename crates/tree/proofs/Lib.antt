@@ -2,6 +2,7 @@ mod Back
 mod Changes
 mod Cleared
 mod Grown
+mod Marked
 mod Opened
 mod Put
 mod Times

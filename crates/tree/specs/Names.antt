@@ -1,5 +1,4 @@
 -- How real blocks are named.
-use Rattle.std.specs.Prelude.{[]}
 use Rattle.std.specs.Ordering.{eq_by_cmp}
 use Rattle.hash.specs.declared.id.Id.{Id}
 use Rattle.hash.specs.Id.{id_cmp}

@@ -5,6 +5,7 @@ mod branch;
 mod fault;
 mod flags;
 mod genesis;
+mod growth;
 pub mod laws;
 mod leaves;
 mod marks;

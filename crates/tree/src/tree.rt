@@ -17,6 +17,7 @@ use crate::branch::branch_of;
 use crate::fault::AddFault;
 use crate::flags::{Flags, flags_of, put_back};
 use crate::genesis::genesis_node;
+use crate::growth::reserve_one;
 use crate::leaves::{enter, holds, leave, node_on};
 use crate::marks::{related, spoil, take_marks};
 use crate::node::{Mark, Node};
@@ -341,8 +342,8 @@ impl Tree {
             IsFresh names self.new) }
         ensures err { OnErr result (self.new ≡ self.old) }
     {
-        self.nodes.reserve(1)?;
-        self.marks.reserve(1)?;
+        reserve_one(&mut self.nodes)?;
+        reserve_one(&mut self.marks)?;
         let node = node_on(
             self.nodes.as_slice(),
             self.leaves.as_slice(),

@@ -3,7 +3,10 @@ use Rattle.std.specs.Prelude.{◌≡◌, ℕ, suc, ◌+◌, ◌<◌, List, [], l
 use Rattle.std.proofs.Common.{get_or}
 use Rattle.block.specs.declared.block.Block.{Block}
 use Rattle.coins.specs.declared.coin.Coin.{Coin}
-use Rattle.tree.specs.Branches.{Blocks, height, parent_at}
+use Rattle.hash.specs.declared.id.Id.{Id}
+use Rattle.tree.specs.Branches.{Blocks, block_at, height, parent_at}
+use Rattle.tree.specs.Names.{names}
+use Rattle.txn.specs.Identity.{ids_of}
 use Rattle.activate.specs.inside.Keeping.{undo_at}
 use Rattle.activate.specs.inside.Paths.{WasConnected}
 
@@ -19,6 +22,18 @@ pub record IsConnectedBranch (t : Blocks Block) (places : List ℕ) : Type 0 whe
   pub parent : (h : ℕ) → suc h < length places → parent_at t (place_at places (suc h)) ≡ place_at places h
   pub connected : (h : ℕ) → suc h < length places → WasConnected t (place_at places (suc h))
 
--- this is what the blocks of a branch from above this height on spend, the lowest first
+-- each of these lists is of a branch's block, from above this height on, the lowest first
+abbrev pub AreAbove : {A : Type 0} → (ℕ → List A) → List ℕ → ℕ → List (List A) → Type 0
+AreAbove list_of places low lists = (i : ℕ) → i < length lists → get_or lists i [] ≡ list_of (place_at places (suc (low + i)))
+
+-- this is what those blocks spend
 abbrev pub IsUndoAbove : Blocks Block → List ℕ → ℕ → List (List (List Coin)) → Type 0
-IsUndoAbove t places low undo = (i : ℕ) → i < length undo → get_or undo i [] ≡ undo_at t (place_at places (suc (low + i)))
+IsUndoAbove t places low undo = AreAbove (undo_at t) places low undo
+
+-- the ids of the transactions of the block at a place
+abbrev pub tx_ids_at : Blocks Block → ℕ → List Id
+tx_ids_at t place = ids_of (block_at names t place).txs
+
+-- these are the ids of their transactions, as far as they go
+abbrev pub AreIdsAbove : Blocks Block → List ℕ → ℕ → List (List Id) → Type 0
+AreIdsAbove t places low ids = AreAbove (tx_ids_at t) places low ids

@@ -20,7 +20,7 @@ use Rattle.chain.specs.Regtest.{ledger}
 use Rattle.activate.specs.CoreState.{coins_after}
 use Rattle.activate.specs.inside.Keeping.{undo_at, highest_undo}
 use Rattle.activate.specs.inside.Paths.{AreConnected}
-use Rattle.activate.specs.inside.Disconnection.{place_at, IsConnectedBranch, IsUndoAbove}
+use Rattle.activate.specs.inside.Disconnection.{place_at, AreAbove, IsConnectedBranch, IsUndoAbove}
 
 -- ---- one step up a branch
 
@@ -154,15 +154,16 @@ module _ (t : Blocks Block) (a : ℕ) (k : a ≤ length t) where
       ∙ ap (undo_at t) (sym (by_height t a k (suc (height t a - n + i)) (omega arith)))
 
 -- with that of one block more
-pub undo-more : (t : Blocks Block) (places : List ℕ) (low h : ℕ) (undo new : List (List (List Coin))) (more : List (List Coin)) → IsUndoAbove t places low undo → low + length undo ≡ h → more ≡ undo_at t (place_at places (suc h)) → new ≡ undo ++ more ∷ [] → IsUndoAbove t places low new
-undo-more t places low h undo new more is sum e f i l =
-    let size = ap (λ (u : List (List (List Coin))). length u) f ∙ length-append undo (more ∷ []) in
-    elim (cases_eq i (length undo)) [
-      | inl s ↦
-          ap (λ (u : List (List (List Coin))). get_or u i []) f ∙ ap (λ j. get_or (undo ++ more ∷ []) j []) s ∙ get_or-append_seam undo more [] [] ∙ e
-          ∙ ap (λ j. undo_at t (place_at places (suc j))) {x = h} {y = low + i} (omega arith)
-      | inr n ↦ ap (λ (u : List (List (List Coin))). get_or u i []) f ∙ get_or-append undo (more ∷ []) [] i (omega arith) ∙ is i (omega arith)
-    ]
+module _ {A : Type 0} (list_of : ℕ → List A) (places : List ℕ) (low : ℕ) where
+  pub above-more : (h : ℕ) (lists new : List (List A)) (more : List A) → AreAbove list_of places low lists → low + length lists ≡ h → more ≡ list_of (place_at places (suc h)) → new ≡ lists ++ more ∷ [] → AreAbove list_of places low new
+  above-more h lists new more is sum e f i l =
+      let size = ap (λ (u : List (List A)). length u) f ∙ length-append lists (more ∷ []) in
+      elim (cases_eq i (length lists)) [
+        | inl s ↦
+            ap (λ (u : List (List A)). get_or u i []) f ∙ ap (λ j. get_or (lists ++ more ∷ []) j []) s ∙ get_or-append_seam lists more [] [] ∙ e
+            ∙ ap (λ j. list_of (place_at places (suc j))) {x = h} {y = low + i} (omega arith)
+        | inr n ↦ ap (λ (u : List (List A)). get_or u i []) f ∙ get_or-append lists (more ∷ []) [] i (omega arith) ∙ is i (omega arith)
+      ]
 
 -- ---- one block of such a branch
 

@@ -1,5 +1,5 @@
 -- A set that agrees with what is known of signatures.
-use Rattle.std.specs.Prelude.{◌≡◌, Bool, true, false, cond, Some, None, refl}
+use Rattle.std.specs.Prelude.{◌≡◌, Bool, true, false, cond, Some, None}
 use Rattle.std.proofs.Common.{ap}
 use Rattle.std.specs.FinSet as set
 use Rattle.curve.specs.Known.{Agrees, Verdicts, verdict_in}

@@ -32,7 +32,6 @@ some t p medians l z e =
 pub overflow_sub-context : goal.overflow_sub-context
 overflow_sub-context g c =
     let triples = g.S.RunsScripts.agreeing c.args.env.now in
-    let agrees = g.met.S.RunsScripts.agrees c.args.env.now in
     let t = c.args.tree.now.blocks in
     let p = c.args.place in
     let up = height-parent t p c.requires.above c.requires.place in
@@ -41,7 +40,6 @@ overflow_sub-context g c =
 pub bounds-below-below : goal.bounds-below-below
 bounds-below-below g c =
     let triples = g.S.RunsScripts.agreeing c.args.env.now in
-    let agrees = g.met.S.RunsScripts.agrees c.args.env.now in
     let t = c.args.tree.now.blocks in
     let p = c.args.place in
     let up = height-parent t p c.requires.above c.requires.place in
@@ -58,7 +56,6 @@ connect_in_layer_by-requires-clause-alone g c =
 pub returns-in-Ok-clause-fault : goal.returns-in-Ok-clause-fault
 returns-in-Ok-clause-fault g c triples agrees =
     let params = c.args.params.now in
-    let triples = triples in
     let s = setting_under params c.height_of.result c.as_slice-below.result.now in
     let m = c.args.layer.coins in
     let txs = c.in_ok-block.block.txs in
@@ -69,9 +66,7 @@ returns-in-Ok-clause-fault g c triples agrees =
 pub returns-in-Ok-clause-undo : goal.returns-in-Ok-clause-undo
 returns-in-Ok-clause-undo g c =
     let triples = g.S.RunsScripts.agreeing c.args.env.now in
-    let agrees = g.met.S.RunsScripts.agrees c.args.env.now in
     let params = c.args.params.now in
-    let triples = triples in
     let s = setting_under params c.height_of.result c.as_slice-below.result.now in
     let m = c.args.layer.coins in
     let done = subst (λ a. IfOk a (λ (d : Layer × List (List Coin)). IsConnected s m c.in_ok-block.block d.0.coins d.1)) c.in-Ok.is c.in_ok-done.ensures.connected in
@@ -81,9 +76,7 @@ returns-in-Ok-clause-undo g c =
 pub returns-in-Ok-clause-coins : goal.returns-in-Ok-clause-coins
 returns-in-Ok-clause-coins g c =
     let triples = g.S.RunsScripts.agreeing c.args.env.now in
-    let agrees = g.met.S.RunsScripts.agrees c.args.env.now in
     let params = c.args.params.now in
-    let triples = triples in
     let s = setting_under params c.height_of.result c.as_slice-below.result.now in
     let m = c.args.layer.coins in
     let done = subst (λ a. IfOk a (λ (d : Layer × List (List Coin)). IsConnected s m c.in_ok-block.block d.0.coins d.1)) c.in-Ok.is c.in_ok-done.ensures.connected in
@@ -92,10 +85,7 @@ returns-in-Ok-clause-coins g c =
 
 pub returns-in-Ok-clause-medians : goal.returns-in-Ok-clause-medians
 returns-in-Ok-clause-medians g c =
-    let triples = g.S.RunsScripts.agreeing c.args.env.now in
-    let agrees = g.met.S.RunsScripts.agrees c.args.env.now in
     let params = c.args.params.now in
-    let triples = triples in
     let t = c.args.tree.now.blocks in
     c.in_ok-push-in-Ok.ensures.items
     ∙ ap (λ (l : List ℕ). l ++ c.median.result ∷ []) c.requires.medians
@@ -105,7 +95,6 @@ returns-in-Ok-clause-medians g c =
 pub returns-clause-fault : goal.returns-clause-fault
 returns-clause-fault g c triples agrees =
     let params = c.args.params.now in
-    let triples = triples in
     let s = setting_under params c.height_of.result c.as_slice-below.result.now in
     let m = c.args.layer.coins in
     let txs = c.in_ok-block.block.txs in

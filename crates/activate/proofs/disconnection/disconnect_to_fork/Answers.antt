@@ -1,6 +1,7 @@
 use Rattle.std.proofs.Common.{◌≡◌, ◌+◌, ◌-◌, ◌<◌, ◌≤◌, true, ℕ, suc, List, length, reverse, Result, Ok, Err, IfOk, sym, ap, subst, ◌∙◌, arith}
 use Rattle.block.specs.declared.block.Block.{Block}
 use Rattle.coins.specs.declared.coin.Coin.{Coin}
+use Rattle.coins.specs.Coins.{Coins}
 use Rattle.tree.specs.Branches.{Blocks, branch, on, height}
 use Rattle.tree.specs.laws.Branches.{on-bounds, on-itself}
 use Rattle.tree.specs.laws.Parents.{height-place}
@@ -21,16 +22,29 @@ record Stands (t : Blocks Block) (places : List ℕ) (undo : List (List (List Co
   pub here : place_at places low ≡ f
   pub undo_is : IsUndoAbove t places kept undo
 
-stands : (t : Blocks Block) (places : List ℕ) (undo : List (List (List Coin))) (a f : ℕ) → a ≤ length t → on t a f ≡ true → places ≡ reverse (branch t a) → undo ≡ highest_undo t a (length undo) → length undo ≤ height t a → AreConnected t a
-    → (low high size : ℕ) → low ≡ height t f → high ≡ height t a → size ≡ length undo → Stands t places undo a f low (high - size)
-stands t places undo a f k o p u few connected low high size e g n =
+-- the fork and the undo stand so where the function may be called, by the heights and the length that it reads
+stands : (t : Blocks Block) (f : ℕ) {a : ℕ} {places : List ℕ} {entries : List (List (List Coin))} {coins : Coins} → record {
+  kept : a ≤ length t;
+  on : on t a f ≡ true;
+  branch : places ≡ reverse (branch t a);
+  undo : entries ≡ highest_undo t a (length entries);
+  above : length entries ≤ height t a;
+  connected : AreConnected t a;
+  coins : coins ≡ coins_after t a;
+} → {low high : ℕ} → low ≡ height t f → high ≡ height t a → (size : ℕ) → size ≡ length entries → Stands t places entries a f low (high - size)
+stands t f {a} {places} {entries = undo} can {low} {high} e g size n =
+    let k = can.kept in
+    let o = can.on in
+    let p = can.branch in
+    let u = can.undo in
+    let few = can.above in
     let fork = place-of t a k f o in
     let active = place-of t a k a (on-itself t a k) in
     let long : length places ≡ suc (height t a) = ap (λ (l : List ℕ). length l) p ∙ places-long t a k in
     let small = height-place t a a (omega arith) k in
     let below = fork.0 in
     record {
-      branch_is = subst (λ (l : List ℕ). IsConnectedBranch t l) (sym p) (connected-branch t a k connected);
+      branch_is = subst (λ (l : List ℕ). IsConnectedBranch t l) (sym p) (connected-branch t a k can.connected);
       long = long;
       reach = omega arith;
       inside = omega arith;
@@ -48,96 +62,64 @@ height-low-requires g c = (on-bounds c.args.tree.now.blocks c.args.active c.args
 
 pub disconnect_blocks-requires-clause-branch : goal.disconnect_blocks-requires-clause-branch
 disconnect_blocks-requires-clause-branch g c =
-    let s = stands c.args.tree.now.blocks c.args.places.now c.args.undo.now.items c.args.active c.args.fork c.requires.kept c.requires.on c.requires.branch c.requires.undo c.requires.above c.requires.connected
-    c.height-low.result c.height.result c.len.result c.height-low.ensures.value c.height.ensures.value (omega (arith, c.len.ensures, c.args.undo.now.ok)) in
-    s.branch_is
+    (stands c.args.tree.now.blocks c.args.fork c.requires c.height-low.ensures.value c.height.ensures.value c.len.result (omega (arith, c.len.ensures, c.args.undo.now.ok))).branch_is
 
 pub disconnect_blocks-requires-clause-undo : goal.disconnect_blocks-requires-clause-undo
 disconnect_blocks-requires-clause-undo g c =
-    let s = stands c.args.tree.now.blocks c.args.places.now c.args.undo.now.items c.args.active c.args.fork c.requires.kept c.requires.on c.requires.branch c.requires.undo c.requires.above c.requires.connected
-    c.height-low.result c.height.result c.len.result c.height-low.ensures.value c.height.ensures.value (omega (arith, c.len.ensures, c.args.undo.now.ok)) in
-    s.undo_is
+    (stands c.args.tree.now.blocks c.args.fork c.requires c.height-low.ensures.value c.height.ensures.value c.len.result (omega (arith, c.len.ensures, c.args.undo.now.ok))).undo_is
 
 pub disconnect_blocks-requires-clause-inside : goal.disconnect_blocks-requires-clause-inside
 disconnect_blocks-requires-clause-inside g c =
-    let s = stands c.args.tree.now.blocks c.args.places.now c.args.undo.now.items c.args.active c.args.fork c.requires.kept c.requires.on c.requires.branch c.requires.undo c.requires.above c.requires.connected
-    c.height-low.result c.height.result c.len.result c.height-low.ensures.value c.height.ensures.value (omega (arith, c.len.ensures, c.args.undo.now.ok)) in
-    s.inside
+    (stands c.args.tree.now.blocks c.args.fork c.requires c.height-low.ensures.value c.height.ensures.value c.len.result (omega (arith, c.len.ensures, c.args.undo.now.ok))).inside
 
 pub disconnect_blocks-requires-clause-to : goal.disconnect_blocks-requires-clause-to
 disconnect_blocks-requires-clause-to g c =
-    let s = stands c.args.tree.now.blocks c.args.places.now c.args.undo.now.items c.args.active c.args.fork c.requires.kept c.requires.on c.requires.branch c.requires.undo c.requires.above c.requires.connected
-    c.height-low.result c.height.result c.len.result c.height-low.ensures.value c.height.ensures.value (omega (arith, c.len.ensures, c.args.undo.now.ok)) in
-    s.reach
+    (stands c.args.tree.now.blocks c.args.fork c.requires c.height-low.ensures.value c.height.ensures.value c.len.result (omega (arith, c.len.ensures, c.args.undo.now.ok))).reach
 
 pub disconnect_blocks-requires-clause-coins : goal.disconnect_blocks-requires-clause-coins
 disconnect_blocks-requires-clause-coins g c =
-    let s = stands c.args.tree.now.blocks c.args.places.now c.args.undo.now.items c.args.active c.args.fork c.requires.kept c.requires.on c.requires.branch c.requires.undo c.requires.above c.requires.connected
-    c.height-low.result c.height.result c.len.result c.height-low.ensures.value c.height.ensures.value (omega (arith, c.len.ensures, c.args.undo.now.ok)) in
-    c.requires.coins ∙ ap (coins_after c.args.tree.now.blocks) (sym s.top)
+    c.requires.coins ∙ ap (coins_after c.args.tree.now.blocks) (sym (stands c.args.tree.now.blocks c.args.fork c.requires c.height-low.ensures.value c.height.ensures.value c.len.result (omega (arith, c.len.ensures, c.args.undo.now.ok))).top)
 
 pub returns-then-kept-low-clause-coins : goal.returns-then-kept-low-clause-coins
 returns-then-kept-low-clause-coins g c =
-    let s = stands c.args.tree.now.blocks c.args.places.now c.args.undo.now.items c.args.active c.args.fork c.requires.kept c.requires.on c.requires.branch c.requires.undo c.requires.above c.requires.connected
-    c.height-low.result c.height.result c.len.result c.height-low.ensures.value c.height.ensures.value (omega (arith, c.len.ensures, c.args.undo.now.ok)) in
-    if_ok c.disconnect_blocks.result c.disconnect_blocks.ensures.coins (λ left e. e ∙ ap (coins_after c.args.tree.now.blocks) s.here)
+    if_ok c.disconnect_blocks.result c.disconnect_blocks.ensures.coins (λ left e. e ∙ ap (coins_after c.args.tree.now.blocks) (stands c.args.tree.now.blocks c.args.fork c.requires c.height-low.ensures.value c.height.ensures.value c.len.result (omega (arith, c.len.ensures, c.args.undo.now.ok))).here)
 
 pub disconnect_blocks-requires-2-clause-branch : goal.disconnect_blocks-requires-2-clause-branch
 disconnect_blocks-requires-2-clause-branch g c =
-    let s = stands c.args.tree.now.blocks c.args.places.now c.args.undo.now.items c.args.active c.args.fork c.requires.kept c.requires.on c.requires.branch c.requires.undo c.requires.above c.requires.connected
-    c.height-low.result c.height.result c.len.result c.height-low.ensures.value c.height.ensures.value (omega (arith, c.len.ensures, c.args.undo.now.ok)) in
-    s.branch_is
+    (stands c.args.tree.now.blocks c.args.fork c.requires c.height-low.ensures.value c.height.ensures.value c.len.result (omega (arith, c.len.ensures, c.args.undo.now.ok))).branch_is
 
 pub disconnect_blocks-requires-2-clause-undo : goal.disconnect_blocks-requires-2-clause-undo
 disconnect_blocks-requires-2-clause-undo g c =
-    let s = stands c.args.tree.now.blocks c.args.places.now c.args.undo.now.items c.args.active c.args.fork c.requires.kept c.requires.on c.requires.branch c.requires.undo c.requires.above c.requires.connected
-    c.height-low.result c.height.result c.len.result c.height-low.ensures.value c.height.ensures.value (omega (arith, c.len.ensures, c.args.undo.now.ok)) in
-    s.undo_is
+    (stands c.args.tree.now.blocks c.args.fork c.requires c.height-low.ensures.value c.height.ensures.value c.len.result (omega (arith, c.len.ensures, c.args.undo.now.ok))).undo_is
 
 pub disconnect_blocks-requires-2-clause-inside : goal.disconnect_blocks-requires-2-clause-inside
 disconnect_blocks-requires-2-clause-inside g c =
-    let s = stands c.args.tree.now.blocks c.args.places.now c.args.undo.now.items c.args.active c.args.fork c.requires.kept c.requires.on c.requires.branch c.requires.undo c.requires.above c.requires.connected
-    c.height-low.result c.height.result c.len.result c.height-low.ensures.value c.height.ensures.value (omega (arith, c.len.ensures, c.args.undo.now.ok)) in
-    s.inside
+    (stands c.args.tree.now.blocks c.args.fork c.requires c.height-low.ensures.value c.height.ensures.value c.len.result (omega (arith, c.len.ensures, c.args.undo.now.ok))).inside
 
 pub disconnect_blocks-requires-2-clause-coins : goal.disconnect_blocks-requires-2-clause-coins
 disconnect_blocks-requires-2-clause-coins g c =
-    let s = stands c.args.tree.now.blocks c.args.places.now c.args.undo.now.items c.args.active c.args.fork c.requires.kept c.requires.on c.requires.branch c.requires.undo c.requires.above c.requires.connected
-    c.height-low.result c.height.result c.len.result c.height-low.ensures.value c.height.ensures.value (omega (arith, c.len.ensures, c.args.undo.now.ok)) in
-    c.requires.coins ∙ ap (coins_after c.args.tree.now.blocks) (sym s.top)
+    c.requires.coins ∙ ap (coins_after c.args.tree.now.blocks) (sym (stands c.args.tree.now.blocks c.args.fork c.requires c.height-low.ensures.value c.height.ensures.value c.len.result (omega (arith, c.len.ensures, c.args.undo.now.ok))).top)
 
-pub replayed_undo-requires-clause-branch : goal.replayed_undo-requires-clause-branch
-replayed_undo-requires-clause-branch g c =
-    let s = stands c.args.tree.now.blocks c.args.places.now c.args.undo.now.items c.args.active c.args.fork c.requires.kept c.requires.on c.requires.branch c.requires.undo c.requires.above c.requires.connected
-    c.height-low.result c.height.result c.len.result c.height-low.ensures.value c.height.ensures.value (omega (arith, c.len.ensures, c.args.undo.now.ok)) in
-    s.branch_is
+pub replay_blocks-requires-clause-branch : goal.replay_blocks-requires-clause-branch
+replay_blocks-requires-clause-branch g c =
+    (stands c.args.tree.now.blocks c.args.fork c.requires c.height-low.ensures.value c.height.ensures.value c.len.result (omega (arith, c.len.ensures, c.args.undo.now.ok))).branch_is
 
-pub replayed_undo-requires-clause-few : goal.replayed_undo-requires-clause-few
-replayed_undo-requires-clause-few g c =
-    let s = stands c.args.tree.now.blocks c.args.places.now c.args.undo.now.items c.args.active c.args.fork c.requires.kept c.requires.on c.requires.branch c.requires.undo c.requires.above c.requires.connected
-    c.height-low.result c.height.result c.len.result c.height-low.ensures.value c.height.ensures.value (omega (arith, c.len.ensures, c.args.undo.now.ok)) in
-    omega (arith, s.long, c.height.ensures.value, c.height.ensures.few)
+pub replay_blocks-requires-clause-few : goal.replay_blocks-requires-clause-few
+replay_blocks-requires-clause-few g c =
+    omega (arith, (stands c.args.tree.now.blocks c.args.fork c.requires c.height-low.ensures.value c.height.ensures.value c.len.result (omega (arith, c.len.ensures, c.args.undo.now.ok))).long, c.height.ensures.value, c.height.ensures.few)
 
-pub replayed_undo-requires-clause-inside : goal.replayed_undo-requires-clause-inside
-replayed_undo-requires-clause-inside g c =
-    let s = stands c.args.tree.now.blocks c.args.places.now c.args.undo.now.items c.args.active c.args.fork c.requires.kept c.requires.on c.requires.branch c.requires.undo c.requires.above c.requires.connected
-    c.height-low.result c.height.result c.len.result c.height-low.ensures.value c.height.ensures.value (omega (arith, c.len.ensures, c.args.undo.now.ok)) in
-    omega (arith, s.inside)
+pub replay_blocks-requires-clause-inside : goal.replay_blocks-requires-clause-inside
+replay_blocks-requires-clause-inside g c =
+    omega (arith, (stands c.args.tree.now.blocks c.args.fork c.requires c.height-low.ensures.value c.height.ensures.value c.len.result (omega (arith, c.len.ensures, c.args.undo.now.ok))).inside)
 
 pub disconnect_blocks-requires-3-clause-branch : goal.disconnect_blocks-requires-3-clause-branch
 disconnect_blocks-requires-3-clause-branch g c =
-    let s = stands c.args.tree.now.blocks c.args.places.now c.args.undo.now.items c.args.active c.args.fork c.requires.kept c.requires.on c.requires.branch c.requires.undo c.requires.above c.requires.connected
-    c.height-low.result c.height.result c.len.result c.height-low.ensures.value c.height.ensures.value (omega (arith, c.len.ensures, c.args.undo.now.ok)) in
-    s.branch_is
+    (stands c.args.tree.now.blocks c.args.fork c.requires c.height-low.ensures.value c.height.ensures.value c.len.result (omega (arith, c.len.ensures, c.args.undo.now.ok))).branch_is
 
 pub disconnect_blocks-requires-3-clause-inside : goal.disconnect_blocks-requires-3-clause-inside
 disconnect_blocks-requires-3-clause-inside g c =
-    let s = stands c.args.tree.now.blocks c.args.places.now c.args.undo.now.items c.args.active c.args.fork c.requires.kept c.requires.on c.requires.branch c.requires.undo c.requires.above c.requires.connected
-    c.height-low.result c.height.result c.len.result c.height-low.ensures.value c.height.ensures.value (omega (arith, c.len.ensures, c.args.undo.now.ok)) in
-    omega (arith, s.inside, c.in_ok-again.ensures.count)
+    omega (arith, (stands c.args.tree.now.blocks c.args.fork c.requires c.height-low.ensures.value c.height.ensures.value c.len.result (omega (arith, c.len.ensures, c.args.undo.now.ok))).inside, c.in_ok-made.ensures.count)
 
 pub returns-clause-coins : goal.returns-clause-coins
 returns-clause-coins g c =
-    let s = stands c.args.tree.now.blocks c.args.places.now c.args.undo.now.items c.args.active c.args.fork c.requires.kept c.requires.on c.requires.branch c.requires.undo c.requires.above c.requires.connected
-    c.height-low.result c.height.result c.len.result c.height-low.ensures.value c.height.ensures.value (omega (arith, c.len.ensures, c.args.undo.now.ok)) in
-    if_ok c.disconnect_blocks-3.result c.disconnect_blocks-3.ensures.coins (λ left e. e ∙ ap (coins_after c.args.tree.now.blocks) s.here)
+    if_ok c.disconnect_blocks-3.result c.disconnect_blocks-3.ensures.coins (λ left e. e ∙ ap (coins_after c.args.tree.now.blocks) (stands c.args.tree.now.blocks c.args.fork c.requires c.height-low.ensures.value c.height.ensures.value c.len.result (omega (arith, c.len.ensures, c.args.undo.now.ok))).here)

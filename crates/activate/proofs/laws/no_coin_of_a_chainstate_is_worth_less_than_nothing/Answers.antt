@@ -1,5 +1,4 @@
 use Rattle.std.proofs.Common.{sym, ap, ◌∙◌, subst}
-use Rattle.coins.specs.Coins.{Coins}
 use Rattle.chain.specs.Settle.{active}
 use Rattle.chain.specs.Regtest.{AreNotNegative, regtest}
 use Rattle.chain.specs.laws.Actives.{active_kept}

@@ -1,9 +1,9 @@
-use Rattle.std.proofs.Common.{rules, ◌≡◌, ℕ, List, length, map, Option, Some, None, sym, ap, ap₂, subst, ◌∙◌, arith}
+use Rattle.std.proofs.Common.{◌≡◌, ℕ, List, length, map, Option, Some, None, ap, ap₂, subst, ◌∙◌, arith}
 use Rattle.std.specs.List.{zip, Any}
 use Rattle.std.proofs.lemmas.Result.{err_from_is_err_and}
 use Rattle.txn.specs.declared.reason.Reason.TheVariants.{ScriptRefused}
 use Rattle.curve.specs.Known.{Agrees}
-use Rattle.curve.specs.Triple.{Triple, Triples}
+use Rattle.curve.specs.Triple.{Triple}
 use Rattle.interp.specs.declared.flags.Flags.{Flags}
 use Rattle.interp.specs.declared.job.Job.{Job}
 use Rattle.queue.specs.Jobs.{question_of, IsFirstFailure, IsWanted, IsWantedIn}

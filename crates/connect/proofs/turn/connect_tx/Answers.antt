@@ -1,16 +1,34 @@
-use Rattle.std.proofs.Common.{rules, ◌≡◌, List, sym, ap, ◌∙◌, subst}
+use Rattle.std.proofs.Common.{rules, ◌≡◌, ℕ, List, None, sym, ap, ◌∙◌, subst}
 use Rattle.std.specs.Int.{w128}
 use Rattle.std.proofs.lemmas.Int.{to_z-of_z}
 use Rattle.hash.specs.declared.id.Id.{Id}
+use Rattle.txn.specs.declared.tx.Tx.{Tx}
+use Rattle.txn.specs.First.{first_broken}
+use Rattle.txn.specs.Identity.{id_of}
 use Rattle.coins.specs.declared.coin.Coin.{Coin}
-use Rattle.coins.specs.Coins.{Layer}
+use Rattle.coins.specs.Coins.{Coins, Layer}
 use Rattle.undo.specs.Effect.{IsApplicable, after}
-use Rattle.connect.specs.Setting.{setting}
-use Rattle.connect.specs.Turns.{turn, plain_count}
-use Rattle.connect.specs.inside.Turns.{HasFound}
+use Rattle.connect.specs.Setting.{Setting, setting}
+use Rattle.connect.specs.Turns.{turn}
+use Rattle.connect.specs.Faults.{turn_rules}
+use Rattle.connect.specs.inside.Turns.{HasFound, IsLawful}
 use Rattle.connect.specs.laws.Applying.{applies}
-use Rattle.connect.specs.laws.Broken.{at_clash, none_broken}
+use Rattle.connect.specs.laws.Broken.{IsClear, at_clash, none_broken}
 use Rattle.connect.proofs.turn.connect_tx.Goals as goal
+
+-- the coins that were found, as the slice of them that is lent
+of_slice : (s : Setting) (tx : Tx) (m : Coins) (n : ℕ) (slice coins : List Coin) → slice ≡ coins → HasFound s tx m n coins → HasFound s tx m n slice
+of_slice s tx m n slice coins same found = subst (λ (l : List Coin). HasFound s tx m n l) (sym same) found
+
+-- a transaction that breaks no rule in its turn, and can be applied under its id
+record Passing (s : Setting) (tx : Tx) (m : Coins) (n : ℕ) (id : Id) : Type 0 where
+  none : first_broken (turn_rules s (turn tx m n)) ≡ None
+  can : IsApplicable m tx id
+
+passing : (s : Setting) (tx : Tx) (m : Coins) (n : ℕ) (id : Id) → id ≡ id_of tx → IsLawful tx → IsClear s (turn tx m n) → Passing s tx m n id
+passing s tx m n id is lawful up =
+    let none = none_broken s (turn tx m n) up in
+    record { none = none; can = subst (λ (i : Id). IsApplicable m tx i) (sym is) (applies s (turn tx m n) lawful none) }
 
 pub returns-in_err-layer-clause-fault : goal.returns-in_err-layer-clause-fault
 returns-in_err-layer-clause-fault g c = let h = c.in_err-layer.ensures.fault (setting c.args.context.now) in search rules
@@ -18,74 +36,53 @@ returns-in_err-layer-clause-fault g c = let h = c.in_err-layer.ensures.fault (se
 pub returns-in-Err-clause-fault : goal.returns-in-Err-clause-fault
 returns-in-Err-clause-fault g c =
     let s = setting c.args.context.now in
-    let tx = c.args.tx.now in
-    let m = c.args.layer.coins in
-    let n = c.args.counted in
-    let found : HasFound s tx m n c.as_slice-coins.result.now =
-    subst (λ (l : List Coin). HasFound s tx m n l) (sym c.as_slice-coins.ensures) (c.in_ok-layer.ensures.found s) in
-    c.in-Err.ensures.fault m n found
+    let found = of_slice s c.args.tx.now c.args.layer.coins c.args.counted _ _ c.as_slice-coins.ensures (c.in_ok-layer.ensures.found s) in
+    c.in-Err.ensures.fault c.args.layer.coins c.args.counted found
 
 pub returns-in_err-counted-clause-fault : goal.returns-in_err-counted-clause-fault
 returns-in_err-counted-clause-fault g c =
     let s = setting c.args.context.now in
-    let tx = c.args.tx.now in
     let m = c.args.layer.coins in
     let n = c.args.counted in
-    let found : HasFound s tx m n c.as_slice-coins.result.now =
-    subst (λ (l : List Coin). HasFound s tx m n l) (sym c.as_slice-coins.ensures) (c.in_ok-layer.ensures.found s) in
-    let plain : c.in_ok-layer.field-0.plain ≡ plain_count (turn tx m n) = c.in_ok-layer.ensures.plain in
-    let enough = c.in-Ok.ensures.enough m n found in
-    let h = c.in_err-counted.ensures.fault m n found enough plain in
+    let found = of_slice s c.args.tx.now m n _ _ c.as_slice-coins.ensures (c.in_ok-layer.ensures.found s) in
+    let h = c.in_err-counted.ensures.fault m n found (c.in-Ok.ensures.enough m n found) c.in_ok-layer.ensures.plain in
     search rules
 
 pub returns-then-overwriting-clause-fault : goal.returns-then-overwriting-clause-fault
 returns-then-overwriting-clause-fault g c =
     let s = setting c.args.context.now in
-    let tx = c.args.tx.now in
     let m = c.args.layer.coins in
     let n = c.args.counted in
-    let found : HasFound s tx m n c.as_slice-coins.result.now =
-    subst (λ (l : List Coin). HasFound s tx m n l) (sym c.as_slice-coins.ensures) (c.in_ok-layer.ensures.found s) in
-    let plain : c.in_ok-layer.field-0.plain ≡ plain_count (turn tx m n) = c.in_ok-layer.ensures.plain in
-    let enough = c.in-Ok.ensures.enough m n found in
-    at_clash s (turn tx m n) (c.in_ok-counted.ensures.count m n found enough plain) (sym c.overwrites_in_turn-overwriting.ensures ∙ c.if-overwriting.true)
+    let found = of_slice s c.args.tx.now m n _ _ c.as_slice-coins.ensures (c.in_ok-layer.ensures.found s) in
+    at_clash s (turn c.args.tx.now m n) (c.in_ok-counted.ensures.count m n found (c.in-Ok.ensures.enough m n found) c.in_ok-layer.ensures.plain)
+    (sym c.overwrites_in_turn-overwriting.ensures ∙ c.if-overwriting.true)
 
 pub add_outputs-requires : goal.add_outputs-requires
 add_outputs-requires g c =
     let s = setting c.args.context.now in
-    let tx = c.args.tx.now in
     let m = c.args.layer.coins in
     let n = c.args.counted in
-    let t = turn tx m n in
-    let found : HasFound s tx m n c.as_slice-coins.result.now =
-    subst (λ (l : List Coin). HasFound s tx m n l) (sym c.as_slice-coins.ensures) (c.in_ok-layer.ensures.found s) in
-    let plain : c.in_ok-layer.field-0.plain ≡ plain_count (turn tx m n) = c.in_ok-layer.ensures.plain in
-    let enough = c.in-Ok.ensures.enough m n found in
-    let none = none_broken s t (record { count = c.in_ok-counted.ensures.count m n found enough plain; new = sym c.overwrites_in_turn-overwriting.ensures ∙ c.if-overwriting.false }) in
-    let can : IsApplicable m tx c.args.id = subst (λ (id : Id). IsApplicable m tx id) (sym c.requires.id) (applies s t c.requires.lawful none) in
-    (m, can, ap (λ (l : Layer). l.coins) c.in_ok-layer.ensures.layer)
+    let found = of_slice s c.args.tx.now m n _ _ c.as_slice-coins.ensures (c.in_ok-layer.ensures.found s) in
+    let count = c.in_ok-counted.ensures.count m n found (c.in-Ok.ensures.enough m n found) c.in_ok-layer.ensures.plain in
+    let p = passing s c.args.tx.now m n c.args.id c.requires.id c.requires.lawful (record { count = count; new = sym c.overwrites_in_turn-overwriting.ensures ∙ c.if-overwriting.false }) in
+    (m, p.can, ap (λ (l : Layer). l.coins) c.in_ok-layer.ensures.layer)
 
 pub returns-clause-passes : goal.returns-clause-passes
 returns-clause-passes g c =
     let s = setting c.args.context.now in
-    let tx = c.args.tx.now in
     let m = c.args.layer.coins in
     let n = c.args.counted in
-    let t = turn tx m n in
-    let found : HasFound s tx m n c.as_slice-coins.result.now =
-    subst (λ (l : List Coin). HasFound s tx m n l) (sym c.as_slice-coins.ensures) (c.in_ok-layer.ensures.found s) in
-    let plain : c.in_ok-layer.field-0.plain ≡ plain_count (turn tx m n) = c.in_ok-layer.ensures.plain in
-    let enough = c.in-Ok.ensures.enough m n found in
-    let none = none_broken s t (record { count = c.in_ok-counted.ensures.count m n found enough plain; new = sym c.overwrites_in_turn-overwriting.ensures ∙ c.if-overwriting.false }) in
-    let can : IsApplicable m tx c.args.id = subst (λ (id : Id). IsApplicable m tx id) (sym c.requires.id) (applies s t c.requires.lawful none) in
+    let found = of_slice s c.args.tx.now m n _ _ c.as_slice-coins.ensures (c.in_ok-layer.ensures.found s) in
+    let count = c.in_ok-counted.ensures.count m n found (c.in-Ok.ensures.enough m n found) c.in_ok-layer.ensures.plain in
+    let p = passing s c.args.tx.now m n c.args.id c.requires.id c.requires.lawful (record { count = count; new = sym c.overwrites_in_turn-overwriting.ensures ∙ c.if-overwriting.false }) in
     record {
-      none = none;
-      layer = c.in_ok-layer-2.ensures m can (ap (λ (l : Layer). l.coins) c.in_ok-layer.ensures.layer)
-          ∙ (λ i. record { base = (c.in_ok-layer.ensures.layer i).base; coins = after m tx (c.requires.id i) c.args.context.now.height });
+      none = p.none;
+      layer = c.in_ok-layer-2.ensures m p.can (ap (λ (l : Layer). l.coins) c.in_ok-layer.ensures.layer)
+          ∙ (λ i. record { base = (c.in_ok-layer.ensures.layer i).base; coins = after m c.args.tx.now (c.requires.id i) c.args.context.now.height });
       spent = (c.in_ok-layer.ensures.found s).lent;
       fee = to_z-of_z w128 c.in-Ok.fee (search rules) ∙ c.in-Ok.ensures.fee m n found;
       low = search rules;
       high = search rules;
-      counted = c.in_ok-counted.ensures.counted m n found plain;
+      counted = c.in_ok-counted.ensures.counted m n found c.in_ok-layer.ensures.plain;
       few = c.in_ok-counted.ensures.bounded;
     }

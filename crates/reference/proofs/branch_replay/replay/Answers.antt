@@ -1,6 +1,5 @@
-use Rattle.std.proofs.Common.{◌≡◌, ℕ, ◌-◌, ◌<◌, true, false, List, get_or, length, reverse, sym, ap, ◌∙◌, arith}
+use Rattle.std.proofs.Common.{◌≡◌, ℕ, ◌-◌, true, List, get_or, length, reverse, sym, ap, ◌∙◌, arith}
 use Rattle.std.proofs.lemmas.List.{length-map, length-reverse, get_or_read}
-use Rattle.block.specs.declared.block.Block.{Block}
 use Rattle.coins.specs.Coins.{Coins}
 use Rattle.rules.specs.Params.{at}
 use Rattle.connect.specs.computed.Scripts.{connect_fault}

@@ -1,31 +1,40 @@
-use Rattle.std.proofs.Common.{◌≡◌, ℕ, Bool, false, List, length, get_or, sym, ap, ◌∙◌, inl, inr, arith}
+use Rattle.std.proofs.Common.{◌≡◌, ℕ, ◌<◌, Bool, false, List, length, get_or, sym, ap, ◌∙◌, inl, inr, arith}
 use Rattle.std.proofs.Math.ListN.{set}
 use Rattle.std.proofs.lemmas.Bool.{cases_eq}
 use Rattle.std.proofs.lemmas.List.{get_or-set_same, get_or-set_other, get_or_default, length-set}
 use Rattle.tree.specs.declared.node.Mark.{Mark}
 use Rattle.tree.specs.Flags.{FlagsOf, flags_in}
-use Rattle.tree.specs.Nodes.{blank, mark_at}
+use Rattle.tree.specs.Nodes.{blank, mark_at, places_where}
 use Rattle.tree.proofs.Put.{where-set}
 use Rattle.tree.proofs.flags.set_each.Goals as goal
 
--- what is seen of two lists of flags
-module _ (bad seen : List Bool) {f : FlagsOf} (view : flags_in bad seen ≡ f) where
-  len-is : length bad ≡ f.len
+-- two lists of flags that are seen as the flags of n blocks
+module _ (bad seen : List Bool) {f : FlagsOf} (view : flags_in bad seen ≡ f) {n : ℕ} (count : f.len ≡ n) where
+  bads : length bad ≡ n
   unfolding flags_in
-  len-is = ap (λ (g : FlagsOf). g.len) view
+  bads = ap (λ (g : FlagsOf). g.len) view ∙ count
 
-  bad-is : Rattle.tree.specs.Flags.places_set bad ≡ f.bad
+  -- n marks that have them are marked at their places
+  bad-put : (ms : List Mark) → 0 < n → length ms ≡ n → ((x : ℕ) → x < n → (mark_at ms x).bad ≡ get_or bad x false) → places_where (λ m. m.bad) ms ≡ f.bad
   unfolding flags_in
-  bad-is = ap (λ (g : FlagsOf). g.bad) view
+  bad-put ms some long each =
+      let l = bads in
+      where-set (λ (m : Mark). m.bad) ms bad (omega arith) (omega arith) (λ x h. each x (omega arith)) ∙ ap (λ (g : FlagsOf). g.bad) view
 
-  seen-is : Rattle.tree.specs.Flags.places_set seen ≡ f.seen
-  unfolding flags_in
-  seen-is = ap (λ (g : FlagsOf). g.seen) view
+  module _ (same : length seen ≡ length bad) where
+    seens : length seen ≡ n
+    seens = same ∙ bads
+
+    -- and seen at theirs
+    seen-put : (ms : List Mark) → 0 < n → length ms ≡ n → ((x : ℕ) → x < n → (mark_at ms x).seen ≡ get_or seen x false) → places_where (λ m. m.seen) ms ≡ f.seen
+    unfolding flags_in
+    seen-put ms some long each =
+        let l = seens in
+        where-set (λ (m : Mark). m.seen) ms seen (omega arith) (omega arith) (λ x h. each x (omega arith)) ∙ ap (λ (g : FlagsOf). g.seen) view
 
 pub index-requires : goal.index-requires
 index-requires c =
-    let l = len-is c.flags.inside.bad.items c.flags.inside.seen.items c.flags.view_is in
-    let r = c.requires.len in
+    let l = bads c.flags.inside.bad.items c.flags.inside.seen.items c.flags.view_is c.requires.len in
     let i = c.loop-place.invariant.0 in
     let t = c.loop-place-test.true in
     let b = c.flags.inside.bad.ok.0 in
@@ -33,11 +42,9 @@ index-requires c =
 
 pub index-requires-in-loop-place : goal.index-requires-in-loop-place
 index-requires-in-loop-place c =
-    let l = len-is c.flags.inside.bad.items c.flags.inside.seen.items c.flags.view_is in
-    let r = c.requires.len in
+    let l = seens c.flags.inside.bad.items c.flags.inside.seen.items c.flags.view_is c.requires.len c.flags.invariant in
     let i = c.loop-place.invariant.0 in
     let t = c.loop-place-test.true in
-    let v = c.flags.invariant in
     let s = c.flags.inside.seen.ok.0 in
     omega arith
 
@@ -52,9 +59,8 @@ loop-place-preserved c =
     let s = c.index-in-loop-place.result.now in
     let i = c.loop-place.invariant in
     let same = i.0 in
-    let l = len-is bad seen c.flags.view_is in
-    let r = c.requires.len in
-    let v = c.flags.invariant in
+    let l = bads bad seen c.flags.view_is c.requires.len in
+    let k = seens bad seen c.flags.view_is c.requires.len c.flags.invariant in
     let t = c.loop-place-test.true in
     let n = record (mark_at ms p) { bad = b; seen = s } in (
       length-set ms p n ∙ same,
@@ -72,23 +78,12 @@ loop-place-preserved c =
 
 pub returns-clause-bad : goal.returns-clause-bad
 returns-clause-bad c =
-    let bad = c.flags.inside.bad.items in
-    let seen = c.flags.inside.seen.items in
-    let z = c.requires.some in
-    let same = c.loop-place.invariant.0 in
-    let l = len-is bad seen c.flags.view_is in
-    let r = c.requires.len in
     let t = c.loop-place-test.false in
-    where-set (λ (m : Mark). m.bad) c.loop-place.marks bad (omega arith) (omega arith) (λ x h. ap (λ (m : Mark). m.bad) (c.loop-place.invariant.1 x (omega arith))) ∙ bad-is bad seen c.flags.view_is
+    bad-put c.flags.inside.bad.items c.flags.inside.seen.items c.flags.view_is c.requires.len c.loop-place.marks c.requires.some c.loop-place.invariant.0
+    (λ x h. ap (λ (m : Mark). m.bad) (c.loop-place.invariant.1 x (omega arith)))
 
 pub returns-clause-seen : goal.returns-clause-seen
 returns-clause-seen c =
-    let bad = c.flags.inside.bad.items in
-    let seen = c.flags.inside.seen.items in
-    let z = c.requires.some in
-    let same = c.loop-place.invariant.0 in
-    let l = len-is bad seen c.flags.view_is in
-    let r = c.requires.len in
-    let v = c.flags.invariant in
     let t = c.loop-place-test.false in
-    where-set (λ (m : Mark). m.seen) c.loop-place.marks seen (omega arith) (omega arith) (λ x h. ap (λ (m : Mark). m.seen) (c.loop-place.invariant.1 x (omega arith))) ∙ seen-is bad seen c.flags.view_is
+    seen-put c.flags.inside.bad.items c.flags.inside.seen.items c.flags.view_is c.requires.len c.flags.invariant c.loop-place.marks c.requires.some c.loop-place.invariant.0
+    (λ x h. ap (λ (m : Mark). m.seen) (c.loop-place.invariant.1 x (omega arith)))

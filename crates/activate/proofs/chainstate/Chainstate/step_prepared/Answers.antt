@@ -1,4 +1,4 @@
-use Rattle.std.proofs.Common.{◌≡◌, Some, None, refl, sym, subst}
+use Rattle.std.proofs.Common.{Some, sym, subst}
 use Rattle.std.specs.FinSet as set
 use Rattle.curve.specs.Triple.{Triple, Triples}
 use Rattle.curve.specs.laws.Growth.{table-alone}

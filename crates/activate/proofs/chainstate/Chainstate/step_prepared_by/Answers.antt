@@ -1,6 +1,7 @@
 use Rattle.std.proofs.Common.{◌≡◌, refl, ap, ◌∙◌, sym, subst}
 use Rattle.hash.specs.declared.id.Id.{Id}
 use Rattle.block.specs.declared.block.Block.{Block}
+use Rattle.curve.specs.Triple.{Triples}
 use Rattle.rules.specs.declared.params.Params.{Params}
 use Rattle.coins.specs.Coins.{Coins}
 use Rattle.coins.specs.Changes.{after_changes}
@@ -17,18 +18,29 @@ use Rattle.activate.proofs.Undo.{few-of, more-undo, undo-follows}
 use Rattle.activate.proofs.chainstate.Chainstate.step_prepared_by.Goals.{in-Activate-1, in-Nothing-1, in-Some-1, in-None-1}
 use Rattle.activate.proofs.chainstate.Chainstate.step_prepared_by.Goals as goal
 
+-- what a commit leaves, under the rules of the state before
+committed : (a b e : CoreState) (rest : Completion) (triples : Triples) → b.params ≡ a.params → IsReady (regtest a.params triples) b rest
+    → ((t : Triples) → IsReady (regtest b.params t) b rest → e ≡ core_after_commit (regtest b.params t) b rest) → e ≡ core_after_commit (regtest a.params triples) b rest
+committed a b e rest triples same ready commits =
+    commits triples (subst (λ (q : Params). IsReady (regtest q triples) b rest) (sym same) ready) ∙ ap (λ (q : Params). core_after_commit (regtest q triples) b rest) same
+
+-- the struct's own fields are a chainstate
+inside : {x y : WithCoins} (triples : Triples) → x ≡ y → IsChainstate y triples → IsChainstate x triples
+inside triples same h = subst (λ (z : WithCoins). IsChainstate z triples) (sym same) h
+
 pub returns-in-Ok-clause-is_chainstate : goal.returns-in-Ok-clause-is_chainstate
 returns-in-Ok-clause-is_chainstate g c triples agrees =
     let a : CoreState = c.self.inside.core in
     let b : CoreState = c.prepare_by.new.self in
     let prepared = c.in_ok-reply.field-0 in
-    let was : IsChainstate (record { core = a; coins = c.self.inside.coins }) triples = subst (λ (x : WithCoins). IsChainstate x triples) (sym c.self.view_is) (c.requires.is_chainstate triples agrees) in
+    let was = inside triples c.self.view_is (c.requires.is_chainstate triples agrees) in
+    let plan = c.in_ok-reply.ensures.prepared triples agrees in
     let end : CoreState = core_after_commit (regtest a.params triples) b prepared.rest in
-    let done : c.commit.new.self ≡ end = c.commit.ensures triples (subst (λ (q : Params). IsReady (regtest q triples) b prepared.rest) (sym (c.in_ok-reply.ensures.prepared triples agrees).params_are) (c.in_ok-reply.ensures.prepared triples agrees).ready) ∙ ap (λ (q : Params). core_after_commit (regtest q triples) b prepared.rest) (c.in_ok-reply.ensures.prepared triples agrees).params_are in
+    let done = committed a b c.commit.new.self prepared.rest triples plan.params_are plan.ready c.commit.ensures in
     let follows : Follows c.commit.new.self triples =
-    subst (λ (x : CoreState). Follows x triples) (sym done) (follows-plan a b triples (command_of c.args.command.now) prepared was.follows (c.in_ok-reply.ensures.prepared triples agrees)).1 in
+    subst (λ (x : CoreState). Follows x triples) (sym done) (follows-plan a b triples (command_of c.args.command.now) prepared was.follows plan).1 in
     let coins : c.lay_taken.new.self ≡ coins_of c.commit.new.self =
-    c.in-Ok.ensures.ok ∙ ap (λ (m : Coins). after_changes m prepared.changes) was.coins_are ∙ laid-changes (coins_of a) (coins_of end) prepared.changes (c.in_ok-reply.ensures.prepared triples agrees).changes_are ∙ sym (ap coins_of done) in
+    c.in-Ok.ensures.ok ∙ ap (λ (m : Coins). after_changes m prepared.changes) was.coins_are ∙ laid-changes (coins_of a) (coins_of end) prepared.changes plan.changes_are ∙ sym (ap coins_of done) in
     let whole : IsChainstate (record { core = c.commit.new.self; coins = c.lay_taken.new.self }) triples = record { follows = follows; coins_are = coins } in
     elim c.match-rollback.branch [
       | in-Some-1 w ↦ subst (λ (x : WithCoins). IsChainstate x triples) (sym w.self-is) whole
@@ -42,11 +54,10 @@ returns-in-Ok-clause-undo g c =
     let a : CoreState = c.self.inside.core in
     let b : CoreState = c.prepare_by.new.self in
     let prepared = c.in_ok-reply.field-0 in
-    let r = regtest a.params triples in
-    let end : CoreState = core_after_commit r b prepared.rest in
-    let done : c.commit.new.self ≡ end = c.commit.ensures triples (subst (λ (q : Params). IsReady (regtest q triples) b prepared.rest) (sym (c.in_ok-reply.ensures.prepared triples agrees).params_are) (c.in_ok-reply.ensures.prepared triples agrees).ready) ∙ ap (λ (q : Params). core_after_commit (regtest q triples) b prepared.rest) (c.in_ok-reply.ensures.prepared triples agrees).params_are in
+    let plan = c.in_ok-reply.ensures.prepared triples agrees in
+    let done = committed a b c.commit.new.self prepared.rest triples plan.params_are plan.ready c.commit.ensures in
     let more : HasOneMore c.args.self.now.core c.commit.new.self =
-    subst (λ (x : WithCoins). HasOneMore x.core c.commit.new.self) c.self.view_is (subst (λ (x : CoreState). HasOneMore a x) (sym done) (more-undo r a b _ prepared (c.in_ok-reply.ensures.prepared triples agrees))) in
+    subst (λ (x : WithCoins). HasOneMore x.core c.commit.new.self) c.self.view_is (subst (λ (x : CoreState). HasOneMore a x) (sym done) (more-undo (regtest a.params triples) a b _ prepared plan)) in
     elim c.match-rollback.branch [
       | in-Some-1 w ↦ subst (λ (x : WithCoins). HasOneMore c.args.self.now.core x.core) (sym w.self-is) more
       | in-None-1 w ↦ subst (λ (x : WithCoins). HasOneMore c.args.self.now.core x.core) (sym w.self-is) more
@@ -59,12 +70,11 @@ returns-in-Ok-clause-undo_kept g c =
     let a : CoreState = c.self.inside.core in
     let b : CoreState = c.prepare_by.new.self in
     let prepared = c.in_ok-reply.field-0 in
-    let r = regtest a.params triples in
-    let was : IsChainstate (record { core = a; coins = c.self.inside.coins }) triples = subst (λ (x : WithCoins). IsChainstate x triples) (sym c.self.view_is) (c.requires.is_chainstate triples agrees) in
-    let end : CoreState = core_after_commit r b prepared.rest in
-    let done : c.commit.new.self ≡ end = c.commit.ensures triples (subst (λ (q : Params). IsReady (regtest q triples) b prepared.rest) (sym (c.in_ok-reply.ensures.prepared triples agrees).params_are) (c.in_ok-reply.ensures.prepared triples agrees).ready) ∙ ap (λ (q : Params). core_after_commit (regtest q triples) b prepared.rest) (c.in_ok-reply.ensures.prepared triples agrees).params_are in
+    let was = inside triples c.self.view_is (c.requires.is_chainstate triples agrees) in
+    let plan = c.in_ok-reply.ensures.prepared triples agrees in
+    let done = committed a b c.commit.new.self prepared.rest triples plan.params_are plan.ready c.commit.ensures in
     let left : UndoFollows c.args.self.now.core c.commit.new.self =
-    subst (λ (x : WithCoins). UndoFollows x.core c.commit.new.self) c.self.view_is (subst (λ (x : CoreState). UndoFollows a x) (sym done) (undo-follows a b triples (command_of c.args.command.now) prepared was.follows (c.in_ok-reply.ensures.prepared triples agrees) (few-of c.undo_kept-few.result a.undo_kept c.undo_kept-few.ensures.value c.undo_kept-few.ensures.few))) in
+    subst (λ (x : WithCoins). UndoFollows x.core c.commit.new.self) c.self.view_is (subst (λ (x : CoreState). UndoFollows a x) (sym done) (undo-follows a b triples (command_of c.args.command.now) prepared was.follows plan (few-of c.undo_kept-few.result a.undo_kept c.undo_kept-few.ensures.value c.undo_kept-few.ensures.few))) in
     elim c.match-rollback.branch [
       | in-Some-1 w ↦ subst (λ (x : WithCoins). UndoFollows c.args.self.now.core x.core) (sym w.self-is) left
       | in-None-1 w ↦ subst (λ (x : WithCoins). UndoFollows c.args.self.now.core x.core) (sym w.self-is) left
@@ -91,7 +101,7 @@ prepare_by-requires-clause-coins g c =
 
 pub returns-in_err-reply-clause-is_chainstate : goal.returns-in_err-reply-clause-is_chainstate
 returns-in_err-reply-clause-is_chainstate g c triples agrees =
-    let was : IsChainstate (record { core = c.self.inside.core; coins = c.self.inside.coins }) triples = subst (λ (x : WithCoins). IsChainstate x triples) (sym c.self.view_is) (c.requires.is_chainstate triples agrees) in
+    let was = inside triples c.self.view_is (c.requires.is_chainstate triples agrees) in
     subst (λ (x : CoreState). IsChainstate (record { core = x; coins = c.self.inside.coins }) triples) (sym c.in_err-reply.ensures.err) was
 
 pub roll_back-requires : goal.roll_back-requires
@@ -102,6 +112,10 @@ roll_back-requires g c =
 
 abbrev with_coins : CoreState → Coins → WithCoins
 with_coins core coins = record { core = core; coins = coins }
+
+-- core and coins, both as they were
+rolled_back : {a b : CoreState} {m n : Coins} → a ≡ b → m ≡ n → with_coins a m ≡ with_coins b n
+rolled_back core coins i = with_coins (core i) (coins i)
 
 params_after : (r : Rules Block Id) (b : CoreState) (rest : Completion) → (core_after_commit r b rest).params ≡ b.params
 params_after r b Nothing = refl
@@ -115,10 +129,9 @@ returns-in-Ok-clause-params g c =
     let a : CoreState = c.self.inside.core in
     let b : CoreState = c.prepare_by.new.self in
     let prepared = c.in_ok-reply.field-0 in
-    let r = regtest a.params triples in
-    let params_are : b.params ≡ a.params = (c.in_ok-reply.ensures.prepared triples agrees).params_are in
-    let done : c.commit.new.self ≡ core_after_commit r b prepared.rest = c.commit.ensures triples (subst (λ (q : Params). IsReady (regtest q triples) b prepared.rest) (sym params_are) (c.in_ok-reply.ensures.prepared triples agrees).ready) ∙ ap (λ (q : Params). core_after_commit (regtest q triples) b prepared.rest) params_are in
-    let same : c.commit.new.self.params ≡ c.args.self.now.core.params = ap (λ (x : CoreState). x.params) done ∙ params_after r b prepared.rest ∙ params_are ∙ ap (λ (x : WithCoins). x.core.params) c.self.view_is in
+    let plan = c.in_ok-reply.ensures.prepared triples agrees in
+    let done = committed a b c.commit.new.self prepared.rest triples plan.params_are plan.ready c.commit.ensures in
+    let same : c.commit.new.self.params ≡ c.args.self.now.core.params = ap (λ (x : CoreState). x.params) done ∙ params_after (regtest a.params triples) b prepared.rest ∙ plan.params_are ∙ ap (λ (x : WithCoins). x.core.params) c.self.view_is in
     elim c.match-rollback.branch [
       | in-Some-1 w ↦ ap (λ (x : WithCoins). x.core.params) w.self-is ∙ same
       | in-None-1 w ↦ ap (λ (x : WithCoins). x.core.params) w.self-is ∙ same
@@ -128,8 +141,7 @@ pub returns-in-Err-clause-params : goal.returns-in-Err-clause-params
 returns-in-Err-clause-params g c =
     let triples = g.S.RunsScripts.agreeing c.args.env.now in
     let agrees = g.met.S.RunsScripts.agrees c.args.env.now in
-    let rolled : c.roll_back.new.self ≡ c.self.inside.core = c.roll_back.ensures ∙ (c.in_ok-reply.ensures.prepared triples agrees).back_is in
-    let whole : with_coins c.roll_back.new.self c.lay_taken.new.self ≡ c.args.self.now = (λ i. with_coins (rolled i) (c.in-Err.ensures.err i)) ∙ c.self.view_is in
+    let whole = rolled_back (c.roll_back.ensures ∙ (c.in_ok-reply.ensures.prepared triples agrees).back_is) c.in-Err.ensures.err ∙ c.self.view_is in
     elim c.match-rest.branch [
       | in-Activate-1 w ↦ ap (λ (x : WithCoins). x.core.params) (w.self-is ∙ whole)
       | in-Nothing-1 w ↦ ap (λ (x : WithCoins). x.core.params) (w.self-is ∙ whole)
@@ -137,8 +149,7 @@ returns-in-Err-clause-params g c =
 
 pub returns-in-Err-clause-is_chainstate : goal.returns-in-Err-clause-is_chainstate
 returns-in-Err-clause-is_chainstate g c triples agrees =
-    let rolled : c.roll_back.new.self ≡ c.self.inside.core = c.roll_back.ensures ∙ (c.in_ok-reply.ensures.prepared triples agrees).back_is in
-    let whole : with_coins c.roll_back.new.self c.lay_taken.new.self ≡ c.args.self.now = (λ i. with_coins (rolled i) (c.in-Err.ensures.err i)) ∙ c.self.view_is in
+    let whole = rolled_back (c.roll_back.ensures ∙ (c.in_ok-reply.ensures.prepared triples agrees).back_is) c.in-Err.ensures.err ∙ c.self.view_is in
     let was = c.requires.is_chainstate triples agrees in
     elim c.match-rest.branch [
       | in-Activate-1 w ↦ subst (λ (x : WithCoins). IsChainstate x triples) (sym (w.self-is ∙ whole)) was
@@ -149,8 +160,7 @@ pub returns-in-Err-clause-err : goal.returns-in-Err-clause-err
 returns-in-Err-clause-err g c =
     let triples = g.S.RunsScripts.agreeing c.args.env.now in
     let agrees = g.met.S.RunsScripts.agrees c.args.env.now in
-    let rolled : c.roll_back.new.self ≡ c.self.inside.core = c.roll_back.ensures ∙ (c.in_ok-reply.ensures.prepared triples agrees).back_is in
-    let whole : with_coins c.roll_back.new.self c.lay_taken.new.self ≡ c.args.self.now = (λ i. with_coins (rolled i) (c.in-Err.ensures.err i)) ∙ c.self.view_is in
+    let whole = rolled_back (c.roll_back.ensures ∙ (c.in_ok-reply.ensures.prepared triples agrees).back_is) c.in-Err.ensures.err ∙ c.self.view_is in
     elim c.match-rest.branch [
       | in-Activate-1 w ↦ w.self-is ∙ whole
       | in-Nothing-1 w ↦ w.self-is ∙ whole

@@ -1,14 +1,14 @@
-use Rattle.std.proofs.Common.{◌≡◌, ℕ, ◌≤◌, length, map, reverse, sym, ap, ◌∙◌, subst}
 use Rattle.hash.specs.declared.id.Id.{Id}
 use Rattle.chain.specs.Rules.{Rules}
 use Rattle.activate.specs.declared.path.BranchPath.{BranchPath}
-use Rattle.std.proofs.Common.{◌≡◌, ℕ, suc, ◌+◌, ◌≤◌, true, eqb, List, [], ◌∷◌, length, map, reverse, Option, None, Some, Vec, Global, sym, refl, ap, ◌∙◌, subst, arith}
+use Rattle.std.proofs.Common.{◌≡◌, ℕ, ◌≤◌, length, map, reverse, Vec, Global, sym, ap, ◌∙◌, subst}
 use Rattle.undo.specs.declared.block_undo.BlockUndo.{BlockUndo}
 use Rattle.block.specs.declared.block.Block.{Block}
 use Rattle.tree.specs.Branches.{Blocks}
 use Rattle.tree.specs.State.{State}
 use Rattle.activate.specs.declared.prepared.Completion.{Completion}
 use Rattle.activate.specs.declared.prepared.Completion.TheVariants.{Activate}
+use Rattle.curve.specs.Triple.{Triples}
 use Rattle.rules.specs.declared.params.Params.{Params}
 use Rattle.chain.specs.Try.{state_after_try}
 use Rattle.activate.specs.inside.Preparation.{IsReady, IsValidPath, core_after_commit, undo_after}
@@ -28,68 +28,57 @@ valid-path r c p path undo ready = record {
   flags = record { seen = ready.can.seen; bad_in_order = ready.can.bad_in_order; seen_in_order = ready.can.seen_in_order };
 }
 
+-- what is required where it activates, said of the state that the struct's fields are
+ready_inside : {x y : CoreState} {rest : Completion} {p : ℕ} {path : BranchPath} {undo : Vec BlockUndo Global} (triples : Triples)
+    → x ≡ y → rest ≡ Activate p path undo → IsReady (regtest y.params triples) y rest → IsReady (regtest x.params triples) x (Activate p path undo)
+ready_inside {y = y} {p = p} {path} {undo} triples same is ready =
+    subst (λ (z : CoreState). IsReady (regtest z.params triples) z (Activate p path undo)) (sym same) (subst (λ (q : Completion). IsReady (regtest y.params triples) y q) is ready)
+
+-- marks change no block
+same_blocks : (r : Rules Block Id) (old new : State Block) (p : ℕ) → new ≡ state_after_try r old p → ◌≡◌ {A = Blocks Block} new.blocks old.blocks
+same_blocks r old new p is = ap (λ (s : State Block). s.blocks) is ∙ tried-blocks r old p
+
 pub invariant_of-self-in-Activate : goal.invariant_of-self-in-Activate
 invariant_of-self-in-Activate c =
-    let triples = c.requires.0 in
-    let r = regtest c.self-in-Activate.inside.params triples in
-    let is : IsValidPath r c.self-in-Activate.inside.tree c.self-in-Activate.inside.active c.in-Activate.place c.in-Activate.path =
-    subst (λ (x : CoreState). IsValidPath (regtest x.params triples) x.state x.active c.in-Activate.place c.in-Activate.path) (sym c.self-in-Activate.view_is)
-    (valid-path (regtest c.args.self.now.params triples) c.args.self.now c.in-Activate.place c.in-Activate.path c.in-Activate.undo
-    (subst (λ (x : Completion). IsReady (regtest c.args.self.now.params triples) c.args.self.now x) c.in-Activate.is c.requires.1)) in
-    let e : ◌≡◌ {A = Blocks Block} c.flag_valid_path.new.tree.blocks c.self-in-Activate.inside.tree.blocks = ap (λ (s : State Block). s.blocks) (c.flag_valid_path.ensures r c.self-in-Activate.inside.active c.in-Activate.place is) ∙ tried-blocks r c.self-in-Activate.inside.tree c.in-Activate.place in (
-      subst (λ (t : Blocks Block). c.self-in-Activate.inside.active ≤ length t) (sym e) c.self-in-Activate.invariant.0,
-      branch_of_same c.self-in-Activate.inside.tree.blocks c.flag_valid_path.new.tree.blocks c.self-in-Activate.inside.active _ _ _ e c.self-in-Activate.invariant.1,
-      room_of_same c.self-in-Activate.inside.tree.blocks c.flag_valid_path.new.tree.blocks _ _ _ e c.self-in-Activate.invariant.2,
+    let i = c.self-in-Activate.inside in
+    let r = regtest i.params c.requires.0 in
+    let ready = ready_inside c.requires.0 c.self-in-Activate.view_is c.in-Activate.is c.requires.1 in
+    let e = same_blocks r i.tree c.flag_valid_path.new.tree c.in-Activate.place (c.flag_valid_path.ensures r i.active c.in-Activate.place (valid-path r _ c.in-Activate.place c.in-Activate.path c.in-Activate.undo ready)) in (
+      subst (λ (t : Blocks Block). i.active ≤ length t) (sym e) c.self-in-Activate.invariant.0,
+      branch_of_same i.tree.blocks c.flag_valid_path.new.tree.blocks i.active _ _ _ e c.self-in-Activate.invariant.1,
+      room_of_same i.tree.blocks c.flag_valid_path.new.tree.blocks _ _ _ e c.self-in-Activate.invariant.2,
     )
 
 pub turn-requires-clause-kept : goal.turn-requires-clause-kept
 turn-requires-clause-kept c =
-    let triples = c.requires.0 in
-    let r = regtest c.self-in-Activate.inside.params triples in
-    let is : IsValidPath r c.self-in-Activate.inside.tree c.self-in-Activate.inside.active c.in-Activate.place c.in-Activate.path =
-    subst (λ (x : CoreState). IsValidPath (regtest x.params triples) x.state x.active c.in-Activate.place c.in-Activate.path) (sym c.self-in-Activate.view_is)
-    (valid-path (regtest c.args.self.now.params triples) c.args.self.now c.in-Activate.place c.in-Activate.path c.in-Activate.undo
-    (subst (λ (x : Completion). IsReady (regtest c.args.self.now.params triples) c.args.self.now x) c.in-Activate.is c.requires.1)) in
-    let e : ◌≡◌ {A = Blocks Block} c.flag_valid_path.new.tree.blocks c.self-in-Activate.inside.tree.blocks = ap (λ (s : State Block). s.blocks) (c.flag_valid_path.ensures r c.self-in-Activate.inside.active c.in-Activate.place is) ∙ tried-blocks r c.self-in-Activate.inside.tree c.in-Activate.place in
-    let can : IsReady (regtest c.args.self.now.params triples) c.args.self.now (Activate c.in-Activate.place c.in-Activate.path c.in-Activate.undo) = subst (λ (x : Completion). IsReady (regtest c.args.self.now.params triples) c.args.self.now x) c.in-Activate.is c.requires.1 in
-    let k : c.in-Activate.place ≤ length c.self-in-Activate.inside.tree.blocks = subst (λ (s : CoreState). c.in-Activate.place ≤ length s.state.blocks) (sym c.self-in-Activate.view_is) can.kept in
-    subst (λ (t : Blocks Block). c.in-Activate.place ≤ length t) (sym e) k
+    let i = c.self-in-Activate.inside in
+    let r = regtest i.params c.requires.0 in
+    let ready = ready_inside c.requires.0 c.self-in-Activate.view_is c.in-Activate.is c.requires.1 in
+    let e = same_blocks r i.tree c.flag_valid_path.new.tree c.in-Activate.place (c.flag_valid_path.ensures r i.active c.in-Activate.place (valid-path r _ c.in-Activate.place c.in-Activate.path c.in-Activate.undo ready)) in
+    subst (λ (t : Blocks Block). c.in-Activate.place ≤ length t) (sym e) ready.kept
 
 pub turn-requires-clause-path : goal.turn-requires-clause-path
 turn-requires-clause-path c =
-    let triples = c.requires.0 in
-    let r = regtest c.self-in-Activate.inside.params triples in
-    let is : IsValidPath r c.self-in-Activate.inside.tree c.self-in-Activate.inside.active c.in-Activate.place c.in-Activate.path =
-    subst (λ (x : CoreState). IsValidPath (regtest x.params triples) x.state x.active c.in-Activate.place c.in-Activate.path) (sym c.self-in-Activate.view_is)
-    (valid-path (regtest c.args.self.now.params triples) c.args.self.now c.in-Activate.place c.in-Activate.path c.in-Activate.undo
-    (subst (λ (x : Completion). IsReady (regtest c.args.self.now.params triples) c.args.self.now x) c.in-Activate.is c.requires.1)) in
-    let e : ◌≡◌ {A = Blocks Block} c.flag_valid_path.new.tree.blocks c.self-in-Activate.inside.tree.blocks = ap (λ (s : State Block). s.blocks) (c.flag_valid_path.ensures r c.self-in-Activate.inside.active c.in-Activate.place is) ∙ tried-blocks r c.self-in-Activate.inside.tree c.in-Activate.place in
-    let can : IsReady (regtest c.args.self.now.params triples) c.args.self.now (Activate c.in-Activate.place c.in-Activate.path c.in-Activate.undo) = subst (λ (x : Completion). IsReady (regtest c.args.self.now.params triples) c.args.self.now x) c.in-Activate.is c.requires.1 in
-    let w : IsPath c.self-in-Activate.inside.tree.blocks c.self-in-Activate.inside.active c.in-Activate.place c.in-Activate.path = subst (λ (s : CoreState). IsPath s.state.blocks s.active c.in-Activate.place c.in-Activate.path) (sym c.self-in-Activate.view_is) can.is_way in
-    subst (λ (t : Blocks Block). IsPath t c.self-in-Activate.inside.active c.in-Activate.place c.in-Activate.path) (sym e) w
+    let i = c.self-in-Activate.inside in
+    let r = regtest i.params c.requires.0 in
+    let ready = ready_inside c.requires.0 c.self-in-Activate.view_is c.in-Activate.is c.requires.1 in
+    let e = same_blocks r i.tree c.flag_valid_path.new.tree c.in-Activate.place (c.flag_valid_path.ensures r i.active c.in-Activate.place (valid-path r _ c.in-Activate.place c.in-Activate.path c.in-Activate.undo ready)) in
+    subst (λ (t : Blocks Block). IsPath t i.active c.in-Activate.place c.in-Activate.path) (sym e) ready.is_way
 
 pub turn-requires-clause-undo : goal.turn-requires-clause-undo
 turn-requires-clause-undo c =
-    let triples = c.requires.0 in
-    let r = regtest c.self-in-Activate.inside.params triples in
-    let is : IsValidPath r c.self-in-Activate.inside.tree c.self-in-Activate.inside.active c.in-Activate.place c.in-Activate.path =
-    subst (λ (x : CoreState). IsValidPath (regtest x.params triples) x.state x.active c.in-Activate.place c.in-Activate.path) (sym c.self-in-Activate.view_is)
-    (valid-path (regtest c.args.self.now.params triples) c.args.self.now c.in-Activate.place c.in-Activate.path c.in-Activate.undo
-    (subst (λ (x : Completion). IsReady (regtest c.args.self.now.params triples) c.args.self.now x) c.in-Activate.is c.requires.1)) in
-    let e : ◌≡◌ {A = Blocks Block} c.flag_valid_path.new.tree.blocks c.self-in-Activate.inside.tree.blocks = ap (λ (s : State Block). s.blocks) (c.flag_valid_path.ensures r c.self-in-Activate.inside.active c.in-Activate.place is) ∙ tried-blocks r c.self-in-Activate.inside.tree c.in-Activate.place in
-    let can : IsReady (regtest c.args.self.now.params triples) c.args.self.now (Activate c.in-Activate.place c.in-Activate.path c.in-Activate.undo) = subst (λ (x : Completion). IsReady (regtest c.args.self.now.params triples) c.args.self.now x) c.in-Activate.is c.requires.1 in
-    let u : c.in-Activate.undo.items ≡ reverse (map (undo_at c.self-in-Activate.inside.tree.blocks) c.in-Activate.path.up.items) = subst (λ (s : CoreState). c.in-Activate.undo.items ≡ reverse (map (undo_at s.state.blocks) c.in-Activate.path.up.items)) (sym c.self-in-Activate.view_is) can.undo_is in
-    subst (λ (t : Blocks Block). c.in-Activate.undo.items ≡ reverse (map (undo_at t) c.in-Activate.path.up.items)) (sym e) u
+    let i = c.self-in-Activate.inside in
+    let r = regtest i.params c.requires.0 in
+    let ready = ready_inside c.requires.0 c.self-in-Activate.view_is c.in-Activate.is c.requires.1 in
+    let e = same_blocks r i.tree c.flag_valid_path.new.tree c.in-Activate.place (c.flag_valid_path.ensures r i.active c.in-Activate.place (valid-path r _ c.in-Activate.place c.in-Activate.path c.in-Activate.undo ready)) in
+    subst (λ (t : Blocks Block). c.in-Activate.undo.items ≡ reverse (map (undo_at t) c.in-Activate.path.up.items)) (sym e) ready.undo_is
 
 pub flag_valid_path-requires : goal.flag_valid_path-requires
 flag_valid_path-requires c =
-    let triples = c.requires.0 in
-    let r = regtest c.self-in-Activate.inside.params triples in
-    let is : IsValidPath r c.self-in-Activate.inside.tree c.self-in-Activate.inside.active c.in-Activate.place c.in-Activate.path =
-    subst (λ (x : CoreState). IsValidPath (regtest x.params triples) x.state x.active c.in-Activate.place c.in-Activate.path) (sym c.self-in-Activate.view_is)
-    (valid-path (regtest c.args.self.now.params triples) c.args.self.now c.in-Activate.place c.in-Activate.path c.in-Activate.undo
-    (subst (λ (x : Completion). IsReady (regtest c.args.self.now.params triples) c.args.self.now x) c.in-Activate.is c.requires.1)) in
-    (r, c.self-in-Activate.inside.active, c.in-Activate.place, is)
+    let i = c.self-in-Activate.inside in
+    let r = regtest i.params c.requires.0 in
+    let ready = ready_inside c.requires.0 c.self-in-Activate.view_is c.in-Activate.is c.requires.1 in
+    (r, i.active, c.in-Activate.place, valid-path r _ c.in-Activate.place c.in-Activate.path c.in-Activate.undo ready)
 
 pub returns-in-Activate : goal.returns-in-Activate
 returns-in-Activate c triples ready =
@@ -98,9 +87,7 @@ returns-in-Activate c triples ready =
     let p = c.in-Activate.place in
     let path = c.in-Activate.path in
     let kept = length i.undo.items in
-    let is : IsValidPath (regtest i.params triples) i.tree i.active p path =
-    subst (λ (x : CoreState). IsValidPath (regtest x.params triples) x.state x.active p path) (sym c.self-in-Activate.view_is)
-    (valid-path (regtest a.params triples) a p path c.in-Activate.undo (subst (λ (x : Completion). IsReady (regtest a.params triples) a x) c.in-Activate.is ready)) in
+    let is = valid-path (regtest i.params triples) _ p path c.in-Activate.undo (ready_inside triples c.self-in-Activate.view_is c.in-Activate.is ready) in
     c.turn.ensures
     ∙ ap (λ (s : State Block). core i.params s p (undo_after s.blocks i.active kept path)) (c.flag_valid_path.ensures (regtest i.params triples) i.active p is)
     ∙ ap (λ (t : Blocks Block). core i.params (state_after_try (regtest i.params triples) i.tree p) p (undo_after t i.active kept path)) (tried-blocks (regtest i.params triples) i.tree p)

@@ -1,5 +1,6 @@
-use Rattle.std.proofs.Common.{◌≡◌, ℕ, suc, ◌<◌, ◌≤◌, length, Some, None, sym, ap, subst, ◌∙◌, arith}
+use Rattle.std.proofs.Common.{◌≡◌, ℕ, suc, ◌<◌, ◌≤◌, length, Option, Some, None, sym, ap, subst, ◌∙◌, arith}
 use Rattle.std.specs.Result.{result_err}
+use Rattle.hash.specs.declared.id.Id.{Id}
 use Rattle.block.specs.declared.block.Block.{Block}
 use Rattle.block.specs.Identity.{id_of}
 use Rattle.curve.specs.Triple.{Triples}
@@ -19,19 +20,40 @@ use Rattle.chain.specs.laws.Steps.{step-known, step-full, step-faulty}
 use Rattle.activate.proofs.Planned.{plan-still}
 use Rattle.activate.proofs.core_state.Core.prepare_block.Goals as goal
 
+-- what was looked up inside, of a block's id, is so of the chainstate as it is seen
+module _ {inside outside : CoreState} (e : inside ≡ outside) (b : Block) {id : Id} {found : Option ℕ} (id-is : id ≡ id_of b.header) (looked : found ≡ place_of names inside.state.blocks id) where
+  found_there : {q : Option ℕ} → found ≡ q → place_of names outside.state.blocks (id_of b.header) ≡ q
+  found_there {q} told = subst (λ (x : CoreState). place_of names x.state.blocks (id_of b.header) ≡ q) e (ap (place_of names inside.state.blocks) (sym id-is) ∙ sym looked ∙ told)
+
+  module _ (none : found ≡ None) {n : ℕ} (count : n ≡ suc (length inside.state.blocks)) (room : n < max_blocks) where
+    room_there : suc (length outside.state.blocks) < max_blocks
+    room_there = subst (λ (x : CoreState). suc (length x.state.blocks) < max_blocks) e (omega arith)
+
+    module _ (triples : Triples) (now p : ℕ) (faultless : None ≡ first_fault (regtest inside.params triples) inside.state now b) (parent : place_of names inside.state.blocks b.header.prev ≡ Some p) where
+      -- the block is to be kept
+      new_there : IsNew (regtest outside.params triples) outside.state now b p
+      new_there = record {
+        unknown = found_there none;
+        room = room_there;
+        faultless = subst (λ (x : CoreState). first_fault (regtest x.params triples) x.state now b ≡ None) e (sym faultless);
+        parent = subst (λ (x : CoreState). place_of names x.state.blocks b.header.prev ≡ Some p) e parent;
+      }
+
+      -- and on the tip, if its parent is active
+      new_on_tip : p ≡ inside.active → IsNew (regtest outside.params triples) outside.state now b outside.active
+      new_on_tip tip = subst (λ (q : ℕ). IsNew (regtest outside.params triples) outside.state now b q) (tip ∙ ap (λ (x : CoreState). x.active) e) new_there
+
 pub known-requires : goal.known-requires
 known-requires g c =
     let a : CoreState = c.args.self.now in
-    let found : place_of names a.state.blocks (id_of c.args.submitted.now.block.header) ≡ Some c.in-Some.place = subst (λ (x : CoreState). place_of names x.state.blocks (id_of c.args.submitted.now.block.header) ≡ Some c.in-Some.place) c.self.view_is
-    (ap (place_of names c.self.inside.tree.blocks) (sym c.requires.submission.1.id) ∙ sym c.find.ensures ∙ c.in-Some.is) in
+    let found = found_there c.self.view_is c.args.submitted.now.block c.requires.submission.1.id c.find.ensures c.in-Some.is in
     place-bound names a.state.blocks (id_of c.args.submitted.now.block.header) c.in-Some.place found
 
 pub returns-in-Some-clause-prepared : goal.returns-in-Some-clause-prepared
 returns-in-Some-clause-prepared g c triples agrees =
     let a : CoreState = c.args.self.now in
     let r = regtest a.params triples in
-    let found : place_of names a.state.blocks (id_of c.args.submitted.now.block.header) ≡ Some c.in-Some.place = subst (λ (x : CoreState). place_of names x.state.blocks (id_of c.args.submitted.now.block.header) ≡ Some c.in-Some.place) c.self.view_is
-    (ap (place_of names c.self.inside.tree.blocks) (sym c.requires.submission.1.id) ∙ sym c.find.ensures ∙ c.in-Some.is) in
+    let found = found_there c.self.view_is c.args.submitted.now.block c.requires.submission.1.id c.find.ensures c.in-Some.is in
     plan-still r a (reply.Submit c.known.result) c.still.result (step r a.state (Submit c.args.now c.args.submitted.now.block)) (c.requires.follows triples agrees).active_is c.still.ensures
     (ap (submit_says a.state) (c.known.ensures r) ∙ sym (step-known r a.state c.args.now c.args.submitted.now.block c.in-Some.place found))
 
@@ -39,8 +61,7 @@ pub returns-then-len-ge-MAX_BLOCKS-clause-prepared : goal.returns-then-len-ge-MA
 returns-then-len-ge-MAX_BLOCKS-clause-prepared g c triples agrees =
     let a : CoreState = c.args.self.now in
     let r = regtest a.params triples in
-    let none : place_of names a.state.blocks (id_of c.args.submitted.now.block.header) ≡ None = subst (λ (x : CoreState). place_of names x.state.blocks (id_of c.args.submitted.now.block.header) ≡ None) c.self.view_is
-    (ap (place_of names c.self.inside.tree.blocks) (sym c.requires.submission.1.id) ∙ sym c.find.ensures ∙ c.in_default.is) in
+    let none = found_there c.self.view_is c.args.submitted.now.block c.requires.submission.1.id c.find.ensures c.in_default.is in
     let t = c.if-len-ge-MAX_BLOCKS.true in
     let e = c.len.ensures.count in
     let full : max_blocks ≤ suc (length c.self.inside.tree.blocks) = omega arith in
@@ -51,58 +72,36 @@ pub returns-in-Err-clause-prepared : goal.returns-in-Err-clause-prepared
 returns-in-Err-clause-prepared g c triples agrees =
     let a : CoreState = c.args.self.now in
     let r = regtest a.params triples in
-    let none : place_of names a.state.blocks (id_of c.args.submitted.now.block.header) ≡ None = subst (λ (x : CoreState). place_of names x.state.blocks (id_of c.args.submitted.now.block.header) ≡ None) c.self.view_is
-    (ap (place_of names c.self.inside.tree.blocks) (sym c.requires.submission.1.id) ∙ sym c.find.ensures ∙ c.in_default.is) in
-    let t = c.if-len-ge-MAX_BLOCKS.false in
-    let e = c.len.ensures.count in
-    let room : suc (length c.self.inside.tree.blocks) < max_blocks = omega arith in
+    let none = found_there c.self.view_is c.args.submitted.now.block c.requires.submission.1.id c.find.ensures c.in_default.is in
+    let room = room_there c.self.view_is c.args.submitted.now.block c.requires.submission.1.id c.find.ensures c.in_default.is c.len.ensures.count (let t = c.if-len-ge-MAX_BLOCKS.false in omega arith) in
     let inside : first_fault (regtest c.self.inside.params triples) c.self.inside.tree c.args.now c.args.submitted.now.block ≡ Some c.in-Err.reason =
     sym (subst (λ o. result_err o ≡ first_fault (regtest c.self.inside.params triples) c.self.inside.tree c.args.now c.args.submitted.now.block) c.in-Err.is (c.fault_or_parent.ensures.fault triples)) in
     let fault : first_fault r a.state c.args.now c.args.submitted.now.block ≡ Some c.in-Err.reason = subst (λ (x : CoreState). first_fault (regtest x.params triples) x.state c.args.now c.args.submitted.now.block ≡ Some c.in-Err.reason) c.self.view_is inside in
     plan-still r a (reply.Submit (Rejected c.in-Err.reason)) c.still-in-Err.result (step r a.state (Submit c.args.now c.args.submitted.now.block)) (c.requires.follows triples agrees).active_is c.still-in-Err.ensures
-    (sym (step-faulty r a.state c.args.now c.args.submitted.now.block c.in-Err.reason none (subst (λ (x : CoreState). suc (length x.state.blocks) < max_blocks) c.self.view_is room) fault))
-
--- a block is to be kept, if what was found inside says so
-new-inside : (inside outside : CoreState) (table : Triples) (now p : ℕ) (b : Block) → inside ≡ outside → place_of names inside.state.blocks (id_of b.header) ≡ None
-    → suc (length inside.state.blocks) < max_blocks → first_fault (regtest inside.params table) inside.state now b ≡ None → place_of names inside.state.blocks b.header.prev ≡ Some p
-    → IsNew (regtest outside.params table) outside.state now b p
-new-inside inside outside table now p b e none room faultless parent =
-    subst (λ (x : CoreState). IsNew (regtest x.params table) x.state now b p) e (record { unknown = none; room = room; faultless = faultless; parent = parent })
+    (sym (step-faulty r a.state c.args.now c.args.submitted.now.block c.in-Err.reason none room fault))
 
 pub prepare_beside-requires-clause-new : goal.prepare_beside-requires-clause-new
-prepare_beside-requires-clause-new g c =
-    let t = c.if-len-ge-MAX_BLOCKS.false in
-    let e = c.len.ensures.count in
-    let none : place_of names c.self.inside.tree.blocks (id_of c.args.submitted.now.block.header) ≡ None = ap (place_of names c.self.inside.tree.blocks) (sym c.requires.submission.1.id) ∙ sym c.find.ensures ∙ c.in_default.is in
-    let room : suc (length c.self.inside.tree.blocks) < max_blocks = omega arith in
-    (c.args.now, λ triples agrees. new-inside _ _ triples c.args.now c.in-Ok.parent c.args.submitted.now.block c.self.view_is none room (sym (c.in-Ok.ensures.fault triples)) c.in-Ok.ensures.parent)
+prepare_beside-requires-clause-new g c = (
+  c.args.now,
+  λ triples agrees. new_there c.self.view_is c.args.submitted.now.block c.requires.submission.1.id c.find.ensures c.in_default.is c.len.ensures.count (let t = c.if-len-ge-MAX_BLOCKS.false in omega arith)
+      triples c.args.now c.in-Ok.parent (c.in-Ok.ensures.fault triples) c.in-Ok.ensures.parent,
+)
 
 pub prepare_on_tip-requires-clause-new : goal.prepare_on_tip-requires-clause-new
-prepare_on_tip-requires-clause-new g c =
-    let t = c.if-len-ge-MAX_BLOCKS.false in
-    let e = c.len.ensures.count in
-    let none : place_of names c.self.inside.tree.blocks (id_of c.args.submitted.now.block.header) ≡ None = ap (place_of names c.self.inside.tree.blocks) (sym c.requires.submission.1.id) ∙ sym c.find.ensures ∙ c.in_default.is in
-    let room : suc (length c.self.inside.tree.blocks) < max_blocks = omega arith in
-    let tip : c.in-Ok.parent ≡ c.args.self.now.active = c.if-parent-self.true ∙ ap (λ (x : CoreState). x.active) c.self.view_is in (
-      c.args.now,
-      λ triples agrees. subst (λ (p : ℕ). IsNew (regtest c.args.self.now.params triples) c.args.self.now.state c.args.now c.args.submitted.now.block p) tip
-          (new-inside _ _ triples c.args.now c.in-Ok.parent c.args.submitted.now.block c.self.view_is none room (sym (c.in-Ok.ensures.fault triples)) c.in-Ok.ensures.parent),
-    )
+prepare_on_tip-requires-clause-new g c = (
+  c.args.now,
+  λ triples agrees. new_on_tip c.self.view_is c.args.submitted.now.block c.requires.submission.1.id c.find.ensures c.in_default.is c.len.ensures.count (let t = c.if-len-ge-MAX_BLOCKS.false in omega arith)
+      triples c.args.now c.in-Ok.parent (c.in-Ok.ensures.fault triples) c.in-Ok.ensures.parent c.if-parent-self.true,
+)
 
 pub returns-in-Ok-clause-prepared : goal.returns-in-Ok-clause-prepared
 returns-in-Ok-clause-prepared g c =
-    let t = c.if-len-ge-MAX_BLOCKS.false in
-    let e = c.len.ensures.count in
-    let none : place_of names c.self.inside.tree.blocks (id_of c.args.submitted.now.block.header) ≡ None = ap (place_of names c.self.inside.tree.blocks) (sym c.requires.submission.1.id) ∙ sym c.find.ensures ∙ c.in_default.is in
-    let room : suc (length c.self.inside.tree.blocks) < max_blocks = omega arith in
-    let tip : c.in-Ok.parent ≡ c.args.self.now.active = c.if-parent-self.true ∙ ap (λ (x : CoreState). x.active) c.self.view_is in
-    c.prepare_on_tip.ensures.prepared c.args.now (λ triples agrees. subst (λ (p : ℕ). IsNew (regtest c.args.self.now.params triples) c.args.self.now.state c.args.now c.args.submitted.now.block p) tip
-    (new-inside _ _ triples c.args.now c.in-Ok.parent c.args.submitted.now.block c.self.view_is none room (sym (c.in-Ok.ensures.fault triples)) c.in-Ok.ensures.parent))
+    c.prepare_on_tip.ensures.prepared c.args.now
+    (λ triples agrees. new_on_tip c.self.view_is c.args.submitted.now.block c.requires.submission.1.id c.find.ensures c.in_default.is c.len.ensures.count (let t = c.if-len-ge-MAX_BLOCKS.false in omega arith)
+    triples c.args.now c.in-Ok.parent (c.in-Ok.ensures.fault triples) c.in-Ok.ensures.parent c.if-parent-self.true)
 
 pub returns-in-Ok-2-clause-prepared : goal.returns-in-Ok-2-clause-prepared
 returns-in-Ok-2-clause-prepared g c =
-    let t = c.if-len-ge-MAX_BLOCKS.false in
-    let e = c.len.ensures.count in
-    let none : place_of names c.self.inside.tree.blocks (id_of c.args.submitted.now.block.header) ≡ None = ap (place_of names c.self.inside.tree.blocks) (sym c.requires.submission.1.id) ∙ sym c.find.ensures ∙ c.in_default.is in
-    let room : suc (length c.self.inside.tree.blocks) < max_blocks = omega arith in
-    c.prepare_beside.ensures.prepared c.args.now (λ triples agrees. new-inside _ _ triples c.args.now c.in-Ok.parent c.args.submitted.now.block c.self.view_is none room (sym (c.in-Ok.ensures.fault triples)) c.in-Ok.ensures.parent)
+    c.prepare_beside.ensures.prepared c.args.now
+    (λ triples agrees. new_there c.self.view_is c.args.submitted.now.block c.requires.submission.1.id c.find.ensures c.in_default.is c.len.ensures.count (let t = c.if-len-ge-MAX_BLOCKS.false in omega arith)
+    triples c.args.now c.in-Ok.parent (c.in-Ok.ensures.fault triples) c.in-Ok.ensures.parent)

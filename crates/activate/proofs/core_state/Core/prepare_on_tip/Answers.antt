@@ -12,7 +12,6 @@ use Rattle.tree.specs.State.{with_block}
 use Rattle.tree.specs.Sound.{IsFresh}
 use Rattle.tree.specs.laws.Parents.{height-place}
 use Rattle.chain.specs.Regtest.{regtest}
-use Rattle.chain.specs.Faults.{IsNew}
 use Rattle.chain.specs.Step.{Submit, step}
 use Rattle.activate.specs.inside.Preparation.{IsPreparationFor}
 use Rattle.activate.specs.CoreState.{CoreState, branch_blocks, coins_of}

@@ -1,7 +1,6 @@
-use Rattle.std.proofs.Common.{None, refl, sym, subst}
+use Rattle.std.proofs.Common.{refl, subst}
 use Rattle.activate.specs.declared.prepared.Completion.TheVariants.{Activate}
 use Rattle.activate.specs.declared.path.Attempt.{Attempt}
-use Rattle.activate.specs.inside.Preparation.{Settles}
 use Rattle.chain.specs.Regtest.{regtest}
 use Rattle.activate.specs.CoreState.{CoreState}
 use Rattle.activate.specs.inside.Paths.{LeadsTo, IsAttempt}

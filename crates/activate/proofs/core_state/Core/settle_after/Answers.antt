@@ -1,21 +1,39 @@
 use Rattle.std.proofs.Common.{◌≡◌, ℕ, suc, Some, length, refl, sym, ap, subst, ◌∙◌}
+use Rattle.hash.specs.declared.id.Id.{Id}
 use Rattle.rules.specs.declared.params.Params.{Params}
-use Rattle.tree.specs.Flags.{flags_of}
-use Rattle.tree.specs.State.{State}
+use Rattle.tree.specs.Flags.{FlagsOf, flags_of}
+use Rattle.tree.specs.Sound.{IsBest}
+use Rattle.tree.specs.State.{State, has_no_mark}
 use Rattle.block.specs.declared.block.Block.{Block}
-use Rattle.activate.specs.declared.prepared.Completion.TheVariants.{Activate}
-use Rattle.activate.specs.inside.Preparation.{CanTry, HasOtherFlags, TryLeads, with_flags}
+use Rattle.chain.specs.Rules.{Rules}
 use Rattle.chain.specs.Regtest.{regtest}
-use Rattle.activate.specs.CoreState.{CoreState, coins_of}
 use Rattle.chain.specs.Try.{state_after_try}
+use Rattle.activate.specs.declared.path.FailedTry.{FailedTry}
+use Rattle.activate.specs.declared.prepared.Completion.TheVariants.{Activate}
+use Rattle.activate.specs.inside.Paths.{FailsAt}
+use Rattle.activate.specs.inside.Preparation.{CanFlag, CanTry, HasOtherFlags, TryLeads, with_flags}
+use Rattle.activate.specs.CoreState.{CoreState, coins_of}
 use Rattle.activate.proofs.Plans.{back-other, can-tried, coins-other, fit-other, leads-after, other-tried, other_none, other_trans, passed-less, said-after, settles-leads}
 use Rattle.activate.proofs.core_state.Core.settle_after.Goals as goal
+
+-- what the try's marks ask
+can_flag : {r : Rules Block Id} {a : CoreState} {p : ℕ} {failed : FailedTry} → CanTry r a → IsBest a.state (has_no_mark a.state) (length a.state.blocks) p → FailsAt r a.state.blocks a.active p failed → CanFlag r a p failed
+can_flag can best fails = record { can = can; kept = best.kept; fails = fails }
+
+-- only flags differ from before the try's marks
+other_after : {a b e : CoreState} (r : Rules Block Id) (p : ℕ) → e ≡ record a { state = state_after_try r a.state p } → HasOtherFlags e b → HasOtherFlags a b
+other_after {a} {b} r p is other =
+    other_trans a (record a { state = state_after_try r a.state p }) b (other-tried r a a p (other_none a)) (subst (λ (x : CoreState). HasOtherFlags x b) is other)
+
+-- the flags that were read are the state's
+flags_are : {f : FlagsOf} {x a : CoreState} → f ≡ flags_of x.state → x ≡ a → f ≡ flags_of a.state
+flags_are read same = read ∙ ap (λ (y : CoreState). flags_of y.state) same
 
 pub settle_rest-requires-clause-can : goal.settle_rest-requires-clause-can
 settle_rest-requires-clause-can g c triples agrees =
     let a : CoreState = c.args.self.now in
     let r = regtest a.params triples in
-    subst (λ (x : CoreState). CanTry (regtest x.params triples) x) (sym (c.flag.ensures (regtest c.args.self.now.params triples) c.args.place (record { can = (c.requires.can triples agrees); kept = c.requires.best.kept; fails = (c.requires.fails triples agrees) }))) (can-tried r a c.args.place (c.requires.can triples agrees))
+    subst (λ (x : CoreState). CanTry (regtest x.params triples) x) (sym (c.flag.ensures (regtest c.args.self.now.params triples) c.args.place (can_flag (c.requires.can triples agrees) c.requires.best (c.requires.fails triples agrees)))) (can-tried r a c.args.place (c.requires.can triples agrees))
 
 pub settle_rest-requires-clause-coins : goal.settle_rest-requires-clause-coins
 settle_rest-requires-clause-coins g c =
@@ -24,7 +42,7 @@ settle_rest-requires-clause-coins g c =
     let a : CoreState = c.args.self.now in
     let r = regtest a.params triples in
     let n : CoreState = record a { state = state_after_try r a.state c.args.place } in
-    c.requires.coins ∙ sym (coins-other a n (other-tried r a a c.args.place (other_none a))) ∙ sym (ap coins_of (c.flag.ensures (regtest c.args.self.now.params triples) c.args.place (record { can = (c.requires.can triples agrees); kept = c.requires.best.kept; fails = (c.requires.fails triples agrees) })))
+    c.requires.coins ∙ sym (coins-other a n (other-tried r a a c.args.place (other_none a))) ∙ sym (ap coins_of (c.flag.ensures (regtest c.args.self.now.params triples) c.args.place (can_flag (c.requires.can triples agrees) c.requires.best (c.requires.fails triples agrees))))
 
 pub refused-requires : goal.refused-requires
 refused-requires g c =
@@ -39,9 +57,10 @@ returns-in-Ok-clause-settled g c triples agrees =
     let r = regtest a.params triples in
     let n : CoreState = record a { state = state_after_try r a.state c.args.place } in
     let found = c.in-Ok.found in
-    let leads : TryLeads r n b c.in-Ok.other found = subst (λ (x : CoreState). TryLeads (regtest x.params triples) x b c.in-Ok.other found) (c.flag.ensures (regtest c.args.self.now.params triples) c.args.place (record { can = (c.requires.can triples agrees); kept = c.requires.best.kept; fails = (c.requires.fails triples agrees) })) (c.in-Ok.ensures.leads triples agrees) in
-    let flags : HasOtherFlags a b = other_trans a n b (other-tried r a a c.args.place (other_none a)) (subst (λ (x : CoreState). HasOtherFlags x b) (c.flag.ensures (regtest c.args.self.now.params triples) c.args.place (record { can = (c.requires.can triples agrees); kept = c.requires.best.kept; fails = (c.requires.fails triples agrees) })) c.in-Ok.ensures.flags) in
-    let kept : c.in_ok-flags.flags ≡ flags_of a.state = c.in_ok-flags.ensures ∙ ap (λ (x : CoreState). flags_of x.state) c.self.view_is in
+    let flag = c.flag.ensures r c.args.place (can_flag (c.requires.can triples agrees) c.requires.best (c.requires.fails triples agrees)) in
+    let leads : TryLeads r n b c.in-Ok.other found = subst (λ (x : CoreState). TryLeads (regtest x.params triples) x b c.in-Ok.other found) flag (c.in-Ok.ensures.leads triples agrees) in
+    let flags = other_after r c.args.place flag c.in-Ok.ensures.flags in
+    let kept = flags_are c.in_ok-flags.ensures c.self.view_is in
     settles-leads r a b c.in-Ok.other found c.in_ok-flags.flags (c.requires.can triples agrees) flags kept (leads-after r a b c.args.place c.in-Ok.other found (c.requires.can triples agrees) c.requires.best leads) (Activate c.in-Ok.other found.path found.undo) refl
 
 pub returns-in-Ok-clause-said : goal.returns-in-Ok-clause-said
@@ -56,9 +75,9 @@ set_flags-requires-clause-same g c =
     let a : CoreState = c.args.self.now in
     let b : CoreState = c.settle_rest.new.self in
     let r = regtest a.params triples in
-    let n : CoreState = record a { state = state_after_try r a.state c.args.place } in
-    let flags : HasOtherFlags a b = other_trans a n b (other-tried r a a c.args.place (other_none a)) (subst (λ (x : CoreState). HasOtherFlags x b) (c.flag.ensures (regtest c.args.self.now.params triples) c.args.place (record { can = (c.requires.can triples agrees); kept = c.requires.best.kept; fails = (c.requires.fails triples agrees) })) c.in-Err.ensures.flags) in
-    let kept : c.in_ok-flags.flags ≡ flags_of a.state = c.in_ok-flags.ensures ∙ ap (λ (x : CoreState). flags_of x.state) c.self.view_is in
+    let flag = c.flag.ensures r c.args.place (can_flag (c.requires.can triples agrees) c.requires.best (c.requires.fails triples agrees)) in
+    let flags = other_after r c.args.place flag c.in-Err.ensures.flags in
+    let kept = flags_are c.in_ok-flags.ensures c.self.view_is in
     subst (λ (x : CoreState). c.in_ok-flags.flags.len ≡ suc (length x.state.blocks)) (sym c.self-2.view_is) (fit-other r a b c.in_ok-flags.flags flags (c.requires.can triples agrees) kept).0
 
 pub set_flags-requires-clause-genesis : goal.set_flags-requires-clause-genesis
@@ -68,9 +87,9 @@ set_flags-requires-clause-genesis g c =
     let a : CoreState = c.args.self.now in
     let b : CoreState = c.settle_rest.new.self in
     let r = regtest a.params triples in
-    let n : CoreState = record a { state = state_after_try r a.state c.args.place } in
-    let flags : HasOtherFlags a b = other_trans a n b (other-tried r a a c.args.place (other_none a)) (subst (λ (x : CoreState). HasOtherFlags x b) (c.flag.ensures (regtest c.args.self.now.params triples) c.args.place (record { can = (c.requires.can triples agrees); kept = c.requires.best.kept; fails = (c.requires.fails triples agrees) })) c.in-Err.ensures.flags) in
-    let kept : c.in_ok-flags.flags ≡ flags_of a.state = c.in_ok-flags.ensures ∙ ap (λ (x : CoreState). flags_of x.state) c.self.view_is in
+    let flag = c.flag.ensures r c.args.place (can_flag (c.requires.can triples agrees) c.requires.best (c.requires.fails triples agrees)) in
+    let flags = other_after r c.args.place flag c.in-Err.ensures.flags in
+    let kept = flags_are c.in_ok-flags.ensures c.self.view_is in
     (fit-other r a b c.in_ok-flags.flags flags (c.requires.can triples agrees) kept).1
 
 pub returns-clause-err : goal.returns-clause-err
@@ -80,10 +99,10 @@ returns-clause-err g c =
     let a : CoreState = c.args.self.now in
     let b : CoreState = c.settle_rest.new.self in
     let r = regtest a.params triples in
-    let n : CoreState = record a { state = state_after_try r a.state c.args.place } in
     let f = c.in_ok-flags.flags in
-    let flags : HasOtherFlags a b = other_trans a n b (other-tried r a a c.args.place (other_none a)) (subst (λ (x : CoreState). HasOtherFlags x b) (c.flag.ensures (regtest c.args.self.now.params triples) c.args.place (record { can = (c.requires.can triples agrees); kept = c.requires.best.kept; fails = (c.requires.fails triples agrees) })) c.in-Err.ensures.flags) in
-    let kept : f ≡ flags_of a.state = c.in_ok-flags.ensures ∙ ap (λ (x : CoreState). flags_of x.state) c.self.view_is in
+    let flag = c.flag.ensures r c.args.place (can_flag (c.requires.can triples agrees) c.requires.best (c.requires.fails triples agrees)) in
+    let flags = other_after r c.args.place flag c.in-Err.ensures.flags in
+    let kept = flags_are c.in_ok-flags.ensures c.self.view_is in
     ap (λ (s : State Block). tracked c.self-2.inside.params s c.self-2.inside.active (length c.self-2.inside.undo.items)) c.set_flags.ensures
     ∙ ap (λ (x : CoreState). record x { state = with_flags (Some f) x.state }) c.self-2.view_is
     ∙ back-other a b f flags kept
@@ -95,4 +114,4 @@ pub flag-requires : goal.flag-requires
 flag-requires g c =
     let triples = g.S.RunsScripts.agreeing c.args.env.now in
     let agrees = g.met.S.RunsScripts.agrees c.args.env.now in
-    (regtest c.args.self.now.params triples, c.args.place, record { can = (c.requires.can triples agrees); kept = c.requires.best.kept; fails = (c.requires.fails triples agrees) })
+    (regtest c.args.self.now.params triples, c.args.place, can_flag (c.requires.can triples agrees) c.requires.best (c.requires.fails triples agrees))

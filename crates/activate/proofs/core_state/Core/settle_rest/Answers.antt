@@ -1,16 +1,27 @@
-use Rattle.std.proofs.Common.{◌≡◌, ◌<◌, length, sym, ap, subst, ◌∙◌}
+use Rattle.std.proofs.Common.{◌≡◌, ◌<◌, ℕ, length, sym, subst, ◌∙◌}
+use Rattle.curve.specs.Triple.{Triples}
 use Rattle.rules.specs.declared.params.Params.{Params}
 use Rattle.tree.specs.State.{has_no_mark}
 use Rattle.tree.specs.Sound.{IsBest}
 use Rattle.activate.specs.declared.path.Attempt.{Attempt}
-use Rattle.activate.specs.inside.Preparation.{TriesLead, CanTry, HasOtherFlags, TryLeads}
+use Rattle.activate.specs.declared.path.Attempt.TheVariants.{Fails}
+use Rattle.activate.specs.declared.path.FailedTry.{FailedTry}
+use Rattle.activate.specs.inside.Preparation.{TriesLead, CanTry}
 use Rattle.chain.specs.Regtest.{regtest}
 use Rattle.activate.specs.CoreState.{CoreState}
-use Rattle.chain.specs.Try.{state_after_try}
 use Rattle.activate.specs.inside.Paths.{FailsAt, LeadsTo, IsAttempt}
 use Rattle.chain.specs.laws.Tries.{count_without_mark}
 use Rattle.activate.proofs.Plans.{between_none, between-tried, coins-other, fewer-unmarked, leads-last, params-other}
 use Rattle.activate.proofs.core_state.Core.settle_rest.Goals as goal
+
+-- the best place, of the state that the struct's fields are
+best_here : {x b : CoreState} {p : ℕ} → x ≡ b → IsBest x.state (has_no_mark x.state) (length x.state.blocks) p → IsBest b.state (has_no_mark b.state) (length b.state.blocks) p
+best_here {p = p} same best = subst (λ (s : CoreState). IsBest s.state (has_no_mark s.state) (length s.state.blocks) p) same best
+
+-- where an attempt fails, under the parameters from before
+failed_here : {old : Params} {p : ℕ} {found : Attempt} {failed : FailedTry} (b : CoreState) (triples : Triples) → IsAttempt (regtest b.params triples) b.state.blocks b.active p found → found ≡ Fails failed → b.params ≡ old → FailsAt (regtest old triples) b.state.blocks b.active p failed
+failed_here {p = p} {failed = failed} b triples attempt is same =
+    subst (λ (q : Params). FailsAt (regtest q triples) b.state.blocks b.active p failed) same (subst (λ (x : Attempt). IsAttempt (regtest b.params triples) b.state.blocks b.active p x) is attempt)
 
 pub tries-init : goal.tries-init
 tries-init g c triples agrees =
@@ -38,7 +49,7 @@ returns-in-Succeeds-clause-leads g c triples agrees =
     let b : CoreState = c.tries.self in
     let p = c.best_usable-place.result in
     let r = regtest a.params triples in
-    let best : IsBest b.state (has_no_mark b.state) (length b.state.blocks) p = subst (λ (s : CoreState). IsBest s.state (has_no_mark s.state) (length s.state.blocks) p) c.self.view_is c.best_usable-place.ensures in
+    let best = best_here c.self.view_is c.best_usable-place.ensures in
     let told : LeadsTo (regtest b.params triples) b.state.blocks b.active p c.in-Succeeds.found = subst (λ (x : Attempt). IsAttempt (regtest b.params triples) b.state.blocks b.active p x) c.in-Succeeds.is (c.in_ok-found.ensures.attempt triples agrees) in
     let moves : LeadsTo r b.state.blocks b.active p c.in-Succeeds.found = subst (λ (q : Params). LeadsTo (regtest q triples) b.state.blocks b.active p c.in-Succeeds.found) (params-other a b (c.tries.invariant triples agrees).flags) told in
     leads-last r a b p c.in-Succeeds.found (c.tries.invariant triples agrees) best moves
@@ -57,11 +68,9 @@ tries-smaller g c =
     let b : CoreState = c.tries.self in
     let p = c.best_usable-place.result in
     let r = regtest a.params triples in
-    let best : IsBest b.state (has_no_mark b.state) (length b.state.blocks) p = subst (λ (s : CoreState). IsBest s.state (has_no_mark s.state) (length s.state.blocks) p) c.self.view_is c.best_usable-place.ensures in
-    let told : FailsAt (regtest b.params triples) b.state.blocks b.active p c.in-Fails.failed = subst (λ (x : Attempt). IsAttempt (regtest b.params triples) b.state.blocks b.active p x) c.in-Fails.is (c.in_ok-found.ensures.attempt triples agrees) in
-    let fails : FailsAt r b.state.blocks b.active p c.in-Fails.failed = subst (λ (q : Params). FailsAt (regtest q triples) b.state.blocks b.active p c.in-Fails.failed) (params-other a b (c.tries.invariant triples agrees).flags) told in
-    let new : c.flag.new.self ≡ record b { state = state_after_try r b.state p } =
-    c.flag.ensures r p (record { can = (c.tries.invariant triples agrees).can; kept = best.kept; fails = fails }) in
+    let best = best_here c.self.view_is c.best_usable-place.ensures in
+    let fails = failed_here b triples (c.in_ok-found.ensures.attempt triples agrees) c.in-Fails.is (params-other a b (c.tries.invariant triples agrees).flags) in
+    let new = c.flag.ensures r p (record { can = (c.tries.invariant triples agrees).can; kept = best.kept; fails = fails }) in
     subst (λ (x : CoreState). count_without_mark x.state < count_without_mark b.state) (sym new) (fewer-unmarked r b p c.in-Fails.failed best fails)
 
 pub tries-preserved : goal.tries-preserved
@@ -70,11 +79,9 @@ tries-preserved g c triples agrees =
     let b : CoreState = c.tries.self in
     let p = c.best_usable-place.result in
     let r = regtest a.params triples in
-    let best : IsBest b.state (has_no_mark b.state) (length b.state.blocks) p = subst (λ (s : CoreState). IsBest s.state (has_no_mark s.state) (length s.state.blocks) p) c.self.view_is c.best_usable-place.ensures in
-    let told : FailsAt (regtest b.params triples) b.state.blocks b.active p c.in-Fails.failed = subst (λ (x : Attempt). IsAttempt (regtest b.params triples) b.state.blocks b.active p x) c.in-Fails.is (c.in_ok-found.ensures.attempt triples agrees) in
-    let fails : FailsAt r b.state.blocks b.active p c.in-Fails.failed = subst (λ (q : Params). FailsAt (regtest q triples) b.state.blocks b.active p c.in-Fails.failed) (params-other a b (c.tries.invariant triples agrees).flags) told in
-    let new : c.flag.new.self ≡ record b { state = state_after_try r b.state p } =
-    c.flag.ensures r p (record { can = (c.tries.invariant triples agrees).can; kept = best.kept; fails = fails }) in
+    let best = best_here c.self.view_is c.best_usable-place.ensures in
+    let fails = failed_here b triples (c.in_ok-found.ensures.attempt triples agrees) c.in-Fails.is (params-other a b (c.tries.invariant triples agrees).flags) in
+    let new = c.flag.ensures r p (record { can = (c.tries.invariant triples agrees).can; kept = best.kept; fails = fails }) in
     subst (λ (x : CoreState). TriesLead r a x) (sym new) (between-tried r a b p (c.tries.invariant triples agrees) best)
 
 pub flag-requires : goal.flag-requires
@@ -85,7 +92,6 @@ flag-requires g c =
     let b : CoreState = c.tries.self in
     let p = c.best_usable-place.result in
     let r = regtest a.params triples in
-    let best : IsBest b.state (has_no_mark b.state) (length b.state.blocks) p = subst (λ (s : CoreState). IsBest s.state (has_no_mark s.state) (length s.state.blocks) p) c.self.view_is c.best_usable-place.ensures in
-    let told : FailsAt (regtest b.params triples) b.state.blocks b.active p c.in-Fails.failed = subst (λ (x : Attempt). IsAttempt (regtest b.params triples) b.state.blocks b.active p x) c.in-Fails.is (c.in_ok-found.ensures.attempt triples agrees) in
-    let fails : FailsAt r b.state.blocks b.active p c.in-Fails.failed = subst (λ (q : Params). FailsAt (regtest q triples) b.state.blocks b.active p c.in-Fails.failed) (params-other a b (c.tries.invariant triples agrees).flags) told in
+    let best = best_here c.self.view_is c.best_usable-place.ensures in
+    let fails = failed_here b triples (c.in_ok-found.ensures.attempt triples agrees) c.in-Fails.is (params-other a b (c.tries.invariant triples agrees).flags) in
     (r, p, record { can = (c.tries.invariant triples agrees).can; kept = best.kept; fails = fails })

@@ -4,9 +4,11 @@ use Rattle.block.specs.declared.block.Block.{Block}
 use Rattle.rules.specs.declared.params.Params.{Params}
 use Rattle.tree.specs.State.{State}
 use Rattle.tree.specs.Branches.{has, height}
+use Rattle.tree.specs.laws.Above.{above}
 use Rattle.tree.specs.laws.Walks.{has_at}
 use Rattle.tree.specs.laws.Parents.{height-place}
 use Rattle.coins.specs.declared.coin.Coin.{Coin}
+use Rattle.activate.specs.declared.path.BranchPath.{BranchPath}
 use Rattle.activate.specs.CoreState.{CoreState, lesser_of, most_undo}
 use Rattle.activate.specs.inside.Keeping.{undo_at}
 use Rattle.activate.specs.inside.Preparation.{undo_after}
@@ -16,22 +18,44 @@ use Rattle.activate.specs.inside.Paths.{IsPath}
 use Rattle.activate.specs.laws.Turning.{gone, come, turned_branch, up_kept}
 use Rattle.activate.proofs.core_state.Core.turn.Goals as goal
 
+-- what is required of the path, said of the state that the struct's fields are
+record Pathed (x : CoreState) (p : ℕ) (path : BranchPath) : Type 0 where
+  kept : p ≤ length x.state.blocks
+  is_path : IsPath x.state.blocks x.active p path
+  gone_is : length (above x.state.blocks x.active path.fork) + path.height ≡ height x.state.blocks x.active
+  come_is : length path.up.items + path.height ≡ height x.state.blocks p
+  low : height x.state.blocks p ≤ p
+  active_low : height x.state.blocks x.active ≤ x.active
+
+pathed : {x y : CoreState} {p : ℕ} {path : BranchPath} → x ≡ y → x.active ≤ length x.state.blocks → p ≤ length y.state.blocks → IsPath y.state.blocks y.active p path → Pathed x p path
+pathed {x} {p = p} {path} same here kept is =
+    let k : p ≤ length x.state.blocks = subst (λ (s : CoreState). p ≤ length s.state.blocks) (sym same) kept in
+    let w : IsPath x.state.blocks x.active p path = subst (λ (s : CoreState). IsPath s.state.blocks s.active p path) (sym same) is in
+    record {
+      kept = k;
+      is_path = w;
+      gone_is = gone x.state.blocks x.active p here k path w;
+      come_is = come x.state.blocks x.active p here k path w;
+      low = height-place x.state.blocks p p (omega arith) k;
+      active_low = height-place x.state.blocks x.active x.active (omega arith) here;
+    }
+
+-- the undo that the caller passes, likewise
+undo_inside : {x y : CoreState} {undo : List (List (List Coin))} (up : List ℕ) → x ≡ y → undo ≡ reverse (map (undo_at y.state.blocks) up) → undo ≡ reverse (map (undo_at x.state.blocks) up)
+undo_inside {undo = undo} up same is = subst (λ (s : CoreState). undo ≡ reverse (map (undo_at s.state.blocks) up)) (sym same) is
+
 pub overflow_sub-gone : goal.overflow_sub-gone
 overflow_sub-gone c =
-    let t = c.self.inside.tree.blocks in
-    let k : c.args.place ≤ length t = subst (λ (s : CoreState). c.args.place ≤ length s.state.blocks) (sym c.self.view_is) c.requires.kept in
-    let w : IsPath t c.self.inside.active c.args.place c.args.path.now = subst (λ (s : CoreState). IsPath s.state.blocks s.active c.args.place c.args.path.now) (sym c.self.view_is) c.requires.path in
-    let d = gone t c.self.inside.active c.args.place c.self.invariant.0 k c.args.path.now w in
+    let q = pathed c.self.view_is c.self.invariant.0 c.requires.kept c.requires.path in
+    let d = q.gone_is in
     let e = c.height.ensures.value in
     omega arith
 
 pub overflow_add-path : goal.overflow_add-path
 overflow_add-path c =
-    let t = c.self.inside.tree.blocks in
-    let k : c.args.place ≤ length t = subst (λ (s : CoreState). c.args.place ≤ length s.state.blocks) (sym c.self.view_is) c.requires.kept in
-    let w : IsPath t c.self.inside.active c.args.place c.args.path.now = subst (λ (s : CoreState). IsPath s.state.blocks s.active c.args.place c.args.path.now) (sym c.self.view_is) c.requires.path in
-    let d = gone t c.self.inside.active c.args.place c.self.invariant.0 k c.args.path.now w in
-    let e = height-place t c.self.inside.active c.self.inside.active (omega arith) c.self.invariant.0 in
+    let q = pathed c.self.view_is c.self.invariant.0 c.requires.kept c.requires.path in
+    let d = q.gone_is in
+    let e = q.active_low in
     let a = c.self.invariant.0 in
     let r = c.self.invariant.2.for_places in
     let s = c.self.inside.branch.small in
@@ -39,11 +63,9 @@ overflow_add-path c =
 
 pub overflow_add-path-2 : goal.overflow_add-path-2
 overflow_add-path-2 c =
-    let t = c.self.inside.tree.blocks in
-    let k : c.args.place ≤ length t = subst (λ (s : CoreState). c.args.place ≤ length s.state.blocks) (sym c.self.view_is) c.requires.kept in
-    let w : IsPath t c.self.inside.active c.args.place c.args.path.now = subst (λ (s : CoreState). IsPath s.state.blocks s.active c.args.place c.args.path.now) (sym c.self.view_is) c.requires.path in
-    let d = gone t c.self.inside.active c.args.place c.self.invariant.0 k c.args.path.now w in
-    let e = height-place t c.self.inside.active c.self.inside.active (omega arith) c.self.invariant.0 in
+    let q = pathed c.self.view_is c.self.invariant.0 c.requires.kept c.requires.path in
+    let d = q.gone_is in
+    let e = q.active_low in
     let a = c.self.invariant.0 in
     let r = c.self.invariant.2.for_places in
     let s = c.self.inside.branch.small in
@@ -52,19 +74,16 @@ overflow_add-path-2 c =
 pub append_places-requires-clause-kept : goal.append_places-requires-clause-kept
 append_places-requires-clause-kept c i d below =
     let t = c.self.inside.tree.blocks in
-    let k : c.args.place ≤ length t = subst (λ (s : CoreState). c.args.place ≤ length s.state.blocks) (sym c.self.view_is) c.requires.kept in
-    let w : IsPath t c.self.inside.active c.args.place c.args.path.now = subst (λ (s : CoreState). IsPath s.state.blocks s.active c.args.place c.args.path.now) (sym c.self.view_is) c.requires.path in
+    let q = pathed c.self.view_is c.self.invariant.0 c.requires.kept c.requires.path in
     let up : List ℕ = c.as_slice.result.now in
-    up_kept t c.self.inside.active c.args.place c.self.invariant.0 k c.args.path.now w (get_or up i d)
+    up_kept t c.self.inside.active c.args.place c.self.invariant.0 q.kept c.args.path.now q.is_path (get_or up i d)
     (subst (λ (q : List ℕ). has q (get_or up i d) ≡ true) c.as_slice.ensures.value (has_at up i d below))
 
 pub append_places-requires-clause-places : goal.append_places-requires-clause-places
 append_places-requires-clause-places c =
-    let t = c.self.inside.tree.blocks in
-    let k : c.args.place ≤ length t = subst (λ (s : CoreState). c.args.place ≤ length s.state.blocks) (sym c.self.view_is) c.requires.kept in
-    let w : IsPath t c.self.inside.active c.args.place c.args.path.now = subst (λ (s : CoreState). IsPath s.state.blocks s.active c.args.place c.args.path.now) (sym c.self.view_is) c.requires.path in
-    let d = come t c.self.inside.active c.args.place c.self.invariant.0 k c.args.path.now w in
-    let up = height-place t c.args.place c.args.place (omega arith) k in
+    let q = pathed c.self.view_is c.self.invariant.0 c.requires.kept c.requires.path in
+    let d = q.come_is in
+    let up = q.low in
     let s = ap (λ (q : List ℕ). length q) c.truncate.ensures.items ∙ length-take (c.args.path.now.height + 1) c.self.inside.branch.items in
     let r = c.self.invariant.2.for_places in
     let v = c.truncate.ensures.capacity in
@@ -73,11 +92,9 @@ append_places-requires-clause-places c =
 
 pub append_places-requires-clause-medians : goal.append_places-requires-clause-medians
 append_places-requires-clause-medians c =
-    let t = c.self.inside.tree.blocks in
-    let k : c.args.place ≤ length t = subst (λ (s : CoreState). c.args.place ≤ length s.state.blocks) (sym c.self.view_is) c.requires.kept in
-    let w : IsPath t c.self.inside.active c.args.place c.args.path.now = subst (λ (s : CoreState). IsPath s.state.blocks s.active c.args.place c.args.path.now) (sym c.self.view_is) c.requires.path in
-    let d = come t c.self.inside.active c.args.place c.self.invariant.0 k c.args.path.now w in
-    let up = height-place t c.args.place c.args.place (omega arith) k in
+    let q = pathed c.self.view_is c.self.invariant.0 c.requires.kept c.requires.path in
+    let d = q.come_is in
+    let up = q.low in
     let s = ap (λ (q : List ℕ). length q) c.truncate-2.ensures.items ∙ length-take (c.args.path.now.height + 1) c.self.inside.medians.items in
     let r = c.self.invariant.2.for_medians in
     let v = c.truncate-2.ensures.capacity in
@@ -87,9 +104,8 @@ append_places-requires-clause-medians c =
 pub invariant_of-self : goal.invariant_of-self
 invariant_of-self c =
     let t = c.self.inside.tree.blocks in
-    let k : c.args.place ≤ length t = subst (λ (s : CoreState). c.args.place ≤ length s.state.blocks) (sym c.self.view_is) c.requires.kept in
-    let w : IsPath t c.self.inside.active c.args.place c.args.path.now = subst (λ (s : CoreState). IsPath s.state.blocks s.active c.args.place c.args.path.now) (sym c.self.view_is) c.requires.path in
-    let more : c.args.undo.items ≡ reverse (map (undo_at t) c.args.path.now.up.items) = subst (λ (s : CoreState). c.args.undo.items ≡ reverse (map (undo_at s.state.blocks) c.args.path.now.up.items)) (sym c.self.view_is) c.requires.undo in
+    let q = pathed c.self.view_is c.self.invariant.0 c.requires.kept c.requires.path in
+    let more = undo_inside c.args.path.now.up.items c.self.view_is c.requires.undo in
     let up = c.args.path.now.up.items in
     let h = c.args.path.now.height in
     let undos = c.self.inside.undo.items in
@@ -106,9 +122,9 @@ invariant_of-self c =
     let left : c.saturating_sub-left.result ≡ length undos - (height t c.self.inside.active - h) = omega arith in
     let undo : ◌≡◌ {A = List (List (List Coin))} c.keep_undo.new.kept.items (last_of most_undo (take (length undos - (height t c.self.inside.active - h)) undos ++ c.args.undo.items)) =
     c.keep_undo.ensures.kept ∙ ap (λ (q : List (List (List Coin))). last_of most_undo (q ++ c.args.undo.items)) (c.truncate-3.ensures.items ∙ ap (λ n. take n undos) left) in
-    let whole = turned_branch t c.self.inside.active c.args.place c.self.invariant.0 k c.args.path.now w c.self.inside.branch.items c.self.inside.medians.items undos c.args.undo.items c.self.invariant.1 more in
+    let whole = turned_branch t c.self.inside.active c.args.place c.self.invariant.0 q.kept c.args.path.now q.is_path c.self.inside.branch.items c.self.inside.medians.items undos c.args.undo.items c.self.invariant.1 more in
     let room = c.self.invariant.2 in (
-      k,
+      q.kept,
       rw (places, medians, undo) whole,
       record {
         for_places = (let r = room.for_places in let a = c.append_places.ensures.room in let b = c.truncate.ensures.capacity in omega arith);
@@ -122,7 +138,7 @@ returns c =
     let i = c.self.inside in
     let undos = i.undo.items in
     let path = c.args.path.now in
-    let more : c.args.undo.items ≡ reverse (map (undo_at i.tree.blocks) path.up.items) = subst (λ (s : CoreState). c.args.undo.items ≡ reverse (map (undo_at s.state.blocks) path.up.items)) (sym c.self.view_is) c.requires.undo in
+    let more = undo_inside c.args.path.now.up.items c.self.view_is c.requires.undo in
     let size = i.undo.ok.0 in
     let len = c.len.ensures in
     let high = c.height.ensures.value in

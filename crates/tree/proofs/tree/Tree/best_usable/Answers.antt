@@ -1,6 +1,11 @@
-use Rattle.std.proofs.Common.{◌≡◌, ℕ, ◌-◌, true, false, ◌&&◌, [], length, sym, ap, ◌∙◌, subst, arith}
+use Rattle.std.proofs.Common.{◌≡◌, ℕ, ◌-◌, ◌<◌, ◌≤◌, true, false, ◌&&◌, List, [], length, sym, ap, ◌∙◌, subst, arith}
 use Rattle.std.proofs.lemmas.Bool.{and_from}
 use Rattle.block.specs.declared.block.Block.{Block}
+use Rattle.hash.specs.declared.id.Id.{Id}
+use Rattle.tree.specs.declared.node.Node.{Node}
+use Rattle.tree.specs.declared.node.Mark.{Mark}
+use Rattle.tree.specs.Nodes.{state_of}
+use Rattle.tree.specs.inside.Nodes.{IsRight}
 use Rattle.tree.specs.State.{State, has_no_mark, beats}
 use Rattle.tree.specs.Sound.{IsBest}
 use Rattle.tree.specs.laws.Best.{best_first, best_next}
@@ -8,6 +13,11 @@ use Rattle.tree.proofs.Views.{kept}
 use Rattle.tree.proofs.Changes.{usable_bare, usable_zero}
 use Rattle.tree.proofs.tree.Tree.best_usable.Goals.{then-usable+then-better, else-usable, else-usable-via-then-usable+else-better, else-usable-via-else-usable}
 use Rattle.tree.proofs.tree.Tree.best_usable.Goals as goal
+
+-- a place before the end of the loop is a kept block's
+before_end : {ns : List Node} {ms : List Mark} {cs : List ℕ} {is : List (Id × ℕ)} {ls : List ℕ} (right : IsRight ns ms cs is ls) {s : State Block} (view : state_of ns ms cs ≡ s) {p end len : ℕ}
+    → p < end → end ≡ len → len ≡ length ns → p ≤ length s.blocks
+before_end right view t e f = let k = kept right view in omega arith
 
 pub loop-place-init : goal.loop-place-init
 loop-place-init c =
@@ -22,27 +32,14 @@ loop-place-init c =
     )
 
 pub usable-requires : goal.usable-requires
-usable-requires c =
-    let k = kept c.self.invariant c.self.view_is in
-    let t = c.loop-place-test.true in
-    let e = c.len-place-end.ensures in
-    let f = c.self.inside.nodes.ok.0 in
-    omega arith
+usable-requires c = before_end c.self.invariant c.self.view_is c.loop-place-test.true c.len-place-end.ensures c.self.inside.nodes.ok.0
 
 pub better-requires-clause-one : goal.better-requires-clause-one
-better-requires-clause-one c =
-    let k = kept c.self.invariant c.self.view_is in
-    let t = c.loop-place-test.true in
-    let e = c.len-place-end.ensures in
-    let f = c.self.inside.nodes.ok.0 in
-    omega arith
+better-requires-clause-one c = before_end c.self.invariant c.self.view_is c.loop-place-test.true c.len-place-end.ensures c.self.inside.nodes.ok.0
 
 pub better-requires-clause-other : goal.better-requires-clause-other
 better-requires-clause-other c =
-    let k = kept c.self.invariant c.self.view_is in
-    let t = c.loop-place-test.true in
-    let e = c.len-place-end.ensures in
-    let f = c.self.inside.nodes.ok.0 in
+    let p = before_end c.self.invariant c.self.view_is c.loop-place-test.true c.len-place-end.ensures c.self.inside.nodes.ok.0 in
     let b = c.loop-place.invariant.1.kept in
     let z = c.loop-place.invariant.0 in
     omega arith

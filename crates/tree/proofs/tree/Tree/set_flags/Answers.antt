@@ -1,12 +1,40 @@
-use Rattle.std.proofs.Common.{◌≡◌, ℕ, List, [], length, sym, ap, ◌∙◌, subst, arith}
+use Rattle.std.proofs.Common.{◌≡◌, ℕ, false, List, ◌++◌, length, take, drop, sym, ap, ◌∙◌, subst, arith}
+use Rattle.hash.specs.declared.id.Id.{Id}
+use Rattle.block.specs.declared.block.Block.{Block}
 use Rattle.tree.specs.declared.node.Node.{Node}
 use Rattle.tree.specs.declared.node.Mark.{Mark}
 use Rattle.tree.specs.Branches.{has}
-use Rattle.tree.specs.Nodes.{mark_at, state_of}
-use Rattle.tree.specs.inside.Nodes.{AreUsable, IsRight}
+use Rattle.tree.specs.Flags.{FlagsOf}
+use Rattle.tree.specs.State.{State}
+use Rattle.tree.specs.Nodes.{state_of}
+use Rattle.tree.specs.inside.Nodes.{HasFlags, IsRight}
 use Rattle.tree.proofs.Views.{kept, has-where}
-use Rattle.tree.proofs.Changes.{made, blocks-view, precious-view, usable_zero, right_from, right-usable, right-rank, whole}
+use Rattle.tree.proofs.Changes.{made, blocks-view, precious-view, right_from, right-rank}
+use Rattle.tree.proofs.Marked.{genesis_usable, comes_back}
 use Rattle.tree.proofs.tree.Tree.set_flags.Goals as goal
+
+module _ {ns : List Node} {ms : List Mark} {cs : List ℕ} {is : List (Id × ℕ)} {ls : List ℕ} (right : IsRight ns ms cs is ls) {nodes : List Node} {lent : List Mark} (new : List Mark) (f : FlagsOf) (n : ℕ)
+    (nodes-are : nodes ≡ ns) (lent-are : lent ≡ ms) (room : length lent ≡ n) (flags : HasFlags nodes lent new f) where
+  -- what is said of the lists that were lent holds of the tree's own
+  done : HasFlags ns ms new f
+  done = subst (λ (x : List Mark). HasFlags ns x new f) lent-are (subst (λ (x : List Node). HasFlags x lent new f) nodes-are flags)
+
+  back : take n (new ++ drop (length new) ms) ≡ new
+  back = comes_back new ms lent n lent-are room (done.same ∙ sym right.same)
+
+  -- the tree is right with these flags
+  right_flagged : has f.bad 0 ≡ false → IsRight ns (take n (new ++ drop (length new) ms)) cs is ls
+  right_flagged genesis =
+      let z = right.some in
+      let l = done.same in
+      subst (λ (x : List Mark). IsRight ns x cs is ls) (sym back)
+      (right_from right new cs done.same done.usable (λ q g. done.rank q g ∙ right-rank right q g)
+      (sym (has-where (λ m. m.bad) new 0 (omega arith)) ∙ ap (λ (x : List ℕ). has x 0) done.bad ∙ genesis) right.are_calls)
+
+  -- and has them
+  state_flagged : {s : State Block} → state_of ns ms cs ≡ s → state_of ns (take n (new ++ drop (length new) ms)) cs ≡ record s { bad = f.bad; seen = f.seen }
+  state_flagged {s} view =
+      subst (λ (x : List Mark). state_of ns x cs ≡ record s { bad = f.bad; seen = f.seen }) (sym back) (made ns new cs (blocks-view ns ms cs view) done.bad done.seen (precious-view ns ms cs view))
 
 pub put_back-requires-clause-len : goal.put_back-requires-clause-len
 put_back-requires-clause-len c =
@@ -16,48 +44,12 @@ put_back-requires-clause-len c =
     omega arith
 
 pub put_back-requires-clause-usable : goal.put_back-requires-clause-usable
-put_back-requires-clause-usable c =
-    let right = c.self.invariant in
-    let s = right.some in
-    let l = right.same in
-    ap (λ (x : List Mark). (mark_at x 0).usable) c.as_mut_slice.ensures.value ∙ right-usable right 0 s ∙ usable_zero c.self.inside.nodes.items c.self.inside.marks.items (omega arith) right.genesis
+put_back-requires-clause-usable c = genesis_usable c.self.invariant c.as_mut_slice.ensures.value
 
 pub invariant_of-self : goal.invariant_of-self
 invariant_of-self c =
-    let right = c.self.invariant in
-    let ns = c.self.inside.nodes.items in
-    let ms = c.self.inside.marks.items in
-    let cs = c.self.inside.calls.items in
-    let new = c.put_back.new.marks in
-    let lent = c.as_mut_slice.ensures.value in
-    let ns-is = c.as_slice.ensures.value in
-    let len = ap (λ (l : List Node). length l) ns-is in
-    let long : length new ≡ length ns = c.put_back.ensures.same ∙ len in
-    let l = right.same in
-    let v = c.as_mut_slice.ensures.len in
-    let w = ap (λ (x : List Mark). length x) lent in
-    let z = right.some in
-    subst (λ (x : List Mark). IsRight ns x cs c.self.inside.ids.entries c.self.inside.leaves.items) (sym (whole new ms c.self.inside.marks.len (omega arith)))
-    (right_from right new cs long
-    (subst (λ (x : List Node). AreUsable (state_of x new []) new (length x)) ns-is c.put_back.ensures.usable)
-    (λ q g. c.put_back.ensures.rank q (omega arith) ∙ ap (λ (x : List Mark). (mark_at x q).rank) lent ∙ right-rank right q g)
-    (sym (has-where (λ m. m.bad) new 0 (omega arith)) ∙ ap (λ (x : List ℕ). has x 0) c.put_back.ensures.bad ∙ c.requires.genesis)
-    right.are_calls)
+    right_flagged c.self.invariant c.put_back.new.marks c.args.flags c.self.inside.marks.len c.as_slice.ensures.value c.as_mut_slice.ensures.value c.as_mut_slice.ensures.len c.put_back.ensures c.requires.genesis
 
 pub returns : goal.returns
 returns c =
-    let right = c.self.invariant in
-    let view = c.self.view_is in
-    let ns = c.self.inside.nodes.items in
-    let ms = c.self.inside.marks.items in
-    let cs = c.self.inside.calls.items in
-    let f = c.args.flags in
-    let new = c.put_back.new.marks in
-    let lent = c.as_mut_slice.ensures.value in
-    let len = ap (λ (l : List Node). length l) c.as_slice.ensures.value in
-    let same = c.put_back.ensures.same in
-    let l = right.same in
-    let v = c.as_mut_slice.ensures.len in
-    let w = ap (λ (x : List Mark). length x) lent in
-    subst (λ (x : List Mark). state_of ns x cs ≡ record c.args.self.now { bad = f.bad; seen = f.seen }) (sym (whole new ms c.self.inside.marks.len (omega arith)))
-    (made ns new cs (blocks-view ns ms cs view) c.put_back.ensures.bad c.put_back.ensures.seen (precious-view ns ms cs view))
+    state_flagged c.self.invariant c.put_back.new.marks c.args.flags c.self.inside.marks.len c.as_slice.ensures.value c.as_mut_slice.ensures.value c.as_mut_slice.ensures.len c.put_back.ensures c.self.view_is
