@@ -1,6 +1,8 @@
 -- What private clauses and invariants alone cite.
+pub mod Brought
 pub mod EarlyScripts
 pub mod Keeping
 pub mod PublishedState
 pub mod Seats
+pub mod SeenStep
 pub mod Writing

@@ -2,19 +2,47 @@
 
 ghost use Rattle.std.specs.Prelude.{◌≡◌, ◌≤◌, ◌<◌, ◌++◌, ◌∷◌, [], Decides, MatchOption, length, map, take};
 ghost use mathlib.Core.List.{IsPrefix};
-ghost use Rattle.chain.specs.History.{own_of};
+ghost use Rattle.chain.specs.History.{entry_of, own_of};
 ghost use Rattle.node.specs.Pass.{owed_entry};
 
 use chain::{Command, Entry, MarkReply, Reply, SubmitReply};
 use txn::Reason;
+use view::SharedEntry;
+
+/// What lends an entry.
+pub(crate) trait AsEntry {
+    ghost use Rattle.chain.specs.declared.entry.Entry.{Entry};
+
+    ghost entry: { Self → Entry };
+
+    fn as_entry(&self) -> &Entry
+        ensures { result.now ≡ entry self.now };
+}
+
+impl AsEntry for Entry {
+    ghost entry = { λ e. e };
+
+    fn as_entry(&self) -> &Entry {
+        self
+    }
+}
+
+impl AsEntry for SharedEntry {
+    ghost entry = { λ e. e };
+
+    fn as_entry(&self) -> &Entry {
+        self.entry()
+    }
+}
 
 /// Whether the entries of a seat among these are owed, and of these commands.
-pub(crate) fn own_are(entries: &[Entry], number: usize, owed: &[Command]) -> bool
-    ensures { Decides result (own_of number entries.now ≡ map (owed_entry number) owed.now) }
+pub(crate) fn own_are<E: AsEntry>(entries: &[E], number: usize, owed: &[Command]) -> bool
+    ensures { Decides result
+        (own_of number (map E.entry entries.now) ≡ map (owed_entry number) owed.now) }
 {
     let mut count = 0;
     for entry in entries {
-        let Some(next) = next_own(entry, number, owed, count) else {
+        let Some(next) = next_own(entry.as_entry(), number, owed, count) else {
             return false;
         };
         count = next;
@@ -41,14 +69,14 @@ fn next_own(entry: &Entry, number: usize, owed: &[Command], count: usize) -> Opt
 }
 
 /// Whether these entries begin others.
-pub(crate) fn begins(entries: &[Entry], others: &[Entry]) -> bool
+pub(crate) fn begins(entries: &[SharedEntry], others: &[Entry]) -> bool
     ensures { Decides result (IsPrefix entries.now others.now) }
 {
     if entries.len() > others.len() {
         return false;
     }
     for place in 0..entries.len() {
-        if !is_same(&entries[place], &others[place]) {
+        if !is_same(entries[place].entry(), &others[place]) {
             return false;
         }
     }
@@ -56,12 +84,24 @@ pub(crate) fn begins(entries: &[Entry], others: &[Entry]) -> bool
 }
 
 /// Whether two entries are the same.
-pub(crate) fn is_same(entry: &Entry, other: &Entry) -> bool
+fn is_same(entry: &Entry, other: &Entry) -> bool
     ensures { Decides result (entry.now ≡ other.now) }
 {
-    entry.seat == other.seat
-        && is_same_command(&entry.command, &other.command)
-        && is_same_answer(&entry.reply, &other.reply)
+    is_entry_of(entry, other.seat, &other.command, &other.reply)
+}
+
+/// Whether an entry is a seat's, of this command, and has this answer.
+pub(crate) fn is_entry_of(
+    entry: &Entry,
+    number: usize,
+    command: &Command,
+    reply: &Option<Reply>,
+) -> bool
+    ensures { Decides result (entry.now ≡ entry_of number command.now reply.now) }
+{
+    entry.seat == number
+        && is_same_command(&entry.command, command)
+        && is_same_answer(&entry.reply, reply)
 }
 
 /// Whether two commands are the same.

@@ -12,15 +12,17 @@ ghost use Rattle.node.specs.inside.Keeping.{is_step};
 ghost use Rattle.node.specs.inside.PublishedState.{IsStepAnswer, IsTaken, Shows, opening_state, entry_with_reply};
 
 mod attempt;
+mod bringing;
 mod opening;
 mod view_step;
 mod writer_home;
 
 use crate::naming::SeatToken;
 use crate::published_history::attempt::{Attempt, attempt_to_publish};
+use crate::published_history::bringing::{Brought, what_is_brought};
 pub(crate) use crate::published_history::opening::{Opened, open_history};
 pub(crate) use crate::published_history::view_step::Refusal;
-use crate::published_history::view_step::{chain_info, step_by_reader};
+use crate::published_history::view_step::step_by_reader;
 use crate::published_history::writer_home::WriterHome;
 use crate::reader_home::ReaderHome;
 use activate::Core;
@@ -34,7 +36,7 @@ use std::marker::{Model, PhantomData};
 use std::mem::replace;
 use std::sync::atomic::Ordering;
 use std::sync::{Arc, Wait};
-use view::{Hub, Naming, Note, Publication, ViewReader};
+use view::{Hub, Naming, Note, Publication, ViewReader, reserve_one};
 
 /// The history, with the chainstate after it but its coins. A step is owed that is taken and not yet published.
 #[derive(Drop)]
@@ -90,13 +92,6 @@ fn is_step(reply: &Reply) -> bool
     ensures { result ≡ is_step reply.now }
 {
     !matches!(reply, Reply::Submit(SubmitReply::DecodeFailed))
-}
-
-/// Whether a publication may bring this reply: one that brings an entry again brings none.
-fn may_bring(is_new: bool, reply: &Option<Reply>) -> bool
-    ensures { (result ≡ true) → (is_new ≡ false) → reply.now ≡ None }
-{
-    is_new || reply.is_none()
 }
 
 /// Puts a reply in place of the last entry's.
@@ -201,7 +196,7 @@ impl<J: Naming> PublishedHistory<J> {
             IfOk result (λ reply. IsTaken self.old self.new token.now c reply) }
         ensures err { OnErr result (self.new ≡ self.old) }
     {
-        if self.journal.reserve(1).is_err() {
+        if reserve_one(&mut self.journal).is_err() {
             return Err(Refusal::Memory);
         }
         let Ok(asked) = command.command() else {
@@ -248,50 +243,34 @@ impl<J: Naming> PublishedHistory<J> {
             self.new ≡ record self.old { journal = journal; owed = false } }
         ensures same { (result ≡ false) → self.new ≡ self.old }
     {
-        let PublishedHistory {
-            alloc,
-            core,
-            hub,
-            note,
-            journal,
-            owed,
-            is_new,
-            changes,
-            home,
-            ..
-        } = self;
-        if !may_bring(*is_new, &reply) {
-            return false;
-        }
-        let Ok(info) = chain_info(*alloc, core) else {
+        let entries = self.journal.as_slice();
+        let Some(brought) = what_is_brought(
+            self.alloc,
+            &self.core,
+            &self.hub,
+            entries,
+            self.is_new,
+            reply,
+        ) else {
             return false;
         };
-        let Ok(shared) = Arc::try_clone(hub) else {
+        let Some(found) = self.home.take() else {
             return false;
         };
-        let Some(last) = journal.as_slice().last() else {
-            return false;
-        };
-        let Ok(command) = last.command.copy() else {
-            return false;
-        };
-        let seat = last.seat;
-        let Some(found) = home.take() else {
-            return false;
-        };
+        let Brought { hub, entry, info } = brought;
         let writer = found.into_writer();
         let publication = Publication {
-            hub: shared,
-            before: note.copy(),
-            entry: Entry {
-                seat,
-                command,
-                reply,
-            },
-            is_new: *is_new,
-            changes: replace(changes, Changes::new(*alloc)),
+            hub,
+            before: self.note.copy(),
+            entry,
+            is_new: self.is_new,
+            changes: replace(&mut self.changes, Changes::new(self.alloc)),
             info,
-            attempt: hub.attempt.fetch_add(1, Ordering::SeqCst).wrapping_add(1),
+            attempt: self
+                .hub
+                .attempt
+                .fetch_add(1, Ordering::SeqCst)
+                .wrapping_add(1),
         };
         let Attempt {
             home: left,
@@ -299,16 +278,16 @@ impl<J: Naming> PublishedHistory<J> {
             owed: still,
             is_new: new,
             changes: rest,
-        } = attempt_to_publish(rt, *alloc, writer, publication);
-        *home = left;
-        *note = seen;
-        *owed = still;
-        *is_new = new;
-        *changes = rest;
+        } = attempt_to_publish(rt, self.alloc, writer, publication);
+        self.home = left;
+        self.note = seen;
+        self.owed = still;
+        self.is_new = new;
+        self.changes = rest;
         if still {
             return false;
         }
-        put_reply(journal, reply);
+        put_reply(&mut self.journal, reply);
         true
     }
 

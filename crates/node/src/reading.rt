@@ -14,7 +14,7 @@ use hash::Id;
 use std::alloc::Global;
 use tree::Tip;
 use txn::OutPoint;
-use view::{Naming, View};
+use view::{Naming, SharedEntry, View};
 use wire::Memory;
 
 /// The output at an outpoint of a view, if it isn't spent.
@@ -44,8 +44,18 @@ fn entries(alloc: Global, view: &View, from: u64, to: u64) -> Result<Vec<Entry>,
 {
     let journal = view.journal();
     let front = &journal[..to.min(journal.len() as u64) as usize];
-    let rest = &front[from.min(front.len() as u64) as usize..];
-    Ok(rest.to_vec(alloc)?)
+    copies(alloc, &front[from.min(front.len() as u64) as usize..])
+}
+
+/// Copies of entries, which share their blocks' bytes.
+fn copies(alloc: Global, entries: &[SharedEntry]) -> Result<Vec<Entry>, Memory>
+    ensures { IfOk result (λ list. list.items ≡ entries.now) }
+{
+    let mut list = Vec::with_capacity(alloc, entries.len())?;
+    for entry in entries {
+        list.push(entry.entry().copy()?)?;
+    }
+    Ok(list)
 }
 
 impl<'t, J: Naming> Seat<'t, J> {
@@ -56,7 +66,6 @@ impl<'t, J: Naming> Seat<'t, J> {
     /// `gettxout`).
     ///
     /// Seat and node are of one [`Node::open`](crate::Node::open).
-    #[tactic(auto, using(crate::proofs::Owning::own_begins))]
     pub fn gettxout(
         &mut self,
         alloc: Global,
@@ -82,7 +91,6 @@ impl<'t, J: Naming> Seat<'t, J> {
     /// The id of the best block, after all that the seat has then seen. It takes no memory.
     ///
     /// Seat and node are of one [`Node::open`](crate::Node::open).
-    #[tactic(auto, using(crate::proofs::Owning::own_begins))]
     pub fn getbestblockhash(&mut self, _node: &Node<'_, J>) -> Result<Stamped<Id>, Fault>
         ensures later { IsLater self.old self.new }
         ensures answer { let m = machine self.old.origin in
@@ -102,7 +110,6 @@ impl<'t, J: Naming> Seat<'t, J> {
     /// The tips of the tree, by height downwards, then by arrival, after all that the seat has then seen.
     ///
     /// Seat and node are of one [`Node::open`](crate::Node::open).
-    #[tactic(auto, using(crate::proofs::Owning::own_begins))]
     pub fn getchaintips(
         &mut self,
         alloc: Global,
@@ -128,7 +135,6 @@ impl<'t, J: Naming> Seat<'t, J> {
     /// seen. Blocks' bytes are shared, not copied.
     ///
     /// Seat and node are of one [`Node::open`](crate::Node::open).
-    #[tactic(auto, using(crate::proofs::Owning::own_begins))]
     pub fn journal(
         &mut self,
         alloc: Global,

@@ -1,14 +1,14 @@
 //! What a seat finds as it enters the published view, before a step of its own and after it.
 
-ghost use Rattle.std.specs.Prelude.{◌≡◌, ◌≤◌, ◌++◌, ◌∷◌, [], IfSome, Decides, drop, length, map};
+ghost use Rattle.std.specs.Prelude.{◌≡◌, ◌≤◌, ◌++◌, ◌∷◌, [], Some, IfSome, Decides, drop, length, map};
 ghost use mathlib.Core.List.{IsPrefix};
-ghost use Rattle.chain.specs.History.{own_of};
+ghost use Rattle.chain.specs.History.{entry_of, own_of};
 ghost use Rattle.view.specs.ViewState.{IsLegal};
 ghost use Rattle.node.specs.Pass.{owed_entry};
 
-use crate::entries::{is_same, own_are};
+use crate::entries::{is_entry_of, own_are};
 use crate::reader_home::ReaderHome;
-use chain::{Command, Entry};
+use chain::{Command, Reply};
 use view::{Naming, Note, View};
 
 /// What a seat finds before its step: so many entries, which go on from what it has seen, and of which its own are,
@@ -44,30 +44,34 @@ fn has_owed(view: &View, number: usize, answered: u64, owed: &[Command]) -> bool
     own_are(&view.journal()[answered as usize..], number, owed)
 }
 
-/// What a seat finds after its step: the entries that it found before, and this one.
+/// What a seat finds after its step: the entries that it found before, and the one of its command with this reply.
 pub(crate) fn look_after<J: Naming>(
     home: &mut ReaderHome<J>,
     before: &Note,
-    entry: &Entry,
+    number: usize,
+    command: &Command,
+    reply: Reply,
 ) -> Option<Note>
     requires { before.now.book ≡ J.origin.book }
     ensures home { home.new ≡ home.old }
     ensures book { IfSome result (λ n. n.book ≡ J.origin.book) }
-    ensures last { IfSome result (λ n. n.entries ≡ before.now.entries ++ entry.now ∷ []) }
+    ensures last { IfSome result (λ n.
+        n.entries ≡ before.now.entries ++ entry_of number command.now (Some reply) ∷ []) }
     ensures legal { IfSome result (λ n. IsLegal J.origin n.entries) }
 {
     let (reading, found) = home.enter_from(before)?;
-    let fits = ends_with(reading.get(), before, entry);
+    let fits = ends_with(reading.get(), before, number, command, reply);
     home.leave(reading);
     if fits { Some(found) } else { None }
 }
 
-/// Whether a view that goes on from a note has one entry more, and it is this.
-fn ends_with(view: &View, before: &Note, entry: &Entry) -> bool
+/// Whether a view that goes on from a note has one entry more, and it is the one of this command with this reply.
+fn ends_with(view: &View, before: &Note, number: usize, command: &Command, reply: Reply) -> bool
     requires { IsPrefix before.now.entries view.now.journal }
-    ensures { Decides result (view.now.journal ≡ before.now.entries ++ entry.now ∷ []) }
+    ensures { Decides result
+        (view.now.journal ≡ before.now.entries ++ entry_of number command.now (Some reply) ∷ []) }
 {
     let journal = view.journal();
     let place = before.len() as usize;
-    journal.len() == place + 1 && is_same(&journal[place], entry)
+    journal.len() == place + 1 && is_entry_of(journal[place].entry(), number, command, &Some(reply))
 }

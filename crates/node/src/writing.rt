@@ -1,25 +1,29 @@
 //! A seat's writing calls. Each takes its step under the lock, and sees it published.
 
-ghost use Rattle.std.specs.Prelude.{◌≡◌, true, false, IfOk, IfErr, IfSome, OnErr};
+ghost use Rattle.std.specs.Prelude.{◌≡◌, ◌<◌, true, false, IfOk, IfErr, IfSome, OnOk, OnErr};
+ghost use Rattle.std.specs.Prelude.{vec_capacity, vec_len};
 ghost use Rattle.chain.specs.Prepared.{command_of};
 ghost use Rattle.chain.specs.declared.command.Command.TheVariants as command;
 ghost use Rattle.chain.specs.declared.reply.Reply.TheVariants as reply;
 ghost use Rattle.node.specs.inside.Keeping.{IsUndecodable};
 ghost use Rattle.node.specs.inside.PublishedState.{IsStepAnswer};
+ghost use Rattle.node.specs.inside.SeenStep.{IsStepSeen};
 
 use crate::answer::Stamped;
 use crate::fault::Fault;
 use crate::naming::SeatToken;
 use crate::node::Node;
 use crate::published_history::{PublishedHistory, Refusal};
+use crate::reader_home::ReaderHome;
 use crate::seat::Seat;
 use crate::view_reads::{look_after, look_before};
-use chain::{Bytes, Entry, MarkReply, PreparedCommand, Reply, Submission, SubmitReply};
+use chain::{Bytes, Command, MarkReply, PreparedCommand, Reply, Submission, SubmitReply};
 use hash::Id;
 use queue::{Threaded, Verdicts};
 use std::sync::Wait;
 use std::thread::Threads;
-use view::Naming;
+use view::{Naming, Note};
+use wire::Memory;
 
 /// Whether it is a submission of bytes that are no block.
 fn is_undecodable(command: &PreparedCommand) -> bool
@@ -53,6 +57,65 @@ fn step_under_lock<J: Naming, R: Threads + Wait + Sync>(
         Some(verdicts) => history.step(rt, token, command, workers, &[verdicts], &crew, gate),
         None => history.step(rt, token, command, workers, &[], &crew, gate),
     }
+}
+
+/// Gets what a write needs before its step: room for a command that is owed, the command, and that no earlier step is
+/// owed any more. All that it is refused is memory, and then nothing was done.
+fn ready_command<J: Naming, R: Wait>(
+    rt: &R,
+    history: &mut PublishedHistory<J>,
+    owed: &mut Vec<Command>,
+    command: &PreparedCommand,
+) -> Result<Command, Memory>
+    ensures items { owed.new.items ≡ owed.old.items }
+    ensures room { OnOk result (vec_len owed.new < vec_capacity owed.new) }
+    ensures command { IfOk result (λ asked. asked ≡ command_of command.now) }
+    ensures shown { OnOk result (history.new ≡ record history.old { owed = false }) }
+    ensures err { OnErr result (history.new ≡ history.old) }
+{
+    if owed.reserve(1).is_err() {
+        return Err(Memory);
+    }
+    let asked = command.command()?;
+    if !history.settle(rt) {
+        return Err(Memory);
+    }
+    Ok(asked)
+}
+
+/// Takes the step of a seat's command, if the seat found what it has to before, and looks at it: what the seat then sees,
+/// and the reply. None where it is owed. It owns what it was given at its own early returns, and the caller nothing of it.
+fn step_and_look<J: Naming, R: Threads + Wait + Sync>(
+    rt: &R,
+    node: &Node<'_, J>,
+    history: &mut PublishedHistory<J>,
+    token: &SeatToken<J>,
+    home: &mut ReaderHome<J>,
+    before: Option<Note>,
+    command: &PreparedCommand,
+    asked: &Command,
+    early: Option<Verdicts<'_>>,
+) -> Result<Option<(Note, Reply)>, Refusal>
+    requires shown { history.old.owed ≡ false }
+    requires book { IfSome before (λ b. b.book ≡ J.origin.book) }
+    requires asked { asked.now ≡ command_of command.now }
+    requires decodable { IsUndecodable (command_of command.now) → ⊥ }
+    requires table { IfSome early (λ v. v.triples ≡ J.origin.triples) }
+    ensures home { home.new ≡ home.old }
+    ensures seen { let c = command_of command.now in
+        IfOk result (IsStepSeen J.origin before history.old history.new token.now c) }
+    ensures err { OnErr result (history.new ≡ history.old) }
+{
+    let Some(before) = before else {
+        return Err(Refusal::Closed);
+    };
+    let Some(reply) = step_under_lock(rt, node, history, token, command, early)? else {
+        return Ok(None);
+    };
+    let Some(seen) = look_after(home, &before, token.number(), asked, reply) else {
+        return Ok(None);
+    };
+    Ok(Some((seen, reply)))
 }
 
 impl<'t, J: Naming> Seat<'t, J> {
@@ -205,13 +268,7 @@ impl<'t, J: Naming> Seat<'t, J> {
         ensures held { let number = self.old.number in let c = command_of command.now in
             IfErr result (λ fault. IsLeftBy history.old history.new number c fault) }
     {
-        if self.owed.reserve(1).is_err() {
-            return Err(Fault::Memory);
-        }
-        let asked = command.command()?;
-        if !history.settle(rt) {
-            return Err(Fault::Memory);
-        }
+        let asked = ready_command(rt, history, &mut self.owed, command)?;
         if is_undecodable(command) {
             let value = Reply::Submit(SubmitReply::DecodeFailed);
             return Ok(Stamped {
@@ -221,20 +278,13 @@ impl<'t, J: Naming> Seat<'t, J> {
         }
         let (len, number) = (history.len(), self.token.number());
         let (seen, place, owed) = (&self.seen, self.answered, self.owed.as_slice());
-        let Some(before) = look_before(&mut self.reader, seen, len, number, place, owed) else {
-            return Err(Fault::Closed);
-        };
-        let Some(reply) = step_under_lock(rt, node, history, &self.token, command, early)? else {
+        let before = look_before(&mut self.reader, seen, len, number, place, owed);
+        let (token, home) = (&self.token, &mut self.reader);
+        let Some((seen, reply)) = step_and_look(
+            rt, node, history, token, home, before, command, &asked, early,
+        )?
+        else {
             self.owed.push_reserved(asked);
-            return Err(Fault::Owed);
-        };
-        let entry = Entry {
-            seat: number,
-            command: asked,
-            reply: Some(reply),
-        };
-        let Some(seen) = look_after(&mut self.reader, &before, &entry) else {
-            self.owed.push_reserved(entry.command);
             return Err(Fault::Owed);
         };
         let at = seen.len();

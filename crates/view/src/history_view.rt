@@ -6,9 +6,10 @@ ghost use Rattle.view.specs.Origin.{origin};
 ghost use Rattle.view.specs.ViewState.{after_publication, opening_view};
 
 use crate::chain_info::ChainInfo;
+use crate::growth::reserve_one;
 use crate::note::Note;
 use crate::publication::Publication;
-use chain::Entry;
+use crate::shared_entry::SharedEntry;
 use coins::CoinMap;
 use curve::Table;
 use left_right::Absorb;
@@ -27,10 +28,10 @@ pub struct View {
     /// The history that the last publication went on from.
     before: Note,
     /// The entry that it brought.
-    last: Option<Entry>,
+    last: Option<SharedEntry>,
     /// The history with that entry too, once it has its place there.
     pub(crate) note: Option<Note>,
-    pub(crate) journal: Vec<Entry>,
+    pub(crate) journal: Vec<SharedEntry>,
     pub(crate) coins: CoinMap,
     pub(crate) info: ChainInfo,
 }
@@ -95,7 +96,7 @@ impl View {
         ensures ok { OnOk result (self.new ≡ after_publication self.old publication.now) }
         ensures err { OnErr result (self.new ≡ self.old) }
     {
-        self.journal.reserve(1)?;
+        reserve_one(&mut self.journal)?;
         let entry = publication.entry.clone()?;
         let last = publication.entry.clone()?;
         let info = publication.info.clone()?;
@@ -118,10 +119,10 @@ impl View {
         ensures err { OnErr result (self.new ≡ self.old) }
         ensures given_back { IfErr result (λ back. back ≡ publication) }
     {
-        if self.journal.reserve(1).is_err() {
+        if reserve_one(&mut self.journal).is_err() {
             return Err(publication);
         }
-        let Ok(last) = publication.entry.copy() else {
+        let Ok(last) = publication.entry.clone() else {
             return Err(publication);
         };
         let Publication {

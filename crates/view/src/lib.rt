@@ -2,6 +2,7 @@
 #![tactic(auto)]
 
 mod chain_info;
+mod growth;
 mod history_view;
 mod hub;
 pub mod laws;
@@ -11,8 +12,10 @@ mod publication;
 mod publishing;
 mod reading;
 mod rule;
+mod shared_entry;
 
 pub use chain_info::{ChainInfo, Tips};
+pub use growth::reserve_one;
 pub use history_view::View;
 pub use hub::Hub;
 pub use naming::Naming;
@@ -22,3 +25,4 @@ pub use publishing::{
     ViewReader, ViewReading, ViewWriter, another_reader, enter, open_writer, publish,
 };
 pub use rule::ViewRule;
+pub use shared_entry::SharedEntry;

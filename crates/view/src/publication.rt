@@ -8,7 +8,7 @@ ghost use Rattle.view.specs.inside.Adding.{IsNoPlace};
 use crate::chain_info::ChainInfo;
 use crate::hub::Hub;
 use crate::note::Note;
-use chain::Entry;
+use crate::shared_entry::SharedEntry;
 use coins::Changes;
 use std::sync::Arc;
 use std::sync::atomic::Ordering;
@@ -32,7 +32,7 @@ pub struct Publication {
     pub hub: Arc<Hub>,
     /// The history before the entry.
     pub before: Note,
-    pub entry: Entry,
+    pub entry: SharedEntry,
     /// Whether it is one entry more.
     pub is_new: bool,
     /// The coins that change, where it is one more.
@@ -65,7 +65,7 @@ impl Publication {
             return Err(NoPlace::Full);
         }
         let mut note = self.before.copy();
-        if note.add(&self.hub.counter, &self.entry) {
+        if note.add(&self.hub.counter, self.entry.entry()) {
             return Ok(note);
         }
         Err(NoPlace::Taken(note))

@@ -12,7 +12,7 @@ ghost use Rattle.view.specs.ViewState.{IsExact, state_after};
 use crate::chain_info::ChainInfo;
 use crate::history_view::View;
 use crate::note::Note;
-use chain::Entry;
+use crate::shared_entry::SharedEntry;
 use coins::{Base, Coin, CoinMap};
 use hash::Id;
 use tree::Tip;
@@ -39,7 +39,7 @@ impl View {
     }
 
     /// Its entries, lent.
-    pub fn journal(&self) -> &[Entry]
+    pub fn journal(&self) -> &[SharedEntry]
         ensures { result.now ≡ self.now.journal }
     {
         self.journal.as_slice()

@@ -1,10 +1,11 @@
 //! A new history, and its readers.
 
-ghost use Rattle.std.specs.Prelude.{◌≡◌, ◌≤◌, [], IfOk, length};
+ghost use Rattle.std.specs.Prelude.{◌≡◌, ◌≤◌, [], IfOk, drop, length};
 ghost use Rattle.std.specs.Arc.{arc_value};
 ghost use Rattle.view.specs.Beginning.{count_of};
 ghost use Rattle.view.specs.Origin.{origin};
-ghost use Rattle.node.specs.inside.PublishedState.{opening_state};
+ghost use Rattle.view.specs.ViewState.{IsExact, opening_view};
+ghost use Rattle.node.specs.inside.PublishedState.{Shows, opening_state};
 
 use crate::published_history::PublishedHistory;
 use crate::published_history::view_step::chain_info;
@@ -16,7 +17,8 @@ use std::alloc::Global;
 use std::sync::Arc;
 use std::sync::atomic::AtomicU64;
 use view::{
-    EntryCount, Hub, Naming, Note, View, ViewReader, ViewWriter, another_reader, open_writer,
+    ChainInfo, EntryCount, Hub, Naming, Note, View, ViewReader, ViewWriter, another_reader,
+    open_writer,
 };
 use wire::Memory;
 
@@ -25,6 +27,14 @@ use wire::Memory;
 pub(crate) struct Opened<J: Naming> {
     pub(crate) history: PublishedHistory<J>,
     pub(crate) readers: Vec<ViewReader<J>>,
+}
+
+/// The writer, a reader for the lock and one for each seat.
+#[derive(Drop)]
+struct WriterAndReaders<J: Naming> {
+    home: WriterHome<J>,
+    reader: ViewReader<J>,
+    readers: Vec<ViewReader<J>>,
 }
 
 /// Opens a history, of a note without entries and the word that counts them.
@@ -53,8 +63,37 @@ pub(crate) fn open_history<J: Naming>(
             attempt: AtomicU64::new(0),
         },
     )?;
-    let one = Arc::try_clone(&table)?;
-    let other = Arc::try_clone(&table)?;
+    let WriterAndReaders {
+        home,
+        reader,
+        readers,
+    } = writer_and_readers(alloc, params, &table, seats, &note, info, same)?;
+    let history = PublishedHistory::new(alloc, table, core, hub, note, home, reader);
+    Ok(Opened { history, readers })
+}
+
+/// A writer over two equal views of a history without entries, and its readers. It owns both views at its own early
+/// returns, so that what opens the history owns little at each of its.
+fn writer_and_readers<J: Naming>(
+    alloc: Global,
+    params: Params,
+    table: &Arc<Table>,
+    seats: usize,
+    note: &Note,
+    info: ChainInfo,
+    same: ChainInfo,
+) -> Result<WriterAndReaders<J>, Memory>
+    requires few { seats ≤ 16 }
+    requires empty { note.now.entries ≡ [] }
+    requires same { same ≡ info }
+    requires of { origin note.now.book params (arc_value table.now) seats ≡ J.origin }
+    requires exact { IsExact (opening_view J.origin info) }
+    ensures shown { IfOk result (λ p. Shows p.home.writer.desk.shown.value J.origin []) }
+    ensures pending { IfOk result (λ p. drop p.home.writer.behind p.home.writer.log.items ≡ []) }
+    ensures readers { IfOk result (λ p. length p.readers.items ≡ seats) }
+{
+    let one = Arc::try_clone(table)?;
+    let other = Arc::try_clone(table)?;
     let first = View::new(alloc, params, one, seats, note.copy(), info);
     let second = View::new(alloc, params, other, seats, note.copy(), same);
     let home = WriterHome {
@@ -62,8 +101,11 @@ pub(crate) fn open_history<J: Naming>(
     };
     let reader = another_reader(&home.writer)?;
     let readers = all_readers(alloc, &home.writer, seats)?;
-    let history = PublishedHistory::new(alloc, table, core, hub, note, home, reader);
-    Ok(Opened { history, readers })
+    Ok(WriterAndReaders {
+        home,
+        reader,
+        readers,
+    })
 }
 
 /// A reader for each seat.

@@ -1,14 +1,11 @@
-use Rattle.std.proofs.Common.{rules, ◌≡◌, ◌++◌, ◌∷◌, [], true, Some, None, length, ◌-◌, drop, refl, ap, sym, ◌∙◌, subst}
-use Rattle.std.specs.Prelude.{slice_get}
-use Rattle.chain.specs.declared.command.Command.{Command}
+use Rattle.std.proofs.Common.{◌≡◌, ◌++◌, ◌∷◌, [], true, Some, None, drop, refl, ap, sym, ◌∙◌, subst}
 use Rattle.chain.specs.declared.entry.Entry.{Entry}
-use Rattle.chain.specs.History.{entry_of}
 use Rattle.view.specs.Beginning.{Beginning}
 use Rattle.view.specs.Origin.{Origin}
 use Rattle.view.specs.ViewState.{IsLegal}
 use Rattle.node.specs.inside.PublishedState.{PublishedState, IsJournal, entry_with_reply}
 use Rattle.node.proofs.Owing.{of_owed, replied_core}
-use Rattle.node.proofs.Publications.{both_some, follows, last_found}
+use Rattle.node.proofs.Publications.{both_some, follows}
 use Rattle.node.proofs.published_history.PublishedHistory.publish_owed.Goals as goal
 
 pub attempt_to_publish-left-requires-clause-follows : goal.attempt_to_publish-left-requires-clause-follows
@@ -20,19 +17,17 @@ attempt_to_publish-left-requires-clause-follows g c _ _ =
     let t : IsJournal true s.note.entries s.journal.items = rw owed at i.2 in
     let at : s.home ≡ Some c.in-Some-take.found = sym c.take.ensures.value ∙ c.in-Some-take.is in
     let k = rw (at, owed) at i.4 in
-    let found : slice_get s.journal.items (length s.journal.items - 1) ≡ Some c.in-Some.last.now = search rules in
-    let last : c.in-Some.last.now ≡ entry_with_reply t.0 None = last_found s.note.entries s.journal.items (entry_with_reply t.0 None) c.in-Some.last.now t.1 found in
-    let entry : ◌≡◌ {A = Entry} (entry_of c.in-Some.last.now.seat c.in-Ok-copy.command c.args.reply) (entry_with_reply t.0 c.args.reply) =
-    ap (λ (q : Command). entry_of c.in-Some.last.now.seat q c.args.reply) c.in-Ok-copy.ensures ∙ ap (λ (f : Entry). entry_with_reply f c.args.reply) last in
+    let entry : ◌≡◌ {A = Entry} c.in-Some.brought.entry (entry_with_reply t.0 c.args.reply) =
+    c.in-Some.ensures.brought.entry_is s.note.entries (entry_with_reply t.0 None) (c.as_slice-entries.ensures.value ∙ t.1) in
     let legal : IsLegal o (s.note.entries ++ entry_with_reply t.0 c.args.reply ∷ []) =
     subst (λ (h : PublishedState). IsLegal h.origin (s.note.entries ++ entry_with_reply t.0 c.args.reply ∷ [])) (sym c.self.view_is)
     (c.requires.legal s.note.entries (entry_with_reply t.0 None) (ap (λ (h : PublishedState). h.journal) (sym c.self.view_is) ∙ t.1)) in
     let core = i.0.is_chainstate.follows in
-    let may = c.may_bring.ensures c.if-not-may_bring.false in
+    let info = c.in-Some.ensures.brought.info_is o.triples core in
     rw c.into_writer-writer.ensures (
     follows s.is_new c.in-Some-take.found.writer.desk.shown.value (drop c.in-Some-take.found.writer.behind c.in-Some-take.found.writer.log.items) o s.note.entries s.journal.items t.0 s.changes _ k.0 k.1 t.1
-    (of_owed o s.core s.note.entries s.journal.items t.0 c.args.reply i.0 t.1 legal s.is_new s.changes _ refl (ap (λ (x : Beginning). x.book) c.copy-2.ensures ∙ i.5) (ap (λ (x : Beginning). x.entries) c.copy-2.ensures) entry may c.replace.ensures.value
-    (c.in-Ok.ensures.best o.triples core) (c.in-Ok.ensures.height o.triples core) (c.in-Ok.ensures.tips o.triples core))
+    (of_owed o s.core s.note.entries s.journal.items t.0 c.args.reply i.0 t.1 legal s.is_new s.changes _ refl (ap (λ (x : Beginning). x.book) c.copy.ensures ∙ i.5) (ap (λ (x : Beginning). x.entries) c.copy.ensures) entry c.in-Some.ensures.may c.replace.ensures.value
+    info.best_is info.height_is info.tips_are)
     )
 
 pub invariant_of-self-then-still : goal.invariant_of-self-then-still
@@ -44,14 +39,12 @@ invariant_of-self-then-still g c =
     let t : IsJournal true s.note.entries s.journal.items = rw owed at i.2 in
     let at : s.home ≡ Some c.in-Some-take.found = sym c.take.ensures.value ∙ c.in-Some-take.is in
     let k = rw (at, owed) at i.4 in
-    let found : slice_get s.journal.items (length s.journal.items - 1) ≡ Some c.in-Some.last.now = search rules in
-    let last : c.in-Some.last.now ≡ entry_with_reply t.0 None = last_found s.note.entries s.journal.items (entry_with_reply t.0 None) c.in-Some.last.now t.1 found in
-    let entry : ◌≡◌ {A = Entry} (entry_of c.in-Some.last.now.seat c.in-Ok-copy.command c.args.reply) (entry_with_reply t.0 c.args.reply) =
-    ap (λ (q : Command). entry_of c.in-Some.last.now.seat q c.args.reply) c.in-Ok-copy.ensures ∙ ap (λ (f : Entry). entry_with_reply f c.args.reply) last in
-    let book : c.attempt_to_publish-left.result.note.book ≡ s.note.book = c.attempt_to_publish-left.ensures.book ∙ ap (λ (x : Beginning). x.book) c.copy-2.ensures in
+    let entry : ◌≡◌ {A = Entry} c.in-Some.brought.entry (entry_with_reply t.0 c.args.reply) =
+    c.in-Some.ensures.brought.entry_is s.note.entries (entry_with_reply t.0 None) (c.as_slice-entries.ensures.value ∙ t.1) in
+    let book : c.attempt_to_publish-left.result.note.book ≡ s.note.book = c.attempt_to_publish-left.ensures.book ∙ ap (λ (x : Beginning). x.book) c.copy.ensures in
     let of : c.into_writer-writer.result.desk.shown.value.origin ≡ o = rw c.into_writer-writer.ensures k.0.origin_is in
-    let before = ap (λ (x : Beginning). x.entries) c.copy-2.ensures in
-    let whole : c.copy-2.result.entries ++ entry_with_reply (entry_of c.in-Some.last.now.seat c.in-Ok-copy.command c.args.reply) None ∷ [] ≡ s.journal.items =
+    let before = ap (λ (x : Beginning). x.entries) c.copy.ensures in
+    let whole : c.copy.result.entries ++ entry_with_reply c.in-Some.brought.entry None ∷ [] ≡ s.journal.items =
     (λ j. before j ++ entry_with_reply (entry j) None ∷ []) ∙ sym t.1 in
     let still = c.if-still.true in
     let seen : c.attempt_to_publish-left.result.note.entries ≡ s.note.entries = rw still at c.attempt_to_publish-left.ensures.note ∙ before in
@@ -75,17 +68,15 @@ invariant_of-self-2 g c =
     let t : IsJournal true s.note.entries s.journal.items = rw owed at i.2 in
     let at : s.home ≡ Some c.in-Some-take.found = sym c.take.ensures.value ∙ c.in-Some-take.is in
     let k = rw (at, owed) at i.4 in
-    let found : slice_get s.journal.items (length s.journal.items - 1) ≡ Some c.in-Some.last.now = search rules in
-    let last : c.in-Some.last.now ≡ entry_with_reply t.0 None = last_found s.note.entries s.journal.items (entry_with_reply t.0 None) c.in-Some.last.now t.1 found in
-    let entry : ◌≡◌ {A = Entry} (entry_of c.in-Some.last.now.seat c.in-Ok-copy.command c.args.reply) (entry_with_reply t.0 c.args.reply) =
-    ap (λ (q : Command). entry_of c.in-Some.last.now.seat q c.args.reply) c.in-Ok-copy.ensures ∙ ap (λ (f : Entry). entry_with_reply f c.args.reply) last in
+    let entry : ◌≡◌ {A = Entry} c.in-Some.brought.entry (entry_with_reply t.0 c.args.reply) =
+    c.in-Some.ensures.brought.entry_is s.note.entries (entry_with_reply t.0 None) (c.as_slice-entries.ensures.value ∙ t.1) in
     let legal : IsLegal o (s.note.entries ++ entry_with_reply t.0 c.args.reply ∷ []) =
     subst (λ (h : PublishedState). IsLegal h.origin (s.note.entries ++ entry_with_reply t.0 c.args.reply ∷ [])) (sym c.self.view_is)
     (c.requires.legal s.note.entries (entry_with_reply t.0 None) (ap (λ (h : PublishedState). h.journal) (sym c.self.view_is) ∙ t.1)) in
-    let book : c.attempt_to_publish-left.result.note.book ≡ s.note.book = c.attempt_to_publish-left.ensures.book ∙ ap (λ (x : Beginning). x.book) c.copy-2.ensures in
+    let book : c.attempt_to_publish-left.result.note.book ≡ s.note.book = c.attempt_to_publish-left.ensures.book ∙ ap (λ (x : Beginning). x.book) c.copy.ensures in
     let of : c.into_writer-writer.result.desk.shown.value.origin ≡ o = rw c.into_writer-writer.ensures k.0.origin_is in
-    let before = ap (λ (x : Beginning). x.entries) c.copy-2.ensures in
-    let whole : c.copy-2.result.entries ++ entry_with_reply (entry_of c.in-Some.last.now.seat c.in-Ok-copy.command c.args.reply) None ∷ [] ≡ s.journal.items =
+    let before = ap (λ (x : Beginning). x.entries) c.copy.ensures in
+    let whole : c.copy.result.entries ++ entry_with_reply c.in-Some.brought.entry None ∷ [] ≡ s.journal.items =
     (λ j. before j ++ entry_with_reply (entry j) None ∷ []) ∙ sym t.1 in
     let done = c.if-still.false in
     let seen : c.attempt_to_publish-left.result.note.entries ≡ s.note.entries ++ entry_with_reply t.0 c.args.reply ∷ [] =

@@ -35,7 +35,7 @@ invariant_of-self-then-not-is_step g c =
     let core = c.step_by_reader.new.core in
     let did = stepped o s.core core k r c.in_ok-reply.changes c.in_ok-reply.ensures.step in
     let none : is_step r ≡ false = sym c.is_step.ensures ∙ c.if-not-is_step.true in
-    rw c.reserve.ensures.items (
+    rw c.reserve_one.ensures.items (
       stayed_kept n (with_its_coins s.core) (with_its_coins core) s.journal.items c.args.token.now k r i.0 did none s.journal.items refl,
       i.1,
       i.2,
@@ -56,7 +56,7 @@ returns-then-not-is_step-clause-takes g c =
     let core = c.step_by_reader.new.core in
     let did = stepped o s.core core k r c.in_ok-reply.changes c.in_ok-reply.ensures.step in
     let none : is_step r ≡ false = sym c.is_step.ensures ∙ c.if-not-is_step.true in
-    let same : record { origin = o; journal = c.reserve.new.self.items; owed = s.owed } ≡ c.args.self.now = ap (λ (l : List Entry). record { origin = o; journal = l; owed = s.owed }) c.reserve.ensures.items ∙ c.self.view_is in
+    let same : record { origin = o; journal = c.reserve_one.new.list.items; owed = s.owed } ≡ c.args.self.now = ap (λ (l : List Entry). record { origin = o; journal = l; owed = s.owed }) c.reserve_one.ensures.items ∙ c.self.view_is in
     inr (
       stayed_reply n (with_its_coins s.core) (with_its_coins core) s.journal.items c.args.token.now k r i.0 did none,
       stayed_bytes n (with_its_coins s.core) (with_its_coins core) s.journal.items c.args.token.now k r i.0 did none,
@@ -77,7 +77,7 @@ invariant_of-self-2 g c =
     let seat : c.args.token.now < o.seats = subst (λ (n : ℕ). n < o.seats) c.number.ensures.is c.number.ensures.below in
     let e : Entry = entry_of c.args.token.now k None in
     let items : ◌≡◌ {A = List Entry} c.push_reserved.new.self.items (s.journal.items ++ e ∷ []) =
-    c.push_reserved.ensures.items ∙ ap (λ (l : List Entry). l ++ entry_of c.number.result c.in-Ok.asked None ∷ []) c.reserve.ensures.items ∙ ap (λ (n : ℕ). s.journal.items ++ entry_of n c.in-Ok.asked None ∷ []) c.number.ensures.is ∙ ap (λ (q : Command). s.journal.items ++ entry_of c.args.token.now q None ∷ []) c.in-Ok.ensures in
+    c.push_reserved.ensures.items ∙ ap (λ (l : List Entry). l ++ entry_of c.number.result c.in-Ok.asked None ∷ []) c.reserve_one.ensures.items ∙ ap (λ (n : ℕ). s.journal.items ++ entry_of n c.in-Ok.asked None ∷ []) c.number.ensures.is ∙ ap (λ (q : Command). s.journal.items ++ entry_of c.args.token.now q None ∷ []) c.in-Ok.ensures in
     let owed : s.owed ≡ false = ap (λ (h : PublishedState). h.owed) c.self.view_is ∙ c.requires.shown in
     let log : s.journal.items ≡ s.note.entries = rw owed at i.2 in
     let changes = owed_changes o s.core core s.journal.items c.args.token.now k r i.0 did some seat c.in_ok-reply.changes c.in_ok-reply.ensures.step.changes_are in
@@ -105,7 +105,7 @@ returns-clause-takes g c =
     let seat : c.args.token.now < o.seats = subst (λ (n : ℕ). n < o.seats) c.number.ensures.is c.number.ensures.below in
     let e : Entry = entry_of c.args.token.now k None in
     let items : ◌≡◌ {A = List Entry} c.push_reserved.new.self.items (s.journal.items ++ e ∷ []) =
-    c.push_reserved.ensures.items ∙ ap (λ (l : List Entry). l ++ entry_of c.number.result c.in-Ok.asked None ∷ []) c.reserve.ensures.items ∙ ap (λ (n : ℕ). s.journal.items ++ entry_of n c.in-Ok.asked None ∷ []) c.number.ensures.is ∙ ap (λ (q : Command). s.journal.items ++ entry_of c.args.token.now q None ∷ []) c.in-Ok.ensures in
+    c.push_reserved.ensures.items ∙ ap (λ (l : List Entry). l ++ entry_of c.number.result c.in-Ok.asked None ∷ []) c.reserve_one.ensures.items ∙ ap (λ (n : ℕ). s.journal.items ++ entry_of n c.in-Ok.asked None ∷ []) c.number.ensures.is ∙ ap (λ (q : Command). s.journal.items ++ entry_of c.args.token.now q None ∷ []) c.in-Ok.ensures in
     inl (
       some,
       taken_reply n (with_its_coins s.core) (with_its_coins core) s.journal.items c.args.token.now k r i.0 did some,

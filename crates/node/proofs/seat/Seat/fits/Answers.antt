@@ -1,4 +1,5 @@
 use Rattle.std.proofs.Common.{◌≡◌, ℕ, ◌-◌, List, length, take, drop, map, ap, sym, ◌∙◌, subst, arith, length-drop, take_all}
+use Rattle.std.proofs.lemmas.List.{map-id}
 use mathlib.Core.List.{IsPrefix}
 use Rattle.chain.specs.declared.entry.Entry.{Entry}
 use Rattle.chain.specs.History.{own_of}
@@ -18,6 +19,6 @@ returns-clause-standing g c equal =
     let begins : IsPrefix s.seen.entries journal = begins_whole _ _ _ f.grows view in
     let all : take (length journal - place) (drop place journal) ≡ drop place journal = take_all _ (drop place journal) (omega (arith, length-drop place journal)) in
     let m = c.number.result in
-    let asked : own_of m (drop place journal) ≡ map (owed_entry m) s.owed.items = ap (own_of m) (sym all) ∙ c.own_are.ensures.0 equal ∙ ap (map (owed_entry m)) c.as_slice.ensures.value in
+    let asked : own_of m (drop place journal) ≡ map (owed_entry m) s.owed.items = ap (own_of m) (sym (map-id (take (length journal - place) (drop place journal)) ∙ all)) ∙ c.own_are.ensures.0 equal ∙ ap (map (owed_entry m)) c.as_slice.ensures.value in
     let rest : own_of n (drop place journal) ≡ map (owed_entry n) s.owed.items = subst (λ (k : ℕ). own_of k (drop place journal) ≡ map (owed_entry k) s.owed.items) c.number.ensures.is asked in
     subst (λ (p : Pass). IsStanding journal p) c.self.view_is (record { begins = begins; own = own_all n place s.seen.entries journal s.owed.items c.self.invariant.1 begins rest })

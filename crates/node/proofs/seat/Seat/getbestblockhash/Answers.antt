@@ -1,0 +1,5 @@
+use Rattle.node.proofs.Owning.{own_begins}
+use Rattle.node.proofs.seat.Seat.getbestblockhash.Goals as goal
+
+pub returns-in_default-clause-own : goal.returns-in_default-clause-own
+returns-in_default-clause-own g c = let s = c.self.inside in own_begins s.token s.answered s.seen.entries s.owed.items
