@@ -12,11 +12,17 @@ use request::Request;
 fn main(rt: HostRuntime) -> anyhow::Result<()> {
     let table = Table::new(rt.alloc());
     let mut desk = Desk::new(rt.alloc(), &table)?;
+    answer_lines(&rt, &mut desk)
+}
+
+fn answer_lines(rt: &HostRuntime, desk: &mut Desk<'_>) -> anyhow::Result<()> {
     for line in rt.lines(rt.alloc()) {
-        let line = line?;
-        let request = Request::read(rt.alloc(), line.as_str())?;
-        let request = request.context("a line can't be read")?;
-        desk.answer(&rt, &request)?;
+        answer_line(rt, desk, line?.as_str())?;
     }
     Ok(())
+}
+
+fn answer_line(rt: &HostRuntime, desk: &mut Desk<'_>, line: &str) -> anyhow::Result<()> {
+    let request = Request::read(rt.alloc(), line)?;
+    desk.answer(rt, &request.context("a line can't be read")?)
 }

@@ -1,7 +1,8 @@
 //! The answers of a client's seat.
 
 use crate::told::{Block, Tips, Told};
-use node::{Fault, Naming, Node, Seat, Stamped};
+use hash::Id;
+use node::{Fault, MarkReply, Naming, Node, Seat, Stamped, Tip, UnspentOutput};
 use scenario::{Definitions, Request};
 use std::fmt;
 use std::sync::Wait;
@@ -28,24 +29,15 @@ where
     R: AllocGlobal + Threads + Wait + Sync,
 {
     let alloc = rt.alloc();
-    Ok(match request {
-        Request::Submit(bytes, now) => submitted(rt, node, seat, bytes.as_slice(), *now)?,
-        Request::Invalidate(id) => marked(seat.invalidate(rt, node, *id)?),
-        Request::Reconsider(id) => marked(seat.reconsider(rt, node, *id)?),
-        Request::Precious(id) => marked(seat.precious(rt, node, *id)?),
-        Request::Best => {
-            let best = seat.getbestblockhash(node)?;
-            stamped(best.at, Told::Best(Block::new(definitions, best.value)))
-        }
-        Request::Tips => {
-            let Stamped { at, value: list } = seat.getchaintips(alloc, node)?;
-            stamped(at, Told::Tips(Tips { definitions, list }))
-        }
-        Request::Output(outpoint) => {
-            let Stamped { at, value } = seat.gettxout(alloc, node, outpoint)?;
-            stamped(at, Told::Output(value))
-        }
-    })
+    match request {
+        Request::Submit(bytes, now) => submitted(rt, node, seat, bytes.as_slice(), *now),
+        Request::Invalidate(id) => marked(seat.invalidate(rt, node, *id)),
+        Request::Reconsider(id) => marked(seat.reconsider(rt, node, *id)),
+        Request::Precious(id) => marked(seat.precious(rt, node, *id)),
+        Request::Best => best(definitions, seat.getbestblockhash(node)),
+        Request::Tips => tips(definitions, seat.getchaintips(alloc, node)),
+        Request::Output(outpoint) => output(seat.gettxout(alloc, node, outpoint)),
+    }
 }
 
 /// What a seat answers to the submission of these bytes.
@@ -63,8 +55,32 @@ where
     Ok(stamped(reply.at, Told::Submit(reply.value)))
 }
 
-fn marked<'d>(reply: Stamped<node::MarkReply>) -> Stamped<Told<'d>> {
-    stamped(reply.at, Told::Mark(reply.value))
+fn marked<'d>(reply: Result<Stamped<MarkReply>, Fault>) -> Result<Stamped<Told<'d>>, Fault> {
+    let Stamped { at, value } = reply?;
+    Ok(stamped(at, Told::Mark(value)))
+}
+
+fn best<'d>(
+    definitions: &'d Definitions,
+    best: Result<Stamped<Id>, Fault>,
+) -> Result<Stamped<Told<'d>>, Fault> {
+    let Stamped { at, value } = best?;
+    Ok(stamped(at, Told::Best(Block::new(definitions, value))))
+}
+
+fn tips<'d>(
+    definitions: &'d Definitions,
+    tips: Result<Stamped<Vec<Tip>>, Fault>,
+) -> Result<Stamped<Told<'d>>, Fault> {
+    let Stamped { at, value: list } = tips?;
+    Ok(stamped(at, Told::Tips(Tips { definitions, list })))
+}
+
+fn output<'d>(
+    output: Result<Stamped<Option<UnspentOutput>>, Fault>,
+) -> Result<Stamped<Told<'d>>, Fault> {
+    let Stamped { at, value } = output?;
+    Ok(stamped(at, Told::Output(value)))
 }
 
 fn stamped(at: u64, value: Told<'_>) -> Stamped<Told<'_>> {

@@ -29,32 +29,8 @@ where
     R: Files<File = File> + AllocGlobal + Clock,
     E: Write + IsTerminal,
 {
-    let alloc = rt.alloc();
-    let Replay {
-        params,
-        table,
-        commands,
-        recorded,
-        blocks,
-    } = read_replay(rt, &options.saved, options.limit)?;
-    let is_terminal = err.is_terminal();
-    let mut progress = Progress::new(rt, err, is_terminal);
-    progress.begin_replay(commands.len(), blocks);
-    let by = if options.is_quick {
-        Replayer::Chainstate
-    } else {
-        Replayer::Definition
-    };
-    let refuted = first_refuted(
-        alloc,
-        by,
-        &params,
-        commands.as_slice(),
-        &table,
-        recorded.as_slice(),
-        &mut progress,
-    )?;
-    progress.end();
+    let replay = read_replay(rt, &options.saved, options.limit)?;
+    let refuted = refuted(rt, options, &replay, err)?;
     Ok(match refuted {
         Some(Refuted { place, reply }) => Audited {
             finding: Finding::Differs(place.saturating_add(1)),
@@ -65,4 +41,36 @@ where
             reply: None,
         },
     })
+}
+
+/// The first reply that isn't the definition's, if there is one.
+fn refuted<'w, R, E>(
+    rt: &R,
+    options: &AuditOptions<'w>,
+    replay: &Replay,
+    err: &mut E,
+) -> Result<Option<Refuted>, Fault<'w>>
+where
+    R: AllocGlobal + Clock,
+    E: Write + IsTerminal,
+{
+    let is_terminal = err.is_terminal();
+    let mut progress = Progress::new(rt, err, is_terminal);
+    progress.begin_replay(replay.commands.len(), replay.blocks);
+    let by = if options.is_quick {
+        Replayer::Chainstate
+    } else {
+        Replayer::Definition
+    };
+    let refuted = first_refuted(
+        rt.alloc(),
+        by,
+        &replay.params,
+        replay.commands.as_slice(),
+        &replay.table,
+        replay.recorded.as_slice(),
+        &mut progress,
+    )?;
+    progress.end();
+    Ok(refuted)
 }

@@ -5,9 +5,10 @@ use crate::files::{print, read_scenario};
 use crate::history_tree::history_tree;
 use crate::options::{Saved, TreeOptions};
 use crate::replay::{Replay, read_replay};
-use crate::text::{Text, read_definitions};
+use crate::text::read_definitions;
 use curve::Table;
 use picture::{BlockTree, to_svg, to_text};
+use scenario::Definitions;
 use std::fs::File;
 use std::io::{Error, ErrorKind, Read, Write};
 use std::rt::Files;
@@ -25,38 +26,42 @@ where
     I: Read,
     O: Write,
 {
-    let alloc = rt.alloc();
     let scenario = match options.scenario {
         Some(file) => Some(read_scenario(rt, file, input)?),
         None => None,
     };
-    let Replay {
-        params,
-        table,
-        commands,
-        ..
-    } = read_replay(rt, &Saved::Folder(options.saved), usize::MAX)?;
-    let definitions = match &scenario {
+    let replay = read_replay(rt, &Saved::Folder(options.saved), usize::MAX)?;
+    let tree = match &scenario {
         Some(text) => {
-            let Text { definitions, .. } = read_definitions(
-                alloc,
-                text.as_slice(),
-                Table::new(alloc),
-            )?;
-            Some(definitions)
+            let empty = Table::new(rt.alloc());
+            let text = read_definitions(rt.alloc(), text.as_slice(), empty)?;
+            tree_after(rt, options, &replay, Some(&text.definitions))?
         }
-        None => None,
+        None => tree_after(rt, options, &replay, None)?,
     };
-    check_picture(rt, options.svg)?;
-    let tree = history_tree(
-        alloc,
-        &params,
-        commands.as_slice(),
-        &table,
-        definitions.as_ref(),
-    )?;
-    print(out, to_text(alloc, &tree)?.as_str())?;
+    print(out, to_text(rt.alloc(), &tree)?.as_str())?;
     write_picture(rt, options.svg, &tree)
+}
+
+/// The tree after a replay's commands, once it is known that its picture can be written.
+fn tree_after<'w, R>(
+    rt: &R,
+    options: &TreeOptions<'w>,
+    replay: &Replay,
+    definitions: Option<&Definitions>,
+) -> Result<BlockTree, Fault<'w>>
+where
+    R: Files + AllocGlobal,
+{
+    check_picture(rt, options.svg)?;
+    let commands = replay.commands.as_slice();
+    history_tree(
+        rt.alloc(),
+        &replay.params,
+        commands,
+        &replay.table,
+        definitions,
+    )
 }
 
 /// Refuses a file that can't be a picture's, before the work: a folder, or one in no folder.

@@ -19,6 +19,28 @@ where
     }
 }
 
+/// The bytes of a file, if one is named.
+pub fn read_if_named<'w, R>(rt: &R, file: Option<&'w str>) -> Result<Option<Vec<u8>>, Fault<'w>>
+where
+    R: Files + AllocGlobal,
+{
+    match file {
+        Some(file) => Ok(Some(read_file(rt, file)?)),
+        None => Ok(None),
+    }
+}
+
+/// The valid signatures of a table's file; none, where no file is named.
+pub fn read_table_file<'w, R>(rt: &R, file: Option<&'w str>) -> Result<Table, Fault<'w>>
+where
+    R: Files + AllocGlobal,
+{
+    match read_if_named(rt, file)? {
+        Some(text) => read_table(rt.alloc(), Some(text.as_slice())),
+        None => read_table(rt.alloc(), None),
+    }
+}
+
 /// The bytes of a scenario's file, which may be the standard input.
 pub fn read_scenario<'w, R, I>(rt: &R, file: &'w str, input: &mut I) -> Result<Vec<u8>, Fault<'w>>
 where

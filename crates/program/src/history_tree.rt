@@ -4,7 +4,7 @@ use crate::fault::Fault;
 use block::GENESIS_ID;
 use curve::Table;
 use hash::Id;
-use journal::{ReplayedState, replayed_state};
+use journal::replayed_state;
 use node::{Bytes, Command, Params, Reply, SubmitReply};
 use picture::{BlockTree, Status, TreeBlock};
 use scenario::{Definitions, Label};
@@ -40,29 +40,73 @@ pub fn history_tree(
     table: &Table,
     definitions: Option<&Definitions>,
 ) -> Result<BlockTree, Fault<'static>> {
+    let submitted = submitted_blocks(alloc, commands)?;
+    let questions = questions(alloc, commands)?;
+    let state = replayed_state(alloc, params, commands, questions.as_slice(), table)?;
+    let mut kept = kept_blocks(alloc, submitted.as_slice(), state.answers.as_slice())?;
+    set_active(kept.as_mut_slice(), state.best);
+    Ok(tree_of(alloc, kept.as_slice(), definitions)?)
+}
+
+/// The blocks that are submitted, in order.
+fn submitted_blocks(alloc: Global, commands: &[Command]) -> Result<Vec<Submitted>, Fault<'static>> {
     let mut submitted = Vec::new(alloc);
+    for command in commands {
+        if let Command::Submit(bytes, _) = command {
+            submitted.push(submitted_block(alloc, bytes.as_slice())?)?;
+        }
+    }
+    Ok(submitted)
+}
+
+fn submitted_block(alloc: Global, bytes: &[u8]) -> Result<Submitted, Fault<'static>> {
+    let block = block::read(alloc, bytes)?;
+    Ok(Submitted {
+        id: block.id(),
+        prev: block.header.prev,
+    })
+}
+
+/// Each submission once more, at a moment at which no new block is accepted.
+fn questions(alloc: Global, commands: &[Command]) -> Result<Vec<Command>, Fault<'static>> {
     let mut questions = Vec::new(alloc);
     for command in commands {
         if let Command::Submit(bytes, _) = command {
-            let block = block::read(alloc, bytes.as_slice())?;
-            submitted.push(Submitted {
-                id: block.id(),
-                prev: block.header.prev,
-            })?;
-            let copy = Vec::from_slice(alloc, bytes.as_slice())?;
-            questions.push(Command::Submit(Bytes::from_vec(alloc, copy)?, 0))?;
+            questions.push(question(alloc, bytes.as_slice())?)?;
         }
     }
-    let ReplayedState { best, answers } = replayed_state(
-        alloc,
-        params,
-        commands,
-        questions.as_slice(),
-        table,
-    )?;
-    let mut kept = kept_blocks(alloc, submitted.as_slice(), answers.as_slice())?;
-    set_active(kept.as_mut_slice(), best);
-    Ok(tree_of(alloc, kept.as_slice(), definitions)?)
+    Ok(questions)
+}
+
+fn question(alloc: Global, bytes: &[u8]) -> Result<Command, Fault<'static>> {
+    let copy = Vec::from_slice(alloc, bytes)?;
+    Ok(Command::Submit(Bytes::from_vec(alloc, copy)?, 0))
+}
+
+/// Blocks that are kept, each behind its parent, and their places.
+#[derive(Drop)]
+struct KeptBlocks {
+    list: Vec<Kept>,
+    places: BTreeMap<Id, usize>,
+}
+
+impl KeptBlocks {
+    fn put(&mut self, id: Id, parent: usize, status: Status) -> Result<(), AllocError> {
+        self.places.insert(id, self.list.len())?;
+        self.list.push(Kept { id, parent, status })?;
+        Ok(())
+    }
+
+    /// Keeps a block that isn't kept yet, by the reply to its submission once more.
+    fn put_submitted(&mut self, block: &Submitted, answer: &Reply) -> Result<(), AllocError> {
+        if self.places.contains_key(&block.id) {
+            return Ok(());
+        }
+        match (status_of(answer), self.places.get(&block.prev).copied()) {
+            (Some(status), Some(parent)) => self.put(block.id, parent, status),
+            _ => Ok(()),
+        }
+    }
 }
 
 /// The blocks that are kept, genesis first, each behind its parent. Of each submission there is the reply
@@ -72,29 +116,16 @@ fn kept_blocks(
     submitted: &[Submitted],
     answers: &[Reply],
 ) -> Result<Vec<Kept>, AllocError> {
-    let mut kept = Vec::new(alloc);
-    kept.push(Kept {
-        id: GENESIS_ID,
-        parent: 0,
-        status: Status::ValidFork,
-    })?;
-    let mut places = BTreeMap::new(alloc);
-    places.insert(GENESIS_ID, 0usize)?;
-    for (submitted, answer) in submitted.iter().zip(answers) {
-        if places.contains_key(&submitted.id) {
-            continue;
-        }
-        let parent = places.get(&submitted.prev).copied();
-        if let (Some(status), Some(parent)) = (status_of(answer), parent) {
-            places.insert(submitted.id, kept.len())?;
-            kept.push(Kept {
-                id: submitted.id,
-                parent,
-                status,
-            })?;
-        }
+    let mut kept = KeptBlocks {
+        list: Vec::new(alloc),
+        places: BTreeMap::new(alloc),
+    };
+    kept.put(GENESIS_ID, 0, Status::ValidFork)?;
+    for (block, answer) in submitted.iter().zip(answers) {
+        kept.put_submitted(block, answer)?;
     }
-    Ok(kept)
+    let KeptBlocks { list, .. } = kept;
+    Ok(list)
 }
 
 /// What is known of a block, by the reply to its submission once more; none where it isn't kept.
@@ -138,18 +169,23 @@ fn tree_of(
     };
     let mut tree = BlockTree::new(alloc, genesis)?;
     for block in kept.iter().skip(1) {
-        let is_marked = block.status == Status::Invalid && !is_invalid(kept.get(block.parent));
-        let label = label_of(alloc, block.id, definitions)?;
-        let _ = tree.add(
-            block.parent,
-            TreeBlock {
-                label,
-                status: block.status,
-                is_marked,
-            },
-        )?;
+        let above = tree_block(alloc, kept, block, definitions)?;
+        let _ = tree.add(block.parent, above)?;
     }
     Ok(tree)
+}
+
+fn tree_block(
+    alloc: Global,
+    kept: &[Kept],
+    block: &Kept,
+    definitions: Option<&Definitions>,
+) -> Result<TreeBlock, AllocError> {
+    Ok(TreeBlock {
+        label: label_of(alloc, block.id, definitions)?,
+        status: block.status,
+        is_marked: block.status == Status::Invalid && !is_invalid(kept.get(block.parent)),
+    })
 }
 
 fn is_invalid(block: Option<&Kept>) -> bool {

@@ -4,7 +4,7 @@ use crate::answer::Answer;
 use crate::fault::{Fault, Line, Reason};
 use crate::told::{Block, Tips, Told};
 use journal::Step;
-use node::{Reply, Stamped, UnspentOutput};
+use node::{Reply, Stamped, Tip, UnspentOutput};
 use scenario::Label;
 use serving::{Object, Output};
 use std::alloc::{AllocError, Global};
@@ -15,14 +15,19 @@ pub fn answer(alloc: Global, client: &str, answer: &Answer<'_>) -> Result<String
     let mut object = Object::new(alloc)?;
     object.text("client", client)?;
     object.text("command", answer.command.as_str())?;
+    put_outcome(alloc, &mut object, answer)?;
+    into_line(object)
+}
+
+/// What was answered, and its stamp, or the fault.
+fn put_outcome(alloc: Global, object: &mut Object, answer: &Answer<'_>) -> Result<(), AllocError> {
     match &answer.outcome {
         Ok(Stamped { at, value }) => {
-            put_told(alloc, &mut object, value)?;
-            object.number("at", *at)?;
+            put_told(alloc, object, value)?;
+            object.number("at", *at)
         }
-        Err(fault) => object.text("fault", fault.to_string(alloc)?.as_str())?,
+        Err(fault) => object.text("fault", fault.to_string(alloc)?.as_str()),
     }
-    into_line(object)
 }
 
 /// A line of the journal: its number, client, word, block, moment and reply.
@@ -74,15 +79,24 @@ pub fn explanation(alloc: Global, line: u64, reply: Reply) -> Result<String, All
 
 /// A fault: its line, and why.
 pub fn fault(alloc: Global, fault: &Fault<'_>) -> Result<String, AllocError> {
-    let line = Line(fault).to_string(alloc)?;
-    let line = line.as_str();
-    let line = line.strip_prefix("regchain: ").unwrap_or(line);
     let mut object = Object::new(alloc)?;
-    object.text("fault", line.strip_suffix('\n').unwrap_or(line))?;
-    if fault.has_reason() {
-        object.text("why", Reason(fault).to_string(alloc)?.as_str())?;
-    }
+    put_fault(alloc, &mut object, fault)?;
     into_line(object)
+}
+
+fn put_fault(alloc: Global, object: &mut Object, fault: &Fault<'_>) -> Result<(), AllocError> {
+    let line = Line(fault).to_string(alloc)?;
+    object.text("fault", bare(line.as_str()))?;
+    if !fault.has_reason() {
+        return Ok(());
+    }
+    object.text("why", Reason(fault).to_string(alloc)?.as_str())
+}
+
+/// A line without the program's name and without its end.
+fn bare(line: &str) -> &str {
+    let line = line.strip_prefix("regchain: ").unwrap_or(line);
+    line.strip_suffix('\n').unwrap_or(line)
 }
 
 /// The object, and the end of its line.
@@ -97,21 +111,29 @@ fn into_line(object: Object) -> Result<String, AllocError> {
 fn put_told(alloc: Global, object: &mut Object, told: &Told<'_>) -> Result<(), AllocError> {
     let text = told.to_string(alloc)?;
     match told {
-        Told::Best(block) => {
-            object.begin("answer")?;
-            put_block(alloc, object, block)?;
-            object.end()?;
-        }
+        Told::Submit(_) | Told::Mark(_) => return object.text("answer", text.as_str()),
+        Told::Best(block) => put_best(alloc, object, block)?,
         Told::Tips(tips) => put_tips(alloc, object, tips)?,
         Told::Output(None) => object.null("answer")?,
-        Told::Output(Some(output)) => {
-            object.begin("answer")?;
-            object.output(alloc, &output_of(output))?;
-            object.end()?;
-        }
-        Told::Submit(_) | Told::Mark(_) => return object.text("answer", text.as_str()),
+        Told::Output(Some(output)) => put_output(alloc, object, output)?,
     }
     object.text("text", text.as_str())
+}
+
+fn put_best(alloc: Global, object: &mut Object, block: &Block<'_>) -> Result<(), AllocError> {
+    object.begin("answer")?;
+    put_block(alloc, object, block)?;
+    object.end()
+}
+
+fn put_output(
+    alloc: Global,
+    object: &mut Object,
+    output: &UnspentOutput,
+) -> Result<(), AllocError> {
+    object.begin("answer")?;
+    object.output(alloc, &output_of(output))?;
+    object.end()
 }
 
 /// The members of a block.
@@ -127,12 +149,21 @@ fn put_block(alloc: Global, object: &mut Object, block: &Block<'_>) -> Result<()
 fn put_tips(alloc: Global, object: &mut Object, tips: &Tips<'_>) -> Result<(), AllocError> {
     object.begin_list("answer")?;
     for tip in tips.list.as_slice() {
-        object.item()?;
-        put_block(alloc, object, &Block::new(tips.definitions, tip.id))?;
-        object.tip(tip)?;
-        object.end()?;
+        put_tip(alloc, object, &Block::new(tips.definitions, tip.id), tip)?;
     }
     object.end_list()
+}
+
+fn put_tip(
+    alloc: Global,
+    object: &mut Object,
+    block: &Block<'_>,
+    tip: &Tip,
+) -> Result<(), AllocError> {
+    object.item()?;
+    put_block(alloc, object, block)?;
+    object.tip(tip)?;
+    object.end()
 }
 
 /// An output, as its object has it.

@@ -12,8 +12,8 @@ pub const NAME: &str = "regchain";
 /// The name of the standard streams.
 pub const STANDARD: &str = "-";
 
-/// The program's version, with the kit that it is proved with.
-pub const VERSION: &str = "0.1.0 (rattle-kit-13f logic dac8208d650f15bf)";
+/// The program's version, with the kit and its logic by which it is proved.
+pub const VERSION: &str = "0.1.0 (rattle-kit-13 logic dac8208d650f15bf)";
 
 /// How many workers check scripts by default.
 const WORKERS: usize = 2;
@@ -128,33 +128,53 @@ impl<'w> Options<'w> {
     /// scenario on the standard input.
     pub fn read(alloc: Global, words: &'w [&'w str]) -> Result<Options<'w>, Error> {
         if words.len() <= 1 {
-            return Ok(Options::Run(RunOptions {
-                scenario: STANDARD,
-                blk: None,
-                table: None,
-                workers: WORKERS,
-                heights: HEIGHTS,
-                save: None,
-                expect: None,
-                form: Form::Text,
-                has_tree: false,
-                svg: None,
-            }));
+            return Ok(Options::Run(STANDARD_RUN));
         }
-        let mut command = command(alloc)?;
-        let matches = command.try_get_matches_from_mut(words)?;
-        let read = match matches.subcommand() {
-            Some(("run", run)) => read_run(run),
-            Some(("audit", audit)) => read_audit(audit),
-            Some(("tree", tree)) => read_tree(tree),
-            Some(("show", show)) => read_show(alloc, show)?,
-            Some(("serve", serve)) => Some(read_serve(serve)),
-            _ => None,
-        };
-        match read {
+        let matches = matches(alloc, words)?;
+        match options_of(alloc, &matches)? {
             Some(options) => Ok(options),
-            None => Err(command.error(ErrorKind::InvalidSubcommand, "no such command line")?),
+            None => Err(error(alloc, ErrorKind::InvalidSubcommand, "no such command line")?),
         }
+    }
+}
+
+/// To run the scenario on the standard input.
+const STANDARD_RUN: RunOptions<'static> = RunOptions {
+    scenario: STANDARD,
+    blk: None,
+    table: None,
+    workers: WORKERS,
+    heights: HEIGHTS,
+    save: None,
+    expect: None,
+    form: Form::Text,
+    has_tree: false,
+    svg: None,
+};
+
+fn matches<'w>(alloc: Global, words: &'w [&'w str]) -> Result<ArgMatches<'w>, Error> {
+    let mut command = command(alloc)?;
+    command.try_get_matches_from_mut(words)
+}
+
+/// An error of this command line.
+fn error(alloc: Global, kind: ErrorKind, message: &str) -> Result<Error, AllocError> {
+    let mut command = command(alloc)?;
+    command.error(kind, message)
+}
+
+/// What a subcommand and its options ask for; None where there is none such.
+fn options_of<'w>(
+    alloc: Global,
+    matches: &ArgMatches<'w>,
+) -> Result<Option<Options<'w>>, AllocError> {
+    match matches.subcommand() {
+        Some(("run", run)) => Ok(read_run(run)),
+        Some(("audit", audit)) => Ok(read_audit(audit)),
+        Some(("tree", tree)) => Ok(read_tree(tree)),
+        Some(("show", show)) => read_show(alloc, show),
+        Some(("serve", serve)) => Ok(Some(read_serve(serve))),
+        _ => Ok(None),
     }
 }
 
@@ -249,5 +269,5 @@ fn form(matches: &ArgMatches<'_>) -> Form {
 /// The fault of a command line that isn't text.
 pub fn no_text(alloc: Global) -> Result<Error, AllocError> {
     let message = "invalid UTF-8 was detected in one or more arguments";
-    command(alloc)?.error(ErrorKind::InvalidValue, message)
+    error(alloc, ErrorKind::InvalidValue, message)
 }

@@ -4,7 +4,7 @@ ghost use Rattle.std.specs.Prelude.{◌≡◌};
 
 use crate::drawing::{check_picture, write_picture};
 use crate::fault::Fault;
-use crate::files::{read_file, read_scenario, read_table};
+use crate::files::{read_if_named, read_scenario, read_table};
 use crate::history_tree::history_tree;
 use crate::options::RunOptions;
 use crate::output::Output;
@@ -29,13 +29,19 @@ use std::sync::{Arc, Wait};
 use std::thread::Threads;
 use std::time::Clock;
 
-/// What the files of a run hold.
+/// What the files of a run hold, beside the table.
 #[derive(Drop)]
 struct Inputs {
     scenario: Vec<u8>,
     blk: Option<Vec<u8>>,
-    table: Table,
     expected: Option<Vec<u8>>,
+}
+
+/// How the node is opened.
+#[derive(Clone, Copy)]
+struct Setting {
+    params: Params,
+    workers: usize,
 }
 
 /// Runs a scenario, prints what its clients were answered, and saves it where that is asked for.
@@ -53,40 +59,72 @@ where
     O: Write,
     E: Write + IsTerminal,
 {
-    let alloc = rt.alloc();
-    let params = read_heights(options.heights).ok_or(Fault::Heights)?;
-    let inputs = read_inputs(rt, options, input)?;
-    let Inputs {
-        scenario,
-        blk,
-        table,
-        expected,
-    } = inputs;
-    let Text { definitions, below } = read_definitions(alloc, scenario.as_slice(), table)?;
-    let clients = read_clients(alloc, &definitions, below.as_slice())?;
+    let setting = Setting {
+        params: read_heights(options.heights).ok_or(Fault::Heights)?,
+        workers: options.workers,
+    };
+    let (inputs, table) = read_inputs(rt, options, input)?;
+    let text = read_definitions(rt.alloc(), inputs.scenario.as_slice(), table)?;
+    let clients = read_some_clients(rt.alloc(), &inputs, &text)?;
+    run_read(
+        rt,
+        options,
+        setting,
+        gate,
+        &inputs,
+        &text.definitions,
+        clients.as_slice(),
+        out,
+        err,
+    )
+}
+
+/// The clients of a scenario, of which there has to be one.
+fn read_some_clients<'d, 't>(
+    alloc: Global,
+    inputs: &Inputs,
+    text: &'d Text<'t>,
+) -> Result<Vec<Client<'d, 't>>, Fault<'static>> {
+    let clients = read_clients(alloc, &text.definitions, text.below.as_slice())?;
     if clients.is_empty() {
         let why = Why::of_line(Complaint::Without);
-        return Err(Fault::ScenarioLine(number_after(scenario.as_slice()), why));
+        return Err(Fault::ScenarioLine(number_after(inputs.scenario.as_slice()), why));
     }
-    check_before_run(rt, options, &blk)?;
+    Ok(clients)
+}
+
+/// Runs a scenario that was read.
+fn run_read<'w, 'd, 't, R, O, E>(
+    rt: &R,
+    options: &RunOptions<'w>,
+    setting: Setting,
+    gate: &(dyn Gate + Sync),
+    inputs: &Inputs,
+    definitions: &'d Definitions,
+    clients: &[Client<'d, 't>],
+    out: &mut O,
+    err: &mut E,
+) -> Result<(), Fault<'w>>
+where
+    R: Files<File = File> + AllocGlobal + Clock + Threads + Wait + Sync,
+    O: Write,
+    E: Write + IsTerminal,
+{
+    check_before_run(rt, options, &inputs.blk)?;
     let is_terminal = err.is_terminal();
     let mut writer = Writer {
-        output: Output::new(alloc, out, options.form, expected.is_some()),
+        output: Output::new(rt.alloc(), out, options.form, inputs.expected.is_some()),
         progress: Progress::new(rt, err, is_terminal),
-        name: String::new(alloc),
-        alloc,
-    };
-    let setting = Setting {
-        params,
-        workers: options.workers,
+        name: String::new(rt.alloc()),
+        alloc: rt.alloc(),
     };
     let played = play(
         rt,
         setting,
         gate,
-        &definitions,
-        clients.as_slice(),
-        lent(&blk),
+        definitions,
+        clients,
+        lent(&inputs.blk),
         &mut writer,
     )?;
     let Writer {
@@ -95,20 +133,67 @@ where
         ..
     } = writer;
     progress.end();
+    finish_run(
+        rt,
+        options,
+        &setting.params,
+        inputs,
+        definitions,
+        played,
+        &mut output,
+    )
+}
+
+/// Writes what follows the answers of a run, saves it, and compares its output, where each is asked for.
+fn finish_run<'w, R, O>(
+    rt: &R,
+    options: &RunOptions<'w>,
+    params: &Params,
+    inputs: &Inputs,
+    definitions: &Definitions,
+    played: Played<'_, '_>,
+    output: &mut Output<'_, O>,
+) -> Result<(), Fault<'w>>
+where
+    R: Files<File = File> + AllocGlobal,
+    O: Write,
+{
     let Played { report, written } = played;
     let written = match written {
-        Ok(()) => write_rest(rt, options, &params, &report, &definitions, &mut output),
+        Ok(()) => write_rest(rt, options, params, &report, definitions, output),
         Err(fault) => Err(fault),
     };
-    if let Some(folder) = options.save {
-        let saved = save(rt, folder, &report, definitions.table(), options.heights);
-        written?;
-        saved?;
-    } else {
-        written?;
+    save_run(rt, options, &report, definitions, written)?;
+    compare_with(lent(&inputs.expected), output)
+}
+
+/// Saves a run where that is asked for, also one whose output took no more.
+fn save_run<'w, R>(
+    rt: &R,
+    options: &RunOptions<'w>,
+    report: &Report<'_, '_>,
+    definitions: &Definitions,
+    written: Result<(), Fault<'w>>,
+) -> Result<(), Fault<'w>>
+where
+    R: Files<File = File> + AllocGlobal,
+{
+    let saved = match options.save {
+        Some(folder) => save(rt, folder, report, definitions.table(), options.heights),
+        None => Ok(()),
+    };
+    match written {
+        Ok(()) => saved,
+        Err(fault) => Err(fault),
     }
+}
+
+fn compare_with<O: Write>(
+    expected: Option<&[u8]>,
+    output: &Output<'_, O>,
+) -> Result<(), Fault<'static>> {
     match expected {
-        Some(expected) => output.compare(expected.as_slice()),
+        Some(expected) => output.compare(expected),
         None => Ok(()),
     }
 }
@@ -172,32 +257,23 @@ fn read_inputs<'w, R, I>(
     rt: &R,
     options: &RunOptions<'w>,
     input: &mut I,
-) -> Result<Inputs, Fault<'w>>
+) -> Result<(Inputs, Table), Fault<'w>>
 where
     R: Files + AllocGlobal,
     I: Read,
 {
     let scenario = read_scenario(rt, options.scenario, input)?;
-    let blk = match options.blk {
-        Some(file) => Some(read_file(rt, file)?),
-        None => None,
-    };
+    let blk = read_if_named(rt, options.blk)?;
     // Its lines are looked at when all files were read.
-    let table = match options.table {
-        Some(file) => Some(read_file(rt, file)?),
-        None => None,
-    };
-    let expected = match options.expect {
-        Some(file) => Some(read_file(rt, file)?),
-        None => None,
-    };
+    let table = read_if_named(rt, options.table)?;
+    let expected = read_if_named(rt, options.expect)?;
     let table = read_table(rt.alloc(), lent(&table))?;
-    Ok(Inputs {
+    let inputs = Inputs {
         scenario,
         blk,
-        table,
         expected,
-    })
+    };
+    Ok((inputs, table))
 }
 
 fn lent(bytes: &Option<Vec<u8>>) -> Option<&[u8]> {
@@ -205,13 +281,6 @@ fn lent(bytes: &Option<Vec<u8>>) -> Option<&[u8]> {
         Some(bytes) => Some(bytes.as_slice()),
         None => None,
     }
-}
-
-/// How the node is opened.
-#[derive(Clone, Copy)]
-struct Setting {
-    params: Params,
-    workers: usize,
 }
 
 /// A run whose history is known.

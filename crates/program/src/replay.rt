@@ -1,7 +1,7 @@
 //! What was saved of a run, read to be replayed.
 
 use crate::fault::Fault;
-use crate::files::{read_file, read_table};
+use crate::files::{read_file, read_table, read_table_file};
 use crate::options::Saved;
 use crate::saving::{SavedFiles, read_saved};
 use block::{ReadFault, SliceSource};
@@ -9,7 +9,7 @@ use curve::Table;
 use hash::Id;
 use journal::{Asked, Records, Step, read_heights, read_journal, read_records};
 use node::{Bytes, Command, Params, Reply};
-use std::alloc::Global;
+use std::alloc::{AllocError, Global};
 use std::fs::File;
 use std::rt::Files;
 use std::{str, vec};
@@ -39,33 +39,58 @@ pub fn read_replay<'w, R>(rt: &R, saved: &Saved<'w>, limit: usize) -> Result<Rep
 where
     R: Files<File = File> + AllocGlobal,
 {
-    let alloc = rt.alloc();
     let Inputs {
         params,
         journal,
         blk,
         table,
     } = read_inputs(rt, saved)?;
-    let front = first_lines(journal.as_slice(), limit);
-    let steps = read_journal(alloc, front)?;
-    let records = if front.len() < journal.len() {
-        first_records(alloc, blk.as_slice(), submissions(steps.as_slice()))?
-    } else {
-        read_records(alloc, blk.as_slice())?
-    };
-    let blocks = records.len();
-    let commands = commands(alloc, steps.as_slice(), records)?;
-    let mut recorded = Vec::new(alloc);
-    for step in steps {
-        recorded.push(step.reply)?;
-    }
+    let steps = read_steps(rt.alloc(), journal.as_slice(), blk.as_slice(), limit)?;
     Ok(Replay {
         params,
         table,
-        commands,
-        recorded,
+        blocks: steps.blocks,
+        commands: steps.commands,
+        recorded: steps.recorded,
+    })
+}
+
+/// What the lines of a journal ask, and the replies that were recorded.
+#[derive(Drop)]
+struct Steps {
+    commands: Vec<Command>,
+    recorded: Vec<Option<Reply>>,
+    blocks: usize,
+}
+
+fn read_steps(
+    alloc: Global,
+    journal: &[u8],
+    blk: &[u8],
+    limit: usize,
+) -> Result<Steps, Fault<'static>> {
+    let front = first_lines(journal, limit);
+    let steps = read_journal(alloc, front)?;
+    let records = if front.len() < journal.len() {
+        first_records(alloc, blk, submissions(steps.as_slice()))?
+    } else {
+        read_records(alloc, blk)?
+    };
+    let blocks = records.len();
+    Ok(Steps {
+        commands: commands(alloc, steps.as_slice(), records)?,
+        recorded: replies(alloc, steps.as_slice())?,
         blocks,
     })
+}
+
+/// The replies that were recorded.
+fn replies(alloc: Global, steps: &[Step<'_, Id>]) -> Result<Vec<Option<Reply>>, AllocError> {
+    let mut replies = Vec::new(alloc);
+    for step in steps {
+        replies.push(step.reply)?;
+    }
+    Ok(replies)
 }
 
 /// The files of an audit, in the order in which one that can't be read is told.
@@ -84,10 +109,7 @@ where
             let params = read_heights(heights).ok_or(Fault::Heights)?;
             let journal = read_file(rt, journal)?;
             let blk = read_file(rt, blk)?;
-            let table = match table {
-                Some(file) => read_table(rt.alloc(), Some(read_file(rt, file)?.as_slice()))?,
-                None => read_table(rt.alloc(), None)?,
-            };
+            let table = read_table_file(rt, *table)?;
             Ok(Inputs {
                 params,
                 journal,
@@ -109,15 +131,19 @@ where
         table,
         heights,
     } = read_saved(rt, folder)?;
-    let word = str::from_utf8(heights.as_slice()).unwrap_or("");
-    let params = read_heights(word.strip_suffix('\n').unwrap_or(word)).ok_or(Fault::Heights)?;
-    let table = read_table(rt.alloc(), Some(table.as_slice()))?;
+    let params = read_heights_line(heights.as_slice()).ok_or(Fault::Heights)?;
     Ok(Inputs {
         params,
         journal,
         blk: blocks,
-        table,
+        table: read_table(rt.alloc(), Some(table.as_slice()))?,
     })
+}
+
+/// The heights of a file's only line.
+fn read_heights_line(line: &[u8]) -> Option<Params> {
+    let word = str::from_utf8(line).unwrap_or("");
+    read_heights(word.strip_suffix('\n').unwrap_or(word))
 }
 
 /// So many lines of a text, or all where it has fewer.
@@ -182,12 +208,17 @@ fn command_of(
         Asked::Precious => Command::Precious(step.block),
         Asked::Submit(now) => {
             let record = records.next().ok_or(Fault::BlkRecords)?;
-            match block::read(alloc, record.as_slice()) {
-                Ok(block) if block.id() == step.block => {}
-                Err(ReadFault::Memory) => return Err(Fault::Memory),
-                _ => return Err(Fault::OtherRecord(step.number)),
-            }
+            check_record(alloc, step, record.as_slice())?;
             Command::Submit(Bytes::from_vec(alloc, record)?, now)
         }
     })
+}
+
+/// Refuses a record that isn't the block of a step.
+fn check_record(alloc: Global, step: &Step<'_, Id>, record: &[u8]) -> Result<(), Fault<'static>> {
+    match block::read(alloc, record) {
+        Ok(block) if block.id() == step.block => Ok(()),
+        Err(ReadFault::Memory) => Err(Fault::Memory),
+        _ => Err(Fault::OtherRecord(step.number)),
+    }
 }

@@ -7,7 +7,7 @@ use crate::drawing::draw_saved;
 use crate::fault::Fault;
 use crate::files::print;
 use crate::objects;
-use crate::options::{NAME, Options, STANDARD, no_text};
+use crate::options::{AuditOptions, NAME, Options, STANDARD, no_text};
 use crate::output::Form;
 use crate::playing::run;
 use crate::serve::serve;
@@ -170,36 +170,44 @@ where
     ensures { IfOk result (λ status. status ≤ 1) }
 {
     match Options::read(rt.alloc(), words)? {
-        Options::Run(options) => {
-            run(rt, &options, gate, input, out, err)?;
-            Ok(DONE)
-        }
-        Options::Audit(options) => {
-            let Audited { finding, reply } = audit(rt, &options, err)?;
-            print(out, found(rt.alloc(), finding, options.form)?.as_str())?;
-            if let (Finding::Differs(line), Some(reply), true) = (
-                finding,
-                reply,
-                options.is_explained,
-            ) {
-                let text = explained(rt.alloc(), line, reply, options.form)?;
-                let _ = err.write_all(text.as_bytes());
-            }
-            Ok(finding.status())
-        }
-        Options::Tree(options) => {
-            draw_saved(rt, &options, input, out)?;
-            Ok(DONE)
-        }
-        Options::Show(options) => {
-            show(rt, &options, input, out)?;
-            Ok(DONE)
-        }
-        Options::Serve(options) => {
-            serve(rt, &options, gate, input, out)?;
-            Ok(DONE)
-        }
+        Options::Run(options) => done(run(rt, &options, gate, input, out, err)),
+        Options::Audit(options) => tell_audit(rt, &options, out, err),
+        Options::Tree(options) => done(draw_saved(rt, &options, input, out)),
+        Options::Show(options) => done(show(rt, &options, input, out)),
+        Options::Serve(options) => done(serve(rt, &options, gate, input, out)),
     }
+}
+
+/// The status of what has no other than that of a whole output.
+fn done(outcome: Result<(), Fault<'_>>) -> Result<u8, Fault<'_>>
+    ensures { IfOk result (λ status. status ≤ 1) }
+{
+    match outcome {
+        Ok(()) => Ok(DONE),
+        Err(fault) => Err(fault),
+    }
+}
+
+/// Audits, and tells what was found.
+fn tell_audit<'w, R, O, E>(
+    rt: &R,
+    options: &AuditOptions<'w>,
+    out: &mut O,
+    err: &mut E,
+) -> Result<u8, Fault<'w>>
+where
+    R: Files<File = File> + AllocGlobal + Clock,
+    O: Write,
+    E: Write + IsTerminal,
+    ensures { IfOk result (λ status. status ≤ 1) }
+{
+    let Audited { finding, reply } = audit(rt, options, err)?;
+    print(out, found(rt.alloc(), finding, options.form)?.as_str())?;
+    if let (Finding::Differs(line), Some(reply), true) = (finding, reply, options.is_explained) {
+        let text = explained(rt.alloc(), line, reply, options.form)?;
+        let _ = err.write_all(text.as_bytes());
+    }
+    Ok(finding.status())
 }
 
 /// The reply of a line that differs, as it is told.

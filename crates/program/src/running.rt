@@ -36,10 +36,7 @@ where
     ) else {
         return Ok(());
     };
-    let mut desks = Vec::new(rt.alloc());
-    for _ in others {
-        desks.push(Desk::new(rt.alloc()))?;
-    }
+    let desks = desks(rt.alloc(), others.len())?;
     let table = desks.as_slice();
     let ((), written) = thread::join(
         rt,
@@ -47,7 +44,16 @@ where
         || run_first(rt, definitions, client, node, seat, writer),
     );
     written?;
-    for (client, desk) in others.iter().zip(desks.into_iter()) {
+    write_others(others, desks, writer)
+}
+
+/// Writes the answers of the clients that ran beside the first.
+fn write_others<C: Clock, E: Write, O: Write>(
+    clients: &[Client<'_, '_>],
+    desks: Vec<Desk<'_>>,
+    writer: &mut Writer<'_, '_, '_, C, E, O>,
+) -> Result<(), Fault<'static>> {
+    for (client, desk) in clients.iter().zip(desks.into_iter()) {
         writer.client(client.name)?;
         writer.answers(desk.into_answers()?.as_slice())?;
     }
@@ -80,6 +86,14 @@ where
 #[derive(Drop)]
 struct Desk<'d> {
     answers: Mutex<Result<Vec<Answer<'d>>, Ended>>,
+}
+
+fn desks<'d>(alloc: Global, count: usize) -> Result<Vec<Desk<'d>>, Fault<'static>> {
+    let mut desks = Vec::new(alloc);
+    for _ in 0..count {
+        desks.push(Desk::new(alloc))?;
+    }
+    Ok(desks)
 }
 
 impl<'d> Desk<'d> {

@@ -91,17 +91,31 @@ where
 {
     // All names are made before anything changes.
     let places = Places::new(rt.alloc(), folder)?;
-    let _lock = match lock(rt, folder) {
-        Ok(lock) => lock,
-        Err(error) => return Err(unsaved(error, folder, JOURNAL)),
-    };
-    finish_last(rt, folder, &places)?;
-    let made = match make_all(rt, folder, &places, report, table, heights) {
+    match lock(rt, folder) {
+        Ok(_lock) => save_at(rt, folder, &places, report, table, heights),
+        Err(error) => Err(unsaved(error, folder, JOURNAL)),
+    }
+}
+
+/// Saves in a folder that is locked.
+fn save_at<'w, R>(
+    rt: &R,
+    folder: &'w str,
+    places: &Places,
+    report: &Report<'_, '_>,
+    table: &Table,
+    heights: &str,
+) -> Result<(), Fault<'w>>
+where
+    R: Files + AllocGlobal,
+{
+    finish_last(rt, folder, places)?;
+    let made = match make_all(rt, folder, places, report, table, heights) {
         Ok(()) => put_in_place(rt, folder, &places.journal),
         Err(fault) => Err(fault),
     };
     if let Err(fault) = made {
-        let _ = take_away(rt, folder, &places);
+        let _ = take_away(rt, folder, places);
         return Err(fault);
     }
     put_in_place(rt, folder, &places.blocks)?;
@@ -158,20 +172,32 @@ where
     let alloc = rt.alloc();
     let journal = report.journal_in_digits(alloc)?;
     make(rt, folder, &places.journal, journal.as_bytes())?;
-    let blocks = match blk_file(alloc, report.entries()) {
-        Ok(blocks) => blocks,
-        Err(RecordFault::Memory) => return Err(Fault::Memory),
-        Err(RecordFault::TooLong) => {
-            let long = "a block is longer than a record may be";
-            let error = Error::new(ErrorKind::FileTooLarge, long);
-            return Err(Fault::CannotSave(folder, BLOCKS, error));
-        }
-    };
-    make(rt, folder, &places.blocks, blocks.as_slice())?;
+    make_blocks(rt, folder, &places.blocks, report)?;
     let table = table.to_string(alloc)?;
     make(rt, folder, &places.table, table.as_bytes())?;
     let heights = format!(in alloc; "{heights}\n")?;
     make(rt, folder, &places.heights, heights.as_bytes())
+}
+
+/// Makes the file of the blocks that were submitted.
+fn make_blocks<'w, R>(
+    rt: &R,
+    folder: &'w str,
+    place: &Place,
+    report: &Report<'_, '_>,
+) -> Result<(), Fault<'w>>
+where
+    R: Files + AllocGlobal,
+{
+    match blk_file(rt.alloc(), report.entries()) {
+        Ok(blocks) => make(rt, folder, place, blocks.as_slice()),
+        Err(RecordFault::Memory) => Err(Fault::Memory),
+        Err(RecordFault::TooLong) => {
+            let long = "a block is longer than a record may be";
+            let error = Error::new(ErrorKind::FileTooLarge, long);
+            Err(Fault::CannotSave(folder, place.name, error))
+        }
+    }
 }
 
 /// Makes a file that can take its place.
@@ -265,6 +291,13 @@ where
     }
     // Where there are no locks it is read without one.
     let _lock = lock_to_read(rt, folder);
+    read_places(rt, folder, &places)
+}
+
+fn read_places<'w, R>(rt: &R, folder: &'w str, places: &Places) -> Result<SavedFiles, Fault<'w>>
+where
+    R: Files + AllocGlobal,
+{
     let is_decided = !stands(rt, places.journal.new.as_str());
     Ok(SavedFiles {
         journal: read_place(rt, folder, &places.journal, false)?,

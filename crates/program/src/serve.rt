@@ -11,7 +11,7 @@ mod turn;
 mod words;
 
 use crate::fault::Fault;
-use crate::files::{print_bytes, read_file, read_table};
+use crate::files::{print_bytes, read_if_named, read_table_file};
 use crate::options::{Saved, ServeOptions};
 use crate::replay::{Inputs, commands, read_inputs};
 use crate::report::{Clients, Report};
@@ -24,7 +24,7 @@ use journal::{read_heights, read_journal, read_records};
 use node::{Entry, Gate, Naming, Node, Opening, Params, Seat};
 use scenario::Definitions;
 use serving::{Answer, Refusal, RequestId, Stamped, answer_line, refusal_line};
-use std::alloc::Global;
+use std::alloc::{AllocError, Global};
 use std::fs::File;
 use std::io::{Read, Write};
 use std::marker::Brand;
@@ -46,47 +46,81 @@ where
     I: Read + Send,
     O: Write,
 {
-    let alloc = rt.alloc();
     let Inputs {
         params,
         journal,
-        blk: records,
+        blk,
         table,
     } = inputs(rt, options)?;
-    let blk = match options.blk {
-        Some(file) => Some(read_file(rt, file)?),
-        None => None,
-    };
-    let steps = read_journal(alloc, journal.as_slice())?;
-    let records = read_records(alloc, records.as_slice())?;
-    let earlier = Earlier {
-        commands: commands(alloc, steps.as_slice(), records)?,
-        steps,
-        blk,
-    };
+    let earlier = read_earlier(rt, options, journal.as_slice(), blk.as_slice())?;
     if let Some(folder) = options.save {
         check_folder(rt, folder)?;
     }
-    let table = Arc::new(alloc, table)?;
-    let opening = Opening::new(params, &table, options.seats);
-    let mut facts = Facts {
+    let facts = Facts {
         params,
         seats: options.seats,
         workers: options.workers,
         loaded: earlier.steps.len(),
-        clients: clients(alloc, &earlier)?,
+        clients: clients(rt.alloc(), &earlier)?,
     };
+    let table = Arc::new(rt.alloc(), table)?;
+    serve_and_save(rt, options, gate, &earlier, facts, &table, input, out)
+}
+
+/// What is played before the first request: what the lines of a journal ask over these records, and a blk file.
+fn read_earlier<'w, 't, R>(
+    rt: &R,
+    options: &ServeOptions<'w>,
+    journal: &'t [u8],
+    records: &[u8],
+) -> Result<Earlier<'t>, Fault<'w>>
+where
+    R: Files<File = File> + AllocGlobal,
+{
+    let blk = read_if_named(rt, options.blk)?;
+    let steps = read_journal(rt.alloc(), journal)?;
+    let records = read_records(rt.alloc(), records)?;
+    Ok(Earlier {
+        commands: commands(rt.alloc(), steps.as_slice(), records)?,
+        steps,
+        blk,
+    })
+}
+
+/// Serves under this table, and saves then what happened.
+fn serve_and_save<'w, R, I, O>(
+    rt: &R,
+    options: &ServeOptions<'w>,
+    gate: &(dyn Gate + Sync),
+    earlier: &Earlier<'_>,
+    facts: Facts<'_>,
+    table: &Arc<Table>,
+    input: &mut I,
+    out: &mut O,
+) -> Result<(), Fault<'w>>
+where
+    R: Files<File = File> + AllocGlobal + Threads + Wait + Sync,
+    I: Read + Send,
+    O: Write,
+{
+    let mut facts = facts;
+    let opening = Opening::new(facts.params, table, facts.seats);
     let Served { entries, ended } = serve_at_node::<Brand, R, I, O>(
-        rt, opening, gate, &earlier, &mut facts, input, out,
+        rt, opening, gate, earlier, &mut facts, input, out,
     )?;
     let Ended { finish, served } = ended?;
+    let Facts {
+        params,
+        clients,
+        ..
+    } = facts;
     let steps = entries.len();
     let kept = match options.save {
-        Some(folder) => save_served(rt, folder, &params, &table, facts.clients, entries),
+        Some(folder) => save_served(rt, folder, &params, table, clients, entries),
         None => Ok(()),
     };
     let told = match finish {
-        Some(id) => tell_end(alloc, &id, steps, kept.is_ok(), out),
+        Some(id) => tell_end(rt.alloc(), &id, steps, kept.is_ok(), out),
         None => Ok(()),
     };
     served?;
@@ -102,16 +136,12 @@ where
     if let Some(folder) = options.load {
         return read_inputs(rt, &Saved::Folder(folder));
     }
-    let alloc = rt.alloc();
     let params = read_heights(options.heights).ok_or(Fault::Heights)?;
-    let table = match options.table {
-        Some(file) => read_table(alloc, Some(read_file(rt, file)?.as_slice()))?,
-        None => read_table(alloc, None)?,
-    };
+    let table = read_table_file(rt, options.table)?;
     Ok(Inputs {
         params,
-        journal: Vec::new(alloc),
-        blk: Vec::new(alloc),
+        journal: Vec::new(rt.alloc()),
+        blk: Vec::new(rt.alloc()),
         table,
     })
 }
@@ -202,17 +232,21 @@ fn save_served<'w, R>(
 where
     R: Files<File = File> + AllocGlobal,
 {
-    let alloc = rt.alloc();
-    let definitions = Definitions::read(alloc, &[], Table::new(alloc))?;
-    let report = Report::new(alloc, &definitions, clients, entries)?;
+    let heights = heights_of(rt.alloc(), params)?;
+    let definitions = Definitions::read(rt.alloc(), &[], Table::new(rt.alloc()))?;
+    let report = Report::new(rt.alloc(), &definitions, clients, entries)?;
+    save(rt, folder, &report, table, heights.as_str())
+}
+
+/// The heights of soft forks, as they are read.
+fn heights_of(alloc: Global, params: &Params) -> Result<String, AllocError> {
     let Params {
         bip34,
         bip65,
         bip66,
         csv,
     } = params;
-    let heights = format!(in alloc; "{bip34},{bip65},{bip66},{csv}")?;
-    save(rt, folder, &report, table, heights.as_str())
+    format!(in alloc; "{bip34},{bip65},{bip66},{csv}")
 }
 
 /// Answers the request that asked for the end: with how many entries the history has, or that it wasn't saved.

@@ -3,7 +3,7 @@
 use crate::fault::Fault;
 use crate::files::{print, read_scenario};
 use crate::options::ShowOptions;
-use crate::text::{Text, read_definitions};
+use crate::text::read_definitions;
 use curve::Table;
 use scenario::{Definitions, LineFault, Shown};
 use std::alloc::{AllocError, Global};
@@ -25,22 +25,41 @@ where
 {
     let alloc = rt.alloc();
     let text = read_scenario(rt, options.scenario, input)?;
-    let Text { definitions, .. } = read_definitions(alloc, text.as_slice(), Table::new(alloc))?;
+    let text = read_definitions(alloc, text.as_slice(), Table::new(alloc))?;
     if options.names.is_empty() {
-        for name in definitions.names() {
-            if let Some(line) = line(alloc, &definitions, name.as_str())? {
-                print(out, line.as_str())?;
-            }
-        }
-        return Ok(());
+        return show_all(alloc, &text.definitions, out);
     }
     for name in options.names.as_slice() {
-        match line(alloc, &definitions, name)? {
-            Some(line) => print(out, line.as_str())?,
-            None => return Err(Fault::NoName(name)),
+        show_name(alloc, &text.definitions, name, out)?;
+    }
+    Ok(())
+}
+
+/// Prints a line for each name of the definitions.
+fn show_all<O: Write>(
+    alloc: Global,
+    definitions: &Definitions,
+    out: &mut O,
+) -> Result<(), Fault<'static>> {
+    for name in definitions.names() {
+        if let Some(line) = line(alloc, definitions, name.as_str())? {
+            print(out, line.as_str())?;
         }
     }
     Ok(())
+}
+
+/// Prints the line of a name.
+fn show_name<'w, O: Write>(
+    alloc: Global,
+    definitions: &Definitions,
+    name: &'w str,
+    out: &mut O,
+) -> Result<(), Fault<'w>> {
+    match line(alloc, definitions, name)? {
+        Some(line) => print(out, line.as_str()),
+        None => Err(Fault::NoName(name)),
+    }
 }
 
 /// The line of a name, if something has it.

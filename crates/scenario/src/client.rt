@@ -104,16 +104,23 @@ fn add_client<'d, 't>(
     name: &'t str,
     clients: &mut Vec<Client<'d, 't>>,
 ) -> Result<(), LineFault> {
-    for client in clients.iter() {
-        if client.name == name {
-            return Err(LineFault::of_word(alloc, name, Complaint::Taken));
-        }
+    if is_taken(clients.as_slice(), name) {
+        return Err(LineFault::of_word(alloc, name, Complaint::Taken));
     }
     if clients.len() >= MAX_CLIENTS {
         return Err(LineFault::of_line(Complaint::Clients));
     }
     clients.push(Client::new(alloc, name)?)?;
     Ok(())
+}
+
+fn is_taken(clients: &[Client<'_, '_>], name: &str) -> bool {
+    for client in clients {
+        if client.name == name {
+            return true;
+        }
+    }
+    false
 }
 
 impl<'d, 't> Client<'d, 't> {
@@ -139,29 +146,50 @@ impl<'d, 't> Client<'d, 't> {
         line: &Line<'t>,
     ) -> Result<(), LineFault> {
         match line.words.as_slice() {
-            ["now", moment] => {
-                self.now = number(alloc, moment, U64)?;
-                Ok(())
-            }
+            ["now", moment] => self.set_moment(alloc, moment),
             ["submit", name] => self.submit(definitions, name),
-            ["each", name, first, last] => {
-                let (first, last) = (number(alloc, first, U64)?, number(alloc, last, U64)?);
-                self.each(alloc, definitions, name, first, last)
-            }
-            ["cut", name, length] => {
-                let whole = definitions.find(name)?.bytes.as_slice();
-                let cut = Payload::Lent(front(whole, number(alloc, length, U64)?));
-                self.call(Words::Line(line.text), Request::Submit(cut, self.now))
-            }
-            ["raw", digits] => {
-                let raw = Payload::Own(bytes(alloc, digits)?);
-                self.call(Words::Line(line.text), Request::Submit(raw, self.now))
-            }
-            words => {
-                let question = question(alloc, definitions, words)?;
-                self.call(Words::Line(line.text), question)
-            }
+            ["each", name, first, last] => self.each(alloc, definitions, name, first, last),
+            ["cut", name, length] => self.cut(alloc, definitions, line.text, name, length),
+            ["raw", digits] => self.raw(alloc, line.text, digits),
+            words => self.ask(alloc, definitions, line.text, words),
         }
+    }
+
+    fn set_moment(&mut self, alloc: Global, word: &str) -> Result<(), LineFault> {
+        self.now = number(alloc, word, U64)?;
+        Ok(())
+    }
+
+    /// Submits the front of a block.
+    fn cut(
+        &mut self,
+        alloc: Global,
+        definitions: &'d Definitions,
+        text: &'t str,
+        name: &str,
+        length: &str,
+    ) -> Result<(), LineFault> {
+        let whole = definitions.find(name)?.bytes.as_slice();
+        let cut = Payload::Lent(front(whole, number(alloc, length, U64)?));
+        self.call(Words::Line(text), Request::Submit(cut, self.now))
+    }
+
+    /// Submits these bytes.
+    fn raw(&mut self, alloc: Global, text: &'t str, digits: &str) -> Result<(), LineFault> {
+        let raw = Payload::Own(bytes(alloc, digits)?);
+        self.call(Words::Line(text), Request::Submit(raw, self.now))
+    }
+
+    /// Asks what submits nothing.
+    fn ask(
+        &mut self,
+        alloc: Global,
+        definitions: &'d Definitions,
+        text: &'t str,
+        words: &[&str],
+    ) -> Result<(), LineFault> {
+        let question = question(alloc, definitions, words)?;
+        self.call(Words::Line(text), question)
     }
 
     fn submit(&mut self, definitions: &'d Definitions, name: &str) -> Result<(), LineFault> {
@@ -179,17 +207,29 @@ impl<'d, 't> Client<'d, 't> {
         alloc: Global,
         definitions: &'d Definitions,
         name: &str,
-        first: u64,
-        last: u64,
+        first: &str,
+        last: &str,
     ) -> Result<(), LineFault> {
+        let first: u64 = number(alloc, first, U64)?;
+        let last: u64 = number(alloc, last, U64)?;
         if !is_name(name) {
             return Err(LineFault::of_word(alloc, name, Complaint::NoName));
         }
         for place in first..=last {
-            let numbered = format!(in alloc; "{name}{place}")?;
-            self.submit(definitions, numbered.as_str())?;
+            self.submit_numbered(alloc, definitions, name, place)?;
         }
         Ok(())
+    }
+
+    fn submit_numbered(
+        &mut self,
+        alloc: Global,
+        definitions: &'d Definitions,
+        name: &str,
+        place: u64,
+    ) -> Result<(), LineFault> {
+        let numbered = format!(in alloc; "{name}{place}")?;
+        self.submit(definitions, numbered.as_str())
     }
 
     fn call(&mut self, words: Words<'d, 't>, request: Request<'d>) -> Result<(), LineFault> {
@@ -236,17 +276,24 @@ fn front(bytes: &[u8], length: u64) -> &[u8] {
 impl fmt::Display for Words<'_, '_> {
     fn fmt<W: fmt::Write>(&self, f: &mut fmt::Formatter<W>) -> fmt::Result {
         match self {
-            Words::Line(line) => {
-                let words = line.split(' ').filter(|word| !word.is_empty());
-                for (place, word) in words.enumerate() {
-                    if place > 0 {
-                        f.write_str(" ")?;
-                    }
-                    f.write_str(word)?;
-                }
-                Ok(())
-            }
+            Words::Line(line) => write_words(line, f),
             Words::Submit(name) => write!(f, "submit {name}"),
         }
     }
+}
+
+/// Writes the words of a line, with one space between two.
+fn write_words<W: fmt::Write>(line: &str, f: &mut fmt::Formatter<W>) -> fmt::Result {
+    let mut is_first = true;
+    for word in line.split(' ') {
+        if word.is_empty() {
+            continue;
+        }
+        if !is_first {
+            f.write_str(" ")?;
+        }
+        is_first = false;
+        f.write_str(word)?;
+    }
+    Ok(())
 }

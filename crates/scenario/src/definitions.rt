@@ -121,11 +121,7 @@ impl Definitions {
     /// A line of its own, which ends a transaction's lines.
     fn definition(&mut self, words: &[&str]) -> Result<(), LineFault> {
         match words {
-            ["tx", name, version, lock_time] => {
-                self.check_free(name)?;
-                self.draft = Some(Draft::new(self.alloc, name, version, lock_time)?);
-                Ok(())
-            }
+            ["tx", name, version, lock_time] => self.begin_draft(name, version, lock_time),
             ["block", name, parent, options @ ..] => {
                 let recipe = self.recipe(options)?;
                 self.block(name, parent, recipe)
@@ -138,22 +134,44 @@ impl Definitions {
         }
     }
 
+    fn begin_draft(&mut self, name: &str, version: &str, lock_time: &str) -> Result<(), LineFault> {
+        self.check_free(name)?;
+        self.draft = Some(Draft::new(self.alloc, name, version, lock_time)?);
+        Ok(())
+    }
+
     /// A line of the transaction that is being read.
     fn draft_line(&mut self, words: &[&str]) -> Result<(), LineFault> {
-        let Some(mut draft) = self.draft.take() else {
+        if self.draft.is_none() {
             let word = words.first().copied().unwrap_or("");
             return Err(self.refused(word, Complaint::Loose));
-        };
-        match words {
-            ["in", prev, script] => draft.input(self.outpoint(prev)?, script, None)?,
-            ["in", prev, script, sequence] => {
-                draft.input(self.outpoint(prev)?, script, Some(*sequence))?
-            }
-            ["out", value, script] => draft.output(value, script)?,
-            _ => return Err(no_definition(self.alloc, words)),
         }
-        self.draft = Some(draft);
-        Ok(())
+        match words {
+            ["in", prev, script] => self.draft_input(prev, script, None),
+            ["in", prev, script, sequence] => self.draft_input(prev, script, Some(*sequence)),
+            ["out", value, script] => self.draft_output(value, script),
+            _ => Err(no_definition(self.alloc, words)),
+        }
+    }
+
+    fn draft_input(
+        &mut self,
+        prev: &str,
+        script: &str,
+        sequence: Option<&str>,
+    ) -> Result<(), LineFault> {
+        let prev = self.outpoint(prev)?;
+        match &mut self.draft {
+            Some(draft) => draft.input(prev, script, sequence),
+            None => Ok(()),
+        }
+    }
+
+    fn draft_output(&mut self, value: &str, script: &str) -> Result<(), LineFault> {
+        match &mut self.draft {
+            Some(draft) => draft.output(value, script),
+            None => Ok(()),
+        }
     }
 
     /// From now on the transaction that was read can be named.
@@ -182,10 +200,13 @@ impl Definitions {
     }
 
     fn block(&mut self, name: &str, parent: &str, recipe: Recipe) -> Result<(), LineFault> {
+        let block = self.made(name, parent, recipe)?;
+        Ok(self.insert(block)?)
+    }
+
+    fn made(&self, name: &str, parent: &str, recipe: Recipe) -> Result<Named, LineFault> {
         self.check_free(name)?;
-        let block = made(self.alloc, name, self.find(parent)?, recipe)?;
-        self.insert(block)?;
-        Ok(())
+        made(self.alloc, name, self.find(parent)?, recipe)
     }
 
     /// So many blocks, one on the other, under the name and the numbers from 1 on.
@@ -196,11 +217,16 @@ impl Definitions {
         }
         let mut above = String::from_str(self.alloc, parent)?;
         for place in 1..=count {
-            let next = format!(in self.alloc; "{name}{place}")?;
-            self.block(next.as_str(), above.as_str(), Recipe::new(self.alloc))?;
-            above = next;
+            above = self.chained(name, place, above.as_str())?;
         }
         Ok(())
+    }
+
+    /// The block of a name and a number on a parent. Its whole name is given back.
+    fn chained(&mut self, name: &str, place: u64, parent: &str) -> Result<String, LineFault> {
+        let numbered = format!(in self.alloc; "{name}{place}")?;
+        self.block(numbered.as_str(), parent, Recipe::new(self.alloc))?;
+        Ok(numbered)
     }
 
     /// Makes a signature valid.
@@ -215,23 +241,20 @@ impl Definitions {
     ) -> Result<(), LineFault> {
         let input: usize = number(self.alloc, word, U64)?;
         let kind = number(self.alloc, kind, U8)?;
-        let key = bytes(self.alloc, key)?;
-        let signature = bytes(self.alloc, signature)?;
-        let code = bytes(self.alloc, code)?;
+        let pieces = Pieces::read(self.alloc, key, signature, code)?;
         let tx = self.transaction(tx)?.tx.copy()?;
         if input >= tx.inputs.len() {
             return Err(self.refused(word, Complaint::NoInput));
         }
         let valid = ValidSignature {
-            key: key.as_slice(),
-            signature: signature.as_slice(),
+            key: pieces.key.as_slice(),
+            signature: pieces.signature.as_slice(),
             tx: &tx,
             input,
-            code: code.as_slice(),
+            code: pieces.code.as_slice(),
             kind,
         };
-        add_valid_signature(&mut self.table, self.alloc, &valid)?;
-        Ok(())
+        Ok(add_valid_signature(&mut self.table, self.alloc, &valid)?)
     }
 
     /// The transaction of this name; the coinbase of the block B is `B.cb`.
@@ -291,11 +314,17 @@ impl Definitions {
 
     fn insert(&mut self, block: Named) -> Result<(), Memory> {
         let name = block.name.clone()?;
-        if !self.names.contains_key(&block.id) {
-            self.names.insert(block.id, block.name.clone()?)?;
+        self.put_name(block.id, &name)?;
+        self.blocks.insert(name, block)?;
+        Ok(())
+    }
+
+    /// Puts the name of the block of this id behind the others.
+    fn put_name(&mut self, id: Id, name: &String) -> Result<(), Memory> {
+        if !self.names.contains_key(&id) {
+            self.names.insert(id, name.clone()?)?;
         }
         self.order.push(name.clone()?)?;
-        self.blocks.insert(name, block)?;
         Ok(())
     }
 
@@ -320,6 +349,24 @@ impl Definitions {
         Ok(Shown {
             id: known.id,
             digits,
+        })
+    }
+}
+
+/// What a `verdict` line gives in hexadecimal digits.
+#[derive(Drop)]
+struct Pieces {
+    key: Vec<u8>,
+    signature: Vec<u8>,
+    code: Vec<u8>,
+}
+
+impl Pieces {
+    fn read(alloc: Global, key: &str, signature: &str, code: &str) -> Result<Pieces, LineFault> {
+        Ok(Pieces {
+            key: bytes(alloc, key)?,
+            signature: bytes(alloc, signature)?,
+            code: bytes(alloc, code)?,
         })
     }
 }

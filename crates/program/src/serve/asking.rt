@@ -51,20 +51,29 @@ where
             Err(refusal) => Err(refusal),
         };
         board.lay(rt, desk.number, seat.note());
-        let line = match answered {
-            Ok(line) => Ok(line),
-            Err(refusal) => refusal_line(Vec::new(rt.alloc()), &id, refusal),
-        };
-        match line {
-            Ok(line) => {
-                if desk.to.send(rt, line).is_err() {
-                    return;
-                }
-            }
-            Err(AllocError) => {
-                board.set_short();
-                return;
-            }
+        if !send(rt, desk, board, &id, answered) {
+            return;
+        }
+    }
+}
+
+/// Sends the line that answers a request, or that says why none does. Whether it was taken.
+fn send<J: Naming, R: AllocGlobal + Wait>(
+    rt: &R,
+    desk: &Desk,
+    board: &Board<J>,
+    id: &RequestId,
+    answered: Result<Vec<u8>, Refusal>,
+) -> bool {
+    let line = match answered {
+        Ok(line) => Ok(line),
+        Err(refusal) => refusal_line(Vec::new(rt.alloc()), id, refusal),
+    };
+    match line {
+        Ok(line) => desk.to.send(rt, line).is_ok(),
+        Err(AllocError) => {
+            board.set_short();
+            false
         }
     }
 }

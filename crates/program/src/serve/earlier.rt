@@ -6,7 +6,7 @@ use crate::report::Clients;
 use block::SliceSource;
 use hash::Id;
 use journal::{Records, Step};
-use node::{Command, Naming, Node, Reply, Seat, SubmitReply};
+use node::{Command, MarkReply, Naming, Node, Reply, Seat, Stamped, SubmitReply};
 use scenario::BLK;
 use std::sync::Wait;
 use std::thread::Threads;
@@ -57,14 +57,19 @@ fn replied<J: Naming, R>(
 where
     R: Threads + Wait + Sync,
 {
-    Ok(match command {
+    match command {
         Command::Submit(block, now) => {
-            Reply::Submit(seat.submit(rt, node, block.as_slice(), *now)?.value)
+            let reply = seat.submit(rt, node, block.as_slice(), *now)?;
+            Ok(Reply::Submit(reply.value))
         }
-        Command::Invalidate(id) => Reply::Mark(seat.invalidate(rt, node, *id)?.value),
-        Command::Reconsider(id) => Reply::Mark(seat.reconsider(rt, node, *id)?.value),
-        Command::Precious(id) => Reply::Mark(seat.precious(rt, node, *id)?.value),
-    })
+        Command::Invalidate(id) => marked(seat.invalidate(rt, node, *id)),
+        Command::Reconsider(id) => marked(seat.reconsider(rt, node, *id)),
+        Command::Precious(id) => marked(seat.precious(rt, node, *id)),
+    }
+}
+
+fn marked(reply: Result<Stamped<MarkReply>, node::Fault>) -> Result<Reply, Fault<'static>> {
+    Ok(Reply::Mark(reply?.value))
 }
 
 /// Submits the records of a blk file in their order. The steps are a client's whose name no other has.

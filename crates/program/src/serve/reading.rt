@@ -64,20 +64,33 @@ where
     R: AllocGlobal + Wait,
     I: Read,
 {
-    let alloc = rt.alloc();
-    let mut input = BufReader::with_capacity(alloc, READ_AHEAD, input).map_err(unread)?;
+    let mut input = BufReader::with_capacity(rt.alloc(), READ_AHEAD, input).map_err(unread)?;
     for _ in 0..u64::MAX {
-        let next = match read_line(alloc, &mut input).map_err(unread)? {
-            Some(line) => pass_on(rt, facts, doors, line)?,
-            None => return Ok(None),
-        };
-        match next {
+        match read_next(rt, facts, doors, &mut input)? {
             Next::Line => {}
             Next::Finish(id) => return Ok(Some(id)),
             Next::Left => return Ok(None),
         }
     }
     Ok(None)
+}
+
+/// Reads a line, and has it wait for its seat or answers it.
+fn read_next<R, I>(
+    rt: &R,
+    facts: &Facts<'_>,
+    doors: &Doors,
+    input: &mut I,
+) -> Result<Next, Fault<'static>>
+where
+    R: AllocGlobal + Wait,
+    I: BufRead,
+{
+    match read_line(rt.alloc(), input) {
+        Ok(Some(line)) => pass_on(rt, facts, doors, line),
+        Ok(None) => Ok(Next::Left),
+        Err(error) => Err(unread(error)),
+    }
 }
 
 /// The next line, without its end; the last may lack it. One that is too long is skipped.
@@ -126,31 +139,44 @@ fn pass_on<R>(rt: &R, facts: &Facts<'_>, doors: &Doors, line: Line) -> Result<Ne
 where
     R: AllocGlobal + Wait,
 {
-    let alloc = rt.alloc();
     let Request { id, asked } = match line {
-        Line::Whole(line) => read_request(alloc, line.as_slice(), doors.seats.len())?,
+        Line::Whole(line) => read_request(rt.alloc(), line.as_slice(), doors.seats.len())?,
         Line::TooLong => Request {
             id: RequestId::Null,
             asked: Asked::Refused(None, Refusal::TooLong),
         },
     };
-    let (seat, call) = match asked {
-        Asked::Seat(seat, call) => (seat, Ok(call)),
-        Asked::Refused(Some(seat), refusal) => (seat, Err(refusal)),
-        Asked::Finish => return Ok(Next::Finish(id)),
+    match asked {
+        Asked::Seat(seat, call) => Ok(doors.wait(rt, seat, Turn { id, call: Ok(call) })),
+        Asked::Refused(Some(seat), refusal) => {
+            let call = Err(refusal);
+            Ok(doors.wait(rt, seat, Turn { id, call }))
+        }
+        Asked::Finish => Ok(Next::Finish(id)),
         Asked::Info => {
-            let line = info_line(Vec::new(alloc), &id, &facts.info())?;
-            return Ok(passed(doors.to.send(rt, line).is_ok()));
+            let line = info_line(Vec::new(rt.alloc()), &id, &facts.info())?;
+            Ok(doors.tell(rt, line))
         }
         Asked::Refused(None, refusal) => {
-            let line = refusal_line(Vec::new(alloc), &id, refusal)?;
-            return Ok(passed(doors.to.send(rt, line).is_ok()));
+            let line = refusal_line(Vec::new(rt.alloc()), &id, refusal)?;
+            Ok(doors.tell(rt, line))
         }
-    };
-    let Some(door) = doors.seats.get(seat) else {
-        return Ok(Next::Left);
-    };
-    Ok(passed(door.send(rt, Turn { id, call }).is_ok()))
+    }
+}
+
+impl Doors {
+    /// Has a request wait for its seat.
+    fn wait<R: Wait>(&self, rt: &R, seat: usize, turn: Turn) -> Next {
+        match self.seats.get(seat) {
+            Some(door) => passed(door.send(rt, turn).is_ok()),
+            None => Next::Left,
+        }
+    }
+
+    /// Has a line wait for being written.
+    fn tell<R: Wait>(&self, rt: &R, line: Vec<u8>) -> Next {
+        passed(self.to.send(rt, line).is_ok())
+    }
 }
 
 fn passed(is_taken: bool) -> Next {

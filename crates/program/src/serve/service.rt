@@ -10,6 +10,7 @@ use crate::serve::words::Facts;
 use crossbeam_channel::Receiver;
 use node::{Naming, Node, Seat};
 use serving::RequestId;
+use std::alloc::Global;
 use std::io::{Read, Write};
 use std::sync::{Mutex, Wait};
 use std::thread;
@@ -51,28 +52,59 @@ where
     let alloc = rt.alloc();
     let board = Board::new(alloc, seats)?;
     let (to, lines) = crossbeam_channel::bounded(alloc, WAITING)?;
-    let mut seat_doors = Vec::new(alloc);
+    let mut doors = Doors {
+        seats: Vec::new(alloc),
+        to,
+    };
     let mut places: Places<'_, 't, J> = Vec::new(alloc);
     let all = seats.iter_mut();
     for seat in all {
-        let (door, turns) = crossbeam_channel::bounded(alloc, WAITING)?;
-        seat_doors.push(door)?;
-        let desk = Desk {
-            number: places.len(),
-            turns,
-            to: to.clone()?,
-        };
-        places.push(Mutex::new(Some(Place { seat, desk })))?;
+        add_place(alloc, seat, &mut doors, &mut places)?;
     }
-    let doors = Mutex::new(Some(Doors {
-        seats: seat_doors,
-        to,
-    }));
+    serve_places(rt, node, &board, facts, &places, doors, lines, input, out)
+}
+
+/// Adds a seat's place, and the door behind which its requests wait.
+fn add_place<'s, 't, J: Naming>(
+    alloc: Global,
+    seat: &'s mut Seat<'t, J>,
+    doors: &mut Doors,
+    places: &mut Places<'s, 't, J>,
+) -> Result<(), Fault<'static>> {
+    let (door, turns) = crossbeam_channel::bounded(alloc, WAITING)?;
+    doors.seats.push(door)?;
+    let desk = Desk {
+        number: places.len(),
+        turns,
+        to: doors.to.clone()?,
+    };
+    places.push(Mutex::new(Some(Place { seat, desk })))?;
+    Ok(())
+}
+
+/// Answers requests at these places.
+fn serve_places<'t, J: Naming, R, I, O>(
+    rt: &R,
+    node: &Node<'_, J>,
+    board: &Board<J>,
+    facts: &Facts<'_>,
+    places: &Places<'_, 't, J>,
+    doors: Doors,
+    lines: Receiver<Vec<u8>>,
+    input: &mut I,
+    out: &mut O,
+) -> Result<Ended<'static>, Fault<'static>>
+where
+    R: AllocGlobal + Threads + Wait + Sync,
+    I: Read + Send,
+    O: Write,
+{
+    let doors = Mutex::new(Some(doors));
     let lines = Mutex::new(Some(lines));
     let input = Mutex::new(&mut *input);
     let read: Mutex<Asked> = Mutex::new(Ok(None));
     let written = run_threads(
-        rt, node, &board, facts, &places, &doors, &input, &read, &lines, out,
+        rt, node, board, facts, places, &doors, &input, &read, &lines, out,
     )?;
     Ok(ended(read.into_inner(), written, board.is_short()))
 }
