@@ -7,9 +7,15 @@ import subprocess
 import sys
 import time
 
+from commit import named
+
 HERE = os.path.dirname(os.path.abspath(__file__))
 OURS = os.path.join(HERE, "..", "crates", "bench", "out", "bench")
 BASELINE = os.path.join(HERE, "out", "baseline")
+RESULTS = os.path.join(HERE, "results.md")
+# What `bench/core` writes into the results stays there.
+KEPT = ("<!-- written by bench/core -->", "<!-- end of bench/core -->")
+BUILD = os.environ.get("BENCH_BUILD", "the default processor").removeprefix("--cpu=")
 # Hides the processor's SHA instructions from OpenSSL.
 HIDDEN = {"OPENSSL_ia32cap": ":~0x20000000"}
 
@@ -57,7 +63,7 @@ NODE = [
     *[(f"read-best-{n}", f"`getbestblockhash` so often by each of {n} seats", [100_000]) for n in READERS],
     *[(f"read-beside-{n}", f"as read-coin-{n}, beside a seat that submits blocks of 2,000 payments", [100_000]) for n in READERS],
     ("slowest", "the slowest of a million reads beside a seat that submits blocks of so many payments", [500, 4000]),
-    ("publish-1", "ten blocks over so many coins, behind an empty one; each changes one coin", [10_000, 1_000_000]),
+    ("publish-1", "ten blocks over so many coins, behind ten empty ones; each changes one coin", [10_000, 1_000_000]),
     ("publish-100", "the same, 101 coins", [10_000, 1_000_000]),
     ("publish-10000", "the same, 10,001 coins", [10_000, 1_000_000]),
     ("seats-1", "four branches of so many blocks of 1,000 payments on one base, beside a longer one, by one seat", [100]),
@@ -74,7 +80,7 @@ NODE = [
 MACHINE = [("threads-1", 500_000), ("threads-4", 500_000), ("pauses", 1_000_000)]
 
 # Each size of these has a line in the table.
-EACH_SIZE = {"chain", "blocks-above", "reorganise"}
+EACH_SIZE = {"chain", "blocks-above", "reorganise"} | {row[0] for row in NODE}
 
 # Those that the baseline hasn't: it keeps no verdicts.
 OURS_ALONE = [
@@ -87,10 +93,10 @@ MEMORY = [
     ("chain", "a block without payments, in a chainstate of one thread", 190, 2 * 190 + 300, [50_000, 100_000]),
     ("chain-heavy", "a block of almost a megabyte, likewise", 999_205, 2 * 999_205 + 300, [20, 60]),
     ("chain-beside", "a block beside the active branch, likewise", 190, 2 * 190 + 300, [50_000, 100_000]),
-    ("keep", "a block without payments, in a node", 190, 2 * 190 + 300, [50_000, 100_000]),
+    ("keep", "a block without payments, in a node", 190, 800, [50_000, 100_000]),
     ("keep-heavy", "a block of almost a megabyte, in a node", 999_205, 2 * 999_205 + 300, [20, 60]),
     ("hold-coins", "a coin with a script of 25 bytes, in a map", 0, 170, [500_000, 1_000_000]),
-    ("keep-coins", "a coin with a script of one byte, in a node, without its share of its block", 27, 170, [100_000, 200_000]),
+    ("keep-coins", "a coin with a script of one byte, in a node, without its share of its block", 27, 340, [100_000, 200_000]),
 ]
 
 # How long ours may take where the baseline takes 1, without SHA instructions where it has them hidden; 1 where no other
@@ -103,8 +109,15 @@ GOALS = {
     "publish-1": 1.5, "publish-100": 1.2, "publish-10000": 1.1,
 }
 
+if BUILD == "x86-64-v3":
+    GOALS["each-input"] = 0.2
+
 # How much more a block may cost on the second chain of `blocks-above` than on the first.
 MOST_GROWTH = 1.1
+
+
+# The verdicts of all goals so far.
+VERDICTS = []
 
 
 def once(program, name, size, environment):
@@ -142,13 +155,19 @@ def table_of_memory(rows):
         "",
         "Bytes that one more takes, by the allocator's own count, of a block with its coin, its undo and its command:",
         "",
-        "| workload | what | its bytes | ours | baseline | at most |",
+        "| workload | what | its bytes | ours | baseline | goal at most |",
         "|---|---|---:|---:|---:|---:|",
     ]
     for name, what, length, most, each in rows:
-        verdict = f"{most:,}" + ("" if each[0] <= most else ": MORE")
-        text.append(f"| {name} | {what} | {length:,} | {each[0]:,.0f} | {each[1]:,.0f} | {verdict} |")
+        text.append(f"| {name} | {what} | {length:,} | {each[0]:,.0f} | {each[1]:,.0f} | {most:,}, {verdict(each[0] <= most)} |")
     return "\n".join(text) + "\n"
+
+
+def verdict(holds):
+    """A goal's verdict; each is counted."""
+    word = "met" if holds else "missed"
+    VERDICTS.append(word)
+    return word
 
 
 def least(name, size, sides, limit, fewest):
@@ -204,10 +223,9 @@ def measure_node(names, has_sha):
 
 
 def goal(text, ratio, bound, is_most=True):
-    """A line that says whether a ratio is what it should be."""
+    """A line of a list, with what a ratio should be and whether it is."""
     holds = ratio <= bound if is_most else ratio >= bound
-    words = ("at most", "MORE THAN") if is_most else ("at least", "LESS THAN")
-    return f"- {text}: {ratio:.2f}, {words[not holds]} {bound}."
+    return f"- {text}: {ratio:.2f}; goal at {'most' if is_most else 'least'} {bound}, {verdict(holds)}."
 
 
 def measure_machine():
@@ -259,9 +277,9 @@ def table_of_node(rows, has_sha, machine):
         "",
         "A node and its seats, least of 3 to 15 runs:",
         "",
-        f"| workload | size | what | ours | baseline | ratio{without} | at most |",
+        f"| workload | size | what | ours | baseline | ratio{without} | goal at most |",
         "|---|---:|---|---:|---:|---:|" + ("---:|---:|" if has_sha else "") + "---|",
-        *lines_of(rows, {row[0] for row in rows}),
+        *lines_of(rows),
         "",
         goals_of_a_node(rows, machine),
     ]
@@ -292,69 +310,77 @@ def growth_of_a_block(rows):
     for name, _, _, costs in rows:
         if name == "blocks-above":
             (low, before), (high, after) = costs
-            ratio = after[0] / before[0]
-            verdict = "at most" if ratio <= MOST_GROWTH else "MORE THAN"
-            return f"A block above {high:,} costs {ratio:.2f} times one above {low:,}: {verdict} {MOST_GROWTH}."
+            other = after[1] / before[1]
+            text = goal(f"a block above {high:,} blocks, over one above {low:,}", after[0] / before[0], MOST_GROWTH)
+            return f"{text[:-1]} (the baseline: {other:.2f})."
     return ""
 
 
-def table(rows, has_sha):
+def head_of(commit, has_sha):
+    """What was run, and where. It is written last, when all goals have been looked at."""
     name, cores, _ = processor()
+    return (
+        "# Results\n\n"
+        f"One run by {commit}, on {name}, {cores} cores, {platform.system()}; {'with' if has_sha else 'without'} SHA "
+        f"instructions. Ours is built for {BUILD}. Least of 3 to 15 runs, in seconds; a ratio below 1 means that ours is "
+        f"faster. The machine's load at the end was {os.getloadavg()[2]:.0f} on {cores} cores, the run's own among it. "
+        f"Of {len(VERDICTS)} goals {VERDICTS.count('met')} are met; each stands beside its figure. What the workloads are: "
+        "[README](README.md).\n\n"
+    )
+
+
+def table(rows, has_sha):
     without = " | baseline without SHA instructions | ratio" if has_sha else ""
     text = [
-        "# Results",
-        "",
-        f"{name}, {cores} cores, {platform.system()}; {'with' if has_sha else 'without'} SHA instructions. "
-        f"Ours is built for {os.environ.get('BENCH_BUILD', 'the default processor').removeprefix('--cpu=')}. "
-        "Least of 3 to 15 runs, in seconds; a ratio below 1 means that ours is faster. "
-        f"The machine's load at the end was {os.getloadavg()[2]:.0f} on {cores} cores, the run's own among it. What the workloads are: "
-        "[README](README.md).",
-        "",
-        f"| workload | size | what | ours | baseline | ratio{without} | at most |",
+        f"| workload | size | what | ours | baseline | ratio{without} | goal at most |",
         "|---|---:|---|---:|---:|---:|" + ("---:|---:|" if has_sha else "") + "---|",
     ]
-    return "\n".join([*text, *lines_of(rows, EACH_SIZE), "", growth_of_a_block(rows)]) + "\n"
+    return "\n".join([*text, *lines_of(rows), "", growth_of_a_block(rows)]) + "\n"
 
 
-def lines_of(rows, in_each_size):
-    """A line of a table for each workload, of its last size or of each."""
+def drawn(rows):
+    """Name, size, what it is, times and goal of each line of a table: of a workload's last size, or of each."""
+    for name, what, _, costs in rows:
+        for size, times in costs if name in EACH_SIZE else costs[-1:]:
+            yield name, size, what, times, GOALS.get(name, 1)
+
+
+def lines_of(rows):
     text = []
-    for workload, what, _, costs in rows:
-        for size, times in costs if workload in in_each_size else costs[-1:]:
-            cells = [f"{times[0]:.6f}"]
-            for other in times[1:]:
-                cells += [f"{other:.6f}", f"{times[0] / other:.2f}"]
-            most = GOALS.get(workload, 1)
-            verdict = "met" if times[0] / times[-1] <= most else "missed"
-            text.append(f"| {workload} | {size:,} | {what} | " + " | ".join(cells) + f" | {most:g}, {verdict} |")
+    for name, size, what, times, most in drawn(rows):
+        cells = [f"{times[0]:.6f}"]
+        for other in times[1:]:
+            cells += [f"{other:.6f}", f"{times[0] / other:.2f}"]
+        text.append(f"| {name} | {size:,} | {what} | " + " | ".join(cells) + f" | {most:g}, {verdict(times[0] / times[-1] <= most)} |")
     return text
 
 
-def ratios(rows):
-    """Bars: how long ours takes where the baseline takes 1."""
-    out = ['<text x="10" y="20" class="head">Ours over the baseline (1 is equal)</text>']
-    unit = 200
-    for at, (name, _, _, costs) in enumerate(rows):
-        times = costs[-1][1]
+def ratios(title, rows, top):
+    """Bars: how long ours takes where the baseline takes 1, in the colour of its goal, which is the short line."""
+    out = [f'<text x="10" y="{top + 20}" class="head">{title}</text>']
+    unit, left, y = 150, 248, top + 34
+    for name, size, _, times, most in drawn(rows):
         ratio = times[0] / times[-1]
-        y = 34 + 18 * at
-        colour = "#4a8" if ratio <= 1 else "#d90" if ratio <= 1.25 else "#c44"
-        out.append(f'<text x="120" y="{y + 11}" text-anchor="end">{name}</text>')
-        out.append(f'<rect x="128" y="{y}" width="{min(ratio, 3) * unit:.0f}" height="13" fill="{colour}"/>')
-        out.append(f'<text x="{134 + min(ratio, 3) * unit:.0f}" y="{y + 11}">{ratio:.2f}</text>')
-    end = 34 + 18 * len(rows)
-    out.append(f'<line x1="{128 + unit}" y1="28" x2="{128 + unit}" y2="{end}" stroke="#000"/>')
-    return out, end
+        colour = "#4a8" if ratio <= most else "#d90" if ratio <= 1.25 * most else "#c44"
+        width = min(ratio, 3) * unit
+        out.append(f'<text x="{left - 8}" y="{y + 11}" text-anchor="end">{name} {size:,}</text>')
+        out.append(f'<rect x="{left}" y="{y}" width="{width:.0f}" height="13" fill="{colour}"/>')
+        out.append(f'<text x="{left + 6 + max(width, most * unit):.0f}" y="{y + 11}">{ratio:.2f}</text>')
+        goal_at = f"{left + most * unit:.0f}"
+        out.append(f'<line x1="{goal_at}" y1="{y - 2}" x2="{goal_at}" y2="{y + 15}" stroke="#000" stroke-width="2"/>')
+        y += 18
+    out.append(f'<line x1="{left + unit}" y1="{top + 28}" x2="{left + unit}" y2="{y}" stroke="#000" stroke-width="0.5"/>')
+    return out, y
 
 
 def growth(rows, top):
     """Lines: seconds by size, both on doubling axes."""
-    drawn = [row for row in rows if len(row[3]) > 1]
-    if not drawn:
+    several = [row for row in rows if len(row[3]) > 1]
+    if not several:
         return [], top
     left, width, height = 60, 600, 320
-    sizes = [math.log2(size) for row in drawn for size, _ in row[3]]
-    times = [math.log2(t) for row in drawn for _, costs in row[3] for t in (costs[0], costs[-1])]
+    sizes = [math.log2(size) for row in several for size, _ in row[3]]
+    times = [math.log2(t) for row in several for _, costs in row[3] for t in (costs[0], costs[-1])]
     low, high, least_time, most_time = min(sizes), max(sizes), min(times), max(times)
 
     def point(size, seconds):
@@ -363,8 +389,8 @@ def growth(rows, top):
         return f"{x:.1f},{y:.1f}"
 
     out = [f'<text x="10" y="{top + 25}" class="head">Seconds by size, both axes doubling (full: ours, dashed: baseline)</text>']
-    for at, (name, _, _, costs) in enumerate(drawn):
-        colour = f"hsl({at * 360 // len(drawn)},65%,40%)"
+    for at, (name, _, _, costs) in enumerate(several):
+        colour = f"hsl({at * 360 // len(several)},65%,40%)"
         for side, dash in ((0, ""), (-1, ' stroke-dasharray="5 4"')):
             points = " ".join(point(size, t[side]) for size, t in costs)
             out.append(f'<polyline points="{points}" fill="none" stroke="{colour}" stroke-width="1.5"{dash}/>')
@@ -380,7 +406,9 @@ def growth(rows, top):
 
 
 def plot(rows, node):
-    bars, end = ratios(rows + node)
+    bars, end = ratios("Ours over the baseline (the long line is 1, each short one a goal)", rows, 0)
+    more, end = ratios("A node and its seats, likewise", node, end + 20)
+    bars += more
     lines, end = growth(rows, end + 20)
     head = f'<svg xmlns="http://www.w3.org/2000/svg" width="800" height="{end}" font-family="sans-serif" font-size="11">'
     style = "<style>.head{font-size:14px;font-weight:bold}</style>"
@@ -393,19 +421,30 @@ def main():
     unknown = set(names) - {row[0] for row in WORKLOADS + NODE + OURS_ALONE} - {"memory"}
     if unknown:
         sys.exit(f"bench: no such workload: {' '.join(sorted(unknown))}")
-    has_sha = processor()[2]
+    has_sha, commit = processor()[2], named()
     rows = measure(names, has_sha)
     node = measure_node(names, has_sha)
     alone = measure_alone(names)
     machine = measure_machine() if not names or "workers-4" in names else None
-    print(growth_of_a_block(rows), goals_of_a_node(node, machine), sep="\n", flush=True)
     memory = measure_memory() if not names or "memory" in names else []
     if names:
+        print(growth_of_a_block(rows), goals_of_a_node(node, machine), sep="\n")
         return
-    with open(os.path.join(HERE, "results.md"), "w", encoding="utf-8") as file:
-        file.write(table(rows, has_sha) + table_of_node(node, has_sha, machine) + table_of_memory(memory) + table_alone(alone))
+    text = table(rows, has_sha) + table_of_node(node, has_sha, machine) + table_of_memory(memory) + table_alone(alone)
+    write(head_of(commit, has_sha) + text)
     with open(os.path.join(HERE, "results.svg"), "w", encoding="utf-8") as file:
         file.write(plot(rows, node))
+    print(f"of {len(VERDICTS)} goals {VERDICTS.count('met')} are met")
 
 
-main()
+def write(text):
+    """Writes the results, and behind them what `bench/core` wrote."""
+    with open(RESULTS, encoding="utf-8") as file:
+        _, begin, rest = file.read().partition(KEPT[0])
+    kept = f"\n{begin}{rest.partition(KEPT[1])[0]}{KEPT[1]}\n" if begin else ""
+    with open(RESULTS, "w", encoding="utf-8") as file:
+        file.write(text + kept)
+
+
+if __name__ == "__main__":
+    main()

@@ -27,22 +27,31 @@ from wakotehu.encoding import GENESIS, coinbase, double_sha, mine, subsidy  # no
 class Client:
     """A client that keeps its connection, and does little more than a socket: Python's own takes as long as the server."""
 
-    def __init__(self, place):
+    def __init__(self, place, word="name:password"):
         host, _, port = place.rpartition(":")
         self.connection = socket.create_connection((host, int(port)))
-        word = base64.b64encode(b"name:password").decode()
-        self.head = f"POST / HTTP/1.1\r\nHost: {host}\r\nAuthorization: Basic {word}\r\nContent-Length: "
+        self.connection.setsockopt(socket.IPPROTO_TCP, socket.TCP_NODELAY, True)
+        key = base64.b64encode(word.encode()).decode()
+        self.head = f"POST / HTTP/1.1\r\nHost: {host}\r\nAuthorization: Basic {key}\r\nContent-Length: "
 
-    def call(self, method, *params):
+    def spelled(self, method, *params):
+        """A request as it is sent."""
         body = json.dumps({"id": 1, "method": method, "params": params})
-        self.connection.sendall(f"{self.head}{len(body)}\r\n\r\n{body}".encode())
+        return f"{self.head}{len(body)}\r\n\r\n{body}".encode()
+
+    def ask(self, request):
+        """The result of a request."""
+        self.connection.sendall(request)
         got = b""
         while not got.endswith(b"}\n"):
             got += self.connection.recv(65536)
         reply = json.loads(got[got.index(b"\r\n\r\n") :])
         if reply["error"]:
-            raise SystemExit(f"{method}: {reply['error']}")
+            raise SystemExit(f"{reply['error']}")
         return reply["result"]
+
+    def call(self, method, *params):
+        return self.ask(self.spelled(method, *params))
 
 
 def chain(count):

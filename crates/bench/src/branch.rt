@@ -1,10 +1,9 @@
 //! Branches of blocks on genesis.
 
 use crate::fault::Fault;
-use crate::lists::{one, put, put_bytes, put_times};
-use crate::payments::{output, root_of, spending};
-use crate::spends::put_push;
-use block::{Block, GENESIS_ID, GENESIS_TIME, Header, Txs, meets_target, subsidy};
+use crate::lists::{one, put_bytes, put_first, put_made, put_times};
+use crate::payments::{TRUE, outputs, spending, under};
+use block::{Block, GENESIS_ID, GENESIS_TIME, Header, subsidy};
 use hash::Id;
 use rules::REGTEST_BITS;
 use script::Num;
@@ -46,26 +45,22 @@ impl Branch {
     /// A block on the last one, of a coinbase and these payments.
     pub fn next_block(&mut self, alloc: Global, payments: Vec<Tx>) -> Result<Block, Fault> {
         self.height = self.height.wrapping_add(1);
-        let mut txs = one(alloc, self.coinbase(alloc)?)?;
-        for tx in payments {
-            put(&mut txs, tx)?;
-        }
-        let header = self.header(root_of(alloc, txs.as_slice())?);
-        self.last = header.id();
-        let txs = Txs::from_vec(txs);
-        Ok(Block { header, txs })
+        let txs = put_first(payments, self.coinbase(alloc));
+        let block = under(alloc, self.header(), txs)?;
+        self.last = block.header.id();
+        Ok(block)
     }
 
-    /// The header of its next block.
-    fn header(&self, root: Id) -> Header {
-        mined(Header {
+    /// What its next header has beside the root and the nonce.
+    fn header(&self) -> Header {
+        Header {
             version: 4,
             prev: self.last,
-            root,
+            root: self.last,
             time: GENESIS_TIME.wrapping_add(self.height),
             bits: REGTEST_BITS,
             nonce: 0,
-        })
+        }
     }
 
     /// The bytes of such a block.
@@ -77,28 +72,35 @@ impl Branch {
     /// A coinbase that pushes the height (BIP 34) and the branch's number.
     fn coinbase(&self, alloc: Global) -> Result<Tx, Fault> {
         let mut bytes = self.height_push(alloc)?;
-        put(&mut bytes, 4)?;
-        put_bytes(&mut bytes, self.number.to_le_bytes().as_slice())?;
-        let mut outputs = one(alloc, output(alloc, subsidy(self.height), &[0x51])?)?;
-        if self.data > 0 {
-            put(&mut outputs, data_output(alloc, self.data)?)?;
-        }
-        spending(alloc, OutPoint::NULL, bytes.as_slice(), outputs)
+        put_bytes(&mut bytes, self.number_push().as_slice())?;
+        spending(alloc, OutPoint::NULL, bytes.as_slice(), self.outputs(alloc))
     }
 
     fn height_push(&self, alloc: Global) -> Result<Vec<u8>, Fault> {
-        let mut bytes = Vec::new(alloc);
         match self.height {
-            1..=16 => put(&mut bytes, 0x50 + self.height as u8)?,
-            _ => put_push(&mut bytes, spelled(alloc, self.height)?.as_slice())?,
+            1..=16 => one(alloc, Ok(0x50 + self.height as u8)),
+            height => {
+                let spelled = Num(i64::from(height)).spell(alloc)?;
+                let count = (spelled.len() % 76) as u8;
+                put_first(spelled, Ok(count))
+            }
         }
-        Ok(bytes)
     }
-}
 
-/// A height as scripts have it.
-fn spelled(alloc: Global, height: u32) -> Result<Vec<u8>, Fault> {
-    Ok(Num(i64::from(height)).spell(alloc)?)
+    fn number_push(&self) -> [u8; 5] {
+        let mut bytes = [4; 5];
+        bytes[1..].copy_from_slice(self.number.to_le_bytes().as_slice());
+        bytes
+    }
+
+    /// What its next coinbase pays, and the data that stands there.
+    fn outputs(&self, alloc: Global) -> Result<Vec<TxOut>, Fault> {
+        let mut outputs = outputs(alloc, 1, subsidy(self.height), TRUE)?;
+        if self.data > 0 {
+            put_made(&mut outputs, data_output(alloc, self.data))?;
+        }
+        Ok(outputs)
+    }
 }
 
 /// A block's bytes.
@@ -116,15 +118,4 @@ fn data_output(alloc: Global, size: usize) -> Result<TxOut, Fault> {
         value: 0,
         script: Script::from_vec(bytes),
     })
-}
-
-/// The header with the first nonce that meets the target.
-pub fn mined(header: Header) -> Header {
-    for nonce in 0..1000 {
-        let mined = Header { nonce, ..header };
-        if meets_target(&mined.id()) {
-            return mined;
-        }
-    }
-    header
 }

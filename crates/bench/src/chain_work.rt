@@ -5,7 +5,8 @@ ghost use Rattle.activate.specs.CoreState.{IsChainstate};
 use crate::branch::Branch;
 use crate::check::Check;
 use crate::fault::Fault;
-use crate::timing::Outcome;
+use crate::lists::put_made;
+use crate::timing::{Outcome, Timer};
 use activate::Chainstate;
 use chain::{Bytes, Command};
 use connect::Env;
@@ -13,8 +14,6 @@ use curve::Table;
 use queue::{Alone, Open};
 use std::alloc::Global;
 use std::rt::Clock;
-use std::time::Instant;
-use wire::Memory;
 
 /// When blocks are submitted, in seconds since 1970: after the times of all of them.
 pub const NOW: u64 = 0xffff_ffff;
@@ -25,31 +24,103 @@ const TIMED: usize = 100;
 /// So many blocks on genesis stand beside the two branches of a reorganisation.
 const BESIDE: usize = 10_000;
 
-/// The submission of a branch's next block, without payments.
-fn next(alloc: Global, branch: &mut Branch) -> Result<Command, Fault> {
-    let bytes = branch.next_bytes(alloc, Vec::new(alloc))?;
-    // A list with no room beyond them, as a node makes it of bytes that are lent.
-    Ok(Command::Submit(Bytes::from_slice(alloc, &bytes)?, NOW))
+/// What is submitted to a chainstate.
+#[derive(Clone, Copy)]
+pub enum Growth {
+    /// So many blocks of this branch, and as many as the last number says above them, which are timed.
+    Above(Branch, usize, usize),
+    /// So many blocks on genesis, of which the first stays the active one and the others stand beside it.
+    Beside(usize),
+    /// The block by which another branch becomes active, where so many blocks are disconnected and one more is connected.
+    /// Ten thousand blocks stand beside the two branches.
+    Reorganised(usize),
 }
 
-/// Submissions of so many blocks.
-fn grown(alloc: Global, branch: &mut Branch, count: usize) -> Result<Vec<Command>, Fault> {
-    let mut commands = Vec::with_capacity(alloc, count)?;
-    for _ in 0..count {
-        commands.push(next(alloc, branch)?)?;
+impl Growth {
+    /// A hundred blocks above so many.
+    pub fn hundred_above(height: usize) -> Growth {
+        Growth::Above(Branch::new(1), height, TIMED)
     }
-    Ok(commands)
 }
 
-/// Submissions of blocks on genesis.
-fn beside(alloc: Global, count: usize) -> Result<Vec<Command>, Fault> {
-    let mut commands = Vec::with_capacity(alloc, count)?;
-    for number in 0..count {
-        let number = (number % 1_000_000) as u32;
-        let mut branch = Branch::new(number.wrapping_add(10));
-        commands.push(next(alloc, &mut branch)?)?;
+/// Submits blocks to a chainstate, of which the last ones are timed.
+pub fn grown<R: AllocGlobal + Clock>(rt: &R, growth: Growth) -> Result<Outcome, Fault> {
+    let table = Table::new(rt.alloc());
+    let mut chain = Chainstate::new(rt.alloc())?;
+    grown_on(rt, &mut chain, &table, growth)
+}
+
+fn grown_on<R: AllocGlobal + Clock>(
+    rt: &R,
+    chain: &mut Chainstate,
+    table: &Table,
+    growth: Growth,
+) -> Result<Outcome, Fault>
+    requires { IsChainstate chain.old table.now }
+{
+    let commands = ready(rt.alloc(), chain, table, growth)?;
+    let timer = Timer::start(rt);
+    take_each(rt.alloc(), chain, table, &commands)?;
+    timer.stop(rt, Ok(Check::Count(chain.height() as u64)))
+}
+
+/// Submits what stands below, and makes the submissions that are timed.
+fn ready(
+    alloc: Global,
+    chain: &mut Chainstate,
+    table: &Table,
+    growth: Growth,
+) -> Result<Vec<Command>, Fault>
+    requires { IsChainstate chain.old table.now }
+    ensures { IsChainstate chain.new table.now }
+{
+    match growth {
+        Growth::Above(branch, height, count) => above(alloc, chain, table, branch, height, count),
+        Growth::Beside(count) => beside(alloc, count),
+        Growth::Reorganised(depth) => {
+            fork(alloc, chain, table, depth)?;
+            above(alloc, chain, table, Branch::new(2), depth, 1)
+        }
     }
-    Ok(commands)
+}
+
+/// Submits so many blocks of the first branch, and ten thousand on genesis.
+fn fork(alloc: Global, chain: &mut Chainstate, table: &Table, depth: usize) -> Result<(), Fault>
+    requires { IsChainstate chain.old table.now }
+    ensures { IsChainstate chain.new table.now }
+{
+    above(alloc, chain, table, Branch::new(1), depth, 0)?;
+    take_made(alloc, chain, table, beside(alloc, BESIDE))
+}
+
+/// Submits so many blocks of a branch, and makes the submissions of those above them.
+fn above(
+    alloc: Global,
+    chain: &mut Chainstate,
+    table: &Table,
+    mut branch: Branch,
+    height: usize,
+    count: usize,
+) -> Result<Vec<Command>, Fault>
+    requires { IsChainstate chain.old table.now }
+    ensures { IsChainstate chain.new table.now }
+{
+    take_made(alloc, chain, table, next_ones(alloc, &mut branch, height))?;
+    next_ones(alloc, &mut branch, count)
+}
+
+/// Takes commands one after the other, where they were made.
+fn take_made(
+    alloc: Global,
+    chain: &mut Chainstate,
+    table: &Table,
+    commands: Result<Vec<Command>, Fault>,
+) -> Result<(), Fault>
+    requires { IsChainstate chain.old table.now }
+    ensures { IsChainstate chain.new table.now }
+{
+    let commands = commands?;
+    take_each(alloc, chain, table, &commands)
 }
 
 /// Takes commands one after the other.
@@ -58,7 +129,7 @@ fn take_each(
     chain: &mut Chainstate,
     table: &Table,
     commands: &[Command],
-) -> Result<(), Memory>
+) -> Result<(), Fault>
     requires { IsChainstate chain.old table.now }
     ensures { IsChainstate chain.new table.now }
 {
@@ -72,65 +143,33 @@ fn take_each(
     Ok(())
 }
 
-/// So many blocks one on the other, submitted in turn. The height is the check.
-pub fn chained<R: AllocGlobal + Clock>(rt: &R, size: usize) -> Result<Outcome, Fault> {
-    above(rt, Branch::new(1), 0, size)
+/// The submission of a branch's next block, without payments.
+fn next(alloc: Global, branch: &mut Branch) -> Result<Command, Fault> {
+    let bytes = branch.next_bytes(alloc, Vec::new(alloc))?;
+    // A list with no room beyond them, as a node makes it of bytes that are lent.
+    Ok(Command::Submit(Bytes::from_slice(alloc, &bytes)?, NOW))
 }
 
-/// The same with blocks of almost a megabyte, one output of which is data.
-pub fn heavily_chained<R: AllocGlobal + Clock>(rt: &R, size: usize) -> Result<Outcome, Fault> {
-    above(rt, Branch::heavy(1), 0, size)
+/// Submissions of a branch's next blocks.
+fn next_ones(alloc: Global, branch: &mut Branch, count: usize) -> Result<Vec<Command>, Fault> {
+    let mut commands = Vec::with_capacity(alloc, count)?;
+    for _ in 0..count {
+        put_made(&mut commands, next(alloc, branch))?;
+    }
+    Ok(commands)
 }
 
-/// A hundred blocks, submitted above so many.
-pub fn blocks_above<R: AllocGlobal + Clock>(rt: &R, size: usize) -> Result<Outcome, Fault> {
-    above(rt, Branch::new(1), size, TIMED)
+/// Submissions of blocks on genesis.
+fn beside(alloc: Global, count: usize) -> Result<Vec<Command>, Fault> {
+    let mut commands = Vec::with_capacity(alloc, count)?;
+    for number in 0..count {
+        put_made(&mut commands, first(alloc, number))?;
+    }
+    Ok(commands)
 }
 
-/// So many blocks on genesis, of which the first stays the active one and the others stand beside it. The height is the
-/// check.
-pub fn kept_beside<R: AllocGlobal + Clock>(rt: &R, size: usize) -> Result<Outcome, Fault> {
-    let alloc = rt.alloc();
-    let commands = beside(alloc, size)?;
-    let table = Table::new(alloc);
-    let mut chain = Chainstate::new(alloc)?;
-    let begin = Instant::now(rt)?;
-    take_each(alloc, &mut chain, &table, &commands)?;
-    Outcome::since(rt, begin, Check::Count(chain.height() as u64))
-}
-
-/// So many blocks of a branch submitted on a chain of some height.
-fn above<R: AllocGlobal + Clock>(
-    rt: &R,
-    mut branch: Branch,
-    height: usize,
-    count: usize,
-) -> Result<Outcome, Fault> {
-    let alloc = rt.alloc();
-    let below = grown(alloc, &mut branch, height)?;
-    let above = grown(alloc, &mut branch, count)?;
-    let table = Table::new(alloc);
-    let mut chain = Chainstate::new(alloc)?;
-    take_each(alloc, &mut chain, &table, &below)?;
-    let begin = Instant::now(rt)?;
-    take_each(alloc, &mut chain, &table, &above)?;
-    Outcome::since(rt, begin, Check::Count(chain.height() as u64))
-}
-
-/// The submission of the block by which another branch becomes active, where so many blocks are disconnected and
-/// one more is connected. Ten thousand blocks stand beside the two branches. The height is the check.
-pub fn reorganised<R: AllocGlobal + Clock>(rt: &R, depth: usize) -> Result<Outcome, Fault> {
-    let alloc = rt.alloc();
-    let mut other = Branch::new(2);
-    let first = grown(alloc, &mut Branch::new(1), depth)?;
-    let second = grown(alloc, &mut other, depth)?;
-    let last = grown(alloc, &mut other, 1)?;
-    let table = Table::new(alloc);
-    let mut chain = Chainstate::new(alloc)?;
-    take_each(alloc, &mut chain, &table, &first)?;
-    take_each(alloc, &mut chain, &table, &beside(alloc, BESIDE)?)?;
-    take_each(alloc, &mut chain, &table, &second)?;
-    let begin = Instant::now(rt)?;
-    take_each(alloc, &mut chain, &table, &last)?;
-    Outcome::since(rt, begin, Check::Count(chain.height() as u64))
+/// The submission of a block on genesis, whose branch has this number.
+fn first(alloc: Global, number: usize) -> Result<Command, Fault> {
+    let number = (number % 1_000_000) as u32;
+    next(alloc, &mut Branch::new(number.wrapping_add(10)))
 }

@@ -3,16 +3,15 @@
 use crate::check::Check;
 use crate::fault::Fault;
 use crate::filling::Filling;
-use crate::lists::put;
-use crate::payments::{coin, to_key_hash};
+use crate::lists::put_made;
+use crate::payments::{TRUE, coin, to_key_hash};
 use crate::plan::{shuffle, start};
-use crate::start::{Start, TRUE, WORTH};
-use crate::timing::Outcome;
+use crate::start::{Start, WORTH};
+use crate::timing::{Outcome, Timer};
 use coins::{Base, Cache, Coin, CoinMap};
 use hash::Id;
 use std::alloc::Global;
 use std::rt::Clock;
-use std::time::Instant;
 use txn::OutPoint;
 
 /// Random outpoints and coins.
@@ -45,18 +44,40 @@ pub fn put_coin(map: &mut CoinMap, at: OutPoint, coin: Coin) -> Result<(), Fault
     Ok(())
 }
 
-/// So many coins in a map, and where they are, in another order than they came in.
-pub fn filled(alloc: Global, size: usize) -> Result<(CoinMap, Vec<OutPoint>), Fault> {
+/// Puts a coin of this worth and script into a map.
+pub fn put_new(
+    alloc: Global,
+    map: &mut CoinMap,
+    at: OutPoint,
+    value: i64,
+    script: &[u8],
+) -> Result<(), Fault> {
+    put_coin(map, at, coin(alloc, value, script)?)
+}
+
+/// Puts the next of a hoard's coins into a map: where it is, and what it is worth.
+fn put_next(alloc: Global, hoard: &mut Hoard, map: &mut CoinMap) -> Result<(OutPoint, u64), Fault> {
+    let (at, coin) = hoard.next(alloc)?;
+    let worth = coin.value.unsigned_abs();
+    put_coin(map, at, coin)?;
+    Ok((at, worth))
+}
+
+/// Puts so many coins into a map: where they are, in another order than they came in.
+pub fn fill(alloc: Global, map: &mut CoinMap, size: usize) -> Result<Vec<OutPoint>, Fault> {
     let mut hoard = Hoard::new();
-    let mut map = CoinMap::new(alloc);
     let mut places = Vec::new(alloc);
     for _ in 0..size {
-        let (at, coin) = hoard.next(alloc)?;
-        put_coin(&mut map, at, coin)?;
-        put(&mut places, at)?;
+        put_made(&mut places, put_place(alloc, &mut hoard, map))?;
     }
     shuffle(places.as_mut_slice());
-    Ok((map, places))
+    Ok(places)
+}
+
+/// Puts the next of a hoard's coins into a map: where it is.
+fn put_place(alloc: Global, hoard: &mut Hoard, map: &mut CoinMap) -> Result<OutPoint, Fault> {
+    let (at, _) = put_next(alloc, hoard, map)?;
+    Ok(at)
 }
 
 /// So many coins.
@@ -64,7 +85,7 @@ fn hoarded(alloc: Global, size: usize) -> Result<Vec<(OutPoint, Coin)>, Fault> {
     let mut hoard = Hoard::new();
     let mut coins = Vec::new(alloc);
     for _ in 0..size {
-        put(&mut coins, hoard.next(alloc)?)?;
+        put_made(&mut coins, hoard.next(alloc))?;
     }
     Ok(coins)
 }
@@ -73,73 +94,103 @@ fn hoarded(alloc: Global, size: usize) -> Result<Vec<(OutPoint, Coin)>, Fault> {
 pub fn inserted<R: AllocGlobal + Clock>(rt: &R, size: usize) -> Result<Outcome, Fault> {
     let coins = hoarded(rt.alloc(), size)?;
     let mut map = CoinMap::new(rt.alloc());
+    let timer = Timer::start(rt);
+    timer.stop(rt, put_each(&mut map, coins))
+}
+
+/// Puts coins into a map: what they are worth.
+fn put_each(map: &mut CoinMap, coins: Vec<(OutPoint, Coin)>) -> Result<Check, Fault> {
     let mut sum = 0u64;
-    let begin = Instant::now(rt)?;
     for (at, coin) in coins {
         sum = sum.wrapping_add(coin.value.unsigned_abs());
-        put_coin(&mut map, at, coin)?;
+        put_coin(map, at, coin)?;
     }
-    Outcome::since(rt, begin, Check::Count(sum))
+    Ok(Check::Count(sum))
 }
 
 /// What the coins at these places are worth, which are looked up one by one.
 fn looks(clock: &impl Clock, base: &impl Base, places: &[OutPoint]) -> Result<Outcome, Fault> {
     let mut sum = 0u64;
-    let begin = Instant::now(clock)?;
+    let timer = Timer::start(clock);
     for at in places {
         if let Some(coin) = base.get(at) {
             sum = sum.wrapping_add(coin.value.unsigned_abs());
         }
     }
-    Outcome::since(clock, begin, Check::Count(sum))
+    timer.stop(clock, Ok(Check::Count(sum)))
 }
 
 /// Each of so many coins of a map, looked up through a layer.
 pub fn looked_up<R: AllocGlobal + Clock>(rt: &R, size: usize) -> Result<Outcome, Fault> {
-    let (map, places) = filled(rt.alloc(), size)?;
+    let mut map = CoinMap::new(rt.alloc());
+    let places = fill(rt.alloc(), &mut map, size)?;
     looks(rt, &Cache::over(rt.alloc(), &map), places.as_slice())
 }
 
 /// So many coins looked up in a map by themselves, at the places that the readers of a node have.
 pub fn read_from_a_map<R: AllocGlobal + Clock>(rt: &R, size: usize) -> Result<Outcome, Fault> {
     let Start { spread, .. } = start(rt.alloc(), 0, size)?;
-    let map = spread_coins(rt.alloc(), spread.as_slice())?;
-    looks(rt, &map, spread.as_slice())
+    read_spread(rt, spread.as_slice())
 }
 
-/// The coins that a chain leaves at these places.
-fn spread_coins(alloc: Global, places: &[OutPoint]) -> Result<CoinMap, Fault> {
-    let mut map = CoinMap::new(alloc);
+/// The coins that a chain leaves at these places, looked up in a map.
+fn read_spread<R: AllocGlobal + Clock>(rt: &R, spread: &[OutPoint]) -> Result<Outcome, Fault> {
+    let mut map = CoinMap::new(rt.alloc());
+    put_spread(rt.alloc(), &mut map, spread)?;
+    looks(rt, &map, spread)
+}
+
+/// Puts the coins that a chain leaves at these places into a map.
+fn put_spread(alloc: Global, map: &mut CoinMap, places: &[OutPoint]) -> Result<(), Fault> {
     for at in places {
-        put_coin(&mut map, *at, coin(alloc, WORTH / 10, TRUE)?)?;
+        put_new(alloc, map, *at, WORTH / 10, TRUE)?;
     }
-    Ok(map)
+    Ok(())
 }
 
 /// Each of so many coins of a map, looked for and spent in a layer.
 pub fn spent<R: AllocGlobal + Clock>(rt: &R, size: usize) -> Result<Outcome, Fault> {
-    let (map, places) = filled(rt.alloc(), size)?;
-    let mut layer = Cache::over(rt.alloc(), &map);
+    let mut map = CoinMap::new(rt.alloc());
+    let places = fill(rt.alloc(), &mut map, size)?;
+    spent_over(rt, &map, places.as_slice())
+}
+
+/// The coins at these places, looked for and spent in a layer over a map.
+fn spent_over<R: AllocGlobal + Clock>(
+    rt: &R,
+    map: &CoinMap,
+    places: &[OutPoint],
+) -> Result<Outcome, Fault> {
+    let mut layer = Cache::over(rt.alloc(), map);
+    let timer = Timer::start(rt);
+    timer.stop(rt, taken(&mut layer, places))
+}
+
+/// Takes the coins at these places: what they are worth.
+fn taken<B: Base>(layer: &mut Cache<'_, B>, places: &[OutPoint]) -> Result<Check, Fault> {
     let mut sum = 0u64;
-    let begin = Instant::now(rt)?;
-    for at in places.as_slice() {
+    for at in places {
         if let Some(coin) = layer.take(at)? {
             sum = sum.wrapping_add(coin.value.unsigned_abs());
         }
     }
-    Outcome::since(rt, begin, Check::Count(sum))
+    Ok(Check::Count(sum))
 }
 
 /// So many coins put into a map, and nothing beside it.
 pub fn held<R: AllocGlobal + Clock>(rt: &R, size: usize) -> Result<Outcome, Fault> {
-    let mut hoard = Hoard::new();
     let mut map = CoinMap::new(rt.alloc());
+    let timer = Timer::start(rt);
+    timer.stop(rt, put_hoarded(rt.alloc(), &mut map, size))
+}
+
+/// Puts so many coins into a map, each as it is made: what they are worth.
+fn put_hoarded(alloc: Global, map: &mut CoinMap, size: usize) -> Result<Check, Fault> {
+    let mut hoard = Hoard::new();
     let mut sum = 0u64;
-    let begin = Instant::now(rt)?;
     for _ in 0..size {
-        let (at, coin) = hoard.next(rt.alloc())?;
-        sum = sum.wrapping_add(coin.value.unsigned_abs());
-        put_coin(&mut map, at, coin)?;
+        let (_, worth) = put_next(alloc, &mut hoard, map)?;
+        sum = sum.wrapping_add(worth);
     }
-    Outcome::since(rt, begin, Check::Count(sum))
+    Ok(Check::Count(sum))
 }

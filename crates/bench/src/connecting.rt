@@ -1,16 +1,19 @@
 //! Blocks connected to the coins before them.
 
-ghost use Rattle.std.specs.Prelude.{◌≡◌, ◌≤◌, All};
+ghost use Rattle.std.specs.Prelude.{◌≡◌, ◌≤◌, All, IfOk, None};
+ghost use Rattle.txn.specs.First.{first_broken};
+ghost use Rattle.txn.specs.Identity.{ids_of};
+ghost use Rattle.rules.specs.Alone.{alone_rules};
 
 use crate::check::Check;
-use crate::coin_work::{filled, put_coin};
+use crate::coin_work::{fill, put_coin};
 use crate::fault::{Fault, read_again};
 use crate::lists::put;
 use crate::payments::block_with;
 use crate::spends::{Spend, Spends, to_keys};
-use crate::timing::Outcome;
+use crate::timing::{Outcome, Timer};
 use block::Block;
-use coins::{Base, Cache, Coin, CoinMap};
+use coins::{Cache, Coin, CoinMap};
 use connect::{Context, Env, connect};
 use curve::Table;
 use hash::Id;
@@ -19,7 +22,6 @@ use rules::{Params, block_alone_with};
 use std::alloc::Global;
 use std::rt::Clock;
 use std::thread::Threads;
-use std::time::Instant;
 use txn::{Script, Tx, ids};
 use undo::BlockUndo;
 
@@ -33,11 +35,16 @@ const PAYMENTS: usize = 2000;
 fn block_over(alloc: Global, map: &mut CoinMap, list: Vec<Spend>) -> Result<Block, Fault> {
     let mut txs = Vec::new(alloc);
     for spend in list {
-        let Spend { tx, spent } = spend;
-        put_spent(map, &tx, spent)?;
-        put(&mut txs, tx)?;
+        put_payment(map, &mut txs, spend)?;
     }
     block_with(alloc, txs)
+}
+
+/// Puts a payment behind others, and the coin that it spends into a map.
+fn put_payment(map: &mut CoinMap, txs: &mut Vec<Tx>, spend: Spend) -> Result<(), Fault> {
+    let Spend { tx, spent } = spend;
+    put_spent(map, &tx, spent)?;
+    put(txs, tx)
 }
 
 /// Puts in the coin that a payment spends, with this script.
@@ -60,18 +67,20 @@ pub fn connected<R>(rt: &R, size: usize, workers: usize) -> Result<Outcome, Faul
 where
     R: AllocGlobal + Clock + Threads + Sync,
 {
-    let (mut map, _) = filled(rt.alloc(), size)?;
+    let mut map = CoinMap::new(rt.alloc());
+    fill(rt.alloc(), &mut map, size)?;
+    connected_over(rt, &mut map, workers.clamp(1, 16))
+}
+
+/// The same over coins that are there.
+fn connected_over<R>(rt: &R, map: &mut CoinMap, workers: usize) -> Result<Outcome, Fault>
+where
+    R: AllocGlobal + Clock + Threads + Sync,
+    requires workers { (1 ≤ workers) × (workers ≤ 16) }
+{
     let Spends { list, table } = to_keys(rt.alloc(), PAYMENTS)?;
-    let block = block_over(rt.alloc(), &mut map, list)?;
-    timed(
-        rt,
-        &map,
-        &block,
-        &table,
-        workers.clamp(1, 16),
-        &[],
-        &Threaded { rt },
-    )
+    let block = block_over(rt.alloc(), map, list)?;
+    timed(rt, map, &block, &table, workers, &[], &Threaded { rt })
 }
 
 /// Connects a block by this crew and these verdicts, and counts the coins that it spends. The environment is made where
@@ -91,27 +100,62 @@ where
     requires workers { (1 ≤ workers) × (workers ≤ 16) }
     requires same_table { All (λ v. v.triples ≡ table.now) early.now }
 {
-    let ids = ids(rt.alloc(), block.txs.as_slice())?;
-    if block_alone_with(rt.alloc(), block, &block.id(), &ids)?.is_some() {
-        return Err(Fault::Unread);
-    }
     let env = Env {
         table,
         workers,
         early,
         crew,
     };
+    let ids = ids_alone(rt.alloc(), block)?;
+    let mut cache = Cache::over(rt.alloc(), map);
+    let timer = Timer::start(rt);
+    counted(
+        rt,
+        timer,
+        undo_of(rt.alloc(), &mut cache, block, &ids, &env),
+    )
+}
+
+/// The ids of a block's transactions, where it breaks no rule by itself.
+fn ids_alone(alloc: Global, block: &Block) -> Result<Vec<Id>, Fault>
+    ensures alone { IfOk result (λ ids. first_broken (alone_rules block.now) ≡ None) }
+    ensures ids { IfOk result (λ ids. ids.items ≡ ids_of block.now.txs) }
+{
+    let ids = ids(alloc, block.txs.as_slice())?;
+    match block_alone_with(alloc, block, &block.id(), &ids)? {
+        None => Ok(ids),
+        Some(_) => Err(Fault::Unread),
+    }
+}
+
+/// Connects a block.
+fn undo_of<C: Crew>(
+    alloc: Global,
+    cache: &mut Cache<'_, CoinMap>,
+    block: &Block,
+    ids: &[Id],
+    env: &Env<'_, C>,
+) -> Result<BlockUndo, Fault>
+    requires alone { first_broken (alone_rules block.now) ≡ None }
+    requires ids { ids.now ≡ ids_of block.now.txs }
+{
     let context = Context {
         height: HEIGHT,
         cutoff: 1_296_688_602,
         medians: &[],
         params: &Params::regtest(),
     };
-    let mut cache = Cache::over(rt.alloc(), map);
-    let begin = Instant::now(rt)?;
-    let answer = connect(rt.alloc(), &mut cache, &context, block, &ids, &env, &Open)?;
-    let undo = read_again(answer)?;
-    Outcome::since(rt, begin, Check::Count(count(&undo)))
+    read_again(connect(alloc, cache, &context, block, ids, env, &Open)?)
+}
+
+/// The result of a block that was connected until now. What it spent is freed behind the time.
+fn counted(
+    clock: &impl Clock,
+    timer: Timer,
+    undo: Result<BlockUndo, Fault>,
+) -> Result<Outcome, Fault> {
+    let undo = undo?;
+    timer.stop(clock, Ok(Check::Count(count(&undo))))
 }
 
 /// How many coins were spent.

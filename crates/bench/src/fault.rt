@@ -28,13 +28,14 @@ pub fn read_again<T, E: Drop>(read: Result<T, E>) -> Result<T, Fault> {
 
 impl fmt::Display for Fault {
     fn fmt<W: fmt::Write>(&self, f: &mut fmt::Formatter<W>) -> fmt::Result {
-        match self {
-            Fault::Words => writeln!(f, "bench: usage: bench [WORKLOAD SIZE]"),
-            Fault::Memory => writeln!(f, "bench: memory"),
-            Fault::Io => writeln!(f, "bench: the clock or the output failed"),
-            Fault::Unread => writeln!(f, "bench: a block is not read"),
-            Fault::Node => writeln!(f, "bench: the node failed"),
-        }
+        let text = match self {
+            Fault::Words => "usage: bench [WORKLOAD SIZE]",
+            Fault::Memory => "memory",
+            Fault::Io => "the clock or the output failed",
+            Fault::Unread => "a block is not read",
+            Fault::Node => "the node failed",
+        };
+        writeln!(f, "bench: {text}")
     }
 }
 

@@ -7,35 +7,43 @@ use crate::chain_work::NOW;
 use crate::check::Check;
 use crate::fault::Fault;
 use crate::plan::{Plan, Work};
-use crate::read_work::{reads, reads_beside};
+use crate::read_work::reads_beside;
 use crate::seat_work::{at_once, in_turn, submit_each};
-use crate::timing::Outcome;
+use crate::timing::{Outcome, Timer};
 use node::{Naming, Node, Open, Opening, Params, Seat, Table};
 use std::marker::Brand;
 use std::rt::Clock;
 use std::sync::{Arc, Wait};
 use std::thread::Threads;
-use std::time::Instant;
 
-/// Opens a node, submits blocks, which aren't timed, and has its seats do their work.
-pub fn at_node<R>(rt: &R, plan: Plan) -> Result<Outcome, Fault>
+/// Opens a node, submits blocks, which aren't timed, and has its seats do their work, where that was made.
+pub fn at_node<R>(rt: &R, plan: Result<Plan, Fault>) -> Result<Outcome, Fault>
 where
     R: AllocGlobal + Clock + Threads + Wait + Sync,
 {
+    let plan = plan?;
     let table = Arc::new(rt.alloc(), Table::new(rt.alloc()))?;
     let opening = Opening::new(Params::regtest(), &table, plan.seats);
-    on_node::<Brand, R>(rt, opening, plan)
+    on_node::<Brand, R>(rt, opening, &plan)
 }
 
-/// Opens a node, does the work on it, and ends it.
-fn on_node<J: Naming, R>(rt: &R, opening: Opening<'_>, plan: Plan) -> Result<Outcome, Fault>
+/// Opens a node, does the work on it, and ends it. The plan is its caller's, and freed behind all: freed before what is
+/// timed, the blocks' bytes would have the next allocation sort what the allocator has free.
+fn on_node<J: Naming, R>(rt: &R, opening: Opening<'_>, plan: &Plan) -> Result<Outcome, Fault>
 where
     R: AllocGlobal + Clock + Threads + Wait + Sync,
     requires { opening ≡ J.origin }
 {
     let (node, mut seats) = Node::<J>::open(rt.alloc(), opening, plan.workers, &Open)?;
     let outcome = prepared(rt, &node, seats.as_mut_slice(), plan);
-    let history = node.finish(seats.as_mut_slice());
+    ended(node.finish(seats.as_mut_slice()), outcome)
+}
+
+/// What was done on a node, where that ended.
+fn ended<H: Drop>(
+    history: Result<H, node::Fault>,
+    outcome: Result<Outcome, Fault>,
+) -> Result<Outcome, Fault> {
     history?;
     outcome
 }
@@ -44,14 +52,13 @@ fn prepared<J: Naming, R>(
     rt: &R,
     node: &Node<'_, J>,
     seats: &mut [Seat<'_, J>],
-    plan: Plan,
+    plan: &Plan,
 ) -> Result<Outcome, Fault>
 where
     R: AllocGlobal + Clock + Threads + Wait + Sync,
 {
-    let Plan { below, work, .. } = plan;
-    submit_below(rt, node, seats, below)?;
-    done(rt, node, seats, &work)
+    submit_below(rt, node, seats, plan.below.as_slice())?;
+    done(rt, node, seats, &plan.work)
 }
 
 /// Submits blocks at the first seat, all of which have to be kept.
@@ -59,13 +66,13 @@ fn submit_below<J: Naming, R>(
     rt: &R,
     node: &Node<'_, J>,
     seats: &mut [Seat<'_, J>],
-    below: Vec<Vec<u8>>,
+    below: &[Vec<u8>],
 ) -> Result<(), Fault>
 where
     R: Threads + Wait + Sync,
 {
     if let Some(seat) = seats.first_mut() {
-        let kept = submit_each(rt, node, seat, below.as_slice())?;
+        let kept = submit_each(rt, node, seat, below)?;
         if kept != below.len() as u64 {
             return Err(Fault::Unread);
         }
@@ -83,37 +90,60 @@ where
     R: AllocGlobal + Clock + Threads + Wait + Sync,
 {
     match work {
-        Work::Reads(places, look) => reads(rt, node, places.as_slice(), *look, seats),
-        Work::Beside(places, look, blocks) => {
-            reads_beside(rt, node, seats, places.as_slice(), *look, blocks.as_slice())
-        }
+        Work::Beside(_, _, blocks) => reads_beside(rt, node, work, blocks.as_slice(), seats),
         Work::Turns(blocks) => in_turn(rt, node, seats, blocks.as_slice()),
-        Work::Branches(branches) => at_once(rt, node, seats, branches.as_slice()),
-        Work::Kept(branch, count) => match seats.first_mut() {
-            Some(seat) => kept(rt, node, seat, *branch, *count),
-            None => Err(Fault::Node),
-        },
+        Work::Kept(branch, count) => kept(rt, node, seats, *branch, *count),
+        Work::Reads(_, _) | Work::Branches(_) => at_once(rt, node, work, seats),
     }
 }
 
-/// Submits blocks without payments, each as it is made. Those that stand are counted.
+/// Submits blocks without payments at the first seat, each as it is made. Those that stand are counted.
 fn kept<J: Naming, R>(
     rt: &R,
     node: &Node<'_, J>,
-    seat: &mut Seat<'_, J>,
+    seats: &mut [Seat<'_, J>],
     branch: Branch,
     count: usize,
 ) -> Result<Outcome, Fault>
 where
     R: AllocGlobal + Clock + Threads + Wait + Sync,
 {
-    let alloc = rt.alloc();
-    let mut branch = branch;
+    let timer = Timer::start(rt);
+    let last = match seats.first_mut() {
+        Some(seat) => submit_next_ones(rt, node, seat, branch, count),
+        None => Err(Fault::Node),
+    };
+    timer.stop(rt, last)
+}
+
+fn submit_next_ones<J: Naming, R>(
+    rt: &R,
+    node: &Node<'_, J>,
+    seat: &mut Seat<'_, J>,
+    mut branch: Branch,
+    count: usize,
+) -> Result<Check, Fault>
+where
+    R: AllocGlobal + Threads + Wait + Sync,
+{
     let mut last = 0;
-    let begin = Instant::now(rt)?;
     for _ in 0..count {
-        let bytes = branch.next_bytes(alloc, Vec::new(alloc))?;
-        last = seat.submit(rt, node, bytes.as_slice(), NOW)?.at;
+        let bytes = branch.next_bytes(rt.alloc(), Vec::new(rt.alloc()));
+        last = submit_made(rt, node, seat, bytes)?;
     }
-    Outcome::since(rt, begin, Check::Count(last))
+    Ok(Check::Count(last))
+}
+
+/// Submits a block, where it was made: the place of the answer's moment.
+fn submit_made<J: Naming, R>(
+    rt: &R,
+    node: &Node<'_, J>,
+    seat: &mut Seat<'_, J>,
+    bytes: Result<Vec<u8>, Fault>,
+) -> Result<u64, Fault>
+where
+    R: Threads + Wait + Sync,
+{
+    let bytes = bytes?;
+    Ok(seat.submit(rt, node, bytes.as_slice(), NOW)?.at)
 }

@@ -1,19 +1,21 @@
 //! Transactions and coins, and blocks of payments with one input and two outputs.
 
-use crate::branch::mined;
 use crate::fault::Fault;
 use crate::filling::Filling;
-use crate::lists::{one, put};
-use block::{Block, Header, Txs, merkle};
+use crate::lists::{copied, one, put_first, put_made};
+use block::{Block, Header, Txs, meets_target, merkle};
 use coins::Coin;
 use hash::Id;
 use rules::REGTEST_BITS;
 use std::alloc::Global;
 use txn::{Inputs, OutPoint, Outputs, Script, Tx, TxIn, TxOut, ids};
 
+/// A script that accepts.
+pub const TRUE: &[u8] = &[0x51];
+
 /// A script of these bytes.
-pub fn script(alloc: Global, bytes: &[u8]) -> Result<Script, Fault> {
-    Ok(Script::from_vec(Vec::from_slice(alloc, bytes)?))
+fn script(alloc: Global, bytes: &[u8]) -> Result<Script, Fault> {
+    Ok(Script::from_vec(copied(alloc, bytes)?))
 }
 
 /// `DUP HASH160 20 EQUALVERIFY CHECKSIG`.
@@ -33,6 +35,21 @@ pub fn output(alloc: Global, value: i64, bytes: &[u8]) -> Result<TxOut, Fault> {
     Ok(TxOut { value, script })
 }
 
+/// So many outputs of this worth and script.
+pub fn outputs(alloc: Global, count: usize, worth: i64, bytes: &[u8]) -> Result<Vec<TxOut>, Fault> {
+    let mut outputs = Vec::new(alloc);
+    for _ in 0..count {
+        put_made(&mut outputs, output(alloc, worth, bytes))?;
+    }
+    Ok(outputs)
+}
+
+/// An output of this worth to the hash of a key.
+pub fn output_to_key(alloc: Global, filling: &mut Filling, value: i64) -> Result<TxOut, Fault> {
+    let hash: [u8; 20] = filling.bytes();
+    output(alloc, value, to_key_hash(&hash).as_slice())
+}
+
 /// A coin of height 7 of this worth and script.
 pub fn coin(alloc: Global, value: i64, bytes: &[u8]) -> Result<Coin, Fault> {
     let script = script(alloc, bytes)?;
@@ -44,13 +61,13 @@ pub fn coin(alloc: Global, value: i64, bytes: &[u8]) -> Result<Coin, Fault> {
     })
 }
 
-/// An input with this script.
-pub fn input(alloc: Global, prev: OutPoint, bytes: &[u8]) -> Result<TxIn, Fault> {
+/// An input with this script and sequence.
+pub fn input(alloc: Global, prev: OutPoint, bytes: &[u8], sequence: u32) -> Result<TxIn, Fault> {
     let script = script(alloc, bytes)?;
     Ok(TxIn {
         prev,
         script,
-        sequence: 0xffff_ffff,
+        sequence,
     })
 }
 
@@ -64,14 +81,15 @@ pub fn transaction(inputs: Vec<TxIn>, outputs: Vec<TxOut>) -> Tx {
     }
 }
 
-/// A transaction of one input.
+/// A transaction of one input, where its outputs were made.
 pub fn spending(
     alloc: Global,
     prev: OutPoint,
     bytes: &[u8],
-    outputs: Vec<TxOut>,
+    outputs: Result<Vec<TxOut>, Fault>,
 ) -> Result<Tx, Fault> {
-    let inputs = one(alloc, input(alloc, prev, bytes)?)?;
+    let outputs = outputs?;
+    let inputs = one(alloc, input(alloc, prev, bytes, 0xffff_ffff))?;
     Ok(transaction(inputs, outputs))
 }
 
@@ -95,59 +113,72 @@ pub fn nowhere(filling: &mut Filling) -> OutPoint {
 fn payment(alloc: Global, filling: &mut Filling) -> Result<Tx, Fault> {
     let prev = nowhere(filling);
     let input = signed(filling);
-    let mut outputs = Vec::new(alloc);
-    for value in [1000, 2000] {
-        let hash: [u8; 20] = filling.bytes();
-        put(
-            &mut outputs,
-            output(alloc, value, to_key_hash(&hash).as_slice())?,
-        )?;
-    }
+    let outputs = outputs_to_keys(alloc, filling);
     spending(alloc, prev, input.as_slice(), outputs)
+}
+
+/// The two outputs of a payment.
+fn outputs_to_keys(alloc: Global, filling: &mut Filling) -> Result<Vec<TxOut>, Fault> {
+    let mut outputs = one(alloc, output_to_key(alloc, filling, 1000))?;
+    put_made(&mut outputs, output_to_key(alloc, filling, 2000))?;
+    Ok(outputs)
 }
 
 /// A transaction that makes the subsidy of the first blocks.
 fn coinbase(alloc: Global) -> Result<Tx, Fault> {
-    let outputs = one(alloc, output(alloc, 5_000_000_000, &[0x51])?)?;
+    let outputs = outputs(alloc, 1, 5_000_000_000, TRUE);
     spending(alloc, OutPoint::NULL, &[0x51, 0x51], outputs)
 }
 
 /// A block of a coinbase and so many payments, which breaks no rule by itself.
 pub fn block_of(alloc: Global, size: usize) -> Result<Block, Fault> {
     let mut filling = Filling::new(5);
-    let mut txs = one(alloc, coinbase(alloc)?)?;
+    let mut txs = one(alloc, coinbase(alloc))?;
     for _ in 0..size {
-        put(&mut txs, payment(alloc, &mut filling)?)?;
+        put_made(&mut txs, payment(alloc, &mut filling))?;
     }
-    under_header(alloc, txs)
+    under(alloc, ORPHAN, Ok(txs))
 }
 
 /// A block of a coinbase and these payments.
 pub fn block_with(alloc: Global, payments: Vec<Tx>) -> Result<Block, Fault> {
-    let mut txs = one(alloc, coinbase(alloc)?)?;
-    for tx in payments {
-        put(&mut txs, tx)?;
-    }
-    under_header(alloc, txs)
+    under(alloc, ORPHAN, put_first(payments, coinbase(alloc)))
 }
 
-/// A block of these transactions, whose parent is none.
-fn under_header(alloc: Global, txs: Vec<Tx>) -> Result<Block, Fault> {
-    let header = mined(Header {
-        version: 1,
-        prev: Id([0; 32]),
-        root: root_of(alloc, txs.as_slice())?,
-        time: 1_296_688_602,
-        bits: REGTEST_BITS,
-        nonce: 0,
-    });
+/// What a header has beside the root and the nonce, where its parent is none.
+const ORPHAN: Header = Header {
+    version: 1,
+    prev: Id([0; 32]),
+    root: Id([0; 32]),
+    time: 1_296_688_602,
+    bits: REGTEST_BITS,
+    nonce: 0,
+};
+
+/// A block of these transactions, where they were made, under this header with their root and the first nonce that
+/// meets the target.
+pub fn under(alloc: Global, header: Header, txs: Result<Vec<Tx>, Fault>) -> Result<Block, Fault> {
+    let txs = txs?;
+    let root = root_of(alloc, txs.as_slice())?;
+    let header = mined(Header { root, ..header });
     let txs = Txs::from_vec(txs);
     Ok(Block { header, txs })
 }
 
 /// The Merkle root of these transactions.
-pub fn root_of(alloc: Global, txs: &[Tx]) -> Result<Id, Fault> {
+fn root_of(alloc: Global, txs: &[Tx]) -> Result<Id, Fault> {
     let ids = ids(alloc, txs)?;
     let (root, _) = merkle(alloc, ids.as_slice())?;
     Ok(root)
+}
+
+/// The header with the first nonce that meets the target.
+fn mined(header: Header) -> Header {
+    for nonce in 0..1000 {
+        let mined = Header { nonce, ..header };
+        if meets_target(&mined.id()) {
+            return mined;
+        }
+    }
+    header
 }

@@ -3,9 +3,11 @@
 use crate::branch::Branch;
 use crate::fault::Fault;
 use crate::filling::Filling;
+use crate::lists::put_made;
+use crate::payments::TRUE;
 use crate::read_work::Look;
 use crate::scripts::long_script_alone;
-use crate::start::{Start, TRUE, paying};
+use crate::start::{Start, paying};
 use std::alloc::Global;
 use txn::OutPoint;
 
@@ -54,8 +56,7 @@ pub struct Plan {
 
 /// A chain that leaves so many coins for payments, and so many to be read, whose places stand in another order.
 pub fn start(alloc: Global, payments: usize, coins: usize) -> Result<Start, Fault> {
-    let mut start = Start::new(alloc)?;
-    start.fan(alloc, payments.saturating_add(coins / 10), TRUE)?;
+    let mut start = Start::new(alloc, payments.saturating_add(coins / 10), TRUE)?;
     start.spread(alloc, coins)?;
     shuffle(start.spread.as_mut_slice());
     Ok(start)
@@ -83,26 +84,27 @@ pub fn reads(alloc: Global, coins: usize, seats: usize, look: Look) -> Result<Pl
 
 /// The same while another seat submits blocks of 2,000 payments.
 pub fn reads_beside(alloc: Global, coins: usize, readers: usize) -> Result<Plan, Fault> {
-    let start = start(alloc, PAYMENTS.saturating_mul(2), coins)?;
+    let start = start(alloc, PAYMENTS.saturating_mul(2), coins);
     let count = (coins / 1000).clamp(2, 60);
     beside(alloc, start, count, readers, Look::Coin)
 }
 
 /// The slowest of a million reads while another seat submits blocks of so many payments.
 pub fn slowest(alloc: Global, payments: usize) -> Result<Plan, Fault> {
-    let start = start(alloc, payments, payments.saturating_mul(20).min(READ))?;
+    let start = start(alloc, payments, payments.saturating_mul(20).min(READ));
     let count = SLOWEST.checked_div(payments).unwrap_or(0).min(MANY);
     beside(alloc, start, count, 1, Look::Slowest)
 }
 
-/// Reads of a chain's coins beside so many blocks that pay its others.
+/// Reads of a chain's coins, where it was made, beside so many blocks that pay its others.
 fn beside(
     alloc: Global,
-    start: Start,
+    start: Result<Start, Fault>,
     count: usize,
     readers: usize,
     look: Look,
 ) -> Result<Plan, Fault> {
+    let start = start?;
     let written = paying(alloc, start.branch, start.coins.as_slice(), count)?;
     let Start { blocks, spread, .. } = start;
     Ok(Plan {
@@ -113,14 +115,15 @@ fn beside(
     })
 }
 
-/// So many blocks that pay a chain's coins, by so many seats in turn.
+/// So many blocks that pay a chain's coins, where it was made, by so many seats in turn.
 fn in_turn(
     alloc: Global,
-    start: Start,
+    start: Result<Start, Fault>,
     count: usize,
     seats: usize,
     workers: usize,
 ) -> Result<Plan, Fault> {
+    let start = start?;
     let written = paying(alloc, start.branch, start.coins.as_slice(), count)?;
     Ok(Plan {
         seats,
@@ -132,39 +135,37 @@ fn in_turn(
 
 /// So many blocks of 1,000 payments on one branch.
 pub fn turns(alloc: Global, count: usize, seats: usize) -> Result<Plan, Fault> {
-    in_turn(alloc, start(alloc, PAYMENTS, 0)?, count, seats, 1)
+    in_turn(alloc, start(alloc, PAYMENTS, 0), count, seats, 1)
 }
 
 /// Ten blocks of so many payments over so many coins, each of which changes two coins for a payment and one more.
 pub fn published(alloc: Global, coins: usize, payments: usize) -> Result<Plan, Fault> {
     // few at a small size
     let mut start = start(alloc, payments.min(coins), coins)?;
-    // The first step that is timed brings up to date the copy that the last one before it didn't change.
-    start.add(alloc, Vec::new(alloc))?;
-    in_turn(alloc, start, STEPS, 1, 1)
+    // The first of these brings up to date the copy that the last step didn't change, and frees what was kept for that;
+    // in those behind it the allocator sorts what was freed.
+    start.add_empty(alloc, STEPS)?;
+    in_turn(alloc, Ok(start), STEPS, 1, 1)
 }
 
 /// A block of so many payments whose scripts are what costs, each with 66 CHECKSIG over 9,600 opcodes, submitted to a
 /// node of so many workers.
 pub fn worked(alloc: Global, payments: usize, workers: usize) -> Result<Plan, Fault> {
     let script = long_script_alone(alloc)?;
-    let mut start = Start::new(alloc)?;
-    start.fan(alloc, payments, script.as_slice())?;
+    let start = Start::new(alloc, payments, script.as_slice());
     in_turn(alloc, start, 1, 1, workers)
 }
 
 /// A node of so many coins, at which nothing is timed.
 pub fn kept_coins(alloc: Global, coins: usize) -> Result<Plan, Fault> {
-    in_turn(alloc, start(alloc, 0, coins)?, 0, 1, 1)
+    in_turn(alloc, start(alloc, 0, coins), 0, 1, 1)
 }
 
 /// Four branches of so many blocks of 1,000 payments on one base, beside a longer one, by so many seats at once.
 pub fn branches(alloc: Global, count: usize, seats: usize) -> Result<Plan, Fault> {
     let mut start = start(alloc, PAYMENTS, 0)?;
     let branches = branches_of(alloc, start.branch, start.coins.as_slice(), count)?;
-    for _ in 0..count.saturating_add(1) {
-        start.add(alloc, Vec::new(alloc))?;
-    }
+    start.add_empty(alloc, count.saturating_add(1))?;
     Ok(Plan {
         seats,
         workers: 1,
@@ -185,7 +186,7 @@ fn branches_of(
             number: number.wrapping_add(2),
             ..base
         };
-        branches.push(paying(alloc, branch, coins, count)?)?;
+        put_made(&mut branches, paying(alloc, branch, coins, count))?;
     }
     Ok(branches)
 }

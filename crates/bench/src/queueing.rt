@@ -5,15 +5,14 @@ ghost use Rattle.queue.specs.Jobs.{HasInput};
 
 use crate::check::Check;
 use crate::fault::Fault;
-use crate::spends::{Spends, to_keys};
-use crate::timing::Outcome;
+use crate::scripts;
+use crate::spends::Spends;
+use crate::timing::{Outcome, Timer};
 use curve::Table;
 use interp::Job;
 use queue::{Open, first_failure};
 use std::rt::Clock;
 use std::thread::Threads;
-use std::time::Instant;
-use wire::Memory;
 
 /// Whether the queue takes these jobs: there are fewer than 2^32, each of an input that is there.
 fn are_ready(jobs: &[Job]) -> bool
@@ -23,39 +22,69 @@ fn are_ready(jobs: &[Job]) -> bool
     jobs.len() < 0x1_0000_0000 && jobs.iter().all(|job| job.input < job.tx.inputs.len())
 }
 
-/// So many payments to the hash of a key, by so many workers, all accepted.
-pub fn payments<R>(rt: &R, size: usize, workers: usize) -> Result<Outcome, Fault>
-where
-    R: AllocGlobal + Clock + Threads + Sync,
-{
-    checked(rt, &to_keys(rt.alloc(), size)?, workers, 1)
+/// Who runs scripts.
+#[derive(Clone, Copy)]
+pub enum Runner {
+    /// One after the other, without a queue. It is counted how many accept.
+    Alone,
+    /// The queue, by so many workers. It is counted how often no job failed.
+    Queue(usize),
 }
 
-/// One short list of jobs, so often by four workers: what it costs to start them.
-pub fn starts<R>(rt: &R, size: usize) -> Result<Outcome, Fault>
+/// The scripts of these spends, where they were made, run so often.
+pub fn checked<R>(
+    rt: &R,
+    spends: Result<Spends, Fault>,
+    runner: Runner,
+    times: usize,
+) -> Result<Outcome, Fault>
 where
     R: AllocGlobal + Clock + Threads + Sync,
 {
-    checked(rt, &to_keys(rt.alloc(), 4)?, 4, size)
-}
-
-/// The queue's answer to a list, asked for so often. It is counted how often no job failed.
-fn checked<R>(rt: &R, spends: &Spends, workers: usize, times: usize) -> Result<Outcome, Fault>
-where
-    R: AllocGlobal + Clock + Threads + Sync,
-{
+    let spends = spends?;
     let jobs = spends.jobs(rt.alloc())?;
+    timed(rt, jobs.as_slice(), &spends.table, runner, times)
+}
+
+fn timed<R>(
+    rt: &R,
+    jobs: &[Job],
+    table: &Table,
+    runner: Runner,
+    times: usize,
+) -> Result<Outcome, Fault>
+where
+    R: AllocGlobal + Clock + Threads + Sync,
+{
+    let timer = Timer::start(rt);
+    let count = match runner {
+        Runner::Alone => scripts::accepted_in_all(rt.alloc(), jobs, table, times),
+        Runner::Queue(workers) => accepted_in_all(rt, jobs, table, workers, times),
+    };
+    timer.stop(rt, count)
+}
+
+/// How often no job fails.
+fn accepted_in_all<R>(
+    rt: &R,
+    jobs: &[Job],
+    table: &Table,
+    workers: usize,
+    times: usize,
+) -> Result<Check, Fault>
+where
+    R: AllocGlobal + Threads + Sync,
+{
     let mut count = 0u64;
-    let begin = Instant::now(rt)?;
     for _ in 0..times {
-        let is_accepted = are_accepted(rt, jobs.as_slice(), &spends.table, workers)?;
+        let is_accepted = are_accepted(rt, jobs, table, workers)?;
         count = count.wrapping_add(u64::from(is_accepted));
     }
-    Outcome::since(rt, begin, Check::Count(count))
+    Ok(Check::Count(count))
 }
 
 /// Whether no job fails.
-fn are_accepted<R>(rt: &R, jobs: &[Job], table: &Table, workers: usize) -> Result<bool, Memory>
+fn are_accepted<R>(rt: &R, jobs: &[Job], table: &Table, workers: usize) -> Result<bool, Fault>
 where
     R: AllocGlobal + Threads + Sync,
 {

@@ -3,15 +3,17 @@
 use crate::chain_work::NOW;
 use crate::check::Check;
 use crate::fault::Fault;
-use crate::timing::Outcome;
+use crate::plan::Work;
+use crate::seat_work::at_once;
+use crate::timing::{Outcome, Timer};
 use node::{Naming, Node, Seat};
 use std::rt::Clock;
 use std::sync::Wait;
+use std::sync::atomic::AtomicBool;
 use std::sync::atomic::Ordering::SeqCst;
-use std::sync::atomic::{AtomicBool, AtomicU64};
 use std::thread;
 use std::thread::Threads;
-use std::time::{Duration, Instant};
+use std::time::Duration;
 use txn::OutPoint;
 
 /// How often the coins are read where the slowest read is looked for.
@@ -38,18 +40,26 @@ fn read<J: Naming, R: AllocGlobal>(
     look: Look,
 ) -> Result<u64, Fault> {
     match look {
-        Look::Coin | Look::Slowest => Ok(match seat.gettxout(rt.alloc(), node, at)?.value {
-            Some(output) => output.value.unsigned_abs(),
-            None => 0,
-        }),
-        Look::Best => {
-            let best = seat.getbestblockhash(node)?;
-            Ok(u64::from(best.at > 0))
-        }
+        Look::Coin | Look::Slowest => read_coin(rt, node, seat, at),
+        Look::Best => Ok(u64::from(seat.getbestblockhash(node)?.at > 0)),
     }
 }
 
-fn read_each<J: Naming, R: AllocGlobal>(
+/// What a coin is worth that is read.
+fn read_coin<J: Naming, R: AllocGlobal>(
+    rt: &R,
+    node: &Node<'_, J>,
+    seat: &mut Seat<'_, J>,
+    at: &OutPoint,
+) -> Result<u64, Fault> {
+    Ok(match seat.gettxout(rt.alloc(), node, at)?.value {
+        Some(output) => output.value.unsigned_abs(),
+        None => 0,
+    })
+}
+
+/// What a seat reads at each place.
+pub fn read_each<J: Naming, R: AllocGlobal>(
     rt: &R,
     node: &Node<'_, J>,
     seat: &mut Seat<'_, J>,
@@ -64,44 +74,22 @@ fn read_each<J: Naming, R: AllocGlobal>(
 }
 
 /// Each seat reads each place, or the first looks for the slowest read.
-pub fn reads<J: Naming, R>(
+fn reads<J: Naming, R>(
     rt: &R,
     node: &Node<'_, J>,
-    places: &[OutPoint],
-    look: Look,
+    work: &Work,
     seats: &mut [Seat<'_, J>],
 ) -> Result<Outcome, Fault>
 where
-    R: AllocGlobal + Clock + Threads + Sync,
+    R: AllocGlobal + Clock + Threads + Wait + Sync,
 {
-    match look {
-        Look::Slowest => match seats.first_mut() {
-            Some(seat) => slowest_of(rt, node, places, seat),
+    match work {
+        Work::Beside(places, Look::Slowest, _) => match seats.first_mut() {
+            Some(seat) => slowest_of(rt, node, places.as_slice(), seat),
             None => Err(Fault::Node),
         },
-        _ => at_once(rt, node, places, look, seats),
+        _ => at_once(rt, node, work, seats),
     }
-}
-
-/// Each seat reads each place, on a thread of its own. The time is of all together; all that was read is summed.
-fn at_once<J: Naming, R>(
-    rt: &R,
-    node: &Node<'_, J>,
-    places: &[OutPoint],
-    look: Look,
-    seats: &mut [Seat<'_, J>],
-) -> Result<Outcome, Fault>
-where
-    R: AllocGlobal + Clock + Threads + Sync,
-{
-    let sum = AtomicU64::new(0);
-    let ask = |_place: usize, seat: &mut Seat<'_, J>| {
-        let own = read_each(rt, node, seat, places, look);
-        sum.fetch_add(own.unwrap_or(0), SeqCst);
-    };
-    let begin = Instant::now(rt)?;
-    thread::for_each_mut(rt, seats, 16, &ask);
-    Outcome::since(rt, begin, Check::Count(sum.load(SeqCst)))
 }
 
 /// The slowest of so many rounds of reads, and what was read.
@@ -114,22 +102,45 @@ fn slowest_of<J: Naming, R>(
 where
     R: AllocGlobal + Clock,
 {
-    let mut slowest = Duration::from_secs(0);
-    let mut sum = 0u64;
-    for at in places
-        .iter()
-        .cycle()
-        .take(places.len().saturating_mul(ROUNDS))
-    {
-        let begin = Instant::now(rt)?;
-        let worth = read(rt, node, seat, at, Look::Coin)?;
-        slowest = slowest.max(begin.elapsed(rt)?);
-        sum = sum.wrapping_add(worth);
+    let mut slowest = Slowest {
+        spent: Duration::from_secs(0),
+        sum: 0,
+    };
+    for _ in 0..ROUNDS {
+        slowest.read_each(rt, node, places, seat)?;
     }
     Ok(Outcome {
-        check: Check::Count(sum),
-        spent: slowest,
+        check: Check::Count(slowest.sum),
+        spent: slowest.spent,
     })
+}
+
+/// The slowest read, and what was read.
+#[derive(Clone, Copy)]
+struct Slowest {
+    spent: Duration,
+    sum: u64,
+}
+
+impl Slowest {
+    fn read_each<J: Naming, R>(
+        &mut self,
+        rt: &R,
+        node: &Node<'_, J>,
+        places: &[OutPoint],
+        seat: &mut Seat<'_, J>,
+    ) -> Result<(), Fault>
+    where
+        R: AllocGlobal + Clock,
+    {
+        for at in places {
+            let timer = Timer::start(rt);
+            let worth = read_coin(rt, node, seat, at)?;
+            self.spent = self.spent.max(timer.spent(rt)?);
+            self.sum = self.sum.wrapping_add(worth);
+        }
+        Ok(())
+    }
 }
 
 /// Submits blocks until it is told to end.
@@ -156,10 +167,9 @@ where
 pub fn reads_beside<J: Naming, R>(
     rt: &R,
     node: &Node<'_, J>,
-    seats: &mut [Seat<'_, J>],
-    places: &[OutPoint],
-    look: Look,
+    work: &Work,
     blocks: &[Vec<u8>],
+    seats: &mut [Seat<'_, J>],
 ) -> Result<Outcome, Fault>
 where
     R: AllocGlobal + Clock + Threads + Wait + Sync,
@@ -171,7 +181,7 @@ where
     let write = || submit_until(rt, node, blocks, &is_over, writer);
     let ask = || {
         let over = &is_over;
-        let outcome = reads(rt, node, places, look, readers);
+        let outcome = reads(rt, node, work, readers);
         over.store(true, SeqCst);
         outcome
     };

@@ -3,7 +3,9 @@
 use crate::chain_work::NOW;
 use crate::check::Check;
 use crate::fault::Fault;
-use crate::timing::Outcome;
+use crate::plan::Work;
+use crate::read_work::read_each;
+use crate::timing::{Outcome, Timer};
 use node::{Naming, Node, Seat, SubmitReply};
 use std::rt::Clock;
 use std::sync::Wait;
@@ -11,7 +13,21 @@ use std::sync::atomic::AtomicU64;
 use std::sync::atomic::Ordering::SeqCst;
 use std::thread;
 use std::thread::Threads;
-use std::time::Instant;
+
+/// Submits a block at a seat: how many are kept.
+fn submit<J: Naming, R>(
+    rt: &R,
+    node: &Node<'_, J>,
+    seat: &mut Seat<'_, J>,
+    bytes: &[u8],
+) -> Result<u64, Fault>
+where
+    R: Threads + Wait + Sync,
+{
+    let reply = seat.submit(rt, node, bytes, NOW)?.value;
+    let is_kept = matches!(reply, SubmitReply::Accepted | SubmitReply::Inconclusive);
+    Ok(u64::from(is_kept))
+}
 
 /// Submits blocks at a seat, and counts those that are kept.
 pub fn submit_each<J: Naming, R>(
@@ -25,14 +41,9 @@ where
 {
     let mut kept = 0u64;
     for bytes in blocks {
-        let reply = seat.submit(rt, node, bytes.as_slice(), NOW)?.value;
-        kept = kept.wrapping_add(u64::from(is_kept(&reply)));
+        kept = kept.wrapping_add(submit(rt, node, seat, bytes.as_slice())?);
     }
     Ok(kept)
-}
-
-fn is_kept(reply: &SubmitReply) -> bool {
-    matches!(reply, SubmitReply::Accepted | SubmitReply::Inconclusive)
 }
 
 /// Submits each block at the seat whose turn it is. Those that are kept are counted.
@@ -45,37 +56,71 @@ pub fn in_turn<J: Naming, R>(
 where
     R: Clock + Threads + Wait + Sync,
 {
-    let mut kept = 0u64;
-    let begin = Instant::now(rt)?;
-    for (turn, bytes) in blocks.iter().enumerate() {
-        let place = turn.checked_rem(seats.len()).unwrap_or(0);
-        if let Some(seat) = seats.get_mut(place) {
-            let reply = seat.submit(rt, node, bytes.as_slice(), NOW)?.value;
-            kept = kept.wrapping_add(u64::from(is_kept(&reply)));
-        }
-    }
-    Outcome::since(rt, begin, Check::Count(kept))
+    let timer = Timer::start(rt);
+    timer.stop(rt, submit_in_turn(rt, node, seats, blocks))
 }
 
-/// Submits several branches, which the seats share, each on a thread of its own. The blocks that are kept are counted.
-pub fn at_once<J: Naming, R>(
+fn submit_in_turn<J: Naming, R>(
     rt: &R,
     node: &Node<'_, J>,
     seats: &mut [Seat<'_, J>],
-    branches: &[Vec<Vec<u8>>],
+    blocks: &[Vec<u8>],
+) -> Result<Check, Fault>
+where
+    R: Threads + Wait + Sync,
+{
+    let mut kept = 0u64;
+    for turn in 0..blocks.len() {
+        let place = turn.checked_rem(seats.len()).unwrap_or(0);
+        if let Some(seat) = seats.get_mut(place) {
+            kept = kept.wrapping_add(submit(rt, node, seat, blocks[turn].as_slice())?);
+        }
+    }
+    Ok(Check::Count(kept))
+}
+
+/// Each seat does its part of the work on a thread of its own. The time is of all together; what comes of it is summed.
+pub fn at_once<J: Naming, R>(
+    rt: &R,
+    node: &Node<'_, J>,
+    work: &Work,
+    seats: &mut [Seat<'_, J>],
 ) -> Result<Outcome, Fault>
 where
-    R: Clock + Threads + Wait + Sync,
+    R: AllocGlobal + Clock + Threads + Wait + Sync,
 {
     let threads = seats.len().max(1);
-    let kept = AtomicU64::new(0);
-    let submit = |place: usize, seat: &mut Seat<'_, J>| {
-        let own = submit_shared(rt, node, seat, branches, place, threads);
-        kept.fetch_add(own.unwrap_or(0), SeqCst);
+    let sum = AtomicU64::new(0);
+    let act = |place: usize, seat: &mut Seat<'_, J>| {
+        let own = part_of(rt, node, work, place, threads, seat);
+        sum.fetch_add(own.unwrap_or(0), SeqCst);
     };
-    let begin = Instant::now(rt)?;
-    thread::for_each_mut(rt, seats, threads, &submit);
-    Outcome::since(rt, begin, Check::Count(kept.load(SeqCst)))
+    let timer = Timer::start(rt);
+    thread::for_each_mut(rt, seats, threads, &act);
+    timer.stop(rt, Ok(Check::Count(sum.load(SeqCst))))
+}
+
+/// What a seat reads, or how many of the blocks that it submits are kept.
+fn part_of<J: Naming, R>(
+    rt: &R,
+    node: &Node<'_, J>,
+    work: &Work,
+    place: usize,
+    seats: usize,
+    seat: &mut Seat<'_, J>,
+) -> Result<u64, Fault>
+where
+    R: AllocGlobal + Threads + Wait + Sync,
+{
+    match work {
+        Work::Reads(places, look) | Work::Beside(places, look, _) => {
+            read_each(rt, node, seat, places.as_slice(), *look)
+        }
+        Work::Branches(branches) => {
+            submit_shared(rt, node, seat, branches.as_slice(), place, seats)
+        }
+        _ => Ok(0),
+    }
 }
 
 /// Submits each of the branches that are a seat's own.
@@ -91,8 +136,10 @@ where
     R: Threads + Wait + Sync,
 {
     let mut kept = 0u64;
-    for branch in branches.iter().skip(place).step_by(seats.max(1)) {
-        kept = kept.wrapping_add(submit_each(rt, node, seat, branch.as_slice())?);
+    for at in 0..branches.len() {
+        if at.checked_rem(seats).unwrap_or(0) == place {
+            kept = kept.wrapping_add(submit_each(rt, node, seat, branches[at].as_slice())?);
+        }
     }
     Ok(kept)
 }

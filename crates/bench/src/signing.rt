@@ -3,47 +3,46 @@
 use crate::check::Check;
 use crate::fault::Fault;
 use crate::filling::Filling;
-use crate::lists::put;
+use crate::lists::{put, put_made};
 use crate::payments::{input, nowhere, transaction};
 use crate::scripts::accepted;
-use crate::spends::{ALL, add_valid, digest, key, put_push, put_signature, signature};
-use crate::timing::Outcome;
+use crate::spends::{ALL, Signer, add_valid, digest, key, key_push, signature, signature_push};
+use crate::timing::{Outcome, Timer};
 use curve::Table;
 use interp::{Flags, Job};
-use sighash::Midstates;
+use sighash::{Midstates, SpentScripts};
 use std::alloc::Global;
 use std::rt::Clock;
-use std::time::Instant;
-use txn::{Tx, TxIn};
+use txn::Tx;
 
 /// A transaction of so many inputs of one script, and no output.
 fn of_inputs(alloc: Global, size: usize, script: &[u8]) -> Result<Tx, Fault> {
     let mut filling = Filling::new(12);
     let mut inputs = Vec::new(alloc);
     for _ in 0..size {
-        let input = input(alloc, nowhere(&mut filling), script)?;
-        put(
-            &mut inputs,
-            TxIn {
-                sequence: 0,
-                ..input
-            },
-        )?;
+        let prev = nowhere(&mut filling);
+        put_made(&mut inputs, input(alloc, prev, script, 0))?;
     }
     Ok(transaction(inputs, Vec::new(alloc)))
 }
 
-/// So many digests of a transaction of 1,000 inputs.
+/// So many digests of a transaction of 1,000 inputs, each of which has a push that ends as a signature of type ALL does.
 pub fn digests<R: AllocGlobal + Clock>(rt: &R, size: usize) -> Result<Outcome, Fault> {
-    let tx = of_inputs(rt.alloc(), 1000, &[])?;
+    let tx = of_inputs(rt.alloc(), 1000, &[1, ALL])?;
+    let timer = Timer::start(rt);
+    timer.stop(rt, last_digest(rt.alloc(), &tx, size))
+}
+
+/// The last of so many digests of a transaction's inputs.
+fn last_digest(alloc: Global, tx: &Tx, count: usize) -> Result<Check, Fault> {
     let code = [OP_CHECKSIG; 25];
+    let spent = OneScript(code.as_slice());
+    let midstates = Midstates::of(alloc, tx, 0, &spent)?;
     let mut last = [0; 32];
-    let begin = Instant::now(rt)?;
-    let midstates = Midstates::of(rt.alloc(), &tx)?;
-    for number in 0..size {
+    for number in 0..count {
         last = shared_digest(&midstates, number % 1000, code.as_slice());
     }
-    Outcome::since(rt, begin, Check::of_digest(last))
+    Ok(Check::of_digest(last))
 }
 
 /// What a signature of an input signs, by ALL. Where there is no such input, zeros.
@@ -56,13 +55,22 @@ fn shared_digest(midstates: &Midstates, input: usize, code: &[u8]) -> [u8; 32] {
 
 const OP_CHECKSIG: u8 = 0xac;
 
+/// The script that all inputs spend.
+#[derive(Drop)]
+struct OneScript<'a>(&'a [u8]);
+
+impl<'a> SpentScripts for OneScript<'a> {
+    fn script(&self, _place: usize, _input: usize) -> Option<&[u8]> {
+        Some(self.0)
+    }
+}
+
 /// A transaction whose inputs all have one signature, and the script of a key that they spend.
 #[derive(Drop)]
 struct Signed {
-    key: [u8; 33],
-    signature: [u8; 70],
+    signer: Signer,
     tx: Tx,
-    spent: Vec<u8>,
+    spent: [u8; 35],
 }
 
 impl Signed {
@@ -70,16 +78,12 @@ impl Signed {
     fn new(alloc: Global, size: usize) -> Result<Signed, Fault> {
         let mut filling = Filling::new(13);
         let key = key(&mut filling, 0);
-        let signature = signature(&mut filling);
-        let mut input = Vec::new(alloc);
-        put_signature(&mut input, &signature)?;
-        let tx = of_inputs(alloc, size, input.as_slice())?;
-        let spent = to_key(alloc, &key)?;
+        let signer = (key, signature(&mut filling));
+        let tx = of_inputs(alloc, size, signature_push(&signer.1).as_slice())?;
         Ok(Signed {
-            key,
-            signature,
+            signer,
             tx,
-            spent,
+            spent: to_key(&key),
         })
     }
 
@@ -88,10 +92,28 @@ impl Signed {
         let mut table = Table::new(alloc);
         for number in 0..self.tx.inputs.len() {
             let digest = digest(&self.tx, number, self.spent.as_slice());
-            add_valid(&mut table, &self.key, &self.signature, &digest)?;
+            add_valid(&mut table, &self.signer, &digest)?;
         }
         Ok(table)
     }
+
+    /// How many of the inputs are accepted.
+    fn accepted(&self, alloc: Global, table: &Table) -> Result<Check, Fault> {
+        let spent = OneScript(self.spent.as_slice());
+        let midstates = Midstates::of(alloc, &self.tx, 0, &spent)?;
+        accepted_by(alloc, &midstates, self.spent.as_slice(), table)
+    }
+}
+
+/// How many inputs of a transaction are accepted, whose digests share its midstates.
+fn accepted_by<'a>(
+    alloc: Global,
+    midstates: &'a Midstates<'a>,
+    spent: &'a [u8],
+    table: &Table,
+) -> Result<Check, Fault> {
+    let jobs = jobs(alloc, midstates, spent)?;
+    Ok(Check::Count(accepted(alloc, jobs.as_slice(), table)?))
 }
 
 /// A job for each input of a transaction, whose digests share its midstates.
@@ -118,20 +140,16 @@ fn shared_job<'a>(midstates: &'a Midstates<'a>, input: usize, spent: &'a [u8]) -
 }
 
 /// The push of a key, and CHECKSIG.
-fn to_key(alloc: Global, key: &[u8; 33]) -> Result<Vec<u8>, Fault> {
-    let mut script = Vec::new(alloc);
-    put_push(&mut script, key.as_slice())?;
-    put(&mut script, OP_CHECKSIG)?;
-    Ok(script)
+fn to_key(key: &[u8; 33]) -> [u8; 35] {
+    let mut bytes = [OP_CHECKSIG; 35];
+    bytes[..34].copy_from_slice(key_push(key).as_slice());
+    bytes
 }
 
 /// CHECKSIG of each input of one transaction of so many.
 pub fn each_input<R: AllocGlobal + Clock>(rt: &R, size: usize) -> Result<Outcome, Fault> {
     let signed = Signed::new(rt.alloc(), size)?;
     let table = signed.table(rt.alloc())?;
-    let begin = Instant::now(rt)?;
-    let midstates = Midstates::of(rt.alloc(), &signed.tx)?;
-    let jobs = jobs(rt.alloc(), &midstates, signed.spent.as_slice())?;
-    let count = accepted(rt.alloc(), jobs.as_slice(), &table)?;
-    Outcome::since(rt, begin, Check::Count(count))
+    let timer = Timer::start(rt);
+    timer.stop(rt, signed.accepted(rt.alloc(), &table))
 }

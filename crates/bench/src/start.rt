@@ -3,11 +3,11 @@
 use crate::branch::{Branch, bytes_of};
 use crate::fault::Fault;
 use crate::filling::Filling;
-use crate::lists::put;
-use crate::payments::{output, signed, spending};
+use crate::lists::{copied, put, put_made};
+use crate::payments::{TRUE, outputs, signed, spending};
 use hash::Id;
 use std::alloc::Global;
-use txn::{OutPoint, Tx, TxOut, ids};
+use txn::{OutPoint, Tx, ids};
 
 /// So many blocks stand below the first that spends a coinbase.
 const UNRIPE: usize = 100;
@@ -21,29 +21,16 @@ const SPREAD: usize = 3000;
 /// What a coin is worth that a coinbase is spent for.
 pub const WORTH: i64 = 100_000;
 
-/// A script that accepts.
-pub const TRUE: &[u8] = &[0x51];
-
 /// What a payment pays: so many outputs of a worth, with a script.
 #[derive(Clone, Copy)]
-pub struct Paid<'s> {
-    pub outputs: usize,
-    pub worth: i64,
-    pub script: &'s [u8],
-}
-
-impl Paid<'_> {
-    fn outputs(&self, alloc: Global) -> Result<Vec<TxOut>, Fault> {
-        let mut outputs = Vec::new(alloc);
-        for _ in 0..self.outputs {
-            put(&mut outputs, output(alloc, self.worth, self.script)?)?;
-        }
-        Ok(outputs)
-    }
+struct Paid<'s> {
+    outputs: usize,
+    worth: i64,
+    script: &'s [u8],
 }
 
 /// A payment of each coin.
-pub fn payments(
+fn payments(
     alloc: Global,
     filling: &mut Filling,
     coins: &[OutPoint],
@@ -51,16 +38,30 @@ pub fn payments(
 ) -> Result<Vec<Tx>, Fault> {
     let mut payments = Vec::new(alloc);
     for prev in coins {
-        let input = signed(filling);
-        let tx = spending(alloc, *prev, input.as_slice(), paid.outputs(alloc)?)?;
-        put(&mut payments, tx)?;
+        put_made(&mut payments, payment(alloc, filling, *prev, paid))?;
     }
     Ok(payments)
 }
 
+fn payment(
+    alloc: Global,
+    filling: &mut Filling,
+    prev: OutPoint,
+    paid: &Paid<'_>,
+) -> Result<Tx, Fault> {
+    let input = signed(filling);
+    let outputs = outputs(alloc, paid.outputs, paid.worth, paid.script);
+    spending(alloc, prev, input.as_slice(), outputs)
+}
+
 /// Puts the outpoints that payments made behind others.
-pub fn put_made(alloc: Global, made: &mut Vec<OutPoint>, payments: &[Tx]) -> Result<(), Fault> {
+fn put_outpoints(alloc: Global, made: &mut Vec<OutPoint>, payments: &[Tx]) -> Result<(), Fault> {
     let ids = ids(alloc, payments)?;
+    put_each(made, payments, ids.as_slice())
+}
+
+/// Puts the outpoints of transactions of these ids behind others.
+fn put_each(made: &mut Vec<OutPoint>, payments: &[Tx], ids: &[Id]) -> Result<(), Fault> {
     for (tx, id) in payments.iter().zip(ids.iter()) {
         put_outputs(made, id, tx.outputs.len())?;
     }
@@ -79,7 +80,7 @@ fn put_outputs(made: &mut Vec<OutPoint>, id: &Id, count: usize) -> Result<(), Fa
 #[derive(Drop)]
 pub struct Start {
     pub branch: Branch,
-    pub filling: Filling,
+    filling: Filling,
     /// The bytes of its blocks.
     pub blocks: Vec<Vec<u8>>,
     /// Coins that coinbases were spent for.
@@ -91,8 +92,8 @@ pub struct Start {
 }
 
 impl Start {
-    /// A chain whose first coinbases are ripe.
-    pub fn new(alloc: Global) -> Result<Start, Fault> {
+    /// A chain whose first coinbases are ripe, some of which are spent for so many coins of a script.
+    pub fn new(alloc: Global, coins: usize, script: &[u8]) -> Result<Start, Fault> {
         let mut start = Start {
             branch: Branch::new(1),
             filling: Filling::new(16),
@@ -101,27 +102,40 @@ impl Start {
             spread: Vec::new(alloc),
             unripe: Vec::new(alloc),
         };
-        for _ in 0..UNRIPE {
-            start.ripen(alloc)?;
-        }
+        start.begin(alloc, coins, script)?;
         Ok(start)
+    }
+
+    fn begin(&mut self, alloc: Global, coins: usize, script: &[u8]) -> Result<(), Fault> {
+        for _ in 0..UNRIPE {
+            self.ripen(alloc)?;
+        }
+        self.fan(alloc, coins, script)
     }
 
     /// One more block without payments, whose coinbase is spent later.
     fn ripen(&mut self, alloc: Global) -> Result<(), Fault> {
         let block = self.branch.next_block(alloc, Vec::new(alloc))?;
-        put(&mut self.blocks, bytes_of(alloc, &block)?)?;
-        put_made(alloc, &mut self.unripe, block.txs.as_slice())
+        put_made(&mut self.blocks, bytes_of(alloc, &block))?;
+        put_outpoints(alloc, &mut self.unripe, block.txs.as_slice())
     }
 
     /// One more block, of these payments.
-    pub fn add(&mut self, alloc: Global, payments: Vec<Tx>) -> Result<(), Fault> {
-        let bytes = self.branch.next_bytes(alloc, payments)?;
-        put(&mut self.blocks, bytes)
+    fn add(&mut self, alloc: Global, payments: Vec<Tx>) -> Result<(), Fault> {
+        let bytes = self.branch.next_bytes(alloc, payments);
+        put_made(&mut self.blocks, bytes)
+    }
+
+    /// So many more blocks without payments.
+    pub fn add_empty(&mut self, alloc: Global, count: usize) -> Result<(), Fault> {
+        for _ in 0..count {
+            self.add(alloc, Vec::new(alloc))?;
+        }
+        Ok(())
     }
 
     /// Spends coinbases for so many coins of a script, in blocks of up to 20,000.
-    pub fn fan(&mut self, alloc: Global, count: usize, script: &[u8]) -> Result<(), Fault> {
+    fn fan(&mut self, alloc: Global, count: usize, script: &[u8]) -> Result<(), Fault> {
         self.unripe.as_mut_slice().reverse();
         for made in (0..count).step_by(FAN) {
             let Some(prev) = self.unripe.pop() else {
@@ -146,7 +160,7 @@ impl Start {
             script,
         };
         let payments = payments(alloc, &mut self.filling, &[prev], &paid)?;
-        put_made(alloc, &mut self.coins, payments.as_slice())?;
+        put_outpoints(alloc, &mut self.coins, payments.as_slice())?;
         self.add(alloc, payments)
     }
 
@@ -169,7 +183,7 @@ impl Start {
         let (_, coins) = self.coins.as_slice().split_at(from.min(self.coins.len()));
         let payments = payments(alloc, &mut self.filling, coins, &paid)?;
         self.coins.truncate(from);
-        put_made(alloc, &mut self.spread, payments.as_slice())?;
+        put_outpoints(alloc, &mut self.spread, payments.as_slice())?;
         self.add(alloc, payments)
     }
 }
@@ -186,18 +200,19 @@ pub fn paying(
     let mut coins = copied(alloc, coins)?;
     let mut blocks = Vec::new(alloc);
     for _ in 0..count {
-        let payments = paid_again(alloc, &mut filling, &mut coins)?;
-        put(&mut blocks, branch.next_bytes(alloc, payments)?)?;
+        let bytes = next_paying(alloc, &mut branch, &mut filling, &mut coins);
+        put_made(&mut blocks, bytes)?;
     }
     Ok(blocks)
 }
 
-/// A payment of each of these coins, in whose place their outputs come.
-fn paid_again(
+/// The bytes of a branch's next block, which pays each of these coins, in whose place its outputs come.
+fn next_paying(
     alloc: Global,
+    branch: &mut Branch,
     filling: &mut Filling,
     coins: &mut Vec<OutPoint>,
-) -> Result<Vec<Tx>, Fault> {
+) -> Result<Vec<u8>, Fault> {
     let paid = Paid {
         outputs: 1,
         worth: WORTH,
@@ -205,10 +220,6 @@ fn paid_again(
     };
     let payments = payments(alloc, filling, coins.as_slice(), &paid)?;
     coins.clear();
-    put_made(alloc, coins, payments.as_slice())?;
-    Ok(payments)
-}
-
-fn copied(alloc: Global, coins: &[OutPoint]) -> Result<Vec<OutPoint>, Fault> {
-    Ok(Vec::from_slice(alloc, coins)?)
+    put_outpoints(alloc, coins, payments.as_slice())?;
+    branch.next_bytes(alloc, payments)
 }

@@ -12,10 +12,32 @@ pub struct Outcome {
     pub spent: Duration,
 }
 
-impl Outcome {
-    /// A workload that began at this moment and ends now.
-    pub fn since(clock: &impl Clock, begin: Instant, check: Check) -> Result<Outcome, Fault> {
-        let spent = begin.elapsed(clock)?;
+/// When a workload began.
+#[derive(Clone, Copy)]
+pub struct Timer {
+    /// None where the clock can't be read.
+    begin: Option<Instant>,
+}
+
+impl Timer {
+    pub fn start(clock: &impl Clock) -> Timer {
+        Timer {
+            begin: Instant::now(clock).ok(),
+        }
+    }
+
+    /// How long it took until now.
+    pub fn spent(self, clock: &impl Clock) -> Result<Duration, Fault> {
+        match self.begin {
+            Some(begin) => Ok(begin.elapsed(clock)?),
+            None => Err(Fault::Io),
+        }
+    }
+
+    /// The result of a workload that ends now, where it came to one.
+    pub fn stop(self, clock: &impl Clock, check: Result<Check, Fault>) -> Result<Outcome, Fault> {
+        let spent = self.spent(clock)?;
+        let check = check?;
         Ok(Outcome { check, spent })
     }
 }

@@ -1,6 +1,7 @@
 //! The command line, and the lines that are printed.
 
 use crate::fault::Fault;
+use crate::timing::Outcome;
 use crate::workload::{ALL, Workload};
 use std::env;
 use std::io::Write;
@@ -16,12 +17,17 @@ where
     R: Env + AllocGlobal + Clock + Threads + Wait + Sync,
     O: Write,
 {
-    let words: Vec<String> = env::args(rt)?.skip(1).collect(rt.alloc())?;
+    let words = words(rt)?;
     match words.as_slice() {
         [] => each_small(rt, out),
         [name, size] => one(rt, out, name.as_str(), size.as_str()),
         _ => Err(Fault::Words),
     }
+}
+
+/// The words behind the program's own.
+fn words<R: Env + AllocGlobal>(rt: &R) -> Result<Vec<String>, Fault> {
+    Ok(env::args(rt)?.skip(1).collect(rt.alloc())?)
 }
 
 fn each_small<R, O>(rt: &R, out: &mut O) -> Result<(), Fault>
@@ -30,8 +36,7 @@ where
     O: Write,
 {
     for (workload, name, size) in &ALL {
-        let check = workload.run(rt, *size)?.check;
-        writeln!(out, "{name} {size} {check}")?;
+        print_untimed(out, name, *size, workload.run(rt, *size))?;
     }
     Ok(())
 }
@@ -41,13 +46,32 @@ where
     R: AllocGlobal + Clock + Threads + Wait + Sync,
     O: Write,
 {
-    let workload = Workload::named(name).ok_or(Fault::Words)?;
-    let Ok(size) = size.parse::<usize>() else {
-        return Err(Fault::Words);
-    };
-    let outcome = workload.run(rt, size)?;
-    let seconds = outcome.spent.as_secs_f64();
-    writeln!(out, "{name} {size} {seconds:.9} {}", outcome.check)?;
+    match (Workload::named(name), size.parse::<usize>()) {
+        (Some(workload), Ok(size)) => print(out, name, size, workload.run(rt, size)),
+        _ => Err(Fault::Words),
+    }
+}
+
+fn print_untimed<O: Write>(
+    out: &mut O,
+    name: &str,
+    size: usize,
+    outcome: Result<Outcome, Fault>,
+) -> Result<(), Fault> {
+    let check = outcome?.check;
+    writeln!(out, "{name} {size} {check}")?;
+    Ok(())
+}
+
+fn print<O: Write>(
+    out: &mut O,
+    name: &str,
+    size: usize,
+    outcome: Result<Outcome, Fault>,
+) -> Result<(), Fault> {
+    let Outcome { check, spent } = outcome?;
+    let seconds = spent.as_secs_f64();
+    writeln!(out, "{name} {size} {seconds:.9} {check}")?;
     Ok(())
 }
 

@@ -1,16 +1,15 @@
 //! The workloads by their names.
 
 use crate::branch::Branch;
+use crate::chain_work::{Growth, grown};
 use crate::fault::Fault;
 use crate::node_work::at_node;
 use crate::plan::Plan;
+use crate::queueing::{Runner, checked};
 use crate::read_work::Look;
 use crate::spends::{to_keys, to_two_of_three};
 use crate::timing::Outcome;
-use crate::{
-    chain_work, coin_work, connecting, decoding, early_work, hashing, plan, queueing, scripts,
-    signing,
-};
+use crate::{coin_work, connecting, decoding, early_work, hashing, plan, scripts, signing};
 use std::alloc::Global;
 use std::rt::Clock;
 use std::sync::Wait;
@@ -142,7 +141,6 @@ impl Workload {
     where
         R: AllocGlobal + Clock + Threads + Wait + Sync,
     {
-        let alloc = rt.alloc();
         match self {
             Workload::DoubleSha => hashing::double_sha_chain(rt, size),
             Workload::Ripemd => hashing::ripemd_chain(rt, size),
@@ -153,16 +151,39 @@ impl Workload {
             Workload::Ids => decoding::payment_ids(rt, size),
             Workload::Alone => decoding::alone(rt, size),
             Workload::Records => decoding::records(rt, size),
-            Workload::KeyHash => scripts::verify_each(rt, &to_keys(alloc, size)?, 1),
-            Workload::TwoOfThree => scripts::verify_each(rt, &to_two_of_three(alloc, size)?, 1),
-            Workload::Swaps => scripts::verify_each(rt, &scripts::swaps(alloc)?, size),
-            Workload::Hashes => scripts::verify_each(rt, &scripts::hashes(alloc)?, size),
-            Workload::LongCode => scripts::verify_each(rt, &scripts::long_code(alloc)?, size),
-            Workload::Conditions => scripts::verify_each(rt, &scripts::conditions(alloc)?, size),
+            _ => self.run_scripts(rt, size),
+        }
+    }
+
+    /// Workloads of scripts and digests, or of what is above them.
+    fn run_scripts<R>(self, rt: &R, size: usize) -> Result<Outcome, Fault>
+    where
+        R: AllocGlobal + Clock + Threads + Wait + Sync,
+    {
+        let alloc = rt.alloc();
+        match self {
+            Workload::KeyHash => checked(rt, to_keys(alloc, size), Runner::Alone, 1),
+            Workload::TwoOfThree => checked(rt, to_two_of_three(alloc, size), Runner::Alone, 1),
+            Workload::Swaps => checked(rt, scripts::swaps(alloc), Runner::Alone, size),
+            Workload::Hashes => checked(rt, scripts::hashes(alloc), Runner::Alone, size),
+            Workload::LongCode => checked(rt, scripts::long_code(alloc), Runner::Alone, size),
+            Workload::Conditions => checked(rt, scripts::conditions(alloc), Runner::Alone, size),
             Workload::Digests => signing::digests(rt, size),
             Workload::EachInput => signing::each_input(rt, size),
-            Workload::Queue(workers) => queueing::payments(rt, size, workers),
-            Workload::QueueStart => queueing::starts(rt, size),
+            Workload::Queue(workers) => {
+                checked(rt, to_keys(alloc, size), Runner::Queue(workers), 1)
+            },
+            Workload::QueueStart => checked(rt, to_keys(alloc, 4), Runner::Queue(4), size),
+            _ => self.run_coins(rt, size),
+        }
+    }
+
+    /// Workloads of coins, or of what is above them.
+    fn run_coins<R>(self, rt: &R, size: usize) -> Result<Outcome, Fault>
+    where
+        R: AllocGlobal + Clock + Threads + Wait + Sync,
+    {
+        match self {
             Workload::CoinsInsert => coin_work::inserted(rt, size),
             Workload::CoinsLookUp => coin_work::looked_up(rt, size),
             Workload::CoinsSpend => coin_work::spent(rt, size),
@@ -170,12 +191,22 @@ impl Workload {
             Workload::ReadMap => coin_work::read_from_a_map(rt, size),
             Workload::Connect(workers) => connecting::connected(rt, size, workers),
             Workload::EarlyWide => early_work::wide(rt, size),
-            Workload::Chain => chain_work::chained(rt, size),
-            Workload::ChainHeavy => chain_work::heavily_chained(rt, size),
-            Workload::ChainBeside => chain_work::kept_beside(rt, size),
-            Workload::BlocksAbove => chain_work::blocks_above(rt, size),
-            Workload::Reorganise => chain_work::reorganised(rt, size),
-            _ => at_node(rt, self.plan(alloc, size)?),
+            _ => match self.growth(size) {
+                Some(growth) => grown(rt, growth),
+                None => at_node(rt, self.plan(rt.alloc(), size)),
+            },
+        }
+    }
+
+    /// What is submitted to a chainstate.
+    fn growth(self, size: usize) -> Option<Growth> {
+        match self {
+            Workload::Chain => Some(Growth::Above(Branch::new(1), 0, size)),
+            Workload::ChainHeavy => Some(Growth::Above(Branch::heavy(1), 0, size)),
+            Workload::ChainBeside => Some(Growth::Beside(size)),
+            Workload::BlocksAbove => Some(Growth::hundred_above(size)),
+            Workload::Reorganise => Some(Growth::Reorganised(size)),
+            _ => None,
         }
     }
 
