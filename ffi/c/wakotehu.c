@@ -339,6 +339,30 @@ wakotehu_code wakotehu_wants(wakotehu_handle handle, wakotehu_want_call call, vo
     return code != WAKOTEHU_OK ? code : leave(handle, wants(slot_of(handle), call, context));
 }
 
+/* Puts the lines one after the other as far as there is room, and counts the bytes of all. */
+static uint32_t want_lines(struct slot *slot, uint8_t *lines, size_t room, size_t *needed) {
+    uint8_t none[1];
+    size_t filled = 0;
+    uint32_t code = WAKOTEHU_UNKNOWN;
+    for (uint64_t n = 0; code == WAKOTEHU_UNKNOWN || code == WAKOTEHU_TOO_SMALL; n++) {
+        uint64_t length = 0;
+        size_t left = filled < room ? room - filled : 0;
+        code = ffi_want(slot, n, left ? lines + filled : none, left, &length);
+        filled += length;
+    }
+    if (code != WAKOTEHU_NONE)
+        return code;
+    *needed = filled;
+    return filled <= room ? WAKOTEHU_OK : WAKOTEHU_TOO_SMALL;
+}
+
+wakotehu_code wakotehu_want_lines(wakotehu_handle handle, char *lines, size_t room, size_t *needed) {
+    if (!readable(lines, room) || !needed)
+        return WAKOTEHU_NULL;
+    wakotehu_code code = enter(handle);
+    return code != WAKOTEHU_OK ? code : leave(handle, want_lines(slot_of(handle), (uint8_t *)lines, room, needed));
+}
+
 wakotehu_code wakotehu_learn(wakotehu_handle handle, const uint8_t *key, size_t key_length, const uint8_t *signature,
                              size_t signature_length, const uint8_t *digest, int valid) {
     if (!readable(key, key_length) || !readable(signature, signature_length) || !digest)

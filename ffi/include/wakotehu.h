@@ -125,8 +125,9 @@ wakotehu_code wakotehu_open(wakotehu_handle *handle, const wakotehu_heights *hei
 
 /* The same, but no table says which signatures are valid: they are found out by need. A command whose scripts ask for
  * signatures of which nothing is known is answered WAKOTEHU_WANTS. It is no command then: nothing has changed. The caller
- * asks by wakotehu_wants for all at which a script of the block stops, finds out whether they are valid, hands the
- * verdicts in by wakotehu_learn, and makes the same call again. No verdict changes a reply that was given. */
+ * asks by wakotehu_wants or wakotehu_want_lines for all at which a script of the block stops, finds out whether they are
+ * valid, hands the verdicts in by wakotehu_learn, and makes the same call again. No verdict changes a reply that was
+ * given. */
 wakotehu_code wakotehu_open_by_need(wakotehu_handle *handle, const wakotehu_heights *heights);
 
 /* Who is called for a signature that has to be found out: with its line, as in a table, of `length` bytes. It lives as
@@ -137,6 +138,12 @@ typedef int (*wakotehu_want_call)(void *context, const char *line, size_t length
 /* Calls `call` once for each signature at which a script of the last command stopped, where that was answered
  * WAKOTEHU_WANTS; else for none. `context` is handed on. A signature may come more than once. */
 wakotehu_code wakotehu_wants(wakotehu_handle handle, wakotehu_want_call call, void *context);
+
+/* Writes the lines of these signatures, each behind a newline, to the front of `lines`, of `room` bytes, and how many
+ * bytes they are. That is told where the room is too small as well (WAKOTEHU_TOO_SMALL). Where the answer isn't
+ * WAKOTEHU_OK, what stands in `lines` means nothing. lines may be null where room is 0. A signature may come more than
+ * once. */
+wakotehu_code wakotehu_want_lines(wakotehu_handle handle, char *lines, size_t room, size_t *needed);
 
 /* Hands in whether a signature is valid (`valid` isn't 0): of a key, a signature without its hash type, and a digest of 32
  * bytes. A verdict that is known stays for ever: another one is refused by WAKOTEHU_CONTRADICTION, and changes nothing. Of

@@ -302,6 +302,8 @@ static void verdicts(void) {
     uint8_t key[33] = {2}, signature[8] = {0x30}, digest[32] = {7};
     int called = 0, met = 1;
     long n = 0;
+    char lines[4] = "abc";
+    size_t needed = 7;
     EXPECT(wakotehu_open_by_need(NULL, &regtest) == WAKOTEHU_NULL);
     EXPECT(wakotehu_open_by_need(&chain, NULL) == WAKOTEHU_NULL);
     for (n = 0; met; n++) {
@@ -329,6 +331,11 @@ static void verdicts(void) {
     EXPECT(wakotehu_learn(chain, NULL, 0, NULL, 0, NULL, 1) == WAKOTEHU_NULL);
     EXPECT(wakotehu_wants(chain, NULL, NULL) == WAKOTEHU_NULL);
     EXPECT(wakotehu_wants(chain, none_is_wanted, &called) == WAKOTEHU_OK && called == 0);
+    EXPECT(wakotehu_want_lines(chain, lines, sizeof lines, NULL) == WAKOTEHU_NULL);
+    EXPECT(wakotehu_want_lines(chain, NULL, 1, &needed) == WAKOTEHU_NULL);
+    EXPECT(wakotehu_want_lines(chain, lines, SIZE_MAX, &needed) == WAKOTEHU_NULL && needed == 7);
+    EXPECT(wakotehu_want_lines(chain, NULL, 0, &needed) == WAKOTEHU_OK && needed == 0);
+    EXPECT(wakotehu_want_lines(chain, lines, sizeof lines, &needed) == WAKOTEHU_OK && strcmp(lines, "abc") == 0);
     EXPECT(submitted(chain, b1, sizeof b1) == WAKOTEHU_ACCEPTED);
     /* Of a table all is known. */
     EXPECT(wakotehu_learn(table, key, sizeof key, signature, sizeof signature, digest, 0) == WAKOTEHU_OK);
@@ -337,6 +344,7 @@ static void verdicts(void) {
     EXPECT(wakotehu_close(table) == WAKOTEHU_OK && wakotehu_close(chain) == WAKOTEHU_OK);
     EXPECT(wakotehu_learn(chain, NULL, 0, NULL, 0, digest, 0) == WAKOTEHU_CLOSED);
     EXPECT(wakotehu_wants(chain, none_is_wanted, &called) == WAKOTEHU_CLOSED && called == 0);
+    EXPECT(wakotehu_want_lines(chain, lines, sizeof lines, &needed) == WAKOTEHU_CLOSED);
 }
 
 static wakotehu_handle shared;

@@ -182,15 +182,15 @@ class InterruptedTest(unittest.TestCase):
             tx = spend(maker.coinbases[block_id(blocks[0])].id, 0, 5000000000, b"")
             tx = with_script(tx, 0, *signed(SECP, SECRETS[:1], tx, 0, pay_to_key(KEYS[0])))
             block = maker.block(bench.best(), [tx])
-            valid, calls = bench._found.valid, []
+            calls = []
 
-            def interrupted(triple):
-                calls.append(triple)
+            def interrupted(lines):
+                calls.extend(lines)
                 raise KeyboardInterrupt
 
-            bench._found.valid = interrupted
+            bench._verifier.verdicts = interrupted
             self.assertRaises(KeyboardInterrupt, bench.submit, block, NOW)
-            bench._found.valid = valid
+            del bench._verifier.verdicts
             self.assertEqual((len(calls), bench.height(), bench.table), (1, 101, b""))
             self.assertEqual(bench.submit(block, NOW), "accepted")
 

@@ -86,10 +86,14 @@ class EncodingTest(unittest.TestCase):
         def number(value, wide):
             return b"\x02" + wide + value
 
+        def numbers(*values):
+            return b"".join(value.to_bytes(32, "big") for value in values)
+
         plain = b"\x30\x06" + number(b"\x05", b"\x01") + number(b"\x07", b"\x01")
-        self.assertEqual(read_signature(plain), (5, 7))
-        self.assertEqual(read_signature(b"\x30\x81\x99" + plain[2:] + b"left over"), (5, 7))
-        self.assertEqual(read_signature(b"\x30\x00" + number(b"\x00\x05", b"\x81\x02") + number(b"", b"\x00")), (5, 0))
+        self.assertEqual(read_signature(plain), numbers(5, 7))
+        self.assertEqual(read_signature(b"\x30\x81\x99" + plain[2:] + b"left over"), numbers(5, 7))
+        zero = b"\x30\x00" + number(b"\x00\x05", b"\x81\x02") + number(b"", b"\x00")
+        self.assertEqual(read_signature(zero), numbers(5, 0))
         for bad in (b"", b"\x30", b"\x31" + plain[1:], plain[:-1], plain[:4], b"\x30\x00\x03" + plain[3:]):
             self.assertIsNone(read_signature(bad))
         self.assertIsNone(read_signature(b"\x30\x00" + number(b"\x01" * 33, b"\x21") + number(b"\x07", b"\x01")))

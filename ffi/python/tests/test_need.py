@@ -1,9 +1,12 @@
-"""Signatures that are found out by need: one by one, in any order, with the answers of a table of all that are valid."""
+"""Signatures that are found out by need: one by one, in any order, with the answers of a table of all that are valid.
+SEED names another seed of the random blocks, BLOCKS how many there are."""
 
+import ctypes
 import os
 import random
 import tempfile
 import unittest
+from ctypes import CFUNCTYPE, byref, c_int, c_size_t, c_uint64, c_void_p
 
 from bitcoin.core import COutPoint, CMutableTransaction, CMutableTxIn, CMutableTxOut, CTransaction
 from bitcoin.core.script import CScript, SignatureHash
@@ -13,8 +16,10 @@ from blocks import NOW, Maker, block_id
 from test_scenarios import PROGRAM, Player, run, scenarios
 from wakotehu import Bench, Chainstate, consensus, errors
 from wakotehu.consensus import Table, Triple
-from wakotehu.encoding import GENESIS, push, read_transaction
+from wakotehu.encoding import GENESIS, Input, Output, Transaction, push, read_transaction
+from wakotehu.library import library
 
+SEED, BLOCKS = int(os.environ.get("SEED", 7)), int(os.environ.get("BLOCKS", 1000))
 SECRETS = [CBitcoinSecret.from_secret_bytes(bytes([number]) * 32) for number in range(1, 21)]
 KEYS = [bytes(secret.pub) for secret in SECRETS]
 HASH_TYPES = (1, 2, 3, 129, 130, 131)
@@ -115,6 +120,36 @@ class VerdictsTest(unittest.TestCase):
         with self.assertRaises(ValueError):
             Chainstate(table=STRAY[0].line, by_need=True)
 
+    def test_what_is_wanted_in_any_room(self):
+        maker, script = Maker(push(KEYS[0]) + b"\xac"), push(b"\x30\x01") + push(b"\x01")
+        blocks = maker.chain(102)
+        spends = [Input(maker.coinbases[block_id(block)].id, 0, script, 2**32 - 1) for block in blocks[:2]]
+        with Chainstate((1, 1, 200, 1), by_need=True) as chain:
+            for block in blocks:
+                chain.submit(block, NOW)
+            with self.assertRaises(errors.Wants) as caught:
+                chain.submit(maker.block(block_id(blocks[-1]), [Transaction(1, spends, [Output(0, b"")], 0)]), NOW)
+            lines = caught.exception.lines
+            self.assertEqual([triple.line for triple in chain.wants()], [line + b"\n" for line in lines])
+            self.assertEqual(len(lines), 2)
+            self.assertEqual({triple[:2] for triple in chain.wants()}, {(KEYS[0], b"")})
+            self.rooms(chain, b"".join(b"\n" + line for line in lines))
+
+    def rooms(self, chain, text):
+        told, took = [], CFUNCTYPE(c_int, c_void_p, c_void_p, c_size_t)
+        for ends in (0, 1):
+            take = took(lambda _context, line, length: told.append(ctypes.string_at(line, length)) or ends)
+            self.assertEqual(library().wakotehu_wants(c_uint64(chain._handle), take, None), 0)
+            self.assertEqual(b"".join(told), text[: len(told[0])] if ends else text)
+            told.clear()
+        for room in (*range(len(text) + 2), 10**6):
+            lines, needed = ctypes.create_string_buffer(b"\xaa" * (room + 1), room + 1), c_size_t()
+            code = library().wakotehu_want_lines(chain._handle, lines, room, byref(needed))
+            self.assertEqual((code, needed.value), (0 if room >= len(text) else 5, len(text)))
+            self.assertEqual(lines.raw[room:], b"\xaa")
+            if code == 0:
+                self.assertEqual(lines.raw[: len(text)], text)
+
     def test_a_closed_chainstate(self):
         chain = Chainstate(by_need=True)
         chain.close()
@@ -161,18 +196,21 @@ class RandomTest(unittest.TestCase):
     """A thousand random blocks with forks, whose signatures bitcoinlib makes and libsecp256k1 judges."""
 
     def test_blocks_with_forks(self):
-        self.dice = random.Random(7)
+        self.dice, self.reorganisations = random.Random(SEED), 0
         self.maker, self.spends = Maker(), Spends(self.dice)
         #: By block: the coins that it leaves unspent, of those that were made to be spent.
         self.free = {GENESIS.id: ()}
         self.commands = []
         heights = (1, 1, 1, 1)
         with Bench(heights) as bench:
-            replies = [self.one(bench) for _ in range(1000)]
+            replies = []
+            while len(self.maker.heights) <= BLOCKS:
+                replies += self.fork(bench) if self.dice.random() < 0.05 else [self.one(bench)]
             table, ends = bench.table, self.state(bench)
             found = bench.found_out
             bad = sum(reply.startswith("blk-bad") for reply in replies)
-            print(f"\n{found} signatures were found out in {bench.rounds} rounds; {bad} blocks had a bad one")
+            print(f"\n{found} signatures were found out in {bench.rounds} rounds; {bad} blocks had a bad one; "
+                  f"{self.reorganisations} reorganisations")  # fmt: skip
         # By the table of all that were found valid each reply is the same: no verdict came too late.
         with Chainstate(heights, table) as chain:
             again = [self.made(chain, command) for command in self.commands]
@@ -183,39 +221,57 @@ class RandomTest(unittest.TestCase):
         self.addCleanup(slow.close)
         self.assertEqual([self.made(slow, command) for command in self.commands], replies)
         self.assertEqual(self.state(slow.chain), ends)
-        self.assertGreater(found, 200)
-        self.assertGreater(bad, 10)
+        self.assertGreater(found, BLOCKS // 5)
+        self.assertGreater(bad, BLOCKS // 100)
+        self.assertGreater(self.reorganisations, BLOCKS // 50)
 
     def state(self, chain):
         return chain.best(), chain.height(), chain.tips(), sorted(chain.coins())
 
     def made(self, chain, command):
         name, *words = command
-        return (chain.try_submit if name == "submit" else chain.try_mark)(*(words if name == "submit" else command)).text
+        call = chain.try_submit if name == "submit" else chain.try_mark
+        return call(*(words if name == "submit" else command)).text
 
-    def one(self, bench):
-        dice = self.dice
-        if dice.random() < 0.03 and bench.height() > 3:
+    def one(self, bench, parent=None):
+        """The reply to a block on this one, or to any command."""
+        before = bench.best()
+        if parent is None and self.dice.random() < 0.03 and bench.height() > 3:
             branch = bench.branch()
-            command = (dice.choice(["invalidate", "reconsider", "precious"]), dice.choice(branch[-4:]))
+            command = (self.dice.choice(["invalidate", "reconsider", "precious"]), self.dice.choice(branch[-4:]))
             self.commands.append(command)
-            return self.made(bench, command)
-        parent = self.parent(bench)
-        transactions = self.transactions(parent) if dice.random() < 0.6 else []
-        block = self.maker.block(parent, transactions, extra=dice.randbytes(4))
+            reply = self.made(bench, command)
+        else:
+            reply = self.block(bench, parent or self.parent(bench))
+        # The active block went, and one came that isn't on it.
+        self.reorganisations += bench.best() != before and before not in bench.branch()[-2:]
+        return reply
+
+    def block(self, bench, parent):
+        transactions = self.transactions(parent) if self.dice.random() < 0.6 else []
+        block = self.maker.block(parent, transactions, extra=self.dice.randbytes(4))
         command = ("submit", block, NOW + 10**6)
         self.commands.append(command)
         reply = self.made(bench, command)
-        id = block_id(block)
+        self.last = block_id(block)
         if reply in ("accepted", "inconclusive"):
-            self.free[id] = self.left(parent, block, transactions)
+            self.free[self.last] = self.left(parent, block, transactions)
         return reply
 
     def parent(self, bench):
-        """The best block, or sometimes one a little below it or on another branch."""
-        if self.dice.random() < 0.8:
-            return bench.best() if bench.best() in self.free else self.dice.choice(list(self.free)[-6:])
+        """The best block, or sometimes one of the last."""
+        if self.dice.random() < 0.85 and bench.best() in self.free:
+            return bench.best()
         return self.dice.choice(list(self.free)[-6:])
+
+    def fork(self, bench):
+        """The replies to a branch that leaves the active one some blocks below its end and gets higher."""
+        below = self.dice.randrange(1, 4)
+        at, replies = ([GENESIS.id] * 4 + bench.branch())[-below - 1], []
+        while len(replies) <= below and at in self.free:
+            replies.append(self.one(bench, at))
+            at = self.last
+        return replies
 
     def left(self, parent, block, transactions):
         """The coins after a block: those below it that it doesn't spend, and those that it makes."""

@@ -15,6 +15,10 @@ PROGRAM = """#include <stdio.h>
 #include <wakotehu.h>
 int main(void) { return puts(wakotehu_reply_text(WAKOTEHU_VERSION_MAJOR + 1)) < 0; }
 """
+TESTER = """#include <stdio.h>
+#include <wakotehu-secp256k1.h>
+int main(void) { return puts(wakotehu_reply_text(1 + wakotehu_secp256k1_verdicts("", 0, 4, NULL, 0))) < 0; }
+"""
 
 
 def run(*command, **named):
@@ -39,20 +43,22 @@ class InstallTest(unittest.TestCase):
         names = {**os.environ, "PKG_CONFIG_PATH": f"{prefix}/lib/pkgconfig"}
         self.assertEqual(run("pkg-config", "--variable=prefix", "wakotehu", env=names).strip(), prefix)
         for name, mode in (("lib", 0o755), ("lib/libwakotehu.so.0", 0o644), ("include/wakotehu.h", 0o644),
-                           ("lib/pkgconfig/wakotehu.pc", 0o644)):  # fmt: skip
+                           ("lib/pkgconfig/wakotehu.pc", 0o644), ("lib/libwakotehu-secp256k1.so.0", 0o644),
+                           ("include/wakotehu-secp256k1.h", 0o644)):  # fmt: skip
             self.assertEqual(stat.S_IMODE(os.stat(os.path.join(prefix, name)).st_mode), mode, name)
-        source, made = os.path.join(self.folder, "mine.c"), os.path.join(self.folder, "mine")
-        with open(source, "w", encoding="ascii") as file:
-            file.write(PROGRAM)
-        rpath = "-Wl,-rpath,$(pkg-config --variable=libdir wakotehu)"
-        # As README has it.
-        line = f'cc {source} -o {made} $(pkg-config --cflags --libs wakotehu) "{rpath}"'
-        if "&" in prefix:
-            line = f"eval \"cc {source} -o {made} $(pkg-config --cflags --libs wakotehu) '{rpath}'\""
-        run("sh", "-c", line, env=names)
-        names.pop("LD_LIBRARY_PATH", None)
-        self.assertEqual(run(made, env=names), "accepted\n")
-        self.assertIn("libwakotehu.so.0", run("ldd", made, env=names))
+        for package, text in (("wakotehu", PROGRAM), ("wakotehu-secp256k1", TESTER)):
+            source, made = os.path.join(self.folder, "mine.c"), os.path.join(self.folder, "mine")
+            with open(source, "w", encoding="ascii") as file:
+                file.write(text)
+            rpath = f"-Wl,-rpath,$(pkg-config --variable=libdir {package})"
+            # As README has it.
+            line = f'cc {source} -o {made} $(pkg-config --cflags --libs {package}) "{rpath}"'
+            if "&" in prefix:
+                line = f"eval \"cc {source} -o {made} $(pkg-config --cflags --libs {package}) '{rpath}'\""
+            run("sh", "-c", line, env=names)
+            alone = {name: value for name, value in names.items() if name != "LD_LIBRARY_PATH"}
+            self.assertEqual(run(made, env=alone), "accepted\n")
+            self.assertIn(f"lib{package}.so.0", run("ldd", made, env=alone))
 
     def test_destdir(self):
         run(f"{FFI}/install", "/opt/wakotehu", env={**os.environ, "DESTDIR": self.folder})
@@ -71,9 +77,13 @@ class InstallTest(unittest.TestCase):
         shutil.unpack_archive(os.path.join(self.folder, wheel), f"{self.folder}/unpacked", "zip")
         names = {**os.environ, "PYTHONPATH": f"{self.folder}/unpacked"}
         names.pop("WAKOTEHU_LIBRARY", None)
-        asked = "import wakotehu; print(wakotehu.library.library()._name, wakotehu.__version__)"
+        asked = (
+            "from wakotehu import library as by, __version__; "
+            "print(by.library()._name, by.secp256k1_library()._name, __version__)"
+        )
         told = run(sys.executable, "-c", asked, cwd=self.folder, env=names).split()
-        self.assertEqual(told, [f"{self.folder}/unpacked/wakotehu/libwakotehu.so.0", wakotehu.__version__])
+        inside = f"{self.folder}/unpacked/wakotehu/libwakotehu"
+        self.assertEqual(told, [f"{inside}.so.0", f"{inside}-secp256k1.so.0", wakotehu.__version__])
 
 
 class PackageTest(unittest.TestCase):

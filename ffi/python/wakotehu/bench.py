@@ -9,7 +9,7 @@ from .chainstate import REGTEST, Chainstate, Coin, Reply, Tip, read_heights
 from .consensus import Triple
 from .encoding import EncodingError, Spelled, Transaction, block_at_front, double_sha
 from .index import Index, Unspent, Walks
-from .signatures import Found
+from .signatures import Verifier
 
 
 class Entry(NamedTuple):
@@ -25,16 +25,20 @@ class Bench(Walks):
     """A chainstate of real signatures, which libsecp256k1 finds out as they are asked for.
 
     Where the scripts of a block ask for signatures of which nothing is known, the chainstate takes no step and names
-    them; libsecp256k1 says whether they are valid, and the block comes again. A verdict never changes, and no reply that
-    was given depends on one that came later: both are proved. Blocks that break a rule by themselves or by their place
-    run no script.
+    them; libsecp256k1 says whether they are valid, and the block comes again. A verdict never changes, and no reply
+    that was given depends on one that came later: both are proved. Blocks that break a rule by themselves or by their
+    place run no script.
 
     It has the calls of `Chainstate`, and walks over blocks: `parent`, `branch`, `is_kept`.
 
     table: signatures that are known to be valid, as lines.
+    threads: how many threads test signatures at once, the caller's among them; 1 starts none. By default one for each
+        processor that the process may use, at most 8. Verdicts, replies and the table are the same for any number.
     """
 
-    def __init__(self, heights: Sequence[int] = REGTEST, table: Union[str, bytes] = b"") -> None:
+    def __init__(
+        self, heights: Sequence[int] = REGTEST, table: Union[str, bytes] = b"", threads: Optional[int] = None
+    ) -> None:
         self.heights = read_heights(heights)
         #: The submissions of kept blocks and the marks so far, with their replies. Other commands change nothing.
         self.journal: List[Entry] = []
@@ -43,7 +47,7 @@ class Bench(Walks):
         #: How often a command came again after signatures were found out, and how many were.
         self.rounds = self.found_out = 0
         self.index = Index()
-        self._found = Found()
+        self._verifier = Verifier(threads)
         self._table = bytearray(table.encode() if isinstance(table, str) else table)
         if self._table and not self._table.endswith(b"\n"):
             self._table += b"\n"
@@ -57,7 +61,7 @@ class Bench(Walks):
     def table(self) -> bytes:
         """The signatures that were found valid, as the lines of a table. Under it `Chainstate` and `regchain audit`
         give the same replies."""
-        return bytes(self._table)
+        return self.table_from(0)
 
     @property
     def table_size(self) -> int:
@@ -124,16 +128,17 @@ class Bench(Walks):
             try:
                 return command()
             except errors.Wants as wants:
-                self.rounds += 1
-                for triple in wants.triples:
-                    self._learn(triple)
+                self._find_out(wants)
 
-    def _learn(self, triple: Triple) -> None:
-        valid = self._found.valid(triple)
-        self.chain.learn(triple, valid)
-        self.found_out += 1
-        if valid:
-            self._table += triple.line
+    def _find_out(self, wants: errors.Wants) -> None:
+        """Asks libsecp256k1 about what is wanted, and hands the verdicts in."""
+        self.rounds += 1
+        for triple, line, valid in zip(wants.triples, wants.lines, self._verifier.verdicts(wants.lines)):
+            # First the table: where this is interrupted, it has all that the chainstate knows, perhaps a line twice.
+            if valid:
+                self._table += line + b"\n"
+            self.chain.learn(triple, valid)
+            self.found_out += 1
 
     def _took(self, entry: Entry) -> None:
         self.journal.append(entry)

@@ -9,7 +9,7 @@ from typing import Any, Iterator, List, NamedTuple, NoReturn, Optional, Sequence
 
 from . import errors
 from .consensus import Triple
-from .library import Answer, CoinCall, Heights, WantCall, library
+from .library import Answer, CoinCall, Heights, library
 from .library import Coin as _Coin
 from .library import Tip as _Tip
 
@@ -179,14 +179,19 @@ class Chainstate:
 
     def wants(self) -> List[Triple]:
         """The signatures at which scripts of the last command stopped, each once, where that raised `Wants`."""
-        lines: List[bytes] = []
+        return Triple.of_lines(self._want_lines())
 
-        def take(_context: Any, line: Any, length: int) -> int:
-            lines.append(ctypes.string_at(line, length))
-            return 0
-
-        self._check(self._library.wakotehu_wants(self._handle, WantCall(take), None))
-        return [Triple.of_line(line) for line in dict.fromkeys(lines)]
+    def _want_lines(self) -> List[bytes]:
+        """Their lines in the text of a table, each once."""
+        needed, lines = ctypes.c_size_t(), ctypes.create_string_buffer(8192)
+        for _ in range(2):
+            code = self._library.wakotehu_want_lines(self._handle, lines, len(lines), ctypes.byref(needed))
+            if code != 5:
+                break
+            lines = ctypes.create_string_buffer(needed.value)
+        self._check(code)
+        # A newline stands in front of each.
+        return list(dict.fromkeys(ctypes.string_at(lines, needed.value).split(b"\n")[1:]))
 
     def learn(self, triple: Triple, valid: bool) -> None:
         """Hands in whether a signature is valid. A verdict that contradicts a known one raises `Contradiction`."""
@@ -288,7 +293,8 @@ class Chainstate:
         answer = Answer()
         code = getattr(self._library, f"wakotehu_{name}")(self._handle, *words, ctypes.byref(answer))
         if code == 31:
-            raise errors.Wants(self.wants())
+            lines = self._want_lines()
+            raise errors.Wants(Triple.of_lines(lines), lines)
         self._check(code)
         reply, reason = _REPLIES[answer.reply], errors.REASONS[answer.reason]
         text = reason or reply

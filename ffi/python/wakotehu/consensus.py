@@ -5,6 +5,7 @@ them into text and back. What can't be read raises `Refused`, whose `fault` name
 """
 
 import ctypes
+from binascii import unhexlify
 from ctypes import POINTER, c_char_p, c_int, c_int64, c_size_t, c_uint8, c_uint32, c_uint64
 from dataclasses import dataclass
 from typing import Any, Callable, Iterable, Iterator, List, NamedTuple, Optional, Sequence, Tuple, Union
@@ -449,7 +450,13 @@ class Triple(NamedTuple):
     @classmethod
     def of_line(cls, line: bytes) -> "Triple":
         """The triple of such a line."""
-        return cls(*(bytes.fromhex("" if word == "-" else word) for word in line.decode().split()))
+        return cls(*(b"" if word == b"-" else unhexlify(word) for word in line.split()))
+
+    @classmethod
+    def of_lines(cls, lines: Iterable[bytes]) -> List["Triple"]:
+        """The triples of such lines, one each."""
+        words = [b"" if word == b"-" else unhexlify(word) for word in b"\n".join(lines).split()]
+        return list(map(cls, words[::3], words[1::3], words[2::3]))
 
 
 class Table:

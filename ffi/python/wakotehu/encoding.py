@@ -93,6 +93,9 @@ GENESIS_BLOCK = bytes.fromhex(
 # ---- reading
 
 
+_HEADER = struct.Struct("<i32s32sIII")
+
+
 class _Reader:
     def __init__(self, data: bytes) -> None:
         self.data, self.at = data, 0
@@ -126,17 +129,23 @@ class _Reader:
 
     def skip_transaction(self) -> None:
         """Goes past a transaction where `transaction` reads one, without making it, which is some times as fast."""
-        self.at += 4
+        data, end, at = self.data, len(self.data), self.at + 4
         for before, behind in (36, 4), (8, 0):
-            for _ in range(self.count()):
-                self.at += before
-                length = self.count()
-                self.at += length + behind
+            self.at = at
+            count, at = self.count(), self.at
+            for _ in range(count):
+                at += before
+                if at < end and data[at] < 253:
+                    at += 1 + data[at] + behind
+                else:
+                    self.at = at
+                    length = self.count()
+                    at = self.at + length + behind
+        self.at = at
         self.take(4)
 
     def header(self) -> Header:
-        numbers = self.number(4, signed=True), self.take(32), self.take(32)
-        return Header(*numbers, self.number(4), self.number(4), self.number(4))
+        return Header(*_HEADER.unpack(self.take(80)))
 
     def end(self) -> None:
         if self.at != len(self.data):

@@ -59,11 +59,12 @@ class TooMany(Error):
 class Wants(Error):
     """Of a chainstate by need: signatures have to be found out first. The command was none, and can be made again.
 
-    `triples` are those at which a script stops."""
+    `triples` are those at which a script stops, and `lines` their lines in the text of a table, without
+    ends."""
 
-    def __init__(self, triples: Sequence["Triple"]) -> None:
+    def __init__(self, triples: Sequence["Triple"], lines: Sequence[bytes]) -> None:
         super().__init__(f"{len(triples)} signatures have to be found out first")
-        self.triples = triples
+        self.triples, self.lines = triples, lines
 
 
 class Contradiction(Error):

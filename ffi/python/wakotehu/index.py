@@ -7,15 +7,20 @@ from .encoding import GENESIS, GENESIS_BLOCK, Header, Output, Spelled, Transacti
 
 
 class Kept(NamedTuple):
-    """A block that is kept. `median` is the median time past of a block on it (BIP 113), `transactions` how
-    many it has, `size` how many bytes."""
+    """A block that is kept. `times` are its own time and the times of the ten blocks below it, the highest first,
+    `transactions` how many it has, `size` how many bytes."""
 
     id: bytes
     height: int
     header: Header
-    median: int
+    times: Tuple[int, ...]
     transactions: int
     size: int
+
+    @property
+    def median(self) -> int:
+        """The median time past of a block on it (BIP 113)."""
+        return sorted(self.times)[len(self.times) // 2]
 
 
 class Index:
@@ -35,29 +40,26 @@ class Index:
         self.transactions: Dict[bytes, Tuple[bytes, int, int]] = {}
         #: The height of the highest block.
         self.highest = 0
-        self.blocks[GENESIS.id] = Kept(GENESIS.id, 0, GENESIS, GENESIS.time, 1, len(GENESIS_BLOCK))
+        self.blocks[GENESIS.id] = Kept(GENESIS.id, 0, GENESIS, (GENESIS.time,), 1, len(GENESIS_BLOCK))
 
     def add(self, id: bytes, spelled: Spelled) -> None:
         """Adds a block of this id, whose parent is there."""
-        header, height = spelled.header, self.blocks[spelled.header.parent].height + 1
+        header, parent = spelled.header, self.blocks[spelled.header.parent]
+        height, times = parent.height + 1, (header.time, *parent.times[:10])
         self.highest = max(self.highest, height)
         for tx, (begin, end) in zip(spelled.ids, spelled.places):
             self.transactions.setdefault(tx, (id, begin, end))
-        self.blocks[id] = Kept(id, height, header, self._median(header), len(spelled.ids), len(spelled.data))
-
-    def _median(self, header: Header) -> int:
-        times, at = [header.time], header.parent
-        while len(times) < 11 and at in self.blocks:
-            above = self.blocks[at].header
-            times.append(above.time)
-            at = above.parent
-        return sorted(times)[len(times) // 2]
+        self.blocks[id] = Kept(id, height, header, times, len(spelled.ids), len(spelled.data))
 
     def follow(self, best: bytes) -> None:
         """Makes the branch of a block the active one."""
         if best == self.active[-1]:
             return
         come, at = [], self.blocks[best]
+        if at.header.parent == self.active[-1]:
+            self.active.append(best)
+            self.active_size += at.size
+            return
         while not self.is_active(at.id):
             come.append(at)
             at = self.blocks[at.header.parent]

@@ -4,7 +4,7 @@ import ctypes
 import ctypes.util
 import os
 import subprocess
-from ctypes import CFUNCTYPE, POINTER, c_char, c_char_p, c_int, c_int64, c_size_t, c_uint8, c_uint32, c_uint64, c_void_p
+from ctypes import CFUNCTYPE, POINTER, c_char_p, c_int, c_int64, c_size_t, c_uint8, c_uint32, c_uint64, c_void_p
 from typing import Iterator, Optional
 
 from .errors import LibraryMissing
@@ -28,12 +28,10 @@ class Coin(ctypes.Structure):
 
 CoinCall = CFUNCTYPE(c_int, c_void_p, POINTER(c_uint8), c_uint32, POINTER(Coin), POINTER(c_uint8))
 
-WantCall = CFUNCTYPE(c_int, c_void_p, POINTER(c_char), c_size_t)
-
 _CALLS = {
     "open": [POINTER(c_uint64), POINTER(Heights), c_char_p, c_size_t, POINTER(c_uint64)],
     "open_by_need": [POINTER(c_uint64), POINTER(Heights)],
-    "wants": [c_uint64, WantCall, c_void_p],
+    "want_lines": [c_uint64, c_char_p, c_size_t, POINTER(c_size_t)],
     "learn": [c_uint64, c_char_p, c_size_t, c_char_p, c_size_t, c_char_p, c_int],
     "close": [c_uint64],
     "submit": [c_uint64, c_char_p, c_size_t, c_uint64, POINTER(Answer)],
@@ -65,6 +63,7 @@ def _places() -> Iterator[str]:
 
 
 _loaded: Optional[ctypes.CDLL] = None
+_SECP256K1 = "libwakotehu-secp256k1.so.0"
 
 
 def library() -> ctypes.CDLL:
@@ -93,3 +92,15 @@ def library() -> ctypes.CDLL:
         _loaded = loaded
         return loaded
     raise LibraryMissing("libwakotehu.so isn't found: set WAKOTEHU_LIBRARY, or run ./install")
+
+
+def secp256k1_library() -> Optional[ctypes.CDLL]:
+    """The library beside it that tests signatures; None where it isn't there, or libsecp256k1 isn't."""
+    try:
+        # Without a folder the linker looks for it, as it did for the other one.
+        loaded = ctypes.CDLL(os.path.join(os.path.dirname(library()._name), _SECP256K1))
+    except OSError:
+        return None
+    call = loaded.wakotehu_secp256k1_verdicts
+    call.argtypes, call.restype = [c_char_p, c_size_t, c_size_t, c_char_p, c_size_t], c_int
+    return loaded

@@ -2,9 +2,14 @@
 
 import ctypes
 import ctypes.util
-from typing import Dict, Optional, Tuple
+import os
+from typing import List, Optional, Sequence
 
 from .consensus import Triple
+from .library import secp256k1_library
+
+#: So many threads are used at most where nobody says how many.
+MOST_THREADS = 8
 
 
 class Secp256k1:
@@ -27,10 +32,7 @@ class Secp256k1:
         if not library.secp256k1_ec_pubkey_parse(context, key, triple.key, ctypes.c_size_t(len(triple.key))):
             return False
         numbers = read_signature(triple.signature)
-        if numbers is None:
-            return False
-        compact = b"".join(number.to_bytes(32, "big") for number in numbers)
-        if not library.secp256k1_ecdsa_signature_parse_compact(context, signature, compact):
+        if numbers is None or not library.secp256k1_ecdsa_signature_parse_compact(context, signature, numbers):
             return False
         library.secp256k1_ecdsa_signature_normalize(context, signature, signature)
         return bool(library.secp256k1_ecdsa_verify(context, signature, triple.digest, key))
@@ -57,48 +59,63 @@ class Secp256k1:
         return out.raw[: length.value]
 
 
-class Found:
-    """The verdicts of libsecp256k1 on the triples that scripts asked for so far."""
+class Verifier:
+    """Says which signatures are valid: by libwakotehu-secp256k1, and by several threads where there are many. Where that
+    library isn't there, by libsecp256k1, one after the other. The verdicts are the same.
 
-    def __init__(self) -> None:
-        self.verdicts: Dict[Triple, bool] = {}
-        self._secp = Secp256k1()
+    threads: how many test signatures at once, the caller's among them; 1 starts none. By default one for each processor
+        that the process may use, at most 8.
+    """
 
-    def valid(self, triple: Triple) -> bool:
-        """Whether a triple is valid."""
-        if triple not in self.verdicts:
-            self.verdicts[triple] = self._secp.valid(triple)
-        return self.verdicts[triple]
+    def __init__(self, threads: Optional[int] = None) -> None:
+        if threads is None:
+            threads = min(processors(), MOST_THREADS)
+        if not 1 <= threads < 2**31:
+            raise ValueError(f"at least one thread is needed, and fewer than 2^31, not {threads}")
+        self.threads = threads
+        self._library = secp256k1_library()
+        self._secp = Secp256k1() if self._library is None else None
+
+    def verdicts(self, lines: Sequence[bytes]) -> List[bool]:
+        """Whether the signatures of these lines, as of a table, are valid."""
+        if self._secp is not None:
+            return [self._secp.valid(triple) for triple in Triple.of_lines(lines)]
+        assert self._library is not None
+        text, valid = b"\n".join(lines), ctypes.create_string_buffer(len(lines))
+        code = self._library.wakotehu_secp256k1_verdicts(text, len(text), self.threads, valid, len(lines))
+        if code != 0:
+            raise ValueError(f"the lines can't be read: {code}")
+        return [verdict == 1 for verdict in valid.raw]
 
 
-def read_signature(data: bytes) -> Optional[Tuple[int, int]]:
-    """The two numbers of a signature, read as leniently as Bitcoin Core does; None where there are none, or one is of
-    more than 256 bits."""
+def processors() -> int:
+    """How many processors this process may use."""
+    try:
+        return len(os.sched_getaffinity(0))
+    except (AttributeError, OSError):
+        return os.cpu_count() or 1
 
-    def length(at: int) -> Optional[Tuple[int, int]]:
-        if at >= len(data):
-            return None
-        if not data[at] & 128:
-            return data[at], at + 1
-        wide = data[at] & 127
-        if wide > len(data) - at - 1:
-            return None
-        return int.from_bytes(data[at + 1 : at + 1 + wide], "big"), at + 1 + wide
 
-    if data[:1] != b"\x30":
+def read_signature(data: bytes) -> Optional[bytes]:
+    """The two numbers of a signature, 32 bytes each, read as leniently as Bitcoin Core does; None where there are none,
+    or one is of more than 256 bits."""
+    if len(data) < 2 or data[0] != 0x30:
         return None
-    if len(data) < 2:
-        return None
+    end, numbers = len(data), []
     at = 2 + (data[1] & 127 if data[1] & 128 else 0)
-    numbers = []
     for _ in range(2):
-        if at >= len(data) or data[at] != 2:
+        if at + 1 >= end or data[at] != 2:
             return None
-        sized = length(at + 1)
-        if sized is None or sized[0] > len(data) - sized[1]:
+        length, at = data[at + 1], at + 2
+        if length & 128:
+            wide = length & 127
+            if wide > end - at:
+                return None
+            length, at = int.from_bytes(data[at : at + wide], "big"), at + wide
+        if length > end - at:
             return None
-        numbers.append(int.from_bytes(data[sized[1] : sized[1] + sized[0]], "big"))
-        at = sized[1] + sized[0]
-    if max(numbers) >= 2**256:
-        return None
-    return numbers[0], numbers[1]
+        number, at = data[at : at + length].lstrip(b"\0"), at + length
+        if len(number) > 32:
+            return None
+        numbers.append(number.rjust(32, b"\0"))
+    return numbers[0] + numbers[1]

@@ -1,0 +1,31 @@
+/*
+ * Which signatures are valid, by libsecp256k1: for chainstates that are opened by wakotehu_open_by_need. It is a library
+ * of its own, so that libwakotehu needs none but C's.
+ */
+#ifndef WAKOTEHU_SECP256K1_H
+#define WAKOTEHU_SECP256K1_H
+
+#include <wakotehu.h>
+
+#ifdef __cplusplus
+extern "C" {
+#endif
+
+/* Says of `count` lines, as wakotehu_want_lines writes them, whether the signature is valid, as Bitcoin Core tests it: a
+ * byte of 1 or 0 for each. Empty lines are none. A signature is read leniently, since whether BIP 66 refuses it is a rule
+ * of scripts; and it counts as the one with the lower number.
+ *
+ * threads: how many threads test at most, the caller's among them; each has 4 lines at least. Where one can't be
+ * started, the others do its work. The caller waits only for threads that began with a line. One that begins later ends
+ * at once, and reads nothing that the caller gave. They let no signals in.
+ *
+ * WAKOTEHU_NULL where a pointer is null, unless there is nothing to read or to write; WAKOTEHU_BAD_TABLE where a line
+ * can't be read; WAKOTEHU_MISMATCH where there is another number of them. Then nothing is written. Where there is no
+ * memory, one thread does all. It may be called by any threads at once. */
+wakotehu_code wakotehu_secp256k1_verdicts(const char *lines, size_t length, size_t threads, uint8_t *valid,
+                                          size_t count);
+
+#ifdef __cplusplus
+}
+#endif
+#endif
