@@ -1,5 +1,5 @@
-"""A node with so many coins that its map of them becomes many maps, with spends on both sides of that, and allocations
-of the step in which it happens refused."""
+"""A node with so many coins that many maps of them are opened, with spends on both sides of that, and the allocations of
+the step in which it happens refused."""
 import glob
 import os
 import subprocess
@@ -9,11 +9,12 @@ import running
 from running import ROOT, ProgramTest, lines
 from writing import transaction
 
-# A coin that comes where one map holds so many has them moved into many (crates/coins).
+# A coin that comes where one map holds so many has many maps opened, and each that comes then brings one over
+# (crates/coins).
 MANY = 102_400
-# How many of a step's allocations are refused from its first one on, and up to its last one. Of those between every
-# APART-th is refused: each in turn takes a quarter of an hour of a processor (by APART = 1). After every LONG-th the
-# call is made again.
+# How many of a step's allocations are refused from its first one on, and up to its last one. Of those between, by which
+# the second copy takes in the coins of the block before, every APART-th is refused. After every LONG-th the call is made
+# again.
 ENDS, APART, LONG = 60, 250, 20
 
 
@@ -120,8 +121,8 @@ CALL = 1 + len(READS)
 
 
 class RefusedCoins(ProgramTest):
-    """One coin is lacking to MANY. The block x brings four and takes three, so in its step the coins of both published
-    copies are moved. It is submitted twice: what was refused is taken or shown by the second call."""
+    """One coin is lacking to MANY. The block x brings four and takes three, so in its step both published copies open many
+    maps and bring coins over. It is submitted twice: what was refused is taken or shown by the second call."""
 
     def setUp(self) -> None:
         super().setUp()
@@ -162,7 +163,7 @@ class RefusedCoins(ProgramTest):
         """Each process wrote one of these lists of answers, by the first one's word; each list was met. A process that was
         refused what the answer's line takes ends with a fault, and wrote nothing."""
         number = self.run_forks(line, FIRST=0, LAST=0)[0]
-        self.assertGreater(number, 2 * 8192)
+        self.assertGreater(number, 2 * ENDS)
         _, killed, faults = self.run_forks(line, FIRST=ENDS, LAST=number - ENDS, APART=APART)
         self.assertEqual(killed, 0)
         met: Counter[str] = Counter()

@@ -65,6 +65,11 @@ class Peer:
         self._link: Optional[http.client.HTTPConnection] = None
         self._wait()
 
+    @property
+    def pid(self) -> int:
+        """Its process."""
+        return self._process.pid
+
     def __enter__(self) -> "Peer":
         return self
 
