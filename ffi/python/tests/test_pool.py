@@ -8,6 +8,7 @@ import subprocess
 import threading
 import time
 import unittest
+import unittest.mock
 
 import test_datadir
 import test_http
@@ -18,6 +19,7 @@ from test_bench import KEYS, SECP, SECRETS, pay_to_key
 from wakotehu import Node, errors, show
 from wakotehu.consensus import Triple
 from wakotehu.encoding import GENESIS, Input, Output, Transaction, signature_digest
+from wakotehu.node import Seat
 from wakotehu.pool import Pool
 from wakotehu.rpc.node import Saver
 
@@ -139,7 +141,8 @@ class SeatsTest(unittest.TestCase):
         self.assertEqual((len(set(found)), running.call("getblockcount")), (80, 80))
 
     def test_reads_beside_a_writer(self):
-        """Blocks of 2,000 payments come in, and another connection reads on: the slowest read is told."""
+        """Blocks of 2,000 payments come in, and another connection reads on: no block is answered before five reads that
+        began behind its submission are. The slowest read is told."""
         running, maker = self.started(), Maker()
         blocks = maker.chain(110)
         for block in blocks:
@@ -150,31 +153,38 @@ class SeatsTest(unittest.TestCase):
             more = [spend(first.id, place, 1_000_000, b"") for place in range(2000)]
             payments.append(maker.block(at, [first, *more]))
             at = block_id(payments[-1])
-        ended, submitted, read, beside = threading.Event(), [], [], []
+        ended, submitted, read, answered = threading.Event(), [], [], threading.Condition()
+        submit = Seat.try_submit
+
+        def held(seat, block, now):
+            # One read may have begun before. A read that waited for the submission would wait for as long as this does.
+            wanted = len(read) + 6
+            reply = submit(seat, block, now)
+            with answered:
+                self.assertTrue(answered.wait_for(lambda: len(read) >= wanted, 30))
+            return reply
 
         def write():
             connection = self.connected(running)
-            for block in payments:
-                begun = time.perf_counter()
-                self.assertIsNone(connection.call("submitblock", block.hex()))
-                submitted.append(time.perf_counter() - begun)
-            ended.set()
+            try:
+                for block in payments:
+                    submitted.append(connection.call("submitblock", block.hex()))
+            finally:
+                ended.set()
 
         def ask():
             connection = self.connected(running)
             while not ended.is_set():
-                before, begun = len(submitted), time.perf_counter()
+                begun = time.perf_counter()
                 self.assertEqual(connection.call("gettxout", show(coins[109]), 0)["coinbase"], True)
-                read.append(time.perf_counter() - begun)
-                beside.append(len(submitted) == before)
+                with answered:
+                    read.append(time.perf_counter() - begun)
+                    answered.notify_all()
 
-        self.run_all(write, ask)
-        # Where reads waited for a submission there would be few, and the slowest would take as long as one.
-        self.assertGreater(sum(beside), 5 * len(payments))
-        print(
-            f"{len(read)} reads by RPC beside {len(payments)} blocks of 2,000 payments: the slowest took"
-            f" {max(read) * 1000:.1f} ms, the slowest block {max(submitted) * 1000:.1f}"
-        )
+        with unittest.mock.patch.object(Seat, "try_submit", held):
+            self.run_all(write, ask)
+        self.assertEqual(submitted, [None] * len(payments))
+        print(f"{len(read)} reads by RPC beside blocks of 2,000 payments: the slowest took {max(read) * 1000:.1f} ms")
 
     def test_more_connections_than_seats(self):
         running = self.started(seats=2)
