@@ -15,6 +15,7 @@ use queue::{Alone, EarlyJobs, Open, check_early};
 use rules::Params;
 use std::alloc::Global;
 use std::rt::Clock;
+use std::slice;
 use std::thread::Threads;
 use txn::{OutPoint, Tx, TxIn, ids};
 
@@ -64,6 +65,14 @@ where
 {
     let table = Table::new(rt.alloc());
     let jobs = jobs(rt.alloc(), map, block)?;
-    let verdicts = [check_early(rt, rt.alloc(), jobs, &table, 4, &Open)?];
-    timed(rt, map, block, &table, 1, &verdicts, &Alone)
+    let verdicts = check_early(rt, rt.alloc(), jobs, &table, 4, &Open)?;
+    timed(
+        rt,
+        map,
+        block,
+        &table,
+        1,
+        slice::from_ref(&verdicts),
+        &Alone,
+    )
 }

@@ -3,12 +3,11 @@
 ghost use Rattle.std.specs.Prelude.{◌≡◌};
 
 use crate::branch::Branch;
-use crate::chain_work::NOW;
 use crate::check::Check;
 use crate::fault::Fault;
 use crate::plan::{Plan, Work};
 use crate::read_work::reads_beside;
-use crate::seat_work::{at_once, in_turn, submit_each};
+use crate::seat_work::{at_once, in_turn, submit, submit_each};
 use crate::timing::{Outcome, Timer};
 use node::{Naming, Node, Open, Opening, Params, Seat, Table};
 use std::marker::Brand;
@@ -109,11 +108,11 @@ where
     R: AllocGlobal + Clock + Threads + Wait + Sync,
 {
     let timer = Timer::start(rt);
-    let last = match seats.first_mut() {
+    let kept = match seats.first_mut() {
         Some(seat) => submit_next_ones(rt, node, seat, branch, count),
         None => Err(Fault::Node),
     };
-    timer.stop(rt, last)
+    timer.stop(rt, kept)
 }
 
 fn submit_next_ones<J: Naming, R>(
@@ -126,15 +125,15 @@ fn submit_next_ones<J: Naming, R>(
 where
     R: AllocGlobal + Threads + Wait + Sync,
 {
-    let mut last = 0;
+    let mut kept = 0u64;
     for _ in 0..count {
         let bytes = branch.next_bytes(rt.alloc(), Vec::new(rt.alloc()));
-        last = submit_made(rt, node, seat, bytes)?;
+        kept = kept.wrapping_add(submit_made(rt, node, seat, bytes)?);
     }
-    Ok(Check::Count(last))
+    Ok(Check::Count(kept))
 }
 
-/// Submits a block, where it was made: the place of the answer's moment.
+/// Submits a block, where it was made: how many are kept.
 fn submit_made<J: Naming, R>(
     rt: &R,
     node: &Node<'_, J>,
@@ -145,5 +144,5 @@ where
     R: Threads + Wait + Sync,
 {
     let bytes = bytes?;
-    Ok(seat.submit(rt, node, bytes.as_slice(), NOW)?.at)
+    submit(rt, node, seat, bytes.as_slice())
 }

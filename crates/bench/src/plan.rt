@@ -73,12 +73,12 @@ pub fn shuffle(places: &mut [OutPoint]) {
 
 /// So many coins read by each of so many seats.
 pub fn reads(alloc: Global, coins: usize, seats: usize, look: Look) -> Result<Plan, Fault> {
-    let Start { blocks, spread, .. } = start(alloc, 0, coins)?;
+    let start = start(alloc, 0, coins)?;
     Ok(Plan {
         seats,
         workers: 1,
-        below: blocks,
-        work: Work::Reads(spread, look),
+        below: start.blocks,
+        work: Work::Reads(start.spread, look),
     })
 }
 

@@ -1,10 +1,9 @@
 //! Reads at seats of a node, by themselves and beside a writer.
 
-use crate::chain_work::NOW;
 use crate::check::Check;
 use crate::fault::Fault;
 use crate::plan::Work;
-use crate::seat_work::at_once;
+use crate::seat_work::{at_once, submit};
 use crate::timing::{Outcome, Timer};
 use node::{Naming, Node, Seat};
 use std::rt::Clock;
@@ -31,20 +30,6 @@ pub enum Look {
     Slowest,
 }
 
-/// One read.
-fn read<J: Naming, R: AllocGlobal>(
-    rt: &R,
-    node: &Node<'_, J>,
-    seat: &mut Seat<'_, J>,
-    at: &OutPoint,
-    look: Look,
-) -> Result<u64, Fault> {
-    match look {
-        Look::Coin | Look::Slowest => read_coin(rt, node, seat, at),
-        Look::Best => Ok(u64::from(seat.getbestblockhash(node)?.at > 0)),
-    }
-}
-
 /// What a coin is worth that is read.
 fn read_coin<J: Naming, R: AllocGlobal>(
     rt: &R,
@@ -68,36 +53,21 @@ pub fn read_each<J: Naming, R: AllocGlobal>(
 ) -> Result<u64, Fault> {
     let mut sum = 0u64;
     for at in places {
-        sum = sum.wrapping_add(read(rt, node, seat, at, look)?);
+        let one = match look {
+            Look::Coin | Look::Slowest => read_coin(rt, node, seat, at)?,
+            Look::Best => u64::from(seat.getbestblockhash(node)?.at > 0),
+        };
+        sum = sum.wrapping_add(one);
     }
     Ok(sum)
 }
 
-/// Each seat reads each place, or the first looks for the slowest read.
-fn reads<J: Naming, R>(
-    rt: &R,
-    node: &Node<'_, J>,
-    work: &Work,
-    seats: &mut [Seat<'_, J>],
-) -> Result<Outcome, Fault>
-where
-    R: AllocGlobal + Clock + Threads + Wait + Sync,
-{
-    match work {
-        Work::Beside(places, Look::Slowest, _) => match seats.first_mut() {
-            Some(seat) => slowest_of(rt, node, places.as_slice(), seat),
-            None => Err(Fault::Node),
-        },
-        _ => at_once(rt, node, work, seats),
-    }
-}
-
-/// The slowest of so many rounds of reads, and what was read.
+/// The slowest of so many rounds of reads by the first seat, and what was read.
 fn slowest_of<J: Naming, R>(
     rt: &R,
     node: &Node<'_, J>,
     places: &[OutPoint],
-    seat: &mut Seat<'_, J>,
+    seats: &mut [Seat<'_, J>],
 ) -> Result<Outcome, Fault>
 where
     R: AllocGlobal + Clock,
@@ -106,8 +76,10 @@ where
         spent: Duration::from_secs(0),
         sum: 0,
     };
-    for _ in 0..ROUNDS {
-        slowest.read_each(rt, node, places, seat)?;
+    if let Some(seat) = seats.first_mut() {
+        for _ in 0..ROUNDS {
+            slowest.read_each(rt, node, places, seat)?;
+        }
     }
     Ok(Outcome {
         check: Check::Count(slowest.sum),
@@ -158,7 +130,7 @@ where
         if is_over.load(SeqCst) {
             return Ok(());
         }
-        seat.submit(rt, node, bytes.as_slice(), NOW)?;
+        submit(rt, node, seat, bytes.as_slice())?;
     }
     Ok(())
 }
@@ -174,18 +146,51 @@ pub fn reads_beside<J: Naming, R>(
 where
     R: AllocGlobal + Clock + Threads + Wait + Sync,
 {
-    let Some((writer, readers)) = seats.split_first_mut() else {
-        return Err(Fault::Node);
-    };
+    match seats.split_first_mut() {
+        Some((writer, readers)) => beside(rt, node, work, blocks, writer, readers),
+        None => Err(Fault::Node),
+    }
+}
+
+fn beside<J: Naming, R>(
+    rt: &R,
+    node: &Node<'_, J>,
+    work: &Work,
+    blocks: &[Vec<u8>],
+    writer: &mut Seat<'_, J>,
+    readers: &mut [Seat<'_, J>],
+) -> Result<Outcome, Fault>
+where
+    R: AllocGlobal + Clock + Threads + Wait + Sync,
+{
     let is_over = AtomicBool::new(false);
     let write = || submit_until(rt, node, blocks, &is_over, writer);
-    let ask = || {
-        let over = &is_over;
-        let outcome = reads(rt, node, work, readers);
-        over.store(true, SeqCst);
-        outcome
-    };
+    let ask = || reads_to_end(rt, node, work, &is_over, readers);
     let (written, outcome) = thread::join(rt, write, ask);
+    behind(written, outcome)
+}
+
+/// Each seat reads each place, or the first looks for the slowest read. Then the writer is told to end.
+fn reads_to_end<J: Naming, R>(
+    rt: &R,
+    node: &Node<'_, J>,
+    work: &Work,
+    is_over: &AtomicBool,
+    seats: &mut [Seat<'_, J>],
+) -> Result<Outcome, Fault>
+where
+    R: AllocGlobal + Clock + Threads + Wait + Sync,
+{
+    let outcome = match work {
+        Work::Beside(places, Look::Slowest, _) => slowest_of(rt, node, places.as_slice(), seats),
+        _ => at_once(rt, node, work, seats),
+    };
+    is_over.store(true, SeqCst);
+    outcome
+}
+
+/// What came of reads, where the blocks beside them were submitted.
+fn behind(written: Result<(), Fault>, outcome: Result<Outcome, Fault>) -> Result<Outcome, Fault> {
     written?;
     outcome
 }

@@ -15,7 +15,7 @@ use std::thread;
 use std::thread::Threads;
 
 /// Submits a block at a seat: how many are kept.
-fn submit<J: Naming, R>(
+pub fn submit<J: Naming, R>(
     rt: &R,
     node: &Node<'_, J>,
     seat: &mut Seat<'_, J>,
@@ -92,12 +92,18 @@ where
     let threads = seats.len().max(1);
     let sum = AtomicU64::new(0);
     let act = |place: usize, seat: &mut Seat<'_, J>| {
-        let own = part_of(rt, node, work, place, threads, seat);
-        sum.fetch_add(own.unwrap_or(0), SeqCst);
+        add_part(&sum, part_of(rt, node, work, place, threads, seat));
     };
     let timer = Timer::start(rt);
     thread::for_each_mut(rt, seats, threads, &act);
     timer.stop(rt, Ok(Check::Count(sum.load(SeqCst))))
+}
+
+/// Adds what came of a seat's part, where it came to an end.
+fn add_part(sum: &AtomicU64, part: Result<u64, Fault>) {
+    if let Ok(own) = part {
+        sum.fetch_add(own, SeqCst);
+    }
 }
 
 /// What a seat reads, or how many of the blocks that it submits are kept.
@@ -136,10 +142,8 @@ where
     R: Threads + Wait + Sync,
 {
     let mut kept = 0u64;
-    for at in 0..branches.len() {
-        if at.checked_rem(seats).unwrap_or(0) == place {
-            kept = kept.wrapping_add(submit_each(rt, node, seat, branches[at].as_slice())?);
-        }
+    for at in (place..branches.len()).step_by(seats.max(1)) {
+        kept = kept.wrapping_add(submit_each(rt, node, seat, branches[at].as_slice())?);
     }
     Ok(kept)
 }
