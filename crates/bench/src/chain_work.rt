@@ -2,16 +2,17 @@
 
 ghost use Rattle.activate.specs.CoreState.{IsChainstate};
 
-use crate::branch::Branch;
 use crate::check::Check;
 use crate::fault::Fault;
-use crate::lists::put_made;
 use crate::timing::{Outcome, Timer};
 use activate::Chainstate;
 use chain::{Bytes, Command};
 use connect::Env;
 use curve::Table;
 use queue::{Alone, Open};
+use scenarios::inputs;
+use scenarios::inputs::branch::Branch;
+use scenarios::inputs::lists::put_made;
 use std::alloc::Global;
 use std::rt::Clock;
 
@@ -76,7 +77,7 @@ fn ready(
 {
     match growth {
         Growth::Above(branch, height, count) => above(alloc, chain, table, branch, height, count),
-        Growth::Beside(count) => beside(alloc, count),
+        Growth::Beside(count) => Ok(beside(alloc, count)?),
         Growth::Reorganised(depth) => {
             fork(alloc, chain, table, depth)?;
             above(alloc, chain, table, Branch::new(2), depth, 1)
@@ -106,7 +107,7 @@ fn above(
     ensures { IsChainstate chain.new table.now }
 {
     take_made(alloc, chain, table, next_ones(alloc, &mut branch, height))?;
-    next_ones(alloc, &mut branch, count)
+    Ok(next_ones(alloc, &mut branch, count)?)
 }
 
 /// Takes commands one after the other, where they were made.
@@ -114,7 +115,7 @@ fn take_made(
     alloc: Global,
     chain: &mut Chainstate,
     table: &Table,
-    commands: Result<Vec<Command>, Fault>,
+    commands: Result<Vec<Command>, inputs::Fault>,
 ) -> Result<(), Fault>
     requires { IsChainstate chain.old table.now }
     ensures { IsChainstate chain.new table.now }
@@ -144,14 +145,18 @@ fn take_each(
 }
 
 /// The submission of a branch's next block, without payments.
-fn next(alloc: Global, branch: &mut Branch) -> Result<Command, Fault> {
+fn next(alloc: Global, branch: &mut Branch) -> Result<Command, inputs::Fault> {
     let bytes = branch.next_bytes(alloc, Vec::new(alloc))?;
     // A list with no room beyond them, as a node makes it of bytes that are lent.
     Ok(Command::Submit(Bytes::from_slice(alloc, &bytes)?, NOW))
 }
 
 /// Submissions of a branch's next blocks.
-fn next_ones(alloc: Global, branch: &mut Branch, count: usize) -> Result<Vec<Command>, Fault> {
+fn next_ones(
+    alloc: Global,
+    branch: &mut Branch,
+    count: usize,
+) -> Result<Vec<Command>, inputs::Fault> {
     let mut commands = Vec::with_capacity(alloc, count)?;
     for _ in 0..count {
         put_made(&mut commands, next(alloc, branch))?;
@@ -160,7 +165,7 @@ fn next_ones(alloc: Global, branch: &mut Branch, count: usize) -> Result<Vec<Com
 }
 
 /// Submissions of blocks on genesis.
-fn beside(alloc: Global, count: usize) -> Result<Vec<Command>, Fault> {
+fn beside(alloc: Global, count: usize) -> Result<Vec<Command>, inputs::Fault> {
     let mut commands = Vec::with_capacity(alloc, count)?;
     for number in 0..count {
         put_made(&mut commands, first(alloc, number))?;
@@ -169,7 +174,7 @@ fn beside(alloc: Global, count: usize) -> Result<Vec<Command>, Fault> {
 }
 
 /// The submission of a block on genesis, whose branch has this number.
-fn first(alloc: Global, number: usize) -> Result<Command, Fault> {
+fn first(alloc: Global, number: usize) -> Result<Command, inputs::Fault> {
     let number = (number % 1_000_000) as u32;
     next(alloc, &mut Branch::new(number.wrapping_add(10)))
 }

@@ -2,93 +2,13 @@
 
 use crate::check::Check;
 use crate::fault::Fault;
-use crate::filling::Filling;
-use crate::lists::put_made;
-use crate::payments::{TRUE, coin, to_key_hash};
-use crate::plan::{shuffle, start};
-use crate::start::{Start, WORTH};
 use crate::timing::{Outcome, Timer};
 use coins::{Base, Cache, Coin, CoinMap};
-use hash::Id;
+use scenarios::inputs::hoard::{Hoard, fill, hoarded, put_coin, put_next, put_spread};
+use scenarios::inputs::start::Start;
 use std::alloc::Global;
 use std::rt::Clock;
 use txn::OutPoint;
-
-/// Random outpoints and coins.
-#[derive(Drop)]
-struct Hoard {
-    filling: Filling,
-}
-
-impl Hoard {
-    fn new() -> Hoard {
-        Hoard {
-            filling: Filling::new(14),
-        }
-    }
-
-    fn next(&mut self, alloc: Global) -> Result<(OutPoint, Coin), Fault> {
-        let at = OutPoint {
-            id: Id(self.filling.bytes()),
-            index: (self.filling.next() % 4) as u32,
-        };
-        let hash: [u8; 20] = self.filling.bytes();
-        let value = (self.filling.next() % 5_000_000_000) as i64;
-        Ok((at, coin(alloc, value, to_key_hash(&hash).as_slice())?))
-    }
-}
-
-/// Puts a coin into a map.
-pub fn put_coin(map: &mut CoinMap, at: OutPoint, coin: Coin) -> Result<(), Fault> {
-    map.insert(at, coin)?;
-    Ok(())
-}
-
-/// Puts a coin of this worth and script into a map.
-pub fn put_new(
-    alloc: Global,
-    map: &mut CoinMap,
-    at: OutPoint,
-    value: i64,
-    script: &[u8],
-) -> Result<(), Fault> {
-    put_coin(map, at, coin(alloc, value, script)?)
-}
-
-/// Puts the next of a hoard's coins into a map: where it is, and what it is worth.
-fn put_next(alloc: Global, hoard: &mut Hoard, map: &mut CoinMap) -> Result<(OutPoint, u64), Fault> {
-    let (at, coin) = hoard.next(alloc)?;
-    let worth = coin.value.unsigned_abs();
-    put_coin(map, at, coin)?;
-    Ok((at, worth))
-}
-
-/// Puts so many coins into a map: where they are, in another order than they came in.
-pub fn fill(alloc: Global, map: &mut CoinMap, size: usize) -> Result<Vec<OutPoint>, Fault> {
-    let mut hoard = Hoard::new();
-    let mut places = Vec::new(alloc);
-    for _ in 0..size {
-        put_made(&mut places, put_place(alloc, &mut hoard, map))?;
-    }
-    shuffle(places.as_mut_slice());
-    Ok(places)
-}
-
-/// Puts the next of a hoard's coins into a map: where it is.
-fn put_place(alloc: Global, hoard: &mut Hoard, map: &mut CoinMap) -> Result<OutPoint, Fault> {
-    let (at, _) = put_next(alloc, hoard, map)?;
-    Ok(at)
-}
-
-/// So many coins.
-fn hoarded(alloc: Global, size: usize) -> Result<Vec<(OutPoint, Coin)>, Fault> {
-    let mut hoard = Hoard::new();
-    let mut coins = Vec::new(alloc);
-    for _ in 0..size {
-        put_made(&mut coins, hoard.next(alloc))?;
-    }
-    Ok(coins)
-}
 
 /// So many coins into a map.
 pub fn inserted<R: AllocGlobal + Clock>(rt: &R, size: usize) -> Result<Outcome, Fault> {
@@ -129,7 +49,7 @@ pub fn looked_up<R: AllocGlobal + Clock>(rt: &R, size: usize) -> Result<Outcome,
 
 /// So many coins looked up in a map by themselves, at the places that the readers of a node have.
 pub fn read_from_a_map<R: AllocGlobal + Clock>(rt: &R, size: usize) -> Result<Outcome, Fault> {
-    let Start { spread, .. } = start(rt.alloc(), 0, size)?;
+    let Start { spread, .. } = Start::shuffled(rt.alloc(), 0, size)?;
     read_spread(rt, spread.as_slice())
 }
 
@@ -138,14 +58,6 @@ fn read_spread<R: AllocGlobal + Clock>(rt: &R, spread: &[OutPoint]) -> Result<Ou
     let mut map = CoinMap::new(rt.alloc());
     put_spread(rt.alloc(), &mut map, spread)?;
     looks(rt, &map, spread)
-}
-
-/// Puts the coins that a chain leaves at these places into a map.
-fn put_spread(alloc: Global, map: &mut CoinMap, places: &[OutPoint]) -> Result<(), Fault> {
-    for at in places {
-        put_new(alloc, map, *at, WORTH / 10, TRUE)?;
-    }
-    Ok(())
 }
 
 /// Each of so many coins of a map, looked for and spent in a layer.

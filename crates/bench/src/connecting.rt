@@ -6,23 +6,22 @@ ghost use Rattle.txn.specs.Identity.{ids_of};
 ghost use Rattle.rules.specs.Alone.{alone_rules};
 
 use crate::check::Check;
-use crate::coin_work::{fill, put_coin};
 use crate::fault::{Fault, read_again};
-use crate::lists::put;
-use crate::payments::block_with;
-use crate::spends::{Spend, Spends, to_keys};
 use crate::timing::{Outcome, Timer};
 use block::Block;
-use coins::{Cache, Coin, CoinMap};
+use coins::{Cache, CoinMap};
 use connect::{Context, Env, connect};
 use curve::Table;
 use hash::Id;
 use queue::{Crew, Open, Threaded, Verdicts};
 use rules::{Params, block_alone_with};
+use scenarios::inputs::blocks::block_over;
+use scenarios::inputs::hoard::fill;
+use scenarios::inputs::spends::{Spends, to_keys};
 use std::alloc::Global;
 use std::rt::Clock;
 use std::thread::Threads;
-use txn::{Script, Tx, ids};
+use txn::ids;
 use undo::BlockUndo;
 
 /// The height of the blocks.
@@ -30,36 +29,6 @@ pub const HEIGHT: u32 = 101;
 
 /// So many payments stand in a block.
 const PAYMENTS: usize = 2000;
-
-/// Puts in the coins that payments spend, and gives the block of these payments.
-fn block_over(alloc: Global, map: &mut CoinMap, list: Vec<Spend>) -> Result<Block, Fault> {
-    let mut txs = Vec::new(alloc);
-    for spend in list {
-        put_payment(map, &mut txs, spend)?;
-    }
-    block_with(alloc, txs)
-}
-
-/// Puts a payment behind others, and the coin that it spends into a map.
-fn put_payment(map: &mut CoinMap, txs: &mut Vec<Tx>, spend: Spend) -> Result<(), Fault> {
-    let Spend { tx, spent } = spend;
-    put_spent(map, &tx, spent)?;
-    put(txs, tx)
-}
-
-/// Puts in the coin that a payment spends, with this script.
-fn put_spent(map: &mut CoinMap, tx: &Tx, spent: Vec<u8>) -> Result<(), Fault> {
-    let coin = Coin {
-        value: 5000,
-        script: Script::from_vec(spent),
-        height: 7,
-        coinbase: false,
-    };
-    match tx.inputs.as_slice() {
-        [input, ..] => put_coin(map, input.prev, coin),
-        [] => Ok(()),
-    }
-}
 
 /// A block of 2,000 payments connected to so many coins and those that it spends, its scripts run by so many
 /// workers. The inputs are counted.

@@ -1,20 +1,18 @@
 //! Blocks from bytes and back, judged by themselves, and blk files.
 
-use crate::branch::bytes_of;
 use crate::check::Check;
 use crate::fault::{Fault, read_again};
-use crate::lists::put_bytes;
-use crate::payments::block_of;
 use crate::timing::{Outcome, Timer};
-use block::{BlkReader, Block, GENESIS, SliceSource};
+use block::{BlkReader, Block, SliceSource};
 use hash::{Id, double_sha};
 use rules::block_alone;
+use scenarios::inputs;
+use scenarios::inputs::blocks::{blk_file, block_bytes};
+use scenarios::inputs::branch::bytes_of;
+use scenarios::inputs::payments::block_of;
 use std::alloc::Global;
 use std::rt::Clock;
-use txn::{Reason, ids};
-
-/// What a record of a regtest blk file begins with.
-const MAGIC: [u8; 4] = [0xfa, 0xbf, 0xb5, 0xda];
+use txn::ids;
 
 /// The id of no transaction.
 const NONE: Id = Id([0; 32]);
@@ -37,11 +35,6 @@ fn decoded(
     let spent = timer.spent(clock)?;
     let check = Check::of_id(last_id(&block));
     Ok(Outcome { check, spent })
-}
-
-fn block_bytes(alloc: Global, size: usize) -> Result<Vec<u8>, Fault> {
-    let block = block_of(alloc, size)?;
-    bytes_of(alloc, &block)
 }
 
 /// The id of the last transaction.
@@ -93,7 +86,7 @@ pub fn write<R: AllocGlobal + Clock>(rt: &R, size: usize) -> Result<Outcome, Fau
 fn written(
     clock: &impl Clock,
     timer: Timer,
-    bytes: Result<Vec<u8>, Fault>,
+    bytes: Result<Vec<u8>, inputs::Fault>,
 ) -> Result<Outcome, Fault> {
     let bytes = bytes?;
     let spent = timer.spent(clock)?;
@@ -106,25 +99,6 @@ pub fn records<R: AllocGlobal + Clock>(rt: &R, size: usize) -> Result<Outcome, F
     let file = blk_file(rt.alloc(), size)?;
     let timer = Timer::start(rt);
     timer.stop(rt, read_records(rt.alloc(), file.as_slice(), size))
-}
-
-/// A file that has the genesis block so often.
-fn blk_file(alloc: Global, count: usize) -> Result<Vec<u8>, Fault> {
-    let record = record();
-    let mut file = Vec::new(alloc);
-    for _ in 0..count {
-        put_bytes(&mut file, record.as_slice())?;
-    }
-    Ok(file)
-}
-
-/// The genesis block's record.
-fn record() -> [u8; 293] {
-    let mut bytes = [0; 293];
-    bytes[..4].copy_from_slice(MAGIC.as_slice());
-    bytes[4..8].copy_from_slice((GENESIS.len() as u32).to_le_bytes().as_slice());
-    bytes[8..].copy_from_slice(GENESIS.as_slice());
-    bytes
 }
 
 /// How many bytes the first records have.

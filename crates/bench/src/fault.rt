@@ -1,5 +1,6 @@
 //! Why a run ends without its lines.
 
+use scenarios::inputs;
 use std::alloc::{AllocError, AllocFailed};
 use std::{fmt, io};
 use wire::Memory;
@@ -10,6 +11,8 @@ pub enum Fault {
     /// The command line has other words than a workload's name and a size.
     Words,
     Memory,
+    /// More coins are asked for than the first hundred coinbases are spent for.
+    TooManyCoins,
     /// The clock can't be read, or the output can't be written.
     Io,
     /// A block that was made here isn't read again.
@@ -31,11 +34,21 @@ impl fmt::Display for Fault {
         let text = match self {
             Fault::Words => "usage: bench [WORKLOAD SIZE]",
             Fault::Memory => "memory",
+            Fault::TooManyCoins => "too many coins",
             Fault::Io => "the clock or the output failed",
             Fault::Unread => "a block is not read",
             Fault::Node => "the node failed",
         };
         writeln!(f, "bench: {text}")
+    }
+}
+
+impl From<inputs::Fault> for Fault {
+    fn from(fault: inputs::Fault) -> Self {
+        match fault {
+            inputs::Fault::Memory => Fault::Memory,
+            inputs::Fault::TooManyCoins => Fault::TooManyCoins,
+        }
     }
 }
 

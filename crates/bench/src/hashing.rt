@@ -2,11 +2,10 @@
 
 use crate::check::Check;
 use crate::fault::Fault;
-use crate::filling::Filling;
-use crate::lists::put;
 use crate::timing::{Outcome, Timer};
 use block::merkle;
 use hash::{Id, double_sha};
+use scenarios::inputs::filling::{Filling, some_ids};
 use std::alloc::Global;
 use std::rt::Clock;
 
@@ -57,13 +56,4 @@ pub fn merkle_root<R: AllocGlobal + Clock>(rt: &R, size: usize) -> Result<Outcom
 fn root_of(alloc: Global, ids: &[Id]) -> Result<Check, Fault> {
     let (root, _) = merkle(alloc, ids)?;
     Ok(Check::of_id(root))
-}
-
-fn some_ids(alloc: Global, size: usize) -> Result<Vec<Id>, Fault> {
-    let mut filling = Filling::new(4);
-    let mut ids = Vec::new(alloc);
-    for _ in 0..size {
-        put(&mut ids, Id(filling.bytes()))?;
-    }
-    Ok(ids)
 }

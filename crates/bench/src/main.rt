@@ -1,7 +1,6 @@
 //! Times one workload, or does each of them at a small size.
 #![tactic(auto)]
 
-mod branch;
 mod chain_work;
 mod check;
 mod coin_work;
@@ -9,19 +8,14 @@ mod connecting;
 mod decoding;
 mod early_work;
 mod fault;
-mod filling;
 mod hashing;
-mod lists;
 mod node_work;
-mod payments;
 mod plan;
 mod queueing;
 mod read_work;
 mod scripts;
 mod seat_work;
 mod signing;
-mod spends;
-mod start;
 mod timing;
 mod words;
 mod workload;

@@ -2,7 +2,6 @@
 
 ghost use Rattle.std.specs.Prelude.{◌≡◌};
 
-use crate::branch::Branch;
 use crate::check::Check;
 use crate::fault::Fault;
 use crate::plan::{Plan, Work};
@@ -10,13 +9,15 @@ use crate::read_work::reads_beside;
 use crate::seat_work::{at_once, in_turn, submit, submit_each};
 use crate::timing::{Outcome, Timer};
 use node::{Naming, Node, Open, Opening, Params, Seat, Table};
+use scenarios::inputs;
+use scenarios::inputs::branch::Branch;
 use std::marker::Brand;
 use std::rt::Clock;
 use std::sync::{Arc, Wait};
 use std::thread::Threads;
 
 /// Opens a node, submits blocks, which aren't timed, and has its seats do their work, where that was made.
-pub fn at_node<R>(rt: &R, plan: Result<Plan, Fault>) -> Result<Outcome, Fault>
+pub fn at_node<R>(rt: &R, plan: Result<Plan, inputs::Fault>) -> Result<Outcome, Fault>
 where
     R: AllocGlobal + Clock + Threads + Wait + Sync,
 {
@@ -138,7 +139,7 @@ fn submit_made<J: Naming, R>(
     rt: &R,
     node: &Node<'_, J>,
     seat: &mut Seat<'_, J>,
-    bytes: Result<Vec<u8>, Fault>,
+    bytes: Result<Vec<u8>, inputs::Fault>,
 ) -> Result<u64, Fault>
 where
     R: Threads + Wait + Sync,

@@ -1,13 +1,10 @@
 //! The chains over which a node is timed, and what its seats do there.
 
-use crate::branch::Branch;
-use crate::fault::Fault;
-use crate::filling::Filling;
-use crate::lists::put_made;
-use crate::payments::TRUE;
 use crate::read_work::Look;
-use crate::scripts::long_script_alone;
-use crate::start::{Start, paying};
+use scenarios::inputs::Fault;
+use scenarios::inputs::branch::Branch;
+use scenarios::inputs::scripts::long_script_alone;
+use scenarios::inputs::start::{Start, branches as branches_of, paying};
 use std::alloc::Global;
 use txn::OutPoint;
 
@@ -54,26 +51,9 @@ pub struct Plan {
     pub work: Work,
 }
 
-/// A chain that leaves so many coins for payments, and so many to be read, whose places stand in another order.
-pub fn start(alloc: Global, payments: usize, coins: usize) -> Result<Start, Fault> {
-    let mut start = Start::new(alloc, payments.saturating_add(coins / 10), TRUE)?;
-    start.spread(alloc, coins)?;
-    shuffle(start.spread.as_mut_slice());
-    Ok(start)
-}
-
-/// Puts places into another order.
-pub fn shuffle(places: &mut [OutPoint]) {
-    let mut filling = Filling::new(15);
-    for at in 0..places.len() {
-        let other = (filling.next() % places.len() as u64) as usize;
-        places.swap(at, other);
-    }
-}
-
 /// So many coins read by each of so many seats.
 pub fn reads(alloc: Global, coins: usize, seats: usize, look: Look) -> Result<Plan, Fault> {
-    let start = start(alloc, 0, coins)?;
+    let start = Start::shuffled(alloc, 0, coins)?;
     Ok(Plan {
         seats,
         workers: 1,
@@ -84,14 +64,14 @@ pub fn reads(alloc: Global, coins: usize, seats: usize, look: Look) -> Result<Pl
 
 /// The same while another seat submits blocks of 2,000 payments.
 pub fn reads_beside(alloc: Global, coins: usize, readers: usize) -> Result<Plan, Fault> {
-    let start = start(alloc, PAYMENTS.saturating_mul(2), coins);
+    let start = Start::shuffled(alloc, PAYMENTS.saturating_mul(2), coins);
     let count = (coins / 1000).clamp(2, 60);
     beside(alloc, start, count, readers, Look::Coin)
 }
 
 /// The slowest of a million reads while another seat submits blocks of so many payments.
 pub fn slowest(alloc: Global, payments: usize) -> Result<Plan, Fault> {
-    let start = start(alloc, payments, payments.saturating_mul(20).min(READ));
+    let start = Start::shuffled(alloc, payments, payments.saturating_mul(20).min(READ));
     let count = SLOWEST.checked_div(payments).unwrap_or(0).min(MANY);
     beside(alloc, start, count, 1, Look::Slowest)
 }
@@ -135,13 +115,13 @@ fn in_turn(
 
 /// So many blocks of 1,000 payments on one branch.
 pub fn turns(alloc: Global, count: usize, seats: usize) -> Result<Plan, Fault> {
-    in_turn(alloc, start(alloc, PAYMENTS, 0), count, seats, 1)
+    in_turn(alloc, Start::shuffled(alloc, PAYMENTS, 0), count, seats, 1)
 }
 
 /// Ten blocks of so many payments over so many coins, each of which changes two coins for a payment and one more.
 pub fn published(alloc: Global, coins: usize, payments: usize) -> Result<Plan, Fault> {
     // few at a small size
-    let mut start = start(alloc, payments.min(coins), coins)?;
+    let mut start = Start::shuffled(alloc, payments.min(coins), coins)?;
     // The first of these brings up to date the copy that the last step didn't change, and frees what was kept for that;
     // in those behind it the allocator sorts what was freed.
     start.add_empty(alloc, STEPS)?;
@@ -158,13 +138,13 @@ pub fn worked(alloc: Global, payments: usize, workers: usize) -> Result<Plan, Fa
 
 /// A node of so many coins, at which nothing is timed.
 pub fn kept_coins(alloc: Global, coins: usize) -> Result<Plan, Fault> {
-    in_turn(alloc, start(alloc, 0, coins), 0, 1, 1)
+    in_turn(alloc, Start::shuffled(alloc, 0, coins), 0, 1, 1)
 }
 
 /// Four branches of so many blocks of 1,000 payments on one base, beside a longer one, by so many seats at once.
 pub fn branches(alloc: Global, count: usize, seats: usize) -> Result<Plan, Fault> {
-    let mut start = start(alloc, PAYMENTS, 0)?;
-    let branches = branches_of(alloc, start.branch, start.coins.as_slice(), count)?;
+    let mut start = Start::shuffled(alloc, PAYMENTS, 0)?;
+    let branches = branches_of(alloc, start.branch, start.coins.as_slice(), BRANCHES, count)?;
     start.add_empty(alloc, count.saturating_add(1))?;
     Ok(Plan {
         seats,
@@ -172,23 +152,6 @@ pub fn branches(alloc: Global, count: usize, seats: usize) -> Result<Plan, Fault
         below: start.blocks,
         work: Work::Branches(branches),
     })
-}
-
-fn branches_of(
-    alloc: Global,
-    base: Branch,
-    coins: &[OutPoint],
-    count: usize,
-) -> Result<Vec<Vec<Vec<u8>>>, Fault> {
-    let mut branches = Vec::new(alloc);
-    for number in 0..BRANCHES {
-        let branch = Branch {
-            number: number.wrapping_add(2),
-            ..base
-        };
-        put_made(&mut branches, paying(alloc, branch, coins, count))?;
-    }
-    Ok(branches)
 }
 
 /// So many blocks without payments, each submitted as it is made.

@@ -6,11 +6,12 @@ ghost use Rattle.queue.specs.Jobs.{HasInput};
 use crate::check::Check;
 use crate::fault::Fault;
 use crate::scripts;
-use crate::spends::Spends;
 use crate::timing::{Outcome, Timer};
 use curve::Table;
 use interp::Job;
 use queue::{Open, first_failure};
+use scenarios::inputs;
+use scenarios::inputs::spends::Spends;
 use std::rt::Clock;
 use std::thread::Threads;
 
@@ -34,7 +35,7 @@ pub enum Runner {
 /// The scripts of these spends, where they were made, run so often.
 pub fn checked<R>(
     rt: &R,
-    spends: Result<Spends, Fault>,
+    spends: Result<Spends, inputs::Fault>,
     runner: Runner,
     times: usize,
 ) -> Result<Outcome, Fault>

@@ -2,29 +2,17 @@
 
 use crate::check::Check;
 use crate::fault::Fault;
-use crate::filling::Filling;
-use crate::lists::{put, put_made};
-use crate::payments::{input, nowhere, transaction};
 use crate::scripts::accepted;
-use crate::spends::{ALL, Signer, add_valid, digest, key, key_push, signature, signature_push};
 use crate::timing::{Outcome, Timer};
 use curve::Table;
 use interp::{Flags, Job};
+use scenarios::inputs::lists::put;
+use scenarios::inputs::signed::{Signed, of_inputs};
+use scenarios::inputs::spends::ALL;
 use sighash::{Midstates, SpentScripts};
 use std::alloc::Global;
 use std::rt::Clock;
 use txn::Tx;
-
-/// A transaction of so many inputs of one script, and no output.
-fn of_inputs(alloc: Global, size: usize, script: &[u8]) -> Result<Tx, Fault> {
-    let mut filling = Filling::new(12);
-    let mut inputs = Vec::new(alloc);
-    for _ in 0..size {
-        let prev = nowhere(&mut filling);
-        put_made(&mut inputs, input(alloc, prev, script, 0))?;
-    }
-    Ok(transaction(inputs, Vec::new(alloc)))
-}
 
 /// So many digests of a transaction of 1,000 inputs, each of which has a push that ends as a signature of type ALL does.
 pub fn digests<R: AllocGlobal + Clock>(rt: &R, size: usize) -> Result<Outcome, Fault> {
@@ -65,44 +53,11 @@ impl<'a> SpentScripts for OneScript<'a> {
     }
 }
 
-/// A transaction whose inputs all have one signature, and the script of a key that they spend.
-#[derive(Drop)]
-struct Signed {
-    signer: Signer,
-    tx: Tx,
-    spent: [u8; 35],
-}
-
-impl Signed {
-    /// One of so many inputs.
-    fn new(alloc: Global, size: usize) -> Result<Signed, Fault> {
-        let mut filling = Filling::new(13);
-        let key = key(&mut filling, 0);
-        let signer = (key, signature(&mut filling));
-        let tx = of_inputs(alloc, size, signature_push(&signer.1).as_slice())?;
-        Ok(Signed {
-            signer,
-            tx,
-            spent: to_key(&key),
-        })
-    }
-
-    /// The table in which the signature is valid for each of these inputs.
-    fn table(&self, alloc: Global) -> Result<Table, Fault> {
-        let mut table = Table::new(alloc);
-        for number in 0..self.tx.inputs.len() {
-            let digest = digest(&self.tx, number, self.spent.as_slice());
-            add_valid(&mut table, &self.signer, &digest)?;
-        }
-        Ok(table)
-    }
-
-    /// How many of the inputs are accepted.
-    fn accepted(&self, alloc: Global, table: &Table) -> Result<Check, Fault> {
-        let spent = OneScript(self.spent.as_slice());
-        let midstates = Midstates::of(alloc, &self.tx, 0, &spent)?;
-        accepted_by(alloc, &midstates, self.spent.as_slice(), table)
-    }
+/// How many inputs of such a transaction are accepted.
+fn accepted_in(alloc: Global, signed: &Signed, table: &Table) -> Result<Check, Fault> {
+    let spent = OneScript(signed.spent.as_slice());
+    let midstates = Midstates::of(alloc, &signed.tx, 0, &spent)?;
+    accepted_by(alloc, &midstates, signed.spent.as_slice(), table)
 }
 
 /// How many inputs of a transaction are accepted, whose digests share its midstates.
@@ -139,17 +94,10 @@ fn shared_job<'a>(midstates: &'a Midstates<'a>, input: usize, spent: &'a [u8]) -
     }
 }
 
-/// The push of a key, and CHECKSIG.
-fn to_key(key: &[u8; 33]) -> [u8; 35] {
-    let mut bytes = [OP_CHECKSIG; 35];
-    bytes[..34].copy_from_slice(key_push(key).as_slice());
-    bytes
-}
-
 /// CHECKSIG of each input of one transaction of so many.
 pub fn each_input<R: AllocGlobal + Clock>(rt: &R, size: usize) -> Result<Outcome, Fault> {
     let signed = Signed::new(rt.alloc(), size)?;
     let table = signed.table(rt.alloc())?;
     let timer = Timer::start(rt);
-    timer.stop(rt, signed.accepted(rt.alloc(), &table))
+    timer.stop(rt, accepted_in(rt.alloc(), &signed, &table))
 }

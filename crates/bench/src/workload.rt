@@ -1,15 +1,17 @@
 //! The workloads by their names.
 
-use crate::branch::Branch;
 use crate::chain_work::{Growth, grown};
 use crate::fault::Fault;
 use crate::node_work::at_node;
 use crate::plan::Plan;
 use crate::queueing::{Runner, checked};
 use crate::read_work::Look;
-use crate::spends::{to_keys, to_two_of_three};
 use crate::timing::Outcome;
-use crate::{coin_work, connecting, decoding, early_work, hashing, plan, scripts, signing};
+use crate::{coin_work, connecting, decoding, early_work, hashing, plan, signing};
+use scenarios::inputs;
+use scenarios::inputs::branch::Branch;
+use scenarios::inputs::scripts;
+use scenarios::inputs::spends::{to_keys, to_two_of_three};
 use std::alloc::Global;
 use std::rt::Clock;
 use std::sync::Wait;
@@ -211,7 +213,7 @@ impl Workload {
     }
 
     /// What a node's seats do.
-    fn plan(self, alloc: Global, size: usize) -> Result<Plan, Fault> {
+    fn plan(self, alloc: Global, size: usize) -> Result<Plan, inputs::Fault> {
         match self {
             Workload::ReadCoin(readers) => plan::reads(alloc, size, readers, Look::Coin),
             Workload::ReadBest(readers) => plan::reads(alloc, size, readers, Look::Best),

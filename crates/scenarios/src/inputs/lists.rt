@@ -3,7 +3,7 @@
 //! What is put into a list is mostly what a call made, and its failure is handed on here. So a body that makes a list
 //! has one early return for an item and not two, each of which would drop all that the body owns.
 
-use crate::fault::Fault;
+use crate::inputs::fault::Fault;
 use std::alloc::Global;
 
 /// A list of one item, where it was made.

@@ -1,10 +1,10 @@
 //! Chains with coins for payments.
 
-use crate::branch::{Branch, bytes_of};
-use crate::fault::Fault;
-use crate::filling::Filling;
-use crate::lists::{copied, put, put_made};
-use crate::payments::{TRUE, outputs, signed, spending};
+use crate::inputs::branch::{Branch, bytes_of};
+use crate::inputs::fault::Fault;
+use crate::inputs::filling::Filling;
+use crate::inputs::lists::{copied, put, put_made};
+use crate::inputs::payments::{TRUE, outputs, signed, spending};
 use hash::Id;
 use std::alloc::Global;
 use txn::{OutPoint, Tx, ids};
@@ -106,6 +106,14 @@ impl Start {
         Ok(start)
     }
 
+    /// A chain that leaves so many coins for payments, and so many to be read, whose places stand in another order.
+    pub fn shuffled(alloc: Global, payments: usize, coins: usize) -> Result<Start, Fault> {
+        let mut start = Start::new(alloc, payments.saturating_add(coins / 10), TRUE)?;
+        start.spread(alloc, coins)?;
+        shuffle(start.spread.as_mut_slice());
+        Ok(start)
+    }
+
     fn begin(&mut self, alloc: Global, coins: usize, script: &[u8]) -> Result<(), Fault> {
         for _ in 0..UNRIPE {
             self.ripen(alloc)?;
@@ -139,7 +147,7 @@ impl Start {
         self.unripe.as_mut_slice().reverse();
         for made in (0..count).step_by(FAN) {
             let Some(prev) = self.unripe.pop() else {
-                return Err(Fault::Unread);
+                return Err(Fault::TooManyCoins);
             };
             let outputs = count.saturating_sub(made).min(FAN);
             self.fan_one(alloc, prev, outputs, script)?;
@@ -222,4 +230,32 @@ fn next_paying(
     coins.clear();
     put_outpoints(alloc, coins, payments.as_slice())?;
     branch.next_bytes(alloc, payments)
+}
+
+/// Puts places into another order.
+pub fn shuffle(places: &mut [OutPoint]) {
+    let mut filling = Filling::new(15);
+    for at in 0..places.len() {
+        let other = (filling.next() % places.len() as u64) as usize;
+        places.swap(at, other);
+    }
+}
+
+/// So many branches on one base, numbered from 2 on, each of so many blocks that pay these coins.
+pub fn branches(
+    alloc: Global,
+    base: Branch,
+    coins: &[OutPoint],
+    branches: u32,
+    count: usize,
+) -> Result<Vec<Vec<Vec<u8>>>, Fault> {
+    let mut made = Vec::new(alloc);
+    for number in 0..branches {
+        let branch = Branch {
+            number: number.wrapping_add(2),
+            ..base
+        };
+        put_made(&mut made, paying(alloc, branch, coins, count))?;
+    }
+    Ok(made)
 }

@@ -1,8 +1,8 @@
 //! Branches of blocks on genesis.
 
-use crate::fault::Fault;
-use crate::lists::{one, put_bytes, put_first, put_made, put_times};
-use crate::payments::{TRUE, outputs, spending, under};
+use crate::inputs::fault::Fault;
+use crate::inputs::lists::{one, put_bytes, put_first, put_made, put_times};
+use crate::inputs::payments::{TRUE, outputs, spending, under};
 use block::{Block, GENESIS_ID, GENESIS_TIME, Header, subsidy};
 use hash::Id;
 use rules::REGTEST_BITS;
