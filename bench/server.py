@@ -91,6 +91,9 @@ def measured(client, blocks):
 
 
 def main():
+    if {"-h", "--help"} & set(sys.argv[1:]):
+        print(__doc__)
+        return
     blocks = chain(int(sys.argv[1]) if len(sys.argv) > 1 else 20000)
     names = {**os.environ, "WAKOTEHU_RPCUSER": "name", "WAKOTEHU_RPCPASSWORD": "password"}
     command = [sys.executable, "-m", "wakotehu.server", "-rpcport=0"]

@@ -527,6 +527,17 @@ const char *wakotehu_reply_text(uint32_t reply) {
     return reply < sizeof texts / sizeof *texts ? texts[reply] : "";
 }
 
+#define TEXT(number) #number
+#define VERSION(major, minor) TEXT(major) "." TEXT(minor)
+
+const char *wakotehu_version(void) {
+#ifdef WAKOTEHU_UNPROVED
+    return VERSION(WAKOTEHU_VERSION_MAJOR, WAKOTEHU_VERSION_MINOR) " unproved";
+#else
+    return VERSION(WAKOTEHU_VERSION_MAJOR, WAKOTEHU_VERSION_MINOR);
+#endif
+}
+
 const char *wakotehu_code_text(wakotehu_code code) {
     switch (code) {
     case WAKOTEHU_OK: return "it is done";

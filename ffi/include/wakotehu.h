@@ -31,6 +31,9 @@ extern "C" {
 #define WAKOTEHU_VERSION_MAJOR 0
 #define WAKOTEHU_VERSION_MINOR 1
 
+/* The library's version, as "0.1". A library that was compiled without its proofs has the word "unproved" behind it. */
+const char *wakotehu_version(void);
+
 /* A chainstate. 0 is never one. */
 typedef uint64_t wakotehu_handle;
 
