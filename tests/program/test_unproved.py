@@ -1,0 +1,55 @@
+"""What `./build --unproved` rests on, and that `./install` doesn't take it for the proved program. It isn't built here."""
+
+import os
+import shutil
+import subprocess
+import sys
+import tempfile
+import unittest
+
+ROOT = os.path.dirname(os.path.dirname(os.path.dirname(os.path.realpath(__file__))))
+sys.path.insert(0, f"{ROOT}/tools")
+import unproved
+
+
+class Unproved(unittest.TestCase):
+    def test_the_version_says_so(self) -> None:
+        with tempfile.TemporaryDirectory() as room:
+            copy = unproved.marked(ROOT, room)
+            with open(f"{copy}/crates/program/src/options.rt", encoding="utf-8") as file:
+                self.assertRegex(file.read(), r'pub const VERSION: &str = "\d+\.\d+\.\d+ unproved \(')
+
+    def test_each_export_is_kept(self) -> None:
+        called = unproved.calling_all(f"{ROOT}/crates/ffi/src")
+        for name in ("exports::ffi_open(", "known::ffi_verify_known(", "hashes::ffi_id_read("):
+            self.assertIn(name, called)
+        exports = subprocess.run(
+            ["grep", "-rhoE", "^pub (unsafe )?extern \"C\" fn ffi_[a-z0-9_]+", f"{ROOT}/crates/ffi/src"],
+            stdout=subprocess.PIPE, text=True, check=True).stdout.split("fn ")[1:]
+        self.assertEqual(len(exports), called.count("::ffi_"))
+
+    def test_names_and_main_of_the_library(self) -> None:
+        text = 'define internal noundef i32 @"ffi::exports::ffi_open"(ptr %a) #0 {\n  call i32 @"ffi::exports::ffi_open"(ptr %a)\n}\ndefine i32 @main() #0 {\n'
+        self.assertEqual(
+            unproved.exported(text),
+            "define noundef i32 @ffi_open(ptr %a) #0 {\n  call i32 @ffi_open(ptr %a)\n}\ndefine internal i32 @main() #0 {\n")
+
+    def test_install_wants_the_word(self) -> None:
+        with tempfile.TemporaryDirectory() as room:
+            shutil.copy(f"{ROOT}/install", room)
+            os.makedirs(f"{room}/out/unproved/lib")
+            for name in ("docs", "completion"):
+                os.symlink(f"{ROOT}/{name}", f"{room}/{name}")
+            with open(f"{room}/out/unproved/regchain", "w", encoding="utf-8") as file:
+                file.write("#!/bin/sh\n")
+            os.chmod(f"{room}/out/unproved/regchain", 0o755)
+            refused = subprocess.run([f"{room}/install", f"{room}/to"], stderr=subprocess.PIPE, text=True)
+            self.assertEqual((refused.returncode, refused.stderr.strip()), (
+                1, "install: only ./build --unproved was run: ./install --unproved installs that"))
+            self.assertFalse(os.path.exists(f"{room}/to"))
+            subprocess.run([f"{room}/install", "--unproved", f"{room}/to"], check=True, stdout=subprocess.DEVNULL)
+            self.assertTrue(os.access(f"{room}/to/bin/regchain", os.X_OK))
+
+
+if __name__ == "__main__":
+    unittest.main()
