@@ -53,9 +53,11 @@ pub asked-refused : (seats : ℕ) (j : Json) (m : Method) (seat : Option ℕ) (w
 asked-refused seats j m seat (refusal.Param name) is by none = (m, is, none)
 asked-refused seats j m seat refusal.Parse is by none = by
 asked-refused seats j m seat refusal.TooLong is by none = by
+asked-refused seats j m seat refusal.TooMany is by none = by
 asked-refused seats j m seat refusal.Request is by none = absurd by
 asked-refused seats j m seat refusal.Method is by none = absurd by
 asked-refused seats j m seat refusal.Memory is by none = by
 asked-refused seats j m seat refusal.Owed is by none = by
 asked-refused seats j m seat refusal.Closed is by none = by
 asked-refused seats j m seat refusal.Unsaved is by none = by
+asked-refused seats j m seat refusal.Busy is by none = by

@@ -113,6 +113,7 @@ stamped_members s = count (codes "at") s.at (answer_members s.answer)
 -- what a refusal is about
 abbrev pub about : Refusal → Members
 about refusal.TooLong = text (codes "data") (codes "line") no_members
+about refusal.TooMany = text (codes "data") (codes "values") no_members
 about (refusal.Param name) = text (codes "data") name.now no_members
 about refusal.Parse = no_members
 about refusal.Request = no_members
@@ -121,11 +122,13 @@ about refusal.Memory = no_members
 about refusal.Owed = no_members
 about refusal.Closed = no_members
 about refusal.Unsaved = no_members
+about refusal.Busy = no_members
 
 -- its code, without the minus: JSON-RPC's, and from 32001 on a node's
 abbrev pub code_of : Refusal → ℕ
 code_of refusal.Parse = 32700
 code_of refusal.TooLong = 32600
+code_of refusal.TooMany = 32600
 code_of refusal.Request = 32600
 code_of refusal.Method = 32601
 code_of (refusal.Param name) = 32602
@@ -133,11 +136,13 @@ code_of refusal.Memory = 32001
 code_of refusal.Owed = 32002
 code_of refusal.Closed = 32003
 code_of refusal.Unsaved = 32004
+code_of refusal.Busy = 32005
 
 -- its name
 abbrev pub name_of : Refusal → List ℕ
 name_of refusal.Parse = codes "parse error"
 name_of refusal.TooLong = codes "invalid request"
+name_of refusal.TooMany = codes "invalid request"
 name_of refusal.Request = codes "invalid request"
 name_of refusal.Method = codes "method not found"
 name_of (refusal.Param name) = codes "invalid params"
@@ -145,6 +150,7 @@ name_of refusal.Memory = codes "memory"
 name_of refusal.Owed = codes "owed"
 name_of refusal.Closed = codes "closed"
 name_of refusal.Unsaved = codes "not saved"
+name_of refusal.Busy = codes "busy"
 
 abbrev pub refusal_members : Refusal → Members
 refusal_members r = member (codes "code") (number (signed_decimal (neg_ℤ (pos (code_of r)))))

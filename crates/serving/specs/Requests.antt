@@ -116,6 +116,7 @@ IsAsked seats j asked.Info = IsRequest j (codes "info")
 IsAsked seats j asked.Finish = IsRequest j (codes "finish")
 IsAsked seats j (asked.Refused seat refusal.Parse) = ⊥
 IsAsked seats j (asked.Refused seat refusal.TooLong) = ⊥
+IsAsked seats j (asked.Refused seat refusal.TooMany) = ⊥
 IsAsked seats j (asked.Refused seat refusal.Request) = (name : List ℕ) → ¬ IsRequest j name
 IsAsked seats j (asked.Refused seat refusal.Method) = (name : List ℕ) × IsRequest j name
     × ((m : Method) → name ≢ method_name m)
@@ -126,6 +127,7 @@ IsAsked seats j (asked.Refused seat refusal.Memory) = ⊥
 IsAsked seats j (asked.Refused seat refusal.Owed) = ⊥
 IsAsked seats j (asked.Refused seat refusal.Closed) = ⊥
 IsAsked seats j (asked.Refused seat refusal.Unsaved) = ⊥
+IsAsked seats j (asked.Refused seat refusal.Busy) = ⊥
 
 -- a refused line that names a seat of the node is told in that seat's turn
 abbrev pub IsInTurn : ℕ → Json → Asked → Type 0

@@ -48,6 +48,7 @@ impl Object {
     {
         match refusal {
             Refusal::TooLong => self.text("data", "line"),
+            Refusal::TooMany => self.text("data", "values"),
             Refusal::Param(name) => self.text("data", name),
             _ => Ok(()),
         }

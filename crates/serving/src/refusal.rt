@@ -10,6 +10,8 @@ pub enum Refusal {
     Parse,
     /// The line is longer than a line may be.
     TooLong,
+    /// The line has more values than a line may have.
+    TooMany,
     /// The line is JSON, and no request.
     Request,
     /// No method has this name.
@@ -24,6 +26,8 @@ pub enum Refusal {
     Closed,
     /// What happened couldn't be saved: the program's last line on the standard error says why.
     Unsaved,
+    /// As many requests wait for the seat as may. No step was taken.
+    Busy,
 }
 
 impl Refusal {
@@ -33,13 +37,14 @@ impl Refusal {
     {
         match self {
             Refusal::Parse => -32700,
-            Refusal::TooLong | Refusal::Request => -32600,
+            Refusal::TooLong | Refusal::TooMany | Refusal::Request => -32600,
             Refusal::Method => -32601,
             Refusal::Param(_) => -32602,
             Refusal::Memory => -32001,
             Refusal::Owed => -32002,
             Refusal::Closed => -32003,
             Refusal::Unsaved => -32004,
+            Refusal::Busy => -32005,
         }
     }
 
@@ -49,13 +54,14 @@ impl Refusal {
     {
         match self {
             Refusal::Parse => "parse error",
-            Refusal::TooLong | Refusal::Request => "invalid request",
+            Refusal::TooLong | Refusal::TooMany | Refusal::Request => "invalid request",
             Refusal::Method => "method not found",
             Refusal::Param(_) => "invalid params",
             Refusal::Memory => "memory",
             Refusal::Owed => "owed",
             Refusal::Closed => "closed",
             Refusal::Unsaved => "not saved",
+            Refusal::Busy => "busy",
         }
     }
 }

@@ -17,6 +17,7 @@ given p = option_map (λ v. value_view v.now) p.0
 abbrev pub IsParam : Refusal → Type 0
 IsParam refusal.Parse = ⊥
 IsParam refusal.TooLong = ⊥
+IsParam refusal.TooMany = ⊥
 IsParam refusal.Request = ⊥
 IsParam refusal.Method = ⊥
 IsParam (refusal.Param name) = ⊤
@@ -24,6 +25,7 @@ IsParam refusal.Memory = ⊥
 IsParam refusal.Owed = ⊥
 IsParam refusal.Closed = ⊥
 IsParam refusal.Unsaved = ⊥
+IsParam refusal.Busy = ⊥
 
 -- there was no memory, or a parameter says that no call is meant
 abbrev pub IsNoCall : ℕ → Method → Option Json → Refusal → Type 0
