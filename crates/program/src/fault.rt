@@ -52,6 +52,8 @@ pub enum Fault<'w> {
     NoThread,
     /// There was no memory.
     Memory,
+    /// There was no memory to show a step that was taken.
+    Owed,
     /// The node has no seat or no history to give.
     Closed,
 }
@@ -152,6 +154,7 @@ impl fmt::Display for Line<'_, '_> {
             Fault::CannotSave(folder, file, _) => write!(f, "cannot write {folder}/{file}"),
             Fault::NoThread => f.write_str("no thread"),
             Fault::Memory => f.write_str("memory"),
+            Fault::Owed => f.write_str("owed"),
             Fault::Closed => f.write_str("closed"),
         }
     }
@@ -182,6 +185,7 @@ impl fmt::Display for Reason<'_, '_> {
             Fault::CannotWrite(_, error) => write_error(error, f),
             Fault::CannotSave(_, _, error) => write_error(error, f),
             Fault::CannotOpen(_, _, error) => write_error(error, f),
+            Fault::Owed => f.write_str("there was no memory to show a step that was taken"),
             _ => Ok(()),
         }
     }
@@ -259,7 +263,8 @@ impl From<node::Fault> for Fault<'_> {
     fn from(fault: node::Fault) -> Self {
         match fault {
             node::Fault::Memory => Fault::Memory,
-            _ => Fault::Closed,
+            node::Fault::Owed => Fault::Owed,
+            node::Fault::Closed => Fault::Closed,
         }
     }
 }
