@@ -2,7 +2,7 @@
 _regchain() {
     local word=${COMP_WORDS[COMP_CWORD]} before=${COMP_WORDS[COMP_CWORD - 1]} options
     if ((COMP_CWORD == 1)); then
-        mapfile -t COMPREPLY < <(compgen -W "run audit tree show serve help --help --version" -- "$word")
+        mapfile -t COMPREPLY < <(compgen -W "run audit tree show serve help version --help --version" -- "$word")
         return
     fi
     case $before in
@@ -16,6 +16,7 @@ _regchain() {
     tree) options="--scenario --saved --blk --table --heights --svg --help" ;;
     show) options="--scenario --help" ;;
     serve) options="--seats --workers --heights --table --blk --load --save --help" ;;
+    help) options="run audit tree show serve version" ;;
     *) return ;;
     esac
     mapfile -t COMPREPLY < <(compgen -W "$options" -- "$word")

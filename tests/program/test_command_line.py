@@ -1,4 +1,6 @@
 """The command line."""
+from subprocess import DEVNULL, PIPE
+
 from running import Played, ProgramTest
 
 # Command lines with `clap`'s texts for them.
@@ -56,12 +58,13 @@ The chainstate of a Bitcoin node on regtest. Without words it runs the scenario 
 Usage: regchain <COMMAND>
 
 Commands:
-  run    Runs a scenario, and prints what its clients are answered
-  audit  Replays a journal by the definition, and compares the replies
-  tree   Shows the block tree that a scenario or a saved journal leads to
-  show   Shows the id and the bytes of each block and transaction that a scenario defines
-  serve  Answers requests, a JSON object a line, from the standard input
-  help   Print this message or the help of the given subcommand(s)
+  run      Runs a scenario, and prints what its clients are answered
+  audit    Replays a journal by the definition, and compares the replies
+  tree     Shows the block tree that a scenario or a saved journal leads to
+  show     Shows the id and the bytes of each block and transaction that a scenario defines
+  serve    Answers requests, a JSON object a line, from the standard input
+  version  Prints the version
+  help     Print this message or the help of the given subcommand(s)
 
 Options:
   -h, --help     Print help
@@ -163,7 +166,22 @@ Options:
   -h, --help               Print help
 """,
     ),
+    (
+        "version --help",
+        """\
+Prints the version
+
+Usage: regchain version
+
+Options:
+  -h, --help  Print help
+""",
+    ),
 ]
+
+# What is asked for by a subcommand, and the words of the fault that has the same text.
+ASKED = [("help", "--help"), ("version", "--version")]
+ASKED += [(f"help {it}", f"{it} --help") for it in ("run", "audit", "tree", "show", "serve", "version")]
 
 # Words with which a scenario is read from the standard input, and words with which none is.
 READ = [([], True), (["run", "--scenario", "-"], True), (["run", "--scenario", "f"], False), (["--version"], False)]
@@ -175,6 +193,18 @@ class CommandLine(ProgramTest):
     def test_words_that_are_not_ours(self) -> None:
         for words, text in TEXTS:
             self.expect_fault(words.split(" "), "client a\n", text)
+
+    def test_help_and_version_as_subcommands(self) -> None:
+        """They print what --help and --version do, on the standard output, with the status 0."""
+        texts = dict(TEXTS)
+        for words, fault in ASKED:
+            self.expect(words.split(" "), "client a\n", Played(0, texts[fault], ""))
+        for words in ("help frobnicate", "version frobnicate", "help run frobnicate"):
+            played = self.play(words.split(" "))
+            self.assertEqual((played.status, played.out), (1, ""), words)
+            self.assertTrue(played.err.startswith("error: "), words)
+        closed = self.play_on(["help"], stdin=DEVNULL, stdout=open("/dev/full", "wb"), stderr=PIPE)
+        self.assertEqual((closed.status, closed.err), (1, "regchain: cannot write -\ncannot write -: No space left on device\n"))
 
     def test_a_scenario_in_a_file(self) -> None:
         self.write("scenario.txt", "client in_a_file\n")

@@ -48,6 +48,18 @@ class Installed(ProgramTest):
             found = re.findall(rf"__fish_seen_subcommand_from {name}' -l ([a-z]+)", fish)
             self.assertEqual(set(found), wanted, name)
 
+    def test_help_and_version_are_completed(self) -> None:
+        for path, wanted in [
+            ("completion/regchain.bash", '"run audit tree show serve help version --help --version"'),
+            ("completion/_regchain", "    'help:"),
+            ("completion/_regchain", "    'version:"),
+            ("completion/regchain.fish", "-n __fish_use_subcommand -a help "),
+            ("completion/regchain.fish", "-n __fish_use_subcommand -a version "),
+            ("docs/regchain.1", "\n.SH HELP\n"),
+            ("docs/regchain.1", "\n.SH VERSION\n"),
+        ]:
+            self.assertIn(wanted, read(path), path)
+
     def test_bash_reads_its_completion(self) -> None:
         words = "source completion/regchain.bash; COMP_WORDS=(regchain run --he) COMP_CWORD=2; _regchain; echo ${COMPREPLY[*]}"
         told = subprocess.run(["bash", "-c", words], cwd=ROOT, capture_output=True, text=True)

@@ -46,7 +46,7 @@ struct Opt {
     not_beside: &'static [&'static str],
 }
 
-const SUBCOMMANDS: [Subcommand; 5] = [
+const SUBCOMMANDS: [Subcommand; 6] = [
     Subcommand {
         name: "run",
         about: "Runs a scenario, and prints what its clients are answered",
@@ -71,6 +71,11 @@ const SUBCOMMANDS: [Subcommand; 5] = [
         name: "serve",
         about: "Answers requests, a JSON object a line, from the standard input",
         options: &SERVE,
+    },
+    Subcommand {
+        name: "version",
+        about: "Prints the version",
+        options: &[],
     },
 ];
 

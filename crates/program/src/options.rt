@@ -32,6 +32,9 @@ pub enum Options<'w> {
     Tree(TreeOptions<'w>),
     Show(ShowOptions<'w>),
     Serve(ServeOptions<'w>),
+    /// To print the help.
+    Help(Error),
+    Version,
 }
 
 /// To run the scenario of a file.
@@ -130,7 +133,11 @@ impl<'w> Options<'w> {
         if words.len() <= 1 {
             return Ok(Options::Run(STANDARD_RUN));
         }
-        let matches = matches(alloc, words)?;
+        let matches = match matches(alloc, words) {
+            Ok(matches) => matches,
+            Err(error) if is_help(words, &error) => return Ok(Options::Help(error)),
+            Err(error) => return Err(error),
+        };
         match options_of(alloc, &matches)? {
             Some(options) => Ok(options),
             None => Err(error(alloc, ErrorKind::InvalidSubcommand, "no such command line")?),
@@ -157,6 +164,14 @@ fn matches<'w>(alloc: Global, words: &'w [&'w str]) -> Result<ArgMatches<'w>, Er
     command.try_get_matches_from_mut(words)
 }
 
+/// Whether this is the help that the subcommand of that name asks for. That of `--help` is a fault.
+fn is_help(words: &[&str], error: &Error) -> bool {
+    match words.get(1) {
+        Some(word) => *word == "help" && error.kind() == ErrorKind::DisplayHelp,
+        None => false,
+    }
+}
+
 /// An error of this command line.
 fn error(alloc: Global, kind: ErrorKind, message: &str) -> Result<Error, AllocError> {
     let mut command = command(alloc)?;
@@ -174,6 +189,7 @@ fn options_of<'w>(
         Some(("tree", tree)) => Ok(read_tree(tree)),
         Some(("show", show)) => read_show(alloc, show),
         Some(("serve", serve)) => Ok(Some(read_serve(serve))),
+        Some(("version", _)) => Ok(Some(Options::Version)),
         _ => Ok(None),
     }
 }

@@ -7,7 +7,7 @@ use crate::drawing::draw_saved;
 use crate::fault::Fault;
 use crate::files::print;
 use crate::objects;
-use crate::options::{AuditOptions, NAME, Options, STANDARD, no_text};
+use crate::options::{AuditOptions, NAME, Options, STANDARD, VERSION, no_text};
 use crate::output::Form;
 use crate::playing::run;
 use crate::serve::serve;
@@ -175,7 +175,23 @@ where
         Options::Tree(options) => done(draw_saved(rt, &options, input, out)),
         Options::Show(options) => done(show(rt, &options, input, out)),
         Options::Serve(options) => done(serve(rt, &options, gate, input, out)),
+        Options::Help(help) => done(print_help(rt.alloc(), &help, out)),
+        Options::Version => done(print_version(rt.alloc(), out)),
     }
+}
+
+/// Prints the help that was asked for.
+fn print_help<O: Write>(
+    alloc: Global,
+    help: &clap::Error,
+    out: &mut O,
+) -> Result<(), Fault<'static>> {
+    print(out, help.to_string(alloc)?.as_str())
+}
+
+/// Prints the program's name and its version.
+fn print_version<O: Write>(alloc: Global, out: &mut O) -> Result<(), Fault<'static>> {
+    print(out, format!(in alloc; "{NAME} {VERSION}\n")?.as_str())
 }
 
 /// The status of what has no other than that of a whole output.
