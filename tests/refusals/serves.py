@@ -1,21 +1,31 @@
 """A served node with every allocation refused in turn.
 
 Seat 0 is asked what a small scenario has, a read after each step, and what isn't a request; seat 1 is told and lists the
-journal. Each run has to end by itself, with an answer to each line or a fault line: an answer is the right one, or tells
-of memory or of an owed step. What is saved is whole or absent, and the audit agrees with it.
+journal. The input is whole before the node begins, or each line waits for the answer to the one before. Each run has to
+end by itself, with an answer to each line or a fault line: an answer is the right one, or tells of memory or of an owed
+step. What is saved is whole or absent, and the audit agrees with it.
+
+A node that submits a blk file first, or plays a saved folder again, does so before the first request, or ends with a
+fault line.
 """
 import collections
 import json
 import os
 import re
+import select
 import shutil
 import subprocess
 import threading
+from typing import Callable, NamedTuple
 
 SECONDS = 20
 BLOCKS = "block b1 genesis\nblock p2 b1\nblock q2 b1\nblock q3 q2\n"
 FILES = ["blocks.blk", "heights.txt", "journal.txt", "table.txt"]
 TELLS = {-32001: "memory", -32002: "owed"}
+
+
+def request(number, method, **params):
+    return json.dumps({"jsonrpc": "2.0", "id": number, "method": method, "params": params}).encode() + b"\n"
 
 
 def lines_of(regchain):
@@ -25,8 +35,7 @@ def lines_of(regchain):
     lines = []
 
     def ask(method, **params):
-        whole = {"jsonrpc": "2.0", "id": len(lines), "method": method, "params": params}
-        lines.append(json.dumps(whole).encode())
+        lines.append(request(len(lines), method, **params))
 
     def read():
         ask("getbestblockhash", seat=0)
@@ -45,20 +54,50 @@ def lines_of(regchain):
     ask("note", seat=1)
     ask("journal", seat=1, **{"from": 1, "to": 3})
     ask("info")
-    lines.append(b"no request")
-    lines.append(json.dumps({"jsonrpc": "2.0", "id": "x" * 400, "method": "no", "params": {"seat": 0}}).encode())
+    lines.append(b"no request\n")
+    lines.append(request("x" * 400, "no", seat=0))
     ask("finish")
     return lines
 
 
-def serve(regchain, data, folder, shim=None, at=0, count=0):
+# What is asked where the steps were taken before the first request.
+READS = [request(0, "getbestblockhash", seat=0), request(1, "journal", seat=0, **{"from": 1, "to": 99}), request(2, "finish")]
+
+
+def whole(words, env, lines):
+    """Serves lines that are all there when it begins."""
+    return subprocess.run(words, env=env, input=b"".join(lines), capture_output=True, timeout=SECONDS)
+
+
+def one_by_one(words, env, lines):
+    """Serves lines of which each waits for the answer to the one before."""
+    with subprocess.Popen(words, env=env, stdin=subprocess.PIPE, stdout=subprocess.PIPE, stderr=subprocess.PIPE) as served:
+        out = []
+        try:
+            for line in lines:
+                os.write(served.stdin.fileno(), line)
+                if not select.select([served.stdout], [], [], SECONDS)[0]:
+                    raise subprocess.TimeoutExpired(words, SECONDS)
+                out.append(served.stdout.readline())
+                if not out[-1]:
+                    break  # it has ended
+        except BrokenPipeError:
+            pass
+        except subprocess.TimeoutExpired:
+            served.kill()
+            raise
+        rest, err = served.communicate(timeout=SECONDS)
+        return subprocess.CompletedProcess(words, served.returncode, b"".join(out) + rest, err)
+
+
+def serve(regchain, how, lines, folder, more=(), shim=None, at=0, count=0):
     """A run: how it ended, and how many allocations counted and were refused."""
     report, env = f"{folder}.report", {}
     if shim:
         env = {"LD_PRELOAD": shim, "REFUSE_AT": str(at), "REFUSE_COUNT": str(count), "REFUSE_REPORT": report}
-    words = [regchain, "serve", "--seats", "2", "--save", folder]
+    words = [regchain, "serve", "--seats", "2", "--save", folder, *more]
     try:
-        ran = subprocess.run(words, env=env, input=data, capture_output=True, timeout=SECONDS)
+        ran = how(words, env, lines)
     except subprocess.TimeoutExpired:
         return None, 0, 0
     if not os.path.isfile(report):
@@ -73,28 +112,43 @@ def is_fault_line(ran):
     return ran.returncode == 1 and re.fullmatch(rb"regchain: ([^\n]*)\n(\1: [^\n]*\n)?", ran.stderr) is not None
 
 
+class Kind(NamedTuple):
+    """What is served, and how many allocations are refused."""
+
+    name: str
+    how: Callable
+    lines: list
+    more: list
+    count: int
+
+    def __str__(self):
+        return f"regchain serve, {self.name}, {self.count} refused"
+
+
 class Sweep:
     """What a served node meets."""
 
-    def __init__(self, regchain, shim, count, faults):
-        self.regchain, self.shim, self.count, self.faults = regchain, shim, count, faults
-        self.lines = lines_of(regchain)
-        self.data = b"".join(line + b"\n" for line in self.lines)
+    def __init__(self, regchain, shim, kind, faults):
+        self.regchain, self.shim, self.kind, self.faults = regchain, shim, kind, faults
+        self.lines = kind.lines
         self.met, self.lock = collections.Counter(), threading.Lock()
 
+    def serve(self, folder, at=0, count=0):
+        os.mkdir(folder)
+        return serve(self.regchain, self.kind.how, self.lines, folder, self.kind.more, self.shim, at, count)
+
     def run(self, room, pool):
-        os.mkdir(f"{room}/whole")
-        whole, counted, _ = serve(self.regchain, self.data, f"{room}/whole", self.shim)
+        whole, counted, _ = self.serve(f"{room}/whole")
         if whole is None or whole.returncode or whole.stderr:
-            self.faults.add(f"regchain serve: fails with nothing refused: {whole}")
+            self.faults.add(f"{self.kind}: fails with nothing refused: {whole}")
             return 0
         self.whole = {self.key(answer): answer for answer in map(json.loads, whole.stdout.splitlines())}
         if len(self.whole) != len(self.lines):
-            self.faults.add("regchain serve: not an answer a line with nothing refused")
+            self.faults.add(f"{self.kind}: not an answer a line with nothing refused")
         # Threads begin in another order each time, so some more are tried than counted.
         list(pool.map(lambda at: self.once(room, at), range(1, counted + 6)))
         if not self.met["refused"]:
-            self.faults.add("regchain serve: nothing was refused")
+            self.faults.add(f"{self.kind}: nothing was refused")
         return counted
 
     @staticmethod
@@ -102,14 +156,13 @@ class Sweep:
         return json.dumps(answer["id"])
 
     def once(self, room, at):
-        folder = f"{room}/{self.count}-{at}"
-        os.mkdir(folder)
-        ran, _, refused = serve(self.regchain, self.data, folder, self.shim, at, self.count)
+        folder = f"{room}/{at}"
+        ran, _, refused = self.serve(folder, at, self.kind.count)
         what = self.outcome(ran, folder)
         if what in ("told", "fault") and not refused:
             what = f"{what}, and nothing was refused"
         if what not in ("right", "told", "fault"):
-            self.faults.add(f"regchain serve, {self.count} refused, allocation {at}: {what}")
+            self.faults.add(f"{self.kind}, allocation {at}: {what}")
         with self.lock:
             self.met[what] += 1
             self.met["refused"] += refused
@@ -122,6 +175,8 @@ class Sweep:
             return f"ended by signal {-ran.returncode}"
         if ran.returncode and not is_fault_line(ran) or not ran.returncode and ran.stderr:
             return f"status {ran.returncode}, {ran.stderr!r}"
+        if ran.stderr.startswith(b"regchain: closed"):
+            return "told as closed"
         answers = [json.loads(line) for line in ran.stdout.splitlines()]
         files = sorted(os.listdir(folder))
         if files not in ([], FILES):
@@ -175,11 +230,23 @@ class Sweep:
         return None
 
 
+def kinds(regchain, room):
+    """All that is served, once a first run has saved what others begin with."""
+    lines, saved = lines_of(regchain), f"{room}/served"
+    os.mkdir(saved)
+    serve(regchain, whole, lines, saved)
+    found = [Kind("all lines at once", whole, lines, [], count) for count in (1, 4)]
+    found += [Kind("each line after an answer", one_by_one, lines, [], count) for count in (1, 6)]
+    for name in (f"--blk {saved}/blocks.blk", f"--load {saved}"):
+        found.append(Kind(name.split()[0], one_by_one, READS, name.split(), 1))
+    return found
+
+
 def play(regchain, room, shim, faults, pool):
-    for count in (1, 4):
-        sweep = Sweep(regchain, shim, count, faults)
-        folder = f"{room}/serve{count}"
+    for number, kind in enumerate(kinds(regchain, room)):
+        sweep = Sweep(regchain, shim, kind, faults)
+        folder = f"{room}/serve{number}"
         os.mkdir(folder)
         counted = sweep.run(folder, pool)
         met = ", ".join(f"{what} {number}" for what, number in sorted(sweep.met.items()))
-        print(f"regchain serve, {count} refused, of {counted} allocations: {met}", flush=True)
+        print(f"{kind}, of {counted} allocations: {met}", flush=True)

@@ -2,7 +2,7 @@
 
 use crate::objects::{output_of, reply_text};
 use crate::serve::board::Board;
-use crate::serve::turn::Turn;
+use crate::serve::turn::{Turn, line_room};
 use crate::serve::words::Facts;
 use arrayvec::ArrayString;
 use crossbeam_channel::{Receiver, Sender};
@@ -19,9 +19,6 @@ use wire::Memory;
 
 /// How long a reply's text is at most.
 const MAX_REPLY: usize = 128;
-
-/// How long a line is at most that answers a step, beside its id.
-const ROOM: usize = 256;
 
 /// What waits for a seat, and where its answers go.
 #[derive(Drop)]
@@ -45,30 +42,21 @@ where
     R: AllocGlobal + Threads + Wait + Sync,
 {
     for turn in desk.turns.iter(rt) {
-        let Turn { id, call } = turn;
-        let answered = match call {
-            Ok(call) => answered(rt, node, board, facts, &id, call, seat),
-            Err(refusal) => Err(refusal),
-        };
+        let line = answered(rt, node, board, facts, turn, seat);
         board.lay(rt, desk.number, seat.note());
-        if !send(rt, desk, board, &id, answered) {
+        if !send(rt, desk, board, line) {
             return;
         }
     }
 }
 
-/// Sends the line that answers a request, or that says why none does. Whether it was taken.
-fn send<J: Naming, R: AllocGlobal + Wait>(
+/// Sends a line. Whether it was taken.
+fn send<J: Naming, R: Wait>(
     rt: &R,
     desk: &Desk,
     board: &Board<J>,
-    id: &RequestId,
-    answered: Result<Vec<u8>, Refusal>,
+    line: Result<Vec<u8>, AllocError>,
 ) -> bool {
-    let line = match answered {
-        Ok(line) => Ok(line),
-        Err(refusal) => refusal_line(Vec::new(rt.alloc()), id, refusal),
-    };
     match line {
         Ok(line) => desk.to.send(rt, line).is_ok(),
         Err(AllocError) => {
@@ -78,44 +66,67 @@ fn send<J: Naming, R: AllocGlobal + Wait>(
     }
 }
 
-/// The line that answers a call. After a step it takes no memory.
+/// The line that answers a request, or that says why none does. In the turn's room it takes no memory, so that each
+/// request has one, and a step that was taken is told.
 fn answered<J: Naming, R>(
     rt: &R,
     node: &Node<'_, J>,
     board: &Board<J>,
     facts: &Facts<'_>,
-    id: &RequestId,
-    call: Call,
+    turn: Turn,
     seat: &mut Seat<'_, J>,
-) -> Result<Vec<u8>, Refusal>
+) -> Result<Vec<u8>, AllocError>
 where
     R: AllocGlobal + Threads + Wait + Sync,
 {
     let alloc = rt.alloc();
-    let Ok(room) = Vec::with_capacity(alloc, ROOM.saturating_add(id.len())) else {
-        return Err(Refusal::Memory);
-    };
+    let Turn { id, call, room } = turn;
     match call {
-        Call::Submit(block, now) => {
+        Ok(Call::Submit(block, now)) => {
             let reply = seat.submit(rt, node, block.as_slice(), now);
-            replied(alloc, room, id, reply)
+            replied(alloc, room, &id, reply)
         }
-        Call::Invalidate(block) => replied(alloc, room, id, seat.invalidate(rt, node, block)),
-        Call::Reconsider(block) => replied(alloc, room, id, seat.reconsider(rt, node, block)),
-        Call::Precious(block) => replied(alloc, room, id, seat.precious(rt, node, block)),
-        Call::Output(outpoint) => found(alloc, room, id, seat.gettxout(alloc, node, &outpoint)),
-        Call::Best => best(alloc, room, id, seat.getbestblockhash(node)),
-        Call::Tips => listed_tips(alloc, room, id, seat.getchaintips(alloc, node)),
-        Call::Journal(from, to) => {
+        Ok(Call::Invalidate(block)) => replied(alloc, room, &id, seat.invalidate(rt, node, block)),
+        Ok(Call::Reconsider(block)) => replied(alloc, room, &id, seat.reconsider(rt, node, block)),
+        Ok(Call::Precious(block)) => replied(alloc, room, &id, seat.precious(rt, node, block)),
+        Ok(Call::Output(outpoint)) => {
+            let output = seat.gettxout(alloc, node, &outpoint);
+            read_or_refused(room, &id, found(alloc, &id, output))
+        }
+        Ok(Call::Best) => read_or_refused(room, &id, best(alloc, &id, seat.getbestblockhash(node))),
+        Ok(Call::Tips) => {
+            let tips = seat.getchaintips(alloc, node);
+            read_or_refused(room, &id, listed_tips(alloc, &id, tips))
+        }
+        Ok(Call::Journal(from, to)) => {
             let entries = seat.journal(alloc, node, from.saturating_sub(1), to);
-            listed(alloc, room, id, facts, from, entries)
+            read_or_refused(room, &id, listed(alloc, &id, facts, from, entries))
         }
-        Call::Note => stamped(alloc, room, id, seat.note().len(), Answer::Place),
-        Call::Told(from) => {
+        Ok(Call::Note) => placed(alloc, room, &id, seat.note().len()),
+        Ok(Call::Told(from)) => {
             board.tell(rt, from, seat);
-            stamped(alloc, room, id, seat.note().len(), Answer::Place)
+            placed(alloc, room, &id, seat.note().len())
         }
+        Err(refusal) => refusal_line(room, &id, refusal),
     }
+}
+
+/// The line of a read, or the one that says in the room why there is none.
+fn read_or_refused(
+    room: Vec<u8>,
+    id: &RequestId,
+    read: Result<Vec<u8>, Refusal>,
+) -> Result<Vec<u8>, AllocError> {
+    match read {
+        Ok(line) => Ok(line),
+        Err(refusal) => refusal_line(room, id, refusal),
+    }
+}
+
+/// The line of an answer that is its place alone.
+fn placed(alloc: Global, room: Vec<u8>, id: &RequestId, at: u64) -> Result<Vec<u8>, AllocError> {
+    let answer = Answer::Place;
+    answer_line(alloc, room, id, &Stamped { at, answer })
 }
 
 /// The line of a reply to a step.
@@ -124,21 +135,21 @@ fn replied<T: fmt::Display + Copy>(
     room: Vec<u8>,
     id: &RequestId,
     reply: Result<node::Stamped<T>, node::Fault>,
-) -> Result<Vec<u8>, Refusal> {
+) -> Result<Vec<u8>, AllocError> {
     match reply {
         Ok(node::Stamped { at, value }) => {
             let mut word = ArrayString::<MAX_REPLY>::new();
             let _ = write!(word, "{value}");
-            stamped(alloc, room, id, at, Answer::Reply(word.as_str()))
+            let answer = Answer::Reply(word.as_str());
+            answer_line(alloc, room, id, &Stamped { at, answer })
         }
-        Err(fault) => Err(refused(fault)),
+        Err(fault) => refusal_line(room, id, refused(fault)),
     }
 }
 
 /// The line of an output, if there is one.
 fn found(
     alloc: Global,
-    room: Vec<u8>,
     id: &RequestId,
     found: Result<node::Stamped<Option<UnspentOutput>>, node::Fault>,
 ) -> Result<Vec<u8>, Refusal> {
@@ -148,7 +159,7 @@ fn found(
                 Some(output) => Some(output_of(output)),
                 None => None,
             };
-            stamped(alloc, room, id, at, Answer::Output(output))
+            stamped(alloc, id, at, Answer::Output(output))
         }
         Err(fault) => Err(refused(fault)),
     }
@@ -156,37 +167,33 @@ fn found(
 
 fn best(
     alloc: Global,
-    room: Vec<u8>,
     id: &RequestId,
     best: Result<node::Stamped<Id>, node::Fault>,
 ) -> Result<Vec<u8>, Refusal> {
     match best {
-        Ok(node::Stamped { at, value }) => stamped(alloc, room, id, at, Answer::Best(value)),
+        Ok(node::Stamped { at, value }) => stamped(alloc, id, at, Answer::Best(value)),
         Err(fault) => Err(refused(fault)),
     }
 }
 
 fn listed_tips(
     alloc: Global,
-    room: Vec<u8>,
     id: &RequestId,
     tips: Result<node::Stamped<Vec<Tip>>, node::Fault>,
 ) -> Result<Vec<u8>, Refusal> {
     match tips {
         Ok(node::Stamped { at, value }) => {
-            stamped(alloc, room, id, at, Answer::Tips(value.as_slice()))
+            stamped(alloc, id, at, Answer::Tips(value.as_slice()))
         }
         Err(fault) => Err(refused(fault)),
     }
 }
 
-fn stamped(
-    alloc: Global,
-    room: Vec<u8>,
-    id: &RequestId,
-    at: u64,
-    answer: Answer<'_>,
-) -> Result<Vec<u8>, Refusal> {
+/// The line of a read.
+fn stamped(alloc: Global, id: &RequestId, at: u64, answer: Answer<'_>) -> Result<Vec<u8>, Refusal> {
+    let Ok(room) = line_room(alloc, id) else {
+        return Err(Refusal::Memory);
+    };
     match answer_line(alloc, room, id, &Stamped { at, answer }) {
         Ok(line) => Ok(line),
         Err(AllocError) => Err(Refusal::Memory),
@@ -196,7 +203,6 @@ fn stamped(
 /// The line of some entries, of which the first has this number.
 fn listed(
     alloc: Global,
-    room: Vec<u8>,
     id: &RequestId,
     facts: &Facts<'_>,
     first: u64,
@@ -212,7 +218,7 @@ fn listed(
     let Ok(steps) = steps_of(alloc, texts.as_slice()) else {
         return Err(Refusal::Memory);
     };
-    stamped(alloc, room, id, at, Answer::Steps(steps.as_slice()))
+    stamped(alloc, id, at, Answer::Steps(steps.as_slice()))
 }
 
 /// The texts of entries, of which the first has this number.

@@ -147,10 +147,13 @@ where
         },
     };
     match asked {
-        Asked::Seat(seat, call) => Ok(doors.wait(rt, seat, Turn { id, call: Ok(call) })),
+        Asked::Seat(seat, call) => {
+            let turn = Turn::new(rt.alloc(), id, Ok(call))?;
+            Ok(doors.wait(rt, seat, turn))
+        }
         Asked::Refused(Some(seat), refusal) => {
-            let call = Err(refusal);
-            Ok(doors.wait(rt, seat, Turn { id, call }))
+            let turn = Turn::new(rt.alloc(), id, Err(refusal))?;
+            Ok(doors.wait(rt, seat, turn))
         }
         Asked::Finish => Ok(Next::Finish(id)),
         Asked::Info => {
