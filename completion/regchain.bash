@@ -15,7 +15,7 @@ _regchain() {
     audit) options="--saved --journal --blk --table --heights --quick --explain --to --json --help" ;;
     tree) options="--scenario --saved --blk --table --heights --svg --help" ;;
     show) options="--scenario --help" ;;
-    serve) options="--seats --workers --heights --table --blk --load --save --help" ;;
+    serve) options="--seats --workers --heights --table --blk --load --save --busy --help" ;;
     help) options="run audit tree show serve version" ;;
     *) return ;;
     esac

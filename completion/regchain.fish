@@ -41,3 +41,4 @@ complete -c regchain -n '__fish_seen_subcommand_from serve' -l table -r -F -d 't
 complete -c regchain -n '__fish_seen_subcommand_from serve' -l blk -r -F -d 'blocks that are submitted first'
 complete -c regchain -n '__fish_seen_subcommand_from serve' -l load -x -a '(__fish_complete_directories)' -d 'the folder of an earlier --save, which is played again first'
 complete -c regchain -n '__fish_seen_subcommand_from serve' -l save -x -a '(__fish_complete_directories)' -d 'the folder for journal.txt, blocks.blk, table.txt and heights.txt'
+complete -c regchain -n '__fish_seen_subcommand_from serve' -l busy -d 'refuses a request where 64 wait for its seat, and reads on'

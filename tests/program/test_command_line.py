@@ -163,6 +163,7 @@ Options:
       --blk <F>            Blocks that are submitted first, as a blk file of Bitcoin Core has them
       --load <D>           The folder of an earlier --save, which is played again first, with its table and heights
       --save <D>           The folder for journal.txt, blocks.blk, table.txt and heights.txt
+      --busy               Refuses a request where 64 wait for its seat, and reads on
   -h, --help               Print help
 """,
     ),

@@ -36,14 +36,19 @@ class Served:
 
     def begin(self, method: str, **params: Any) -> int:
         """Writes a request: its id."""
+        return self.begin_all([(method, params)])[0]
+
+    def begin_all(self, requests: list[tuple[str, dict[str, Any]]]) -> list[int]:
+        """Writes requests at once: their ids."""
         with self.lock:
-            self.count += 1
-            number = self.count
-            self.answers[number] = queue.SimpleQueue()
-            line = json.dumps({"jsonrpc": "2.0", "id": number, "method": method, "params": params})
-            self.process.stdin.write(line.encode() + b"\n")
+            numbers = list(range(self.count + 1, self.count + 1 + len(requests)))
+            self.count += len(requests)
+            for number in numbers:
+                self.answers[number] = queue.SimpleQueue()
+            lines = [request(number, method, **params) for number, (method, params) in zip(numbers, requests)]
+            self.process.stdin.write(b"".join(lines))
             self.process.stdin.flush()
-        return number
+        return numbers
 
     def answer_of(self, number: int) -> dict[str, Any]:
         answer = self.answers[number].get(timeout=running.SECONDS)

@@ -9,7 +9,7 @@ from subprocess import PIPE
 
 import running
 from running import ProgramTest
-from serving import GENESIS, Served, request
+from serving import GENESIS, Served, play, request
 
 #: So many answers wait for being written, so many requests for their seat (docs/SERVE.md), and some are under way.
 WAITING = 64 + 64 + 4
@@ -62,6 +62,71 @@ class Limits(ProgramTest):
         ask(40_000)
         self.assertLess(resident(served.process.pid), before + 200)
         self.assertEqual(served.end(), (0, ""))
+
+
+#: So many requests of one seat, each of which takes much longer to answer than to read.
+MANY = 200
+#: So many steps each of them lists.
+STEPS = 2_000
+
+
+class Busy(ProgramTest):
+    def flood(self, *words: str) -> tuple[Served, list[int], int]:
+        """A node whose first seat has many requests to answer, and then the second seat one: their ids."""
+        served = Served(self.folder, "--seats", "2", *words)
+        self.addCleanup(served.kill)
+        for _ in range(0, STEPS, 50):
+            for number in served.begin_all([("invalidate", {"seat": 0, "id": GENESIS})] * 50):
+                self.assertEqual(served.answer_of(number)["result"]["answer"], "genesis")
+        journal = ("journal", {"seat": 0, "from": 1, "to": STEPS})
+        *flood, other = served.begin_all([journal] * MANY + [("note", {"seat": 1})])
+        return served, flood, other
+
+    def test_a_seat_that_is_flooded(self) -> None:
+        """With --busy the requests for which there is no room are refused by name, and no other seat waits."""
+        served, flood, other = self.flood("--busy")
+        self.assertEqual(served.answer_of(other)["result"], {"at": 0})
+        # The first 64 are taken, whatever the seat has answered meanwhile; most aren't answered yet.
+        self.assertTrue(served.answers[flood[63]].empty())
+        answers = [served.answer_of(number) for number in flood]
+        for answer in answers[:64]:
+            self.assertEqual(len(answer["result"]["answer"]), STEPS)
+        refused = [answer for answer in answers if "error" in answer]
+        for answer in refused:
+            self.assertEqual(answer["error"], {"code": -32005, "message": "busy"})
+        self.assertGreater(len(refused), 0)
+        for answer in answers:
+            if "result" in answer:
+                self.assertEqual(answer["result"]["at"], STEPS)
+        self.assertEqual(served.ask("note", seat=0), {"at": STEPS})
+        self.assertEqual(served.end(), (0, ""))
+
+    def test_a_refused_step_is_not_taken(self) -> None:
+        """As many steps are in the journal as were answered as such; each seat's places rise."""
+        served, flood, _ = self.flood("--busy")
+        steps = served.begin_all([("invalidate", {"seat": 0, "id": GENESIS})] * 200)
+        for number in flood:
+            served.answer_of(number)
+        answers = [served.answer_of(number) for number in steps]
+        taken = [answer["result"]["at"] for answer in answers if "result" in answer]
+        self.assertEqual(taken, list(range(STEPS + 1, STEPS + 1 + len(taken))))
+        self.assertEqual(served.answer("finish")["result"], {"at": STEPS + len(taken)})
+        self.assertEqual(served.end(), (0, ""))
+
+    def test_without_it_all_are_answered(self) -> None:
+        """Requests that wait for room are all taken, in their order."""
+        served, flood, other = self.flood()
+        for number in flood:
+            self.assertEqual(len(served.answer_of(number)["result"]["answer"]), STEPS)
+        self.assertEqual(served.answer_of(other)["result"], {"at": 0})
+        self.assertEqual(served.end(), (0, ""))
+
+    def test_a_file_of_many_requests(self) -> None:
+        """A thousand steps of one seat that are all there before it begins: each is taken, in order."""
+        data = b"".join(request(n, "invalidate", seat=0, id=GENESIS) for n in range(1_000))
+        ended = play(self.folder, data, "--seats", "2")
+        self.assertEqual([(it["id"], it["result"]["at"]) for it in ended.answers], [(n, n + 1) for n in range(1_000)])
+        self.assertEqual((ended.status, ended.err), (0, ""))
 
 
 def resident(pid: int) -> int:

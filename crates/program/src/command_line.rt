@@ -163,7 +163,7 @@ const SHOW: [Opt; 2] = [
     },
 ];
 
-const SERVE: [Opt; 7] = [
+const SERVE: [Opt; 8] = [
     Opt {
         name: "seats",
         help: "How many callers the node has places for, 1 to 16 [default: 4]",
@@ -181,6 +181,11 @@ const SERVE: [Opt; 7] = [
         ..FILE
     },
     SAVE,
+    Opt {
+        name: "busy",
+        help: "Refuses a request where 64 wait for its seat, and reads on",
+        ..FLAG
+    },
 ];
 
 /// An option that takes a file's name.

@@ -116,6 +116,8 @@ pub struct ServeOptions<'w> {
     pub load: Option<&'w str>,
     /// The folder for the journal, the blocks, the table and the heights.
     pub save: Option<&'w str>,
+    /// Whether a request is refused for whose seat as many wait as may.
+    pub is_busy: bool,
 }
 
 /// To show what a scenario defines.
@@ -272,6 +274,7 @@ fn read_serve<'w>(serve: &ArgMatches<'w>) -> Options<'w> {
         blk: serve.get_str("blk"),
         load: serve.get_str("load"),
         save: serve.get_str("save"),
+        is_busy: serve.get_flag("busy"),
     })
 }
 

@@ -61,6 +61,7 @@ where
         seats: options.seats,
         workers: options.workers,
         loaded: earlier.steps.len(),
+        is_busy: options.is_busy,
         clients: clients(rt.alloc(), &earlier)?,
     };
     let table = Arc::new(rt.alloc(), table)?;

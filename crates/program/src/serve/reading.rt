@@ -4,10 +4,10 @@ use crate::fault::Fault;
 use crate::options::STANDARD;
 use crate::serve::turn::Turn;
 use crate::serve::words::Facts;
-use crossbeam_channel::Sender;
+use crossbeam_channel::{Sender, TrySendError};
 use memchr::memchr;
 use serving::{Asked, Refusal, Request, RequestId, info_line, read_request, refusal_line};
-use std::alloc::Global;
+use std::alloc::{AllocError, Global};
 use std::io;
 use std::io::{BufRead, BufReader, Error, ErrorKind, Read};
 use std::sync::Wait;
@@ -51,6 +51,8 @@ enum Next {
 pub struct Doors {
     pub seats: Vec<Sender<Turn>>,
     pub to: Sender<Vec<u8>>,
+    /// Whether a request is refused for whose seat as many wait as may. Else it is waited for room.
+    pub is_busy: bool,
 }
 
 /// Reads requests to the end of the input, and has each wait for its seat. The request that asked for the end, if one did.
@@ -149,11 +151,11 @@ where
     match asked {
         Asked::Seat(seat, call) => {
             let turn = Turn::new(rt.alloc(), id, Ok(call))?;
-            Ok(doors.wait(rt, seat, turn))
+            Ok(doors.wait(rt, seat, turn)?)
         }
         Asked::Refused(Some(seat), refusal) => {
             let turn = Turn::new(rt.alloc(), id, Err(refusal))?;
-            Ok(doors.wait(rt, seat, turn))
+            Ok(doors.wait(rt, seat, turn)?)
         }
         Asked::Finish => Ok(Next::Finish(id)),
         Asked::Info => {
@@ -168,11 +170,21 @@ where
 }
 
 impl Doors {
-    /// Has a request wait for its seat.
-    fn wait<R: Wait>(&self, rt: &R, seat: usize, turn: Turn) -> Next {
-        match self.seats.get(seat) {
-            Some(door) => passed(door.send(rt, turn).is_ok()),
-            None => Next::Left,
+    /// Has a request wait for its seat, or refuses it.
+    fn wait<R: Wait>(&self, rt: &R, seat: usize, turn: Turn) -> Result<Next, AllocError> {
+        let Some(door) = self.seats.get(seat) else {
+            return Ok(Next::Left);
+        };
+        if !self.is_busy {
+            return Ok(passed(door.send(rt, turn).is_ok()));
+        }
+        match door.try_send(rt, turn) {
+            Ok(()) => Ok(Next::Line),
+            Err(TrySendError::Full(turn)) => {
+                let Turn { id, room, .. } = turn;
+                Ok(self.tell(rt, refusal_line(room, &id, Refusal::Busy)?))
+            }
+            Err(_) => Ok(Next::Left),
         }
     }
 

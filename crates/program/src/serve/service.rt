@@ -55,6 +55,7 @@ where
     let mut doors = Doors {
         seats: Vec::new(alloc),
         to,
+        is_busy: facts.is_busy,
     };
     let mut places: Places<'_, 't, J> = Vec::new(alloc);
     let all = seats.iter_mut();
