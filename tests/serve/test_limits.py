@@ -10,6 +10,7 @@ from subprocess import PIPE
 import running
 from running import ProgramTest
 from serving import GENESIS, Served, play, request
+from test_lines import TOO_MANY
 
 #: So many answers wait for being written, so many requests for their seat (docs/SERVE.md), and some are under way.
 WAITING = 64 + 64 + 4
@@ -61,6 +62,18 @@ class Limits(ProgramTest):
         before = resident(served.process.pid)
         ask(40_000)
         self.assertLess(resident(served.process.pid), before + 200)
+        self.assertEqual(served.end(), (0, ""))
+
+    def test_memory_of_a_line_of_many_values(self) -> None:
+        """Lines of 69 MB: the node keeps little of each, and goes on."""
+        served = Served(self.folder, "--seats", "1")
+        self.addCleanup(served.kill)
+        for front, again in [(b"[1", b",1"), (b"", b"["), (b'{"a":1', b',"a":1'), (b'["', b'","'), (b"", b'{"a":'), (b"", b",")]:
+            with self.subTest(again=again):
+                served.process.stdin.write(front + again * (69_000_000 // len(again)) + b"\n")
+                self.assertEqual(served.answer_of(None)["error"], TOO_MANY)
+                self.assertEqual(served.ask("note", seat=0), {"at": 0})
+        self.assertLess(most_resident(served.process.pid), 16_384)
         self.assertEqual(served.end(), (0, ""))
 
 
@@ -129,10 +142,15 @@ class Busy(ProgramTest):
         self.assertEqual((ended.status, ended.err), (0, ""))
 
 
-def resident(pid: int) -> int:
+def resident(pid: int, field: str = "VmRSS:") -> int:
     """How many KiB of memory a process has."""
     with open(f"/proc/{pid}/status", encoding="ascii") as file:
         for line in file:
-            if line.startswith("VmRSS:"):
+            if line.startswith(field):
                 return int(line.split()[1])
-    raise AssertionError("no VmRSS")
+    raise AssertionError(f"no {field}")
+
+
+def most_resident(pid: int) -> int:
+    """How many KiB it had at most."""
+    return resident(pid, "VmHWM:")

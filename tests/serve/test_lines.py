@@ -10,6 +10,7 @@ from serving import GENESIS, play, request
 PARSE = {"code": -32700, "message": "parse error"}
 REQUEST = {"code": -32600, "message": "invalid request"}
 TOO_LONG = {"code": -32600, "message": "invalid request", "data": "line"}
+TOO_MANY = {"code": -32600, "message": "invalid request", "data": "values"}
 METHOD = {"code": -32601, "message": "method not found"}
 
 
@@ -29,6 +30,8 @@ REFUSED: list[tuple[bytes, object, dict[str, object]]] = [
     (b"1", None, REQUEST),
     (b"[]", None, REQUEST),
     (b'[{"jsonrpc":"2.0","id":1,"method":"note","params":{"seat":0}}]', None, REQUEST),
+    (b"[" * 128 + b"]" * 128, None, REQUEST),
+    (b"[" * 129 + b"]" * 129, None, PARSE),
     (b"{}", None, REQUEST),
     (b'{"jsonrpc":"2.0","method":"note","params":{"seat":0}}', None, REQUEST),
     (b'{"jsonrpc":"2.0","id":[],"method":"note","params":{"seat":0}}', None, REQUEST),
@@ -129,6 +132,31 @@ class Lines(ProgramTest):
             ],
         )
         self.assertEqual((ended.status, ended.err), (0, ""))
+
+    def test_how_many_values_a_line_has(self) -> None:
+        """1,000 of the characters that begin values are read, and one more is refused; those in texts don't count."""
+        front, back = b'{"jsonrpc":"2.0","id":1,"method":"note","params":{"seat":0},"x":', b"}"
+        left = 1_000 - sum(front.count(it) for it in (b",", b"[", b"{"))
+        note = {"jsonrpc": "2.0", "id": 1, "result": {"at": 0}}
+        for value, is_read in [
+            (b"[" + b",".join([b"1"] * left) + b"]", True),
+            (b"[" + b",".join([b"1"] * (left + 1)) + b"]", False),
+            (b"[" + b",".join([b"[]"] * (left // 2)) + b"]", True),
+            (b"[" + b",".join([b"[]"] * (left // 2 + 1)) + b"]", False),
+            (b"[" + b",".join([b"{}"] * (left // 2 + 1)) + b"]", False),
+            (b"{" + b",".join([b'"a":1'] * left) + b"}", True),
+            (b"{" + b",".join([b'"a":1'] * (left + 1)) + b"}", False),
+            (b'"' + b",[{" * 1_000 + b'"', True),
+            (b'"' + b'\\",' * 1_000 + b'"', True),
+            (b'"' + b"\\\\" * 1_000 + b'"', True),
+            (b'"\\\\"' + b"," * 1_000, False),
+            (b'"' + b"x" * 65_536 + b'\\",' * 1_000 + b'"', True),
+        ]:
+            with self.subTest(value=value[:20], length=len(value)):
+                ended = play(self.folder, front + value + back + b"\n" + request(2, "note", seat=0), "--seats", "1")
+                first = note if is_read else {"jsonrpc": "2.0", "id": None, "error": TOO_MANY}
+                self.assertCountEqual(ended.answers, [first, {"jsonrpc": "2.0", "id": 2, "result": {"at": 0}}])
+                self.assertEqual((ended.status, ended.err), (0, ""))
 
     def test_a_request_cut_anywhere(self) -> None:
         """Every front of a request as the last line: a parse error, or the empty input's silence; the whole is answered."""

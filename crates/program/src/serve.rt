@@ -7,6 +7,7 @@ mod board;
 mod earlier;
 mod reading;
 mod service;
+mod tally;
 mod turn;
 mod words;
 

@@ -2,6 +2,7 @@
 
 use crate::fault::Fault;
 use crate::options::STANDARD;
+use crate::serve::tally::Tally;
 use crate::serve::turn::Turn;
 use crate::serve::words::Facts;
 use crossbeam_channel::{Sender, TrySendError};
@@ -22,7 +23,8 @@ const READ_AHEAD: usize = 65_536;
 #[derive(Drop)]
 enum Line {
     Whole(Vec<u8>),
-    TooLong,
+    /// More than a line may have. It is skipped.
+    TooMuch(Refusal),
 }
 
 /// What was at hand of a line.
@@ -33,7 +35,7 @@ enum Piece {
     /// Nothing: the input has ended.
     None,
     /// More than a line may have.
-    TooMuch,
+    TooMuch(Refusal),
 }
 
 /// What comes after a line.
@@ -95,19 +97,20 @@ where
     }
 }
 
-/// The next line, without its end; the last may lack it. One that is too long is skipped.
+/// The next line, without its end; the last may lack it. One that has too much is skipped.
 fn read_line<I: BufRead>(alloc: Global, input: &mut I) -> io::Result<Option<Line>> {
     let mut line = Vec::new(alloc);
+    let mut tally = Tally::new();
     for _ in 0..u64::MAX {
-        match read_piece(input, &mut line)? {
+        match read_piece(input, &mut line, &mut tally)? {
             Piece::Middle => {}
             Piece::Last => return Ok(Some(Line::Whole(line))),
             Piece::None if line.is_empty() => return Ok(None),
             Piece::None => return Ok(Some(Line::Whole(line))),
-            Piece::TooMuch => {
+            Piece::TooMuch(refusal) => {
                 drop(line);
                 input.skip_until(b'\n')?;
-                return Ok(Some(Line::TooLong));
+                return Ok(Some(Line::TooMuch(refusal)));
             }
         }
     }
@@ -115,7 +118,11 @@ fn read_line<I: BufRead>(alloc: Global, input: &mut I) -> io::Result<Option<Line
 }
 
 /// Adds what is at hand of a line, without its end.
-fn read_piece<I: BufRead>(input: &mut I, line: &mut Vec<u8>) -> io::Result<Piece> {
+fn read_piece<I: BufRead>(
+    input: &mut I,
+    line: &mut Vec<u8>,
+    tally: &mut Tally,
+) -> io::Result<Piece> {
     let bytes = match input.fill_buf() {
         Ok(bytes) => bytes,
         Err(error) if error.kind() == ErrorKind::Interrupted => return Ok(Piece::Middle),
@@ -129,7 +136,11 @@ fn read_piece<I: BufRead>(input: &mut I, line: &mut Vec<u8>) -> io::Result<Piece
         None => (bytes, bytes.len(), Piece::Middle),
     };
     if front.len() > MAX_LINE.saturating_sub(line.len()) {
-        return Ok(Piece::TooMuch);
+        return Ok(Piece::TooMuch(Refusal::TooLong));
+    }
+    tally.add(front);
+    if tally.is_above() {
+        return Ok(Piece::TooMuch(Refusal::TooMany));
     }
     line.extend_from_slice(front)?;
     input.consume(taken);
@@ -143,9 +154,9 @@ where
 {
     let Request { id, asked } = match line {
         Line::Whole(line) => read_request(rt.alloc(), line.as_slice(), doors.seats.len())?,
-        Line::TooLong => Request {
+        Line::TooMuch(refusal) => Request {
             id: RequestId::Null,
-            asked: Asked::Refused(None, Refusal::TooLong),
+            asked: Asked::Refused(None, refusal),
         },
     };
     match asked {
