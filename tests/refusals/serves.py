@@ -56,6 +56,7 @@ def lines_of(regchain):
     ask("info")
     lines.append(b"no request\n")
     lines.append(request("x" * 400, "no", seat=0))
+    lines.append(request('\0"\\\n' * 100, "no", seat=1))
     ask("finish")
     return lines
 

@@ -39,7 +39,18 @@ impl RequestId {
         match self {
             RequestId::Null => 4,
             RequestId::Number(digits) => digits.as_str().len(),
-            RequestId::Text(text) => text.len().saturating_mul(6),
+            RequestId::Text(text) => escaped_len(text.as_bytes()),
         }
     }
+}
+
+/// How many bytes a text takes at most in a line, beside its quotes: an escape has six at most.
+fn escaped_len(text: &[u8]) -> usize {
+    let mut len = text.len();
+    for byte in text {
+        if *byte < b' ' || *byte == b'"' || *byte == b'\\' {
+            len = len.saturating_add(5);
+        }
+    }
+    len
 }
