@@ -1,6 +1,8 @@
 -- A chainstate without its coins: the tree, which of its blocks is active, and the heights of soft forks.
-use Rattle.std.specs.Prelude.{◌≡◌, ℕ, suc, ◌+◌, ◌-◌, ◌<◌, nat_le, if◌then◌else◌, List}
+use Rattle.std.specs.Prelude.{◌≡◌, ℕ, suc, ◌+◌, ◌-◌, ◌<◌, nat_le, if◌then◌else◌, List, Option, None, Some}
 use Rattle.block.specs.declared.block.Block.{Block}
+use Rattle.block.specs.Decoding.{block_of_bytes}
+use Rattle.block.specs.Stored.{genesis_alone}
 use Rattle.txn.specs.declared.tx.Tx.{Tx}
 use Rattle.curve.specs.Known.{Known}
 use Rattle.curve.specs.Triple.{Triple, Triples}
@@ -8,7 +10,7 @@ use Rattle.coins.specs.Coins.{Coins}
 use Rattle.rules.specs.declared.params.Params.{Params}
 use Rattle.connect.specs.Scripts.{IsWantedByBlock}
 use Rattle.connect.specs.Setting.{Setting}
-use Rattle.tree.specs.Branches.{Blocks, branch, height, parent_at, blocks_at}
+use Rattle.tree.specs.Branches.{Blocks, block_at, branch, height, parent_at, blocks_at}
 use Rattle.tree.specs.Tips.{last_shared}
 use Rattle.tree.specs.State.{State, opening}
 use Rattle.tree.specs.Names.{names}
@@ -57,6 +59,12 @@ pub record WithCoins : Type 0 where
 pub record IsChainstate (c : WithCoins) (triples : Triples) : Type 0 where
   pub follows : Follows c.core triples
   pub coins_are : c.coins ≡ coins_of c.core
+
+-- what is kept of the block that has a place: the bytes that spell it, and nothing of genesis. Without a place there is nothing
+abbrev pub IsBlockOf : Blocks Block → Option ℕ → Option (List ℕ) → Type 0
+IsBlockOf t None found = found ≡ None
+IsBlockOf t (Some p) None = block_at names t p ≡ genesis_alone
+IsBlockOf t (Some p) (Some bytes) = block_of_bytes bytes ≡ Some (block_at names t p)
 
 -- ---- how much undo is kept
 

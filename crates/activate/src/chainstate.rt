@@ -1,23 +1,26 @@
 //! A chainstate with coins of its own.
 
-ghost use Rattle.std.specs.Prelude.{◌≡◌, ◌≤◌, ℕ, IfErr, IfOk, None, OnErr, OnOk, length, map, take};
+ghost use Rattle.std.specs.Prelude.{◌≡◌, ◌≤◌, ℕ, IfErr, IfOk, None, OnErr, OnOk, is_some, length, map, take};
+ghost use Rattle.std.specs.Option.{option_map};
 ghost use Rattle.std.specs.FinMap as coin_map;
 ghost use Rattle.curve.specs.Known.{Under};
 ghost use Rattle.curve.specs.Triple.{Triples};
 ghost use Rattle.queue.specs.Jobs.{IsUndecided};
 ghost use Rattle.rules.specs.Params.{regtest as regtest_params};
-ghost use Rattle.tree.specs.Branches.{height};
+ghost use Rattle.tree.specs.Branches.{height, place_of};
+ghost use Rattle.tree.specs.Names.{names};
 ghost use Rattle.tree.specs.Tips.{tip_of_id};
 ghost use Rattle.chain.specs.Commands.{outcome, replies_of, state_after_commands};
 ghost use Rattle.chain.specs.Prepared.{command_of};
 ghost use Rattle.chain.specs.Regtest.{ledger, regtest};
 ghost use Rattle.chain.specs.Replay.{coins};
 ghost use Rattle.chain.specs.Settle.{active, best, tips};
-ghost use Rattle.activate.specs.CoreState.{HasOneMore, IsChainstate, IsWantedByABlock, UndoFollows, most_undo, opened_core};
+ghost use Rattle.activate.specs.CoreState.{HasOneMore, IsBlockOf, IsChainstate, IsWantedByABlock, UndoFollows, most_undo, opened_core};
 
 use crate::active_branch::MOST_UNDO;
 use crate::core_state::Core;
 use crate::prepared::Prepared;
+use block::Bytes;
 use chain::{Command, PreparedCommand, Reply};
 use coins::CoinMap;
 use connect::{Env, RunsScripts};
@@ -226,6 +229,21 @@ impl Chainstate {
             replies.push_reserved(reply);
         }
         Ok(replies)
+    }
+
+    /// Whether a block with this id is kept. Genesis is.
+    pub fn is_kept(&self, id: &Id) -> bool
+        ensures { result ≡ is_some (place_of names self.now.core.state.blocks id.now) }
+    {
+        self.core.is_kept(id)
+    }
+
+    /// The bytes of the block with this id, as they were submitted. Of genesis none are kept.
+    pub fn block(&self, id: &Id) -> Option<&Bytes>
+        ensures { IsBlockOf self.now.core.state.blocks
+            (place_of names self.now.core.state.blocks id.now) (option_map (λ b. b.now) result) }
+    {
+        self.core.block(id)
     }
 
     /// The active block's id.

@@ -1,14 +1,16 @@
 //! A chainstate over coins that are lent to it.
 
-ghost use Rattle.std.specs.Prelude.{◌≡◌, ◌≤◌, IfOk, map};
+ghost use Rattle.std.specs.Prelude.{◌≡◌, ◌≤◌, IfOk, is_some, map};
+ghost use Rattle.std.specs.Option.{option_map};
 ghost use Rattle.std.specs.FinMap as coin_map;
 ghost use Rattle.curve.specs.Triple.{Triples};
 ghost use Rattle.rules.specs.Params.{regtest as regtest_params};
 ghost use Rattle.chain.specs.Regtest.{regtest};
 ghost use Rattle.chain.specs.Settle.{active, best, tips};
-ghost use Rattle.tree.specs.Branches.{height};
+ghost use Rattle.tree.specs.Branches.{height, place_of};
+ghost use Rattle.tree.specs.Names.{names};
 ghost use Rattle.tree.specs.Tips.{tip_of_id};
-ghost use Rattle.activate.specs.CoreState.{Follows, coins_of, opened_core, most_undo};
+ghost use Rattle.activate.specs.CoreState.{Follows, IsBlockOf, coins_of, opened_core, most_undo};
 
 mod committing;
 mod marking;
@@ -17,7 +19,7 @@ mod settling;
 mod stepping;
 
 use crate::active_branch::MOST_UNDO;
-use block::GENESIS_TIME;
+use block::{Bytes, GENESIS_TIME};
 use hash::Id;
 use rules::Params;
 use std::alloc::Global;
@@ -100,6 +102,22 @@ impl Core {
         ensures { result.now ≡ self.now.params }
     {
         &self.params
+    }
+
+    /// Whether a block with this id is kept. Genesis is.
+    pub fn is_kept(&self, id: &Id) -> bool
+        ensures { result ≡ is_some (place_of names self.now.state.blocks id.now) }
+    {
+        self.tree.find(id).is_some()
+    }
+
+    /// The bytes of the block with this id, as they were submitted. Of genesis none are kept.
+    pub fn block(&self, id: &Id) -> Option<&Bytes>
+        ensures { IsBlockOf self.now.state.blocks
+            (place_of names self.now.state.blocks id.now) (option_map (λ b. b.now) result) }
+    {
+        let place = self.tree.find(id)?;
+        self.tree.block(place).bytes()
     }
 
     /// The active block's id.

@@ -1,6 +1,6 @@
 //! A block, kept as its bytes.
 
-ghost use Rattle.std.specs.Prelude.{◌≡◌, IfOk, Some, [], None};
+ghost use Rattle.std.specs.Prelude.{◌≡◌, IfOk, MatchOption, Some, [], None};
 ghost use Rattle.block.specs.Decoding.{block_of_bytes};
 ghost use Rattle.block.specs.Stored.{genesis_alone};
 
@@ -28,13 +28,15 @@ pub struct StoredBlock {
 impl Model for StoredBlock {
     ghost use Rattle.block.specs.Stored.{block_stored};
     ghost use Rattle.block.specs.declared.block.Block.{Block};
-    ghost use Rattle.std.specs.Prelude.{◌≡◌};
+    ghost use Rattle.block.specs.Decoding.{block_of_bytes};
+    ghost use Rattle.std.specs.Prelude.{◌≡◌, IfSome, IsSome};
 
     ghost Value = { Block };
 
     ghost view = { λ s. block_stored s.bytes };
 
-    ghost invariant = { λ s. (block_stored s.bytes).header.time ≡ s.time };
+    ghost invariant = { λ s. ((block_stored s.bytes).header.time ≡ s.time)
+        × IfSome s.bytes (λ bytes. IsSome (block_of_bytes bytes)) };
 }
 
 impl StoredBlock {
@@ -64,6 +66,14 @@ impl StoredBlock {
         ensures { result ≡ self.now.header.time }
     {
         self.time
+    }
+
+    /// The bytes that were submitted. Genesis has none here.
+    pub fn bytes(&self) -> Option<&Bytes>
+        ensures { MatchOption result (self.now ≡ genesis_alone)
+            (λ bytes. block_of_bytes bytes.now ≡ Some self.now) }
+    {
+        self.bytes.as_ref()
     }
 
     /// The block, decoded.

@@ -8,7 +8,7 @@ use Rattle.std.proofs.lemmas.Nat.{mod_below}
 use Rattle.std.proofs.lemmas.List.{get_or-set_same, get_or-set_other, length-set}
 use Rattle.txn.specs.declared.outpoint.OutPoint.{OutPoint}
 use Rattle.coins.specs.Coins.{Coin, Coins, same, put}
-use Rattle.coins.specs.inside.Shards.{Maps, place, gathered, together, HaveTheirOwn, AreShards}
+use Rattle.coins.specs.inside.Shards.{Maps, place, gathered, together, HaveTheirOwn, AreShards, IsOfBytes, AreOfBytes}
 use Rattle.coins.specs.laws.Lookups.{same_coins, same-true, same-sym, get-put, get-entries, entry_for}
 
 abbrev Entries : Type 0
@@ -58,7 +58,7 @@ found_at i (suc n) (m ∷ ms) q d own e below =
     ∙ ap (λ o. or_else o (entry_for (gathered ms) q)) (not_here (entry_for m.entries q) (place q ≡ i) (own.0 q) (λ f. omega (arith, e, f)))
     ∙ found_at (i + 1) n ms q d own.1 (omega (arith, e)) (omega (arith, below))
 
-place_below : (q : OutPoint) → place q < 8192
+pub place_below : (q : OutPoint) → place q < 8192
 place_below q = mod_below _ 8192 (omega arith)
 
 pub found : (ms : Maps) (q : OutPoint) (d : Map) → AreShards ms → map.get (together ms) q ≡ entry_for (get_or ms (place q) d).entries q
@@ -70,7 +70,7 @@ own_set i n [] m own here = tt
 own_set i zero (x ∷ ms) m own here = ((λ q h. here q h ∙ omega arith), own.1)
 own_set i (suc n) (x ∷ ms) m own here = (own.0, own_set (i + 1) n ms m own.1 (λ q h. here q h ∙ omega arith))
 
-own_at : (i n : ℕ) (ms : Maps) (d : Map) → HaveTheirOwn i ms → n < length ms → (q : OutPoint) → is_some (entry_for (get_or ms n d).entries q) ≡ true → place q ≡ i + n
+pub own_at : (i n : ℕ) (ms : Maps) (d : Map) → HaveTheirOwn i ms → n < length ms → (q : OutPoint) → is_some (entry_for (get_or ms n d).entries q) ≡ true → place q ≡ i + n
 own_at i n [] d own below q h = absurd (omega (arith, below))
 own_at i zero (m ∷ ms) d own below q h = own.0 q h ∙ omega arith
 own_at i (suc n) (m ∷ ms) d own below q h = own_at (i + 1) n ms d own.1 (omega (arith, below)) q h ∙ omega arith
@@ -164,3 +164,19 @@ gathered_empty (m ∷ ms) are = ap (λ (es : Entries). es ++ gathered ms) are.0 
 
 pub together_empty : (ms : Maps) → AreEmpty ms → together ms ≡ map.empty
 together_empty ms are = same_coins _ _ (λ q. get-entries (gathered ms) q ∙ ap (λ (es : Entries). entry_for es q) (gathered_empty ms are) ∙ sym (get-entries [] q))
+
+-- outpoints of bytes
+bytes_here : (b : Bool) (k q : OutPoint) (w o : Option Coin) → same q k ≡ b → IsOfBytes k → (is_some o ≡ true → IsOfBytes q) → is_some (cond b w o) ≡ true → IsOfBytes q
+bytes_here true k q w o h here old s = subst IsOfBytes (sym (same-true q k h)) here
+bytes_here false k q w o h here old s = old s
+
+pub bytes_put : (m n : Coins) (k : OutPoint) (w : Option Coin) → n ≡ put m k w → AreOfBytes m → IsOfBytes k → AreOfBytes n
+bytes_put m n k w is are here = λ q s.
+    bytes_here (same q k) k q w (map.get m q) refl here (are q)
+    (ap (λ o. is_some o) (sym (ap (λ (x : Coins). map.get x q) is ∙ get-put m k w q)) ∙ s)
+
+pub bytes_empty : (m : Coins) → m ≡ map.empty → AreOfBytes m
+bytes_empty m is = λ q s.
+    let none : map.get m q ≡ None = ap (λ (x : Coins). map.get x q) is ∙ get-entries [] q in
+    let no = sym s ∙ ap (λ o. is_some o) none in
+    cc

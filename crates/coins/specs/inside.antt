@@ -1,4 +1,5 @@
 -- What private functions and invariants alone cite.
-pub mod Entries
 pub mod Changes
+pub mod Entries
+pub mod Next
 pub mod Shards

@@ -2,17 +2,20 @@
 
 ghost use Rattle.std.specs.Prelude.{◌≡◌, ◌↔◌, ◌⊎◌, ◌≤◌, ◌-◌, IfOk, IsTrue, OnOk, OnErr, None, Some, true, is_some, length, slice_get, IsSome};
 ghost use Rattle.std.specs.FinMap as map;
-ghost use Rattle.std.specs.Option.{option_copied};
+ghost use Rattle.std.specs.Map.Iter.{deref_pair};
+ghost use Rattle.std.specs.Option.{option_copied, option_map};
 ghost use Rattle.txn.specs.declared.outpoint.OutPoint.{OutPoint as OutPointValue};
 ghost use Rattle.coins.specs.Coins.{put, few_and_many, Coin as CoinValue};
+ghost use Rattle.coins.specs.Next.{IsNext};
 ghost use Rattle.coins.specs.inside.Changes.{Changed};
 ghost use Rattle.coins.specs.inside.Shards.{many_from};
 ghost use Rattle.coins.specs.laws.Lookups.{entry_for};
 
 use crate::base::Base;
 use crate::coin::Coin;
-use crate::shards::Shards;
+use crate::shards::{Shards, entry_after};
 use std::alloc::Global;
+use std::cmp::Ordering;
 use std::collections::BTreeMap;
 use std::marker::Model;
 use txn::OutPoint;
@@ -84,6 +87,16 @@ impl CoinMap {
         match &mut self.many {
             Some(shards) => remove_among(shards, &mut self.few, at),
             None => erase(&mut self.few, at),
+        }
+    }
+
+    /// The coin at the least outpoint above another, with that outpoint; above `None`, the least of all.
+    pub fn after(&self, at: Option<&OutPoint>) -> Option<(&OutPoint, &Coin)>
+        ensures { IsNext self.now (option_copied at.entry) (option_map deref_pair result) }
+    {
+        match &self.many {
+            Some(shards) => after_among(shards, &self.few, at),
+            None => entry_after(&self.few, at),
         }
     }
 
@@ -210,6 +223,28 @@ fn find_among<'a>(
     match shards.get(at) {
         Some(coin) => Some(coin),
         None => few.get(at),
+    }
+}
+
+/// The coin at the least outpoint above another. Maps behind the one map's next entry aren't looked at: while coins are
+/// brought over these have few.
+fn after_among<'a>(
+    shards: &'a Shards,
+    few: &'a BTreeMap<OutPoint, Coin>,
+    at: Option<&OutPoint>,
+) -> Option<(&'a OutPoint, &'a Coin)>
+    ensures { IsNext (few_and_many few.now.entries (Some shards.now)) (option_copied at.entry)
+        (option_map deref_pair result) }
+{
+    let Some(other) = entry_after(few, at) else {
+        return shards.after(at, None);
+    };
+    let Some(one) = shards.after(at, Some(other.0)) else {
+        return Some(other);
+    };
+    match other.0.cmp(one.0) {
+        Ordering::Less => Some(other),
+        Ordering::Equal | Ordering::Greater => Some(one),
     }
 }
 

@@ -1,14 +1,19 @@
 //! Many small maps of coins, by the first bits of their transactions' ids.
 
-ghost use Rattle.std.specs.Prelude.{◌≡◌, ◌<◌, IfOk, OnOk, OnErr, IsOk, Some, true, is_some};
-ghost use Rattle.std.specs.Option.{option_copied};
+ghost use Rattle.std.specs.Prelude.{◌≡◌, ◌<◌, ◌≤◌, IfOk, OnOk, OnErr, IsOk, Some, true, is_some};
+ghost use Rattle.std.specs.Option.{option_copied, option_map};
 ghost use Rattle.std.specs.FinMap as map;
-ghost use Rattle.coins.specs.inside.Shards.{place};
+ghost use Rattle.txn.specs.declared.outpoint.OutPoint.{OutPoint as OutPointValue};
+ghost use Rattle.std.specs.Map.Iter.{deref_pair};
+ghost use Rattle.coins.specs.Next.{IsAbove};
+ghost use Rattle.coins.specs.inside.Next.{IsBeyond, IsNextBefore, IsNextEntry};
+ghost use Rattle.coins.specs.inside.Shards.{place, IsOfBytes};
 
 use crate::coin::Coin;
 use std::alloc::Global;
 use std::collections::BTreeMap;
 use std::marker::Model;
+use std::ops::Bound;
 use txn::OutPoint;
 use wire::Memory;
 
@@ -24,7 +29,7 @@ pub(crate) struct Shards {
 
 impl Model for Shards {
     ghost use Rattle.coins.specs.Coins.{Coins, coded_coins};
-    ghost use Rattle.coins.specs.inside.Shards.{together, AreShards};
+    ghost use Rattle.coins.specs.inside.Shards.{together, AreOfBytes, AreShards};
 
     ghost Value = { Coins };
 
@@ -32,7 +37,7 @@ impl Model for Shards {
 
     ghost view = { λ s. together s.maps.items };
 
-    ghost invariant = { λ s. AreShards s.maps.items };
+    ghost invariant = { λ s. AreShards s.maps.items × AreOfBytes (together s.maps.items) };
 }
 
 impl Shards {
@@ -84,12 +89,71 @@ impl Shards {
     {
         self.maps[shard_of(at)].remove(at);
     }
+
+    /// The coin at the least outpoint above another, with that outpoint. The maps behind the one in which coins at
+    /// `before` stand aren't looked at.
+    pub(crate) fn after(
+        &self,
+        at: Option<&OutPoint>,
+        before: Option<&OutPoint>,
+    ) -> Option<(&OutPoint, &Coin)>
+        ensures { IsNextBefore (option_copied before.entry) self.now (option_copied at.entry)
+            (option_map deref_pair result) }
+    {
+        let last = last_place(before);
+        for index in first_place(at)..last + 1 {
+            if let Some(found) = entry_after(&self.maps[index], at) {
+                return Some(found);
+            }
+        }
+        None
+    }
+}
+
+/// The place in which an outpoint stands, and else the last one.
+fn last_place(before: Option<&OutPoint>) -> usize
+    ensures below { result < 8192 }
+    ensures beyond { (q : OutPointValue) → IsOfBytes q → result < place q
+        → IsBeyond (option_copied before.entry) q }
+{
+    match before {
+        Some(before) => shard_of(before),
+        None => SHARDS - 1,
+    }
+}
+
+/// The first place in which outpoints above another stand.
+fn first_place(at: Option<&OutPoint>) -> usize
+    ensures { (q : OutPointValue) → IsOfBytes q → IsAbove (option_copied at.entry) q
+        → result ≤ place q }
+{
+    match at {
+        Some(at) => shard_of(at),
+        None => 0,
+    }
+}
+
+/// The entry at the least outpoint above another.
+pub(crate) fn entry_after<'a>(
+    entries: &'a BTreeMap<OutPoint, Coin>,
+    at: Option<&OutPoint>,
+) -> Option<(&'a OutPoint, &'a Coin)>
+    ensures { IsNextEntry entries.now.entries (option_copied at.entry)
+        (option_map deref_pair result) }
+{
+    match at {
+        Some(at) => entries
+            .range((Bound::Excluded(*at), Bound::Unbounded))
+            .next(),
+        None => entries.first_key_value(),
+    }
 }
 
 /// The place of the map that has an outpoint's coin: its id's first bits.
 fn shard_of(at: &OutPoint) -> usize
     ensures place { result ≡ place at.now }
     ensures below { result < 8192 }
+    ensures bytes { IsOfBytes at.now }
 {
     (usize::from(at.id.0[0]) * 256 + usize::from(at.id.0[1])) / 8 % SHARDS
 }

@@ -1,5 +1,5 @@
 -- Coins in many maps, by the first bits of their ids.
-use Rattle.std.specs.Prelude.{◌≡◌, ℕ, ◌+◌, ◌*◌, ◌/◌, ◌%◌, true, List, [], ◌∷◌, ◌++◌, length, is_some}
+use Rattle.std.specs.Prelude.{◌≡◌, ℕ, ◌+◌, ◌*◌, ◌/◌, ◌%◌, ◌<◌, true, List, [], ◌∷◌, ◌++◌, length, is_some}
 use Rattle.std.specs.List.{slice_index}
 use Rattle.std.specs.BTreeMap.{BTreeMap}
 use Rattle.std.specs.FinMap as map
@@ -36,3 +36,11 @@ HaveTheirOwn i (m ∷ ms) = ((q : OutPoint) → is_some (entry_for m.entries q) 
 pub record AreShards (ms : Maps) : Type 0 where
   pub count : length ms ≡ 8192
   pub own : HaveTheirOwn 0 ms
+
+-- the bytes that tell the place are bytes
+abbrev pub IsOfBytes : OutPoint → Type 0
+IsOfBytes q = (slice_index q.id.0 0 < 256) × (slice_index q.id.0 1 < 256)
+
+-- each outpoint that has a coin is of such
+abbrev pub AreOfBytes : Coins → Type 0
+AreOfBytes m = (q : OutPoint) → is_some (map.get m q) ≡ true → IsOfBytes q

@@ -15,5 +15,5 @@ returns c =
     let d = c.index.result.now in
     c.get.ensures.value
     ∙ ap (λ (m : BTreeMap OutPoint Coin). entry_for m.entries q) (c.index.ensures ∙ ap (λ n. get_or ms n d) c.shard_of.ensures.place)
-    ∙ sym (found ms q d c.self.invariant)
+    ∙ sym (found ms q d c.self.invariant.0)
     ∙ ap (λ (m : Coins). map.get m q) c.self.view_is

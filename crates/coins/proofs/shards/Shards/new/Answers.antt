@@ -1,6 +1,6 @@
 use Rattle.std.proofs.Common.{length, ◌+◌, ◌∷◌, [], sym, ap, subst, ◌∙◌, length-append, arith}
 use Rattle.coins.specs.inside.Shards.{Maps}
-use Rattle.coins.proofs.Gathering.{AreEmpty, one_more_empty, shards_empty, together_empty}
+use Rattle.coins.proofs.Gathering.{AreEmpty, bytes_empty, one_more_empty, shards_empty, together_empty}
 use Rattle.coins.proofs.shards.Shards.new.Goals as goal
 
 pub loop-preserved : goal.loop-preserved
@@ -13,7 +13,9 @@ loop-preserved c =
     }
 
 pub invariant_of-result : goal.invariant_of-result
-invariant_of-result c = shards_empty c.loop.maps.items (c.loop.invariant.count ∙ omega (arith, c.loop-test.false, c.loop.auto.counter-end)) c.loop.invariant.empty
+invariant_of-result c =
+    let ms = c.loop.maps.items in
+    (shards_empty ms (c.loop.invariant.count ∙ omega (arith, c.loop-test.false, c.loop.auto.counter-end)) c.loop.invariant.empty, bytes_empty _ (together_empty ms c.loop.invariant.empty))
 
 pub returns : goal.returns
 returns c = together_empty c.loop.maps.items c.loop.invariant.empty
