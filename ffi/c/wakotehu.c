@@ -1,7 +1,6 @@
 /*
- * The calls that users make. This file is trusted: nothing proves it. It tests what C hands in, names chainstates by
- * numbers, lets one call at a time into each, keeps a copy of the blocks, and goes over the active branch's for
- * the coins; the work is done by the proved functions ffi_*, of crates/ffi.
+ * The calls that users make. This file is trusted: nothing proves it. It checks its arguments, names chainstates by
+ * numbers, and lets one call at a time into each; the work is done by the proved functions ffi_*, of crates/ffi.
  *
  * What it owes them: each pointer points to what its type says and to nothing that another argument points to; a slot
  * is zero bytes at first and is written by them alone; one call at a time uses a slot, and the next one sees all that
@@ -27,11 +26,6 @@ struct place {
     uint32_t index;
 };
 
-struct made {
-    uint8_t id[32];
-    uint64_t outputs;
-};
-
 uint32_t ffi_open(struct slot *slot, const wakotehu_heights *heights, const uint8_t *table, size_t length,
                   uint64_t *line);
 uint32_t ffi_open_by_need(struct slot *slot, const wakotehu_heights *heights);
@@ -46,12 +40,12 @@ uint32_t ffi_precious(struct slot *slot, const uint8_t *id, wakotehu_answer *ans
 uint32_t ffi_best(struct slot *slot, uint8_t *id, uint64_t *height);
 uint32_t ffi_tip(struct slot *slot, uint64_t index, wakotehu_tip *tip);
 uint32_t ffi_coin(struct slot *slot, const struct place *at, wakotehu_coin *coin, uint8_t *script, size_t length);
-uint32_t ffi_header(const uint8_t *bytes, size_t length, uint8_t *id, uint8_t *parent);
-uint32_t ffi_transactions(const uint8_t *bytes, size_t length, struct made *rows, size_t most, uint64_t *count);
+uint32_t ffi_coin_after(struct slot *slot, uint32_t above, struct place *at, wakotehu_coin *coin, uint8_t *script,
+                        size_t length);
+uint32_t ffi_kept_block(struct slot *slot, const uint8_t *id, uint8_t *bytes, size_t length, uint64_t *needed);
 
 _Static_assert(sizeof(struct slot) == 16 && offsetof(struct slot, at) == 8, "as Slot of crates/ffi lies in memory");
 _Static_assert(sizeof(struct place) == 36, "as Place");
-_Static_assert(sizeof(struct made) == 40, "as Made");
 _Static_assert(sizeof(wakotehu_answer) == 24, "as Answer");
 _Static_assert(sizeof(wakotehu_tip) == 56 && offsetof(wakotehu_tip, status) == 48, "as ShownTip");
 _Static_assert(sizeof(wakotehu_coin) == 24, "as ShownCoin");
@@ -61,27 +55,9 @@ _Static_assert(sizeof(wakotehu_coin) == 24, "as ShownCoin");
 
 enum { FREE = 0, OPEN = 1, IN_USE = 2 };
 
-/* A block that the chainstate keeps. Where `bytes` is null there is none. */
-struct block {
-    uint8_t id[32], parent[32];
-    uint8_t *bytes;
-    size_t length;
-};
-
-/* Reasons that a block may be refused for over the coins: these two, and all from the third on. */
-enum { BAD_BLK_SIGOPS = 15, BAD_TXNS_NONFINAL = 22, BAD_TXNS_BIP30 = 24 };
-
-/* Blocks by their ids: each is where the first bytes of its id say, or in the next place that was free. `room` is 0
- * or a power of two, and at most half of the places are taken. */
-struct blocks {
-    struct block *places;
-    size_t count, room;
-};
-
 static struct chain {
     _Atomic uint64_t word;
     struct slot slot;
-    struct blocks blocks;
 } chains[WAKOTEHU_MOST];
 
 static uint64_t word_of(wakotehu_handle handle, uint64_t state) { return handle >> 8 << 2 | state; }
@@ -96,9 +72,7 @@ static wakotehu_code enter(wakotehu_handle handle) {
     return found == word_of(handle, IN_USE) ? WAKOTEHU_BUSY : WAKOTEHU_CLOSED;
 }
 
-static struct chain *chain_of(wakotehu_handle handle) { return &chains[handle & 255]; }
-
-static struct slot *slot_of(wakotehu_handle handle) { return &chain_of(handle)->slot; }
+static struct slot *slot_of(wakotehu_handle handle) { return &chains[handle & 255].slot; }
 
 /* Lets the next call in, and hands the code on. */
 static wakotehu_code leave(wakotehu_handle handle, uint32_t code) {
@@ -112,84 +86,6 @@ static const uint8_t no_bytes[1];
 
 /* Bytes that can be read: of none, some address that isn't null. */
 static bool readable(const void *bytes, size_t length) { return (bytes || !length) && length <= PTRDIFF_MAX; }
-
-/* ---- the copies of blocks */
-
-/* The place where a block of this id is, or would be. */
-static struct block *place_in(const struct blocks *blocks, const uint8_t *id) {
-    size_t at;
-    memcpy(&at, id, sizeof at);
-    while (blocks->places[at & (blocks->room - 1)].bytes
-           && memcmp(blocks->places[at & (blocks->room - 1)].id, id, 32) != 0)
-        at++;
-    return &blocks->places[at & (blocks->room - 1)];
-}
-
-static const struct block *find(const struct blocks *blocks, const uint8_t *id) {
-    const struct block *found = blocks->room ? place_in(blocks, id) : NULL;
-    return found && found->bytes ? found : NULL;
-}
-
-/* Makes room for one block more; false where there is no memory. */
-static bool make_room(struct blocks *blocks) {
-    struct blocks larger = {NULL, blocks->count, blocks->room ? 2 * blocks->room : 64};
-    if (2 * (blocks->count + 1) <= blocks->room)
-        return true;
-    larger.places = calloc(larger.room, sizeof *larger.places);
-    if (!larger.places)
-        return false;
-    for (size_t n = 0; n < blocks->room; n++)
-        if (blocks->places[n].bytes)
-            *place_in(&larger, blocks->places[n].id) = blocks->places[n];
-    free(blocks->places);
-    *blocks = larger;
-    return true;
-}
-
-/* Copies the bytes of a block that isn't there yet, and makes room for it; false where there is no memory. */
-static bool copy_block(struct blocks *blocks, const uint8_t *bytes, size_t length, struct block *copy) {
-    if (ffi_header(bytes, length, copy->id, copy->parent) != WAKOTEHU_OK || find(blocks, copy->id))
-        return true;
-    if (!make_room(blocks) || !(copy->bytes = malloc(length)))
-        return false;
-    memcpy(copy->bytes, bytes, length);
-    copy->length = length;
-    return true;
-}
-
-/* Whether the chainstate keeps the block of these bytes, which had no copy before and was answered so. The bytes of
- * kept blocks alone are copied, so a block that is refused by itself or by its place leaves nothing behind.
- *
- * Kept are those that are accepted or inconclusive, and those that are refused over the coins. Two of these reasons are
- * given by the block itself or its place too (bad-blk-sigops and bad-txns-nonfinal): there the block is submitted again,
- * which changes nothing: a kept one is answered duplicate-invalid, and another one is judged as before. Where that finds
- * no memory the copy is kept: it is right, as said below, though no call asks for it.
- *
- * Such a copy is the only list of bytes with its id that passes the rules of a block by itself, so the one that the
- * chainstate kept. The id names the header, and the header the Merkle root. Of lists of transactions with one root
- *   - those of one depth differ by repeated ends, and all but one are refused as bad-txns-duplicate;
- *   - of two depths, the first transaction of the shallower one is 64 bytes, which are two ids of the deeper one's tree.
- *     It is the coinbase, else the block is refused as bad-cb-missing: its bytes 4 to 36 are a count of 1 and an id of
- *     32 zero bytes. So the first of those two ids has 28 bytes that are given, which takes 2^224
- *     hashes to find. (Any other transaction can be such a pair: that takes a second, so a block that is refused before
- *     its coinbase is looked at may have the id of another one.)
- * The ids name the bytes of transactions, and counts have one spelling. Otherwise two messages have one SHA-256. */
-static bool is_kept(struct chain *chain, const struct block *copy, uint64_t now, const wakotehu_answer *answer) {
-    wakotehu_answer again = {0};
-    if (answer->reply != WAKOTEHU_REJECTED)
-        return answer->reply == WAKOTEHU_ACCEPTED || answer->reply == WAKOTEHU_INCONCLUSIVE;
-    if (answer->reason != BAD_BLK_SIGOPS && answer->reason != BAD_TXNS_NONFINAL)
-        return answer->reason >= BAD_TXNS_BIP30;
-    return ffi_submit(&chain->slot, copy->bytes, copy->length, now, &again) != WAKOTEHU_OK
-           || again.reply != WAKOTEHU_REJECTED;
-}
-
-static void forget(struct blocks *blocks) {
-    for (size_t n = 0; n < blocks->room; n++)
-        free(blocks->places[n].bytes);
-    free(blocks->places);
-    *blocks = (struct blocks){NULL, 0, 0};
-}
 
 /* ---- opening and closing */
 
@@ -246,27 +142,11 @@ wakotehu_code wakotehu_close(wakotehu_handle handle) {
     if (code != WAKOTEHU_OK)
         return code;
     code = (wakotehu_code)ffi_close(slot_of(handle));
-    forget(&chain_of(handle)->blocks);
     atomic_store(&chains[handle & 255].word, word_of(handle, FREE));
     return code;
 }
 
 /* ---- commands */
-
-/* Submits, with the copy made before: a step that was taken may not fail. */
-static uint32_t submit(struct chain *chain, const uint8_t *bytes, size_t length, uint64_t now,
-                       wakotehu_answer *answer) {
-    struct block copy = {0};
-    if (!copy_block(&chain->blocks, bytes, length, &copy))
-        return WAKOTEHU_MEMORY;
-    uint32_t code = ffi_submit(&chain->slot, bytes, length, now, answer);
-    if (copy.bytes && code == WAKOTEHU_OK && is_kept(chain, &copy, now, answer)) {
-        *place_in(&chain->blocks, copy.id) = copy;
-        chain->blocks.count++;
-    } else
-        free(copy.bytes);
-    return code;
-}
 
 wakotehu_code wakotehu_submit(wakotehu_handle handle, const uint8_t *bytes, size_t length, uint64_t now,
                               wakotehu_answer *answer) {
@@ -275,7 +155,7 @@ wakotehu_code wakotehu_submit(wakotehu_handle handle, const uint8_t *bytes, size
     wakotehu_code code = enter(handle);
     if (code != WAKOTEHU_OK)
         return code;
-    return leave(handle, submit(chain_of(handle), length ? bytes : no_bytes, length, now, answer));
+    return leave(handle, ffi_submit(slot_of(handle), length ? bytes : no_bytes, length, now, answer));
 }
 
 static wakotehu_code mark(wakotehu_handle handle, const uint8_t *id, wakotehu_answer *answer,
@@ -416,91 +296,57 @@ wakotehu_code wakotehu_coin_at(wakotehu_handle handle, const uint8_t *id, uint32
 
 wakotehu_code wakotehu_block(wakotehu_handle handle, const uint8_t *id, uint8_t *bytes, size_t length,
                              size_t *needed) {
+    uint8_t none[1];
+    uint64_t told = 0;
     if (!id || !needed || !readable(bytes, length))
         return WAKOTEHU_NULL;
     wakotehu_code code = enter(handle);
     if (code != WAKOTEHU_OK)
         return code;
-    const struct block *found = find(&chain_of(handle)->blocks, id);
-    *needed = found ? found->length : 0;
-    if (!found)
-        return leave(handle, WAKOTEHU_NONE);
-    if (length < found->length)
-        return leave(handle, WAKOTEHU_TOO_SMALL);
-    memcpy(bytes, found->bytes, found->length);
-    return leave(handle, WAKOTEHU_OK);
+    uint32_t found = ffi_kept_block(slot_of(handle), id, length ? bytes : none, length, &told);
+    *needed = told;
+    return leave(handle, found);
 }
 
 /* ---- all coins */
 
-/* Whom coins are handed to, and the room for their scripts. */
-struct walk {
-    wakotehu_coin_call call;
-    void *context;
+/* A coin, with room for its script. */
+struct listed {
+    struct place at;
+    wakotehu_coin coin;
     uint8_t *script;
     size_t length;
-    bool ended;
 };
 
-/* Hands on the coin at an outpoint, if there is one and it is of this height. */
-static uint32_t hand_on(struct chain *chain, const struct place *at, uint64_t height, struct walk *walk) {
-    wakotehu_coin coin;
-    uint32_t code = ffi_coin(&chain->slot, at, &coin, walk->script, walk->length);
-    if (code == WAKOTEHU_TOO_SMALL) {
-        uint8_t *larger = realloc(walk->script, coin.script);
-        if (!larger)
-            return WAKOTEHU_MEMORY;
-        walk->script = larger;
-        walk->length = coin.script;
-        code = ffi_coin(&chain->slot, at, &coin, walk->script, walk->length);
-    }
-    if (code == WAKOTEHU_OK && coin.height == height)
-        walk->ended = walk->call(walk->context, at->id, at->index, &coin, walk->script) != 0;
+/* The coin above the one that was listed last, or the first one. */
+static uint32_t next_coin(struct slot *slot, uint32_t above, struct listed *listed) {
+    uint32_t code = ffi_coin_after(slot, above, &listed->at, &listed->coin, listed->script, listed->length);
+    if (code != WAKOTEHU_TOO_SMALL)
+        return code;
+    uint8_t *larger = realloc(listed->script, listed->coin.script);
+    if (!larger)
+        return WAKOTEHU_MEMORY;
+    listed->script = larger;
+    listed->length = listed->coin.script;
+    return ffi_coin_after(slot, above, &listed->at, &listed->coin, listed->script, listed->length);
+}
+
+static uint32_t coins(struct slot *slot, struct listed *listed, wakotehu_coin_call call, void *context) {
+    uint32_t code = next_coin(slot, 0, listed);
+    while (code == WAKOTEHU_OK && call(context, listed->at.id, listed->at.index, &listed->coin, listed->script) == 0)
+        code = next_coin(slot, 1, listed);
     return code == WAKOTEHU_NONE ? WAKOTEHU_OK : code;
 }
 
-/* Hands on the coins that a block of the active branch left. */
-static uint32_t coins_of(struct chain *chain, const struct block *block, uint64_t height, struct walk *walk) {
-    /* No transaction of a valid block has fewer than 60 bytes. */
-    size_t most = block->length / 60;
-    uint64_t count = 0;
-    struct made *rows = malloc(most * sizeof *rows);
-    uint32_t code = rows ? ffi_transactions(block->bytes, block->length, rows, most, &count) : WAKOTEHU_MEMORY;
-    for (uint64_t n = 0; code == WAKOTEHU_OK && n < count; n++) {
-        struct place at = {{0}, 0};
-        memcpy(at.id, rows[n].id, sizeof at.id);
-        for (; code == WAKOTEHU_OK && !walk->ended && at.index < rows[n].outputs; at.index++)
-            code = hand_on(chain, &at, height, walk);
-    }
-    free(rows);
-    return code;
-}
-
-/* A coin was made by the block of its height on the active branch. */
-static uint32_t coins(struct chain *chain, struct walk *walk) {
-    uint8_t id[32] = {0};
-    uint64_t height = 0;
-    uint32_t code = ffi_best(&chain->slot, id, &height);
-    for (; code == WAKOTEHU_OK && !walk->ended && height > 0; height--) {
-        const struct block *block = find(&chain->blocks, id);
-        if (!block)
-            return WAKOTEHU_NONE;
-        code = coins_of(chain, block, height, walk);
-        memcpy(id, block->parent, sizeof id);
-    }
-    return code;
-}
-
 wakotehu_code wakotehu_coins(wakotehu_handle handle, wakotehu_coin_call call, void *context) {
-    struct walk walk = {call, context, NULL, 64, false};
     if (!call)
         return WAKOTEHU_NULL;
     wakotehu_code code = enter(handle);
     if (code != WAKOTEHU_OK)
         return code;
-    walk.script = malloc(walk.length);
-    uint32_t found = walk.script ? coins(chain_of(handle), &walk) : WAKOTEHU_MEMORY;
-    free(walk.script);
+    struct listed listed = {.script = malloc(64), .length = 64};
+    uint32_t found = listed.script ? coins(slot_of(handle), &listed, call, context) : WAKOTEHU_MEMORY;
+    free(listed.script);
     return leave(handle, found);
 }
 

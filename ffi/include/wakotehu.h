@@ -198,9 +198,8 @@ wakotehu_code wakotehu_block(wakotehu_handle handle, const uint8_t *id, uint8_t 
 typedef int (*wakotehu_coin_call)(void *context, const uint8_t *id, uint32_t index, const wakotehu_coin *coin,
                                   const uint8_t *script);
 
-/* Calls `call` once for each coin: the highest block's first, then by the order of its outputs. `context` is
- * handed on. Where there is no memory, WAKOTEHU_MEMORY is answered, and some coins may have been told. It reads the
- * blocks of the active branch again, so it takes about as long as submitting them. */
+/* Calls `call` once for each coin, by rising outpoints: by the bytes of the id as they are hashed, then by the index.
+ * `context` is passed on. Where there is no memory, WAKOTEHU_MEMORY is answered, and some coins may have been told. */
 wakotehu_code wakotehu_coins(wakotehu_handle handle, wakotehu_coin_call call, void *context);
 
 /* Bitcoin Core's word for a reason, as "bad-cb-amount"; "blk-bad-inputs" for 29; "" for a number that is no reason's.

@@ -2,7 +2,7 @@
 --     0 done    1 no memory    2 no session in the slot    3 a line of the table can't be read
 --     4 there is no such thing    5 the room is too small    6 there is a session in the slot
 --     30 another verdict is known    31 signatures have to be found out first
-use Rattle.std.specs.Prelude.{◌≡◌, ℕ, ◌⊎◌, Bool, true, false, List, length, map, Option, None, Some, slice_get}
+use Rattle.std.specs.Prelude.{◌≡◌, ℕ, ◌⊎◌, Bool, true, false, if◌then◌else◌, ◌==◌, List, [], length, map, Option, None, Some, slice_get}
 use Rattle.std.specs.FinMap as coin_map
 use Rattle.std.specs.FinSet as set
 use Rattle.hash.specs.declared.id.Id.{Id}
@@ -11,11 +11,14 @@ use Rattle.curve.specs.Known.{Under}
 use Rattle.curve.specs.Triple.{Triple, Triples}
 use Rattle.curve.specs.Lines.{IsFirstBad, IsTableOf}
 use Rattle.coins.specs.declared.coin.Coin.{Coin}
+use Rattle.coins.specs.Next.{IsNext}
+use Rattle.activate.specs.CoreState.{IsBlockOf}
 use Rattle.rules.specs.declared.params.Params.{Params}
 use Rattle.tree.specs.declared.tip.Tip.{Tip}
 use Rattle.chain.specs.declared.command.Command.{Command}
 use Rattle.chain.specs.declared.reply.Reply.{Reply}
-use Rattle.tree.specs.Branches.{height as height_of}
+use Rattle.tree.specs.Branches.{height as height_of, place_of}
+use Rattle.tree.specs.Names.{names}
 use Rattle.tree.specs.Tips.{tip_of_id}
 use Rattle.chain.specs.Commands.{outcome}
 use Rattle.chain.specs.Regtest.{ledger}
@@ -86,6 +89,7 @@ pub record IsTaken (s : SessionState) (after : Option SessionState) (c : Command
   pub after_is : after ≡ Some next
   pub outcome_is : Under (known_of s) (λ triples. (tree_of next, reply) ≡ outcome (rules_under s triples) (tree_of s) c)
   pub rules : KeepsRules s next
+  pub wants_nothing : next.wanted ≡ []
   pub told : IsTold reply a
 
 -- it took no step, and only what it wants may be another list
@@ -157,6 +161,52 @@ pub record ShowsCoin (coin : Coin) (shown : ShownCoin) : Type 0 where
 abbrev pub IsCoinShown : Option Coin → ShownCoin → ShownCoin → List ℕ → List ℕ → ℕ → Type 0
 IsCoinShown None before shown room script result = (result ≡ 4) × (shown ≡ before) × (script ≡ room)
 IsCoinShown (Some coin) before shown room script result = ShowsCoin coin shown × IsFilled coin.script room script result
+
+-- what C has of a coin: its outpoint, what is shown of it, and its script at the front of the room
+pub record Listed : Type 0 where
+  pub at : Place
+  pub shown : ShownCoin
+  pub script : List ℕ
+
+-- it is shown, and where there is room for its script that is there too and its outpoint; else the outpoint stays
+pub record ShowsNext (e : OutPoint × Coin) (before after : Listed) (result : ℕ) : Type 0 where
+  pub coin : ShowsCoin e.1 after.shown
+  pub filled : IsFilled e.1.script before.script after.script result
+  pub found : result ≡ 0 → outpoint_of after.at ≡ e.0
+  pub stays : result ≡ 5 → after.at ≡ before.at
+
+abbrev pub IsNextShown : Option (OutPoint × Coin) → Listed → Listed → ℕ → Type 0
+IsNextShown None before after result = (result ≡ 4) × (after ≡ before)
+IsNextShown (Some e) before after result = ShowsNext e before after result
+
+-- above this outpoint, or above none where the number is 0
+abbrev pub above_of : ℕ → Place → Option OutPoint
+above_of above p = if above == 0 then None else Some (outpoint_of p)
+
+-- of the session's coins the one at the least outpoint above another
+pub record IsNextOf (s : SessionState) (above : Option OutPoint) (before after : Listed) (result : ℕ) : Type 0 where
+  pub next : Option (OutPoint × Coin)
+  pub next_is : IsNext (coins (rules_of s) ledger (tree_of s)) above next
+  pub shown : IsNextShown next before after result
+
+abbrev pub IsNextTold : Option SessionState → Option OutPoint → Listed → Listed → ℕ → Type 0
+IsNextTold None above before after result = (result ≡ 2) × (after ≡ before)
+IsNextTold (Some s) above before after result = IsNextOf s above before after result
+
+-- the bytes are there, where there is room for them, and how many they are; or there are none
+abbrev pub AreBytesShown : Option (List ℕ) → ℕ → ℕ → List ℕ → List ℕ → ℕ → Type 0
+AreBytesShown None before needed room bytes result = (result ≡ 4) × (needed ≡ before) × (bytes ≡ room)
+AreBytesShown (Some found) before needed room bytes result = (needed ≡ length found) × IsFilled found room bytes result
+
+-- of the session's blocks the bytes of the one with an id
+pub record IsBlockShown (s : SessionState) (id : Id) (before needed : ℕ) (room bytes : List ℕ) (result : ℕ) : Type 0 where
+  pub found : Option (List ℕ)
+  pub found_is : IsBlockOf (tree_of s).blocks (place_of names (tree_of s).blocks id) found
+  pub shown : AreBytesShown found before needed room bytes result
+
+abbrev pub IsBlockTold : Option SessionState → Id → ℕ → ℕ → List ℕ → List ℕ → ℕ → Type 0
+IsBlockTold None id before needed room bytes result = (result ≡ 2) × (needed ≡ before) × (bytes ≡ room)
+IsBlockTold (Some s) id before needed room bytes result = IsBlockShown s id before needed room bytes result
 
 -- of the session's coins the one at an outpoint
 abbrev pub IsCoinTold : Option SessionState → OutPoint → ShownCoin → ShownCoin → List ℕ → List ℕ → ℕ → Type 0

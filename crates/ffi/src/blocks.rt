@@ -1,37 +1,16 @@
-//! What C asks of a block's bytes, of which it keeps a copy. No chainstate is looked at.
+//! The transactions of a block's bytes. No chainstate is looked at.
 
-ghost use Rattle.std.specs.Prelude.{◌≡◌, ◌<◌, IfOk, length, map, Some};
+ghost use Rattle.std.specs.Prelude.{◌≡◌, IfOk, map};
 ghost use Rattle.block.specs.Decoding.{block_of_bytes};
-ghost use Rattle.block.specs.declared.block.Block.{Block};
-ghost use Rattle.ffi.specs.Blocks.{IsHeaderShown, IsHeaderTold, IsListed, made_of};
+ghost use Rattle.ffi.specs.Blocks.{IsListed, made_of};
 ghost use Rattle.ffi.specs.Room.{IsCounted};
 
-use crate::answers::{DONE, MEMORY, Made, NONE, Name};
+use crate::answers::{MEMORY, Made, NONE, Name};
 use crate::room::fill;
-use block::{ReadFault, header_of, read};
+use block::{ReadFault, read};
 use std::alloc::Global;
 use txn::Tx;
 use wire::Memory;
-
-/// The id of the block that these bytes spell, and its parent's. Their first 80 alone are looked at.
-#[unsafe(no_mangle)]
-pub extern "C" fn ffi_header(bytes: &[u8], id: &mut Name, parent: &mut Name) -> u32
-    ensures told { IsHeaderTold bytes.now id.new parent.new
-        ((id.new ≡ id.old) × (parent.new ≡ parent.old)) result }
-    ensures of_block { (b : Block) → block_of_bytes bytes.now ≡ Some b
-        → IsHeaderShown b.header id.new parent.new result }
-{
-    match header_of(bytes) {
-        Err(_) => NONE,
-        Ok(header) => {
-            let name = header.id().0;
-            let above = header.prev.0;
-            id.bytes = name;
-            parent.bytes = above;
-            DONE
-        }
-    }
-}
 
 /// The transactions of the block that these bytes spell, in order, at the front of `rows` where that is long enough,
 /// and how many they are.

@@ -16,7 +16,7 @@ use crate::answers::{
     as_told, shown_tip,
 };
 use crate::known::tell_line;
-use crate::room::fill;
+use crate::listing::{outpoint, tell_coin};
 use crate::session::Session;
 use crate::slot::{Slot, put, take};
 use block::Bytes;
@@ -25,7 +25,6 @@ use curve::TableFault;
 use hash::Id;
 use rules::Params;
 use std::alloc::Global;
-use txn::OutPoint;
 
 /// Opens a session on genesis alone. Where a line of the table can't be read, `line` is its number, from 1.
 #[unsafe(no_mangle)]
@@ -313,20 +312,8 @@ fn show_coin(session: &Session, at: &Place, shown: &mut ShownCoin, script: &mut 
         IsCoinShown (coin_map.get (coins (rules_of s) ledger (tree_of s)) o) shown.old shown.new
         script.old script.new result }
 {
-    let bytes = at.id.bytes;
-    let outpoint = OutPoint {
-        id: Id(bytes),
-        index: at.index,
-    };
-    let Some(coin) = session.coin(&outpoint) else {
-        return NONE;
-    };
-    let bytes = coin.script.as_slice();
-    *shown = ShownCoin {
-        value: coin.value,
-        script: bytes.len() as u64,
-        height: coin.height,
-        coinbase: coin.coinbase as u32,
-    };
-    fill(bytes, script)
+    match session.coin(&outpoint(at)) {
+        Some(coin) => tell_coin(coin, shown, script),
+        None => NONE,
+    }
 }

@@ -11,6 +11,7 @@ mod hashes;
 mod kept;
 mod known;
 pub mod laws;
+mod listing;
 mod parts;
 mod room;
 mod scripts;

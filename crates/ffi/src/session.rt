@@ -3,17 +3,20 @@
 ghost use Rattle.std.specs.Prelude.{◌≡◌, ◌<◌, [], false, true, IfOk, IfErr, OnOk, OnErr, Some, length, map, slice_get};
 ghost use Rattle.std.specs.FinMap as coin_map;
 ghost use Rattle.std.specs.FinSet as set;
-ghost use Rattle.std.specs.Option.{option_copied};
+ghost use Rattle.std.specs.Map.Iter.{deref_pair};
+ghost use Rattle.std.specs.Option.{option_copied, option_map};
 ghost use Rattle.curve.specs.Known.{Under};
 ghost use Rattle.curve.specs.Lines.{lines, IsTableOf, IsFaultOf};
 ghost use Rattle.curve.specs.Triple.{Triples, triple_of};
-ghost use Rattle.tree.specs.Branches.{height};
+ghost use Rattle.coins.specs.Next.{IsNext};
+ghost use Rattle.tree.specs.Branches.{height, place_of};
+ghost use Rattle.tree.specs.Names.{names};
 ghost use Rattle.tree.specs.Tips.{tip_of_id};
 ghost use Rattle.chain.specs.Commands.{outcome};
 ghost use Rattle.chain.specs.Regtest.{ledger};
 ghost use Rattle.chain.specs.Replay.{coins};
 ghost use Rattle.chain.specs.Settle.{active, best, tips};
-ghost use Rattle.activate.specs.CoreState.{IsChainstate, opened_core};
+ghost use Rattle.activate.specs.CoreState.{IsBlockOf, IsChainstate, opened_core};
 ghost use Rattle.ffi.specs.SessionState.{IsLearntBy, IsNoStep, KeepsRules, known_of, new_session, rules_of, rules_under, tree_of};
 ghost use Rattle.ffi.specs.Signatures.{valid_in, invalid_in, is_by_need};
 ghost use Rattle.ffi.specs.inside.Signatures.{known_in};
@@ -22,6 +25,7 @@ use crate::answers::{CONTRADICTION, DONE, MEMORY, WANTS};
 use crate::found::FoundSignatures;
 use crate::signatures::Signatures;
 use activate::Chainstate;
+use block::Bytes;
 use chain::{Command, Reply};
 use coins::{Base, Coin};
 use curve::{KeptTriple, Table, TableFault};
@@ -128,6 +132,7 @@ impl Session {
             (tree_of self.new, reply)
             ≡ outcome (rules_under self.old triples) (tree_of self.old) command.now)) }
         ensures rules { OnOk result (KeepsRules self.old self.new) }
+        ensures wanted { OnOk result (self.new.wanted ≡ []) }
         ensures refused { IfErr result (IsNoStep self.old self.new) }
     {
         match self.chain.step_by(alloc, command, &self.signatures, &Open) {
@@ -202,5 +207,21 @@ impl Session {
             ≡ coin_map.get (coins (rules_of self.now) ledger (tree_of self.now)) at.now }
     {
         self.chain.coins().get(at)
+    }
+
+    /// The coin at the least outpoint above another, with that outpoint; above `None`, the least of all.
+    pub(crate) fn coin_after(&self, at: Option<&OutPoint>) -> Option<(&OutPoint, &Coin)>
+        ensures { IsNext (coins (rules_of self.now) ledger (tree_of self.now)) (option_copied at.entry)
+            (option_map deref_pair result) }
+    {
+        self.chain.coins().after(at)
+    }
+
+    /// The bytes of the block with this id. Of genesis none are kept.
+    pub(crate) fn block(&self, id: &Id) -> Option<&Bytes>
+        ensures { let t = (tree_of self.now).blocks in
+            IsBlockOf t (place_of names t id.now) (option_map (λ b. b.now) result) }
+    {
+        self.chain.block(id)
     }
 }
