@@ -6,7 +6,7 @@ import unittest
 import wakotehu
 from blocks import NOW, Maker, block_id
 from wakotehu import Chainstate, errors, show
-from wakotehu.encoding import GENESIS
+from wakotehu.encoding import GENESIS, Output, coinbase, mine
 
 
 class ChainstateTest(unittest.TestCase):
@@ -99,13 +99,28 @@ class ChainstateTest(unittest.TestCase):
             self.chain.submit(block, NOW)
         coins = self.chain.coins()
         wanted = [(self.maker.coinbases[block_id(block)].id, 0, height) for height, block in enumerate(blocks, 1)]
-        self.assertEqual([(id, index, coin.height) for id, index, coin in coins], wanted[::-1])
+        self.assertEqual([(id, index, coin.height) for id, index, coin in coins], sorted(wanted))
         self.assertEqual({coin[:2] + coin[3:] for _, _, coin in coins}, {(5000000000, b"\x51", True)})
         for block in (*other, *blocks):
             self.assertEqual(self.chain.block(block_id(block)), block)
         self.assertIsNone(self.chain.block(GENESIS.id))
         self.assertIsNone(self.chain.block(bytes(32)))
         self.assertRaises(ValueError, self.chain.block, b"")
+
+    def test_coins_while_one_map_becomes_many(self):
+        """From 102,400 coins on they are moved to many maps, one for each that comes."""
+        wanted, parent = [], GENESIS.id
+        for height in range(1, 6):
+            made = coinbase(height, 0, b"\x51", b"\x00")
+            made = made._replace(outputs=[Output(0, bytes([0x51, 0x50 + height]))] * 55_000)
+            block = mine(parent, GENESIS.time + 600 * height, [made])
+            self.assertEqual(self.chain.submit(block, NOW), "accepted")
+            parent = block_id(block)
+            maker = made.id
+            wanted += [(maker, index, height) for index in range(55_000)]
+            coins = [(id, index, coin.height) for id, index, coin in self.chain.coins()]
+            self.assertEqual(len(coins), len(wanted))
+            self.assertTrue(coins == sorted(wanted), f"the coins at height {height}")
 
     def test_coins_with_long_scripts_and_long_blocks(self):
         maker = Maker(script=b"\x61" * 9000)

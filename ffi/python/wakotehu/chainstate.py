@@ -245,7 +245,8 @@ class Chainstate:
         return Coin(coin.value, script.raw[: coin.script], coin.height, bool(coin.coinbase))
 
     def coins(self) -> List[Tuple[bytes, int, Coin]]:
-        """All coins, as the id of a transaction, an output's number, and the coin: the highest block's first.
+        """All coins, as the id of a transaction, an output's number, and the coin, by rising outpoints: by the bytes of the
+        id as they are hashed, then by the number.
 
         An exception, Ctrl-C too, ends the walk and is raised.
         """
