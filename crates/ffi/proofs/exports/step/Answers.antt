@@ -13,6 +13,7 @@ returns-in-Ok c =
         after_is = c.put.ensures;
         outcome_is = c.in-Ok.ensures.outcome;
         rules = c.in-Ok.ensures.rules;
+        wants_nothing = c.in-Ok.ensures.wanted;
         told = record {
           reply_is = c.as_told.ensures.reply;
           reason_is = c.as_told.ensures.reason;
