@@ -45,15 +45,16 @@ class Progress:
         self.minutes = {name: table.get(name, 1.0) for name in names}
         self.done: List[str] = []
         self.begun = time.monotonic()
-        self.spent = 0.0  # seconds for what is done
+        # The table's minutes and the seconds here of what was proved now, and not kept from an earlier run.
+        self.counted = self.spent = 0.0
+        self.ended = self.begun
         self.moves = sys.stderr.isatty()
 
     def left(self) -> float:
         """The minutes that are left by the clock, as far as the table tells."""
-        counted = sum(self.minutes[name] for name in self.done)
-        rest = sum(self.minutes.values()) - counted
-        scale = self.spent / 60 / counted if counted else 1.0
-        return max(0.0, rest * scale - (time.monotonic() - self.begun - self.spent) / 60)
+        rest = sum(number for name, number in self.minutes.items() if name not in self.done)
+        scale = self.spent / 60 / self.counted if self.counted else 1.0
+        return max(0.0, rest * scale - (time.monotonic() - self.ended) / 60)
 
     def line(self, now: str) -> str:
         past = (time.monotonic() - self.begun) / 60
@@ -67,10 +68,14 @@ class Progress:
         if not self.moves:
             print(self.line(now), file=sys.stderr, flush=True)
 
-    def finish(self, name: str) -> None:
-        if name in self.minutes and name not in self.done:
-            self.done.append(name)
-            self.spent = time.monotonic() - self.begun
+    def finish(self, name: str, is_kept: bool = False) -> None:
+        """A crate is proved; one that took far less than its minutes was kept from an earlier run."""
+        if name not in self.minutes or name in self.done:
+            return
+        took, self.ended = time.monotonic() - self.ended, time.monotonic()
+        self.done.append(name)
+        if not is_kept:
+            self.counted, self.spent = self.counted + self.minutes[name], self.spent + took
 
     def end(self) -> None:
         if self.moves:
@@ -109,7 +114,7 @@ def build(jobs: int) -> int:
             progress.begin(name)
             process = subprocess.Popen(act, cwd=f"{ROOT}/crates/{name}", stdin=subprocess.DEVNULL, stdout=log, stderr=log, text=True)
             status = wait(process, progress, name)
-            progress.finish(name)
+            progress.finish(name, is_kept=time.monotonic() - progress.ended < 12 * progress.minutes[name])
             log.flush()
             last = end_of_log().strip().splitlines()[-1:] if name == "regchain" else []
             if not last[0].startswith("regchain ") if last else status:
@@ -141,7 +146,7 @@ def gate(anew: bool) -> int:
                 print(line, end="", flush=True)
             told = re.match(r"rt: (\w+) ", line)
             if told and told[1] in progress.minutes and told[1] not in progress.done:
-                progress.finish(told[1])
+                progress.finish(told[1], is_kept="is kept" in line)
                 if len(progress.done) < len(progress.minutes):
                     progress.begin(f"behind {told[1]}")
                     progress.move(f"behind {told[1]}")

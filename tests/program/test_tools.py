@@ -94,10 +94,15 @@ class Progress(unittest.TestCase):
     def test_minutes_left_follow_what_was_taken(self) -> None:
         told = progress.Progress({"a": 2.0, "b": 2.0, "c": 6.0}, ["a", "b", "c"])
         self.assertAlmostEqual(told.left(), 10.0, places=1)
-        told.begun -= 60  # a took a minute in place of two
+        told.begun, told.ended = told.begun - 60, told.ended - 60  # a took a minute in place of two
         told.finish("a")
         self.assertAlmostEqual(told.left(), 4.0, places=1)
         self.assertRegex(told.line("b"), r"^crate 2 of 3: b \(1 minutes so far, about 4 left\)$")
+
+    def test_what_an_earlier_run_kept_says_nothing_of_the_rest(self) -> None:
+        told = progress.Progress({"a": 2.0, "b": 2.0, "c": 6.0}, ["a", "b", "c"])
+        told.finish("a", is_kept=True)
+        self.assertAlmostEqual(told.left(), 8.0, places=1)
 
 
 if __name__ == "__main__":
