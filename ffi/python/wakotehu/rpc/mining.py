@@ -1,7 +1,9 @@
 """Calls that submit blocks and make them."""
 
-from typing import Any, Dict, List, Optional, Sequence
+import re
+from typing import Any, List, Optional, Sequence
 
+from .. import consensus
 from ..chainstate import show
 from ..encoding import (
     EncodingError, Transaction, block_at_front, coinbase, double_sha, mine, subsidy,
@@ -11,12 +13,19 @@ from .errors import (
 )  # fmt: skip
 from .node import Node, call
 from .scripts import address_script, descriptor_script, output_script
-from .txs import raw_transaction
+from .trial import fault
+from .txs import MAX_SIZE, raw_transaction
 from .values import Object, array, boolean, hexadecimal, integer, text
 
 GROUP, GENERATING = "Mining", "Generating"
 #: How many blocks one call may make.
 MAX_BLOCKS = 100_000
+#: How many nonces one call tries.
+MAX_TRIES = 1_000_000
+#: Words that Bitcoin Core adds to a reason.
+_LATE = {
+    "time-too-old": ", block's timestamp is too early", "time-too-new": ", block timestamp too far in the future",
+}  # fmt: skip
 #: No transaction may make more, in satoshis.
 MAX_MONEY = 21_000_000 * 100_000_000
 
@@ -83,29 +92,39 @@ def _made(node: Node, script: bytes, transactions: Sequence[Transaction]) -> byt
     made = coinbase(height, subsidy(height) + _fees(node, transactions), script, extra)
     # Cut to 32 bits, as Bitcoin Core does: a block that is too old then.
     when = max(tip.median + 1, node.now())
-    return mine(tip.id, when & 0xFFFFFFFF, [made, *transactions])
+    block = mine(tip.id, when & 0xFFFFFFFF, [made, *transactions])
+    late = consensus.block_place(mine(tip.id, when & 0xFFFFFFFF, [made]), height, tip.median, node.now(), node.bench.heights)
+    if late:
+        raise RpcError(MISC_ERROR, f"CreateNewBlock: TestBlockValidity failed: {late}{_LATE.get(late, '')}")
+    return block
 
 
 def _fees(node: Node, transactions: Sequence[Transaction]) -> int:
     """What transactions leave to the coinbase; nothing where an output that they spend isn't known."""
-    made: Dict[bytes, Transaction] = {}
-    fees = 0
-    for tx in transactions:
-        values = node.input_values(tx, made)
-        if values is None:
-            return 0
-        fees += sum(values) - sum(out.value for out in tx.outputs)
-        made[tx.id] = tx
-    return min(max(fees, 0), MAX_MONEY)
+    spent = node.spent(transactions)
+    made = [out.value for tx in transactions for out in tx.outputs]
+    values = [spent.get((spends.id, spends.index)) for tx in transactions for spends in tx.inputs]
+    if None in values:
+        return 0
+    return min(max(sum(out.value for out in values if out) - sum(made), 0), MAX_MONEY)
 
 
-def _generate(node: Node, count: int, script: bytes) -> List[str]:
+def _tries(maxtries: Any) -> int:
+    """How many nonces may be tried. A negative number is a high one, as in Bitcoin Core."""
+    return (MAX_TRIES if maxtries is None else integer(maxtries)) % 2**64
+
+
+def _generate(node: Node, count: int, script: bytes, tries: int) -> List[str]:
     if count > MAX_BLOCKS:
         raise RpcError(MISC_ERROR, f"no more than {MAX_BLOCKS} blocks by one call")
-    found = []
-    for _ in range(count):
+    found: List[str] = []
+    while len(found) < count and tries:
         with node.making():
             block = _made(node, script, ())
+            # Each nonce that didn't meet the target was a try.
+            tries -= min(tries, int.from_bytes(block[76:80], "little"))
+            if not tries:
+                break
             reply = node.submit(block_at_front(block))
         # Beside another call's block it may be kept on a branch of its own, as at Bitcoin Core.
         if reply.reply not in ("accepted", "inconclusive"):
@@ -117,18 +136,17 @@ def _generate(node: Node, count: int, script: bytes) -> List[str]:
 @call(GENERATING, "nblocks", "address", "maxtries", needed=2)
 def generatetoaddress(node: Node, nblocks: Any, address: Any, maxtries: Any) -> List[str]:
     """Makes blocks that pay to an address."""
-    count, _ = integer(nblocks), integer(0 if maxtries is None else maxtries)
-    script = address_script(text(address))
+    count, tries, script = integer(nblocks), _tries(maxtries), address_script(text(address))
     if script is None:
         raise RpcError(INVALID_ADDRESS_OR_KEY, "Error: Invalid address")
-    return _generate(node, count, script)
+    return _generate(node, count, script, tries)
 
 
 @call(GENERATING, "num_blocks", "descriptor", "maxtries", needed=2)
 def generatetodescriptor(node: Node, num_blocks: Any, descriptor: Any, maxtries: Any) -> List[str]:
     """Makes blocks that pay to raw(HEX) or addr(ADDRESS)."""
-    count, _ = integer(num_blocks), integer(0 if maxtries is None else maxtries)
-    return _generate(node, count, descriptor_script(text(descriptor)))
+    count, tries = integer(num_blocks), _tries(maxtries)
+    return _generate(node, count, descriptor_script(text(descriptor)), tries)
 
 
 @call(GENERATING)
@@ -140,23 +158,28 @@ def generate(node: Node) -> None:
 @call(GENERATING, "output", "transactions", "submit", needed=2)
 def generateblock(node: Node, output: Any, transactions: Any, submit: Any) -> Object:
     """Makes a block of raw transactions that pays to an address or a descriptor; without submitting it where submit is
-    false."""
+    false. One that breaks a rule is never submitted."""
     script = output_script(text(output))
     made = [_raw_transaction(raw) for raw in array(transactions)]
     wanted = True if submit is None else boolean(submit)
     with node.making():
         block = _made(node, script, made)
-        reply = node.submit(block_at_front(block)) if wanted else None
-    if reply and reply.reply not in ("accepted", "inconclusive"):
-        raise RpcError(VERIFY_ERROR, f"TestBlockValidity failed: {reply.text}")
+        broken = fault(node, block)
+        if not broken and wanted:
+            reply = node.submit(block_at_front(block))
+            broken = "" if reply.reply in ("accepted", "inconclusive") else reply.text
+    if broken:
+        raise RpcError(VERIFY_ERROR, f"TestBlockValidity failed: {broken}")
     found = {"hash": show(double_sha(block[:80]))}
     return found if wanted else {**found, "hex": block.hex()}
 
 
 def _raw_transaction(raw: Any) -> Transaction:
     given = text(raw)
-    if len(given) == 64:
+    if re.fullmatch("[0-9a-fA-F]{64}", given):
         raise RpcError(INVALID_ADDRESS_OR_KEY, f"Transaction {given} not in mempool.")
+    if len(given) > 2 * MAX_SIZE:
+        raise RpcError(VERIFY_ERROR, "TestBlockValidity failed: bad-blk-length")
     return raw_transaction(
-        given, f"Transaction decode failed for {given[:200]}. Make sure the tx has at least one input."
+        given, f"Transaction decode failed for {given[:200]}. Make sure the tx has at least one input.", True
     )

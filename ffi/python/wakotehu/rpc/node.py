@@ -3,15 +3,20 @@
 import threading
 import time
 from contextlib import contextmanager
-from typing import Any, Callable, Dict, Iterator, List, NamedTuple, Optional, Tuple, Union
+from typing import Any, Callable, Dict, Iterable, Iterator, List, NamedTuple, Optional, Sequence, Tuple, Union
 
 from ..bench import Bench
 from ..chainstate import Reply
-from ..encoding import GENESIS, GENESIS_BLOCK, Spelled, Transaction
+from ..encoding import GENESIS, GENESIS_BLOCK, Output, Spelled, Transaction, read_transaction
 from ..errors import NodeDied, Owed
 from ..index import Kept
 from ..pool import Pool
 from .errors import INVALID_ADDRESS_OR_KEY, INVALID_PARAMETER, METHOD_NOT_FOUND, MISC_ERROR, RpcError
+from .values import expect
+
+
+#: How often a call that waits looks whether its client is there, in seconds.
+LOOK = 0.5
 
 
 class Saver:
@@ -38,6 +43,8 @@ class Node:
         self.pause = 0.0
         self.broken = ""
         self._is_making = False
+        #: Of each thread that calls: whether its client is gone.
+        self._caller = threading.local()
         #: Held by the call that runs; told when the best block changes, and at the end.
         self.turn = bench.turn if isinstance(bench, Pool) else threading.Condition()
 
@@ -61,6 +68,17 @@ class Node:
         finally:
             self._is_making = False
             self.turn.notify_all()
+
+    def called_by(self, is_gone: Callable[[], bool]) -> None:
+        """From now on this thread calls for a client that may be gone."""
+        self._caller.is_gone = is_gone
+
+    def wait(self, until: Optional[float]) -> None:
+        """Waits for a step, or until a moment of the monotonic clock; while the client is there."""
+        is_gone: Optional[Callable[[], bool]] = getattr(self._caller, "is_gone", None)
+        if is_gone and is_gone():
+            raise RpcError(MISC_ERROR, "The client is gone")
+        self.turn.wait(LOOK if until is None else max(0.0, min(LOOK, until - time.monotonic())))
 
     def leave(self) -> None:
         """This thread makes no more calls."""
@@ -128,28 +146,47 @@ class Node:
     def tip(self) -> Kept:
         return self.bench.index.blocks[self.bench.index.active[-1]]
 
-    def input_values(self, tx: Transaction, made: Dict[bytes, Transaction]) -> Optional[List[int]]:
-        """What the inputs of a transaction spend, also of transactions that no block has yet; None where one of them
-        spends an unknown output."""
-        values = []
-        for spends in tx.inputs:
-            before = made.get(spends.id) or self.bench.transaction(spends.id)
-            if before is None or spends.index >= len(before.outputs):
-                return None
-            values.append(before.outputs[spends.index].value)
-        return values
+    def spent(self, transactions: Sequence[Transaction]) -> Dict[Tuple[bytes, int], Output]:
+        """What transactions spend, by outpoint, of one another and of kept blocks; those that aren't known aren't there.
+        Each block and each transaction is read once."""
+        wanted: Dict[bytes, List[int]] = {}
+        for tx in transactions:
+            for spends in tx.inputs:
+                wanted.setdefault(spends.id, []).append(spends.index)
+        found = {}
+        for id, tx in self._makers(wanted, transactions):
+            for index in wanted[id]:
+                if index < len(tx.outputs):
+                    found[id, index] = tx.outputs[index]
+        return found
+
+    def _makers(
+        self, wanted: Iterable[bytes], transactions: Sequence[Transaction]
+    ) -> Iterator[Tuple[bytes, Transaction]]:
+        """Those that are wanted of some transactions and of kept blocks, one block after the other."""
+        made = {tx.id: tx for tx in transactions}
+        yield from ((id, made[id]) for id in wanted if id in made)
+        places = self.bench.index.transactions
+        block, data = b"", b""
+        for id in sorted((id for id in wanted if id not in made and id in places), key=places.__getitem__):
+            its, begin, end = places[id]
+            if its != block:
+                block, data = its, self.data(its)
+            yield id, read_transaction(data[begin:end])
 
 
 # ---- the table of calls
 
 
 class Call(NamedTuple):
-    """A call: the names of its parameters, each with its other names after `|`, and how many have to be there."""
+    """A call: the names of its parameters, each with its other names after `|`, how many have to be there, and the types
+    of those that Bitcoin Core tests before all else, null not allowed."""
 
     name: str
     group: str
     names: Tuple[str, ...]
     needed: int
+    types: Tuple[str, ...]
     about: str
     run: Callable[..., Any]
 
@@ -163,20 +200,22 @@ class Call(NamedTuple):
     def arguments(self, params: Any) -> List[Any]:
         """The parameters in their order; one that isn't given is None."""
         found: List[Any] = list(params) if isinstance(params, list) else self._in_order(params)
-        while len(found) > self.needed and found[-1] is None:
-            found.pop()
         if not self.needed <= len(found) <= len(self.names):
             raise RpcError(MISC_ERROR, f"{self.usage}\n\n{self.about}\n")
+        for value, kind in zip(found, self.types):
+            expect(value, kind)
         return found + [None] * (len(self.names) - len(found))
 
     def _in_order(self, params: Dict[str, Any]) -> List[Any]:
-        places = {name: place for place, names in enumerate(self.names) for name in names.split("|")}
-        found: Dict[int, Any] = {}
-        for name, value in params.items():
-            if name not in places:
-                raise RpcError(INVALID_PARAMETER, f"Unknown named parameter {name[:100]}")
-            found.setdefault(places[name], value)
-        return [found.get(place) for place in range(max(found, default=-1) + 1)]
+        left, found, count = dict(params), [], 0
+        for names in self.names:
+            # The first of its names; another one is left over.
+            name = next((name for name in names.split("|") if name in left), None)
+            found.append(None if name is None else left.pop(name))
+            count = count if name is None else len(found)
+        if left:
+            raise RpcError(INVALID_PARAMETER, f"Unknown named parameter {min(left)[:100]}")
+        return found[:count]
 
 
 CALLS: Dict[str, Call] = {}
@@ -184,11 +223,11 @@ CALLS: Dict[str, Call] = {}
 Run = Callable[..., Any]
 
 
-def call(group: str, *names: str, needed: int = 0) -> Callable[[Run], Run]:
+def call(group: str, *names: str, needed: int = 0, types: Tuple[str, ...] = ()) -> Callable[[Run], Run]:
     """Puts a function into the table under its name. It takes the node, and its parameters by place."""
 
     def put(run: Run) -> Run:
-        CALLS[run.__name__] = Call(run.__name__, group, names, needed, (run.__doc__ or "").strip(), run)
+        CALLS[run.__name__] = Call(run.__name__, group, names, needed, types, (run.__doc__ or "").strip(), run)
         return run
 
     return put

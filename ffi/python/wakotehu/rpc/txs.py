@@ -1,19 +1,25 @@
 """Calls that show transactions and scripts."""
 
-from typing import Any, Optional
+from typing import Any, Dict, Optional, Tuple
 
 from ..chainstate import show
-from ..encoding import EncodingError, Transaction, hash160, read_block, read_transaction, write_transaction
+from ..encoding import (
+    GENESIS, EncodingError, Output, Transaction, hash160, read_block, read_transaction, write_transaction,
+)  # fmt: skip
 from .errors import DESERIALIZATION_ERROR, INVALID_ADDRESS_OR_KEY, INVALID_PARAMETER, RpcError
 from .node import Node, call
 from .scripts import SCRIPT_PREFIX, address, asm, kind_of, shown
-from .values import Amount, Object, boolean, digits, hexadecimal, integer, text
+from .values import Amount, Object, boolean, digits, hexadecimal, integer, is_number
 
 GROUP = "Rawtransactions"
+#: A transaction, or a script, of more bytes can't be in a block.
+MAX_SIZE = 1_000_000
 
 
-def transaction_fields(node: Optional[Node], tx: Transaction, fee: bool = False, with_hex: bool = True) -> Object:
-    """A transaction as calls show it; with the fee where the node is given and knows what is spent."""
+def transaction_fields(
+    tx: Transaction, spent: Optional[Dict[Tuple[bytes, int], Output]] = None, with_hex: bool = True
+) -> Object:
+    """A transaction as calls show it; with the fee where what it spends is given."""
     data = write_transaction(tx)
     fields: Object = {
         "txid": show(tx.id),
@@ -28,10 +34,9 @@ def transaction_fields(node: Optional[Node], tx: Transaction, fee: bool = False,
             {"value": Amount(out.value), "n": n, "scriptPubKey": shown(out.script)} for n, out in enumerate(tx.outputs)
         ],
     }
-    if fee and node and not tx.is_coinbase:
-        spent = node.input_values(tx, {})
-        if spent is not None:
-            fields["fee"] = Amount(sum(spent) - sum(out.value for out in tx.outputs))
+    if spent is not None and not tx.is_coinbase and all((it.id, it.index) in spent for it in tx.inputs):
+        value = sum(spent[it.id, it.index].value for it in tx.inputs)
+        fields["fee"] = Amount(value - sum(out.value for out in tx.outputs))
     if with_hex:
         fields["hex"] = data.hex()
     return fields
@@ -54,8 +59,10 @@ def getrawtransaction(node: Node, txid: Any, verbose: Any, blockhash: Any) -> An
     """A transaction of a kept block, as digits or shown. There is no index of transactions and no mempool, so the block
     has to be named."""
     id = digits(txid, "parameter 1")
-    number = isinstance(verbose, (int, float)) and not isinstance(verbose, bool)
-    level = 0 if verbose is None else integer(verbose) if number else int(boolean(verbose))
+    if id == GENESIS.root:
+        message = "The genesis block coinbase is not considered an ordinary transaction and cannot be retrieved"
+        raise RpcError(INVALID_ADDRESS_OR_KEY, message)
+    level = 0 if verbose is None else integer(verbose) if is_number(verbose) else int(boolean(verbose))
     if blockhash is None:
         raise RpcError(
             INVALID_ADDRESS_OR_KEY,
@@ -72,44 +79,46 @@ def getrawtransaction(node: Node, txid: Any, verbose: Any, blockhash: Any) -> An
     if not level:
         return write_transaction(tx).hex()
     active = node.bench.index.is_active(kept.id)
+    moments: Object = {"time": kept.header.time, "blocktime": kept.header.time} if active else {}
     return {
         "in_active_chain": active,
-        **transaction_fields(node, tx),
+        **transaction_fields(tx),
         "blockhash": show(kept.id),
         "confirmations": node.tip().height - kept.height + 1 if active else 0,
-        "time": kept.header.time,
-        "blocktime": kept.header.time,
+        **moments,
     }
 
 
-
-
-@call(GROUP, "hexstring", "iswitness", needed=1)
+@call(GROUP, "hexstring", "iswitness", needed=1, types=("string", "bool"))
 def decoderawtransaction(node: Node, hexstring: Any, iswitness: Any) -> Object:
-    """A transaction of these digits, shown."""
-    return transaction_fields(node, raw_transaction(hexstring, "TX decode failed"), with_hex=False)
+    """A transaction of these digits, shown. Where iswitness is true, one that begins as those with witnesses do isn't one."""
+    with node.others():
+        return transaction_fields(raw_transaction(hexstring, "TX decode failed", iswitness is True), with_hex=False)
 
 
-def raw_transaction(hexstring: Any, fault: str) -> Transaction:
-    """The transaction of these digits; it has an input."""
+def raw_transaction(hexstring: Any, fault: str, with_witness: bool) -> Transaction:
+    """The transaction of these digits, which is no larger than a block. Outputs without an input are the mark of a
+    witness."""
     try:
-        tx = read_transaction(hexadecimal(hexstring, fault))
+        tx = read_transaction(hexadecimal(hexstring, fault, MAX_SIZE))
     except EncodingError:
         raise RpcError(DESERIALIZATION_ERROR, fault)
-    if not tx.inputs:
+    if with_witness and tx.outputs and not tx.inputs:
         raise RpcError(DESERIALIZATION_ERROR, fault)
     return tx
 
 
-@call(GROUP, "hexstring", needed=1)
+@call(GROUP, "hexstring", needed=1, types=("string",))
 def decodescript(node: Node, hexstring: Any) -> Object:
     """A script of these digits, shown, with the address of its hash."""
-    given = text(hexstring)
+    if len(hexstring) > 2 * MAX_SIZE:
+        raise RpcError(INVALID_PARAMETER, f"argument has more than {MAX_SIZE} bytes, as no block has a script")
     try:
-        script = hexadecimal(given, "")
+        script = hexadecimal(hexstring, "", MAX_SIZE)
     except RpcError:
-        raise RpcError(INVALID_PARAMETER, f"argument must be hexadecimal string (not '{given[:100]}')")
-    found = shown(script, with_hex=False)
-    if kind_of(script)[0] != "scripthash":
-        found["p2sh"] = address(SCRIPT_PREFIX, hash160(script))
-    return found
+        raise RpcError(INVALID_PARAMETER, f"argument must be hexadecimal string (not '{hexstring[:100]}')")
+    with node.others():
+        found = shown(script, with_hex=False)
+        if kind_of(script)[0] != "scripthash":
+            found["p2sh"] = address(SCRIPT_PREFIX, hash160(script))
+        return found

@@ -1,0 +1,163 @@
+"""What a block breaks that stands on the active one and isn't submitted: the rules of docs/RULES.md in their order, over
+the coins of the active branch. The rules themselves are the proved ones of `consensus`."""
+
+from typing import Dict, Iterator, List, NamedTuple, Optional, Set, Tuple, Union
+
+from .. import consensus
+from ..bench import Bench
+from ..chainstate import Coin
+from ..consensus import Triple
+from ..encoding import Spelled, Transaction, block_at_front, subsidy
+from ..index import Kept
+from ..pool import Pool
+from ..signatures import Verifier
+from .node import Node
+
+#: A block's scripts have no more signature operations, and a coinbase's coins may be spent so many blocks above it.
+MAX_SIGOPS, MATURITY = 20_000, 100
+
+Outpoint = Tuple[bytes, int]
+
+
+class _Turn(NamedTuple):
+    """A transaction with its bytes, and the coins that it spends, one for each input."""
+
+    tx: Transaction
+    data: bytes
+    spent: List[Coin]
+
+
+def fault(node: Node, block: bytes) -> str:
+    """The first rule that a block on the active one breaks, in the words of a submission's reply; "" for none."""
+    tip = node.tip()
+    place = consensus.block_place(block, tip.height + 1, tip.median, node.now(), node.bench.heights)
+    found = consensus.block(block).reason or place
+    return found or _Trial(node, tip, block_at_front(block)).fault()
+
+
+class _Trial:
+    def __init__(self, node: Node, tip: Kept, block: Spelled) -> None:
+        self.node, self.tip, self.block = node, tip, block
+        self.height = tip.height + 1
+        #: The coins that the block's transactions made so far, and the outpoints of those that they spent.
+        self.made: Dict[Outpoint, Coin] = {}
+        self.gone: Set[Outpoint] = set()
+        #: The signature operations so far, and the fees.
+        self.sigops = self.fees = 0
+
+    def fault(self) -> str:
+        txs = [self.block.transaction(place) for place in range(len(self.block.ids))]
+        if any(self._overwrites(id, tx) for id, tx in zip(self.block.ids, txs)):
+            return "bad-txns-BIP30"
+        turns = []
+        for place, tx in enumerate(txs):
+            begin, end = self.block.places[place]
+            turn = _Turn(tx, self.block.data[begin:end], [])
+            found = self._turn(turn, self.block.ids[place])
+            if found:
+                return found
+            turns.append(turn)
+        if sum(out.value for out in txs[0].outputs) > subsidy(self.height) + self.fees:
+            return "bad-cb-amount"
+        return self._script_fault(turns)
+
+    def _turn(self, turn: _Turn, id: bytes) -> str:
+        """The first rule that a transaction breaks in its turn; what it spends is gone then, and its coins are made."""
+        tx, spent = turn.tx, turn.spent
+        self.sigops += consensus.transaction(turn.data).sigops
+        if self.sigops > MAX_SIGOPS:
+            return "bad-blk-sigops"
+        for spends in () if tx.is_coinbase else tx.inputs:
+            coin = self._coin((spends.id, spends.index))
+            if coin is None:
+                return "bad-txns-inputs-missingorspent"
+            spent.append(coin)
+        if any(coin.coinbase and self.height < coin.height + MATURITY for coin in spent):
+            return "bad-txns-premature-spend-of-coinbase"
+        fee = sum(coin.value for coin in spent) - sum(out.value for out in tx.outputs)
+        if fee < 0 and not tx.is_coinbase:
+            return "bad-txns-in-belowout"
+        if self._is_locked(turn):
+            return "bad-txns-nonfinal"
+        self.sigops += sum(consensus.p2sh_sigops(it.script, coin.script) for it, coin in zip(tx.inputs, spent))
+        if self.sigops > MAX_SIGOPS:
+            return "bad-blk-sigops"
+        if self._overwrites(id, tx):
+            return "bad-txns-BIP30"
+        self.fees += 0 if tx.is_coinbase else fee
+        self.gone.update((spends.id, spends.index) for spends in tx.inputs)
+        self.made.update(self._coins_of(id, tx))
+        return ""
+
+    # ---- coins
+
+    def _coin(self, place: Outpoint) -> Optional[Coin]:
+        """A coin as the transactions so far left it."""
+        if place in self.made or place in self.gone:
+            return None if place in self.gone else self.made[place]
+        found = self.node.bench.unspent(*place)
+        return found and found.coin
+
+    def _coins_of(self, id: bytes, tx: Transaction) -> Iterator[Tuple[Outpoint, Coin]]:
+        for place, out in enumerate(tx.outputs):
+            if not consensus.script(out.script).unspendable:
+                yield (id, place), Coin(out.value, out.script, self.height, tx.is_coinbase)
+
+    def _overwrites(self, id: bytes, tx: Transaction) -> bool:
+        """BIP 30: an output is a coin already. Only a transaction that a block has can have made it."""
+        known = id in self.node.bench.index.transactions or (id, 0) in self.made
+        return known and any(self._coin((id, place)) is not None for place in range(len(tx.outputs)))
+
+    # ---- locks and scripts
+
+    def _in_force(self, fork: int) -> bool:
+        return self.height >= self.node.bench.heights[fork]
+
+    def _is_locked(self, turn: _Turn) -> bool:
+        """BIP 68: a relative lock counts from the coin's block, and by time from the block below that."""
+        if turn.tx.is_coinbase or not self._in_force(3):
+            return False
+        starts = [(coin.height, self._median(max(coin.height - 1, 0))) for coin in turn.spent]
+        return not consensus.locks_met(turn.data, starts, self.height, self.tip.median)
+
+    def _median(self, height: int) -> int:
+        index = self.node.bench.index
+        return index.blocks[index.active[height]].median
+
+    def _script_fault(self, turns: List[_Turn]) -> str:
+        forks = (("CLTV", 1), ("DERSIG", 2), ("CSV", 3))
+        flags = [name for name, fork in forks if self._in_force(fork)]
+        signatures = _Signatures(self.node.bench)
+        for place, turn in enumerate(turns):
+            for number, coin in enumerate(turn.spent):
+                if not signatures.accept(turn.data, number, coin.script, flags):
+                    return f"blk-bad-inputs {place}:{number}"
+        return ""
+
+
+class _Signatures:
+    """Which signatures are valid, as the bench has it."""
+
+    def __init__(self, bench: Union[Bench, Pool]) -> None:
+        self._bench = bench
+        self._verifier: Optional[Verifier] = None
+        self._table: Optional[Set[Triple]] = None
+
+    def accept(self, data: bytes, number: int, script: bytes, flags: List[str]) -> bool:
+        """Whether an input of a transaction may spend a script."""
+        known = {True: b"", False: b""}
+        while True:
+            found = consensus.verify_known(data, number, script, flags, known[True], known[False])
+            if isinstance(found, bool):
+                return found
+            known[self._is_valid(found)] += found.line
+
+    def _is_valid(self, triple: Triple) -> bool:
+        if isinstance(self._bench, Bench):
+            self._verifier = self._verifier or Verifier(1)
+            if self._verifier.verdicts([triple.line.rstrip()])[0]:
+                return True
+        if self._table is None:
+            lines = [line for line in self._bench.table.splitlines() if line.strip() and line.split()[0][:1] != b"#"]
+            self._table = set(Triple.of_lines(lines))
+        return triple in self._table
