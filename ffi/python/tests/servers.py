@@ -48,14 +48,15 @@ class Running:
                 connection.shutdown(socket.SHUT_WR)
             return b"".join(iter(lambda: connection.recv(65536), b""))
 
-    def posted(self, body, **headers):
+    def posted(self, body, path="/", **headers):
         """The status and the body of an answer to a request's body. A header of None isn't sent."""
         if not isinstance(body, bytes):
             body = json.dumps(body).encode()
-        named = {"Host": "127.0.0.1", "Authorization": AUTHORIZATION, "Content-Length": str(len(body))}
+        named = {"Host": "127.0.0.1", "Authorization": AUTHORIZATION, "Content-Length": str(len(body)),
+                 "Connection": "close"}  # fmt: skip
         named.update({name.replace("_", "-"): value for name, value in headers.items()})
         lines = "".join(f"{name}: {value}\r\n" for name, value in named.items() if value is not None)
-        answer = self.raw(f"POST / HTTP/1.1\r\n{lines}\r\n".encode() + body)
+        answer = self.raw(f"POST {path} HTTP/1.1\r\n{lines}\r\n".encode() + body, close=False)
         head, _, rest = answer.partition(b"\r\n\r\n")
         return int(head.split()[1]), rest
 

@@ -14,7 +14,8 @@ import unittest
 from unittest import mock
 
 from servers import AUTHORIZATION, Running
-from wakotehu.rpc import http
+from wakotehu.encoding import GENESIS_BLOCK
+from wakotehu.rpc import http, txs
 from wakotehu.rpc.auth import Gate, write_cookie
 
 COUNT = b'{"id": 1, "method": "getblockcount"}'
@@ -58,12 +59,78 @@ class LetInTest(unittest.TestCase):
             with self.subTest(name):
                 found, body = self.running.posted(COUNT, **{key.replace("-", "_"): it for key, it in headers.items()})
                 self.assertEqual(found, status)
-                self.assertEqual(bool(body), status == 200)
+                # As bitcoind's library of HTTP, that says what it doesn't read on a page.
+                self.assertEqual(bool(body), status in (200, 400, 413))
+
+    def test_hosts_that_are_none(self):
+        for host in (
+            "127.0.0.1:80@evil.example", "127.0.0.1@evil.example", "evil.example@127.0.0.1", "localhost:x", "localhost:80:80",
+            "[::1", "[::1]x", "::1", "[::1]:80@evil.example", "127.0.0.1:123456", "localhost/", "", ":80", "localhost, evil",
+        ):  # fmt: skip
+            with self.subTest(host):
+                self.assertEqual(self.running.posted(COUNT, Host=host)[0], 403)
+        for host in ("localhost:", "LOCALHOST:1", "127.0.0.1:65535", "[::1]", "[::1]:8"):
+            with self.subTest(host):
+                self.assertEqual(self.running.posted(COUNT, Host=host)[0], 200)
 
     def test_methods_and_paths(self):
-        for method, path, status in (("GET", "/", b"405"), ("OPTIONS", "/", b"405"), ("POST", "/x", b"404")):
-            head = f"{method} {path} HTTP/1.1\r\nHost: localhost\r\nAuthorization: {AUTHORIZATION}\r\n\r\n".encode()
-            self.assertEqual(self.running.raw(head).split()[1], status)
+        """Statuses and texts are litecoind's."""
+        only = b"JSONRPC server handles only POST requests"
+        table = [
+            ("GET", "/", 405, only), ("PUT", "/", 405, only), ("HEAD", "/", 405, b""), ("DELETE", "/", 405, b""),
+            ("OPTIONS", "/", 501, None), ("PATCH", "/", 501, None), ("TRACE", "/", 501, None), ("FOO", "/", 501, None),
+            ("post", "/", 501, None), ("OPTIONS", "/x", 501, None), ("DELETE", "/x", 405, b""), ("GET", "//", 404, b""),
+            ("POST", "/x", 404, b""), ("POST", "//", 404, b""), ("POST", "/rest/chaininfo.json", 404, b""),
+            ("GET", "/rest/chaininfo.json", 404, b""), ("POST", "/wallet", 404, b""), ("POST", "/?a=b", 404, b""),
+            ("POST", "http://127.0.0.1/", 404, b""), ("POST", "*", 404, b""), ("GET", "/wallet/x", 405, only),
+        ]  # fmt: skip
+        for method, path, status, text in table:
+            with self.subTest(method=method, path=path):
+                head = f"{method} {path} HTTP/1.1\r\nHost: localhost\r\nAuthorization: {AUTHORIZATION}\r\n\r\n".encode()
+                head, _, body = self.running.raw(head).partition(b"\r\n\r\n")
+                self.assertEqual(int(head.split()[1]), status)
+                if text is not None:
+                    self.assertEqual(body, text)
+
+    def test_wallets_have_paths(self):
+        """Clients that set a wallet's path are answered as at bitcoind, which has calls of the node there too."""
+        for path in ("/wallet/", "/wallet/name", "/wallet/a/b", "/wallet/%20"):
+            with self.subTest(path):
+                self.assertEqual(self.running.posted(COUNT, path=path), (200, b'{"result":0,"error":null,"id":1}\n'))
+                self.assertEqual(self.running.posted(COUNT, path=path, Authorization=None)[0], 401)
+                self.assertEqual(self.running.posted(COUNT, path=path, Origin="x")[0], 403)
+
+    def test_heads(self):
+        """Statuses are litecoind's, but for those of two spaces (404 there), of a carriage return within a line (200) and
+        of another version than 1."""
+        fields = f"Host: localhost\r\nAuthorization: {AUTHORIZATION}\r\nContent-Length: {len(COUNT)}\r\n".encode()
+        first = b"POST / HTTP/1.1"
+        room = 8192 - len(first) - len(fields.replace(b"\r\n", b""))
+        table = [
+            (first, b"", 200), (b"POST / HTTP/1.0", b"", 200), (b"POST / HTTP/1.2", b"", 200), (b"POST / HTTP/2.0", b"", 400),
+            (b"POST / HTTP/0.9", b"", 400), (b"POST /", b"", 400), (b"POST", b"", 400), (b"", b"", 400), (b"xx", b"", 400),
+            (b"GET /", b"", 400), (b"POST / HTTP/1.1 x", b"", 400), (b"POST / http/1.1", b"", 400),
+            (b"POST / FOO/1.1", b"", 400), (b"POST / HTTP/1", b"", 400), (b"POST / HTTP/11", b"", 400),
+            (b"POST  / HTTP/1.1", b"", 400), (b"\x16\x03\x01\x02\x00\x01", b"", 400), (b"PRI * HTTP/2.0", b"", 400),
+            (b"POST /" + b"a" * 9000 + b" HTTP/1.1", b"", 400), (first, b"X: " + b"a" * (room - 3) + b"\r\n", 200),
+            (first, b"X: " + b"a" * (room - 2) + b"\r\n", 400), (first, b"X: " + b"a" * 60000 + b"\r\n", 400),
+            (first, b"X: a\r\n" * 90, 200), (first, b"X: a\r\n" * 2100, 400), (first, b"\r\r\n" * 9000, 400),
+            (first, b"X: a\r\n b\r\n", 200), (first, b"X\r\n", 400), (first, b"X: a\rOrigin: b\r\n", 400),
+        ]  # fmt: skip
+        for line, more, status in table:
+            with self.subTest(line=line[:30], more=more[:30]):
+                answer = self.running.raw(line + b"\r\n" + fields + more + b"\r\n" + COUNT)
+                self.assertEqual(answer.split(None, 2)[:2], [b"HTTP/1.1", b"%d" % status])
+
+    def test_a_connection_is_kept(self):
+        fields = f"Host: localhost\r\nAuthorization: {AUTHORIZATION}\r\nContent-Length: {len(COUNT)}\r\n".encode()
+        for line, more, kept in (
+            (b"POST / HTTP/1.1", b"", True), (b"POST / HTTP/1.1", b"Connection: close\r\n", False),
+            (b"POST / HTTP/1.0", b"", False), (b"POST / HTTP/1.0", b"Connection: keep-alive\r\n", True),
+        ):  # fmt: skip
+            with self.subTest(line=line, more=more):
+                twice = self.running.raw(2 * (line + b"\r\n" + fields + more + b"\r\n" + COUNT))
+                self.assertEqual(twice.count(b'"result":0'), 1 + kept)
 
     def test_the_body_is_asked_for_after_the_password(self):
         for authorization, status in (("Basic eDp4", b"401"), (AUTHORIZATION, b"100")):
@@ -79,7 +146,7 @@ class LetInTest(unittest.TestCase):
         hostile = [
             (b"", 500, -32700), (b"\xff", 500, -32700), (b"[" * 100000, 500, -32700), (b"[" * 400 + b"]" * 400, 200, None),
             (b'{"a":' * 100000 + b"1" + b"}" * 100000, 500, -32700), (b"1" * 100000, 500, -32700),
-            (b'{"method": "getblockhash", "params": [' + b"1" * 100000 + b"]}", 500, -32700),
+            (b'{"method": "getblockhash", "params": [' + b"1" * 100000 + b"]}", 500, -1),
             (b'{"method": "getblockhash", "params": [NaN]}', 500, -32700), (b"null", 500, -32700),
             (b'{"method": "getblockhash", "params": 5}', 400, -32600), (b'{"method": null}', 400, -32600),
             (b'{"method": "getblockhash", "params": {"self": 1}}', 500, -8),
@@ -106,7 +173,10 @@ class LetInTest(unittest.TestCase):
     def test_mocktime_of_more_than_32_bits(self):
         try:
             self.assertIsNone(self.running.call("setmocktime", 2**32))
-            self.assertEqual(self.running.call("generateblock", "raw(51)", [])["code"], -25)
+            # Cut to 32 bits; the text is litecoind's.
+            told = "CreateNewBlock: TestBlockValidity failed: time-too-old, block's timestamp is too early"
+            for words in (["generateblock", "raw(51)", []], ["generatetodescriptor", 1, "raw(51)"]):
+                self.assertEqual(self.running.call(*words), {"code": -1, "message": told})
             self.assertEqual(self.running.call("getblockcount"), 0)
         finally:
             self.running.call("setmocktime", 0)
@@ -160,6 +230,48 @@ class HeldUpTest(unittest.TestCase):
             head = f"POST / HTTP/1.1\r\nHost: [::1]\r\nAuthorization: {AUTHORIZATION}\r\nContent-Length: {len(COUNT)}\r\n"
             connection.sendall(head.encode() + b"\r\n" + COUNT)
             self.assertEqual(connection.recv(65536).split()[1], b"200")
+
+    def test_a_wait_ends_with_its_client(self):
+        """A connection that is closed gives its place back, and its seat."""
+        running = self.start()
+        self.addCleanup(running.stop)
+        before = threading.active_count()
+        words = (
+            ("waitforblock", "11" * 32), ("waitforblockheight", 9), ("waitforblockheight", 9, 600000), ("waitfornewblock",),
+        )  # fmt: skip
+        waiting = []
+        for number in range(http.MAX_CONNECTIONS):
+            method, *params = words[number % len(words)]
+            body = json.dumps({"method": method, "params": params}).encode()
+            head = f"POST / HTTP/1.1\r\nHost: localhost\r\nAuthorization: {AUTHORIZATION}\r\nContent-Length: {len(body)}"
+            waiting.append(socket.create_connection(("127.0.0.1", running.port), 5))
+            waiting[-1].sendall(head.encode() + b"\r\n\r\n" + body)
+        self.wait_until(lambda: threading.active_count() >= before + http.MAX_CONNECTIONS)
+        for connection in waiting:
+            connection.close()
+        self.wait_until(lambda: threading.active_count() <= before)
+        self.assertEqual(running.call("getblockcount"), 0)
+
+    def wait_until(self, holds):
+        for _ in range(300):
+            if holds():
+                return
+            time.sleep(0.1)
+        self.fail("it didn't come")
+
+    def test_scripts_and_transactions_hold_no_one_up(self):
+        """Those of more than a block are refused; within one, others are answered meanwhile."""
+        running = self.start()
+        self.addCleanup(running.stop)
+        for method, code in (("decodescript", -8), ("decoderawtransaction", -22)):
+            error = running.call(method, "51" * 5_000_000)
+            self.assertEqual(error["code"], code)
+            self.assertIn("1000000 bytes", error["message"])
+        with mock.patch.object(txs, "shown", side_effect=lambda *words, **more: (running.call("getblockcount"), {})[1]):
+            self.assertIn("p2sh", running.call("decodescript", "51"))
+        with mock.patch.object(txs, "transaction_fields", side_effect=lambda *words, **more: running.call("getblockcount")):
+            self.assertEqual(running.call("decoderawtransaction", GENESIS_BLOCK[81:].hex()), 0)
+        self.assertEqual(len(running.call("decodescript", "51" * 1_000_000)["asm"]), 1_999_999)
 
     def test_a_fault_of_ours_is_answered(self):
         running = self.start()

@@ -6,12 +6,13 @@ the seats of a `Node`, where a table has the valid signatures.
 """
 
 import argparse
+import ctypes
 import os
 import signal
 import sys
 import threading
 import time
-from typing import Any, Callable, Dict, List, Optional, Sequence, Tuple, Union
+from typing import Callable, Dict, List, Optional, Sequence, Tuple, Union
 
 from .bench import Bench
 from .chainstate import REGTEST
@@ -27,6 +28,8 @@ from .version import __version__
 
 #: The modules that put calls into the table.
 MODULES = (blockchain, control, mining, stats, txs)
+#: M_MMAP_THRESHOLD of glibc's malloc.h.
+_MMAP_THRESHOLD = -3
 #: Names of soft forks for -testactivationheight, by their places in the heights; csv has BIPs 68, 112 and 113.
 FORKS = {"bip34": 0, "cltv": 1, "bip65": 1, "dersig": 2, "bip66": 2, "csv": 3}
 
@@ -37,7 +40,8 @@ def serve(
 ) -> None:  # fmt: skip
     """Serves until `stop` is called. Port 0 is any that is free."""
 
-    def answered(body: bytes) -> Tuple[int, bytes]:
+    def answered(body: bytes, is_gone: Callable[[], bool]) -> Tuple[int, bytes]:
+        node.called_by(is_gone)
         return answer(lambda method, params: run(node, method, params), body)
 
     servers: List[Server] = []
@@ -201,10 +205,20 @@ def _replay(folder: Folder, bench: Union[Bench, Pool]) -> int:
         return steps
 
 
+def _give_memory_back() -> None:
+    """Has the allocator of C give large pieces back to the system as they are freed. By itself it keeps what one of 32 MB,
+    as a request's body may be, was in, for each thread."""
+    try:
+        ctypes.CDLL(None).mallopt(_MMAP_THRESHOLD, 1 << 20)
+    except AttributeError:
+        pass  # Another library of C.
+
+
 def main(words: Optional[Sequence[str]] = None) -> None:
     """The command."""
     given = _given(sys.argv[1:] if words is None else words)
     cookie = None
+    _give_memory_back()
     signal.signal(signal.SIGTERM, signal.default_int_handler)
     try:
         folder = Folder(given.datadir, given.fsync) if given.datadir else None

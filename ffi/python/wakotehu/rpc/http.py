@@ -1,6 +1,8 @@
 """HTTP on the loopback: a thread for each connection, with bounds on time, size and number."""
 
 import io
+import re
+import select
 import socket
 import socketserver
 import threading
@@ -8,7 +10,7 @@ import time
 from collections import OrderedDict
 from http import HTTPStatus
 from http.server import BaseHTTPRequestHandler
-from typing import Any, Callable, Optional, Set, Tuple
+from typing import Any, Callable, List, Optional, Set, Tuple
 
 from .auth import Gate
 
@@ -16,12 +18,23 @@ from .auth import Gate
 MAX_CONNECTIONS = 64
 #: How many seconds a request may take to come, and an answer to be taken.
 TIMEOUT = 30.0
+#: How many bytes the lines of a request's head may have together, as at bitcoind.
+MAX_HEAD = 8192
 #: How many bytes the body of a request may have.
 MAX_BODY = 32 * 1024 * 1024
 #: How long a wrong password waits for its answer, in seconds, as in Bitcoin Core.
 WRONG_PASSWORD_WAIT = 0.25
 
 LOOPBACK = ("127.0.0.1", "localhost", "::1")
+#: The methods that bitcoind knows; it answers all but POST by 405, and others by 501.
+METHODS = ("GET", "POST", "HEAD", "PUT", "DELETE")
+_FIRST = re.compile(rb"([!-~]+) ([!-~\x80-\xff]+) HTTP/1\.[0-9]\r?\n")
+#: A header, or a line that goes on with it.
+_FIELD = re.compile(rb"(?:[^:\r\n]+:|[ \t])[^\r\n]*\r?\n")
+_HOST = re.compile(r"(?:\[([0-9a-f:.]+)\]|([a-z0-9.-]+))(?::[0-9]{0,5})?")
+
+#: Answers a request's body by an HTTP status and a body; asks whether the client is gone.
+Answers = Callable[[bytes, Callable[[], bool]], Tuple[int, bytes]]
 
 
 class _Timed(io.RawIOBase):
@@ -56,81 +69,134 @@ class Handler(BaseHTTPRequestHandler):
 
     def handle_one_request(self) -> None:
         self.timed.until = time.monotonic() + TIMEOUT
+        self.close_connection, self.command, self.request_version = True, "", ""
         try:
-            super().handle_one_request()
+            lines = self._head()
+            if lines:
+                self._request(lines)
         except (OSError, ValueError):
             self.close_connection = True
 
+    def _head(self) -> List[bytes]:
+        """The lines of a request's head, the empty one at its end among them. None where the client is gone, or was
+        told that they are too long."""
+        lines: List[bytes] = []
+        left = MAX_HEAD
+        while left >= 0:
+            lines.append(self.rfile.readline(left + 3))
+            left -= max(1, len(lines[-1].rstrip(b"\r\n")))
+            if left >= 0 and not lines[-1].endswith(b"\n"):
+                return []
+            if lines[-1] in (b"\r\n", b"\n"):
+                return lines
+        self.send_error(400)
+        return []
+
+    def _request(self, lines: List[bytes]) -> None:
+        first = _FIRST.fullmatch(lines[0])
+        if first is None or not all(map(_FIELD.fullmatch, lines[1:-1])):
+            return self.send_error(400)
+        if first[1].decode() not in METHODS:
+            return self.send_error(501)
+        self.raw_requestline, whole = lines[0], self.rfile
+        self.rfile = io.BytesIO(b"".join(lines[1:]))
+        try:
+            read = self.parse_request()
+        finally:
+            self.rfile = whole
+        if read:
+            # As it was sent: `parse_request` makes one slash of several.
+            self.path = first[2].decode("latin-1")
+            self._post()
+
+    def send_error(self, code: int, message: Optional[str] = None, explain: Optional[str] = None) -> None:
+        """What isn't HTTP as bitcoind reads it has a page as of its library; it is the connection's end."""
+        code = code if code in (413, 501) else 400
+        phrase = HTTPStatus(code).phrase
+        page = f"<HTML><HEAD>\n<TITLE>{code} {phrase}</TITLE>\n</HEAD><BODY>\n<H1>{phrase}</H1>\n</BODY></HTML>\n"
+        self._answer(code, page.encode(), last=True, kind="text/html")
+
     def handle_expect_100(self) -> bool:
-        """The body is asked for in `do_POST`, after the password."""
+        """The body is asked for in `_post`, after the password."""
         return True
 
-    def do_POST(self) -> None:
+    def _post(self) -> None:
         refused = self._refusal()
         if refused is not None:
             self._answer(*refused, last=True)
             return
+        length = self._length()
+        if length is None or length > MAX_BODY:
+            self.send_error(400 if length is None else 413)
+            return
         if self.headers.get("Expect", "").lower() == "100-continue":
             self.send_response_only(100)
             self.end_headers()
-        length = int(self.headers.get("Content-Length", "0"))
         body = self.rfile.read(length)
         if len(body) < length:
             self.close_connection = True
             return
         self.server.takes(self.connection)
-        status, reply = self.server.answer(body)
+        status, reply = self.server.answer(body, self._is_gone)
         self._answer(status, reply, last=self.server.stopping())
         self.server.waits(self.connection)
 
-    def _other(self) -> None:
-        self._answer(405, b"JSONRPC server handles only POST requests", last=True)
-
-    do_GET = do_HEAD = do_PUT = do_DELETE = do_OPTIONS = do_PATCH = _other
-
     def _refusal(self) -> Optional[Tuple[int, bytes]]:
-        """Why a request isn't looked at: first what a page in a browser can't hide, then the password."""
+        """Why a request isn't read: first what a page in a browser can't hide, then as bitcoind, then the password."""
         if self.headers.get("Origin") is not None or _host(self.headers.get_all("Host", [])) not in LOOPBACK:
             return 403, b""
-        if self.path != "/":
+        if self.command == "DELETE":
+            return 405, b""
+        if self.path != "/" and not self.path.startswith("/wallet/"):
             return 404, b""
+        if self.command != "POST":
+            return 405, b"JSONRPC server handles only POST requests"
         if not self.server.gate.lets_in(self.headers.get("Authorization")):
             if self.headers.get("Authorization") is not None:
                 time.sleep(WRONG_PASSWORD_WAIT)
             return 401, b""
-        if self.headers.get("Transfer-Encoding") is not None or len(self.headers.get_all("Content-Length", [])) > 1:
-            return 400, b""
-        length = self.headers.get("Content-Length", "0")
-        if not (length.isascii() and length.isdigit() and len(length) < 20):
-            return 400, b""
-        return (413, b"") if int(length) > MAX_BODY else None
+        return None
 
-    def _answer(self, status: int, body: bytes, last: bool = False) -> None:
+    def _length(self) -> Optional[int]:
+        """The length of the body; None where it isn't told as it has to be."""
+        given = self.headers.get_all("Content-Length", ["0"])
+        if self.headers.get("Transfer-Encoding") is not None or len(given) > 1:
+            return None
+        digits = given[0].strip()
+        return int(digits) if digits.isascii() and digits.isdigit() and len(digits) < 20 else None
+
+    def _is_gone(self) -> bool:
+        """Whether the client has closed the connection."""
+        watched = select.poll()
+        watched.register(self.connection, getattr(select, "POLLRDHUP", 0))
+        return bool(watched.poll(0))
+
+    def _answer(self, status: int, body: bytes, last: bool = False, kind: Optional[str] = None) -> None:
         self.connection.settimeout(TIMEOUT)
-        kind = "application/json" if status in (200, 400, 404, 500) else "text/plain"
+        if kind is None:
+            kind = "application/json" if body and status in (200, 400, 404, 500) else "text/plain"
         lines = [f"HTTP/1.1 {status} {HTTPStatus(status).phrase}", f"Content-Type: {kind}"]
         if status == 401:
             lines.append('WWW-Authenticate: Basic realm="jsonrpc"')
         if status != 204:
             lines.append(f"Content-Length: {len(body)}")
         if last:
-            lines.append("Connection: close")
             self.close_connection = True
+        if self.close_connection:
+            lines.append("Connection: close")
+        elif self.request_version == "HTTP/1.0":
+            lines.append("Connection: keep-alive")
         # In one piece, which is one packet where it is short.
-        self.wfile.write("\r\n".join([*lines, "", ""]).encode() + body)
+        self.wfile.write("\r\n".join([*lines, "", ""]).encode() + (b"" if self.command == "HEAD" else body))
 
     def log_message(self, format: str, *words: Any) -> None:
         """Nothing is logged."""
 
 
-def _host(names: Any) -> str:
+def _host(names: List[str]) -> str:
     """The name that a request was sent to, without its port; empty where there isn't one name."""
-    if len(names) != 1:
-        return ""
-    name = str(names[0]).strip().lower()
-    if name.startswith("["):
-        return name[1:].partition("]")[0]
-    return name.partition(":")[0]
+    found = _HOST.fullmatch(names[0].strip().lower()) if len(names) == 1 else None
+    return found[1] or found[2] if found else ""
 
 
 class Server(socketserver.TCPServer):
@@ -139,7 +205,7 @@ class Server(socketserver.TCPServer):
     allow_reuse_address = True
     request_queue_size = 128
 
-    def __init__(self, host: str, port: int, gate: Gate, answer: Callable[[bytes], Tuple[int, bytes]]) -> None:
+    def __init__(self, host: str, port: int, gate: Gate, answer: Answers) -> None:
         self.gate, self.answer = gate, answer
         self.stopping: Callable[[], bool] = lambda: False
         #: Called by a connection's thread as it ends.
