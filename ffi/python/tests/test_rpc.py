@@ -42,23 +42,59 @@ class FaultsTest(CallsTest):
     def test_faults_are_those_of_bitcoin_core(self):
         with open(os.path.join(HERE, "faults.json"), encoding="ascii") as file:
             rows = json.load(file)
-        self.assertGreater(len(rows), 70)
-        genesis = show(GENESIS.id)
+        self.assertGreater(len(rows), 180)
+        ids = {"GENESIS": show(GENESIS.id), "COINBASE": show(GENESIS.root)}
         for words, status, code, message in rows:
             with self.subTest(words=words):
-                name, *params = [genesis if word == "GENESIS" else word for word in words]
+                name, *params = [ids.get(word, word) if isinstance(word, str) else word for word in words]
                 found, body = self.running.posted({"method": name, "params": params})
                 error = json.loads(body)["error"]
                 self.assertEqual((found, error["code"], error["message"]), (status, code, message))
 
     def test_wrong_counts_of_parameters_are_told_by_the_usage(self):
-        for words in (["getblockhash"], ["getblockhash", 1, 2], ["uptime", 1], ["getblock"], ["gettxout", "00" * 32]):
+        """Null is a parameter too, as at Bitcoin Core."""
+        for words in (
+            ["getblockhash"], ["getblockhash", 1, 2], ["uptime", 1], ["getblock"], ["gettxout", "00" * 32],
+            ["getbestblockhash", None], ["getblockcount", None, None], ["getblockhash", 0, None], ["uptime", None],
+        ):  # fmt: skip
             error = self.call(*words)
             self.assertEqual(error["code"], -1)
             self.assertTrue(error["message"].startswith(words[0]))
 
 
 class RequestsTest(CallsTest):
+    def test_two_names_of_one_parameter(self):
+        """The text is litecoind's; of what is left over the first by the alphabet is named."""
+        genesis = show(GENESIS.id)
+        for named, left in (
+            ({"verbosity": 0, "verbose": 1}, "verbose"), ({"verbose": 0, "verbosity": 1}, "verbose"),
+            ({"x": 1, "b": 2, "verbose": 0}, "b"), ({"verbosity": None, "verbose": None}, "verbose"),
+        ):  # fmt: skip
+            with self.subTest(named):
+                error = self.call("getblock", blockhash=genesis, **named)
+                self.assertEqual(error, {"code": -8, "message": f"Unknown named parameter {left}"})
+        self.assertEqual(self.call("getblock", verbosity=0)["message"], "JSON value is not a string as expected")
+
+    def test_numbers_and_signs_of_requests(self):
+        """Ids come back as they were spelled; halves of a sign aren't read. As litecoind's answers."""
+        parse = b'{"result":null,"error":{"code":-32700,"message":"Parse error"},"id":null}\n'
+        for id in (b"1" * 5000, b"-" + b"9" * 30, b"1.50", b"1e400", b"-0.0", b'{"a":[1.0,null,true]}', b"[12345678901234567890123]"):
+            with self.subTest(id[:30]):
+                body = b'{"method": "getblockcount", "id": ' + id + b"}"
+                self.assertEqual(self.running.posted(body), (200, b'{"result":0,"error":null,"id":' + id + b"}\n"))
+        for id in (b"\\ud800", b"\\udc00", b"\\ud800\\ud800", b"\\uD83Dx", b"\\ude00\\ud83d", b"\\\\\\ud800"):
+            with self.subTest(id):
+                for body in (b'{"method": "getblockcount", "id": "%s"}', b'{"method": "%s"}', b'{"method": "x", "params": ["%s"]}'):
+                    self.assertEqual(self.running.posted(body % id), (500, parse))
+        for id, sign in ((b"\\ud83d\\ude00", "\U0001f600"), (b"\\uD83D\\uDE00", "\U0001f600"), (b"\\\\ud800", "\\ud800")):
+            status, body = self.running.posted(b'{"method": "getblockcount", "id": "%s"}' % id)
+            self.assertEqual((status, json.loads(body)["id"]), (200, sign))
+        for word in (b"1" * 5000, b"-" + b"1" * 50, b"1e5", b"1E0", b"1.0", b"1e400"):
+            with self.subTest(word[:30]):
+                status, body = self.running.posted(b'{"method": "getblockhash", "params": [' + word + b"]}")
+                told = {"code": -1, "message": "JSON integer out of range"}
+                self.assertEqual((status, json.loads(body)["error"]), (500, told))
+
     def test_names_and_nulls(self):
         genesis = show(GENESIS.id)
         self.assertEqual(self.call("getblockhash", height=0), genesis)
@@ -67,7 +103,6 @@ class RequestsTest(CallsTest):
         self.assertEqual(self.call("getblock", genesis, None), self.call("getblock", genesis))
         self.assertEqual(self.call("getblockheader", genesis, None), self.call("getblockheader", genesis, True))
         self.assertIsNone(self.call("gettxout", "00" * 32, 0, None))
-        self.assertEqual(self.call("uptime", None, None, None), self.call("uptime"))
 
     def test_versions_and_batches(self):
         cases = [
@@ -295,7 +330,18 @@ class ShownTest(CallsTest):
             ("6a0568656c6c6f", "OP_RETURN 68656c6c6f", "nulldata"),
             ("5121" + key + "51ae", "1 " + key + " 1 OP_CHECKMULTISIG", "multisig"),
             ("0014" + "11" * 20, "0 " + "11" * 20, "witness_v0_keyhash"),
-            ("ff04ffffffff4f", "OP_UNKNOWN -2147483647 -1", "nonstandard"),
+            ("ff04ffffffff4f", "OP_INVALIDOPCODE -2147483647 -1", "nonstandard"),
+            # As litecoind answered:
+            ("ba", "OP_CHECKSIGADD", "nonstandard"), ("bb", "OP_UNKNOWN", "nonstandard"), ("fe", "OP_UNKNOWN", "nonstandard"),
+            ("50", "OP_RESERVED", "nonstandard"), ("4c00", "0", "nonstandard"), ("4d0000", "0", "nonstandard"),
+            ("0180", "0", "nonstandard"), ("020080", "0", "nonstandard"), ("03008000", "32768", "nonstandard"),
+            ("5120" + "11" * 32, "1 " + "11" * 32, "witness_v1_taproot"), ("5114" + "11" * 20, "1 " + "11" * 20, "witness_unknown"),
+            ("6020" + "11" * 32, "16 " + "11" * 32, "witness_unknown"), ("0015" + "11" * 21, "0 " + "11" * 21, "nonstandard"),
+            ("6a", "OP_RETURN", "nulldata"), ("6a51", "OP_RETURN 1", "nulldata"), ("6a61", "OP_RETURN OP_NOP", "nonstandard"),
+            ("6a01", "OP_RETURN [error]", "nonstandard"),
+            ("52" + "21" + key + "51ae", "2 " + key + " 1 OP_CHECKMULTISIG", "nonstandard"),
+            ("51" + ("21" + key) * 17 + "0111ae", "1 " + (key + " ") * 17 + "17 OP_CHECKMULTISIG", "nonstandard"),
+            ("51" + ("21" + key) * 16 + "60ae", "1 " + (key + " ") * 16 + "16 OP_CHECKMULTISIG", "multisig"),
         ]  # fmt: skip
         for script, asm, kind in table:
             with self.subTest(script=script):
@@ -305,6 +351,52 @@ class ShownTest(CallsTest):
         self.assertEqual(self.call("generatetodescriptor", 0, "raw(51)#8lvh9jxk"), [])
         self.assertEqual(self.call("generatetodescriptor", 0, "raw(51)#8lvh9jxx")["code"], -5)
         self.assertEqual(self.call("decodescript", "51")["p2sh"], "2ND8PB9RrfCaAcjfjP1Y6nAgFd9zWHYX4DN")
+
+    def test_a_transaction_without_inputs(self):
+        """As litecoind reads it."""
+        none, one = "01000000000000000000", "0100000000010100000000000000015100000000"
+        for words in ((none,), (none, True), (none, False), (one,), (one, False)):
+            with self.subTest(words):
+                found = self.call("decoderawtransaction", *words)
+                self.assertEqual((found["vin"], len(found["vout"]), found["size"]), ([], words[0] == one, len(words[0]) // 2))
+
+    def test_a_block_off_the_branch(self):
+        """As litecoind shows it: without its time in getrawtransaction, and without statistics."""
+        a, b = self.maker.chain(2), self.maker.chain(1, extra=b"b")
+        for block in (*a, *b):
+            self.submit(block)
+        [id] = map(block_id, b)
+        self.assertEqual(self.call("getblockstats", show(id)), {"code": -8, "message": "Block is not in chain regtest"})
+        tx = show(self.maker.coinbases[id].id)
+        shown = self.call("getrawtransaction", tx, True, show(id))
+        self.assertEqual((shown["in_active_chain"], shown["confirmations"]), (False, 0))
+        self.assertFalse({"time", "blocktime"} & set(shown))
+        other = show(self.maker.coinbases[block_id(a[0])].id)
+        shown = self.call("getrawtransaction", other, True, show(block_id(a[0])))
+        self.assertEqual((shown["confirmations"], shown["time"], shown["blocktime"]), (2, *2 * (GENESIS.time + 600,)))
+        self.assertEqual(self.call("getblockstats", 1, ["b", "a"])["message"], "Invalid selected statistic a")
+
+    def test_no_time_to_wait(self):
+        """A negative one is over at once."""
+        [id] = self.mined(1)
+        for words in (["waitfornewblock", -1], ["waitforblockheight", 9, -1], ["waitforblock", "11" * 32, -(2**31)],
+                      ["waitforblockheight", -1, 1], ["waitforblock", id, 0]):  # fmt: skip
+            with self.subTest(words):
+                self.assertEqual(self.call(*words), {"hash": id, "height": 1})
+
+    def test_tries(self):
+        """Each nonce that doesn't meet the target is one; where none is left no block comes any more."""
+        self.assertEqual(self.call("generatetodescriptor", 5, "raw(51)", 0), [])
+        self.assertEqual(len(self.call("generatetodescriptor", 5, "raw(51)", -1)), 5)
+        self.assertEqual(self.call("generatetodescriptor", -1, "raw(51)", 5), [])
+        address = self.call("decodescript", "51")["p2sh"]
+        for tries in (1, 2, 3, 5, 8):
+            with self.subTest(tries):
+                height = self.call("getblockcount")
+                found = self.call("generatetoaddress", 100, address, tries)
+                self.assertEqual(self.call("getblockcount"), height + len(found))
+                self.assertLess(sum(self.call("getblockheader", id)["nonce"] for id in found), tries)
+                self.assertLess(len(found), 100)
 
     def test_infos_let_clients_start(self):
         for name in ("getmempoolinfo", "getnetworkinfo", "getmininginfo", "getblockchaininfo"):

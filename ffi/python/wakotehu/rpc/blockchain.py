@@ -10,7 +10,7 @@ from .errors import INVALID_ADDRESS_OR_KEY, INVALID_PARAMETER, MISC_ERROR, RpcEr
 from .node import Node, call
 from .scripts import checksum, descriptor_script, shown
 from .txs import transaction_fields
-from .values import Amount, Object, array, boolean, digits, integer, shortened, text
+from .values import Amount, Object, boolean, digits, integer, is_number, shortened, text
 
 GROUP = "Blockchain"
 #: Of each block of regtest, whose work is 2.
@@ -84,8 +84,7 @@ def getblock(node: Node, blockhash: Any, verbosity: Any) -> Any:
     id = digits(blockhash, "blockhash")
     level = 1
     if verbosity is not None:
-        number = isinstance(verbosity, (int, float)) and not isinstance(verbosity, bool)
-        level = integer(verbosity) if number else int(boolean(verbosity))
+        level = integer(verbosity) if is_number(verbosity) else int(boolean(verbosity))
     kept = node.kept(id)
     data = node.data(id)
     if level <= 0:
@@ -96,7 +95,11 @@ def getblock(node: Node, blockhash: Any, verbosity: Any) -> Any:
     last = {name: fields.pop(name) for name in names if name in fields}
     size = len(data)
     fields.update(strippedsize=size, size=size, weight=4 * size)
-    fields["tx"] = [show(tx.id) if level == 1 else transaction_fields(node, tx, fee=True) for tx in txs]
+    if level == 1:
+        fields["tx"] = [show(tx.id) for tx in txs]
+    else:
+        spent = node.spent(txs)
+        fields["tx"] = [transaction_fields(tx, spent) for tx in txs]
     return {**fields, **last}
 
 
@@ -194,14 +197,11 @@ def preciousblock(node: Node, blockhash: Any) -> None:
 def _wait(node: Node, timeout: Any, holds: Callable[[], bool]) -> Object:
     """Waits until it holds, so many milliseconds at most; without end where that is 0. Other calls go on meanwhile."""
     limit = 0 if timeout is None else integer(timeout)
-    if limit < 0:
-        raise RpcError(MISC_ERROR, "Negative timeout")
-    until = time.monotonic() + limit / 1000
+    until = time.monotonic() + limit / 1000 if limit else None
     while not holds() and not node.stopped:
-        left = until - time.monotonic() if limit else None
-        if left is not None and left <= 0:
+        if until is not None and time.monotonic() >= until:
             break
-        node.turn.wait(left)
+        node.wait(until)
     return {"hash": show(node.tip().id), "height": node.tip().height}
 
 
@@ -279,23 +279,50 @@ def _compact(number: int) -> bytes:
     return b"\xfd" + number.to_bytes(2, "little") if number < 2**16 else b"\xfe" + number.to_bytes(4, "little")
 
 
-@call(GROUP, "action", "scanobjects", needed=1)
+def _described(given: Any) -> str:
+    """The descriptor of an object to scan for. `range` means nothing for raw and addr, and has to be one."""
+    if isinstance(given, str):
+        return given
+    if not isinstance(given, dict):
+        raise RpcError(INVALID_PARAMETER, "Scan object needs to be either a string or an object")
+    if given.get("desc") is None:
+        raise RpcError(INVALID_PARAMETER, "Descriptor needs to be provided in scan object")
+    described = text(given["desc"])
+    if given.get("range") is not None:
+        _expect_range(given["range"])
+    return described
+
+
+def _expect_range(given: Any) -> None:
+    """As Bitcoin Core's `ParseDescriptorRange`."""
+    both = given if isinstance(given, list) else [0, given]
+    if len(both) != 2 or not all(map(is_number, both)):
+        raise RpcError(INVALID_PARAMETER, "Range must be specified as end or as [begin,end]")
+    low, high = (integer(it, 64) for it in both)
+    if low > high and isinstance(given, list):
+        raise RpcError(INVALID_PARAMETER, "Range specified as [begin,end] must not have begin after end")
+    if low < 0:
+        raise RpcError(INVALID_PARAMETER, "Range should be greater or equal than 0")
+    if not 0 <= high < 2**31:
+        raise RpcError(INVALID_PARAMETER, "End of range is too high")
+    if high >= low + 1_000_000:
+        raise RpcError(INVALID_PARAMETER, "Range is too large")
+
+
+@call(GROUP, "action", "scanobjects", needed=1, types=("string", "array"))
 def scantxoutset(node: Node, action: Any, scanobjects: Any) -> Any:
     """Finds the coins of descriptors: start with a list of raw(HEX) and addr(ADDRESS); status and abort find no scan."""
-    given = text(action)
-    if given == "status":
+    if action == "status":
         return None
-    if given == "abort":
+    if action == "abort":
         return False
-    if given != "start":
+    if action != "start":
         raise RpcError(INVALID_PARAMETER, "Invalid command")
     if scanobjects is None:
         raise RpcError(MISC_ERROR, "scanobjects argument is required for the start action")
     wanted: Dict[bytes, str] = {}
-    for described in array(scanobjects):
-        it = described.get("desc") if isinstance(described, dict) else described
-        if not isinstance(it, str):
-            raise RpcError(INVALID_PARAMETER, "Scan object needs to be either a string or an object")
+    for described in scanobjects:
+        it = _described(described)
         wanted.setdefault(descriptor_script(it), it.partition("#")[0])
     coins = sorted(node.bench.coins(), key=lambda it: it[:2])
     found = [it for it in coins if it[2].script in wanted]

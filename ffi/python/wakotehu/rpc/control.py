@@ -5,7 +5,7 @@ from typing import Any, Dict, List
 
 from ..encoding import hash160
 from ..version import __version__
-from .errors import INVALID_PARAMETER, TYPE_ERROR, RpcError
+from .errors import INVALID_PARAMETER, RpcError
 from .node import CALLS, Node, call
 from .scripts import SCRIPT_PREFIX, address
 from .values import Amount, Object, boolean, integer, text
@@ -40,12 +40,9 @@ def stop(node: Node, wait: Any) -> str:
     return "Wakotehu stopping"
 
 
-@call("Hidden", "timestamp", needed=1)
+@call("Hidden", "timestamp", needed=1, types=("number",))
 def setmocktime(node: Node, timestamp: Any) -> None:
     """Sets the moment of all that comes, in seconds since 1970; 0 is the system's again."""
-    if isinstance(timestamp, bool) or not isinstance(timestamp, (int, float)):
-        kinds = {str: "string", bool: "bool", list: "array", dict: "object", type(None): "null"}
-        raise RpcError(TYPE_ERROR, f"Expected type number, got {kinds[type(timestamp)]}")
     moment = integer(timestamp, 64)
     if moment < 0:
         raise RpcError(INVALID_PARAMETER, f"Mocktime can not be negative: {moment}.")

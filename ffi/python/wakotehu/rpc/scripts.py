@@ -1,6 +1,7 @@
 """Scripts as calls show them, and addresses and descriptors as calls take them."""
 
 import re
+from itertools import islice
 from typing import Dict, Iterator, List, Optional, Tuple
 
 from ..encoding import double_sha, hash160, operations, push
@@ -9,25 +10,30 @@ from .errors import INVALID_ADDRESS_OR_KEY, RpcError
 _DIGITS = "123456789ABCDEFGHJKLMNPQRSTUVWXYZabcdefghijkmnopqrstuvwxyz"
 #: The first bytes of addresses of regtest, to a hash of a key and of a script.
 KEY_PREFIX, SCRIPT_PREFIX = 111, 196
+#: A script of keys has no more of them.
+MOST_KEYS = 16
+_WITNESS = {
+    (0, 22): "witness_v0_keyhash", (0, 34): "witness_v0_scripthash", (0x51, 34): "witness_v1_taproot",
+}  # fmt: skip
 #: An address has no more characters, nor a descriptor's script more digits.
 MAX_ADDRESS, MAX_RAW = 100, 2 * 1_000_000
 
-_NAMED: Dict[int, str] = {0: "0", 0x4F: "-1", **{0x50 + number: str(number) for number in range(1, 17)}}
-_NAMED[0x50] = "OP_RESERVED"
-_NAMED.update(
-    enumerate(
-        (
-            "NOP VER IF NOTIF VERIF VERNOTIF ELSE ENDIF VERIFY RETURN TOALTSTACK FROMALTSTACK 2DROP 2DUP 3DUP 2OVER"
-            " 2ROT 2SWAP IFDUP DEPTH DROP DUP NIP OVER PICK ROLL ROT SWAP TUCK CAT SUBSTR LEFT RIGHT SIZE INVERT AND"
-            " OR XOR EQUAL EQUALVERIFY RESERVED1 RESERVED2 1ADD 1SUB 2MUL 2DIV NEGATE ABS NOT 0NOTEQUAL ADD SUB MUL"
-            " DIV MOD LSHIFT RSHIFT BOOLAND BOOLOR NUMEQUAL NUMEQUALVERIFY NUMNOTEQUAL LESSTHAN GREATERTHAN"
-            " LESSTHANOREQUAL GREATERTHANOREQUAL MIN MAX WITHIN RIPEMD160 SHA1 SHA256 HASH160 HASH256 CODESEPARATOR"
-            " CHECKSIG CHECKSIGVERIFY CHECKMULTISIG CHECKMULTISIGVERIFY NOP1 CHECKLOCKTIMEVERIFY CHECKSEQUENCEVERIFY"
-            " NOP4 NOP5 NOP6 NOP7 NOP8 NOP9 NOP10"
-        ).split(),
-        0x61,
-    )
+_OPCODES = enumerate(
+    (
+        "NOP VER IF NOTIF VERIF VERNOTIF ELSE ENDIF VERIFY RETURN TOALTSTACK FROMALTSTACK 2DROP 2DUP 3DUP 2OVER"
+        " 2ROT 2SWAP IFDUP DEPTH DROP DUP NIP OVER PICK ROLL ROT SWAP TUCK CAT SUBSTR LEFT RIGHT SIZE INVERT AND"
+        " OR XOR EQUAL EQUALVERIFY RESERVED1 RESERVED2 1ADD 1SUB 2MUL 2DIV NEGATE ABS NOT 0NOTEQUAL ADD SUB MUL"
+        " DIV MOD LSHIFT RSHIFT BOOLAND BOOLOR NUMEQUAL NUMEQUALVERIFY NUMNOTEQUAL LESSTHAN GREATERTHAN"
+        " LESSTHANOREQUAL GREATERTHANOREQUAL MIN MAX WITHIN RIPEMD160 SHA1 SHA256 HASH160 HASH256 CODESEPARATOR"
+        " CHECKSIG CHECKSIGVERIFY CHECKMULTISIG CHECKMULTISIGVERIFY NOP1 CHECKLOCKTIMEVERIFY CHECKSEQUENCEVERIFY"
+        " NOP4 NOP5 NOP6 NOP7 NOP8 NOP9 NOP10 CHECKSIGADD"
+    ).split(),
+    0x61,
 )
+#: Opcodes as words. Each is made once: a script may have a million of one.
+_NAMED: Dict[int, str] = {0: "0", 0x4F: "-1", **{0x50 + number: str(number) for number in range(1, 17)}}
+_NAMED.update({0x50: "OP_RESERVED", 0xFF: "OP_INVALIDOPCODE"})
+_NAMED.update((number, "OP_" + name) for number, name in _OPCODES)
 _HASH_TYPES = {1: "ALL", 2: "NONE", 3: "SINGLE", 129: "ALL|ANYONECANPAY", 130: "NONE|ANYONECANPAY",
                131: "SINGLE|ANYONECANPAY"}  # fmt: skip
 
@@ -38,9 +44,7 @@ def asm(script: bytes, signatures: bool = False) -> str:
     words, end = [], 0
     for _, number, data, end in operations(script):
         if data is None or number == 0:
-            name = _NAMED.get(number)
-            words.append(name if name is None or number <= 0x60 else "OP_" + name)
-            words[-1] = words[-1] or "OP_UNKNOWN"
+            words.append(_NAMED.get(number, "OP_UNKNOWN"))
         elif len(data) <= 4:
             words.append(str(_script_number(data)))
         else:
@@ -51,8 +55,7 @@ def asm(script: bytes, signatures: bool = False) -> str:
 
 
 def _script_number(data: bytes) -> int:
-    value = int.from_bytes(data, "little")
-    sign = 1 << (8 * len(data) - 1)
+    value, sign = int.from_bytes(data, "little"), 1 << 8 * len(data) >> 1
     return -(value - sign) if data and value & sign else value
 
 
@@ -82,10 +85,25 @@ def _is_key(data: bytes) -> bool:
     return (len(data) == 33 and data[0] in (2, 3)) or (len(data) == 65 and data[0] in (4, 6, 7))
 
 
+def _is_data(script: bytes) -> bool:
+    """Whether a script is OP_RETURN and pushes."""
+    end = 0
+    for begin, number, _, end in operations(script):
+        if number != 0x6A if begin == 0 else number > 0x60:
+            return False
+    return bool(script) and end == len(script)
+
+
+def _few(script: bytes) -> List[Tuple[int, int, Optional[bytes], int]]:
+    """The operations of a script; empty where they are more than keys to sign for may have, or can't all be read."""
+    found = list(islice(operations(script), MOST_KEYS + 4))
+    return found if found and found[-1][3] == len(script) and len(found) <= MOST_KEYS + 3 else []
+
+
 def _multisig(script: bytes) -> Optional[Tuple[int, List[bytes]]]:
     """How many signatures a script of keys asks for, and its keys."""
-    found = list(operations(script))
-    if len(found) < 4 or found[-1][3] != len(script) or found[-1][1] != 0xAE:
+    found = _few(script)
+    if len(found) < 4 or found[-1][1] != 0xAE:
         return None
     needed, most = found[0][1] - 0x50, found[-2][1] - 0x50
     keys = [data for _, _, data, _ in found[1:-2] if data is not None and _is_key(data)]
@@ -99,13 +117,12 @@ def kind_of(script: bytes) -> Tuple[str, int, List[str]]:
     if len(script) == 23 and script[:2] == b"\xa9\x14" and script[22:] == b"\x87":
         return "scripthash", 1, [address(SCRIPT_PREFIX, script[2:22])]
     if 4 <= len(script) <= 42 and (script[0] == 0 or 0x51 <= script[0] <= 0x60) and script[1] + 2 == len(script):
-        known = {22: "witness_v0_keyhash", 34: "witness_v0_scripthash"} if script[0] == 0 else {}
-        return known.get(len(script), "nonstandard" if script[0] == 0 else "witness_unknown"), 0, []
-    found = list(operations(script))
-    whole = (found[-1][3] if found else 0) == len(script)
-    if script[:1] == b"\x6a" and whole and all(number <= 0x60 for _, number, _, _ in found[1:]):
+        other = "nonstandard" if script[0] == 0 else "witness_unknown"
+        return _WITNESS.get((script[0], len(script)), other), 0, []
+    if _is_data(script):
         return "nulldata", 0, []
-    if len(found) == 2 and whole and found[1][1] == 0xAC and found[0][2] and _is_key(found[0][2]):
+    found = _few(script)
+    if len(found) == 2 and found[1][1] == 0xAC and found[0][2] and _is_key(found[0][2]):
         return "pubkey", 1, []
     if len(script) == 25 and script[:3] == b"\x76\xa9\x14" and script[23:] == b"\x88\xac":
         return "pubkeyhash", 1, [address(KEY_PREFIX, script[3:23])]
@@ -195,20 +212,35 @@ def _symbols(places: List[int]) -> Iterator[int]:
 
 def descriptor_script(descriptor: str) -> bytes:
     """The script of `raw(HEX)` or `addr(ADDRESS)`, with or without a checksum."""
-    text, mark, check = descriptor.partition("#")
-    if mark and check != checksum(text):
-        raise RpcError(INVALID_ADDRESS_OR_KEY, f"Provided checksum '{check[:100]}' does not match computed checksum")
+    text = _without_checksum(descriptor)
     found = re.fullmatch(r"(raw|addr)\((.*)\)", text, re.DOTALL)
     if not found:
         raise RpcError(INVALID_ADDRESS_OR_KEY, f"{text[:100]} is not a valid descriptor function")
     if found[1] == "raw":
-        if len(found[2]) > MAX_RAW or len(found[2]) % 2 or not re.fullmatch("[0-9a-fA-F]*", found[2]):
+        if len(found[2]) > MAX_RAW or not found[2] or len(found[2]) % 2 or not re.fullmatch("[0-9a-fA-F]*", found[2]):
             raise RpcError(INVALID_ADDRESS_OR_KEY, "Raw script is not hex")
         return bytes.fromhex(found[2])
     script = address_script(found[2])
     if script is None:
         raise RpcError(INVALID_ADDRESS_OR_KEY, "Address is not valid")
     return script
+
+
+def _without_checksum(descriptor: str) -> str:
+    """A descriptor without its checksum, which has to be right where it is there (Bitcoin Core's `CheckChecksum`)."""
+    text, *checks = descriptor.split("#")
+    if len(checks) > 1:
+        raise RpcError(INVALID_ADDRESS_OR_KEY, "Multiple '#' symbols")
+    if checks and len(checks[0].encode()) != 8:
+        message = f"Expected 8 character checksum, not {len(checks[0].encode())} characters"
+        raise RpcError(INVALID_ADDRESS_OR_KEY, message)
+    computed = checksum(text)
+    if not computed:
+        raise RpcError(INVALID_ADDRESS_OR_KEY, "Invalid characters in payload")
+    if checks and checks[0] != computed:
+        message = f"Provided checksum '{checks[0]}' does not match computed checksum '{computed}'"
+        raise RpcError(INVALID_ADDRESS_OR_KEY, message)
+    return text
 
 
 def output_script(output: str) -> bytes:

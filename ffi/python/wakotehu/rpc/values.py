@@ -1,10 +1,34 @@
 """Parameters of calls: their types, with the codes and texts of Bitcoin Core 0.21."""
 
 import re
-from typing import Any, Dict, List
+from typing import Any, Dict, List, Optional
 
 from ..chainstate import read_id
-from .errors import DESERIALIZATION_ERROR, INVALID_PARAMETER, MISC_ERROR, RpcError
+from .errors import DESERIALIZATION_ERROR, INVALID_PARAMETER, MISC_ERROR, TYPE_ERROR, RpcError
+
+
+class Number:
+    """A number of a request that isn't a whole one of 64 bits, as it was spelled."""
+
+    def __init__(self, spelled: str) -> None:
+        self.spelled = spelled
+
+    def __str__(self) -> str:
+        return self.spelled
+
+
+def is_number(value: Any) -> bool:
+    return isinstance(value, (int, Number)) and not isinstance(value, bool)
+
+
+_KINDS = ((str, "string"), (bool, "bool"), (list, "array"), (dict, "object"), (type(None), "null"))
+
+
+def expect(value: Any, kind: str) -> None:
+    """That a parameter has a type, where Bitcoin Core tests the types of all of a call's parameters first."""
+    found = next((name for it, name in _KINDS if isinstance(value, it)), "number")
+    if found != kind:
+        raise RpcError(TYPE_ERROR, f"Expected type {kind}, got {found}")
 
 
 def _wrong(kind: str) -> RpcError:
@@ -13,11 +37,11 @@ def _wrong(kind: str) -> RpcError:
 
 def integer(value: Any, bits: int = 32) -> int:
     """A whole number with a sign, of so many bits."""
-    if isinstance(value, bool) or not isinstance(value, (int, float)):
+    if not is_number(value):
         raise _wrong("an integer")
-    if isinstance(value, float) or not -(2 ** (bits - 1)) <= value < 2 ** (bits - 1):
+    if isinstance(value, Number) or not -(2 ** (bits - 1)) <= value < 2 ** (bits - 1):
         raise RpcError(MISC_ERROR, "JSON integer out of range")
-    return value
+    return int(value)
 
 
 def text(value: Any) -> str:
@@ -48,9 +72,11 @@ def digits(value: Any, name: str) -> bytes:
     return read_id(given)
 
 
-def hexadecimal(value: Any, fault: str) -> bytes:
-    """Bytes as digits; `fault` is what is answered to others."""
+def hexadecimal(value: Any, fault: str, most: Optional[int] = None) -> bytes:
+    """Bytes as digits, so many at most; `fault` is what is answered to others."""
     given = text(value)
+    if most is not None and len(given) > 2 * most:
+        raise RpcError(DESERIALIZATION_ERROR, f"{fault} It has more than {most} bytes.")
     if len(given) % 2 or not re.fullmatch("[0-9a-fA-F]*", given):
         raise RpcError(DESERIALIZATION_ERROR, fault)
     return bytes.fromhex(given)
