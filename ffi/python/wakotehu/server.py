@@ -12,14 +12,14 @@ import signal
 import sys
 import threading
 import time
-from typing import Callable, Dict, List, Optional, Sequence, Tuple, Union
+from typing import Callable, List, Optional, Sequence, Tuple, Union
 
 from .bench import Bench
 from .chainstate import REGTEST
 from .errors import Error
 from .pool import SEATS, Pool
-from .rpc import blockchain, control, mining, stats, txs
-from .rpc.auth import Gate, write_cookie
+from .rpc import blockchain, control, mining, settings, stats, txs
+from .rpc.auth import COOKIE_USER, Gate, remove_cookie, write_cookie
 from .rpc.datadir import BadFolder, Folder
 from .rpc.http import LOOPBACK, Server
 from .rpc.jsonrpc import answer
@@ -38,7 +38,7 @@ def serve(
     node: Node, gate: Gate, hosts: Sequence[str] = ("127.0.0.1",), port: int = 0,
     ready: Optional[Callable[[int], None]] = None,
 ) -> None:  # fmt: skip
-    """Serves until `stop` is called. Port 0 is any that is free."""
+    """Serves until `stop` is called. Port 0 is any that is free; `ready` is called with it once it is bound."""
 
     def answered(body: bytes, is_gone: Callable[[], bool]) -> Tuple[int, bytes]:
         node.called_by(is_gone)
@@ -50,11 +50,12 @@ def serve(
             servers.append(Server(host, port or (servers[0].server_address[1] if servers else 0), gate, answered))
             servers[-1].stopping = lambda: node.stopped
             servers[-1].left = node.leave
+        # Who connects from now on waits until the servers run.
+        if ready:
+            ready(servers[0].server_address[1])
         threads = [threading.Thread(target=server.serve_forever, args=(0.1,), daemon=True) for server in servers]
         for thread in threads:
             thread.start()
-        if ready:
-            ready(servers[0].server_address[1])
         with node.turn:
             while not node.stopped:
                 node.turn.wait()
@@ -72,24 +73,38 @@ def serve(
 
 
 class _Parser(argparse.ArgumentParser):
-    """Flags as bitcoind's: with one bar or two."""
+    """Flags as bitcoind's: with one dash or two, and `-noNAME`."""
 
     def parse(self, words: Sequence[str]) -> argparse.Namespace:
-        return self.parse_args(["-" + word if _is_one_bar(word) else word for word in words])
+        return self.parse_args([settings.positive("-" + word if _has_one_dash(word) else word) for word in words])
 
 
-def _is_one_bar(word: str) -> bool:
+def _has_one_dash(word: str) -> bool:
     return word.startswith("-") and not word.startswith("--") and len(word) > 2
+
+
+class _Also(argparse.Action):
+    """A flag of bitcoind that changes nothing here, or is refused by name."""
+
+    def __call__(
+        self, parser: argparse.ArgumentParser, given: argparse.Namespace, value: object, flag: Optional[str] = None
+    ) -> None:
+        try:
+            settings.expect(self.dest, str(value))
+        except settings.BadSetting as error:
+            parser.error(str(error))
 
 
 def _parser() -> _Parser:
     parser = _Parser(
         prog="wakotehu-server",
         allow_abbrev=False,
-        description="Answers the calls of bitcoind's JSON-RPC on the loopback. Flags have one bar or two.",
+        description="Answers the calls of bitcoind's JSON-RPC on the loopback. Flags have one dash or two.",
         epilog="A password is never a word of this command, where ps shows it: rpcuser, rpcpassword and rpcauth stand in"
         " the file of -conf, or in WAKOTEHU_RPCUSER, WAKOTEHU_RPCPASSWORD and WAKOTEHU_RPCAUTH. Without them there is a"
-        " cookie, in the file that is printed.",
+        " cookie, in the file that is printed. Flags of bitcoind that mean the same here or nothing are taken too"
+        " (-regtest=1, -server, -listen=0, -fallbackfee=.., -rpcallowip=127.0.0.1); those that would promise something"
+        " are refused.",
     )
     add = parser.add_argument
     add("--datadir", metavar="D", help="keeps all commands in the folder D, and takes them again at the next start")
@@ -97,17 +112,18 @@ def _parser() -> _Parser:
         f" Calls then run beside one another, at the {SEATS} seats of a node (the program regchain)")  # fmt: skip
     add("--workers", metavar="N", help="how many threads check a block's scripts with --table, 1 to 16; 2 by default")
     add("--fsync", action="store_true", help="has the disk asked to keep each command")
-    add("--regtest", action="store_true", help="as always")
     add("--rpcport", "--port", dest="rpcport", metavar="N", help="18443 by default; 0 is any that is free")
     add("--rpcbind", action="append", default=[], metavar="HOST", help="127.0.0.1, ::1 or localhost; given again for more")
     add("--testactivationheight", action="append", default=[], metavar="FORK@N", help="bip34, cltv, dersig or csv")
-    add("--conf", metavar="F", help="a file with lines rpcuser=, rpcpassword=, rpcauth=")
+    add("--conf", metavar="F", help="a file as bitcoin.conf, from the folder of -datadir on; bitcoin.conf there by default")
     add("--rpcuser", metavar="NAME", help="who is let in by WAKOTEHU_RPCPASSWORD, or by the password in the file of -conf")
     add("--rpcpassword", help=argparse.SUPPRESS)
     add("--rpcauth", action="append", default=[], metavar="NAME:SALT$HASH", help="who is let in, by a salted hash")
     add("--rpccookiefile", metavar="F", help="where the cookie is written")
     add("--no-auth", action="store_true", help="lets in everyone on this machine, without a password")
     add("--version", action="version", version=__version__)
+    for name in settings.RULES:
+        add(f"--{name}", action=_Also, nargs="?", const="1", help=argparse.SUPPRESS)
     return parser
 
 
@@ -115,13 +131,13 @@ def _given(words: Sequence[str]) -> argparse.Namespace:
     parser = _parser()
     if any(word.lstrip("-").partition("=")[0] == "port" and not word.startswith("--") for word in words):
         parser.error("-port is for bitcoind's peers, of which there are none here: -rpcport is the server's")
-    given = parser.parse(words)
+    given = _with_file(parser, words)
     if given.rpcpassword is not None:
         parser.error("-rpcpassword would be shown by ps: put it into the file of -conf or into WAKOTEHU_RPCPASSWORD")
-    given.rpcport = _number(parser, given.rpcport or "18443", "-rpcport", 65535)
+    given.rpcport = _number(parser, "18443" if given.rpcport is None else given.rpcport, "-rpcport", 65535)
     if given.workers is not None and given.table is None:
         parser.error("-workers is for -table: without it one thread checks scripts")
-    given.workers = _number(parser, given.workers or "2", "-workers", 16)
+    given.workers = _number(parser, "2" if given.workers is None else given.workers, "-workers", 16)
     for host in given.rpcbind:
         if host.strip("[]") not in LOOPBACK:
             parser.error(f"-rpcbind={host} isn't an address of the loopback: the server answers this machine alone")
@@ -135,35 +151,63 @@ def _given(words: Sequence[str]) -> argparse.Namespace:
     return given
 
 
+def _with_file(parser: _Parser, words: Sequence[str]) -> argparse.Namespace:
+    """The flags, and what the file sets and no flag does."""
+    given = parser.parse(words)
+    for name in ("datadir", "table", "conf", "rpccookiefile"):
+        if getattr(given, name) == "":
+            parser.error(f"-{name}= is empty")
+    path = settings.file_of(given.conf, given.datadir)
+    password = None
+    try:
+        if path is not None:
+            found = settings.read(path)
+            given, password = parser.parse([*found.words, *words]), found.password
+            for line in found.ignored:
+                print(f"wakotehu-server: {line}", file=sys.stderr)
+    except (settings.BadSetting, OSError, ValueError) as error:
+        parser.error(str(error))
+    given.password = password
+    return given
+
+
 def _number(parser: argparse.ArgumentParser, word: str, flag: str, most: int) -> int:
     if not (word.isascii() and word.isdigit()) or int(word) > most:
         parser.error(f"{flag} is a number from 0 to {most}")
     return int(word)
 
 
-def _gate(given: argparse.Namespace) -> Tuple[Gate, Optional[str]]:
-    """Who is let in, and the file of the cookie where there is one."""
+def _gate(given: argparse.Namespace) -> Gate:
+    """Who is let in by a password. No one by the cookie yet."""
     gate = Gate(anyone=given.no_auth)
-    found = _settings(given.conf)
-    user = given.rpcuser or found["rpcuser"][-1:] or os.environ.get("WAKOTEHU_RPCUSER", "")
-    user = user[0] if isinstance(user, list) else user
-    password = "".join(found["rpcpassword"][-1:]) or os.environ.get("WAKOTEHU_RPCPASSWORD", "")
+    user = given.rpcuser or os.environ.get("WAKOTEHU_RPCUSER", "")
+    password = given.password or os.environ.get("WAKOTEHU_RPCPASSWORD", "")
     if password:
         gate.add(user, password)
     elif user:
         raise BadFolder("there is a user without a password: see --help")
-    salted = given.rpcauth + found["rpcauth"] + os.environ.get("WAKOTEHU_RPCAUTH", "").split()
-    for line in salted:
+    for line in given.rpcauth + os.environ.get("WAKOTEHU_RPCAUTH", "").split():
         gate.add_salted(line)
-    if password or salted or given.no_auth:
-        return gate, None
-    folder = given.datadir or os.path.expanduser("~/.wakotehu")
-    path = given.rpccookiefile or os.path.join(folder, ".cookie")
+    return gate
+
+
+def _cookie_path(given: argparse.Namespace, port: int) -> str:
+    """Where the cookie is, as bitcoin-cli looks for it with these flags; without a folder there is one for each port."""
+    folder = given.datadir
+    if given.rpccookiefile:
+        return os.path.join(folder, "regtest", given.rpccookiefile) if folder else str(given.rpccookiefile)
+    return os.path.join(folder, ".cookie") if folder else os.path.expanduser(f"~/.wakotehu/.cookie-{port}")
+
+
+def _bake(given: argparse.Namespace, gate: Gate, port: int) -> Tuple[str, str]:
+    """Writes the cookie and lets in who knows it: its path, and the password."""
+    path = _cookie_path(given, port)
     os.makedirs(os.path.dirname(path) or ".", mode=0o700, exist_ok=True)
-    gate.add("__cookie__", write_cookie(path))
+    password = write_cookie(path)
+    gate.add(COOKIE_USER, password)
     if given.datadir and not given.rpccookiefile:
         _link_cookie(given.datadir)
-    return gate, path
+    return path, password
 
 
 def _link_cookie(folder: str) -> None:
@@ -172,18 +216,6 @@ def _link_cookie(folder: str) -> None:
     link = os.path.join(folder, "regtest", ".cookie")
     if not os.path.lexists(link):
         os.symlink(os.path.join("..", ".cookie"), link)
-
-
-def _settings(path: Optional[str]) -> Dict[str, List[str]]:
-    """The lines of a file as bitcoin.conf that are asked for here."""
-    found: Dict[str, List[str]] = {"rpcuser": [], "rpcpassword": [], "rpcauth": []}
-    if path:
-        with open(path, encoding="utf-8") as file:
-            for line in file:
-                name, _, value = line.strip().partition("=")
-                if name.strip() in found:
-                    found[name.strip()].append(value.strip())
-    return found
 
 
 def _bench(given: argparse.Namespace, folder: Optional[Folder]) -> Union[Bench, Pool]:
@@ -217,19 +249,21 @@ def _give_memory_back() -> None:
 def main(words: Optional[Sequence[str]] = None) -> None:
     """The command."""
     given = _given(sys.argv[1:] if words is None else words)
-    cookie = None
+    cookies: List[Tuple[str, str]] = []
     _give_memory_back()
     signal.signal(signal.SIGTERM, signal.default_int_handler)
     try:
         folder = Folder(given.datadir, given.fsync) if given.datadir else None
-        gate, cookie = _gate(given)
+        gate = _gate(given)
         with _bench(given, folder) as bench:
             if folder:
                 print(f"{_replay(folder, bench)} commands of {given.datadir} were taken again", flush=True)
             hosts = list(dict.fromkeys(host.strip("[]") for host in given.rpcbind)) or ["127.0.0.1"]
 
             def ready(port: int) -> None:
-                print(f"127.0.0.1:{port}" + (f" cookie {cookie}" if cookie else ""), flush=True)
+                if not gate.knows_anyone():
+                    cookies.append(_bake(given, gate, port))
+                print(f"127.0.0.1:{port}" + "".join(f" cookie {path}" for path, _ in cookies), flush=True)
 
             node = Node(bench, folder)
             serve(node, gate, hosts, given.rpcport, ready)
@@ -240,8 +274,8 @@ def main(words: Optional[Sequence[str]] = None) -> None:
     except KeyboardInterrupt:
         pass
     finally:
-        if cookie and os.path.exists(cookie):
-            os.unlink(cookie)
+        for path, password in cookies:
+            remove_cookie(path, password)
 
 
 if __name__ == "__main__":

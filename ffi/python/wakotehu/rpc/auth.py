@@ -34,6 +34,10 @@ class Gate:
             raise ValueError("rpcauth is NAME:SALT$HASH")
         self._salted.append([user, salt, digest])
 
+    def knows_anyone(self) -> bool:
+        """Whether someone is let in."""
+        return bool(self.anyone or self._plain or self._salted)
+
     def lets_in(self, header: Optional[str]) -> bool:
         """Whether an HTTP header `Authorization` is a known user's. It takes the same time for any wrong one."""
         if self.anyone:
@@ -51,6 +55,17 @@ class Gate:
             right = hmac.compare_digest(made, digest.encode())
             found.append(hmac.compare_digest(user, name.encode()) and right)
         return any(found)
+
+
+def remove_cookie(path: str, password: str) -> None:
+    """Removes a cookie, where the file still has this one: another server may have written its own."""
+    try:
+        with open(path, encoding="ascii", errors="replace") as file:
+            found = file.read(200)
+        if found == f"{COOKIE_USER}:{password}":
+            os.unlink(path)
+    except OSError:
+        pass  # It isn't there any more.
 
 
 def write_cookie(path: str) -> str:
