@@ -401,18 +401,19 @@ class MemoryTest(FolderCase):
         self.assertLess(self.resident(server)[1] - before, 20)
 
     def test_bodies(self):
-        """Six connections that stay send bodies of 20 MB each."""
+        """Four connections that stay send two bodies of 30 MB each."""
         server = self.started()
         before, _ = self.resident(server)
         place = server.url.rstrip("/").rpartition("/")[2]
         with open(server.cookie, "rb") as file:
             head = {"Authorization": "Basic " + base64.b64encode(file.read()).decode()}
-        body = b'{"method": "submitblock", "params": ["' + b"00" * 10_000_000 + b'"]}'
-        connections = [http.client.HTTPConnection(place, timeout=60) for _ in range(6)]
+        body = b'{"method": "submitblock", "params": ["' + b"00" * 15_000_000 + b'"]}'
+        connections = [http.client.HTTPConnection(place, timeout=60) for _ in range(4)]
 
         def post(connection):
-            connection.request("POST", "/", body, head)
-            connection.getresponse().read()
+            for _ in range(2):
+                connection.request("POST", "/", body, head)
+                connection.getresponse().read()
 
         threads = [threading.Thread(target=post, args=(connection,)) for connection in connections]
         for thread in threads:

@@ -200,6 +200,25 @@ class OverSeatsTest(Blocks):
                 self.expect(transactions, reason)
 
 
+    def test_a_block_that_comes_meanwhile(self):
+        """The block is made anew, on that one."""
+        other = self.maker.block(block_id(self.blocks[-1]), extra=b"other")
+        unspent, told = Pool.unspent, []
+
+        def slow(pool, id, index):
+            if not told:
+                with pool.others():
+                    told.append(self.call("submitblock", other.hex()))
+            return unspent(pool, id, index)
+
+        raw = write_transaction(of([(self.coins[0],)], [(1, b"\x51")])).hex()
+        with mock.patch.object(Pool, "unspent", slow):
+            found = self.call("generateblock", "raw(51)", [raw])
+        self.assertEqual(told, [None])
+        shown = self.call("getblockheader", found["hash"])
+        self.assertEqual((shown["previousblockhash"], shown["confirmations"]), (show(block_id(other)), 1))
+
+
 class WithoutForksTest(Blocks):
     """Below the heights of all soft forks, where a coinbase may be made again."""
 

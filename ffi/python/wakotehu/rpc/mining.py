@@ -1,7 +1,7 @@
 """Calls that submit blocks and make them."""
 
 import re
-from typing import Any, List, Optional, Sequence
+from typing import Any, List, Optional, Sequence, Tuple
 
 from .. import consensus
 from ..chainstate import show
@@ -163,8 +163,7 @@ def generateblock(node: Node, output: Any, transactions: Any, submit: Any) -> Ob
     made = [_raw_transaction(raw) for raw in array(transactions)]
     wanted = True if submit is None else boolean(submit)
     with node.making():
-        block = _made(node, script, made)
-        broken = fault(node, block)
+        block, broken = _tried(node, script, made)
         if not broken and wanted:
             reply = node.submit(block_at_front(block))
             broken = "" if reply.reply in ("accepted", "inconclusive") else reply.text
@@ -172,6 +171,17 @@ def generateblock(node: Node, output: Any, transactions: Any, submit: Any) -> Ob
         raise RpcError(VERIFY_ERROR, f"TestBlockValidity failed: {broken}")
     found = {"hash": show(double_sha(block[:80]))}
     return found if wanted else {**found, "hex": block.hex()}
+
+
+def _tried(node: Node, script: bytes, transactions: Sequence[Transaction]) -> Tuple[bytes, str]:
+    """A block on the active one, and the first rule that it breaks. Another call may submit a block meanwhile: then it is
+    made anew."""
+    while True:
+        tip = node.tip()
+        block = _made(node, script, transactions)
+        broken = fault(node, block)
+        if node.tip() is tip:
+            return block, broken
 
 
 def _raw_transaction(raw: Any) -> Transaction:
