@@ -53,6 +53,7 @@ class LetInTest(unittest.TestCase):
             ("a length of many digits", {"Content-Length": "9" * 5000}, 400),
             ("a body that is too long", {"Content-Length": str(32 * 1024 * 1024 + 1)}, 413),
             ("chunks", {"Transfer-Encoding": "chunked"}, 400),
+            ("an expectation that no one has", {"Expect": "x"}, 417),
             ("text/plain, as pages may send", {"Content-Type": "text/plain"}, 200),
         ]
         for name, headers, status in table:
@@ -60,7 +61,7 @@ class LetInTest(unittest.TestCase):
                 found, body = self.running.posted(COUNT, **{key.replace("-", "_"): it for key, it in headers.items()})
                 self.assertEqual(found, status)
                 # As bitcoind's library of HTTP, that says what it doesn't read on a page.
-                self.assertEqual(bool(body), status in (200, 400, 413))
+                self.assertEqual(bool(body), status in (200, 400, 413, 417))
 
     def test_hosts_that_are_none(self):
         for host in (

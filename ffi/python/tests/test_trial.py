@@ -11,7 +11,7 @@ from unittest import mock
 from blocks import Maker, block_id, signed, spend, with_script
 from servers import Running
 from test_bench import KEYS, SECP, SECRETS, pay_to_key
-from wakotehu import Bench, show
+from wakotehu import Bench, consensus, show
 from wakotehu.consensus import Triple
 from wakotehu.encoding import (
     GENESIS, Input, Output, Transaction, block_at_front, coinbase, hash160, mine, push, signature_digest,
@@ -261,6 +261,17 @@ class ReadOnceTest(Blocks):
             self.assertEqual(read.call_count, 1)
         self.assertEqual([tx.get("fee") for tx in shown["tx"]], [None] + [0.00000999] * 1000)
         self.assertEqual((stats["totalfee"], stats["ins"]), (999_000, 1000))
+
+    def test_many_inputs_of_one_transaction(self):
+        """No script has the whole transaction read, where it asks for no signature."""
+        many = of([(self.coins[0],)], [(1000, b"\x51")] * 1000)
+        self.call("generateblock", "raw(51)", [write_transaction(many).hex()])
+        id = many.id
+        spending = write_transaction(of([(id, b"", LAST, n) for n in range(1000)], [(1, b"\x51")]))
+        with mock.patch.object(consensus, "verify_known", wraps=consensus.verify_known) as verify:
+            self.assertIn("hash", self.call("generateblock", "raw(51)", [spending.hex()]))
+        self.assertEqual(verify.call_count, 1000)
+        self.assertLess(sum(len(call.args[0]) for call in verify.call_args_list), 3 * len(spending))
 
     def test_outputs_of_blocks_and_of_one_another(self):
         """Coinbases of ten blocks, and a chain of payments within the block."""

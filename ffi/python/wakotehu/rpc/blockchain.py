@@ -89,17 +89,20 @@ def getblock(node: Node, blockhash: Any, verbosity: Any) -> Any:
     data = node.data(id)
     if level <= 0:
         return data.hex()
-    txs = read_block(data).transactions
     fields = header_fields(node, kept)
+    with node.others():
+        txs = read_block(data).transactions
     names = ("previousblockhash", "nextblockhash")
     last = {name: fields.pop(name) for name in names if name in fields}
     size = len(data)
     fields.update(strippedsize=size, size=size, weight=4 * size)
     if level == 1:
-        fields["tx"] = [show(tx.id) for tx in txs]
+        with node.others():
+            fields["tx"] = [show(tx.id) for tx in txs]
     else:
         spent = node.spent(txs)
-        fields["tx"] = [transaction_fields(tx, spent) for tx in txs]
+        with node.others():
+            fields["tx"] = [transaction_fields(tx, spent) for tx in txs]
     return {**fields, **last}
 
 

@@ -111,7 +111,7 @@ class Handler(BaseHTTPRequestHandler):
 
     def send_error(self, code: int, message: Optional[str] = None, explain: Optional[str] = None) -> None:
         """What isn't HTTP as bitcoind reads it has a page as of its library; it is the connection's end."""
-        code = code if code in (413, 501) else 400
+        code = code if code in (413, 417, 501) else 400
         phrase = HTTPStatus(code).phrase
         page = f"<HTML><HEAD>\n<TITLE>{code} {phrase}</TITLE>\n</HEAD><BODY>\n<H1>{phrase}</H1>\n</BODY></HTML>\n"
         self._answer(code, page.encode(), last=True, kind="text/html")
@@ -129,7 +129,11 @@ class Handler(BaseHTTPRequestHandler):
         if length is None or length > MAX_BODY:
             self.send_error(400 if length is None else 413)
             return
-        if self.headers.get("Expect", "").lower() == "100-continue":
+        expected = self.headers.get("Expect", "").lower()
+        if expected not in ("", "100-continue"):
+            self.send_error(417)
+            return
+        if expected:
             self.send_response_only(100)
             self.end_headers()
         body = self.rfile.read(length)

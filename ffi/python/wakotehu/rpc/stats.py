@@ -49,29 +49,15 @@ def _stats(node: Node, kept: Kept) -> Object:
     outputs = node.spent(others)
     spent = [[outputs[spends.id, spends.index] for spends in tx.inputs] for tx in others]
     fees = [sum(out.value for out in outs) - sum(out.value for out in tx.outputs) for tx, outs in zip(others, spent)]
-    # Without witnesses a byte weighs 4: a rate by virtual bytes is one by bytes.
-    rates = [fee // size for fee, size in zip(fees, sizes)]
     made = [out for tx in txs for out in tx.outputs]
     made_size = sum(_output_size(len(out.script)) for out in made)
     gone_size = sum(_output_size(len(out.script)) for outs in spent for out in outs)
     ins = sum(len(tx.inputs) for tx in others)
-    return {
-        "avgfee": sum(fees) // len(fees) if fees else 0,
-        "avgfeerate": sum(fees) // sum(sizes) if sizes else 0,
-        "avgtxsize": sum(sizes) // len(sizes) if sizes else 0,
+    found = {
         "blockhash": show(kept.id),
-        "feerate_percentiles": _percentiles(list(zip(rates, (4 * size for size in sizes)))),
         "height": kept.height,
         "ins": ins,
-        "maxfee": max(fees, default=0),
-        "maxfeerate": max(rates, default=0),
-        "maxtxsize": max(sizes, default=0),
-        "medianfee": _median(fees),
         "mediantime": kept.median,
-        "mediantxsize": _median(sizes),
-        "minfee": min(fees, default=0),
-        "minfeerate": min(rates, default=0),
-        "mintxsize": min(sizes, default=0),
         "outs": len(made),
         "subsidy": subsidy(kept.height),
         "swtotal_size": 0,
@@ -79,12 +65,39 @@ def _stats(node: Node, kept: Kept) -> Object:
         "swtxs": 0,
         "time": kept.header.time,
         "total_out": sum(out.value for tx in others for out in tx.outputs),
-        "total_size": sum(sizes),
-        "total_weight": 4 * sum(sizes),
-        "totalfee": sum(fees),
         "txs": len(txs),
         "utxo_increase": len(made) - ins,
         "utxo_size_inc": made_size - gone_size,
+        **_of_fees(fees, sizes),
+        **_of_sizes(sizes),
+    }
+    return dict(sorted(found.items()))
+
+
+def _of_fees(fees: List[int], sizes: List[int]) -> Object:
+    # Without witnesses a byte weighs 4: a rate by virtual bytes is one by bytes.
+    rates = [fee // size for fee, size in zip(fees, sizes)]
+    return {
+        "avgfee": sum(fees) // len(fees) if fees else 0,
+        "avgfeerate": sum(fees) // sum(sizes) if sizes else 0,
+        "feerate_percentiles": _percentiles(list(zip(rates, (4 * size for size in sizes)))),
+        "maxfee": max(fees, default=0),
+        "maxfeerate": max(rates, default=0),
+        "medianfee": _median(fees),
+        "minfee": min(fees, default=0),
+        "minfeerate": min(rates, default=0),
+        "totalfee": sum(fees),
+    }
+
+
+def _of_sizes(sizes: List[int]) -> Object:
+    return {
+        "avgtxsize": sum(sizes) // len(sizes) if sizes else 0,
+        "maxtxsize": max(sizes, default=0),
+        "mediantxsize": _median(sizes),
+        "mintxsize": min(sizes, default=0),
+        "total_size": sum(sizes),
+        "total_weight": 4 * sum(sizes),
     }
 
 

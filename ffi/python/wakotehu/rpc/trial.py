@@ -7,7 +7,7 @@ from .. import consensus
 from ..bench import Bench
 from ..chainstate import Coin
 from ..consensus import Triple
-from ..encoding import Spelled, Transaction, block_at_front, subsidy
+from ..encoding import Output, Spelled, Transaction, block_at_front, subsidy, write_transaction
 from ..index import Kept
 from ..pool import Pool
 from ..signatures import Verifier
@@ -130,7 +130,7 @@ class _Trial:
         signatures = _Signatures(self.node.bench)
         for place, turn in enumerate(turns):
             for number, coin in enumerate(turn.spent):
-                if not signatures.accept(turn.data, number, coin.script, flags):
+                if not signatures.accept(turn, number, coin.script, flags):
                     return f"blk-bad-inputs {place}:{number}"
         return ""
 
@@ -143,14 +143,21 @@ class _Signatures:
         self._verifier: Optional[Verifier] = None
         self._table: Optional[Set[Triple]] = None
 
-    def accept(self, data: bytes, number: int, script: bytes, flags: List[str]) -> bool:
-        """Whether an input of a transaction may spend a script."""
+    def accept(self, turn: _Turn, number: int, script: bytes, flags: List[str]) -> bool:
+        """Whether an input of a transaction may spend a script.
+
+        A call reads the whole transaction, so first the input is asked about in a transaction of its own: other inputs and
+        outputs have a part in what is signed alone. Where no unknown signature matters there, none does in the whole one.
+        """
+        tx = turn.tx
+        alone = tx._replace(inputs=[tx.inputs[number]], outputs=[Output(0, b"")])
+        found = consensus.verify_known(write_transaction(alone), 0, script, flags)
         known = {True: b"", False: b""}
-        while True:
-            found = consensus.verify_known(data, number, script, flags, known[True], known[False])
-            if isinstance(found, bool):
-                return found
-            known[self._is_valid(found)] += found.line
+        while not isinstance(found, bool):
+            found = consensus.verify_known(turn.data, number, script, flags, known[True], known[False])
+            if not isinstance(found, bool):
+                known[self._is_valid(found)] += found.line
+        return found
 
     def _is_valid(self, triple: Triple) -> bool:
         if isinstance(self._bench, Bench):
