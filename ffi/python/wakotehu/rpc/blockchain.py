@@ -72,8 +72,9 @@ def header_fields(node: Node, kept: Kept) -> Object:
 @call(GROUP, "blockhash", "verbose", needed=1)
 def getblockheader(node: Node, blockhash: Any, verbose: Any) -> Any:
     """The header of a kept block; as digits where verbose is false."""
-    kept = node.kept(digits(blockhash, "hash"))
-    if verbose is None or boolean(verbose):
+    id, is_shown = digits(blockhash, "hash"), verbose is None or boolean(verbose)
+    kept = node.kept(id)
+    if is_shown:
         return header_fields(node, kept)
     return write_header(kept.header).hex()
 
@@ -92,18 +93,16 @@ def getblock(node: Node, blockhash: Any, verbosity: Any) -> Any:
     fields = header_fields(node, kept)
     with node.others():
         txs = read_block(data).transactions
-    names = ("previousblockhash", "nextblockhash")
-    last = {name: fields.pop(name) for name in names if name in fields}
-    size = len(data)
-    fields.update(strippedsize=size, size=size, weight=4 * size)
-    if level == 1:
-        with node.others():
-            fields["tx"] = [show(tx.id) for tx in txs]
-    else:
-        spent = node.spent(txs)
-        with node.others():
-            fields["tx"] = [transaction_fields(tx, spent) for tx in txs]
-    return {**fields, **last}
+    spent = node.spent(txs) if level > 1 else {}
+    with node.others():
+        found = [transaction_fields(tx, spent) if level > 1 else show(tx.id) for tx in txs]
+    # In Bitcoin Core's order.
+    sizes = {"strippedsize": len(data), "size": len(data), "weight": 4 * len(data)}
+    begin, middle = (
+        {name: fields.pop(name) for name in names}
+        for names in (("hash", "confirmations"), ("height", "version", "versionHex", "merkleroot"))
+    )
+    return {**begin, **sizes, **middle, "tx": found, **fields}
 
 
 @call(GROUP)
