@@ -360,6 +360,23 @@ class ShownTest(CallsTest):
                 found = self.call("decoderawtransaction", *words)
                 self.assertEqual((found["vin"], len(found["vout"]), found["size"]), ([], words[0] == one, len(words[0]) // 2))
 
+    def test_versions_and_signatures_as_litecoind_shows_them(self):
+        """A version has no sign; a hash type is a word where the script can be spent."""
+        signature = "3006020101020101"
+        for script, asm in (
+            ("09" + signature + "01", signature + "[ALL]"), ("09" + signature + "83", signature + "[SINGLE|ANYONECANPAY]"),
+            ("09" + signature + "00", signature + "00"), ("6a09" + signature + "01", "OP_RETURN " + signature + "01"),
+            ("61" * 9991 + "09" + signature + "01", "OP_NOP " * 9991 + signature + "01"),
+            ("61" * 9990 + "09" + signature + "01", "OP_NOP " * 9990 + signature + "[ALL]"),
+        ):  # fmt: skip
+            with self.subTest(script[-40:]):
+                tx = Transaction(-1, [Input(b"\1" * 32, 0, bytes.fromhex(script), 0)], [Output(1, bytes.fromhex(script))], 0)
+                shown = self.call("decoderawtransaction", write_transaction(tx).hex())
+                self.assertEqual(shown["version"], 4294967295)
+                self.assertEqual(shown["vin"][0]["scriptSig"]["asm"], asm)
+                # An output's script has none.
+                self.assertEqual(shown["vout"][0]["scriptPubKey"]["asm"][-8:], script[-8:])
+
     def test_a_block_off_the_branch(self):
         """As litecoind shows it: without its time in getrawtransaction, and without statistics."""
         a, b = self.maker.chain(2), self.maker.chain(1, extra=b"b")

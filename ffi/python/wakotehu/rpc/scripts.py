@@ -10,6 +10,8 @@ from .errors import INVALID_ADDRESS_OR_KEY, RpcError
 _DIGITS = "123456789ABCDEFGHJKLMNPQRSTUVWXYZabcdefghijkmnopqrstuvwxyz"
 #: The first bytes of addresses of regtest, to a hash of a key and of a script.
 KEY_PREFIX, SCRIPT_PREFIX = 111, 196
+#: A script of more bytes can't be spent.
+MAX_SCRIPT = 10_000
 #: A script of keys has no more of them.
 MOST_KEYS = 16
 _WITNESS = {
@@ -40,7 +42,8 @@ _HASH_TYPES = {1: "ALL", 2: "NONE", 3: "SINGLE", 129: "ALL|ANYONECANPAY", 130: "
 
 def asm(script: bytes, signatures: bool = False) -> str:
     """A script's operations as words (Bitcoin Core's `ScriptToAsmStr`); with `signatures` the hash type of what reads as
-    one is a word."""
+    one is a word, except for scripts that can't be spent."""
+    signatures = signatures and script[:1] != b"\x6a" and len(script) <= MAX_SCRIPT
     words, end = [], 0
     for _, number, data, end in operations(script):
         if data is None or number == 0:

@@ -24,7 +24,8 @@ def transaction_fields(
     fields: Object = {
         "txid": show(tx.id),
         "hash": show(tx.id),
-        "version": tx.version,
+        # Without a sign, as Bitcoin Core shows it.
+        "version": tx.version & 0xFFFFFFFF,
         "size": len(data),
         "vsize": len(data),
         "weight": 4 * len(data),
