@@ -225,7 +225,7 @@ class FlagsTest(FolderCase):
             "-printtoconsole=0", "-txindex=0", "-notxindex", "-fallbackfee=0.0002", "-rpcallowip=127.0.0.1",
             "-rpcallowip=::1", "-rpcallowip=127.0.0.0/8", "-rpcthreads=4", "-rpcworkqueue=64", "-chain=regtest", "-dnsseed=0",
             "-connect=0", "-noconnect", "-rest=0", "-prune=0", "-debug=rpc", "-dbcache=64", "-par=2", "-disablewallet",
-            "--server=1", "-nosignet",
+            "--server=1", "-nosignet", "-logtimemicros", "-debugexclude=libevent", "-uacomment=node0", "-rpcdoc=1",
         )  # fmt: skip
         self.assertEqual(server.call("getblockcount"), 0)
 
@@ -235,7 +235,7 @@ class FlagsTest(FolderCase):
             ("-chain=", "regtest alone"), ("-testnet", "regtest alone"), ("-signet=1", "regtest alone"),
             ("-server=0", "the server"), ("-noserver", "the server"), ("-daemon", "foreground"), ("-daemon=1", "foreground"),
             ("-daemonwait", "foreground"), ("-listen", "peers"), ("-listen=1", "peers"), ("-connect=10.0.0.1", ""),
-            ("-addnode=10.0.0.1", "peers"), ("-txindex", "index"), ("-txindex=1", "index"), ("-rest", "/rest/"),
+            ("-addnode=10.0.0.1", "peers"), ("-upnp", "peers"), ("-discover=1", "peers"), ("-debuglogfile=x.log", ""), ("-txindex", "index"), ("-txindex=1", "index"), ("-rest", "/rest/"),
             ("-prune=550", "pruned"), ("-rpcallowip=0.0.0.0/0", "this machine"), ("-rpcallowip=::/0", "this machine"),
             ("-rpcallowip=127.0.0.0/7", "this machine"), ("-rpcallowip=x", "this machine"), ("-rpcthreads=x", "number"),
             ("-fallbackfee=x", "amount"), ("-fallbackfee=", "amount"), ("-zmqpubrawblock=tcp://127.0.0.1:1", "zmqpubrawblock"),

@@ -45,7 +45,6 @@ def _is_any(value: str) -> bool:
 
 
 Rule = Tuple[Callable[[str], bool], str]
-_NO_PEERS: Rule = _is_off, "there are no peers"
 _NO_INDEX: Rule = _is_off, "there is no such index; getrawtransaction takes the block's hash"
 _ONLY: Rule = _is_off, "there is regtest alone"
 
@@ -55,7 +54,11 @@ RULES: Dict[str, Rule] = {
     "testnet": _ONLY, "signet": _ONLY,
     "server": (is_on, "there is nothing but the server"),
     "daemon": (_is_off, "the server stays in the foreground"), "daemonwait": (_is_off, "the server stays in the foreground"),
-    "listen": _NO_PEERS, "connect": _NO_PEERS, "addnode": (lambda value: False, "there are no peers"),
+    **dict.fromkeys(
+        ("listen", "connect", "dnsseed", "fixedseeds", "discover", "upnp", "natpmp", "listenonion"),
+        (_is_off, "there are no peers"),
+    ),
+    "debuglogfile": (_is_off, "nothing is logged"), "addnode": (lambda value: False, "there are no peers"),
     "txindex": _NO_INDEX, "blockfilterindex": _NO_INDEX, "coinstatsindex": _NO_INDEX,
     "rest": (_is_off, "there is no /rest/"), "prune": (_is_off, "nothing is pruned"),
     "rpcallowip": (_is_loopback, "the server answers this machine alone"),
@@ -63,10 +66,11 @@ RULES: Dict[str, Rule] = {
     "fallbackfee": (_is_amount, "it is an amount"),
     **dict.fromkeys(
         (
-            "printtoconsole", "debug", "logtimestamps", "logips", "disablewallet", "dnsseed", "discover", "upnp", "natpmp",
-            "listenonion", "par", "checkblockindex", "checkmempool", "maxconnections", "uacomment", "keypool",
-            "acceptnonstdtxn",
-        ),
+            "printtoconsole debug debugexclude loglevel logips logtimestamps logtimemicros logthreadnames"
+            " logsourcelocations shrinkdebugfile disablewallet keypool addresstype changetype minrelaytxfee"
+            " acceptnonstdtxn maxmempool persistmempool maxconnections"
+            " peertimeout blocksonly uacomment par checkblockindex checkmempool checkblocks checklevel rpcdoc"
+        ).split(),
         (_is_any, ""),
     ),
 }  # fmt: skip
