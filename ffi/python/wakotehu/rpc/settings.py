@@ -25,6 +25,10 @@ def _is_off(value: str) -> bool:
     return not is_on(value)
 
 
+def _is_zero(value: str) -> bool:
+    return value == "0"
+
+
 def _is_loopback(value: str) -> bool:
     try:
         return ipaddress.ip_network(value, strict=False).is_loopback
@@ -55,10 +59,11 @@ RULES: Dict[str, Rule] = {
     "server": (is_on, "there is nothing but the server"),
     "daemon": (_is_off, "the server stays in the foreground"), "daemonwait": (_is_off, "the server stays in the foreground"),
     **dict.fromkeys(
-        ("listen", "connect", "dnsseed", "fixedseeds", "discover", "upnp", "natpmp", "listenonion"),
+        ("listen", "dnsseed", "fixedseeds", "discover", "upnp", "natpmp", "listenonion"),
         (_is_off, "there are no peers"),
     ),
-    "debuglogfile": (_is_off, "nothing is logged"), "addnode": (lambda value: False, "there are no peers"),
+    "connect": (_is_zero, "there are no peers"), "debuglogfile": (_is_zero, "nothing is logged"),
+    "addnode": (lambda value: False, "there are no peers"),
     "txindex": _NO_INDEX, "blockfilterindex": _NO_INDEX, "coinstatsindex": _NO_INDEX,
     "rest": (_is_off, "there is no /rest/"), "prune": (_is_off, "nothing is pruned"),
     "rpcallowip": (_is_loopback, "the server answers this machine alone"),
