@@ -341,7 +341,7 @@ class CookieTest(FolderCase):
         self.assertEqual(first.call("getblockcount"), 0)
 
     def test_of_the_same_file(self):
-        """The one that ends first takes away its own alone."""
+        """The one that ends first removes its own alone."""
         path = self.folder + ".cookie"
         first, second = (self.command(f"-rpccookiefile={path}") for _ in range(2))
         first.end(signal.SIGTERM)

@@ -102,8 +102,8 @@ class LetInTest(unittest.TestCase):
                 self.assertEqual(self.running.posted(COUNT, path=path, Origin="x")[0], 403)
 
     def test_heads(self):
-        """Statuses are litecoind's, but for those of two spaces (404 there), of a carriage return within a line (200) and
-        of another version than 1."""
+        """Statuses are litecoind's, except for two spaces (404 there), a carriage return within a line (200) and HTTP/0.9
+        (200)."""
         fields = f"Host: localhost\r\nAuthorization: {AUTHORIZATION}\r\nContent-Length: {len(COUNT)}\r\n".encode()
         first = b"POST / HTTP/1.1"
         room = 8192 - len(first) - len(fields.replace(b"\r\n", b""))

@@ -1,7 +1,7 @@
 """What `generateblock` judges: a block is judged before the chainstate has it, as the chainstate judges it.
 
 The reasons of the table are what a program of Bitcoin Core 0.21's code answered to `generateblock` of the same transactions
-(Debian's litecoind 0.21.2.1), but for those of signatures and of BIPs 30 and 68, which are RULES.md's.
+(Debian's litecoind 0.21.2.1), except for those of signatures and of BIPs 30 and 68, which are RULES.md's.
 """
 
 import os

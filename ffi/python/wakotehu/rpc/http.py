@@ -78,8 +78,8 @@ class Handler(BaseHTTPRequestHandler):
             self.close_connection = True
 
     def _head(self) -> List[bytes]:
-        """The lines of a request's head, the empty one at its end among them. None where the client is gone, or was
-        told that they are too long."""
+        """The lines of a request's head, with the empty one at its end. Empty where the client is gone, or where they are
+        too long, which is answered."""
         lines: List[bytes] = []
         left = MAX_HEAD
         while left >= 0:
@@ -162,7 +162,7 @@ class Handler(BaseHTTPRequestHandler):
         return None
 
     def _length(self) -> Optional[int]:
-        """The length of the body; None where it isn't told as it has to be."""
+        """The length of the body; None where the head doesn't say it once and in digits."""
         given = self.headers.get_all("Content-Length", ["0"])
         if self.headers.get("Transfer-Encoding") is not None or len(given) > 1:
             return None

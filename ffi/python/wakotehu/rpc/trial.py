@@ -13,7 +13,7 @@ from ..pool import Pool
 from ..signatures import Verifier
 from .node import Node
 
-#: A block's scripts have no more signature operations, and a coinbase's coins may be spent so many blocks above it.
+#: The most signature operations of a block, and how many blocks above a coinbase its coins may be spent.
 MAX_SIGOPS, MATURITY = 20_000, 100
 
 Outpoint = Tuple[bytes, int]
@@ -146,8 +146,8 @@ class _Signatures:
     def accept(self, turn: _Turn, number: int, script: bytes, flags: List[str]) -> bool:
         """Whether an input of a transaction may spend a script.
 
-        A call reads the whole transaction, so first the input is asked about in a transaction of its own: other inputs and
-        outputs have a part in what is signed alone. Where no unknown signature matters there, none does in the whole one.
+        Each call reads the whole transaction, so the input is tried in a transaction of its own first. The rest of a
+        transaction changes nothing but what is signed: a verdict that needs no signature there is the verdict.
         """
         tx = turn.tx
         alone = tx._replace(inputs=[tx.inputs[number]], outputs=[Output(0, b"")])

@@ -100,11 +100,13 @@ def decoderawtransaction(node: Node, hexstring: Any, iswitness: Any) -> Object:
 def raw_transaction(hexstring: Any, fault: str, with_witness: bool) -> Transaction:
     """The transaction of these digits, which is no larger than a block. Outputs without an input are the mark of a
     witness."""
+    data = hexadecimal(hexstring, fault, MAX_SIZE)
     try:
-        tx = read_transaction(hexadecimal(hexstring, fault, MAX_SIZE))
+        tx = read_transaction(data)
     except EncodingError:
         raise RpcError(DESERIALIZATION_ERROR, fault)
-    if with_witness and tx.outputs and not tx.inputs:
+    # A count that isn't spelled shortest is refused.
+    if write_transaction(tx) != data or (with_witness and tx.outputs and not tx.inputs):
         raise RpcError(DESERIALIZATION_ERROR, fault)
     return tx
 

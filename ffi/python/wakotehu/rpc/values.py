@@ -73,7 +73,7 @@ def digits(value: Any, name: str) -> bytes:
 
 
 def hexadecimal(value: Any, fault: str, most: Optional[int] = None) -> bytes:
-    """Bytes as digits, so many at most; `fault` is what is answered to others."""
+    """Bytes as digits, `most` bytes at most; `fault` is the answer to others."""
     given = text(value)
     if most is not None and len(given) > 2 * most:
         raise RpcError(DESERIALIZATION_ERROR, f"{fault} It has more than {most} bytes.")
