@@ -102,8 +102,8 @@ class LetInTest(unittest.TestCase):
                 self.assertEqual(self.running.posted(COUNT, path=path, Origin="x")[0], 403)
 
     def test_heads(self):
-        """Statuses are litecoind's, except for two spaces (404 there), a carriage return within a line (200) and HTTP/0.9
-        (200)."""
+        """Statuses are litecoind's, except for two spaces (404 there), a carriage return within a line (200), a space
+        in a header's name (200) and HTTP/0.9 (200)."""
         fields = f"Host: localhost\r\nAuthorization: {AUTHORIZATION}\r\nContent-Length: {len(COUNT)}\r\n".encode()
         first = b"POST / HTTP/1.1"
         room = 8192 - len(first) - len(fields.replace(b"\r\n", b""))
@@ -116,7 +116,7 @@ class LetInTest(unittest.TestCase):
             (b"POST /" + b"a" * 9000 + b" HTTP/1.1", b"", 400), (first, b"X: " + b"a" * (room - 3) + b"\r\n", 200),
             (first, b"X: " + b"a" * (room - 2) + b"\r\n", 400), (first, b"X: " + b"a" * 60000 + b"\r\n", 400),
             (first, b"X: a\r\n" * 90, 200), (first, b"X: a\r\n" * 2100, 400), (first, b"\r\r\n" * 9000, 400),
-            (first, b"X: a\r\n b\r\n", 200), (first, b"X\r\n", 400), (first, b"X: a\rOrigin: b\r\n", 400),
+            (first, b"X: a\r\n b\r\n", 200), (first, b"X\r\n", 400), (first, b"X y: z\r\n", 400), (first, b"X : z\r\n", 400), (first, b"X: a\rOrigin: b\r\n", 400),
         ]  # fmt: skip
         for line, more, status in table:
             with self.subTest(line=line[:30], more=more[:30]):

@@ -30,7 +30,7 @@ LOOPBACK = ("127.0.0.1", "localhost", "::1")
 METHODS = ("GET", "POST", "HEAD", "PUT", "DELETE")
 _FIRST = re.compile(rb"([!-~]+) ([!-~\x80-\xff]+) HTTP/1\.[0-9]\r?\n")
 #: A header, or a line that goes on with it.
-_FIELD = re.compile(rb"(?:[^:\r\n]+:|[ \t])[^\r\n]*\r?\n")
+_FIELD = re.compile(rb"(?:[!-9;-~]+:|[ \t])[^\r\n]*\r?\n")
 _HOST = re.compile(r"(?:\[([0-9a-f:.]+)\]|([a-z0-9.-]+))(?::[0-9]{0,5})?")
 
 #: Answers a request's body by an HTTP status and a body; asks whether the client is gone.
