@@ -177,8 +177,8 @@ def _number(parser: argparse.ArgumentParser, word: str, flag: str, most: int) ->
     return int(word)
 
 
-def _gate(given: argparse.Namespace) -> Gate:
-    """Who is let in by a password. No one by the cookie yet."""
+def _gate(given: argparse.Namespace) -> Tuple[Gate, bool]:
+    """Who is let in by a password, and whether there is a cookie too: as at bitcoind, where there is no rpcpassword."""
     gate = Gate(anyone=given.no_auth)
     user = given.rpcuser or os.environ.get("WAKOTEHU_RPCUSER", "")
     password = given.password or os.environ.get("WAKOTEHU_RPCPASSWORD", "")
@@ -188,7 +188,7 @@ def _gate(given: argparse.Namespace) -> Gate:
         raise BadFolder("there is a user without a password: see --help")
     for line in given.rpcauth + os.environ.get("WAKOTEHU_RPCAUTH", "").split():
         gate.add_salted(line)
-    return gate
+    return gate, not password and not given.no_auth
 
 
 def _cookie_path(given: argparse.Namespace, port: int) -> str:
@@ -254,14 +254,14 @@ def main(words: Optional[Sequence[str]] = None) -> None:
     signal.signal(signal.SIGTERM, signal.default_int_handler)
     try:
         folder = Folder(given.datadir, given.fsync) if given.datadir else None
-        gate = _gate(given)
+        gate, has_cookie = _gate(given)
         with _bench(given, folder) as bench:
             if folder:
                 print(f"{_replay(folder, bench)} commands of {given.datadir} were taken again", flush=True)
             hosts = list(dict.fromkeys(host.strip("[]") for host in given.rpcbind)) or ["127.0.0.1"]
 
             def ready(port: int) -> None:
-                if not gate.knows_anyone():
+                if has_cookie:
                     cookies.append(_bake(given, gate, port))
                 print(f"127.0.0.1:{port}" + "".join(f" cookie {path}" for path, _ in cookies), flush=True)
 

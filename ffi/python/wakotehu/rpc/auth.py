@@ -34,10 +34,6 @@ class Gate:
             raise ValueError("rpcauth is NAME:SALT$HASH")
         self._salted.append([user, salt, digest])
 
-    def knows_anyone(self) -> bool:
-        """Whether someone is let in."""
-        return bool(self.anyone or self._plain or self._salted)
-
     def lets_in(self, header: Optional[str]) -> bool:
         """Whether an HTTP header `Authorization` is a known user's. It takes the same time for any wrong one."""
         if self.anyone:
