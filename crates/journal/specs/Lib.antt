@@ -1,4 +1,5 @@
 pub mod Agreement
+pub mod Found
 pub mod Heights
 pub mod Line
 pub mod Saved

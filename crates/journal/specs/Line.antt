@@ -1,6 +1,11 @@
 -- A line of the journal.
 use Rattle.std.specs.Prelude.{◌≡◌, ◌⊎◌, ℕ, ◌+◌, List, [], ◌++◌, Option, Some, None, codes, slice_get}
 use Rattle.std.specs.Fmt.{decimal}
+use Rattle.std.specs.Option.{option_map}
+use Rattle.block.specs.Decoding.{block_of_bytes}
+use Rattle.block.specs.Identity.{id_of}
+use Rattle.chain.specs.declared.command.Command.{Command}
+use Rattle.chain.specs.declared.command.Command.TheVariants as command
 use Rattle.chain.specs.declared.reply.Reply.{Reply}
 use Rattle.chain.specs.ReplyText.{text_of_reply}
 use Rattle.journal.specs.declared.step.Asked.{Asked}
@@ -9,6 +14,27 @@ use Rattle.journal.specs.declared.step.Step.{Step}
 use Rattle.hash.specs.declared.id.Id.{Id}
 use Rattle.hash.specs.Id.{hex_of_id}
 use Rattle.std.specs.List.{flat_map}
+
+-- what a command asks
+abbrev pub asked_of : Command → Asked
+asked_of (command.Submit bytes now) = asked.Submit now
+asked_of (command.Invalidate id) = asked.Invalidate
+asked_of (command.Reconsider id) = asked.Reconsider
+asked_of (command.Precious id) = asked.Precious
+
+-- the id of the block that it is about, if its bytes are a block
+abbrev pub named_by : Command → Option Id
+named_by (command.Submit bytes now) = option_map (λ b. id_of b.header) (block_of_bytes bytes)
+named_by (command.Invalidate id) = Some id
+named_by (command.Reconsider id) = Some id
+named_by (command.Precious id) = Some id
+
+-- the moment of a submission
+abbrev pub when_of : Asked → Option ℕ
+when_of (asked.Submit now) = Some now
+when_of asked.Invalidate = None
+when_of asked.Reconsider = None
+when_of asked.Precious = None
 
 abbrev pub word_of : Asked → List ℕ
 word_of (asked.Submit now) = codes "submit"

@@ -28,6 +28,11 @@ impl Finding {
 }
 
 impl fmt::Display for Finding {
+    ghost use Rattle.std.specs.Prelude.{Some};
+    ghost use Rattle.journal.specs.Found.{text_of_finding};
+
+    ghost output = { λ finding. Some (text_of_finding finding) };
+
     fn fmt<W: fmt::Write>(&self, f: &mut fmt::Formatter<W>) -> fmt::Result {
         match self {
             Finding::Agrees => f.write_str("agrees\n"),

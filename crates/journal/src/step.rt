@@ -1,8 +1,9 @@
 //! The lines of the journal.
 
-ghost use Rattle.std.specs.Prelude.{◌≡◌, Some};
+ghost use Rattle.std.specs.Prelude.{◌≡◌, ◌⊎◌, IfErr, IfOk, None, Some};
 ghost use Rattle.std.specs.Fmt.{◌++?◌};
-ghost use Rattle.journal.specs.Line.{word_of, moment_of, text_of_answer, front_of, rest_of};
+ghost use Rattle.block.specs.declared.fault.ReadFault.TheVariants as faults;
+ghost use Rattle.journal.specs.Line.{asked_of, named_by, when_of, word_of, moment_of, text_of_answer, front_of, rest_of};
 
 use block::ReadFault;
 use chain::{Command, Entry, Reply};
@@ -32,7 +33,10 @@ pub struct Step<'t, B> {
 }
 
 impl Asked {
-    pub fn from_command(command: &Command) -> Asked {
+    /// What a command asks.
+    pub fn from_command(command: &Command) -> Asked
+        ensures { result ≡ asked_of command.now }
+    {
         match command {
             Command::Submit(_, now) => Asked::Submit(*now),
             Command::Invalidate(_) => Asked::Invalidate,
@@ -54,7 +58,9 @@ impl Asked {
     }
 
     /// The moment of a submission.
-    pub fn moment(self) -> Option<u64> {
+    pub fn moment(self) -> Option<u64>
+        ensures { result ≡ when_of self }
+    {
         match self {
             Asked::Submit(now) => Some(now),
             _ => None,
@@ -63,7 +69,12 @@ impl Asked {
 }
 
 /// The id of the block that an entry is about.
-pub fn block_of(alloc: Global, entry: &Entry) -> Result<Id, ReadFault> {
+pub fn block_of(alloc: Global, entry: &Entry) -> Result<Id, ReadFault>
+    ensures named { IfOk result (λ id. named_by entry.now.command ≡ Some id) }
+    // Only bytes that are no block name none, unless memory runs out.
+    ensures unnamed { IfErr result (λ fault. (fault ≡ faults.Memory)
+        ⊎ (named_by entry.now.command ≡ None)) }
+{
     match &entry.command {
         Command::Submit(bytes, _) => Ok(block::read(alloc, bytes.as_slice())?.header.id()),
         Command::Invalidate(id) => Ok(*id),
