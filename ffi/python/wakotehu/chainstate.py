@@ -1,14 +1,15 @@
 """The proved chainstate."""
 
 import ctypes
-import operator
+import re
 import threading
 import time
 from types import TracebackType
 from typing import Any, Iterator, List, NamedTuple, NoReturn, Optional, Sequence, Tuple, Type, Union
 
-from . import errors
-from .consensus import Triple
+from . import arguments, errors
+from .arguments import id_of, number, octets
+from .consensus import Triple, triple_of
 from .library import Answer, CoinCall, Heights, library
 from .library import Coin as _Coin
 from .library import Tip as _Tip
@@ -16,6 +17,8 @@ from .library import Tip as _Tip
 #: The heights of regtest: all soft forks from height 1 on.
 REGTEST = (1, 1, 1, 1)
 
+_DIGITS = re.compile("[0-9A-Fa-f]{64}")
+_MARKS = ("invalidate", "reconsider", "precious")
 _STATUS = ("", "active", "invalid", "valid-fork", "valid-headers")
 _REPLIES = (
     "", "accepted", "inconclusive", "duplicate", "duplicate-invalid", "duplicate-inconclusive", "rejected",
@@ -25,15 +28,14 @@ _REPLIES = (
 
 def show(id: bytes) -> str:
     """An id as it is printed: its bytes reversed, in hexadecimal."""
-    return id[::-1].hex()
+    return id_of(id)[::-1].hex()
 
 
 def read_id(text: str) -> bytes:
     """The id that is printed so."""
-    id = bytes.fromhex(text)[::-1]
-    if len(id) != 32:
-        raise ValueError("an id has 64 digits")
-    return id
+    if not _DIGITS.fullmatch(arguments.text(text, "text")):
+        raise ValueError("text must have the 64 digits of an id")
+    return bytes.fromhex(text)[::-1]
 
 
 class Coin(NamedTuple):
@@ -79,6 +81,15 @@ class Reply(NamedTuple):
         return self.reply
 
 
+def reply_of(answer: Answer) -> Reply:
+    """The reply that the library wrote."""
+    reply, reason = _REPLIES[answer.reply], errors.REASONS[answer.reason]
+    text = reason or reply
+    if reason == "blk-bad-inputs":
+        text = f"{reason} {answer.transaction}:{answer.input}"
+    return Reply(text, reply, reason, answer.transaction, answer.input)
+
+
 class Chainstate:
     """A chainstate, as the proved library keeps it. It begins with the genesis block alone.
 
@@ -99,11 +110,10 @@ class Chainstate:
         self, heights: Sequence[int] = REGTEST, table: Union[str, bytes] = b"", by_need: bool = False
     ) -> None:
         self._handle = 0
-        rules = Heights(*read_heights(heights))
+        rules, text = Heights(*read_heights(heights)), arguments.lines(table, "table")
+        if arguments.flag(by_need, "by_need") and text:
+            raise ValueError("table must be empty where by_need is True")
         self._library = library()
-        text = table.encode() if isinstance(table, str) else bytes(table)
-        if by_need and text:
-            raise ValueError("a table, or by need")
         handle, line = ctypes.c_uint64(), ctypes.c_uint64()
         if by_need:
             code = self._library.wakotehu_open_by_need(ctypes.byref(handle), ctypes.byref(rules))
@@ -154,8 +164,13 @@ class Chainstate:
 
     def try_submit(self, block: bytes, now: Optional[int] = None) -> Reply:
         """The same, and a refusal is answered, not raised."""
-        block, moment = bytes(block), int(time.time()) if now is None else _number(now, 64, "a moment")
-        return self._command("submit", block, len(block), moment)
+        return self._submit_into(Answer(), block, now)
+
+    def _submit_into(self, answer: Answer, block: bytes, now: Optional[int] = None) -> Reply:
+        """The same, and the library itself writes the answer in the same call in which it takes the step: so that is
+        known even where an interrupt keeps this from returning."""
+        block, moment = octets(block, "block"), moment_of(now)
+        return self._command("submit", arguments.instance(answer, Answer, "answer"), block, len(block), moment)
 
     def invalidate(self, id: bytes) -> None:
         """Marks a block as invalid. One that isn't kept raises `NotFound`; the genesis block raises `Genesis`."""
@@ -171,9 +186,11 @@ class Chainstate:
 
     def try_mark(self, command: str, id: bytes) -> Reply:
         """One of "invalidate", "reconsider", "precious"; a refusal is answered, not raised."""
-        if command not in ("invalidate", "reconsider", "precious"):
-            raise ValueError(command)
-        return self._command(command, _id(id))
+        return self._mark_into(Answer(), command, id)
+
+    def _mark_into(self, answer: Answer, command: str, id: bytes) -> Reply:
+        """As `_submit_into`."""
+        return self._command(mark_of(command), arguments.instance(answer, Answer, "answer"), id_of(id))
 
     # ---- signatures by need
 
@@ -195,9 +212,7 @@ class Chainstate:
 
     def learn(self, triple: Triple, valid: bool) -> None:
         """Hands in whether a signature is valid. A verdict that contradicts a known one raises `Contradiction`."""
-        key, signature, digest = triple
-        if len(digest) != 32:
-            raise ValueError("a digest has 32 bytes")
+        (key, signature, digest), valid = triple_of(triple), arguments.flag(valid, "valid")
         words = key, len(key), signature, len(signature), digest, int(valid)
         self._check(self._library.wakotehu_learn(self._handle, *words))
 
@@ -230,7 +245,7 @@ class Chainstate:
 
     def coin(self, id: bytes, index: int) -> Optional[Coin]:
         """The coin at an outpoint, or None."""
-        id, index = _id(id), _number(index, 32, "the number of an output")
+        id, index = id_of(id), number(index, "index")
         coin, script = _Coin(), ctypes.create_string_buffer(128)
         for _ in range(2):
             code = self._library.wakotehu_coin_at(
@@ -269,7 +284,7 @@ class Chainstate:
 
         Kept are the blocks that were accepted or inconclusive, and those that were refused over the coins.
         """
-        id, needed, data = _id(id), ctypes.c_size_t(), ctypes.create_string_buffer(4096)
+        id, needed, data = id_of(id), ctypes.c_size_t(), ctypes.create_string_buffer(4096)
         for _ in range(2):
             code = self._library.wakotehu_block(self._handle, id, data, len(data), ctypes.byref(needed))
             if code != 5:
@@ -283,25 +298,20 @@ class Chainstate:
     def is_kept(self, id: bytes) -> bool:
         """Whether `block` has the bytes of a block. It doesn't of genesis."""
         needed = ctypes.c_size_t()
-        code = self._library.wakotehu_block(self._handle, _id(id), None, 0, ctypes.byref(needed))
+        code = self._library.wakotehu_block(self._handle, id_of(id), None, 0, ctypes.byref(needed))
         if code not in (4, 5):
             self._check(code)
         return bool(code == 5)
 
     # ---- inside
 
-    def _command(self, name: str, *words: object) -> Reply:
-        answer = Answer()
+    def _command(self, name: str, answer: Answer, *words: object) -> Reply:
         code = getattr(self._library, f"wakotehu_{name}")(self._handle, *words, ctypes.byref(answer))
         if code == 31:
             lines = self._want_lines()
             raise errors.Wants(Triple.of_lines(lines), lines)
         self._check(code)
-        reply, reason = _REPLIES[answer.reply], errors.REASONS[answer.reason]
-        text = reason or reply
-        if reason == "blk-bad-inputs":
-            text = f"{reason} {answer.transaction}:{answer.input}"
-        return Reply(text, reply, reason, answer.transaction, answer.input)
+        return reply_of(answer)
 
     def _check(self, code: int) -> None:
         if code == 0:
@@ -346,23 +356,15 @@ class _Walk:
 
 
 def read_heights(heights: Sequence[int]) -> Tuple[int, int, int, int]:
-    """Four heights of 32 bits, or ValueError."""
-    if len(heights) != 4:
-        raise ValueError(f"there are four heights, of BIPs 34, 65, 66 and 68, not {len(heights)}")
-    bip34, bip65, bip66, csv = (_number(height, 32, "a height") for height in heights)
-    return bip34, bip65, bip66, csv
+    """Four heights of 32 bits, of BIPs 34, 65, 66 and 68, or ValueError."""
+    return arguments.heights(heights)
 
 
-def _number(number: int, bits: int, what: str) -> int:
-    """A number without sign of so many bits. C would cut another one to its width."""
-    number = operator.index(number)
-    if not 0 <= number < 2**bits:
-        raise ValueError(f"{what} is from 0 to {2**bits - 1}, not {number}")
-    return number
+def moment_of(now: Optional[int]) -> int:
+    """A moment in seconds since 1970: the one that is given, or now."""
+    return int(time.time()) if now is None else number(now, "now", 64)
 
 
-def _id(id: bytes) -> bytes:
-    id = bytes(id)
-    if len(id) != 32:
-        raise ValueError("an id has 32 bytes")
-    return id
+def mark_of(command: str) -> str:
+    """The name of a command that marks blocks."""
+    return arguments.word(command, "command", _MARKS)

@@ -10,6 +10,8 @@ from ctypes import POINTER, c_char_p, c_int, c_int64, c_size_t, c_uint8, c_uint3
 from dataclasses import dataclass
 from typing import Any, Callable, Iterable, Iterator, List, NamedTuple, Optional, Sequence, Tuple, Union
 
+from . import arguments
+from .arguments import id_of, number, octets, signed
 from .errors import REASONS, BadTable, Error
 from .library import Heights, library
 
@@ -146,20 +148,9 @@ def _call(name: str, *args: Any) -> int:
     return code
 
 
-def _sized(data: bytes) -> Tuple[bytes, int]:
-    return bytes(data), len(data)
-
-
-def _word(value: int, bits: int = 32) -> int:
-    if not 0 <= value < 1 << bits:
-        raise ValueError(f"{value} isn't a number of {bits} bits")
-    return value
-
-
-def _id(id: bytes) -> bytes:
-    if len(id) != 32:
-        raise ValueError("an id, or a digest, has 32 bytes")
-    return bytes(id)
+def _sized(data: bytes, name: str = "data") -> Tuple[bytes, int]:
+    data = octets(data, name)
+    return data, len(data)
 
 
 # ---- transactions
@@ -219,6 +210,7 @@ class Parts:
 
 def transaction_parts(data: bytes) -> Parts:
     """The parts of the transaction at the front of bytes."""
+    data = octets(data, "data")
     whole = transaction(data)
     ins, outs = (_Input * whole.inputs)(), (_Output * whole.outputs)()
     room = ctypes.create_string_buffer(whole.size)
@@ -236,36 +228,41 @@ def transaction_parts(data: bytes) -> Parts:
 
 def write_transaction(parts: Parts) -> bytes:
     """The bytes of the transaction of these parts."""
-    ins, outs = (_Input * len(parts.inputs))(), (_Output * len(parts.outputs))()
-    for row, own in zip(ins, parts.inputs):
-        row.id[:] = _id(own.id)
-        row.script, row.index, row.sequence = len(own.script), _word(own.index), _word(own.sequence)
-    for out, made in zip(outs, parts.outputs):
-        _word(made.value + (1 << 63), 64)
-        out.value, out.script = made.value, len(made.script)
-    scripts = b"".join([own.script for own in parts.inputs] + [made.script for made in parts.outputs])
-    _word(parts.version + (1 << 31))
-    most = 64 + len(scripts) + 49 * len(ins) + 17 * len(outs)
+    arguments.instance(parts, Parts, "parts")
+    inputs = arguments.sequence_of(parts.inputs, Input, "parts.inputs")
+    outputs = arguments.sequence_of(parts.outputs, Output, "parts.outputs")
+    version, lock_time = signed(parts.version, "parts.version"), number(parts.lock_time, "parts.lock_time")
+    ins, outs, scripts = (_Input * len(inputs))(), (_Output * len(outputs))(), []
+    for row, own in zip(ins, inputs):
+        scripts.append(octets(own.script, "parts.inputs.script"))
+        row.id[:], row.script = id_of(own.id, "parts.inputs.id"), len(scripts[-1])
+        row.index = number(own.index, "parts.inputs.index")
+        row.sequence = number(own.sequence, "parts.inputs.sequence")
+    for out, made in zip(outs, outputs):
+        scripts.append(octets(made.script, "parts.outputs.script"))
+        out.value, out.script = signed(made.value, "parts.outputs.value", 64), len(scripts[-1])
+    whole = b"".join(scripts)
+    most = 64 + len(whole) + 49 * len(ins) + 17 * len(outs)
     room, length = ctypes.create_string_buffer(most), c_uint64()
     _call(
-        "write_transaction", parts.version, _word(parts.lock_time), ins, len(ins), outs, len(outs), *_sized(scripts),
-        room, most, length,
-    )  # fmt: skip
+        "write_transaction", version, lock_time, ins, len(ins), outs, len(outs), whole, len(whole), room, most, length
+    )
     return room.raw[: length.value]
 
 
 def is_final(data: bytes, height: int, cutoff: int) -> bool:
     """Whether the transaction may stand in a block of a height; the cutoff is its parent's median time past."""
     yes = c_uint32()
-    _call("is_final", *_sized(data), _word(height), _word(cutoff), yes)
+    _call("is_final", *_sized(data), number(height, "height"), number(cutoff, "cutoff"), yes)
     return bool(yes.value)
 
 
 def locks_met(data: bytes, starts: Sequence[Tuple[int, int]], height: int, cutoff: int) -> bool:
     """Whether its relative locks are met there (BIP 68), given each input's coin height and median time past."""
     yes = c_uint32()
-    rows = (_Start * len(starts))(*(_Start(_word(high), _word(middle)) for high, middle in starts))
-    _call("locks_met", *_sized(data), rows, len(starts), _word(height), _word(cutoff), yes)
+    pairs = [arguments.several(start, "starts", 2) for start in arguments.sequence(starts, "starts")]
+    rows = (_Start * len(pairs))(*(_Start(*(number(own, "starts") for own in pair)) for pair in pairs))
+    _call("locks_met", *_sized(data), rows, len(rows), number(height, "height"), number(cutoff, "cutoff"), yes)
     return bool(yes.value)
 
 
@@ -311,6 +308,7 @@ def block_size(data: bytes) -> int:
 
 def block_ids(data: bytes) -> List[bytes]:
     """The ids of a block's transactions, in order."""
+    data = octets(data, "data")
     count = block(data).transactions
     rows, found = (_Made * count)(), c_uint64()
     _call("block_transactions", *_sized(data), rows, count, found)
@@ -322,16 +320,17 @@ def block_place(
 ) -> str:
     """The first rule that a block breaks by its place, "" for none: at a height, with its parent's median time past, at
     a moment, where the soft forks of BIPs 34, 65, 66 and 68 are in force from these heights on."""
-    reason = c_uint32()
-    _call(
-        "block_place", *_sized(data), _word(height), _word(median), _word(now, 64), Heights(*map(_word, heights)), reason
-    )
+    reason, place = c_uint32(), (number(height, "height"), number(median, "median"), number(now, "now", 64))
+    _call("block_place", *_sized(data), *place, Heights(*arguments.heights(heights)), reason)
     return REASONS[reason.value]
 
 
 def records(data: bytes) -> Iterator[bytes]:
     """The blocks of a blk file of regtest, one by one."""
-    data = bytes(data)
+    return _records(octets(data, "data"))
+
+
+def _records(data: bytes) -> Iterator[bytes]:
     rest, at, size = _rest_of(data), 0, c_uint64()
     while _call("record", *rest(at), size) == 0:
         yield data[at + 8 : at + 8 + size.value]
@@ -340,21 +339,22 @@ def records(data: bytes) -> Iterator[bytes]:
 
 def subsidy(height: int) -> int:
     """The new coins of a block of this height on regtest, in satoshis."""
+    height = number(height, "height")
     _call("double_sha", b"", 0, ctypes.create_string_buffer(32))
-    return int(library().wakotehu_subsidy(_word(height)))
+    return int(library().wakotehu_subsidy(height))
 
 
 def meets_target(id: bytes) -> bool:
     """Whether an id meets regtest's target."""
     yes = c_uint32()
-    _call("meets_target", _id(id), yes)
+    _call("meets_target", id_of(id), yes)
     return bool(yes.value)
 
 
 def median(times: Sequence[int]) -> int:
     """The median of 1 to 11 times."""
-    found = c_uint32()
-    _call("median", (c_uint32 * len(times))(*map(_word, times)), len(times), found)
+    found, rows = c_uint32(), [number(own, "times") for own in arguments.sequence(times, "times")]
+    _call("median", (c_uint32 * len(rows))(*rows), len(rows), found)
     return found.value
 
 
@@ -372,7 +372,7 @@ class Opcode:
 
 def opcodes(script: bytes) -> Tuple[List[Opcode], bytes]:
     """A script's opcodes, and the rest: nothing, or a push that is cut short."""
-    script = bytes(script)
+    script = octets(script, "script")
     rest, found, at, shown = _rest_of(script), [], 0, _Opcode()
     while _call("next_opcode", *rest(at), shown) == 0:
         end = at + shown.length
@@ -402,21 +402,20 @@ def script(data: bytes) -> Script:
 def p2sh_sigops(input: bytes, spent: bytes) -> int:
     """The signature operations of the inner script of an input script and the script that it spends (BIP 16)."""
     count = c_uint64()
-    _call("p2sh_sigops", *_sized(input), *_sized(spent), count)
+    _call("p2sh_sigops", *_sized(input, "input"), *_sized(spent, "spent"), count)
     return count.value
 
 
 def read_number(data: bytes, most: int = 4) -> Optional[int]:
     """The number that at most so many bytes spell, or None."""
     value = c_int64()
-    return None if _call("read_number", *_sized(data), _word(most, 64), value) else value.value
+    return None if _call("read_number", *_sized(data), number(most, "most", 64), value) else value.value
 
 
 def number_bytes(value: int) -> bytes:
     """The shortest spelling of a number of 64 bits."""
-    _word(value + (1 << 63), 64)
     room, count = ctypes.create_string_buffer(9), c_uint64()
-    _call("number_bytes", value, room, 9, count)
+    _call("number_bytes", signed(value, "value", 64), room, 9, count)
     return room.raw[: count.value]
 
 
@@ -429,8 +428,12 @@ def strict_signature(data: bytes) -> bool:
 
 def signature_digest(data: bytes, input: int, code: bytes, kind: int) -> bytes:
     """What a signature of an input signs, for a code and a hash type."""
-    found = ctypes.create_string_buffer(32)
-    _call("signature_digest", *_sized(data), _word(input, 64), *_sized(code), _word(kind), found)
+    return _digest("signature_digest", data, input, code, kind)
+
+
+def _digest(name: str, data: bytes, input: int, code: bytes, kind: int) -> bytes:
+    found, place = ctypes.create_string_buffer(32), number(input, "input", 64)
+    _call(name, *_sized(data), place, *_sized(code, "code"), number(kind, "kind"), found)
     return found.raw
 
 
@@ -450,13 +453,32 @@ class Triple(NamedTuple):
     @classmethod
     def of_line(cls, line: bytes) -> "Triple":
         """The triple of such a line."""
-        return cls(*(b"" if word == b"-" else unhexlify(word) for word in line.split()))
+        words = octets(line, "line").split()
+        if len(words) != 3 or len(words[2]) != 64:
+            raise ValueError("line must have a key, a signature and a digest")
+        return cls(*(_unhexed(word, "line") for word in words))
 
     @classmethod
-    def of_lines(cls, lines: Iterable[bytes]) -> List["Triple"]:
+    def of_lines(cls, lines: Sequence[bytes]) -> List["Triple"]:
         """The triples of such lines, one each."""
-        words = [b"" if word == b"-" else unhexlify(word) for word in b"\n".join(lines).split()]
+        joined = b"\n".join([octets(line, "lines") for line in arguments.sequence(lines, "lines")])
+        words = [_unhexed(word, "lines") for word in joined.split()]
+        if len(words) != 3 * len(lines) or any(len(digest) != 32 for digest in words[2::3]):
+            raise ValueError("lines must have a key, a signature and a digest each")
         return list(map(cls, words[::3], words[1::3], words[2::3]))
+
+
+def _unhexed(word: bytes, name: str) -> bytes:
+    try:
+        return b"" if word == b"-" else unhexlify(word)
+    except ValueError:
+        raise ValueError(f"{name} must have hexadecimal words") from None
+
+
+def triple_of(triple: Triple) -> Triple:
+    """A triple whose parts are bytes, 32 of them the digest."""
+    key, signature, digest = arguments.several(triple, "triple", 3)
+    return Triple(octets(key, "triple.key"), octets(signature, "triple.signature"), id_of(digest, "triple.digest"))
 
 
 class Table:
@@ -466,7 +488,7 @@ class Table:
     with `#`, are skipped. A line that can't be read raises `BadTable`."""
 
     def __init__(self, text: Union[str, bytes] = b"") -> None:
-        self._text = text.encode() if isinstance(text, str) else bytes(text)
+        self._text = arguments.lines(text, "text")
         line = c_uint64()
         if _call("table_read", *_sized(self._text), line) == 3:
             raise BadTable(line.value)
@@ -478,15 +500,17 @@ class Table:
 
     def add(self, key: bytes, signature: bytes, digest: bytes) -> None:
         """Puts a triple in."""
-        most = len(self._text) + 2 * (len(key) + len(signature)) + 69
+        words = (*_sized(key, "key"), *_sized(signature, "signature"), id_of(digest, "digest"))
+        most = len(self._text) + 2 * (words[1] + words[3]) + 69
         room, length = ctypes.create_string_buffer(self._text, most), c_size_t(len(self._text))
-        _call("table_add", room, most, length, *_sized(key), *_sized(signature), _id(digest))
+        _call("table_add", room, most, length, *words)
         self._text = room.raw[: length.value]
 
     def has(self, key: bytes, signature: bytes, digest: bytes) -> bool:
         """Whether a triple is there."""
         line, yes = c_uint64(), c_uint32()
-        _call("table_has", *_sized(self._text), *_sized(key), *_sized(signature), _id(digest), line, yes)
+        words = (*_sized(key, "key"), *_sized(signature, "signature"), id_of(digest, "digest"))
+        _call("table_has", *_sized(self._text), *words, line, yes)
         return bool(yes.value)
 
 
@@ -496,8 +520,8 @@ def verify(
     """Whether an input of a transaction may spend a script under some of "DERSIG", "CLTV" and "CSV". The table has the
     signatures that are valid; its text is read by each call."""
     line, yes = c_uint64(), c_uint32()
-    asked = (*_sized(data), _word(input, 64), *_sized(spent), _forced(flags))
-    if _call("verify", *asked, *_sized(_text(table)), line, yes) == 3:
+    asked = (*_sized(data), number(input, "input", 64), *_sized(spent, "spent"), _forced(flags))
+    if _call("verify", *asked, *_sized(_text(table, "table")), line, yes) == 3:
         raise BadTable(line.value)
     return bool(yes.value)
 
@@ -511,8 +535,8 @@ def verify_known(
     both tables raises `Refused`."""
     line, yes, needed = c_uint64(), c_uint32(), c_uint64()
     room = ctypes.create_string_buffer(_MOST_ASKED)
-    asked = (*_sized(data), _word(input, 64), *_sized(spent), _forced(flags))
-    tables = (*_sized(_text(valid)), *_sized(_text(invalid)))
+    asked = (*_sized(data), number(input, "input", 64), *_sized(spent, "spent"), _forced(flags))
+    tables = (*_sized(_text(valid, "valid")), *_sized(_text(invalid, "invalid")))
     code = _call("verify_known", *asked, *tables, line, yes, room, _MOST_ASKED, needed)
     if code == 3:
         raise BadTable(line.value)
@@ -520,14 +544,13 @@ def verify_known(
 
 
 def _forced(flags: Iterable[str]) -> _Flags:
-    names = set(flags)
-    if not names <= ALL:
-        raise ValueError(f"no such flags: {sorted(names - ALL)}")
-    return _Flags(*(int(name in names) for name in ("DERSIG", "CLTV", "CSV")))
+    order = ("DERSIG", "CLTV", "CSV")
+    names = arguments.words_of(flags, "flags", order)
+    return _Flags(*(int(name in names) for name in order))
 
 
-def _text(table: Union[str, bytes, Table]) -> bytes:
-    return table.text if isinstance(table, Table) else table.encode() if isinstance(table, str) else table
+def _text(table: Union[str, bytes, Table], name: str) -> bytes:
+    return table.text if isinstance(table, Table) else arguments.lines(table, name)
 
 
 # ---- hashes
@@ -557,11 +580,11 @@ def double_sha(data: bytes) -> bytes:
 def show(id: bytes) -> str:
     """An id as it is printed."""
     digits = ctypes.create_string_buffer(64)
-    _call("show_id", _id(id), digits)
+    _call("show_id", id_of(id), digits)
     return digits.raw.decode()
 
 
 def read_id(text: str) -> Optional[bytes]:
     """The id that is printed so, or None."""
     found = ctypes.create_string_buffer(32)
-    return None if _call("read_id", *_sized(text.encode()), found) else found.raw
+    return None if _call("read_id", *_sized(arguments.text(text, "text").encode()), found) else found.raw

@@ -7,6 +7,9 @@ import hashlib
 import struct
 from typing import Iterable, List, NamedTuple, Optional, Sequence, Tuple
 
+from . import arguments
+from .arguments import id_of, instance, number, octets, sequence, sequence_of, signed
+
 OP_CODESEPARATOR = 0xAB
 
 
@@ -16,12 +19,12 @@ class EncodingError(ValueError):
 
 def double_sha(data: bytes) -> bytes:
     """SHA-256 of SHA-256."""
-    return hashlib.sha256(hashlib.sha256(data).digest()).digest()
+    return hashlib.sha256(hashlib.sha256(octets(data, "data")).digest()).digest()
 
 
 def hash160(data: bytes) -> bytes:
     """RIPEMD-160 of SHA-256, by which public keys and scripts are named."""
-    return hashlib.new("ripemd160", hashlib.sha256(data).digest()).digest()
+    return hashlib.new("ripemd160", hashlib.sha256(octets(data, "data")).digest()).digest()
 
 
 class Input(NamedTuple):
@@ -98,7 +101,7 @@ _HEADER = struct.Struct("<i32s32sIII")
 
 class _Reader:
     def __init__(self, data: bytes) -> None:
-        self.data, self.at = data, 0
+        self.data, self.at = octets(data, "data"), 0
 
     def take(self, count: int) -> bytes:
         if count > len(self.data) - self.at:
@@ -153,6 +156,7 @@ class _Reader:
 
 
 def read_transaction(data: bytes) -> Transaction:
+    """The transaction that all of these bytes spell."""
     reader = _Reader(data)
     found = reader.transaction()
     reader.end()
@@ -160,6 +164,7 @@ def read_transaction(data: bytes) -> Transaction:
 
 
 def read_block(data: bytes) -> Block:
+    """The block that all of these bytes spell."""
     reader = _Reader(data)
     header = reader.header()
     found = Block(header, [reader.transaction() for _ in range(reader.count())])
@@ -177,7 +182,7 @@ class Spelled(NamedTuple):
 
     def transaction(self, place: int) -> Transaction:
         """The transaction of this place, from 0; read anew each time."""
-        begin, end = self.places[place]
+        begin, end = self.places[_place(place, len(self.places), "place")]
         return read_transaction(self.data[begin:end])
 
 
@@ -190,43 +195,71 @@ def block_at_front(data: bytes) -> Spelled:
         reader.skip_transaction()
         places.append((begin, reader.at))
     # Counts that aren't spelled shortest are read here and in no chainstate: only there the bytes aren't the id's.
-    ids = [double_sha(data[begin:end]) for begin, end in places]
-    return Spelled(data[: reader.at], header, ids, places)
+    ids = [double_sha(reader.data[begin:end]) for begin, end in places]
+    return Spelled(reader.data[: reader.at], header, ids, places)
 
 
 # ---- writing
 
 
-def _count(number: int) -> bytes:
-    if number < 253:
-        return bytes([number])
+def _place(place: int, count: int, name: str) -> int:
+    found = number(place, name, 64)
+    if found >= count:
+        raise ValueError(f"{name} must be below {count}")
+    return found
+
+
+def _count(count: int) -> bytes:
+    if count < 253:
+        return bytes([count])
     for mark, form, most in ((253, "<H", 2**16), (254, "<I", 2**32), (255, "<Q", 2**64)):
-        if number < most:
-            return bytes([mark]) + struct.pack(form, number)
-    raise ValueError(number)
+        if count < most:
+            return bytes([mark]) + struct.pack(form, count)
+    raise ValueError(count)
 
 
-def _text(data: bytes) -> bytes:
+def _text(data: bytes, name: str) -> bytes:
+    data = octets(data, name)
     return _count(len(data)) + data
 
 
+def _spelled_input(own: Input) -> bytes:
+    begins = id_of(own.id, "tx.inputs.id") + struct.pack("<I", number(own.index, "tx.inputs.index"))
+    sequence = struct.pack("<I", number(own.sequence, "tx.inputs.sequence"))
+    return begins + _text(own.script, "tx.inputs.script") + sequence
+
+
+def _spelled_output(own: Output) -> bytes:
+    return struct.pack("<q", signed(own.value, "tx.outputs.value", 64)) + _text(own.script, "tx.outputs.script")
+
+
 def write_transaction(tx: Transaction) -> bytes:
-    inputs = b"".join(
-        i.id + struct.pack("<I", i.index) + _text(i.script) + struct.pack("<I", i.sequence) for i in tx.inputs
-    )
-    outputs = b"".join(struct.pack("<q", o.value) + _text(o.script) for o in tx.outputs)
-    ends = struct.pack("<i", tx.version), struct.pack("<I", tx.lock_time)
-    return ends[0] + _count(len(tx.inputs)) + inputs + _count(len(tx.outputs)) + outputs + ends[1]
+    """The bytes of a transaction."""
+    instance(tx, Transaction, "tx")
+    inputs = list(map(_spelled_input, sequence_of(tx.inputs, Input, "tx.inputs")))
+    outputs = list(map(_spelled_output, sequence_of(tx.outputs, Output, "tx.outputs")))
+    ends = signed(tx.version, "tx.version"), number(tx.lock_time, "tx.lock_time")
+    parts = [struct.pack("<i", ends[0]), _count(len(inputs)), *inputs, _count(len(outputs)), *outputs]
+    return b"".join([*parts, struct.pack("<I", ends[1])])
 
 
 def write_header(header: Header) -> bytes:
-    numbers = struct.pack("<III", header.time, header.bits, header.nonce)
-    return struct.pack("<i", header.version) + header.parent + header.root + numbers
+    """The 80 bytes of a header."""
+    return _spelled_header(header, "header")
+
+
+def _spelled_header(header: Header, name: str) -> bytes:
+    instance(header, Header, name)
+    ids = id_of(header.parent, f"{name}.parent"), id_of(header.root, f"{name}.root")
+    numbers = (number(getattr(header, own), f"{name}.{own}") for own in ("time", "bits", "nonce"))
+    return _HEADER.pack(signed(header.version, f"{name}.version"), *ids, *numbers)
 
 
 def write_block(block: Block) -> bytes:
-    transactions = b"".join(map(write_transaction, block.transactions))
-    return write_header(block.header) + _count(len(block.transactions)) + transactions
+    """The bytes of a block."""
+    instance(block, Block, "block")
+    transactions = [write_transaction(tx) for tx in sequence_of(block.transactions, Transaction, "block.transactions")]
+    return _spelled_header(block.header, "block.header") + _count(len(transactions)) + b"".join(transactions)
 
 
 # ---- making
@@ -234,7 +267,7 @@ def write_block(block: Block) -> bytes:
 
 def merkle_root(ids: Sequence[bytes]) -> bytes:
     """The root of a Merkle tree over ids; of an odd level the last is paired with itself."""
-    level = list(ids) or [bytes(32)]
+    level = [id_of(id, "ids") for id in sequence(ids, "ids")] or [bytes(32)]
     while len(level) > 1:
         level += level[-1:] * (len(level) % 2)
         level = [double_sha(a + b) for a, b in zip(level[::2], level[1::2])]
@@ -242,7 +275,10 @@ def merkle_root(ids: Sequence[bytes]) -> bytes:
 
 
 def push(data: bytes) -> bytes:
-    """The shortest push of some bytes."""
+    """The shortest push of at most 65,535 bytes."""
+    data = octets(data, "data")
+    if len(data) > 0xFFFF:
+        raise ValueError("data must have at most 65535 bytes")
     if len(data) < 76:
         return bytes([len(data)]) + data
     if len(data) < 256:
@@ -251,28 +287,32 @@ def push(data: bytes) -> bytes:
 
 
 def push_number(number: int) -> bytes:
-    """The push of a number that is not negative, as a coinbase has its height."""
-    if number == 0:
+    """The push of a number of 64 bits that isn't negative, as a coinbase has its height."""
+    value = arguments.number(number, "number", 64)
+    if value == 0:
         return b"\x00"
-    if number <= 16:
-        return bytes([0x50 + number])
-    return push(number.to_bytes(number.bit_length() // 8 + 1, "little"))
+    if value <= 16:
+        return bytes([0x50 + value])
+    return push(value.to_bytes(value.bit_length() // 8 + 1, "little"))
 
 
 def subsidy(height: int) -> int:
     """What a coinbase may make beside fees: it halves every 150 blocks (regtest)."""
-    return 5000000000 >> (height // 150) if height < 150 * 64 else 0
+    halvings = number(height, "height") // 150
+    return 5000000000 >> halvings if halvings < 64 else 0
 
 
 def coinbase(height: int, value: int, script: bytes = b"\x51", extra: bytes = b"\x00") -> Transaction:
     """A coinbase whose one output is spent by `script`. Two of one height need different `extra` bytes."""
-    begins = push_number(height) + push(extra)
-    return Transaction(1, [Input(bytes(32), 0xFFFFFFFF, begins, 0xFFFFFFFF)], [Output(value, script)], 0)
+    begins = push_number(number(height, "height")) + push(octets(extra, "extra"))
+    output = Output(signed(value, "value", 64), octets(script, "script"))
+    return Transaction(1, [Input(bytes(32), 0xFFFFFFFF, begins, 0xFFFFFFFF)], [output], 0)
 
 
 def mine(parent: bytes, when: int, transactions: List[Transaction], version: int = 4) -> bytes:
     """A block that meets the target of regtest, as bytes."""
-    header = Header(version, parent, merkle_root([tx.id for tx in transactions]), when, 0x207FFFFF, 0)
+    root = merkle_root([tx.id for tx in sequence_of(transactions, Transaction, "transactions")])
+    header = Header(signed(version, "version"), id_of(parent, "parent"), root, number(when, "when"), 0x207FFFFF, 0)
     target = 0x7FFFFF << 232
     while int.from_bytes(header.id, "little") > target:
         header = header._replace(nonce=header.nonce + 1)
@@ -284,6 +324,10 @@ def mine(parent: bytes, when: int, transactions: List[Transaction], version: int
 
 def operations(script: bytes) -> Iterable[Tuple[int, int, Optional[bytes], int]]:
     """The operations that can be read: where each begins, its number, what it pushes, and where it ends."""
+    return _operations(octets(script, "script"))
+
+
+def _operations(script: bytes) -> Iterable[Tuple[int, int, Optional[bytes], int]]:
     at = 0
     while at < len(script):
         begin, number = at, script[at]
@@ -303,16 +347,20 @@ def operations(script: bytes) -> Iterable[Tuple[int, int, Optional[bytes], int]]
 
 
 def without_separators(script: bytes) -> bytes:
-    kept, last = b"", 0
-    for begin, number, _, end in operations(script):
-        if number != OP_CODESEPARATOR:
-            kept += script[begin:end]
+    """A script without its OP_CODESEPARATORs. What follows a push that is cut short stays."""
+    script, kept, last = octets(script, "script"), [], 0
+    for begin, operation, _, end in operations(script):
+        if operation != OP_CODESEPARATOR:
+            kept.append(script[begin:end])
         last = end
-    return kept + script[last:]
+    return b"".join([*kept, script[last:]])
 
 
 def signature_digest(tx: Transaction, input: int, code: bytes, kind: int) -> bytes:
-    """What a signature of this hash type signs (before segregated witness)."""
+    """What a signature of this hash type signs before segregated witness (Bitcoin Core's SignatureHash): as
+    `consensus.signature_digest`, of a transaction that was read."""
+    instance(tx, Transaction, "tx")
+    input, kind, code = number(input, "input", 64), number(kind, "kind"), octets(code, "code")
     base, one = kind & 31, (1).to_bytes(32, "little")
     if input >= len(tx.inputs) or (base == 3 and input >= len(tx.outputs)):
         return one

@@ -7,7 +7,9 @@ if TYPE_CHECKING:
 
 
 class Error(Exception):
-    """Of this package."""
+    """Of this package. `at` is the place in a node's history of the answer that is raised; None where there is none."""
+
+    at: Optional[int] = None
 
 
 class LibraryMissing(Error):
@@ -48,6 +50,19 @@ class NodeDied(Error):
         self.stderr = stderr
 
 
+class TimedOut(Error, TimeoutError):
+    """A node's answer didn't come in time. Whether the step was taken isn't known; the answer is dropped when it comes.
+    Until then it counts among the requests of its seat that are under way."""
+
+
+class OtherProcess(Error):
+    """The node was opened by another process, of which this one is a fork. Each process opens a node of its own."""
+
+
+class OtherLoop(Error):
+    """The node was opened in another event loop."""
+
+
 class Busy(Error):
     """Another thread is inside a call on the same chainstate."""
 
@@ -57,7 +72,7 @@ class TooMany(Error):
 
 
 class Wants(Error):
-    """Of a chainstate by need: signatures have to be found out first. The command was none, and can be made again.
+    """Of a chainstate by need: signatures have to be found out first. The command had no effect, and can be made again.
 
     `triples` are those at which a script stops, and `lines` their lines in the text of a table, without
     ends."""
@@ -118,118 +133,176 @@ class Rejected(Error):
 
 
 class HighHash(Rejected):
+    """The block's hash is above the target."""
+
     reason = "high-hash"
 
 
 class BadTxnmrklroot(Rejected):
+    """The header has another Merkle root than the block's transactions."""
+
     reason = "bad-txnmrklroot"
 
 
 class BadTxnsDuplicate(Rejected):
+    """Repeated transactions have the Merkle root of a shorter list (CVE-2012-2459)."""
+
     reason = "bad-txns-duplicate"
 
 
 class BadBlkLength(Rejected):
+    """The block has no transaction, or it is too large."""
+
     reason = "bad-blk-length"
 
 
 class BadCbMissing(Rejected):
+    """The first transaction is no coinbase."""
+
     reason = "bad-cb-missing"
 
 
 class BadCbMultiple(Rejected):
+    """A transaction behind the first is a coinbase."""
+
     reason = "bad-cb-multiple"
 
 
 class BadTxnsVinEmpty(Rejected):
+    """A transaction has no input."""
+
     reason = "bad-txns-vin-empty"
 
 
 class BadTxnsVoutEmpty(Rejected):
+    """A transaction has no output."""
+
     reason = "bad-txns-vout-empty"
 
 
 class BadTxnsVoutNegative(Rejected):
+    """An output's value is negative."""
+
     reason = "bad-txns-vout-negative"
 
 
 class BadTxnsVoutToolarge(Rejected):
+    """An output's value is above 21,000,000 coins."""
+
     reason = "bad-txns-vout-toolarge"
 
 
 class BadTxnsTxouttotalToolarge(Rejected):
+    """The outputs of a transaction together are above 21,000,000 coins."""
+
     reason = "bad-txns-txouttotal-toolarge"
 
 
 class BadTxnsInputsDuplicate(Rejected):
+    """A transaction spends one output twice."""
+
     reason = "bad-txns-inputs-duplicate"
 
 
 class BadCbLength(Rejected):
+    """A coinbase's script has less than 2 or more than 100 bytes."""
+
     reason = "bad-cb-length"
 
 
 class BadTxnsPrevoutNull(Rejected):
+    """A transaction that is no coinbase has an input that spends nothing."""
+
     reason = "bad-txns-prevout-null"
 
 
 class BadBlkSigops(Rejected):
+    """The block has too many signature operations."""
+
     reason = "bad-blk-sigops"
 
 
 class PrevBlkNotFound(Rejected):
+    """No block with the parent's id is kept."""
+
     reason = "prev-blk-not-found"
 
 
 class BadPrevblk(Rejected):
+    """The parent, or a block below it, is invalid."""
+
     reason = "bad-prevblk"
 
 
 class BadDiffbits(Rejected):
+    """The header asks for another target than regtest's."""
+
     reason = "bad-diffbits"
 
 
 class TimeTooOld(Rejected):
+    """The block's time isn't above the median time past of its parent."""
+
     reason = "time-too-old"
 
 
 class TimeTooNew(Rejected):
+    """The block's time is more than two hours ahead."""
+
     reason = "time-too-new"
 
 
 class BadVersion(Rejected):
+    """The block's version is too low for its height (BIPs 34, 65 and 66)."""
+
     reason = "bad-version"
 
 
 class BadTxnsNonfinal(Rejected):
+    """A transaction isn't final at this height and time (BIP 113), or its relative locks aren't met (BIP 68)."""
+
     reason = "bad-txns-nonfinal"
 
 
 class BadCbHeight(Rejected):
+    """The coinbase doesn't begin with the block's height (BIP 34)."""
+
     reason = "bad-cb-height"
 
 
 class BadTxnsBIP30(Rejected):
+    """A transaction has the id of an earlier one with an output that isn't spent (BIP 30)."""
+
     reason = "bad-txns-BIP30"
 
 
 class BadTxnsInputsMissingorspent(Rejected):
+    """An input spends an output that isn't there, or was spent."""
+
     reason = "bad-txns-inputs-missingorspent"
 
 
 class BadTxnsPrematureSpendOfCoinbase(Rejected):
+    """An input spends a coinbase's output before its 100th block."""
+
     reason = "bad-txns-premature-spend-of-coinbase"
 
 
 class BadTxnsInBelowout(Rejected):
+    """The outputs of a transaction are above what its inputs spend."""
+
     reason = "bad-txns-in-belowout"
 
 
 class BadCbAmount(Rejected):
+    """The coinbase makes more than the subsidy and the fees."""
+
     reason = "bad-cb-amount"
 
 
 class BlkBadInputs(Rejected):
+    """The script of an input isn't accepted: `transaction` and `input` say of which."""
+
     reason = "blk-bad-inputs"
 
 

@@ -5,7 +5,8 @@ import ctypes.util
 import os
 from typing import List, Optional, Sequence
 
-from .consensus import Triple
+from .arguments import flag, id_of, number, octets, octets_of, sequence
+from .consensus import Triple, triple_of
 from .library import secp256k1_library
 
 #: So many threads are used at most where nobody says how many.
@@ -27,6 +28,7 @@ class Secp256k1:
     def valid(self, triple: Triple) -> bool:
         """Whether the signature is valid, as Bitcoin Core tests it: the numbers are read leniently, and a signature
         counts as the one with the lower number."""
+        triple = triple_of(triple)
         key, signature = ctypes.create_string_buffer(64), ctypes.create_string_buffer(64)
         library, context = self._library, self._context
         if not library.secp256k1_ec_pubkey_parse(context, key, triple.key, ctypes.c_size_t(len(triple.key))):
@@ -39,10 +41,11 @@ class Secp256k1:
 
     def public_key(self, secret: bytes, compressed: bool = True) -> bytes:
         """The key of a secret, to make tests with."""
+        secret, compressed = octets_of(secret, 32, "secret"), flag(compressed, "compressed")
         key, out = ctypes.create_string_buffer(64), ctypes.create_string_buffer(65)
         length = ctypes.c_size_t(65)
         if not self._library.secp256k1_ec_pubkey_create(self._context, key, secret):
-            raise ValueError("no secret")
+            raise ValueError("secret must be a number from 1 to the curve's order less 1")
         # 258: 33 bytes; 2: 65.
         self._library.secp256k1_ec_pubkey_serialize(
             self._context, out, ctypes.byref(length), key, 258 if compressed else 2
@@ -51,10 +54,11 @@ class Secp256k1:
 
     def sign(self, secret: bytes, digest: bytes) -> bytes:
         """A signature in BIP 66's form, without a hash type, to make tests with."""
+        secret, digest = octets_of(secret, 32, "secret"), id_of(digest, "digest")
         signature, out = ctypes.create_string_buffer(64), ctypes.create_string_buffer(72)
         length = ctypes.c_size_t(72)
         if not self._library.secp256k1_ecdsa_sign(self._context, signature, digest, secret, None, None):
-            raise ValueError("no secret")
+            raise ValueError("secret must be a number from 1 to the curve's order less 1")
         self._library.secp256k1_ecdsa_signature_serialize_der(self._context, out, ctypes.byref(length), signature)
         return out.raw[: length.value]
 
@@ -68,11 +72,7 @@ class Verifier:
     """
 
     def __init__(self, threads: Optional[int] = None) -> None:
-        if threads is None:
-            threads = min(processors(), MOST_THREADS)
-        if not 1 <= threads < 2**31:
-            raise ValueError(f"at least one thread is needed, and fewer than 2^31, not {threads}")
-        self.threads = threads
+        self.threads = min(processors(), MOST_THREADS) if threads is None else number(threads, "threads", 31, least=1)
         self._library = secp256k1_library()
         self._secp = Secp256k1() if self._library is None else None
 
@@ -81,10 +81,11 @@ class Verifier:
         if self._secp is not None:
             return [self._secp.valid(triple) for triple in Triple.of_lines(lines)]
         assert self._library is not None
+        lines = [octets(line, "lines") for line in sequence(lines, "lines")]
         text, valid = b"\n".join(lines), ctypes.create_string_buffer(len(lines))
         code = self._library.wakotehu_secp256k1_verdicts(text, len(text), self.threads, valid, len(lines))
         if code != 0:
-            raise ValueError(f"the lines can't be read: {code}")
+            raise ValueError(f"lines can't be read: {code}")
         return [verdict == 1 for verdict in valid.raw]
 
 
@@ -99,6 +100,7 @@ def processors() -> int:
 def read_signature(data: bytes) -> Optional[bytes]:
     """The two numbers of a signature, 32 bytes each, read as leniently as Bitcoin Core does; None where there are none,
     or one is of more than 256 bits."""
+    data = octets(data, "data")
     if len(data) < 2 or data[0] != 0x30:
         return None
     end, numbers = len(data), []
