@@ -2,16 +2,15 @@
 
 import asyncio
 import os
-import stat
 import subprocess
 import tempfile
-import textwrap
 import threading
 import time
 import unittest
 
 import wakotehu
 from blocks import NOW, Maker, block_id, spend
+from fakes import fake
 from wakotehu import AsyncNode, Node, Stamped, errors
 from wakotehu.encoding import GENESIS
 from wakotehu.node import program_path
@@ -34,20 +33,7 @@ class NodeTest(unittest.TestCase):
         return node
 
     def fake(self, body):
-        """A program that answers by this code: `asked` is a request, `say` answers it."""
-        path = os.path.join(self.room, "fake")
-        with open(path, "w", encoding="utf-8") as file:
-            file.write(
-                "#!/usr/bin/env python3\nimport json, os, sys, time\n"
-                "def say(id, **more):\n    print(json.dumps({'jsonrpc': '2.0', 'id': id, **more}), flush=True)\n"
-                "INFO = {'program': 'fake', 'version': '0', 'seats': 1, 'workers': 1, 'loaded': 0,\n"
-                "    'heights': {'bip34': 1, 'bip65': 1, 'bip66': 1, 'csv': 1}}\n"
-                "for line in sys.stdin:\n    asked = json.loads(line)\n"
-                "    if asked['method'] == 'info':\n        say(asked['id'], result=INFO)\n        continue\n"
-                + textwrap.indent(textwrap.dedent(body), "    ")
-            )
-        os.chmod(path, os.stat(path).st_mode | stat.S_IXUSR)
-        return path
+        return fake(self.room, body)
 
     # ---- calls
 
@@ -132,6 +118,7 @@ class NodeTest(unittest.TestCase):
             lambda: seat.gettxout(bytes(32), 2**32), lambda: seat.gettxout(bytes(31), 0), lambda: seat.journal(0, 1),
             lambda: seat.try_mark("submit", bytes(32)),
             lambda: Node(program=PROGRAM, load="x", table=""), lambda: Node(program=PROGRAM, heights=(1, 1, 1)),
+            lambda: Node(seats=17, program=PROGRAM), lambda: Node(workers=0, program=PROGRAM),
         ):  # fmt: skip
             self.assertRaises(ValueError, call)
         self.assertRaises(TypeError, lambda: node.__reduce_ex__(2))
@@ -189,14 +176,15 @@ class NodeTest(unittest.TestCase):
 
     def test_it_saves_and_goes_on(self):
         b1, b2 = self.maker.chain(2)
-        with Node(seats=1, heights=(1, 2, 3, 4), program=PROGRAM, save=self.room) as node:
+        folder = os.path.join(self.room, "new", "-one")
+        with Node(seats=1, heights=(1, 2, 3, 4), program=PROGRAM, save=folder) as node:
             node.seat(0).submit(b1, NOW)
-        with Node(program=PROGRAM, load=self.room, save=self.room) as node:
+        with Node(program=PROGRAM, load=folder, save=folder) as node:
             self.assertEqual((node.info.loaded, node.info.heights), (1, (1, 2, 3, 4)))
             self.assertEqual(node.seat(3).submit(b2, NOW), Stamped(2, "accepted"))
-        audit = [PROGRAM, "audit", "--saved", self.room]
+        audit = [PROGRAM, "audit", "--saved", folder]
         self.assertEqual(subprocess.run(audit, capture_output=True, check=True).stdout, b"agrees\n")
-        with Node(program=PROGRAM, blk=os.path.join(self.room, "blocks.blk")) as node:
+        with Node(program=PROGRAM, blk=os.path.join(folder, "blocks.blk")) as node:
             self.assertEqual(node.seat(0).getbestblockhash(), Stamped(2, block_id(b2)))
 
     def test_what_cannot_be_saved_is_raised(self):
@@ -239,9 +227,9 @@ class NodeTest(unittest.TestCase):
 
     def test_openings_that_fail(self):
         with self.assertRaises(wakotehu.NodeDied) as caught:
-            Node(seats=17, program=PROGRAM)
+            Node(blk=os.path.join(self.room, "none"), program=PROGRAM)
         self.assertEqual(caught.exception.status, 1)
-        self.assertIn("--seats", caught.exception.stderr)
+        self.assertIn("none", caught.exception.stderr)
         with self.assertRaises(wakotehu.BadTable) as caught:
             Node(table="\n\nx\n", program=PROGRAM)
         self.assertEqual(caught.exception.line, 3)
@@ -329,7 +317,7 @@ class AsyncNodeTest(unittest.IsolatedAsyncioTestCase):
     async def test_it_is_killed(self):
         async with AsyncNode(program=PROGRAM) as node:
             await node.seat(0).note()
-            node._process.kill()
+            node._pipe.transport.kill()
             with self.assertRaises(wakotehu.NodeDied) as caught:
                 for _ in range(1000):
                     await node.seat(0).note()
@@ -339,8 +327,10 @@ class AsyncNodeTest(unittest.IsolatedAsyncioTestCase):
 
     async def test_openings_that_fail(self):
         with self.assertRaises(wakotehu.NodeDied):
-            async with AsyncNode(seats=17, program=PROGRAM):
+            async with AsyncNode(blk="/nowhere/none", program=PROGRAM):
                 pass
+        with self.assertRaises(ValueError):
+            AsyncNode(seats=17, program=PROGRAM)
         with self.assertRaises(wakotehu.BadTable):
             async with AsyncNode(table="x", program=PROGRAM):
                 pass

@@ -1,14 +1,15 @@
 """A test bench: the proved chainstate with real signatures."""
 
-import time
 from types import TracebackType
 from typing import Callable, List, NamedTuple, NoReturn, Optional, Sequence, Tuple, Type, Union
 
-from . import consensus, errors
-from .chainstate import REGTEST, Chainstate, Coin, Reply, Tip, read_heights
+from . import arguments, consensus, errors
+from .arguments import id_of, instance, number, octets
+from .chainstate import REGTEST, Chainstate, Coin, Reply, Tip, mark_of, moment_of, read_heights, reply_of
 from .consensus import Triple
-from .encoding import EncodingError, Spelled, Transaction, block_at_front, double_sha
+from .encoding import EncodingError, Spelled, block_at_front, double_sha
 from .index import Index, Unspent, Walks
+from .library import Answer
 from .signatures import Verifier
 
 
@@ -19,6 +20,18 @@ class Entry(NamedTuple):
     id: bytes
     now: int
     reply: str
+
+
+class _Step:
+    """A command that was begun: what is to be recorded of it once the library has taken it. The library writes `answer` in
+    the call in which it takes the step, so a record can be made whenever an interrupt has cut that short."""
+
+    def __init__(self, command: str, id: bytes, now: int, spelled: Optional[Spelled], is_new: bool) -> None:
+        self.command, self.id, self.now, self.spelled, self.is_new = command, id, now, spelled, is_new
+        self.answer = Answer()
+        self.is_running = True
+        #: Its place in the journal, once it has one.
+        self.place: Optional[int] = None
 
 
 class Bench(Walks):
@@ -40,15 +53,16 @@ class Bench(Walks):
         self, heights: Sequence[int] = REGTEST, table: Union[str, bytes] = b"", threads: Optional[int] = None
     ) -> None:
         self.heights = read_heights(heights)
-        #: The submissions of kept blocks and the marks so far, with their replies. Other commands change nothing.
-        self.journal: List[Entry] = []
+        self._journal: List[Entry] = []
+        #: Commands that were begun and aren't recorded.
+        self._begun: List[_Step] = []
         #: Is told of each step: command, id, a block's bytes, moment and reply.
         self.taken: Callable[[str, bytes, bytes, int, str], None] = lambda *words: None
         #: How often a command came again after signatures were found out, and how many were.
         self.rounds = self.found_out = 0
-        self.index = Index()
+        self._index = Index()
         self._verifier = Verifier(threads)
-        self._table = bytearray(table.encode() if isinstance(table, str) else table)
+        self._table = bytearray(arguments.lines(table, "table"))
         if self._table and not self._table.endswith(b"\n"):
             self._table += b"\n"
         known = consensus.Table(bytes(self._table))
@@ -56,6 +70,18 @@ class Bench(Walks):
         for line in known.text.splitlines():
             if line.split() and not line.startswith(b"#"):
                 self.chain.learn(Triple.of_line(line), True)
+
+    @property
+    def journal(self) -> List[Entry]:
+        """The submissions of kept blocks and the marks so far, with their replies. Other commands change nothing."""
+        self._settle()
+        return self._journal
+
+    @property
+    def index(self) -> Index:  # type: ignore[override]  # a variable of Walks, which only Bench computes
+        """What is known of the kept blocks."""
+        self._settle()
+        return self._index
 
     @property
     def table(self) -> bytes:
@@ -70,7 +96,7 @@ class Bench(Walks):
 
     def table_from(self, place: int) -> bytes:
         """The bytes of `table` from a place on."""
-        return bytes(self._table[place:])
+        return bytes(self._table[number(place, "place", 64) :])
 
     def __reduce_ex__(self, protocol: object) -> NoReturn:
         """As of a `Chainstate`."""
@@ -78,7 +104,10 @@ class Bench(Walks):
 
     def close(self) -> None:
         """Closes the chainstate."""
-        self.chain.close()
+        try:
+            self._settle()
+        finally:
+            self.chain.close()
 
     def __enter__(self) -> "Bench":
         return self
@@ -96,7 +125,7 @@ class Bench(Walks):
 
     def try_submit(self, block: bytes, now: Optional[int] = None) -> Reply:
         """As `Chainstate.try_submit`."""
-        data, moment = bytes(block), int(time.time()) if now is None else now
+        data, moment = octets(block, "block"), moment_of(now)
         try:
             spelled = block_at_front(data)
         except EncodingError:
@@ -105,22 +134,55 @@ class Bench(Walks):
 
     def try_submit_spelled(self, spelled: Spelled, now: int) -> Reply:
         """The same of a block that was read already."""
+        spelled, now = instance(spelled, Spelled, "spelled"), number(now, "now", 64)
         id = double_sha(spelled.data[:80])
-        reply = self._by_need(lambda: self.chain.try_submit(spelled.data, now))
-        if id not in self.index.blocks and self.chain.is_kept(id):
-            self.index.add(id, spelled)
-            self._took(Entry("submit", id, now, reply.text))
-        if reply.reply != "decode-failed":
-            self.taken("submit", id, spelled.data, now, reply.text)
-        return reply
+        step = _Step("submit", id, now, spelled, id not in self.index.blocks)
+        return self._taken(step, lambda: self.chain._submit_into(step.answer, spelled.data, now))
 
     def try_mark(self, command: str, id: bytes) -> Reply:
         """As `Chainstate.try_mark`."""
-        reply = self._by_need(lambda: self.chain.try_mark(command, id))
-        if reply.reply == "done":
-            self._took(Entry(command, bytes(id), 0, reply.text))
-        self.taken(command, bytes(id), b"", 0, reply.text)
+        id = id_of(id)
+        step = _Step(mark_of(command), id, 0, None, False)
+        return self._taken(step, lambda: self.chain._mark_into(step.answer, command, id))
+
+    def _taken(self, step: _Step, command: Callable[[], Reply]) -> Reply:
+        """Has the library take a step, and records it. Where this is interrupted between the two, the next call does."""
+        self._settle()
+        self._begun.append(step)
+        try:
+            reply = self._by_need(command)
+        finally:
+            step.is_running = False
+        self._settle()
         return reply
+
+    def _settle(self) -> None:
+        """Records the steps that were taken and aren't recorded yet."""
+        for step in [step for step in self._begun if not step.is_running]:
+            # It is 0 until the library has taken the step.
+            if step.answer.reply:
+                self._record(step)
+            self._begun.remove(step)
+            if step.answer.reply:
+                reply = reply_of(step.answer)
+                data = step.spelled.data if step.spelled else b""
+                if reply.reply != "decode-failed":
+                    self.taken(step.command, step.id, data, step.now, reply.text)
+
+    def _record(self, step: _Step) -> None:
+        """Makes the record of a step. Where this is cut short it is called again, and does what was left."""
+        reply = reply_of(step.answer)
+        if step.spelled:
+            if not step.is_new or not self.chain.is_kept(step.id):
+                return
+            if step.id not in self._index.blocks:
+                self._index.add(step.id, step.spelled)
+        elif reply.reply != "done":
+            return
+        if step.place is None:
+            step.place = len(self._journal)
+        self._journal[step.place : step.place + 1] = [Entry(step.command, step.id, step.now, reply.text)]
+        self._index.follow(self.chain.best())
 
     def _by_need(self, command: Callable[[], Reply]) -> Reply:
         """Makes a command, and finds out what it wants, until it is taken."""
@@ -139,10 +201,6 @@ class Bench(Walks):
                 self._table += line + b"\n"
             self.chain.learn(triple, valid)
             self.found_out += 1
-
-    def _took(self, entry: Entry) -> None:
-        self.journal.append(entry)
-        self.index.follow(self.chain.best())
 
     def invalidate(self, id: bytes) -> None:
         """As `Chainstate.invalidate`."""

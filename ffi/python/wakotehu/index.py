@@ -2,13 +2,14 @@
 
 from typing import Dict, List, NamedTuple, Optional, Tuple
 
+from .arguments import id_of, number
 from .chainstate import Coin
 from .encoding import GENESIS, GENESIS_BLOCK, Header, Output, Spelled, Transaction, read_transaction
 
 
 class Kept(NamedTuple):
     """A block that is kept. `times` are its own time and the times of the ten blocks below it, the highest first,
-    `transactions` how many it has, `size` how many bytes."""
+    `transactions` how many it has, `size` how many bytes, `branch_size` how many its branch has with genesis."""
 
     id: bytes
     height: int
@@ -16,6 +17,7 @@ class Kept(NamedTuple):
     times: Tuple[int, ...]
     transactions: int
     size: int
+    branch_size: int
 
     @property
     def median(self) -> int:
@@ -34,37 +36,38 @@ class Index:
         self.blocks: Dict[bytes, Kept] = {}
         #: The ids of the active branch, genesis first.
         self.active: List[bytes] = [GENESIS.id]
-        #: How many bytes the blocks of the active branch have.
-        self.active_size = len(GENESIS_BLOCK)
         #: A block that has the transaction of an id, and the place of its bytes in that. An id names the bytes.
         self.transactions: Dict[bytes, Tuple[bytes, int, int]] = {}
         #: The height of the highest block.
         self.highest = 0
-        self.blocks[GENESIS.id] = Kept(GENESIS.id, 0, GENESIS, (GENESIS.time,), 1, len(GENESIS_BLOCK))
+        self.blocks[GENESIS.id] = Kept(GENESIS.id, 0, GENESIS, (GENESIS.time,), 1, *[len(GENESIS_BLOCK)] * 2)
+
+    @property
+    def active_size(self) -> int:
+        """How many bytes the blocks of the active branch have."""
+        return self.blocks[self.active[-1]].branch_size
 
     def add(self, id: bytes, spelled: Spelled) -> None:
-        """Adds a block of this id, whose parent is there."""
+        """Adds a block of this id, whose parent is there. Where it is cut short it may be called again."""
         header, parent = spelled.header, self.blocks[spelled.header.parent]
         height, times = parent.height + 1, (header.time, *parent.times[:10])
         self.highest = max(self.highest, height)
         for tx, (begin, end) in zip(spelled.ids, spelled.places):
             self.transactions.setdefault(tx, (id, begin, end))
-        self.blocks[id] = Kept(id, height, header, times, len(spelled.ids), len(spelled.data))
+        size = len(spelled.data)
+        self.blocks[id] = Kept(id, height, header, times, len(spelled.ids), size, parent.branch_size + size)
 
     def follow(self, best: bytes) -> None:
-        """Makes the branch of a block the active one."""
+        """Makes the branch of a block the active one, in one step."""
         if best == self.active[-1]:
             return
         come, at = [], self.blocks[best]
         if at.header.parent == self.active[-1]:
             self.active.append(best)
-            self.active_size += at.size
             return
         while not self.is_active(at.id):
             come.append(at)
             at = self.blocks[at.header.parent]
-        gone = self.active[at.height + 1 :]
-        self.active_size += sum(kept.size for kept in come) - sum(self.blocks[id].size for id in gone)
         self.active[at.height + 1 :] = [kept.id for kept in reversed(come)]
 
     def is_active(self, id: bytes) -> bool:
@@ -108,25 +111,26 @@ class Walks:
 
     def parent(self, id: bytes) -> bytes:
         """The id of a kept block's parent."""
-        return self.index.blocks[bytes(id)].header.parent
+        return self.index.blocks[id_of(id)].header.parent
 
     def branch(self, id: Optional[bytes] = None) -> List[bytes]:
         """The ids of a block's branch, the block next to genesis first; of the active block by default. Empty for a
         block that isn't kept."""
-        at = self.best() if id is None else bytes(id)
+        at = self.best() if id is None else id_of(id)
         return self.index.branch(at) if at in self.index.blocks else []
 
     def is_kept(self, id: bytes) -> bool:
         """Whether a block is kept, genesis or another."""
-        return bytes(id) in self.index.blocks
+        return id_of(id) in self.index.blocks
 
     def output(self, id: bytes, index: int) -> Optional[Output]:
         """An output that a kept block made, spent or not, on whatever branch; or None."""
-        tx = self.transaction(id)
-        return tx.outputs[index] if tx and 0 <= index < len(tx.outputs) else None
+        tx, index = self.transaction(id), number(index, "index")
+        return tx.outputs[index] if tx and index < len(tx.outputs) else None
 
     def transaction(self, id: bytes) -> Optional[Transaction]:
         """A transaction of a kept block, or None."""
+        id = id_of(id)
         if id not in self.index.transactions:
             return None
         block, begin, end = self.index.transactions[id]

@@ -1,0 +1,295 @@
+"""What a served node is asked, and how its answers are read: what `Node` and `AsyncNode` have in common."""
+
+import json
+import os
+import re
+import shutil
+import tempfile
+from typing import IO, Any, Callable, Dict, Generic, List, NamedTuple, Optional, Sequence, Tuple, Type, TypeVar, Union
+
+from . import arguments, errors
+from .arguments import id_of, number, octets
+from .chainstate import REGTEST, Reply, Tip, mark_of, moment_of, read_heights, show
+
+T = TypeVar("T")
+
+#: So many requests of a seat are under way at most; the program itself lets 64 wait.
+UNDER_WAY = 60
+#: As many seats, and as many workers, a node has at most.
+MOST = 16
+#: So many bytes of a block fit into a line that the program reads, with all else that stands there.
+LONGEST_BLOCK = (70_000_000 - 200) // 2
+#: How many seconds a call waits, where nobody says how many.
+TIMEOUT = 60.0
+#: So much of the end of the standard error is kept.
+KEPT = 2000
+
+
+class Stamped(Generic[T]):
+    """An answer, and its place in the history: for a read the number of steps before it, for a step its own, from 1."""
+
+    __slots__ = ("at", "value")
+
+    def __init__(self, at: int, value: T) -> None:
+        self.at = at
+        self.value = value
+
+    def __repr__(self) -> str:
+        return f"Stamped(at={self.at!r}, value={self.value!r})"
+
+    def __eq__(self, other: object) -> bool:
+        return isinstance(other, Stamped) and (self.at, self.value) == (other.at, other.value)
+
+    def __hash__(self) -> int:
+        return hash((self.at, self.value))
+
+
+class UnspentOutput(NamedTuple):
+    """An output that isn't spent: its value in satoshis, its script, the height of its block."""
+
+    value: int
+    script: bytes
+    height: int
+    coinbase: bool
+    confirmations: int
+
+
+class Entry(NamedTuple):
+    """A step of the history. `now` is the moment of a submission; `reply` is "owed" where it was never told."""
+
+    step: int
+    client: str
+    command: str
+    block: bytes
+    now: Optional[int]
+    reply: str
+
+
+class Info(NamedTuple):
+    """How a node was opened. `loaded` is how many steps its folder had."""
+
+    program: str
+    version: str
+    seats: int
+    workers: int
+    heights: Tuple[int, int, int, int]
+    loaded: int
+
+
+# ---- calls, and how their answers are read
+
+
+class Call(NamedTuple):
+    """A call of a seat: its method, its parameters behind the seat's as JSON, and how its result is read."""
+
+    method: str
+    params: str
+    read: Callable[[Dict[str, Any]], Any]
+
+
+def _reply_of(text: str) -> Reply:
+    """A reply by its text."""
+    words = text.split()
+    if words[0] in errors.BY_REASON:
+        places = [int(place) for place in words[1].split(":")] if len(words) > 1 else [0, 0]
+        return Reply(text, "rejected", words[0], places[0], places[1])
+    return Reply(text, text, "", 0, 0)
+
+
+def _read_id(digits: str) -> bytes:
+    return bytes.fromhex(digits)[::-1]
+
+
+def _read_reply(result: Dict[str, Any]) -> Stamped[Reply]:
+    return Stamped(result["at"], _reply_of(result["answer"]))
+
+
+def _read_output(result: Dict[str, Any]) -> Stamped[Optional[UnspentOutput]]:
+    found = result["answer"]
+    if found is None:
+        return Stamped(result["at"], None)
+    script = bytes.fromhex(found["script"])
+    return Stamped(
+        result["at"],
+        UnspentOutput(found["value"], script, found["height"], found["coinbase"], found["confirmations"]),
+    )
+
+
+def _read_best(result: Dict[str, Any]) -> Stamped[bytes]:
+    return Stamped(result["at"], _read_id(result["answer"]["hash"]))
+
+
+def _read_tips(result: Dict[str, Any]) -> Stamped[List[Tip]]:
+    tips = [Tip(_read_id(tip["hash"]), tip["height"], tip["branchlen"], tip["status"]) for tip in result["answer"]]
+    return Stamped(result["at"], tips)
+
+
+def _read_place(result: Dict[str, Any]) -> int:
+    return int(result["at"])
+
+
+def _read_entries(result: Dict[str, Any]) -> Stamped[List[Entry]]:
+    entries = [
+        Entry(it["step"], it["client"], it["command"], _read_id(it["block"]), it.get("now"), it["reply"])
+        for it in result["answer"]
+    ]
+    return Stamped(result["at"], entries)
+
+
+def _read_info(result: Dict[str, Any]) -> Info:
+    heights = result["heights"]
+    return Info(
+        result["program"], result["version"], result["seats"], result["workers"],
+        (heights["bip34"], heights["bip65"], heights["bip66"], heights["csv"]), result["loaded"],
+    )  # fmt: skip
+
+
+def submission(block: bytes, now: Optional[int]) -> Call:
+    data = octets(block, "block")
+    if len(data) > LONGEST_BLOCK:
+        raise ValueError(f"block must have at most {LONGEST_BLOCK} bytes, not {len(data)}")
+    return Call("submit", f',"block":"{data.hex()}","now":{moment_of(now)}', _read_reply)
+
+
+def mark(command: str, id: bytes) -> Call:
+    return Call(mark_of(command), f',"id":"{show(id)}"', _read_reply)
+
+
+def output(txid: bytes, n: int) -> Call:
+    return Call("gettxout", f',"txid":"{show(id_of(txid, "txid"))}","n":{number(n, "n")}', _read_output)
+
+
+def entries(first: int, last: int) -> Call:
+    begin, end = number(first, "first", 64, least=1), number(last, "last", 64)
+    return Call("journal", f',"from":{begin},"to":{end}', _read_entries)
+
+
+def told(other: int) -> Call:
+    return Call("told", f',"from":{other}', _read_place)
+
+
+BEST = Call("getbestblockhash", "", _read_best)
+TIPS = Call("getchaintips", "", _read_tips)
+NOTE = Call("note", "", _read_place)
+INFO = Call("info", "", _read_info)
+FINISH = Call("finish", "", _read_place)
+
+
+def request(id: int, call: Call, seat: Optional[int]) -> bytes:
+    """A line that asks for a call of a seat, or of none."""
+    params = "" if seat is None else f'"seat":{seat}{call.params}'
+    return f'{{"jsonrpc":"2.0","id":{id},"method":"{call.method}","params":{{{params}}}}}\n'.encode()
+
+
+_decoder = json.JSONDecoder()
+
+
+def read_answer(line: bytes) -> Dict[str, Any]:
+    """The object of a line. What isn't JSON is a `ValueError`."""
+    text = line.decode()
+    found, end = _decoder.raw_decode(text)
+    if not isinstance(found, dict) or end != len(text):
+        raise ValueError("no object")
+    return found
+
+
+def checked(answered: Stamped[Reply]) -> Stamped[str]:
+    """The reply's word; a refusal is raised, with its place as `at`."""
+    try:
+        return Stamped(answered.at, answered.value.check())
+    except errors.Error as error:
+        error.at = answered.at
+        raise
+
+
+_FAULTS: Dict[int, Type[errors.Error]] = {-32001: errors.Memory, -32002: errors.Owed, -32003: errors.Closed}
+
+
+def outcome(answer: Dict[str, Any], call: Call) -> Any:
+    """What an answer says, or the exception that it is."""
+    if "result" in answer:
+        return call.read(answer["result"])
+    error = answer["error"]
+    if error["code"] in _FAULTS:
+        raise _FAULTS[error["code"]](error["message"])
+    raise errors.BadRequest(error["code"], error["message"], error.get("data"))
+
+
+# ---- the process
+
+
+def program_path(named: Optional[str] = None) -> str:
+    """The program: the one that is named, or that WAKOTEHU_PROGRAM names, and no other then; else `regchain` in the
+    package, beside the library that WAKOTEHU_LIBRARY names, or on the path."""
+    given = os.environ.get("WAKOTEHU_PROGRAM") if named is None else arguments.path(named, "named")
+    if given:
+        if not os.access(given, os.X_OK) or os.path.isdir(given):
+            raise errors.ProgramMissing(f"{given} can't be run")
+        return given
+    folders = [os.path.dirname(os.path.abspath(__file__))]
+    if os.environ.get("WAKOTEHU_LIBRARY"):
+        folders.append(os.path.dirname(os.path.abspath(os.environ["WAKOTEHU_LIBRARY"])))
+    for folder in folders:
+        place = os.path.join(folder, "regchain")
+        if os.access(place, os.X_OK) and not os.path.isdir(place):
+            return place
+    found = shutil.which("regchain")
+    if found is None:
+        raise errors.ProgramMissing("regchain isn't found: set WAKOTEHU_PROGRAM, or build it by ./build")
+    return found
+
+
+class Opening:
+    """What a node is opened by. All of it is checked before a process is started."""
+
+    def __init__(
+        self, seats: int, workers: int, heights: Optional[Sequence[int]], table: Optional[Union[str, bytes]],
+        program: Optional[str], blk: Optional[str], load: Optional[str], save: Optional[str], timeout: Optional[float],
+    ) -> None:  # fmt: skip
+        self.seats, workers = _count(seats, "seats"), _count(workers, "workers")
+        self.timeout = arguments.seconds(timeout, "timeout")
+        self.words = ["serve", "--seats", str(self.seats), "--workers", str(workers)]
+        if load is None:
+            chosen = read_heights(REGTEST if heights is None else heights)
+            self.words += ["--heights", ",".join(map(str, chosen))]
+        elif heights is not None or table is not None:
+            raise ValueError("load must be None where heights or table are given: the folder has its own")
+        for name, value in (("blk", blk), ("load", load), ("save", save)):
+            if value is not None:
+                self.words += [f"--{name}", arguments.path(value, name)]
+        self.table = b"" if table is None else arguments.lines(table, "table")
+        if program is not None:
+            program = arguments.path(program, "program")
+        self.words.insert(0, program_path(program))
+        self._save = None if save is None else arguments.path(save, "save")
+        self._file: Optional[IO[bytes]] = None
+
+    def __enter__(self) -> List[str]:
+        """Makes the folder of `save`, and the table's file, which is there until `__exit__`: the command line."""
+        if self._save is not None:
+            os.makedirs(self._save, exist_ok=True)
+        if not self.table:
+            return self.words
+        self._file = tempfile.NamedTemporaryFile(prefix="wakotehu-", suffix=".table")
+        self._file.write(self.table)
+        self._file.flush()
+        return [*self.words, "--table", self._file.name]
+
+    def __exit__(self, *raised: object) -> None:
+        if self._file:
+            self._file.close()
+            self._file = None
+
+
+def _count(value: int, name: str) -> int:
+    found = number(value, name)
+    if not 1 <= found <= MOST:
+        raise ValueError(f"{name} must be from 1 to {MOST}")
+    return found
+
+
+def died(status: Optional[int], said: bytes) -> errors.Error:
+    """Why a process ended that should not have."""
+    text = said.decode("utf-8", "replace")
+    found = re.match(r"regchain: table line (\d+)\n", text)
+    return errors.BadTable(int(found.group(1))) if found else errors.NodeDied(status, text)
