@@ -6,6 +6,7 @@
 #include "wakotehu.h"
 
 #include <stdbool.h>
+#include <stdlib.h>
 #include <string.h>
 
 uint32_t ffi_tx(const uint8_t *bytes, size_t length, wakotehu_transaction *shown);
@@ -201,12 +202,44 @@ wakotehu_code wakotehu_strict_signature(const uint8_t *bytes, size_t length, uin
     return WAKOTEHU_OK;
 }
 
-wakotehu_code wakotehu_signature_digest(const uint8_t *bytes, size_t length, uint64_t input, const uint8_t *code,
-                                        size_t code_length, uint32_t kind, uint8_t *digest) {
+wakotehu_code wakotehu_signature_digest_as_given(const uint8_t *bytes, size_t length, uint64_t input,
+                                                 const uint8_t *code, size_t code_length, uint32_t kind,
+                                                 uint8_t *digest) {
     if (!readable(bytes, length) || !readable(code, code_length) || !digest)
         return WAKOTEHU_NULL;
     return (wakotehu_code)ffi_digest(AT(bytes, length), length, input, AT(code, code_length), code_length, kind,
                                      digest);
+}
+
+enum { OP_CODESEPARATOR = 0xab };
+
+/* Copies a script without its code separators, and answers how many bytes are left. A push that is cut short stays. */
+static size_t without_separators(const uint8_t *code, size_t length, uint8_t *copy) {
+    wakotehu_opcode opcode;
+    size_t at = 0, copied = 0;
+    while (ffi_op(code + at, length - at, &opcode) == WAKOTEHU_OK) {
+        if (opcode.number != OP_CODESEPARATOR) {
+            memcpy(copy + copied, code + at, opcode.length);
+            copied += opcode.length;
+        }
+        at += opcode.length;
+    }
+    memcpy(copy + copied, code + at, length - at);
+    return copied + length - at;
+}
+
+wakotehu_code wakotehu_signature_digest(const uint8_t *bytes, size_t length, uint64_t input, const uint8_t *code,
+                                        size_t code_length, uint32_t kind, uint8_t *digest) {
+    /* Most codes haven't even a byte of that number, and need no copy. */
+    if (!readable(code, code_length) || !code_length || !memchr(code, OP_CODESEPARATOR, code_length))
+        return wakotehu_signature_digest_as_given(bytes, length, input, code, code_length, kind, digest);
+    uint8_t *copy = malloc(code_length);
+    if (!copy)
+        return WAKOTEHU_MEMORY;
+    size_t left = without_separators(code, code_length, copy);
+    wakotehu_code answer = wakotehu_signature_digest_as_given(bytes, length, input, copy, left, kind, digest);
+    free(copy);
+    return answer;
 }
 
 wakotehu_code wakotehu_verify(const uint8_t *bytes, size_t length, uint64_t input, const uint8_t *spent,

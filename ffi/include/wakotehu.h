@@ -352,9 +352,17 @@ wakotehu_code wakotehu_number_bytes(int64_t value, uint8_t *bytes, size_t length
 /* Whether a signature with its hash type is strictly encoded (BIP 66), or has no byte. */
 wakotehu_code wakotehu_strict_signature(const uint8_t *bytes, size_t length, uint32_t *yes);
 
-/* The 32 bytes that a signature of an input signs, for a code and a hash type of four bytes. */
+/* The 32 bytes that a signature of an input signs, for a code and a hash type of four bytes (Bitcoin Core's SignatureHash
+ * before segregated witness): each OP_CODESEPARATOR is taken out of the code, and a push that is cut short at its end
+ * stays. The signature itself is taken out by the caller. */
 wakotehu_code wakotehu_signature_digest(const uint8_t *bytes, size_t length, uint64_t input, const uint8_t *code,
                                         size_t code_length, uint32_t kind, uint8_t *digest);
+
+/* The same of the code just as it is given, with each OP_CODESEPARATOR in it: no signature of Bitcoin's signs that where
+ * there is one. */
+wakotehu_code wakotehu_signature_digest_as_given(const uint8_t *bytes, size_t length, uint64_t input,
+                                                 const uint8_t *code, size_t code_length, uint32_t kind,
+                                                 uint8_t *digest);
 
 /* Whether an input of the transaction at the front of the bytes may spend a script (Bitcoin Core's VerifyScript). table:
  * lines of valid signatures, as wakotehu_open takes them, and read anew by each call; line: as there, may be null. */

@@ -62,6 +62,7 @@ static uint8_t *record;
 enum { RECORD = 8 + sizeof b1 };
 
 static const uint8_t spent[] = {0x93, 0x53, 0x9c}; /* ADD 3 NUMEQUAL */
+static const uint8_t separated[] = {0xab, 0x51, 0xab};
 static const wakotehu_flags flags = {1, 1, 1};
 /* CHECKSIG of the key 02 and the signature 01, which is a hash type alone and may be tried without BIP 66. */
 static const uint8_t checksig[] = {0xac};
@@ -126,7 +127,7 @@ static struct told nothing_told(void) {
 }
 
 /* Each call that may take memory, then those that take none; the numbers are those of `MEMORY_FREE` on. */
-enum { MEMORY_FREE = 16, CALLS = 23 };
+enum { MEMORY_FREE = 18, CALLS = 25 };
 
 static wakotehu_code nth_call(int call, struct told *it) {
     static const wakotehu_input input = {{7}, 2, 0, 0};
@@ -155,13 +156,15 @@ static wakotehu_code nth_call(int call, struct told *it) {
                                                    &it->yes, it->text, 256, &it->count);
         return code == WAKOTEHU_UNKNOWN ? WAKOTEHU_OK : code;
     }
+    case 16: return wakotehu_signature_digest_as_given(tx, TX, 0, spent, 3, 1, it->bytes);
+    case 17: return wakotehu_signature_digest(tx, TX, 0, separated, sizeof separated, 1, it->bytes);
     /* MEMORY_FREE */
-    case 16: return wakotehu_next_opcode(spent, 3, &it->opcode);
-    case 17: return wakotehu_script(spent, 3, &it->script);
-    case 18: return wakotehu_read_number(spent, 3, 4, &it->value);
-    case 19: return wakotehu_median(times, 3, &it->yes);
-    case 20: return wakotehu_strict_signature(signature, 8, &it->yes);
-    case 21: return wakotehu_hash160(spent, 3, it->bytes);
+    case 18: return wakotehu_next_opcode(spent, 3, &it->opcode);
+    case 19: return wakotehu_script(spent, 3, &it->script);
+    case 20: return wakotehu_read_number(spent, 3, 4, &it->value);
+    case 21: return wakotehu_median(times, 3, &it->yes);
+    case 22: return wakotehu_strict_signature(signature, 8, &it->yes);
+    case 23: return wakotehu_hash160(spent, 3, it->bytes);
     default: return wakotehu_read_id("00", 2, it->bytes) == WAKOTEHU_NONE ? WAKOTEHU_OK : WAKOTEHU_NULL;
     }
 }
@@ -217,6 +220,34 @@ static void values(void) {
     EXPECT(wakotehu_table_add(text, TABLE + 70, &size, key, 1, NULL, 0, digest) == WAKOTEHU_OK && size == TABLE + 70);
     EXPECT(wakotehu_table_has(text, size, key, 1, NULL, 0, digest, NULL, &yes) == WAKOTEHU_OK && yes == 1);
     EXPECT(wakotehu_table_has(text, size, key, 1, signature, 8, digest, NULL, &yes) == WAKOTEHU_OK && yes == 1);
+}
+
+/* Code separators are no part of what is signed, but bytes that are pushed are, and a push that is cut short. */
+static void separators(void) {
+    static const struct {
+        uint8_t code[6], left[6];
+        size_t length, left_length;
+    } cases[] = {
+        {{0xab}, {0}, 1, 0},
+        {{0x51, 0xab, 0xab, 0x52, 0xab}, {0x51, 0x52}, 5, 2},
+        {{0x02, 0xab, 0xab, 0xab, 0x51}, {0x02, 0xab, 0xab, 0x51}, 5, 4},
+        {{0xab, 0x4c, 0x02, 0xab, 0xab, 0xab}, {0x4c, 0x02, 0xab, 0xab}, 6, 4},
+        {{0xab, 0x03, 0xab, 0x51}, {0x03, 0xab, 0x51}, 4, 3},
+        {{0x51, 0x52}, {0x51, 0x52}, 2, 2},
+    };
+    for (size_t n = 0; n < sizeof cases / sizeof *cases; n++) {
+        uint8_t digest_of[3][32], *code = malloc(cases[n].length);
+        memcpy(code, cases[n].code, cases[n].length);
+        EXPECT(wakotehu_signature_digest(tx, TX, 0, code, cases[n].length, 1, digest_of[0]) == WAKOTEHU_OK);
+        EXPECT(wakotehu_signature_digest_as_given(tx, TX, 0, cases[n].left, cases[n].left_length, 1, digest_of[1])
+               == WAKOTEHU_OK);
+        EXPECT(wakotehu_signature_digest_as_given(tx, TX, 0, code, cases[n].length, 1, digest_of[2]) == WAKOTEHU_OK);
+        EXPECT(memcmp(digest_of[0], digest_of[1], 32) == 0);
+        EXPECT((memcmp(digest_of[0], digest_of[2], 32) == 0) == (cases[n].left_length == cases[n].length));
+        EXPECT(wakotehu_signature_digest(tx, TX, 1, code, cases[n].length, 1, digest_of[2]) == WAKOTEHU_NO_INPUT);
+        EXPECT(wakotehu_signature_digest(tx, TX, 0, code, cases[n].length, 1, NULL) == WAKOTEHU_NULL);
+        free(code);
+    }
 }
 
 /* A signature that is asked for is known once its line stands in a table. */
@@ -327,6 +358,7 @@ static void null_and_hostile_lengths(void) {
         EXPECT(wakotehu_strict_signature(signature, l, &it.yes) == WAKOTEHU_NULL);
         EXPECT(wakotehu_signature_digest(tx, l, 0, spent, 3, 1, it.bytes) == WAKOTEHU_NULL);
         EXPECT(wakotehu_signature_digest(tx, TX, 0, spent, l, 1, it.bytes) == WAKOTEHU_NULL);
+        EXPECT(wakotehu_signature_digest_as_given(tx, TX, 0, spent, l, 1, it.bytes) == WAKOTEHU_NULL);
         EXPECT(wakotehu_verify(tx, l, 0, spent, 3, &flags, NULL, 0, NULL, &it.yes) == WAKOTEHU_NULL);
         EXPECT(wakotehu_verify(tx, TX, 0, spent, l, &flags, NULL, 0, NULL, &it.yes) == WAKOTEHU_NULL);
         EXPECT(wakotehu_verify(tx, TX, 0, spent, 3, &flags, table, l, NULL, &it.yes) == WAKOTEHU_NULL);
@@ -394,6 +426,7 @@ static void null_and_hostile_lengths(void) {
     EXPECT(wakotehu_signature_digest(NULL, 1, 0, spent, 3, 1, it.bytes) == WAKOTEHU_NULL);
     EXPECT(wakotehu_signature_digest(tx, TX, 0, NULL, 1, 1, it.bytes) == WAKOTEHU_NULL);
     EXPECT(wakotehu_signature_digest(tx, TX, 0, spent, 3, 1, NULL) == WAKOTEHU_NULL);
+    EXPECT(wakotehu_signature_digest_as_given(tx, TX, 0, spent, 3, 1, NULL) == WAKOTEHU_NULL);
     EXPECT(wakotehu_verify(NULL, 1, 0, spent, 3, &flags, NULL, 0, NULL, &it.yes) == WAKOTEHU_NULL);
     EXPECT(wakotehu_verify(tx, TX, 0, NULL, 1, &flags, NULL, 0, NULL, &it.yes) == WAKOTEHU_NULL);
     EXPECT(wakotehu_verify(tx, TX, 0, spent, 3, NULL, NULL, 0, NULL, &it.yes) == WAKOTEHU_NULL);
@@ -460,6 +493,7 @@ int main(int count, char **words) {
     long before = live;
     refused_allocations();
     values();
+    separators();
     known_signatures();
     refusals();
     null_and_hostile_lengths();

@@ -17,7 +17,7 @@ from bitcoin.core.contrib.ripemd160 import ripemd160
 from bitcoin.core.script import CScript, CScriptInvalidError, RawSignatureHash
 from bitcoin.core.scripteval import SCRIPT_VERIFY_P2SH, VerifyScript, VerifyScriptError, EvalScriptError
 
-from wakotehu import consensus as c
+from wakotehu import consensus as c, encoding as e
 from wakotehu.errors import BadTable
 
 SEED = int(os.environ.get("SEED", random.randrange(1 << 32)))
@@ -101,6 +101,26 @@ class BesideBitcoinlib(unittest.TestCase):
             expected = RawSignatureHash(code, tx, place, kind)[0]
             self.assertEqual(c.signature_digest(raw, place, code, kind), expected, (SEED, n))
             self.assertEqual(c.double_sha(raw), Hash(raw))
+
+    def test_digests_of_codes_with_separators(self) -> None:
+        """They are no part of what is signed. Bytes of that number that are pushed are."""
+        rng, separated = random.Random(SEED + 9), 0
+        parts = [b"\xab", b"\xab\xab", b"\x51", b"\xac", b"\x02\xab\xab", b"\x4c\x01\xab", b"\x4d\x01\x00\xab", b"\x6a"]
+        for n in range(COUNT // 4):
+            tx = transaction(rng)
+            raw, place, kind = tx.serialize(), rng.randrange(len(tx.vin)), rng.choice((1, 2, 3, 0x81, rng.randrange(1 << 32)))
+            code = b"".join(rng.choice(parts) for _ in range(rng.randrange(12)))
+            expected = RawSignatureHash(CScript(code), tx, place, kind & 0xFF)[0] if kind < 256 else None
+            found = c.signature_digest(raw, place, code, kind)
+            self.assertEqual(found, e.signature_digest(e.read_transaction(raw), place, code, kind), (SEED, n))
+            if expected is not None:
+                self.assertEqual(found, expected, (SEED, n, code.hex(), kind))
+            left = e.without_separators(code)
+            self.assertEqual(found, c.signature_digest_as_given(raw, place, left, kind), (SEED, n))
+            if left != code and found != (1).to_bytes(32, "little"):
+                self.assertNotEqual(found, c.signature_digest_as_given(raw, place, code, kind), (SEED, n))
+                separated += 1
+        self.assertGreater(separated, COUNT // 10)
 
     def test_parts_read_and_written(self) -> None:
         rng = random.Random(SEED + 1)

@@ -141,9 +141,9 @@ def instance(value: object, kind: Type[T], name: str) -> T:
 
 
 def words_of(value: object, name: str, known: Collection[str]) -> Iterable[str]:
-    """Any number of some words, in any collection."""
-    if isinstance(value, (str, bytes, bytearray, memoryview, dict)) or not isinstance(value, Collection):
-        raise TypeError(f"{name} must be a collection of texts, not {kind_of(value)}")
+    """Any number of some words, one after the other."""
+    if isinstance(value, (str, bytes, bytearray, memoryview, dict)) or not isinstance(value, Iterable):
+        raise TypeError(f"{name} must be texts, one after the other, not {kind_of(value)}")
     return [word(own, name, known) for own in value]
 
 

@@ -105,6 +105,7 @@ _CALLS = {
     "number_bytes": [c_int64, c_char_p, c_size_t, POINTER(c_uint64)],
     "strict_signature": _BYTES + _YES,
     "signature_digest": _BYTES + [c_uint64] + _BYTES + [c_uint32, c_char_p],
+    "signature_digest_as_given": _BYTES + [c_uint64] + _BYTES + [c_uint32, c_char_p],
     "verify": _BYTES + [c_uint64] + _BYTES + [POINTER(_Flags)] + _BYTES + [POINTER(c_uint64)] + _YES,
     "verify_known": (
         _BYTES + [c_uint64] + _BYTES + [POINTER(_Flags)] + _BYTES * 2 + [POINTER(c_uint64)] + _YES + _BYTES
@@ -427,8 +428,14 @@ def strict_signature(data: bytes) -> bool:
 
 
 def signature_digest(data: bytes, input: int, code: bytes, kind: int) -> bytes:
-    """What a signature of an input signs, for a code and a hash type."""
+    """What a signature of an input signs, for a code and a hash type (Bitcoin Core's SignatureHash before segregated
+    witness): each OP_CODESEPARATOR is taken out of the code."""
     return _digest("signature_digest", data, input, code, kind)
+
+
+def signature_digest_as_given(data: bytes, input: int, code: bytes, kind: int) -> bytes:
+    """The same of the code just as it is given, with each OP_CODESEPARATOR in it."""
+    return _digest("signature_digest_as_given", data, input, code, kind)
 
 
 def _digest(name: str, data: bytes, input: int, code: bytes, kind: int) -> bytes:
