@@ -15,9 +15,36 @@ extern "C" {
         }                                                                                                              \
     } while (0)
 
+using Bytes = std::vector<uint8_t>;
+
+static Bytes times(size_t count, const Bytes &part, const Bytes &behind = {}) {
+    Bytes made;
+    for (size_t n = 0; n < count; n++)
+        made.insert(made.end(), part.begin(), part.end());
+    made.insert(made.end(), behind.begin(), behind.end());
+    return made;
+}
+
 int main() {
     Wakotehu module;
     constexpr unsigned all = 1u << 0 | 1u << 2 | 1u << 9 | 1u << 10;
+    /* Bitcoin Core's limits: 1,000 elements with those of the other stack, 201 opcodes above OP_16, 10,000 bytes. */
+    Bytes full = times(1000, {0x51}), push = times(520, {0x61});
+    push.insert(push.begin(), {0x4d, 0x08, 0x02});
+    EXPECT(module.script_eval(times(999, {0x51}), all, 0) == true);
+    EXPECT(module.script_eval(full, all, 0) == true);
+    EXPECT(module.script_eval(times(1000, {0x00}), all, 0) == true);
+    EXPECT(module.script_eval(times(1001, {0x51}), all, 0) == false);
+    EXPECT(module.script_eval(times(1, full, times(201, {0x61})), all, 0) == true);
+    EXPECT(module.script_eval(times(1, full, times(202, {0x61})), all, 0) == false);
+    EXPECT(module.script_eval(times(1, full, times(201, {0x6b})), all, 0) == true);
+    EXPECT(module.script_eval(times(1, full, {0x6b, 0x51}), all, 0) == false);
+    EXPECT(module.script_eval({0x51, 0x6b}, all, 0) == true);
+    EXPECT(module.script_eval({0x6c}, all, 0) == false);
+    EXPECT(module.script_eval(times(19, push, times(63, {0x61})), all, 0) == true);
+    EXPECT(module.script_eval(times(19, push, times(64, {0x61})), all, 0) == false);
+    EXPECT(module.script_eval(times(252, {0x51}), all, 0) == true);
+    EXPECT(module.script_eval(times(253, {0x51}), all, 0) == true);
     /* Nothing; a false element; an addition; an open condition; OP_RETURN; a push that is cut short; a signature. */
     EXPECT(module.script_eval({}, all, 0) == true);
     EXPECT(module.script_eval({0x00}, all, 0) == true);

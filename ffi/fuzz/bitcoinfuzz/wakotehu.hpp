@@ -38,20 +38,24 @@ class Wakotehu WAKOTEHU_BASE {
      * and CSV. With another flag, or another version of signatures than the first, there is no answer. */
     std::optional<bool> script_eval(const std::vector<uint8_t> &script, unsigned flags, size_t version) const {
         constexpr unsigned p2sh = 1u << 0, dersig = 1u << 2, cltv = 1u << 9, csv = 1u << 10;
-        if (version != 0 || (flags & ~(p2sh | dersig | cltv | csv)) != 0 || script.size() >= 10000)
+        if (version != 0 || (flags & ~(p2sh | dersig | cltv | csv)) != 0)
             return std::nullopt;
-        if (!is_whole(script))
+        if (script.size() > 10000)
             return false;
-        /* A true element on top, whatever the script leaves: verify wants one, and EvalScript doesn't. */
-        std::vector<uint8_t> spent(script);
-        spent.push_back(0x51);
         wakotehu_flags forced = {(flags & dersig) != 0, (flags & cltv) != 0, (flags & csv) != 0};
-        uint32_t accepted = 0;
-        /* The transaction's version is 1, and its input is final: no lock of BIP 65 or 112 is met, as by that checker. */
-        if (wakotehu_verify(spender, sizeof spender, 0, spent.data(), spent.size(), &forced, nullptr, 0, nullptr,
-                            &accepted) != WAKOTEHU_OK)
-            return std::nullopt;
-        return accepted != 0;
+        /* verify wants a true element on top in the end, and EvalScript doesn't. So the script is the input's, and the one
+         * that it spends goes on with what it left: it puts a true element there, or in the place of the top one, since
+         * at most 1,000 may be there, and none need be. */
+        const std::vector<uint8_t> spends = spender(script);
+        for (const std::vector<uint8_t> &spent : {std::vector<uint8_t>{0x51}, std::vector<uint8_t>{0x75, 0x51}}) {
+            uint32_t accepted = 0;
+            if (wakotehu_verify(spends.data(), spends.size(), 0, spent.data(), spent.size(), &forced, nullptr, 0, nullptr,
+                                &accepted) != WAKOTEHU_OK)
+                return std::nullopt;
+            if (accepted)
+                return true;
+        }
+        return false;
     }
 
     std::optional<std::string> deserialize_block(const std::vector<uint8_t> &bytes) const {
@@ -70,18 +74,21 @@ class Wakotehu WAKOTEHU_BASE {
     }
 
   private:
-    static constexpr uint8_t spender[60] = {
-        1, 0, 0, 0, 1, 7, 7, 7, 7, 7, 7, 7, 7, 7, 7, 7, 7, 7, 7, 7, 7, 7, 7, 7, 7, 7, 7, 7, 7, 7,
-        7, 7, 7, 7, 7, 7, 7, 0, 0, 0, 0, 0, 255, 255, 255, 255, 1, 0, 0, 0, 0, 0, 0, 0, 0, 0, 0, 0, 0, 0,
-    };
-
-    /* Whether opcodes reach to the script's end: a push that is cut short would take what is appended. */
-    static bool is_whole(const std::vector<uint8_t> &script) {
-        size_t at = 0;
-        wakotehu_opcode opcode;
-        while (wakotehu_next_opcode(script.data() + at, script.size() - at, &opcode) == WAKOTEHU_OK)
-            at += opcode.length;
-        return at == script.size();
+    /* A transaction whose one input has this script, of at most 65,535 bytes. Its version is 1, and its input is final: no
+     * lock of BIP 65 or 112 is met, as by a BaseSignatureChecker. */
+    static std::vector<uint8_t> spender(const std::vector<uint8_t> &script) {
+        std::vector<uint8_t> made{1, 0, 0, 0, 1};
+        made.insert(made.end(), 32, 7);
+        made.insert(made.end(), 4, 0);
+        if (script.size() < 253)
+            made.push_back(static_cast<uint8_t>(script.size()));
+        else
+            made.insert(made.end(), {253, static_cast<uint8_t>(script.size()), static_cast<uint8_t>(script.size() >> 8)});
+        made.insert(made.end(), script.begin(), script.end());
+        made.insert(made.end(), 4, 255);
+        made.insert(made.end(), {1, 1, 0, 0, 0, 0, 0, 0, 0, 0});
+        made.insert(made.end(), 4, 0);
+        return made;
     }
 
     static std::string shown(const uint8_t *id) {
