@@ -5,7 +5,6 @@ import asyncio
 import gc
 import os
 import random
-import signal
 import subprocess
 import sys
 import tempfile
@@ -17,6 +16,7 @@ import warnings
 import wakotehu
 from blocks import NOW, Maker, block_id
 from fakes import fake
+from interrupts import Interrupts
 from test_node import PROGRAM
 from wakotehu import AsyncNode, Node, Stamped, errors
 from wakotehu.served import LONGEST_BLOCK, UNDER_WAY
@@ -211,29 +211,16 @@ class WaitingTest(unittest.TestCase):
 
     def test_interrupts_at_random(self):
         """Calls that are cut short anywhere leave the pipe in order."""
-        chance = random.Random(5)
-        blocks = Maker().chain(30)
-
-        def interrupt(number, frame):
-            raise KeyboardInterrupt
-
+        chance, blocks, interrupts = random.Random(5), Maker().chain(30), Interrupts(self)
         with Node(seats=1, program=PROGRAM, timeout=20) as node:
             seat, cut = node.seat(0), 0
-            seat.note()
-            kept = signal.signal(signal.SIGALRM, interrupt)
-            self.addCleanup(signal.signal, signal.SIGALRM, kept)
-            for round in range(300):
-                try:
-                    signal.setitimer(signal.ITIMER_REAL, chance.uniform(2e-5, 4e-4))
-                    for block in blocks:
-                        seat.try_submit(block, NOW)
-                except KeyboardInterrupt:
-                    cut += 1
-                finally:
-                    signal.setitimer(signal.ITIMER_REAL, 0)
+            for round in range(2000):
+                cut += interrupts.cut(
+                    lambda: [seat.try_submit(block, NOW) for block in blocks[round % 30 :]], chance.uniform(1e-5, 4e-4)
+                )
                 if round % 50 == 0:
                     seat.note()
-            self.assertGreater(cut, 100)
+            self.assertGreater(cut, 500)
             for block in blocks:
                 seat.try_submit(block, NOW)
             self.assertEqual(seat.getbestblockhash().value, block_id(blocks[-1]))
@@ -241,28 +228,15 @@ class WaitingTest(unittest.TestCase):
             self.assertEqual(sum(map(len, node._pipe._waiting)), 0)
 
     def test_interrupts_of_one_thread_hold_up_no_other(self):
-        chance = random.Random(6)
-
-        def interrupt(number, frame):
-            raise KeyboardInterrupt
-
+        chance, interrupts = random.Random(6), Interrupts(self)
         with Node(seats=2, program=PROGRAM, timeout=20) as node:
-            kept = signal.signal(signal.SIGALRM, interrupt)
-            self.addCleanup(signal.signal, signal.SIGALRM, kept)
 
             def reads():
                 return [node.seat(1).getbestblockhash().at for _ in range(1500)]
 
             threads = [self.thread(reads) for _ in range(3)]
             while any(thread.is_alive() for thread, _ in threads):
-                try:
-                    signal.setitimer(signal.ITIMER_REAL, chance.uniform(2e-5, 1e-3))
-                    for _ in range(100):
-                        node.seat(0).note()
-                except KeyboardInterrupt:
-                    pass
-                finally:
-                    signal.setitimer(signal.ITIMER_REAL, 0)
+                interrupts.cut(lambda: [node.seat(0).note() for _ in range(100)], chance.uniform(2e-5, 1e-3))
             self.assertEqual([found for _, found in threads], [[[0] * 1500]] * 3)
 
     def test_ctrl_c_goes_to_python_alone(self):
