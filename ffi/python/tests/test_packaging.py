@@ -1,7 +1,7 @@
 """What is installed: the library with its soname, files below DESTDIR, the pkg-config file, and the package."""
 
+import inspect
 import os
-import shutil
 import stat
 import subprocess
 import sys
@@ -9,6 +9,7 @@ import tempfile
 import unittest
 
 import wakotehu
+from test_node import PROGRAM as REGCHAIN
 
 FFI = os.path.realpath(os.path.join(os.path.dirname(os.path.abspath(__file__)), "..", ".."))
 PROGRAM = """#include <stdio.h>
@@ -71,19 +72,47 @@ class InstallTest(unittest.TestCase):
         for words in (["--nonsense"], ["a", "b"]):
             self.assertNotEqual(subprocess.run([f"{FFI}/install", *words], capture_output=True).returncode, 0)
 
-    def test_the_wheel_has_the_library_inside(self):
-        run(f"{FFI}/python/build", self.folder, env={**os.environ, "PYTHON": "/usr/bin/python3"})
-        [wheel] = [name for name in os.listdir(self.folder) if name.endswith(".whl")]
-        shutil.unpack_archive(os.path.join(self.folder, wheel), f"{self.folder}/unpacked", "zip")
-        names = {**os.environ, "PYTHONPATH": f"{self.folder}/unpacked"}
-        names.pop("WAKOTEHU_LIBRARY", None)
-        asked = (
-            "from wakotehu import library as by, __version__; "
-            "print(by.library()._name, by.secp256k1_library()._name, __version__)"
-        )
-        told = run(sys.executable, "-c", asked, cwd=self.folder, env=names).split()
-        inside = f"{self.folder}/unpacked/wakotehu/libwakotehu"
-        self.assertEqual(told, [f"{inside}.so.0", f"{inside}-secp256k1.so.0", wakotehu.__version__])
+    def wheel(self):
+        """A wheel of the package, made anew."""
+        run(
+            f"{FFI}/python/build", self.folder,
+            env={**os.environ, "PYTHON": "/usr/bin/python3", "WAKOTEHU_PROGRAM": REGCHAIN},
+        )  # fmt: skip
+        [name] = [name for name in os.listdir(self.folder) if name.endswith(".whl")]
+        return os.path.join(self.folder, name)
+
+    def test_the_wheel_in_a_fresh_environment(self):
+        wheel = self.wheel()
+        # Any Python 3 takes it, as nothing in it is compiled for one of them.
+        tags = os.path.basename(wheel)[: -len(".whl")].split("-")[2:]
+        self.assertEqual(tags, ["py3", "none", f"linux_{os.uname().machine}"])
+        run("/usr/bin/python3", "-m", "venv", f"{self.folder}/venv")
+        run(f"{self.folder}/venv/bin/pip", "install", "--quiet", "--no-index", wheel)
+        names = {name: value for name, value in os.environ.items() if not name.startswith(("WAKOTEHU", "PYTHON"))}
+        names["PATH"] = "/nowhere"
+        python = f"{self.folder}/venv/bin/python"
+        package = run(python, "-c", "import wakotehu; print(*wakotehu.__path__)", cwd=self.folder, env=names).strip()
+        self.assertTrue(package.startswith(f"{self.folder}/venv/"), package)
+        told = run(python, "-m", "wakotehu", cwd=self.folder, env=names)
+        self.assertEqual(told.splitlines(), [
+            f"wakotehu {wakotehu.__version__}", f"library: {package}/libwakotehu.so.0",
+            f"signatures: {package}/libwakotehu-secp256k1.so.0", f"program: {package}/regchain",
+        ])  # fmt: skip
+        asked = "from wakotehu import Bench, Node; print(Bench().height(), Node(save='made').close())"
+        self.assertEqual(run(python, "-W", "ignore", "-c", asked, cwd=self.folder, env=names), "0 0\n")
+        self.assertTrue(os.path.exists(f"{self.folder}/made/journal.txt"))
+        self.assertIn("usage", run(f"{self.folder}/venv/bin/wakotehu-server", "--help", cwd=self.folder, env=names))
+
+    def test_the_wheel_needs_the_program(self):
+        done = subprocess.run(
+            [f"{FFI}/python/build", self.folder], capture_output=True, text=True,
+            env={**os.environ, "WAKOTEHU_PROGRAM": "/nowhere/regchain"},
+        )  # fmt: skip
+        self.assertEqual((done.returncode, os.listdir(self.folder)), (1, []))
+        self.assertIn("/nowhere/regchain isn't there", done.stderr)
+        self.assertEqual(run(f"{FFI}/python/build", "--help").split()[:2], ["Makes", "a"])
+        done = subprocess.run([f"{FFI}/python/build", "--nonsense"], capture_output=True)
+        self.assertEqual(done.returncode, 2)
 
 
 class PackageTest(unittest.TestCase):
@@ -93,6 +122,30 @@ class PackageTest(unittest.TestCase):
             [sys.executable, "-c", "import wakotehu; wakotehu.Chainstate()"], capture_output=True, text=True, env=names
         )
         self.assertIn("WAKOTEHU_LIBRARY=/nowhere/lib.so can't be loaded", done.stderr.splitlines()[-1])
+
+    def said(self, *words, **names):
+        return subprocess.run(
+            [sys.executable, "-m", "wakotehu", *words], capture_output=True, text=True, env={**os.environ, **names}
+        )
+
+    def test_what_the_package_says_of_itself(self):
+        done = self.said(WAKOTEHU_PROGRAM=REGCHAIN)
+        self.assertEqual(done.returncode, 0)
+        self.assertEqual([line.split(":")[0] for line in done.stdout.splitlines()[1:]], ["library", "signatures", "program"])
+        self.assertIn(f"program: {REGCHAIN}\n", done.stdout)
+        for name, word in (("WAKOTEHU_LIBRARY", "library"), ("WAKOTEHU_PROGRAM", "program")):
+            done = self.said(**{"WAKOTEHU_PROGRAM": REGCHAIN, name: "/nowhere/none"})
+            self.assertEqual(done.returncode, 1)
+            self.assertRegex(done.stdout, f"{word}: not found: .*/nowhere/none")
+        self.assertEqual(self.said("--version").stdout, f"wakotehu {wakotehu.__version__}\n")
+        self.assertIn("usage: python3 -m wakotehu", self.said("--help").stdout)
+        self.assertEqual(self.said("nonsense").returncode, 2)
+
+    def test_each_exception_says_what_it_is(self):
+        for name, kind in vars(wakotehu.errors).items():
+            if inspect.isclass(kind) and issubclass(kind, Exception):
+                with self.subTest(name):
+                    self.assertTrue((vars(kind).get("__doc__") or "").strip().endswith("."))
 
     def test_exceptions_stand_under_their_names(self):
         from wakotehu.errors import BadCbAmount, BadTxnsBIP30, BlkBadInputs, HighHash
