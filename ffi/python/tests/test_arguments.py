@@ -254,7 +254,7 @@ ROWS = [
 ]  # fmt: skip
 
 #: Modules that are no part of this: what takes the arguments, exceptions, what a server has, and what it is started by.
-OTHER = {"arguments", "errors", "index", "pipe", "pool", "server", "version", "__main__"}
+OTHER = {"ahead", "arguments", "errors", "index", "pipe", "pool", "server", "version", "__main__"}
 #: What other modules of the package call with what was taken before.
 INSIDE = {"chainstate.reply_of"} | {
     f"served.{name}" for name in (

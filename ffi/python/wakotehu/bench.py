@@ -1,9 +1,9 @@
 """A test bench: the proved chainstate with real signatures."""
 
 from types import TracebackType
-from typing import Callable, List, NamedTuple, NoReturn, Optional, Sequence, Tuple, Type, Union
+from typing import Callable, Dict, Iterator, List, NamedTuple, NoReturn, Optional, Sequence, Tuple, Type, Union
 
-from . import arguments, consensus, errors
+from . import ahead, arguments, consensus, errors
 from .arguments import id_of, instance, number, octets
 from .chainstate import REGTEST, Chainstate, Coin, Reply, Tip, mark_of, moment_of, read_heights, reply_of
 from .consensus import Triple
@@ -150,7 +150,7 @@ class Bench(Walks):
         self._settle()
         self._begun.append(step)
         try:
-            reply = self._by_need(command)
+            reply = self._by_need(step, command)
         finally:
             step.is_running = False
         self._settle()
@@ -184,23 +184,52 @@ class Bench(Walks):
         self._journal[step.place : step.place + 1] = [Entry(step.command, step.id, step.now, reply.text)]
         self._index.follow(self.chain.best())
 
-    def _by_need(self, command: Callable[[], Reply]) -> Reply:
+    def _by_need(self, step: _Step, command: Callable[[], Reply]) -> Reply:
         """Makes a command, and finds out what it wants, until it is taken."""
+        begun = self.rounds
         while True:
             try:
                 return command()
             except errors.Wants as wants:
-                self._find_out(wants)
+                self.rounds += 1
+                verdicts = self._test(wants.triples, wants.lines)
+                self._learn(wants.triples, wants.lines, verdicts)
+                # What the scripts that wanted something will want next.
+                asking = ahead.asking(wants.triples, self._places(step), self.transaction, self.rounds > begun + 1)
+                asked = ahead.found_out(asking, verdicts, lambda more: list(self._test(more).values()))
+                known = set(wants.triples)
+                asked = [triple for triple in asked if triple not in known]
+                self._learn(asked, [triple.line[:-1] for triple in asked], verdicts)
 
-    def _find_out(self, wants: errors.Wants) -> None:
-        """Asks libsecp256k1 about what is wanted, and hands the verdicts in."""
-        self.rounds += 1
-        for triple, line, valid in zip(wants.triples, wants.lines, self._verifier.verdicts(wants.lines)):
+    def _test(self, triples: Sequence[Triple], lines: Optional[Sequence[bytes]] = None) -> Dict[Triple, bool]:
+        """Asks libsecp256k1 about signatures."""
+        told = [triple.line[:-1] for triple in triples] if lines is None else lines
+        return dict(zip(triples, self._verifier.verdicts(told)))
+
+    def _learn(self, triples: Sequence[Triple], lines: Sequence[bytes], verdicts: Dict[Triple, bool]) -> None:
+        """Gives the verdicts to the chainstate."""
+        for triple, line in zip(triples, lines):
             # First the table: where this is interrupted, it has all that the chainstate knows, perhaps a line twice.
-            if valid:
+            if verdicts[triple]:
                 self._table += line + b"\n"
-            self.chain.learn(triple, valid)
+            self.chain.learn(triple, verdicts[triple])
             self.found_out += 1
+
+    def _places(self, step: _Step) -> Iterator[ahead.Place]:
+        """The blocks whose scripts a step may run: those of a branch that aren't active, the lowest first."""
+        index = self._index
+        tips = [step.spelled.header.parent] if step.spelled else [tip.id for tip in self.chain.tips()]
+        for tip in tips:
+            for id in index.beside(tip):
+                data = self.chain.block(id)
+                if data is not None:
+                    yield ahead.Place(block_at_front(data), self._flags_at(index.blocks[id].height))
+            if step.spelled and tip in index.blocks:
+                yield ahead.Place(step.spelled, self._flags_at(index.blocks[tip].height + 1))
+
+    def _flags_at(self, height: int) -> ahead.Flags:
+        _, cltv, dersig, csv = self.heights
+        return ahead.Flags(height >= dersig, height >= cltv, height >= csv)
 
     def invalidate(self, id: bytes) -> None:
         """As `Chainstate.invalidate`."""

@@ -81,11 +81,17 @@ class Index:
 
     def branch(self, id: bytes) -> List[bytes]:
         """The ids of a block's branch, the block next to genesis first."""
+        found = self.beside(id)
+        low = self.blocks[found[0]].height if found else self.blocks[id].height + 1
+        return self.active[1:low] + found
+
+    def beside(self, id: bytes) -> List[bytes]:
+        """The ids of those blocks of a block's branch that aren't active, the lowest first."""
         found = []
-        while not self.is_active(id):
+        while id in self.blocks and not self.is_active(id):
             found.append(id)
             id = self.blocks[id].header.parent
-        return self.active[1 : self.blocks[id].height + 1] + found[::-1]
+        return found[::-1]
 
 
 class Unspent(NamedTuple):
