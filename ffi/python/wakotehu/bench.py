@@ -1,7 +1,7 @@
 """A test bench: the proved chainstate with real signatures."""
 
 from types import TracebackType
-from typing import Callable, Dict, Iterator, List, NamedTuple, NoReturn, Optional, Sequence, Tuple, Type, Union
+from typing import Callable, Dict, Iterator, List, NamedTuple, NoReturn, Optional, Sequence, Set, Tuple, Type, Union
 
 from . import ahead, arguments, consensus, errors
 from .arguments import id_of, instance, number, octets
@@ -186,20 +186,23 @@ class Bench(Walks):
 
     def _by_need(self, step: _Step, command: Callable[[], Reply]) -> Reply:
         """Makes a command, and finds out what it wants, until it is taken."""
-        begun = self.rounds
+        verdicts: Dict[Triple, bool] = {}
+        known: Set[Triple] = set()
         while True:
             try:
                 return command()
             except errors.Wants as wants:
                 self.rounds += 1
-                verdicts = self._test(wants.triples, wants.lines)
+                is_again = bool(known)
+                verdicts.update(self._test(wants.triples, wants.lines))
                 self._learn(wants.triples, wants.lines, verdicts)
+                known.update(wants.triples)
                 # What the scripts that wanted something will want next.
-                asking = ahead.asking(wants.triples, self._places(step), self.transaction, self.rounds > begun + 1)
+                asking = ahead.asking(wants.triples, self._places(step), self.transaction, is_again)
                 asked = ahead.found_out(asking, verdicts, lambda more: list(self._test(more).values()))
-                known = set(wants.triples)
                 asked = [triple for triple in asked if triple not in known]
                 self._learn(asked, [triple.line[:-1] for triple in asked], verdicts)
+                known.update(asked)
 
     def _test(self, triples: Sequence[Triple], lines: Optional[Sequence[bytes]] = None) -> Dict[Triple, bool]:
         """Asks libsecp256k1 about signatures."""
