@@ -106,6 +106,10 @@ WRONG: Dict[str, List[Any]] = {
     ],
     "times": [*SEQUENCE, [-1], [1 << 32], [0.5], ["1"], [None], [True], [b"1"]],
     "starts": [*SEQUENCE, [1], [(1,)], [(1, 2, 3)], [(1, -1)], [(0.5, 1)], ["12"], [b"12"], [{1, 2}], [(1, 1 << 32)]],
+    "outpoints": [
+        *SEQUENCE, [1], [(bytes(32),)], [(bytes(31), 0)], [(bytes(32), -1)], [(bytes(32), 0.7)], [("00" * 32, 0)], ["ab"],
+        [(bytes(32), True)], [(bytes(32), 1 << 32)],
+    ],
     "triple": [
         *SEQUENCE, [], [b""] * 2, [b""] * 3, (3, b"", bytes(32)), (b"", "a", bytes(32)), (b"", b"", bytes(31)),
         (array.array("I", [1]), b"", bytes(32)),
@@ -180,8 +184,8 @@ SEAT = [
     ("submit", {"block": BLOCK, "now": MOMENT}), ("try_submit", {"block": BLOCK, "now": MOMENT}),
     ("invalidate", {"id": ID}), ("reconsider", {"id": ID}), ("precious", {"id": ID}),
     ("try_mark", {"command": ("command", "precious"), "id": ID}),
-    ("gettxout", {"txid": ID, "n": ("number32", 0)}), ("getbestblockhash", {}), ("getchaintips", {}),
-    ("journal", {"first": ("step", 1), "last": ("number", 9)}), ("note", {}), ("told", {"other": ("own", None)}),
+    ("gettxout", {"txid": ID, "n": ("number32", 0)}), ("gettxouts", {"outpoints": ("outpoints", [(bytes(32), 0)])}),
+    ("getbestblockhash", {}), ("getchaintips", {}), ("journal", {"first": ("step", 1), "last": ("number", 9)}), ("note", {}), ("told", {"other": ("own", None)}),
 ]  # fmt: skip
 CHAIN = [
     ("submit", {"block": BLOCK, "now": MOMENT}), ("try_submit", {"block": BLOCK, "now": MOMENT}),
@@ -258,7 +262,7 @@ OTHER = {"ahead", "arguments", "errors", "index", "pipe", "pool", "server", "ver
 #: What other modules of the package call with what was taken before.
 INSIDE = {"chainstate.reply_of"} | {
     f"served.{name}" for name in (
-        "Call", "Opening", "submission", "mark", "output", "entries", "told", "request", "checked", "outcome", "died", "read_answer",
+        "Call", "Opening", "submission", "mark", "output", "outputs", "entries", "told", "request", "checked", "outcome", "died", "read_answer",
     )
 }  # fmt: skip
 #: What calls answer, and who is called: nobody makes them.

@@ -147,6 +147,29 @@ class NodeTest(unittest.TestCase):
             thread.join()
         self.assertEqual(found, [Stamped(20, block_id(blocks[-1]))])
 
+    def test_many_outputs_at_once(self):
+        node = self.node(seats=2, timeout=20)
+        blocks = self.maker.chain(150)
+        coins = [(self.maker.coinbases[block_id(block)].id, 0) for block in blocks]
+        asked = [point for coin in coins for point in (coin, (coin[0], 1))] * 3
+        for block in blocks:
+            node.seat(0).submit(block, NOW)
+        found, others = [], []
+
+        def many():
+            found.append(node.seat(0).gettxouts(asked))
+
+        threads = [threading.Thread(target=many) for _ in range(3)]
+        threads += [threading.Thread(target=lambda: others.append(node.seat(0).note())) for _ in range(20)]
+        for thread in threads:
+            thread.start()
+        for thread in threads:
+            thread.join()
+        self.assertEqual(found[0], [node.seat(0).gettxout(*point) for point in asked])
+        self.assertEqual((found[1:], others), ([found[0]] * 2, [150] * 20))
+        self.assertEqual([one.value.height if one.value else 0 for one in found[0][:4]], [1, 0, 2, 0])
+        self.assertEqual(node.seat(1).gettxouts([]), [])
+
     def test_many_threads_at_each_seat(self):
         """Answers find who asked, and no stamp falls."""
         node = self.node(seats=3)
@@ -303,6 +326,10 @@ class AsyncNodeTest(unittest.IsolatedAsyncioTestCase):
             self.assertEqual(await second.getchaintips(), Stamped(5, [(block_id(blocks[-1]), 5, 0, "active")]))
             made = self.maker.coinbases[block_id(blocks[0])].id
             self.assertEqual(await second.gettxout(made, 0), Stamped(5, (5000000000, b"\x51", 1, True, 5)))
+            asked = [(made, n % 2) for n in range(500)]
+            found = await asyncio.gather(second.gettxouts(asked), second.gettxouts(asked), second.note())
+            self.assertEqual(found[0], [await second.gettxout(*point) for point in asked])
+            self.assertEqual(found[1:], [found[0], 5])
             self.assertEqual((await second.invalidate(block_id(blocks[1]))).at, 6)
             self.assertEqual(await second.reconsider(block_id(blocks[1])), Stamped(7, "done"))
             self.assertEqual(await second.precious(block_id(blocks[1])), Stamped(8, "done"))

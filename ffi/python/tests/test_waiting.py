@@ -57,6 +57,15 @@ if asked['method'] == 'note':
 """
 
 
+def is_running(process):
+    """Whether a process runs; one that has ended and isn't waited for doesn't."""
+    try:
+        with open(f"/proc/{process}/stat", encoding="ascii") as file:
+            return file.read().rsplit(") ", 1)[1][0] != "Z"
+    except OSError:
+        return False
+
+
 class WaitingTest(unittest.TestCase):
     def setUp(self):
         room = tempfile.TemporaryDirectory()
@@ -208,6 +217,26 @@ class WaitingTest(unittest.TestCase):
                 os._exit(wrong)
             self.assertEqual(os.waitpid(child, 0)[1], 0)
             self.assertEqual(seat.note(), 1)
+
+    def test_a_fork_that_lives_on_keeps_no_process(self):
+        """The node's process ends with the one that opened it, also where a fork of that doesn't."""
+        begins = "import asyncio, os, sys, time\nfrom wakotehu import AsyncNode, Node\n"
+        ends = "if os.fork() == 0:\n    os.close(1)\n    time.sleep(20)\n    os._exit(0)\nprint({}, flush=True)\nos._exit(0)\n"
+        cases = [
+            "node = Node(seats=1, program=sys.argv[1])\n" + ends.format("node._process.pid"),
+            "async def main():\n    node = await AsyncNode(seats=1, program=sys.argv[1]).__aenter__()\n"
+            + "".join(f"    {line}\n" for line in ends.format("node._pipe.transport.get_pid()").splitlines())
+            + "asyncio.run(main())\n",
+        ]
+        for code in cases:
+            with self.subTest(code):
+                done = subprocess.run(
+                    [sys.executable, "-c", begins + code, PROGRAM], stdout=subprocess.PIPE, start_new_session=True, timeout=60
+                )
+                process, end = int(done.stdout), time.monotonic() + 20
+                while is_running(process) and time.monotonic() < end:
+                    time.sleep(0.01)
+                self.assertFalse(is_running(process))
 
     def test_interrupts_at_random(self):
         """Calls that are cut short anywhere leave the pipe in order."""

@@ -5,14 +5,14 @@ import os
 import warnings
 from collections import deque
 from types import TracebackType
-from typing import Any, Deque, Dict, List, NoReturn, Optional, Sequence, Type, Union, cast
-from weakref import ref
+from typing import Any, Deque, Dict, List, NoReturn, Optional, Sequence, Tuple, Type, Union, cast
+from weakref import WeakSet, ref
 
 from . import arguments, errors
 from .chainstate import Reply, Tip
 from .served import (
     BEST, FINISH, INFO, KEPT, MOST, NOTE, TIMEOUT, TIPS, UNDER_WAY, Call, Entry, Info, Opening, Stamped, UnspentOutput,
-    checked, died, entries, mark, outcome, output, read_answer, request, submission, told,
+    checked, died, entries, mark, outcome, output, outputs, read_answer, request, submission, told,
 )  # fmt: skip
 
 #: Requests of no seat, and of each.
@@ -36,6 +36,20 @@ class _Asked:
     def fail(self, error: errors.Error) -> None:
         if not self.answer.done():
             self.answer.set_exception(error)
+
+
+#: A fork has copies of the pipes, which would keep the processes from seeing that their input has ended.
+_OPENED: "WeakSet[_Pipe]" = WeakSet()
+
+
+def _forked() -> None:
+    for pipe in list(_OPENED):
+        process = pipe.transport.get_extra_info("subprocess")
+        for file in (process.stdin, process.stdout, process.stderr):
+            file.close()
+
+
+os.register_at_fork(after_in_child=_forked)
 
 
 class _Pipe(asyncio.SubprocessProtocol):
@@ -146,6 +160,7 @@ class _Pipe(asyncio.SubprocessProtocol):
 
     def connection_made(self, transport: asyncio.BaseTransport) -> None:
         self.transport = cast(asyncio.SubprocessTransport, transport)
+        _OPENED.add(self)
 
     def pipe_data_received(self, fd: int, data: Union[bytes, str]) -> None:
         assert isinstance(data, bytes)
@@ -191,6 +206,7 @@ class _Pipe(asyncio.SubprocessProtocol):
     def connection_lost(self, error: Optional[Exception]) -> None:
         """The process has ended, and all that it wrote was read."""
         self.status = self.transport.get_returncode()
+        self.transport.close()
         if self._clock is not None:
             self._clock.cancel()
         for asked in list(self._all):
@@ -267,6 +283,18 @@ class AsyncSeat:
         """As `Seat.gettxout`."""
         answered: Stamped[Optional[UnspentOutput]] = await self._ask(output(txid, n))
         return answered
+
+    async def gettxouts(self, outpoints: Sequence[Tuple[bytes, int]]) -> List[Stamped[Optional[UnspentOutput]]]:
+        """As `Seat.gettxouts`."""
+        calls = outputs(outpoints)
+        answers = [self.node._opened().begun(call, self.number) for call in calls]
+        try:
+            return [outcome(await answer, call) for answer, call in zip(answers, calls)]
+        finally:
+            # Where one is refused, or the call is cancelled, nobody waits for the others.
+            for answer in answers:
+                if not answer.cancel() and not answer.cancelled():
+                    answer.exception()
 
     async def getbestblockhash(self) -> Stamped[bytes]:
         """As `Seat.getbestblockhash`."""

@@ -6,7 +6,7 @@ ask for what their calls say, and read what is answered, is tested.
 
 import warnings
 from types import TracebackType
-from typing import Any, Dict, List, NoReturn, Optional, Sequence, Type, Union
+from typing import Any, Dict, List, NoReturn, Optional, Sequence, Tuple, Type, Union
 from weakref import ref
 
 from . import arguments
@@ -15,7 +15,7 @@ from .chainstate import Reply, Tip
 from .pipe import Pipe
 from .served import (
     BEST, FINISH, INFO, NOTE, TIMEOUT, TIPS, UNDER_WAY, Call, Entry, Info, Opening, Stamped, UnspentOutput, checked,
-    entries, mark, output, program_path, submission, told,
+    entries, mark, output, outputs, program_path, submission, told,
 )  # fmt: skip
 
 __all__ = [
@@ -75,6 +75,10 @@ class Seat:
         """The output at an outpoint, or None."""
         answered: Stamped[Optional[UnspentOutput]] = self._ask(output(txid, n))
         return answered
+
+    def gettxouts(self, outpoints: Sequence[Tuple[bytes, int]]) -> List[Stamped[Optional[UnspentOutput]]]:
+        """The outputs at many outpoints, or None: as `gettxout` for each, in this order, and some times as fast."""
+        return self.node._pipe.ask_all(outputs(outpoints), self.number)
 
     def getbestblockhash(self) -> Stamped[bytes]:
         """The best block's id."""

@@ -12,6 +12,7 @@ import tempfile
 import threading
 import time
 from typing import Any, Callable, Dict, List, Optional, Sequence
+from weakref import WeakSet
 
 from . import errors
 from .served import KEPT, MOST, UNDER_WAY, Call, died, outcome, read_answer, request
@@ -21,6 +22,8 @@ _LOOK = 0.5
 #: Requests of no seat, and of each.
 _KINDS = MOST + 1
 _PIECE = 1 << 16
+#: So many requests of one call are written at once: while half are answered the others wait.
+_AT_ONCE = UNDER_WAY // 2
 
 
 class Waiter:
@@ -41,14 +44,26 @@ class Waiter:
             pass  # it was rung before, and that wasn't heard yet
 
 
-class _Line:
-    """A line that is being written, and how much of it each write took."""
+class _Lines:
+    """Lines that are being written, who waits for their answers, and how much each write took."""
 
-    __slots__ = ("text", "number", "waiter", "written")
+    __slots__ = ("text", "kind", "waiters", "written")
 
-    def __init__(self, text: bytes, number: int, waiter: Waiter) -> None:
-        self.text, self.number, self.waiter = text, number, waiter
+    def __init__(self, text: bytes, kind: int, waiters: Dict[int, Waiter]) -> None:
+        self.text, self.kind, self.waiters = text, kind, waiters
         self.written: List[int] = []
+
+
+#: A fork has copies of the pipes, which would keep the processes from seeing that their input has ended.
+_OPENED: "WeakSet[Pipe]" = WeakSet()
+
+
+def _forked() -> None:
+    for pipe in list(_OPENED):
+        pipe.close_files()
+
+
+os.register_at_fork(after_in_child=_forked)
 
 
 class Pipe:
@@ -73,8 +88,8 @@ class Pipe:
         self._writable.register(self._in, select.POLLOUT)
         self._writing = threading.Lock()
         self._next = 0
-        #: The line that is being written.
-        self._line: Optional[_Line] = None
+        #: The lines that are being written.
+        self._lines: Optional[_Lines] = None
         #: Who waits for an answer, by kind and number; and who waits until there are fewer of a kind.
         self._waiting: List[Dict[int, Waiter]] = [{} for _ in range(_KINDS)]
         self._crowd: List[Dict[Waiter, None]] = [{} for _ in range(_KINDS)]
@@ -84,6 +99,7 @@ class Pipe:
         #: Who reads, at 0; and who sleeps meanwhile.
         self._reader: Dict[int, Waiter] = {}
         self._asleep: Dict[Waiter, None] = {}
+        _OPENED.add(self)
 
     # ---- asking
 
@@ -94,61 +110,89 @@ class Pipe:
 
     def ask(self, call: Call, seat: Optional[int], is_last: bool = False) -> Any:
         """What is answered to a call."""
-        self.check_process()
-        until = None if self.timeout is None else time.monotonic() + self.timeout
-        waiter, kind = Waiter(), 0 if seat is None else seat + 1
-        while not self._begun(waiter, call, seat, until, is_last):
-            self._crowd[kind][waiter] = None
-            try:
-                self._wait(waiter, lambda: len(self._waiting[kind]) < UNDER_WAY, until)
-            finally:
-                self._crowd[kind].pop(waiter, None)
-        self._wait(waiter, lambda: waiter.answer is not None, until)
-        assert waiter.answer is not None
-        return outcome(waiter.answer, call)
+        return self.ask_all([call], seat, is_last)[0]
 
-    def _begun(self, waiter: Waiter, call: Call, seat: Optional[int], until: Optional[float], is_last: bool) -> bool:
-        """Writes a request, whose answer the waiter gets; False where too many of its kind are under way."""
+    def ask_all(self, calls: Sequence[Call], seat: Optional[int], is_last: bool = False) -> List[Any]:
+        """What is answered to calls, of which as many are under way as may be."""
+        self.check_process()
+        found: List[Any] = []
+        asked: List[List[Waiter]] = []
+        for place in range(0, len(calls), _AT_ONCE):
+            asked.append(self._asked(calls[place : place + _AT_ONCE], seat, is_last))
+            if len(asked) > 1:
+                found += self._answers(calls[len(found) :], asked.pop(0))
+        return found + [answer for waiters in asked for answer in self._answers(calls[len(found) :], waiters)]
+
+    def _answers(self, calls: Sequence[Call], waiters: Sequence[Waiter]) -> List[Any]:
+        """What those who wait are answered, the last one after all others."""
+        until = self._until()
+        for waiter in reversed(waiters):
+            if waiter.answer is None:
+                self._wait(waiter, lambda: waiter.answer is not None, until)
+        return [outcome(waiter.answer or {}, call) for waiter, call in zip(waiters, calls)]
+
+    def _until(self) -> Optional[float]:
+        return None if self.timeout is None else time.monotonic() + self.timeout
+
+    def _asked(self, calls: Sequence[Call], seat: Optional[int], is_last: bool) -> List[Waiter]:
+        """Writes requests as soon as so many may be under way: who waits for their answers."""
+        until, kind = self._until(), 0 if seat is None else seat + 1
+        waiters = [Waiter() for _ in calls]
+        while not self._begun(waiters, calls, seat, until, is_last):
+            self._crowd[kind][waiters[0]] = None
+            try:
+                self._wait(waiters[0], lambda: len(self._waiting[kind]) + len(calls) <= UNDER_WAY, until)
+            finally:
+                self._crowd[kind].pop(waiters[0], None)
+        return waiters
+
+    def _begun(
+        self, waiters: Sequence[Waiter], calls: Sequence[Call], seat: Optional[int], until: Optional[float], is_last: bool
+    ) -> bool:
+        """Writes requests, whose answers those who wait get; False where too many of their kind are under way."""
         kind = 0 if seat is None else seat + 1
         with self._writing:
             if self.is_closed and not is_last:
                 raise errors.Closed("the node was closed")
             if self.ended:
                 raise self.why()
-            if len(self._waiting[kind]) >= UNDER_WAY:
+            if len(self._waiting[kind]) + len(calls) > UNDER_WAY:
                 return False
-            # What was left of a line comes first.
+            # What was left of other lines comes first.
             self._write(until)
-            self._next += 1
-            number = self._next * _KINDS + kind
-            line = _Line(request(number, call, seat), number, waiter)
+            first = self._next + 1
+            self._next += len(calls)
+            numbers = range(first * _KINDS + kind, (self._next + 1) * _KINDS, _KINDS)
+            text = b"".join([request(number, call, seat) for number, call in zip(numbers, calls)])
+            lines = _Lines(text, kind, dict(zip(numbers, waiters)))
             try:
-                self._line = line
+                self._lines = lines
                 self._write(until)
             except BaseException:
-                if not sum(line.written):
-                    # Nothing of it was written, so nothing was asked.
-                    self._line = None
-                    self._waiting[kind].pop(number, None)
+                if not sum(lines.written):
+                    # Nothing of them was written, so nothing was asked.
+                    self._lines = None
+                    for number in numbers:
+                        self._waiting[kind].pop(number, None)
                 raise
         return True
 
     def _write(self, until: Optional[float]) -> None:
-        """Writes what is left of the line. Where this is cut short the next one goes on."""
-        line = self._line
-        if line is None:
+        """Writes what is left of the lines. Where this is cut short the next one goes on."""
+        lines = self._lines
+        if lines is None:
             return
-        if not sum(line.written):
-            self._waiting[line.number % _KINDS][line.number] = line.waiter
-        while (begin := sum(line.written)) < len(line.text):
+        if not sum(lines.written):
+            self._waiting[lines.kind].update(lines.waiters)
+        while (begin := sum(lines.written)) < len(lines.text):
             try:
                 # One step of C, which an interrupt doesn't part.
-                line.written.extend(map(os.write, (self._in,), (memoryview(line.text)[begin:],)))
+                lines.written.extend(map(os.write, (self._in,), (memoryview(lines.text)[begin:],)))
             except BlockingIOError:
                 self._writable.poll(_milliseconds(_left(until)))
             except OSError:
                 break  # the process has ended: who reads finds that
-        self._line = None
+        self._lines = None
 
     # ---- waiting
 
@@ -281,7 +325,7 @@ class Pipe:
             time.sleep(0.001)
         with self._writing:
             self._fault = self._fault or self._said()
-            self._close_files()
+            self.close_files()
         self._leave(waiter)
 
     def drop(self) -> bool:
@@ -290,10 +334,11 @@ class Pipe:
             return False
         self.process.kill()
         self.process.wait()
-        self._close_files()
+        self.close_files()
         return True
 
-    def _close_files(self) -> None:
+    def close_files(self) -> None:
+        """Closes this process's ends of the pipes."""
         for file in (self.process.stdin, self.process.stdout, self._stderr):
             if file is not None:
                 file.close()

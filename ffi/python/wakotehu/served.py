@@ -159,6 +159,14 @@ def output(txid: bytes, n: int) -> Call:
     return Call("gettxout", f',"txid":"{show(id_of(txid, "txid"))}","n":{number(n, "n")}', _read_output)
 
 
+def outputs(outpoints: Sequence[Tuple[bytes, int]]) -> List[Call]:
+    pairs = [arguments.several(pair, "outpoints", 2) for pair in arguments.sequence(outpoints, "outpoints")]
+    return [
+        Call("gettxout", f',"txid":"{show(id_of(txid, "outpoints"))}","n":{number(n, "outpoints")}', _read_output)
+        for txid, n in pairs
+    ]
+
+
 def entries(first: int, last: int) -> Call:
     begin, end = number(first, "first", 64, least=1), number(last, "last", 64)
     return Call("journal", f',"from":{begin},"to":{end}', _read_entries)
