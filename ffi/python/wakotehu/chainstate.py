@@ -97,7 +97,7 @@ class Chainstate:
     table: the valid signatures, as lines of a key, a signature without its hash type and a digest, in hexadecimal and
         parted by spaces. No other signature is valid.
     by_need: no table says which are valid. A command whose scripts ask for signatures of which nothing is known raises
-        `Wants`, and is none; `learn` hands in what was found out, and the command is made again. `Bench` does so.
+        `Wants`, and has no effect; `learn` takes what was found out, and the command is made again. `Bench` does so.
 
     Ids are bytes in the order in which they are hashed; `show` prints them as everywhere. One thread at a time may be
     inside a call: another one is refused with `Busy`.
@@ -211,7 +211,7 @@ class Chainstate:
         return list(dict.fromkeys(ctypes.string_at(lines, needed.value).split(b"\n")[1:]))
 
     def learn(self, triple: Triple, valid: bool) -> None:
-        """Hands in whether a signature is valid. A verdict that contradicts a known one raises `Contradiction`."""
+        """Takes whether a signature is valid. A verdict that contradicts a known one raises `Contradiction`."""
         (key, signature, digest), valid = triple_of(triple), arguments.flag(valid, "valid")
         words = key, len(key), signature, len(signature), digest, int(valid)
         self._check(self._library.wakotehu_learn(self._handle, *words))
