@@ -51,7 +51,8 @@ class Pool(Walks):
         self._threads = [0] * seats
         self._seen = [0] * seats
         self._newest = 0
-        self.node = Node(seats, workers, self.heights, self.table, program)
+        # A block may take longer than callers of a node wait, and a step that nobody takes up would hold up all others.
+        self.node = Node(seats, workers, self.heights, self.table, program, timeout=None)
 
     @property
     def table_size(self) -> int:
