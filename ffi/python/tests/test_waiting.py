@@ -118,6 +118,17 @@ class WaitingTest(unittest.TestCase):
             self.assertRaises(wakotehu.TimedOut, node.seat(0).submit, bytes(10**6), NOW)
         self.assertRaises(wakotehu.TimedOut, node.close)
 
+    def test_it_is_killed_while_another_thread_writes(self):
+        node = self.node(DEAF, timeout=60)
+        calls = [self.thread(node.seat(0).note), self.thread(lambda: node.seat(0).submit(bytes(10**6), NOW))]
+        time.sleep(0.3)
+        begun = time.monotonic()
+        node.kill()
+        self.assertLess(time.monotonic() - begun, 20)
+        for thread, _ in calls:
+            thread.join(10)
+        self.assertEqual({type(found) for _, [found] in calls}, {wakotehu.NodeDied})
+
     def test_the_places_of_calls_that_were_not_answered(self):
         """Not more than the program lets wait are under way, also of those of which nobody waits any more."""
         node = self.node(HOLDS, timeout=1.0)

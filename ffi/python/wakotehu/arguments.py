@@ -3,9 +3,10 @@ refused by a `TypeError` or a `ValueError` that names the argument. Nothing is c
 
 import operator
 import os
-from typing import Any, Collection, Iterable, Optional, Sequence, Tuple, Type, TypeVar
+from typing import Any, Collection, Iterable, Optional, Sequence, Tuple, Type, TypeVar, Union
 
 T = TypeVar("T")
+Path = Union[str, "os.PathLike[str]"]
 
 #: The formats of a buffer's items that are bytes, as `struct` names them.
 _BYTES = frozenset({"B", "b", "c"})

@@ -9,6 +9,7 @@ from typing import Any, Deque, Dict, List, NoReturn, Optional, Sequence, Tuple, 
 from weakref import WeakSet, ref
 
 from . import arguments, errors
+from .arguments import Path
 from .chainstate import Reply, Tip
 from .served import (
     BEST, FINISH, INFO, KEPT, MOST, NOTE, TIMEOUT, TIPS, UNDER_WAY, Call, Entry, Info, Opening, Stamped, UnspentOutput,
@@ -334,8 +335,8 @@ class AsyncNode:
 
     def __init__(
         self, seats: int = 4, workers: int = 2, heights: Optional[Sequence[int]] = None,
-        table: Optional[Union[str, bytes]] = None, program: Optional[str] = None, *,
-        blk: Optional[str] = None, load: Optional[str] = None, save: Optional[str] = None,
+        table: Optional[Union[str, bytes]] = None, program: Optional[Path] = None, *,
+        blk: Optional[Path] = None, load: Optional[Path] = None, save: Optional[Path] = None,
         timeout: Optional[float] = TIMEOUT,
     ) -> None:  # fmt: skip
         self._opening = Opening(seats, workers, heights, table, program, blk, load, save, timeout)

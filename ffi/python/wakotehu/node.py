@@ -10,6 +10,7 @@ from typing import Any, Dict, List, NoReturn, Optional, Sequence, Tuple, Type, U
 from weakref import ref
 
 from . import arguments
+from .arguments import Path
 from .asyncnode import AsyncNode, AsyncSeat
 from .chainstate import Reply, Tip
 from .pipe import Pipe
@@ -131,8 +132,8 @@ class Node:
 
     def __init__(
         self, seats: int = 4, workers: int = 2, heights: Optional[Sequence[int]] = None,
-        table: Optional[Union[str, bytes]] = None, program: Optional[str] = None, *,
-        blk: Optional[str] = None, load: Optional[str] = None, save: Optional[str] = None,
+        table: Optional[Union[str, bytes]] = None, program: Optional[Path] = None, *,
+        blk: Optional[Path] = None, load: Optional[Path] = None, save: Optional[Path] = None,
         timeout: Optional[float] = TIMEOUT,
     ) -> None:  # fmt: skip
         opening = Opening(seats, workers, heights, table, program, blk, load, save, timeout)
@@ -171,10 +172,9 @@ class Node:
         """Has the process finish and save: how many steps the history has, or None where it was closed before. A process
         that doesn't end in time is killed."""
         pipe, steps = self._pipe, None
-        if pipe.is_closed:
-            return None
         pipe.check_process()
-        pipe.is_closed = True
+        if not pipe.close():
+            return None
         try:
             steps = int(pipe.ask(FINISH, None, is_last=True))
         finally:
@@ -186,6 +186,7 @@ class Node:
     def kill(self) -> None:
         """Ends the process at once. Nothing is saved; a folder keeps what it had."""
         self._pipe.check_process()
+        # Without waiting for who is writing: that ends with the process.
         self._pipe.is_closed = True
         self._pipe.end(wait=False)
 

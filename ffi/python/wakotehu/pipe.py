@@ -77,9 +77,14 @@ class Pipe:
         self._owner = os.getpid()
         self._stderr = tempfile.TemporaryFile()
         # In a session of its own, so that Ctrl-C goes to Python alone.
-        self.process: "subprocess.Popen[bytes]" = subprocess.Popen(
-            words, stdin=subprocess.PIPE, stdout=subprocess.PIPE, stderr=self._stderr, bufsize=0, start_new_session=True
-        )
+        pipe = subprocess.PIPE
+        try:
+            self.process: "subprocess.Popen[bytes]" = subprocess.Popen(
+                words, stdin=pipe, stdout=pipe, stderr=self._stderr, bufsize=0, start_new_session=True
+            )
+        except BaseException:
+            self._stderr.close()
+            raise
         assert self.process.stdin and self.process.stdout
         self._in, self._out = self.process.stdin.fileno(), self.process.stdout.fileno()
         os.set_blocking(self._in, False)
@@ -107,6 +112,12 @@ class Pipe:
         """Refuses a fork, which would read what is another's."""
         if os.getpid() != self._owner:
             raise errors.OtherProcess("the node was opened by another process")
+
+    def close(self) -> bool:
+        """Takes no more calls but the last; False where it was closed before."""
+        with self._writing:
+            before, self.is_closed = self.is_closed, True
+        return not before
 
     def ask(self, call: Call, seat: Optional[int], is_last: bool = False) -> Any:
         """What is answered to a call."""

@@ -8,7 +8,7 @@ import tempfile
 from typing import IO, Any, Callable, Dict, Generic, List, NamedTuple, Optional, Sequence, Tuple, Type, TypeVar, Union
 
 from . import arguments, errors
-from .arguments import id_of, number, octets
+from .arguments import Path, id_of, number, octets
 from .chainstate import REGTEST, Reply, Tip, mark_of, moment_of, read_heights, show
 
 T = TypeVar("T")
@@ -226,7 +226,7 @@ def outcome(answer: Dict[str, Any], call: Call) -> Any:
 # ---- the process
 
 
-def program_path(named: Optional[str] = None) -> str:
+def program_path(named: Optional[Path] = None) -> str:
     """The program: the one that is named, or that WAKOTEHU_PROGRAM names, and no other then; else `regchain` in the
     package, beside the library that WAKOTEHU_LIBRARY names, or on the path."""
     given = os.environ.get("WAKOTEHU_PROGRAM") if named is None else arguments.path(named, "named")
@@ -252,7 +252,8 @@ class Opening:
 
     def __init__(
         self, seats: int, workers: int, heights: Optional[Sequence[int]], table: Optional[Union[str, bytes]],
-        program: Optional[str], blk: Optional[str], load: Optional[str], save: Optional[str], timeout: Optional[float],
+        program: Optional[Path], blk: Optional[Path], load: Optional[Path], save: Optional[Path],
+        timeout: Optional[float],
     ) -> None:  # fmt: skip
         self.seats, workers = _count(seats, "seats"), _count(workers, "workers")
         self.timeout = arguments.seconds(timeout, "timeout")
