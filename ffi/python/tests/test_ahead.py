@@ -69,10 +69,12 @@ class AskedTest(unittest.TestCase):
         rng, many = random.Random(SEED + 1), 0
         signature = bytes.fromhex("3006020101020101") + b"\1"
         parts = [bytes([n]) for n in (*range(0x4F, 0xBA), *range(0x6B, 0x7E), *range(0x87, 0xA6), *[0x51, 0x52] * 9)]
-        checks = [push(signature) + push(b"\2" + bytes([n])) + end for n in range(3) for end in (b"\xac", b"\xad", b"\xac\x69")]
+        ends = (b"\xac", b"\xad", b"\xac\x69")
+        checks = [push(signature) + push(b"\2" + bytes([n])) + end for n in range(3) for end in ends]
         checks += [b"\0" + push(signature) + b"\x51" + push(b"\3") + push(b"\4") + b"\x52\xae", b"\x6e\xac", b"\xab"]
         for _ in range(2 * COUNT):
-            own = b"".join(rng.choice((b"\0", b"\x51", b"\x52", b"\x53", b"\x02\x05\x81", push(signature))) for _ in range(6))
+            given = (b"\0", b"\x51", b"\x52", b"\x53", b"\x02\x05\x81", push(signature))
+            own = b"".join(rng.choice(given) for _ in range(6))
             spent = b"".join(rng.choice(checks if rng.randrange(3) == 0 else parts) for _ in range(rng.randrange(1, 14)))
             raw, place = self.spender(rng, own)
             many += self.same(raw, place, spent, ahead.Flags(*rng.choices((True, False), k=3)), rng.randbytes(4)) > 1
@@ -95,6 +97,25 @@ class AskedTest(unittest.TestCase):
             for salt in (b"\0", b"\1", b"\2"):
                 self.same(write_transaction(tx), 1, data(spent[2:]), forced, salt)
 
+    def test_wrong_guesses_cost_no_more_than_right_ones(self):
+        """Of scripts whose way hangs on each verdict few signatures are tested that aren't asked for."""
+        signature = push(bytes.fromhex("3006020101020101") + b"\1")
+        # A key is the hash of the one before, once or twice as the verdict says: DUP, the signature, SWAP, CHECKSIG, IF,
+        # SHA256, ELSE, HASH256, ENDIF.
+        spent = push(b"\2") + (b"\x76" + signature + b"\x7c\xac\x63\xa8\x67\xaa\x68") * 25
+        raw, _ = self.spender(random.Random(3), b"")
+        for salt in range(40):
+            tested = []
+
+            def test(triples):
+                tested.extend(triples)
+                return [bool(hashlib.sha256(bytes([salt]) + triple.line).digest()[0] & 1) for triple in triples]
+
+            one = ahead.Asking(ahead._Signing(raw, read_transaction(raw)), 0, spent, ALL)
+            asked = ahead.found_out([one], {}, test)
+            self.assertEqual(len(asked), 25)
+            self.assertLess(len(tested), 100)
+
     def test_limits(self):
         """At Bitcoin Core's limits and behind them."""
         check = push(bytes.fromhex("3006020101020101") + b"\1") + b"\x51\xac"
@@ -102,7 +123,8 @@ class AskedTest(unittest.TestCase):
             b"\x61" * 200 + check, b"\x61" * 201 + check, b"\x51" * 998 + check, b"\x51" * 999 + check,
             b"\x4d\x08\x02" + bytes(520) + check, b"\x4d\x09\x02" + bytes(521) + check, check + b"\x05", check + b"\x63",
             (b"\x4d\x08\x02" + bytes(520)) * 19 + check, (b"\x4d\x08\x02" + bytes(520)) * 20 + check,
-            b"\0" + check[:-2] + b"\x51" + b"\x51" * 20 + b"\x01\x14\xae", b"\0" + check[:-2] + b"\x51" + b"\x51" * 21 + b"\x01\x15\xae",
+            b"\0" + check[:-2] + b"\x51" + b"\x51" * 20 + b"\x01\x14\xae",
+            b"\0" + check[:-2] + b"\x51" + b"\x51" * 21 + b"\x01\x15\xae",
             b"\x61" * 181 + b"\0" + check[:-2] + b"\x51" + b"\x51" * 20 + b"\x01\x14\xae",
             b"\x61" * 180 + b"\0" + check[:-2] + b"\x51" + b"\x51" * 20 + b"\x01\x14\xae",
         ):  # fmt: skip

@@ -99,7 +99,10 @@ WRONG: Dict[str, List[Any]] = {
     "list of lines": [*SEQUENCE, [1], [None], ["aa"], [b"aa"], [b"aa bb cc dd"], [b"zz - " + b"00" * 32]],
     "command": [None, *NOTHING, *NUMBERS, *FRACTIONS, *LISTS, *OCTETS, *TEXTS, "submit", "INVALIDATE"],
     # Without the generator and the file, which are empty when they were read once.
-    "flags": [None, *(own for own in NOTHING if not isinstance(own, Iterator)), *NUMBERS, *FRACTIONS, *TEXTS, *OCTETS, {}, {1: 2}, ["P2SH"], [1], [None], {b"CSV"}],
+    "flags": [
+        None, *(own for own in NOTHING if not isinstance(own, Iterator)), *NUMBERS, *FRACTIONS, *TEXTS, *OCTETS, {},
+        {1: 2}, ["P2SH"], [1], [None], {b"CSV"},
+    ],
     "heights": [*SEQUENCE, [], [1], [1] * 3, [1] * 5, [1, 1, 1, -1], [1, 1, 1, 1 << 32], [1, 1, 1, 0.5], [1, 1, 1, "1"]],
     "optional heights": [
         *SEQUENCE[1:], [], [1], [1] * 3, [1] * 5, [1, 1, 1, -1], [1, 1, 1, 1 << 32], [1, 1, 1, 0.5], [True] * 4,
@@ -185,7 +188,8 @@ SEAT = [
     ("invalidate", {"id": ID}), ("reconsider", {"id": ID}), ("precious", {"id": ID}),
     ("try_mark", {"command": ("command", "precious"), "id": ID}),
     ("gettxout", {"txid": ID, "n": ("number32", 0)}), ("gettxouts", {"outpoints": ("outpoints", [(bytes(32), 0)])}),
-    ("getbestblockhash", {}), ("getchaintips", {}), ("journal", {"first": ("step", 1), "last": ("number", 9)}), ("note", {}), ("told", {"other": ("own", None)}),
+    ("getbestblockhash", {}), ("getchaintips", {}),
+    ("journal", {"first": ("step", 1), "last": ("number", 9)}), ("note", {}), ("told", {"other": ("own", None)}),
 ]  # fmt: skip
 CHAIN = [
     ("submit", {"block": BLOCK, "now": MOMENT}), ("try_submit", {"block": BLOCK, "now": MOMENT}),
@@ -247,10 +251,12 @@ ROWS = [
         kind=("number32", 1)),
     row("signatures.Secp256k1"), row("signatures.Secp256k1.valid", triple=("triple", TRIPLE)),
     row("signatures.Secp256k1.public_key", secret=("secret", SECRET), compressed=("flag", True)),
-    row("signatures.Secp256k1.sign", secret=("secret", SECRET), digest=ID), row("signatures.Verifier", threads=("threads", 1)),
+    row("signatures.Secp256k1.sign", secret=("secret", SECRET), digest=ID),
+    row("signatures.Verifier", threads=("threads", 1)),
     row("signatures.Verifier.verdicts", lines=("list of lines", [TRIPLE.line])), row("signatures.processors"),
     row("signatures.read_signature", data=("bytes", b"")),
-    row("served.program_path", named=("optional path", PROGRAM)), row("node.Node", **OPENED), row("asyncnode.AsyncNode", **OPENED),
+    row("served.program_path", named=("optional path", PROGRAM)),
+    row("node.Node", **OPENED), row("asyncnode.AsyncNode", **OPENED),
     *(row(f"{kind}.{name}") for kind in ("node.Node", "asyncnode.AsyncNode") for name in ("close", "kill")),
     *(row(f"{kind}.seat", number=("seat", 0)) for kind in ("node.Node", "asyncnode.AsyncNode")),
     *(row(f"{kind}.{name}", **words) for kind in ("node.Seat", "asyncnode.AsyncSeat") for name, words in SEAT),
@@ -262,7 +268,8 @@ OTHER = {"ahead", "arguments", "errors", "index", "pipe", "pool", "server", "ver
 #: What other modules of the package call with what was taken before.
 INSIDE = {"chainstate.reply_of"} | {
     f"served.{name}" for name in (
-        "Call", "Opening", "submission", "mark", "output", "outputs", "entries", "told", "request", "checked", "outcome", "died", "read_answer",
+        "Call", "Opening", "submission", "mark", "output", "outputs", "entries", "told", "request", "checked", "outcome",
+        "died", "read_answer",
     )
 }  # fmt: skip
 #: What calls answer, and who is called: nobody makes them.
@@ -271,7 +278,8 @@ ANSWERS = {
     "consensus.Opcode", "consensus.Script", "consensus.Refused", "consensus.Triple", "chainstate.Coin",
     "chainstate.Tip", "chainstate.Reply", "chainstate.Reply.check", "bench.Entry", "encoding.EncodingError",
     "encoding.Input", "encoding.Output", "encoding.Transaction", "encoding.Header", "encoding.Block", "encoding.Spelled",
-    "served.Stamped", "served.UnspentOutput", "served.Entry", "served.Info", "node.Seat", "asyncnode.AsyncSeat", "library.Heights",
+    "served.Stamped", "served.UnspentOutput", "served.Entry", "served.Info", "node.Seat", "asyncnode.AsyncSeat",
+    "library.Heights",
     "library.Answer", "library.Tip", "library.Coin", "library.CoinCall",
 }  # fmt: skip
 

@@ -131,13 +131,17 @@ class Asking:
         #: What it asked for in the last run, and what was guessed of those without a verdict.
         self.asked: List[Triple] = []
         self.guessed: Dict[Triple, bool] = {}
+        #: How many are guessed at most, and whether there were more: behind a wrong guess all others are for nothing.
+        self._most = _MOST_BYTES
+        self._is_cut = False
         self._verdicts: Dict[Triple, bool] = {}
         self._guess = True
         self._digests: Dict[Tuple[bytes, int], bytes] = {}
 
     def run(self, verdicts: Dict[Triple, bool]) -> List[Triple]:
         """Runs the scripts under these verdicts, and answers those that they ask for without one."""
-        self.asked, self.guessed, self._verdicts, self._guess = [], {}, verdicts, True
+        self.asked, self.guessed, self._is_cut = [], {}, False
+        self._verdicts, self._guess = verdicts, True
         own = self.signing.tx.inputs[self.input].script
         try:
             stack: List[bytes] = []
@@ -150,6 +154,17 @@ class Asking:
         except (_Stop, IndexError):
             pass
         return list(self.guessed)
+
+    def is_done(self, verdicts: Dict[Triple, bool]) -> bool:
+        """Whether the last run is the one under these verdicts. Else the next one guesses as far as this one was right."""
+        right = 0
+        for triple, guess in self.guessed.items():
+            if verdicts[triple] != guess:
+                self._most = right + 1
+                return False
+            right += 1
+        self._most *= 2
+        return not self._is_cut
 
     # ---- signatures
 
@@ -169,6 +184,10 @@ class Asking:
         if known is not None:
             self._guess = known
             return known
+        if triple not in self.guessed and len(self.guessed) >= self._most:
+            self._is_cut = True
+            self.asked.pop()
+            raise _Stop
         return self.guessed.setdefault(triple, must or self._guess)
 
     def _check(self, stack: List[bytes], code: bytes, must: bool) -> bool:
@@ -333,8 +352,7 @@ def found_out(
         unknown = list(dict.fromkeys(triple for one in left for triple in one.run(verdicts)))
         if unknown:
             verdicts.update(zip(unknown, test(unknown)))
-        # Where no guess was wrong the scripts were run as they will be.
-        left = [one for one in left if any(verdicts[triple] != guess for triple, guess in one.guessed.items())]
+        left = [one for one in left if not one.is_done(verdicts)]
     return list(dict.fromkeys(triple for one in asking for triple in one.asked))
 
 
