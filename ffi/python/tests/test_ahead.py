@@ -100,9 +100,9 @@ class AskedTest(unittest.TestCase):
     def test_wrong_guesses_cost_no_more_than_right_ones(self):
         """Of scripts whose way hangs on each verdict few signatures are tested that aren't asked for."""
         signature = push(bytes.fromhex("3006020101020101") + b"\1")
-        # A key is the hash of the one before, once or twice as the verdict says: DUP, the signature, SWAP, CHECKSIG, IF,
-        # SHA256, ELSE, HASH256, ENDIF.
-        spent = push(b"\2") + (b"\x76" + signature + b"\x7c\xac\x63\xa8\x67\xaa\x68") * 25
+        # A key is a hash of the one before, and the verdict says which: DUP, the signature, SWAP, CHECKSIG, IF,
+        # SHA256, ELSE, RIPEMD160, ENDIF.
+        spent = push(b"\2") + (b"\x76" + signature + b"\x7c\xac\x63\xa8\x67\xa6\x68") * 25
         raw, _ = self.spender(random.Random(3), b"")
         for salt in range(40):
             tested = []
