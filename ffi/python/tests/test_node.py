@@ -11,7 +11,7 @@ import unittest
 import wakotehu
 from blocks import NOW, Maker, block_id, spend
 from fakes import fake
-from wakotehu import AsyncNode, Node, Stamped, errors
+from wakotehu import AsyncNode, Node, Stamped, errors, served
 from wakotehu.encoding import GENESIS
 from wakotehu.node import program_path
 
@@ -294,6 +294,11 @@ class NodeTest(unittest.TestCase):
         self.addCleanup(os.environ.update, before)
         place = os.path.join(self.room, "regchain")
         os.symlink(PROGRAM, place)
+        # A package of which nobody knows yet whether it has the program inside.
+        package = os.path.join(self.room, "package")
+        os.mkdir(package)
+        self.addCleanup(setattr, served, "__file__", served.__file__)
+        served.__file__ = os.path.join(package, "served.py")
         os.environ["WAKOTEHU_PROGRAM"] = place
         self.assertEqual(program_path(), place)
         self.assertEqual(program_path(PROGRAM), PROGRAM)
@@ -305,6 +310,9 @@ class NodeTest(unittest.TestCase):
         self.assertEqual(program_path(), place)
         os.environ["PATH"] = "/nowhere"
         self.assertRaises(wakotehu.ProgramMissing, program_path)
+        os.symlink(PROGRAM, os.path.join(package, "regchain"))
+        os.environ["PATH"] = self.room
+        self.assertEqual(program_path(), os.path.join(package, "regchain"))
         if "WAKOTEHU_LIBRARY" not in before:
             os.environ.pop("WAKOTEHU_LIBRARY", None)
 

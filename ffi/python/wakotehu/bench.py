@@ -158,6 +158,8 @@ class Bench(Walks):
 
     def _settle(self) -> None:
         """Records the steps that were taken and aren't recorded yet."""
+        if not self._begun:
+            return
         for step in [step for step in self._begun if not step.is_running]:
             # It is 0 until the library has taken the step.
             if step.answer.reply:
