@@ -178,6 +178,13 @@ class RoundsTest(unittest.TestCase):
         self.assertEqual(bench.submit(self.maker.block(bench.best(), txs), NOW), "accepted")
         self.assertEqual((bench.rounds, bench.found_out, bench.table), (1, 147, b""))
 
+    def test_signatures_in_the_script_that_is_spent(self):
+        signature = push(SECP.sign(SECRETS[1], bytes(32)) + b"\1") + push(KEYS[0])
+        bench, made = self.mined(signature + b"\x6e\xac\x75\xab" * 49 + b"\x6d\x51")
+        txs = [spend(made.id, n, 1, b"") for n in range(3)]
+        self.assertEqual(bench.submit(self.maker.block(bench.best(), txs), NOW), "accepted")
+        self.assertEqual((bench.rounds, bench.found_out), (1, 147))
+
     def test_inputs_that_look_as_if_they_paid_to_a_hash(self):
         """They are passed over once."""
         bench, made = self.mined(b"\x6e\xac\x75\xab" * 49 + b"\x6d\x51")

@@ -17,6 +17,8 @@ from .encoding import Spelled, Transaction, operations, push
 
 #: So many bytes of a block are looked at for signatures at most; some are looked at more than once.
 _MOST_LOOKED_AT = 1 << 26
+#: So many signatures are looked for in the scripts that a block spends; others wait for the next round.
+_MOST_LOOKED_FOR = 64
 #: Bitcoin Core's limits of a script.
 _MOST_BYTES, _MOST_ELEMENT, _MOST_ELEMENTS, _MOST_OPCODES, _MOST_KEYS = 10000, 520, 1000, 201, 20
 _DISABLED = frozenset({*range(0x7E, 0x82), *range(0x83, 0x87), 0x8D, 0x8E, *range(0x95, 0x9A)})
@@ -408,6 +410,14 @@ class _Inputs:
             self.asking[number, input] = Asking(signing, input, spent, self.flags)
         return begins[input + 1]
 
+    def add_spenders(self, signatures: Sequence[bytes]) -> None:
+        """Adds the inputs that spend scripts in which one of these is."""
+        for number in range(len(self.spelled.ids)):
+            for input, own in enumerate(self.spelled.transaction(number).inputs):
+                spent = self.spent(own.id, own.index)
+                if spent is not None and any(signature in spent for signature in signatures) and not _asks_once(spent):
+                    self.asking[number, input] = Asking(self.read(number)[0], input, spent, self.flags)
+
     def spent(self, id: bytes, index: int) -> Optional[bytes]:
         """The script of an output of this block, or of one that is kept."""
         if id not in self._spent:
@@ -431,26 +441,45 @@ def asking(
     wanted: Sequence[Triple], places: Iterable[Place], transaction: Callable[[bytes], Optional[Transaction]],
     again: bool = False,
 ) -> List[Asking]:  # fmt: skip
-    """The inputs that have the wanted signatures, and may ask for more. They are looked for in the first of some blocks
-    that has one of them, in the order in which they are wanted. One that looks as if it paid to a key's hash, which asks
-    once, is passed over unless the same block wants something again."""
-    needles = [bytes([len(triple.signature) + 1 & 255]) + triple.signature for triple in wanted]
+    """The inputs that have the wanted signatures, or spend scripts that have them, and may ask for more. They are looked
+    for in the first of some blocks that has one of them, in the order in which they are wanted. One that looks as if it
+    paid to a key's hash, which asks once, is passed over unless the same block wants something again."""
+    looked_at = []
     for place in places:
-        data = place.spelled.data
-        if not any(needle in data for needle in needles[:1]):
-            continue
-        inputs, at, left = _Inputs(place, transaction), 0, _MOST_LOOKED_AT
-        ends: Dict[bytes, int] = {}
-        for needle, (key, _, _) in zip(needles, wanted):
-            begin = ends.get(needle, at)
-            found = data.find(needle, begin)
-            left -= (found if found >= 0 else len(data)) - begin
-            if left < 0:
-                break
-            if found < 0:
-                continue
-            at = found + len(needle) + 1
-            if again or not data.startswith(bytes([len(key) & 255]) + key, at):
-                at = ends[needle] = inputs.add(found)
-        return list(inputs.asking.values())
+        looked_at.append(_Inputs(place, transaction))
+        missing = _add_wanted(looked_at[-1], wanted, again)
+        if missing is not None:
+            if missing:
+                looked_at[-1].add_spenders(missing[:_MOST_LOOKED_FOR])
+            return list(looked_at[-1].asking.values())
+    for inputs in looked_at:
+        inputs.add_spenders([triple.signature for triple in wanted[:_MOST_LOOKED_FOR]])
+        if inputs.asking:
+            return list(inputs.asking.values())
     return []
+
+
+def _add_wanted(inputs: _Inputs, wanted: Sequence[Triple], again: bool) -> Optional[List[bytes]]:
+    """Adds the inputs that have wanted signatures: the signatures that aren't there, or None where none is."""
+    data, at, left = inputs.spelled.data, 0, _MOST_LOOKED_AT
+    ends: Dict[bytes, int] = {}
+    missing: List[bytes] = []
+    for key, signature, _ in wanted:
+        # A push of it with its type has its length before it.
+        needle = bytes([len(signature) + 1]) + signature if len(signature) < 255 else signature
+        begin = ends.get(needle, at)
+        found = data.find(needle, begin)
+        left -= (found if found >= 0 else len(data)) - begin
+        if found < 0 and needle not in ends:
+            # It may be before the one that was wanted before it.
+            found = data.find(needle)
+            left -= len(data)
+        if left < 0:
+            break
+        if found < 0:
+            missing.append(signature)
+            continue
+        at = found + len(needle) + 1
+        if again or not data.startswith(bytes([len(key) & 255]) + key, at):
+            at = ends[needle] = inputs.add(found)
+    return missing if len(missing) < len(wanted) else None
