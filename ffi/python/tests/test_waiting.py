@@ -38,10 +38,12 @@ if asked['method'] == 'getchaintips':
         say(one['id'], result=answer)
     held.clear()
 """
-#: Refuses a line without naming it, as the program does with one that is too long.
+#: Refuses its first line without naming it, as the program does with one that is too long.
 NAMELESS = """
 if asked['method'] == 'note':
-    say(None, error={'code': -32600, 'message': 'invalid request', 'data': 'line'})
+    if not held:
+        say(None, error={'code': -32600, 'message': 'invalid request', 'data': 'line'})
+    held.append(asked)
 else:
     say(asked['id'], result={'at': 0})
     if asked['method'] == 'finish':

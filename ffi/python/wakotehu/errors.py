@@ -283,7 +283,7 @@ class BadTxnsInputsMissingorspent(Rejected):
 
 
 class BadTxnsPrematureSpendOfCoinbase(Rejected):
-    """An input spends a coinbase's output before its 100th block."""
+    """An input spends an output of a coinbase less than 100 blocks after it."""
 
     reason = "bad-txns-premature-spend-of-coinbase"
 
