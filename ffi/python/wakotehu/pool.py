@@ -5,7 +5,8 @@ from contextlib import contextmanager
 from types import TracebackType
 from typing import Callable, Dict, Iterator, List, NoReturn, Optional, Sequence, Set, Tuple, Type, TypeVar, Union
 
-from . import errors
+from . import arguments, errors
+from .arguments import id_of, octets
 from .chainstate import REGTEST, Coin, Reply, Tip, read_heights
 from .encoding import EncodingError, Spelled, block_at_front, double_sha, read_block
 from .index import Index, Unspent, Walks
@@ -34,7 +35,7 @@ class Pool(Walks):
         program: Optional[str] = None,
     ) -> None:  # fmt: skip
         self.heights = read_heights(heights)
-        self.table = table.encode() if isinstance(table, str) else bytes(table)
+        self.table = arguments.lines(table, "table")
         self.index = Index()
         #: Held by who calls; told when a step was taken up.
         self.turn = threading.Condition(threading.Lock())
@@ -143,7 +144,7 @@ class Pool(Walks):
 
     def try_submit(self, block: bytes, now: int) -> Reply:
         """As `Bench.try_submit`."""
-        data = bytes(block)
+        data = octets(block, "block")
         try:
             spelled = block_at_front(data)
         except EncodingError:
@@ -168,7 +169,7 @@ class Pool(Walks):
     def try_mark(self, command: str, id: bytes) -> Reply:
         """As `Bench.try_mark`."""
         return self._step(
-            lambda seat: seat.try_mark(command, id), lambda reply: self.taken(command, bytes(id), b"", 0, reply.text)
+            lambda seat: seat.try_mark(command, id), lambda reply: self.taken(command, id, b"", 0, reply.text)
         )
 
     def _is_kept(self, id: bytes, spelled: Spelled, reply: Reply) -> bool:
@@ -254,7 +255,7 @@ class Pool(Walks):
 
     def block(self, id: bytes) -> Optional[bytes]:
         """The bytes of a kept block, or None."""
-        return self._data.get(bytes(id))
+        return self._data.get(id_of(id))
 
     def fresh(self) -> int:
         """As `Bench.fresh`."""
