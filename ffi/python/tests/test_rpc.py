@@ -6,6 +6,7 @@ genesis alone): the call, the HTTP status, the code and the text.
 
 import json
 import os
+import re
 import shutil
 import socket
 import subprocess
@@ -17,6 +18,7 @@ from blocks import Maker, block_id, spend
 from servers import Running
 from wakotehu import show
 from wakotehu.encoding import GENESIS, GENESIS_BLOCK, Input, Output, Transaction, write_transaction
+from wakotehu.rpc.node import CALLS
 
 HERE = os.path.dirname(os.path.abspath(__file__))
 
@@ -60,6 +62,13 @@ class FaultsTest(CallsTest):
             error = self.call(*words)
             self.assertEqual(error["code"], -1)
             self.assertTrue(error["message"].startswith(words[0]))
+
+
+class PageTest(unittest.TestCase):
+    def test_the_page_lists_all_calls(self):
+        with open(f"{HERE}/../../../docs/START.md", encoding="utf-8") as file:
+            listed = re.search(r"(?s)## The server's calls\n(.*?)\. `help`", file.read())[1]
+        self.assertEqual(re.findall("`([a-z]+)`", listed), sorted(CALLS))
 
 
 class RequestsTest(CallsTest):
