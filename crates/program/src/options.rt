@@ -32,9 +32,6 @@ pub enum Options<'w> {
     Tree(TreeOptions<'w>),
     Show(ShowOptions<'w>),
     Serve(ServeOptions<'w>),
-    /// To print the help.
-    Help(Error),
-    Version,
 }
 
 /// To run the scenario of a file.
@@ -135,11 +132,7 @@ impl<'w> Options<'w> {
         if words.len() <= 1 {
             return Ok(Options::Run(STANDARD_RUN));
         }
-        let matches = match matches(alloc, words) {
-            Ok(matches) => matches,
-            Err(error) if is_help(words, &error) => return Ok(Options::Help(error)),
-            Err(error) => return Err(error),
-        };
+        let matches = matches(alloc, words)?;
         match options_of(alloc, &matches)? {
             Some(options) => Ok(options),
             None => Err(error(alloc, ErrorKind::InvalidSubcommand, "no such command line")?),
@@ -166,12 +159,31 @@ fn matches<'w>(alloc: Global, words: &'w [&'w str]) -> Result<ArgMatches<'w>, Er
     command.try_get_matches_from_mut(words)
 }
 
-/// Whether this is the help that the subcommand of that name asks for. That of `--help` is a fault.
-fn is_help(words: &[&str], error: &Error) -> bool {
-    match words.get(1) {
-        Some(word) => *word == "help" && error.kind() == ErrorKind::DisplayHelp,
-        None => false,
+/// The text that the subcommand `help` or `version` asks for. That of `--help` and `--version` is a fault.
+pub fn text_asked_for<'w>(
+    alloc: Global,
+    words: &'w [&'w str],
+) -> Result<Option<String>, AllocError> {
+    let Some(word) = words.get(1) else {
+        return Ok(None);
+    };
+    if *word == "help" {
+        return help_text(alloc, words);
     }
+    if *word == "version" && words.len() == 2 {
+        return Ok(Some(format!(in alloc; "{NAME} {VERSION}\n")?));
+    }
+    Ok(None)
+}
+
+fn help_text<'w>(alloc: Global, words: &'w [&'w str]) -> Result<Option<String>, AllocError> {
+    let Err(error) = matches(alloc, words) else {
+        return Ok(None);
+    };
+    if error.kind() != ErrorKind::DisplayHelp {
+        return Ok(None);
+    }
+    Ok(Some(error.to_string(alloc)?))
 }
 
 /// An error of this command line.
@@ -191,7 +203,6 @@ fn options_of<'w>(
         Some(("tree", tree)) => Ok(read_tree(tree)),
         Some(("show", show)) => read_show(alloc, show),
         Some(("serve", serve)) => Ok(Some(read_serve(serve))),
-        Some(("version", _)) => Ok(Some(Options::Version)),
         _ => Ok(None),
     }
 }

@@ -7,7 +7,7 @@ use crate::drawing::draw_saved;
 use crate::fault::Fault;
 use crate::files::print;
 use crate::objects;
-use crate::options::{AuditOptions, NAME, Options, STANDARD, VERSION, no_text};
+use crate::options::{AuditOptions, NAME, Options, STANDARD, no_text, text_asked_for};
 use crate::output::Form;
 use crate::playing::run;
 use crate::serve::serve;
@@ -154,7 +154,29 @@ where
     }
 }
 
+/// Does what the words ask for; a text that they ask for is printed.
 fn attempt<'w, R, I, O, E>(
+    rt: &R,
+    words: &'w [&'w str],
+    gate: &(dyn Gate + Sync),
+    input: &mut I,
+    out: &mut O,
+    err: &mut E,
+) -> Result<u8, Fault<'w>>
+where
+    R: Files<File = File> + AllocGlobal + Clock + Threads + Wait + Sync,
+    I: Read + Send,
+    O: Write,
+    E: Write + IsTerminal,
+    ensures { IfOk result (λ status. status ≤ 1) }
+{
+    match text_asked_for(rt.alloc(), words)? {
+        Some(text) => done(print(out, text.as_str())),
+        None => act(rt, words, gate, input, out, err),
+    }
+}
+
+fn act<'w, R, I, O, E>(
     rt: &R,
     words: &'w [&'w str],
     gate: &(dyn Gate + Sync),
@@ -175,23 +197,7 @@ where
         Options::Tree(options) => done(draw_saved(rt, &options, input, out)),
         Options::Show(options) => done(show(rt, &options, input, out)),
         Options::Serve(options) => done(serve(rt, &options, gate, input, out)),
-        Options::Help(help) => done(print_help(rt.alloc(), &help, out)),
-        Options::Version => done(print_version(rt.alloc(), out)),
     }
-}
-
-/// Prints the help that was asked for.
-fn print_help<O: Write>(
-    alloc: Global,
-    help: &clap::Error,
-    out: &mut O,
-) -> Result<(), Fault<'static>> {
-    print(out, help.to_string(alloc)?.as_str())
-}
-
-/// Prints the program's name and its version.
-fn print_version<O: Write>(alloc: Global, out: &mut O) -> Result<(), Fault<'static>> {
-    print(out, format!(in alloc; "{NAME} {VERSION}\n")?.as_str())
 }
 
 /// The status of what has no other than that of a whole output.
