@@ -4,7 +4,7 @@ import json
 import os
 import random
 import unittest
-from typing import Any, List
+from typing import Any, Iterator, List, NamedTuple
 
 from wakotehu import Chainstate, consensus as c
 from wakotehu.encoding import GENESIS, coinbase, mine, read_block, subsidy
@@ -46,6 +46,33 @@ def spender(version: int, lock_time: int, sequences: List[int], scripts: List[by
     ])  # fmt: skip
 
 
+class Pair(NamedTuple):
+    """A row of script_tests.json: an input of a transaction, and what it spends."""
+
+    tx: bytes
+    input: int
+    spent: bytes
+    flags: List[str]
+    table: str
+    accepted: bool
+
+
+def pairs() -> Iterator[Pair]:
+    """The rows of script_tests.json. Without a transaction of the row's own the script is in the second of two inputs."""
+    for row in rows("script_tests.json"):
+        setting = row.pop(0) if isinstance(row[0], dict) else {}
+        own, spent, flags, expected = row[:4]
+        script = data(own[2:])
+        if "tx" in setting:
+            front, back = map(data, setting["tx"])
+            tx, at = front + spelled(len(script)) + script + back, setting.get("input", 0)
+        else:
+            ends = [setting.get("sequence", 0)] * 2
+            tx, at = spender(setting.get("version", 1), setting.get("lock_time", 0), ends, [b"", script], 1), 1
+        forced = list(filter(None, flags.split(",")))
+        yield Pair(tx, at, data(spent[2:]), forced, setting.get("table", ""), expected == "OK")
+
+
 class Chain:
     """A chainstate, and blocks of a coinbase each by their names."""
 
@@ -77,47 +104,37 @@ class Chain:
 
 class Vectors(unittest.TestCase):
     def test_scripts_by_pairs(self) -> None:
-        for row in rows("script_tests.json"):
-            setting = row.pop(0) if isinstance(row[0], dict) else {}
-            own, spent, flags, expected, _ = row
-            sequence = setting.get("sequence", 0)
-            tx = spender(
-                setting.get("version", 1), setting.get("lock_time", 0), [sequence] * 2, [b"", data(own[2:])], 1
-            )
-            table = setting.get("table", "").encode()
-            found = c.verify(tx, 1, data(spent[2:]), filter(None, flags.split(",")), table)
-            self.assertEqual(found, expected == "OK", row)
+        for number, pair in enumerate(pairs()):
+            found = c.verify(pair.tx, pair.input, pair.spent, pair.flags, pair.table)
+            self.assertEqual(found, pair.accepted, (number, pair))
 
     def test_scripts_over_signatures_that_are_found_out_one_by_one(self) -> None:
         """The same pairs: nothing is known at first, or some of the table's lines in any order and others that nobody asks
         for; what isn't known is found out in the table."""
         seed = random.randrange(1 << 32)
         chance = random.Random(seed)
-        for row in rows("script_tests.json"):
-            setting = row.pop(0) if isinstance(row[0], dict) else {}
-            own, spent, flags, expected, _ = row
-            tx = spender(
-                setting.get("version", 1), setting.get("lock_time", 0), [setting.get("sequence", 0)] * 2,
-                [b"", data(own[2:])], 1,
-            )  # fmt: skip
-            table = c.Table(setting.get("table", ""))
+        for number, pair in enumerate(pairs()):
+            table = c.Table(pair.table)
             lines = [line + b"\n" for line in table.text.splitlines() if line.strip()]
             for known in (0, chance.randrange(len(lines) + 1)):
                 valid = chance.sample(lines, known) + [f"{chance.randrange(99):02} - {'7' * 64}\n".encode()] * known
-                invalid: List[bytes] = []
-                for asked in range(1000):
-                    found = c.verify_known(
-                        tx, 1, data(spent[2:]), list(filter(None, flags.split(","))), b"".join(valid), b"".join(invalid)
-                    )
-                    if isinstance(found, bool):
-                        break
-                    kept = valid if table.has(*found) else invalid
-                    kept.insert(chance.randrange(len(kept) + 1), found.line)
-                self.assertEqual(found, expected == "OK", (seed, row))
+                found = self.found_out(pair, table, valid, chance)
+                self.assertEqual(found, pair.accepted, (seed, number, pair))
+
+    def found_out(self, pair: Pair, table: c.Table, valid: List[bytes], chance: random.Random) -> Any:
+        """The verdict, where each signature that is asked for is looked for in the table."""
+        invalid: List[bytes] = []
+        for _ in range(1000):
+            found = c.verify_known(pair.tx, pair.input, pair.spent, pair.flags, b"".join(valid), b"".join(invalid))
+            if isinstance(found, bool):
+                break
+            kept = valid if table.has(*found) else invalid
+            kept.insert(chance.randrange(len(kept) + 1), found.line)
+        return found
 
     def test_digests(self) -> None:
-        for raw, code, number, kind, expected in rows("sighash.json"):
-            self.assertEqual(c.signature_digest(data(raw), number, data(code), kind).hex(), expected)
+        for raw, code, number, kind, expected, *_ in rows("sighash.json"):
+            self.assertEqual(c.signature_digest(data(raw), number, data(code), kind).hex(), expected, (code, number, kind))
 
     def test_hashes(self) -> None:
         for name, message, expected in rows("hashes.json"):
@@ -171,7 +188,7 @@ class Vectors(unittest.TestCase):
             self.assertEqual(c.show(told) if isinstance(told, bytes) else told, value, name)
 
     def test_transactions(self) -> None:
-        for raw, expected in rows("transactions.json"):
+        for raw, expected, *_ in rows("transactions.json"):
             bytes_ = data(raw)
             if isinstance(expected, str):
                 self.refused(c.transaction, bytes_, expected)
