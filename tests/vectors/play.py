@@ -4,7 +4,7 @@ import json
 import os
 import random
 import unittest
-from typing import Any, Iterator, List, NamedTuple
+from typing import Any, Dict, Iterator, List, NamedTuple, Set
 
 from wakotehu import Chainstate, consensus as c
 from wakotehu.encoding import GENESIS, coinbase, mine, read_block, subsidy
@@ -120,6 +120,17 @@ class Vectors(unittest.TestCase):
                 valid = chance.sample(lines, known) + [f"{chance.randrange(99):02} - {'7' * 64}\n".encode()] * known
                 found = self.found_out(pair, table, valid, chance)
                 self.assertEqual(found, pair.accepted, (seed, number, pair))
+
+    def test_each_opcode_from_both_sides(self) -> None:
+        """Each opcode is in a pair that is accepted, as an opcode, and in one that is refused; those that fail wherever they
+        stand are in refused ones alone."""
+        found: Dict[bool, Set[int]] = {True: set(), False: set()}
+        for pair in pairs():
+            own = c.transaction_parts(pair.tx).inputs[pair.input].script
+            found[pair.accepted] |= {op.number for script in (own, pair.spent) for op in c.opcodes(script)[0]}
+        never = {0x65, 0x66, 0x8D, 0x8E, *range(0x7E, 0x82), *range(0x83, 0x87), *range(0x95, 0x9A)}
+        self.assertEqual(set(range(256)) - found[True], never)
+        self.assertEqual(set(range(256)) - found[False], set())
 
     def found_out(self, pair: Pair, table: c.Table, valid: List[bytes], chance: random.Random) -> Any:
         """The verdict, where each signature that is asked for is looked for in the table."""

@@ -118,13 +118,17 @@ def depth_codes() -> Iterator[Wish]:
     for size in (0, 1, 2, 75, 127, 128, 255, 256, 520):
         element = b"\x07" * size
         yield Wish(f"SIZE of {size}", e(element), b"\x82" + left(element, number(size)))
+        yield Wish(f"SIZE of {size} over another", e(b"\x07" * (size ^ 1)) + e(element), b"\x82" + e(number(size)) + b"\x87")
     yield Wish("SIZE of 128: in one byte", e(b"\x07" * 128), b"\x82" + e(b"\x80") + b"\x87")
     yield Wish("SIZE: another", e(b"\0\0"), b"\x82\x51\x87")
     yield Wish("SIZE: of nothing", b"", b"\x82\x51")
     for top, is_true in TRUTHS:
         yield Wish(f"IFDUP of {top.hex() or '-'}", e(top), b"\x73" + left(*([top, top] if is_true else [top])))
         yield Wish(f"IFDUP of {top.hex() or '-'}: the other way", e(top), b"\x73" + left(*([top] if is_true else [top, top])))
+        yield Wish(f"IFDUP of {top.hex() or '-'} over another", e(b"x" if not is_true else b"") + e(top), b"\x73\x74" + n(2 + is_true) + b"\x87")
         yield Wish(f"VERIFY of {top.hex() or '-'}", e(top), b"\x69" + left())
+        yield Wish(f"VERIFY of {top.hex() or '-'}, then true", e(top), b"\x69\x51")
+        yield Wish(f"VERIFY of {top.hex() or '-'} over another", e(b"x" if not is_true else b"") + e(top), b"\x69\x51")
         yield Wish(f"at the end {top.hex() or '-'}", e(top), b"\x61")
         yield Wish(f"IF of {top.hex() or '-'}", e(top), b"\x63\x51\x67\x00\x68")
         yield Wish(f"NOTIF of {top.hex() or '-'}", e(top), b"\x64\x51\x67\x00\x68")
@@ -167,11 +171,21 @@ def constants() -> Iterator[Wish]:
         forms += [code + size.to_bytes(wide, "little") for wide, code in spellings if size < 1 << 8 * wide]
         for form in forms:
             yield Wish(f"a push of {size} by {form.hex()}", form + data, b"\xa9" + e(hash160(data)) + b"\x87")
+            if size < 76:
+                yield Wish(f"a push of {size} by {form.hex()}: another", form + data, b"\xa9" + e(hash160(data + b"x")) + b"\x87")
             if size in (1, 75, 76, 255, 256, 520):
                 yield Wish(f"a push of {size} by {form.hex()} that is cut", b"\x51" + form + data[:-1], b"\x51")
                 yield Wish(f"a spent push of {size} by {form.hex()} that is cut", b"", b"\x51" + form + data[:-1])
         if size > 518:
             yield Wish(f"a push of {size} that isn't executed", b"\x00", b"\x63" + forms[-1] + data + b"\x68\x51")
+    for size in range(3, 74):
+        yield Wish(f"a push of {size}", bytes([size]) + b"\x07" * size, b"\x82" + left(b"\x07" * size, number(size)))
+        yield Wish(f"a push of {size}: another", bytes([size]) + b"\x07" * size, b"\x82" + e(number(size + 1)) + b"\x87")
+    for high in (b"\1\0\1\0", b"\1\0\0\1", b"\1\0\xff\0", b"\1\0\0\x80", b"\1\1\0\0", b"\x02\0\0\0"):
+        yield Wish(f"a length {high.hex()}", b"\x4e" + high + b"\x51", b"\x51")
+        yield Wish(f"a length {high.hex()}, not executed", b"", b"\x51\x00\x63\x4e" + high + b"\x68")
+    for high in (b"\1\1", b"\1\x80", b"\2\0", b"\1\0"):
+        yield Wish(f"a length {high.hex()}", b"\x4d" + high + b"\x51", b"\x51")
     for cut in (b"\x4c", b"\x4d", b"\x4d\0", b"\x4e", b"\x4e\0", b"\x4e\0\0", b"\x4e\0\0\0", b"\x01", b"\x4e\0\0\0\x01"):
         yield Wish(f"a cut length {cut.hex()}", b"\x51", b"\x51" + cut)
         yield Wish(f"a cut length {cut.hex()} of the input", b"\x51" + cut, b"\x51")
@@ -186,6 +200,7 @@ def equality() -> Iterator[Wish]:
         yield Wish("EQUAL", e(a) + e(b), b"\x87")
         yield Wish("EQUAL: not", e(a) + e(b), b"\x87\x91")
         yield Wish("EQUALVERIFY", e(a) + e(b), b"\x88" + left())
+        yield Wish("EQUALVERIFY, then true", e(a) + e(b), b"\x88\x51")
     yield Wish("EQUAL: F is no byte", b"\x51\x52", b"\x87" + left(b""))
     yield Wish("EQUAL: T is 01", b"\x51\x51", b"\x87" + left(b"\1"))
     for code in (0x87, 0x88, 0x9C, 0x9D):
@@ -204,6 +219,8 @@ def arithmetic() -> Iterator[Wish]:
         for a in (0, 1, -1, 2, -5, 127, 128, -128, 255, 2**31 - 1, -(2**31) + 1):
             yield Wish(f"{name} of {a}", n(a), bytes([code]) + left(number(rule(a))))
         yield Wish(f"{name}: another", n(7), bytes([code]) + left(number(rule(7) + 1)))
+        yield Wish(f"{name} of 5 over another", n(9) + n(5), bytes([code]) + left(number(9), number(rule(5))))
+        yield Wish(f"{name} of -1 over an element that is no number", e(b"\7" * 9) + n(-1), bytes([code]) + left(b"\7" * 9, number(rule(-1))))
         yield Wish(f"{name} of -0", e(b"\x80"), bytes([code]) + left(number(rule(0))))
         yield Wish(f"{name} of a long 5", e(b"\5\0\0\0"), bytes([code]) + left(number(rule(5))))
         yield Wish(f"{name} of a long -5", e(b"\5\0\0\x80"), bytes([code]) + left(number(rule(-5))))
@@ -216,6 +233,7 @@ def arithmetic() -> Iterator[Wish]:
         for a, b in pairs:
             yield Wish(f"{name} of {a} and {b}", n(a) + n(b), bytes([code]) + left(number(two(a, b))))
         yield Wish(f"{name}: another", n(9) + n(7), bytes([code]) + left(number(two(9, 7) + 1)))
+        yield Wish(f"{name} of 9 and 7 over another", n(3) + n(9) + n(7), bytes([code]) + left(number(3), number(two(9, 7))))
         yield Wish(f"{name} of -0 and 0", e(b"\x80") + b"\0", bytes([code]) + left(number(two(0, 0))))
         yield Wish(f"{name} of five bytes and 1", e(b"\1\0\0\0\0") + b"\x51", bytes([code]) + b"\x75" + TRUE)
         yield Wish(f"{name} of 1 and five bytes", b"\x51" + e(b"\1\0\0\0\0"), bytes([code]) + b"\x75" + TRUE)
@@ -223,8 +241,10 @@ def arithmetic() -> Iterator[Wish]:
         yield Wish(f"{name}: not executed", b"", b"\x00\x63" + bytes([code]) + b"\x68" + TRUE)
     for a, b in ((3, 3), (3, 4), (0, -1)):
         yield Wish(f"NUMEQUALVERIFY of {a} and {b}", n(a) + n(b), b"\x9d" + left())
+        yield Wish(f"NUMEQUALVERIFY of {a} and {b}, then true", n(a) + n(b), b"\x9d\x51")
     yield Wish("NUMEQUALVERIFY of 0 and -0", b"\x00\x01\x80", b"\x9d" + left())
     for x, least, most in ((1, 1, 2), (0, 1, 2), (2, 1, 2), (1, 0, 1), (1, 2, 0), (-1, -1, 0), (5, 1, 9), (3, 3, 3), (0, -1, 1)):
+        yield Wish(f"WITHIN: {x} {least} {most}, not", n(x) + n(least) + n(most), b"\xa5\x91")
         yield Wish(f"WITHIN of {x} {least} {most}", n(x) + n(least) + n(most), b"\xa5" + left(number(int(least <= x < most))))
     yield Wish("WITHIN: F is no byte", b"\x53\x51\x52", b"\xa5" + left(b"\0"))
     yield Wish("WITHIN: another", b"\x51\x51\x52", b"\xa5" + left(b""))
@@ -260,11 +280,12 @@ def nothing() -> Iterator[Wish]:
         yield Wish(f"{name}", b"\x51\x51\x51\x51", bytes([code]) + TRUE)
         yield Wish(f"{name}: not executed", b"\x00", b"\x63" + bytes([code]) + b"\x68\x51")
         yield Wish(f"{name}: as data", b"", b"\x01" + bytes([code]) + b"\x75\x51")
-    for code in (0x50, 0x62, 0x6A, 0x89, 0x8A, 0xBA, 0xBB, 0xBF, 0xC0, 0xD0, 0xF0, 0xFE, 0xFF):
+    for code in (0x50, 0x62, 0x6A, 0x89, 0x8A, *range(0xBA, 0x100)):
         name = NAMES.get(code, f"{code:02x}")
         yield Wish(f"{name}", b"\x51\x51", b"\x51" + bytes([code]) + TRUE)
         yield Wish(f"{name}: not executed", b"\x00", b"\x63" + bytes([code]) + b"\x68\x51")
-        yield Wish(f"{name}: in the input", b"\x51" + bytes([code]), b"\x51")
+        if code < 0xBC:
+            yield Wish(f"{name}: in the input", b"\x51" + bytes([code]), b"\x51")
 
 
 def conditions() -> Iterator[Wish]:
@@ -278,6 +299,7 @@ def conditions() -> Iterator[Wish]:
         "51 00 63 63 64 67 68 68 68", "51 51 64 68", "51 51 63 67 6a 68", "52 63 51 67 6a 68", "51 63 75 68 51",
         "51 64 65 68 51", "51 63 51 66 68", "51 00 63 61 68 63 51 68", "51 00 64 63 51 68 68", "00 63 6a 68 51",
         "51 51 51 63 63 51 67 00 68 67 00 68", "00 51 51 63 63 51 67 51 68 67 00 68 63 00 68 51",
+        "00 63 65 51", "00 63 66 51", "51 63 65 51", "51 63 66 51", "00 63 65 67 51 68", "00 63 66 67 51 68",
     )  # fmt: skip
     for text in texts:
         yield Wish(f"conditions {text}", b"", bytes.fromhex(text))
@@ -375,6 +397,10 @@ def script_hashes() -> Iterator[Wish]:
         )  # fmt: skip
         for name, spent in other:
             yield Wish(f"no form of BIP 16: {name}, {inner.hex()}", e(inner), spent)
+        drop = b"\xa9\x75\x12" + b"\7" * 18 + b"\x76\x87"
+        yield Wish(f"no form of BIP 16: 23 bytes with DROP, {inner.hex()}", e(inner), drop)
+        yield Wish(f"no form of BIP 16: 23 bytes with EQUALVERIFY, {inner.hex()}", b"\x51" + e(inner), b"\xa9\x14" + h + b"\x88")
+        yield Wish(f"no form of BIP 16: 22 bytes, {inner.hex()}", e(inner), b"\xa9\x75\x12" + b"\7" * 18 + b"\x51")
     yield Wish("no form of BIP 16: an input that does more", e(b"\x6a") + b"\x61", b"\xa9\x4c\x14" + hash160(b"\x6a") + b"\x87")
     yield Wish("no form of BIP 16: NUMEQUAL at the end", b"\x52", b"\xa9\x14" + bytes(20) + b"\x75")
     yield Wish("no form of BIP 16: SHA1", e(b"\x6a"), b"\xa7\x14" + HASHES[0xA7](b"\x6a") + b"\x87")
@@ -500,6 +526,10 @@ def taken_out() -> Iterator[Wish]:
     yield Wish("taken out: not executed", within(b"\x00\x63\x68" + end, lambda s: e(s) + b"\x00\x63" + e(s) + b"\x68" + end), b"\x61")
     yield Wish("taken out: another signature isn't", within(e(b"\7" * 70) + b"\x75" + end, lambda s: e(s) + e(b"\7" * 70) + b"\x75" + end), b"\x61")
     yield Wish("taken out: an empty signature isn't asked", b"\x00" + end + b"\x91", b"\x61")
+    for size in (74, 75, 76, 77, 254, 255, 256, 257, 520):
+        yield Wish(f"taken out: a signature of {size} bytes", within(end, lambda s, size=size: e(widened(s, size)) + end), b"\x61", OLD)
+        long = b"\x4d" + size.to_bytes(2, "little")
+        yield Wish(f"taken out: not a signature of {size} bytes by PUSHDATA2", within(end, lambda s, size=size, long=long: long + widened(s, size) + end), b"\x61", OLD)
     several = b"\x51" + key + b"\x51\xae"
     yield Wish("taken out by CHECKMULTISIG", within(b"\x00" + several, lambda s: b"\x00" + e(s) + several), b"\x61")
     yield Wish("taken out by CHECKMULTISIG, twice", within(b"\x75\x00" + several, lambda s: e(s) + b"\x75\x00" + e(s) + several), b"\x61")
@@ -514,6 +544,18 @@ def taken_out() -> Iterator[Wish]:
     one_bare = b"\x51" + e(KEYS[0]) + b"\x51\xae"
     shown = signature(0, e(b"\x01\x01") + b"\x75\x00" + one_bare)
     yield Wish("taken out by CHECKMULTISIG: no other push", lambda tx, at: e(b"\x01\x01") + b"\x75\x00" + e(shown(tx, at)) + one_bare, b"\x61")
+
+
+def widened(signature: bytes, size: int) -> bytes:
+    """The same numbers in so many bytes with the hash type: R has zeros in front, and a length of one, two or three bytes."""
+    r, s = parts_of(signature[:-1])
+    rest = b"\x02" + bytes([len(s)]) + s + signature[-1:]
+    for wide in (0, 1, 2):
+        length = size - len(rest) - 4 - wide
+        if length < (128, 256, 1 << 16)[wide]:
+            spelled = bytes([length]) if wide == 0 else bytes([128 + wide]) + length.to_bytes(wide, "big")
+            return b"\x30\x00\x02" + spelled + r.rjust(length, b"\0") + rest
+    raise ValueError(size)
 
 
 def der(numbers: Tuple[bytes, bytes]) -> bytes:
@@ -657,6 +699,8 @@ def multisig() -> Iterator[Wish]:
             yield Wish(f"CHECKMULTISIG over {own.hex() or '-'}", own, last + TRUE)
     for count in (-1, 20, 21, 22, 255, -(2**31) + 1):
         yield Wish(f"CHECKMULTISIG of {count} keys", b"\x00\x00" + b"\x52" * max(min(count, 30), 0) + n(count), b"\xae")
+    for wanted, count in ((-1, 1), (-1, 0), (0, 1), (-2, 2), (-1, 3)):
+        yield Wish(f"CHECKMULTISIG {wanted} of {count}", b"\x00" + n(wanted) + b"\x52" * count + n(count), b"\xae")
     for wanted, count in ((-1, 1), (2, 1), (1, 0), (4, 3), (3, 3), (21, 20), (-1, 0)):
         yield Wish(f"CHECKMULTISIG {wanted} of {count}, not", b"\x00" + b"\x00" * max(wanted, 0) + n(wanted) + b"\x52" * count + n(count), b"\xae\x91")
     for long in (b"\1\0\0\0", b"\1\0\0\0\0", b"\1\0"):
@@ -801,9 +845,10 @@ def locks() -> Iterator[Wish]:
         yield Wish(f"CHECKLOCKTIMEVERIFY {wanted} at 500000000", b"", n(wanted) + b"\xb1\x75\x51", lock_time=500000000, sequences=(3,))
     for wanted in (0, 1, 500000000):
         yield Wish(f"CHECKLOCKTIMEVERIFY {wanted} at 0", b"", n(wanted) + b"\xb1\x75\x51", sequences=(3,))
-    for top in (b"", b"\0", b"\x80", b"\x64\0\0\0\0", b"\x64\0\0\0\0\0", b"\1\0\0\0\x80", b"\x64\0", b"\x65\0\0\0", b"\x81"):
+    for top in (b"", b"\0", b"\x80", b"\x64\0\0\0\0", b"\x64\0\0\0\0\0", b"\1\0\0\0\x80", b"\x64\0", b"\x65\0\0\0", b"\x81", b"\1\0\0\0\0", b"\1\0\0\0\0\0", bytes(5), bytes(6)):
         yield Wish(f"CHECKLOCKTIMEVERIFY of {top.hex() or '-'}", e(top), b"\xb1\x75\x51", lock_time=100, sequences=(3,))
         yield Wish(f"CHECKSEQUENCEVERIFY of {top.hex() or '-'}", e(top), b"\xb2\x75\x51", version=2, sequences=(100 | HIGH,))
+        yield Wish(f"CHECKLOCKTIMEVERIFY of {top.hex() or '-'} at 0", e(top), b"\xb1\x75\x51", sequences=(3,))
         yield Wish(f"CHECKSEQUENCEVERIFY of {top.hex() or '-'} at 1", e(top), b"\xb2\x75\x51", version=2, sequences=(1,))
     for code in (0xB1, 0xB2):
         name = NAMES[code]

@@ -169,8 +169,6 @@ def opcodes(script: bytes) -> Iterator[Op]:
             length = number
         elif number <= 78:
             wide = 1 << (number - 76)
-            if at + wide > len(script):
-                raise Fails("cut")
             length = int.from_bytes(script[at : at + wide], "little")
             at += wide
         if at + length > len(script):
@@ -224,7 +222,7 @@ def value(element: bytes, most: int = 4) -> int:
     if len(element) > most:
         raise Fails("a number is too long")
     found = int.from_bytes(element, "little")
-    sign = 1 << (8 * len(element) - 1) if element else 0
+    sign = 128 << 8 * len(element) >> 8
     return sign - found if found & sign else found
 
 
@@ -252,10 +250,11 @@ def is_strict(signature: bytes) -> bool:
     s = signature[5 + r]
     if r + s + 7 != size:
         return False
-    return is_integer(signature[2 : 4 + r]) and is_integer(signature[4 + r : size - 1])
+    return is_integer(signature[2:]) and is_integer(signature[4 + r :])
 
 
 def is_integer(part: bytes) -> bool:
+    """Whether a number is at the front."""
     if part[0] != 2 or part[1] == 0 or part[2] & 128:
         return False
     return part[1] == 1 or part[2] != 0 or part[3] & 128 != 0
@@ -343,8 +342,8 @@ HASHES: Dict[int, Callable[[bytes], bytes]] = {
     0xA8: lambda a: hashlib.sha256(a).digest(), 0xA9: hash160, 0xAA: double_sha,
 }  # fmt: skip
 
-#: With VERIFY behind them, and without.
-VERIFYING = {0x88: 0x87, 0x9D: 0x9C, 0xAD: 0xAC, 0xAF: 0xAE}
+#: Those before them, with VERIFY behind.
+VERIFYING = {0x88, 0x9D, 0xAD, 0xAF}
 
 NOTHING = {0x61, 0xAB, 0xB0, 0xB1, 0xB2, 0xB3, 0xB4, 0xB5, 0xB6, 0xB7, 0xB8, 0xB9}
 
@@ -367,7 +366,7 @@ def run(job: Job, script: bytes, stack: List[bytes]) -> None:
             counted += 1
         if counted > 201:
             raise Fails("too many operations")
-        if 0x63 <= op.number <= 0x68:
+        if op.number in (0x63, 0x64, 0x67, 0x68):
             branch(op.number, branches, stack)
         elif all(branches):
             if op.number in (0xAE, 0xAF):
@@ -376,7 +375,7 @@ def run(job: Job, script: bytes, stack: List[bytes]) -> None:
                 key, signature = take(stack), take(stack)
                 stack.append(b"\1" if checks(job, signature, key, without(code, push(signature))) else b"")
             else:
-                step(job, VERIFYING.get(op.number, op.number), op.data, stack, other)
+                step(job, op.number - (op.number in VERIFYING), op.data, stack, other)
             if op.number == 0xAB:
                 code = script[op.end :]
             if op.number in VERIFYING and not is_true(take(stack)):
