@@ -2,7 +2,7 @@
 
 import re
 from collections import Counter
-from typing import Any, Dict, Iterator, List, NamedTuple, Sequence, Tuple
+from typing import Any, Dict, Iterator, List, NamedTuple, Optional, Sequence, Tuple
 
 from .outside import (
     CORE, HEIGHTS, LIB, TRUE, Chain, Disagree, NotAsked, core_verifies, flags_text, is_valid, lib_verifies,
@@ -134,6 +134,10 @@ def _all_strict(scripts: List[bytes]) -> bool:
     return all(is_strict(data) for data in pushes if data[:1] == b"\x30" and len(data) < 80)
 
 
+#: Words of litecoind's for refusals that no rule of relay alone makes.
+CONSENSUS = ("Locktime requirement not satisfied", "Negative locktime", "OP_RETURN was encountered", "Script is too big")
+
+
 class Asking:
     """Asks about all wishes, flags by flags, on one chain."""
 
@@ -168,8 +172,11 @@ class Asking:
 
     def _by_relay(self, wish: Wish) -> Answered:
         asked = transaction(wish, [(b"\7" * 32, n) for n in range(len(wish.sequences))])
-        said, _ = core_verifies(self.chain.peer, asked.tx, wish.at, wish.spent)
-        return self._answered(asked, said)
+        said, why = core_verifies(self.chain.peer, asked.tx, wish.at, wish.spent)
+        if not said and why not in CONSENSUS:
+            raise Disagree(f"{CORE} refuses {wish} by a rule of relay alone: {why}")
+        answer = self._answered(asked, said)
+        return answer._replace(by=answer.by.replace(CORE, f"{CORE} (signrawtransactionwithkey)"))
 
     def _answered(self, asked: Asked, accepted: bool) -> Answered:
         wish = asked.wish
@@ -191,32 +198,40 @@ class Asking:
         return Answered(asked, accepted, by, valid)
 
 
-    def by_hand(self, rows: List[Any]) -> None:
-        """Puts rows that were written by hand to litecoind, those with all flags and without signatures."""
-        wishes, expected = [], []
-        for row in rows:
-            setting = row[0] if isinstance(row[0], dict) else {}
-            own, spent, flags, said, comment = row[-5:]
-            known = {flags_text(set(f)): f for _, f in HEIGHTS}
-            if "tx" in setting or "table" in setting or flags not in known:
-                continue
-            version, sequence = setting.get("version", 1), setting.get("sequence", 0)
-            by_block = version == 1 or sequence == 0
-            if known[flags] != HEIGHTS[-1][1]:
-                continue
-            wishes.append(
-                Wish(
-                    comment, unhexed(own), unhexed(spent), known[flags], version, setting.get("lock_time", 0), (sequence, sequence),
-                    1, by_block=by_block,
-                )  # fmt: skip
-            )
-            expected.append(said)
-        blocks = [w for w in wishes if w.by_block]
-        found = [*self._by_block(blocks), *map(self._by_relay, (w for w in wishes if not w.by_block))]
-        ordered = [said for by_block in (True, False) for w, said in zip(wishes, expected) if w.by_block == by_block]
-        for answer, said in zip(found, ordered):
-            if answer.accepted != (said == "OK"):
-                raise Disagree(f"{CORE} says {answer.accepted} of the row by hand {answer.asked.wish}")
+# ---- rows by hand
+
+HAND = "by hand"
+RULES = f"docs/RULES.md, {HAND}"
+
+
+def wish_of(row: List[Any]) -> Optional[Wish]:
+    """A row that was written by hand as a question, None where no program can be asked: flags that are in force together at no
+    height, signatures of no key, and locks that keep it out of blocks without the flags of relay."""
+    setting = row[0] if isinstance(row[0], dict) else {}
+    own, spent, flags, _, comment = row[len(row) - 6 : -1]
+    known = {flags_text(set(f)): f for _, f in HEIGHTS}
+    if "table" in setting or flags not in known:
+        return None
+    version, sequence = setting.get("version", 1), setting.get("sequence", 0)
+    by_block = version == 1 or sequence == 0
+    if not by_block and known[flags] != HEIGHTS[-1][1]:
+        return None
+    return Wish(
+        comment, unhexed(own), unhexed(spent), known[flags], version, setting.get("lock_time", 0), (sequence, sequence), 1,
+        by_block=by_block,
+    )  # fmt: skip
+
+
+def hand_rows(hand: List[Tuple[List[Any], Optional[Wish]]], answers: List[Answered]) -> List[List[Any]]:
+    """The rows by hand, each with who was asked."""
+    found = {id(answer.asked.wish): answer for answer in answers}
+    rows = []
+    for row, wish in hand:
+        answer = found.get(id(wish)) if wish else None
+        if answer and answer.accepted != (row[-3] == "OK"):
+            raise Disagree(f"{CORE} says {answer.accepted} of the row by hand {row}")
+        rows.append([*row[:-1], f"{answer.by}, {HAND}" if answer else RULES])
+    return rows
 
 
 def unhexed(text: str) -> bytes:

@@ -77,7 +77,9 @@ def _walk(node: ast.AST, known: Set[str]) -> Iterator[Change]:
 
 
 def _is_relay(node: ast.AST) -> bool:
-    """Whether it is a condition on a rule of relay, which no row has, or an assignment of words for a message."""
+    """Whether it is a condition on a rule of relay, which no row has, words for a message, or the program's test of itself."""
+    if isinstance(node, ast.Assert) or isinstance(node, ast.Raise) and "AssertionError" in ast.dump(node):
+        return True
     if isinstance(node, ast.Assign) and isinstance(node.targets[0], ast.Name):
         return node.targets[0].id == "pushdata_type"
     names = {n.id for n in ast.walk(node.test) if isinstance(n, ast.Name)} if isinstance(node, ast.If) else set()

@@ -8,6 +8,7 @@ import resource
 import signal
 import sys
 import types
+from collections import Counter
 from multiprocessing import Pool
 from typing import Any, Callable, Dict, List, NamedTuple, Optional, Set, Tuple
 
@@ -257,31 +258,34 @@ class Measure:
         self.program = Program(name)
         whole = self.program.load()
         every = rows()
-        self.rows = [row for row in every if self._answers(whole, row)]
+        self.rows = [row for row in every if not self._fault(whole, row)]
         self.left_out = len(every) - len(self.rows)
         signal.signal(signal.SIGVTALRM, _end)
 
-    def _answers(self, program: Any, row: Row) -> bool:
+    def _fault(self, program: Any, row: Row) -> str:
         try:
             found = self.program.answer(program, row)
-            return bool(found == row.expected) and type(found) is type(row.expected)
         except Exception:
-            return False
+            return "an error"
+        return "" if type(found) is type(row.expected) and found == row.expected else "another answer"
 
-    def is_refused(self, number: int) -> bool:
-        """Whether some row refuses a change. Rows that refused one before are tried first."""
+    def refusal(self, number: int) -> str:
+        """How a change is refused, "" where it isn't. Rows that refused one before are tried first."""
         _, change = self.program.changes[number]
         change.make()
         signal.setitimer(signal.ITIMER_VIRTUAL, 30)
         try:
             program = self.program.load()
             for place, row in enumerate(self.rows):
-                if not self._answers(program, row):
+                found = self._fault(program, row)
+                if found:
                     self.rows.insert(0, self.rows.pop(place))
-                    return True
-            return False
-        except (_Endless, Exception):
-            return True
+                    return found
+            return ""
+        except _Endless:
+            return "endless"
+        except Exception:
+            return "an error"
         finally:
             signal.setitimer(signal.ITIMER_VIRTUAL, 0)
             change.undo()
@@ -295,9 +299,9 @@ def _begin(name: str) -> None:
     _measure = Measure(name)
 
 
-def _try(number: int) -> bool:
+def _try(number: int) -> str:
     assert _measure is not None
-    return _measure.is_refused(number)
+    return _measure.refusal(number)
 
 
 def measure(name: str, jobs: int) -> None:
@@ -306,10 +310,12 @@ def measure(name: str, jobs: int) -> None:
     known = Measure(name)
     with Pool(jobs, _begin, (name,)) as pool:
         refused = pool.map(_try, range(len(program.changes)), chunksize=16)
-    total, count = len(refused), sum(refused)
-    print(f"{name}: {count} of {total} changes are refused ({100 * count / total:.1f} %), by {len(known.rows)} rows ({known.left_out} have no say)")
-    for (path, change), is_refused in zip(program.changes, refused):
-        if not is_refused:
+    total, count = len(refused), len([how for how in refused if how])
+    how_often = ", ".join(f"{often} by {how}" for how, often in Counter(filter(None, refused)).most_common())
+    print(f"{name}: {count} of {total} changes are refused, {100 * count / total:.1f} % ({how_often}), by {len(known.rows)} rows")
+    print(f"  {known.left_out} rows have no say")
+    for (path, change), how in zip(program.changes, refused):
+        if not how:
             print(f"  {os.path.basename(path)}:{change.line}: {change.what}: {_line(path, change)}")
 
 

@@ -346,7 +346,9 @@ def limits() -> Iterator[Wish]:
     for size in (9999, 10000, 10001):
         whole = (b"\x4d\xf4\x01" + b"\x07" * 500 + b"\x75") * 19
         yield Wish(f"an input script of {size} bytes", whole + b"\x01\x07\x75" * 19 + _filled(size - len(whole) - 57), b"\x51")
-        if size < 10001:
+        if size == 10001:
+            yield Wish(f"a spent script of {size} bytes", b"", b"\x51" + b"\x00" * (size - 1001) + b"\x51" * 1000)
+        else:
             yield Wish(f"a spent script of {size} bytes", b"", whole + b"\x01\x07\x75" * 19 + _filled(size - len(whole) - 57))
     for size in (519, 520, 521):
         inner = b"\x4d" + (size - 5).to_bytes(2, "little") + b"\x07" * (size - 5) + b"\x75\x51"
@@ -356,6 +358,13 @@ def limits() -> Iterator[Wish]:
 def _filled(size: int) -> bytes:
     """Pushes of so many bytes that leave true, without operations."""
     return b"\x01\x07" * (size // 2) if size % 2 == 0 else b"\x01\x07" * (size // 2) + b"\x51"
+
+
+def unspendable() -> Iterator[Wish]:
+    """What is spent can't be a coin: by relay."""
+    for spent in (b"\x6a", b"\x6a\x51", b"\x6a\x01\x51"):
+        yield Wish("RETURN first", b"", spent, by_block=False)
+        yield Wish("RETURN first, over true", b"\x51", spent, by_block=False)
 
 
 def script_hashes() -> Iterator[Wish]:
@@ -526,10 +535,16 @@ def taken_out() -> Iterator[Wish]:
     yield Wish("taken out: not executed", within(b"\x00\x63\x68" + end, lambda s: e(s) + b"\x00\x63" + e(s) + b"\x68" + end), b"\x61")
     yield Wish("taken out: another signature isn't", within(e(b"\7" * 70) + b"\x75" + end, lambda s: e(s) + e(b"\7" * 70) + b"\x75" + end), b"\x61")
     yield Wish("taken out: an empty signature isn't asked", b"\x00" + end + b"\x91", b"\x61")
+
+    def wide(size: int, how: Callable[[bytes], bytes]) -> Callable[[bytes], bytes]:
+        return lambda s: how(widened(s, size)) + end
+
+    def by_two(signature: bytes) -> bytes:
+        return b"\x4d" + len(signature).to_bytes(2, "little") + signature
+
     for size in (74, 75, 76, 77, 254, 255, 256, 257, 520):
-        yield Wish(f"taken out: a signature of {size} bytes", within(end, lambda s, size=size: e(widened(s, size)) + end), b"\x61", OLD)
-        long = b"\x4d" + size.to_bytes(2, "little")
-        yield Wish(f"taken out: not a signature of {size} bytes by PUSHDATA2", within(end, lambda s, size=size, long=long: long + widened(s, size) + end), b"\x61", OLD)
+        yield Wish(f"taken out: a signature of {size} bytes", within(end, wide(size, e)), b"\x61", OLD)
+        yield Wish(f"taken out: not a signature of {size} bytes by PUSHDATA2", within(end, wide(size, by_two)), b"\x61", OLD)
     several = b"\x51" + key + b"\x51\xae"
     yield Wish("taken out by CHECKMULTISIG", within(b"\x00" + several, lambda s: b"\x00" + e(s) + several), b"\x61")
     yield Wish("taken out by CHECKMULTISIG, twice", within(b"\x75\x00" + several, lambda s: e(s) + b"\x75\x00" + e(s) + several), b"\x61")
@@ -907,7 +922,7 @@ def mixed(seed: int, count: int) -> Iterator[Wish]:
 
 
 FAMILIES = (
-    shuffles, depth_codes, stacks, constants, equality, arithmetic, hashes, nothing, conditions, limits, script_hashes, plain_signatures,
+    shuffles, depth_codes, stacks, constants, equality, arithmetic, hashes, nothing, conditions, limits, unspendable, script_hashes, plain_signatures,
     separators, taken_out, strict_shapes, multisig, digests, locks,
 )  # fmt: skip
 

@@ -3,7 +3,7 @@
 import random
 from typing import Any, Iterator, List, NamedTuple, Tuple
 
-from .asking import hexed
+from .asking import HAND, hexed, unhexed
 from .outside import CORE, FINAL, KEYS, LIB, TRUE, Chain, Disagree, core_verifies, lib_digest, sign
 from .reading import Input, Output, Tx, digest, push, spell
 
@@ -124,6 +124,14 @@ def by_lib(number: int) -> Iterator[List[Any]]:
         tx = Tx(chance.randrange(-(1 << 31), 1 << 31), inputs, outputs_by(chance, 0), chance.randrange(1 << 32))
         kind = chance.choice((chance.randrange(1 << 32), chance.randrange(1 << 32), 0x100 | chance.choice(DEFINED), 0xFFFFFF00 | chance.choice(DEFINED)))
         yield row_of(Sample(tx, chance.randrange(count), code, code, kind), b"", LIB)
+
+
+def by_hand(rows: List[List[Any]]) -> List[List[Any]]:
+    """Rows that were written by hand, asked of python3-bitcoinlib."""
+    for raw, code, at, kind, said, *_ in rows:
+        if lib_digest(unhexed("0x" + raw), at, bytes.fromhex(code), kind).hex() != said:
+            raise Disagree(f"{LIB} has another digest than the row by hand {raw}")
+    return [[*row[:5], f"{LIB}, {HAND}"] for row in rows]
 
 
 def rows(chain: Chain) -> List[List[Any]]:

@@ -5,9 +5,9 @@ from typing import Any, Dict, Iterator, List, Tuple
 
 import bitcoin.core.serialize as lib_serialize
 
-from .asking import hexed
+from .asking import HAND, hexed, unhexed
 from .outside import CORE, FINAL, LIB, REASONS, Chain, Disagree, core_reads, lib_fault, lib_tx
-from .reading import Fails, Input, Output, Tx, fault, read, spell
+from .reading import Fails, Input, Output, Tx, double_sha, fault, read, spell
 
 MONEY = 21 * 10**14
 NULL = Input(bytes(32), FINAL, b"\1\2", FINAL)
@@ -156,6 +156,18 @@ def broken_row(chain: Chain, data: bytes) -> List[Any]:
     except lib_serialize.SerializationError:
         pass
     return [hexed(data), name, by]
+
+
+def by_hand(rows: List[List[Any]]) -> List[List[Any]]:
+    """Rows that were written by hand: ids are put to hashlib, and faults and reasons follow the rules."""
+    for raw, said, *_ in rows:
+        data = unhexed("0x" + raw)
+        size = said.get("size", len(data)) if isinstance(said, dict) else len(data)
+        if isinstance(said, dict) and "id" in said and double_sha(data[:size])[::-1].hex() != said["id"]:
+            raise Disagree(f"hashlib has another id than the row by hand {raw}")
+        if isinstance(said, dict) and "reason" in said and lib_fault(data[:size]) != said["reason"]:
+            raise Disagree(f"{LIB} has another reason than the row by hand {raw}")
+    return [[*row[:2], f"{f'hashlib, {LIB}' if isinstance(row[1], dict) else 'docs/RULES.md'}, {HAND}"] for row in rows]
 
 
 def rows(chain: Chain) -> List[List[Any]]:
