@@ -132,6 +132,16 @@ class Vectors(unittest.TestCase):
         self.assertEqual(set(range(256)) - found[True], never)
         self.assertEqual(set(range(256)) - found[False], set())
 
+    def test_each_row_says_who_was_asked(self) -> None:
+        """A program from outside, or the rules; the table of README.md has how many rows there are."""
+        with open(os.path.join(HERE, "README.md"), encoding="utf-8") as file:
+            page = file.read()
+        for name in ("script_tests.json", "sighash.json", "transactions.json"):
+            every = rows(name)
+            self.assertIn(f"| `{name}` | {len(every):,} |", page)
+            for row in every:
+                self.assertRegex(row[-1], "^(read by )?(litecoind|python3-bitcoinlib|hashlib|docs/RULES.md)")
+
     def found_out(self, pair: Pair, table: c.Table, valid: List[bytes], chance: random.Random) -> Any:
         """The verdict, where each signature that is asked for is looked for in the table."""
         invalid: List[bytes] = []

@@ -266,8 +266,8 @@ class Measure:
         try:
             found = self.program.answer(program, row)
         except Exception:
-            return "an error"
-        return "" if type(found) is type(row.expected) and found == row.expected else "another answer"
+            return "by an error"
+        return "" if type(found) is type(row.expected) and found == row.expected else "by another answer"
 
     def refusal(self, number: int) -> str:
         """How a change is refused, "" where it isn't. Rows that refused one before are tried first."""
@@ -283,9 +283,9 @@ class Measure:
                     return found
             return ""
         except _Endless:
-            return "endless"
+            return "without an end"
         except Exception:
-            return "an error"
+            return "by an error"
         finally:
             signal.setitimer(signal.ITIMER_VIRTUAL, 0)
             change.undo()
@@ -311,12 +311,76 @@ def measure(name: str, jobs: int) -> None:
     with Pool(jobs, _begin, (name,)) as pool:
         refused = pool.map(_try, range(len(program.changes)), chunksize=16)
     total, count = len(refused), len([how for how in refused if how])
-    how_often = ", ".join(f"{often} by {how}" for how, often in Counter(filter(None, refused)).most_common())
+    how_often = ", ".join(f"{often} {how}" for how, often in Counter(filter(None, refused)).most_common())
     print(f"{name}: {count} of {total} changes are refused, {100 * count / total:.1f} % ({how_often}), by {len(known.rows)} rows")
     print(f"  {known.left_out} rows have no say")
     for (path, change), how in zip(program.changes, refused):
         if not how:
             print(f"  {os.path.basename(path)}:{change.line}: {change.what}: {_line(path, change)}")
+
+
+#: What an opcode is taken for, to see whether a row hangs on what it does: nothing, a constant, one or two elements dropped,
+#: a failure, a failure wherever it stands; and the opcodes beside it.
+INSTEAD: Tuple[Tuple[int, ...], ...] = (
+    (), (0x51,), (0x00,), (0x75,), (0x75, 0x51), (0x75, 0x00), (0x6D,), (0x6D, 0x51), (0x6D, 0x00), (0x76,), (0x8B,), (0x8C,), (0x6A,), (0x7E,),
+)  # fmt: skip
+
+
+def _taken_for(m: Any, number: int, others: Tuple[int, ...], whole: Callable[[bytes], Any]) -> None:
+    """Has a reading take an opcode for others; a push for one of a byte more, where there are none."""
+
+    def opcodes(script: bytes) -> Any:
+        for op in whole(script):
+            if op.number != number:
+                yield op
+            elif 0 < number <= 0x4E and not others:
+                yield op._replace(data=op.data + b"\7")
+            else:
+                yield from (m.Op(other, b"", op.start, op.end) for other in others)
+
+    m.opcodes = opcodes
+
+
+def measure_opcodes() -> bool:
+    """Prints the opcodes that lack an accepted pair that would be refused if they did something else, or a refused pair that
+    would be accepted. Those that fail wherever they stand have no accepted one."""
+    m = Program("reading").load()
+    whole, pairs_of, lacking = m.opcodes, _by_opcodes(), []
+    for number in range(256):
+        sides = set()
+        beside = ((number - 1,), (number + 1,)) if 0x4F < number < 0xFF else ()
+        for others in INSTEAD + beside:
+            _taken_for(m, number, others, whole)
+            sides |= {row.expected for row in pairs_of[number] if by_reading(m, row) != row.expected}
+        wanted = {False} if number in reading.NEVER else {True, False}
+        lacking += [(number, side) for side in wanted - sides]
+    print(f"opcodes: {256 - len({number for number, _ in lacking})} of 256 have a pair on each side")
+    for number, side in lacking:
+        print(f"  {number:02x} has no {'accepted' if side else 'refused'} pair that hangs on it")
+    return not lacking
+
+
+def _by_opcodes() -> List[List[Row]]:
+    """The pairs in which each opcode is, an inner script's too."""
+    found: List[List[Row]] = [[] for _ in range(256)]
+    for row in rows():
+        if row.kind == "pair":
+            numbers: Set[int] = set()
+            scripts = [row.given[2], row.given[3]]
+            try:
+                for op in reading.opcodes(row.given[2]):
+                    scripts[2:] = [op.data]
+            except reading.Fails:
+                pass
+            for script in scripts:
+                try:
+                    for op in reading.opcodes(script):
+                        numbers.add(op.number)
+                except reading.Fails:
+                    pass
+            for number in numbers:
+                found[number].append(row)
+    return found
 
 
 def _line(path: str, change: Change) -> str:

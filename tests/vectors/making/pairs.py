@@ -161,7 +161,7 @@ def constants() -> Iterator[Wish]:
     for code in (0x4F, *range(0x51, 0x61)):
         value = code - 0x50
         yield Wish(f"{NAMES[code]}", bytes([code]), e(number(value)) + b"\x87")
-        yield Wish(f"{NAMES[code]}: another", bytes([code]), e(number(value + 1)) + b"\x87")
+        yield Wish(f"{NAMES[code]}: another", bytes([code]), e(number(value + 1 if value < 16 else 15)) + b"\x87")
     yield Wish("0 is no byte", b"\x00", b"\x82" + left(b"", b""))
     yield Wish("0 isn't a zero byte", b"\x00", e(b"\0") + b"\x87")
     for size in (1, 2, 74, 75, 76, 77, 127, 255, 256, 257, 519, 520, 521):
@@ -170,9 +170,9 @@ def constants() -> Iterator[Wish]:
         forms = [bytes([size])] if size <= 75 else []
         forms += [code + size.to_bytes(wide, "little") for wide, code in spellings if size < 1 << 8 * wide]
         for form in forms:
-            yield Wish(f"a push of {size} by {form.hex()}", form + data, b"\xa9" + e(hash160(data)) + b"\x87")
+            yield Wish(f"a push of {size} by {form.hex()}", form + data, b"\xa8" + e(HASHES[0xA8](data)) + b"\x87")
             if size < 76:
-                yield Wish(f"a push of {size} by {form.hex()}: another", form + data, b"\xa9" + e(hash160(data + b"x")) + b"\x87")
+                yield Wish(f"a push of {size} by {form.hex()}: another", form + data, b"\xa8" + e(HASHES[0xA8](data + b"\7")) + b"\x87")
             if size in (1, 75, 76, 255, 256, 520):
                 yield Wish(f"a push of {size} by {form.hex()} that is cut", b"\x51" + form + data[:-1], b"\x51")
                 yield Wish(f"a spent push of {size} by {form.hex()} that is cut", b"", b"\x51" + form + data[:-1])
