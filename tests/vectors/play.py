@@ -69,7 +69,7 @@ def pairs() -> Iterator[Pair]:
         else:
             ends = [setting.get("sequence", 0)] * 2
             tx, at = spender(setting.get("version", 1), setting.get("lock_time", 0), ends, [b"", script], 1), 1
-        forced = list(filter(None, flags.split(",")))
+        forced = [name for name in flags.split(",") if name]
         yield Pair(tx, at, data(spent[2:]), forced, setting.get("table", ""), expected == "OK")
 
 

@@ -7,7 +7,7 @@ from typing import Any, Dict, Iterator, List, NamedTuple, Optional, Sequence, Tu
 from .outside import (
     CORE, HEIGHTS, LIB, TRUE, Chain, Disagree, NotAsked, core_verifies, flags_text, is_valid, lib_verifies,
 )  # fmt: skip
-from .pairs import Wish
+from .pieces import Wish
 from .reading import Fails, Input, Job, Tx, accepts, count, is_strict, opcodes, spell
 
 Triple = Tuple[bytes, bytes, bytes]

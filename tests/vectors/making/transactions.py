@@ -16,7 +16,7 @@ ONE = Output(1, b"\x51")
 
 
 def lawful() -> Iterator[Tx]:
-    """Transactions of all shapes, and of each rule from both sides."""
+    """Transactions of all shapes."""
     for inputs in range(4):
         for outputs in range(4):
             yield Tx(1, [PLAIN._replace(place=k) for k in range(inputs)], [Output(k, b"\x52" * k) for k in range(outputs)], 9)
@@ -32,6 +32,10 @@ def lawful() -> Iterator[Tx]:
     for many in (252, 253, 254):
         yield Tx(1, [PLAIN], [Output(0, b"")] * many, 0)
     yield Tx(1, [PLAIN._replace(place=k, script=b"") for k in range(253)], [ONE], 0)
+
+
+def rules() -> Iterator[Tx]:
+    """Each rule of a transaction by itself, from both sides."""
     values: List[Tuple[int, ...]] = [
         (0,), (-1,), (-(2**63),), (MONEY - 1,), (MONEY,), (MONEY + 1,), (2**63 - 1,), (MONEY, 0), (MONEY, 1), (0, MONEY), (1, MONEY),
         (MONEY // 2, MONEY // 2), (MONEY // 2 + 1, MONEY // 2), (MONEY, 1, -1), (MONEY, -1), (-1, MONEY + 1), (MONEY + 1, -1), (MONEY, MONEY + 1),
@@ -171,7 +175,7 @@ def by_hand(rows: List[List[Any]]) -> List[List[Any]]:
 
 
 def rows(chain: Chain) -> List[List[Any]]:
-    found = [row_of(chain, tx) for tx in [*lawful(), *random_ones(30)]]
+    found = [row_of(chain, tx) for tx in [*lawful(), *rules(), *random_ones(30)]]
     return found + [broken_row(chain, data) for data in broken()]
 
 
