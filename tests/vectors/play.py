@@ -136,9 +136,9 @@ class Vectors(unittest.TestCase):
         """A program from outside, or the rules; the table of README.md has how many rows there are."""
         with open(os.path.join(HERE, "README.md"), encoding="utf-8") as file:
             page = file.read()
-        for name in ("script_tests.json", "sighash.json", "transactions.json"):
+        for name in ("script_tests.json", "sighash.json", "transactions.json", "locks.json"):
             every = rows(name)
-            self.assertIn(f"| `{name}` | {len(every):,} |", page)
+            self.assertTrue(f"| `{name}` | {len(every):,} |" in page, f"{name} has {len(every)} rows, and the table another number")
             for row in every:
                 self.assertRegex(row[-1], "^(read by )?(litecoind|python3-bitcoinlib|hashlib|docs/RULES.md)")
 
@@ -174,7 +174,7 @@ class Vectors(unittest.TestCase):
                 self.assertEqual(c.number_bytes(number).hex(), spelling)
 
     def test_locks(self) -> None:
-        for name, given, expected in rows("locks.json"):
+        for name, given, expected, _ in rows("locks.json"):
             if name == "median":
                 self.assertEqual(c.median(given[0]), expected)
             elif name == "final":

@@ -61,6 +61,7 @@ def rows() -> List[Row]:
     found += [Row("number", (data(b), most), n) for b, most, n, _ in load("numbers.json")]
     found += [Row("spelling", (n,), data(b)) for b, _, n, is_shortest in load("numbers.json") if is_shortest]
     found += [Row("strict", (data(s),), yes) for s, yes, _ in load("signatures.json") if s]
+    found += [Row(name, tuple(given), said) for name, given, said, _ in load("locks.json")]
     found += [Row(name, (data(given[0]),), bool(said)) for name, given, said in load("scripts.json") if name in ("push_only", "p2sh")]
     return found
 
@@ -77,12 +78,19 @@ def by_reading(m: Any, row: Row) -> Any:
         return m.digest(*row.given)
     if row.kind == "transaction":
         return _transaction(m, row.given[0], row.expected)
-    if row.kind in ("strict", "push_only", "p2sh"):
-        return {"strict": m.is_strict, "push_only": m.is_push_only, "p2sh": m.is_script_hash}[row.kind](*row.given)
+    if row.kind in CALLS:
+        return getattr(m, CALLS[row.kind])(*row.given)
     try:
         return m.value(*row.given) if row.kind == "number" else m.number(*row.given)
     except m.Fails:
         return None
+
+
+#: Rows that are one call of the reading each.
+CALLS = {
+    "strict": "is_strict", "push_only": "is_push_only", "p2sh": "is_script_hash", "median": "median", "final": "is_final",
+    "relative": "are_met",
+}  # fmt: skip
 
 
 def _transaction(m: Any, raw: bytes, said: Any) -> Any:

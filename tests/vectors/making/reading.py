@@ -150,6 +150,32 @@ def digest(tx: Tx, number: int, code: bytes, kind: int) -> bytes:
     return double_sha(spell(Tx(tx.version, inputs, outputs, tx.lock_time)) + kind.to_bytes(4, "little"))
 
 
+# ---- locks
+
+
+def median(times: List[int]) -> int:
+    return sorted(times)[len(times) // 2]
+
+
+def is_final(lock_time: int, sequences: List[int], height: int, cutoff: int) -> bool:
+    if lock_time == 0 or lock_time < (height if lock_time < 500000000 else cutoff):
+        return True
+    return all(sequence == 0xFFFFFFFF for sequence in sequences)
+
+
+def are_met(version: int, sequences: List[int], starts: List[Tuple[int, int]], height: int, cutoff: int) -> bool:
+    """Relative locks, given each coin's height and the median time past below it."""
+    for sequence, (coin, start) in zip(sequences, starts):
+        if 0 <= version < 2 or sequence & 1 << 31:
+            continue
+        if sequence & 1 << 22:
+            if start + 512 * (sequence & 65535) > cutoff:
+                return False
+        elif coin + (sequence & 65535) > height:
+            return False
+    return True
+
+
 # ---- scripts as opcodes
 
 
