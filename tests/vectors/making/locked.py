@@ -57,7 +57,10 @@ def relative(chain: Chain, new: List[Coin], old: List[Coin]) -> Iterator[Tuple[L
         yield row(2, [(old[0], TIMED | 1 << bit | units + 1)])
     met, unmet, late = (old[0], blocks), (old[1], edges(old[1])[0] + 1), (old[2], TIMED | edges(old[2])[1] + 1)
     timed, off = (old[3], TIMED | edges(old[3])[1]), (new[1], OFF | 65535)
-    for pairs in ([met, timed], [met, unmet], [unmet, met], [late, met], [met, off], [off, unmet], [off, met, timed], [met, timed, late], [off]):
+    for pairs in (
+            [met, timed], [met, unmet], [unmet, met], [late, met], [met, off],
+            [off, unmet], [off, met, timed], [met, timed, late], [off],
+    ):  # fmt: skip
         yield row(2, pairs)
         yield row(1, pairs)
 

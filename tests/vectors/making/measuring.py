@@ -103,7 +103,8 @@ def _transaction(m: Any, raw: bytes, said: Any) -> Any:
         return tx
     found = {
         "id": m.double_sha(m.spell(tx))[::-1].hex(), "inputs": len(tx.inputs), "outputs": len(tx.outputs), "version": tx.version,
-        "lock_time": tx.lock_time, "reason": m.fault(tx), "inputs_are": [[i.id.hex(), i.place, i.script.hex(), i.sequence] for i in tx.inputs],
+        "lock_time": tx.lock_time, "reason": m.fault(tx),
+        "inputs_are": [[i.id.hex(), i.place, i.script.hex(), i.sequence] for i in tx.inputs],
         "outputs_are": [[o.value, o.script.hex()] for o in tx.outputs],
     }  # fmt: skip
     if "size" in said and m.spell(tx) != raw[: said["size"]]:
@@ -189,7 +190,9 @@ class Program:
         only = ast.Module([n for n in whole.body if getattr(n, "name", "") in ("CheckTransaction", "MoneyRange")], [])
         place = dict(vars(core))
         exec(compile(ast.fix_missing_locations(only), "__init__.py", "exec"), place)
-        return {"core": core, "script": script, "eval": evaluation, "bignum": bignum, "table": table, "check": place["CheckTransaction"]}
+        return {
+            "core": core, "script": script, "eval": evaluation, "bignum": bignum, "table": table, "check": place["CheckTransaction"],
+        }  # fmt: skip
 
 
 #: The files of python3-bitcoinlib, and the functions in them that are changed.
@@ -330,7 +333,8 @@ def measure(name: str, jobs: int) -> None:
 #: What an opcode is taken for, to see whether a row hangs on what it does: nothing, a constant, one or two elements dropped,
 #: a failure, a failure wherever it stands; and the opcodes beside it.
 INSTEAD: Tuple[Tuple[int, ...], ...] = (
-    (), (0x51,), (0x00,), (0x75,), (0x75, 0x51), (0x75, 0x00), (0x6D,), (0x6D, 0x51), (0x6D, 0x00), (0x76,), (0x8B,), (0x8C,), (0x6A,), (0x7E,),
+    (), (0x51,), (0x00,), (0x75,), (0x75, 0x51), (0x75, 0x00), (0x6D,), (0x6D, 0x51), (0x6D, 0x00), (0x76,), (0x8B,), (0x8C,),
+    (0x6A,), (0x7E,),
 )  # fmt: skip
 
 

@@ -60,7 +60,9 @@ def sizes() -> Iterator[Wish]:
     for top, is_true in TRUTHS:
         yield Wish(f"IFDUP of {top.hex() or '-'}", e(top), b"\x73" + left(*([top, top] if is_true else [top])))
         yield Wish(f"IFDUP of {top.hex() or '-'}: the other way", e(top), b"\x73" + left(*([top] if is_true else [top, top])))
-        yield Wish(f"IFDUP of {top.hex() or '-'} over another", e(b"x" if not is_true else b"") + e(top), b"\x73\x74" + n(2 + is_true) + b"\x87")
+        yield Wish(
+            f"IFDUP of {top.hex() or '-'} over another", e(b"x" if not is_true else b"") + e(top), b"\x73\x74" + n(2 + is_true) + b"\x87",
+        )  # fmt: skip
         yield Wish(f"VERIFY of {top.hex() or '-'}", e(top), b"\x69" + left())
         yield Wish(f"VERIFY of {top.hex() or '-'}, then true", e(top), b"\x69\x51")
         yield Wish(f"VERIFY of {top.hex() or '-'} over another", e(b"x" if not is_true else b"") + e(top), b"\x69\x51")
@@ -69,7 +71,9 @@ def sizes() -> Iterator[Wish]:
         yield Wish(f"NOTIF of {top.hex() or '-'}", e(top), b"\x64\x51\x67\x00\x68")
     for code in (0x69, 0x73, 0x63, 0x64):
         yield Wish(f"{NAMES[code]} of nothing", b"", bytes([code]) + (TRUE if code in (0x69, 0x73) else b"\x51\x67\x51\x68"))
-        yield Wish(f"{NAMES[code]}: not executed", b"", b"\x00\x63" + bytes([code]) + (b"\x68" if code < 0x65 else b"") + b"\x68" + TRUE)
+        yield Wish(
+            f"{NAMES[code]}: not executed", b"", b"\x00\x63" + bytes([code]) + (b"\x68" if code < 0x65 else b"") + b"\x68" + TRUE,
+        )  # fmt: skip
 
 
 TRUTHS = [
@@ -131,7 +135,10 @@ def constants() -> Iterator[Wish]:
 
 
 def equality() -> Iterator[Wish]:
-    for a, b in ((b"", b""), (b"", b"\0"), (b"\0", b"\x80"), (b"\1", b"\1\0"), (b"ab", b"ab"), (b"ab", b"ac"), (b"a" * 520, b"a" * 520)):
+    for a, b in (
+            (b"", b""), (b"", b"\0"), (b"\0", b"\x80"), (b"\1", b"\1\0"),
+            (b"ab", b"ab"), (b"ab", b"ac"), (b"a" * 520, b"a" * 520),
+    ):  # fmt: skip
         yield Wish("EQUAL", e(a) + e(b), b"\x87")
         yield Wish("EQUAL: not", e(a) + e(b), b"\x87\x91")
         yield Wish("EQUALVERIFY", e(a) + e(b), b"\x88" + left())
@@ -155,7 +162,9 @@ def arithmetic() -> Iterator[Wish]:
             yield Wish(f"{name} of {a}", n(a), bytes([code]) + left(number(rule(a))))
         yield Wish(f"{name}: another", n(7), bytes([code]) + left(number(rule(7) + 1)))
         yield Wish(f"{name} of 5 over another", n(9) + n(5), bytes([code]) + left(number(9), number(rule(5))))
-        yield Wish(f"{name} of -1 over an element that is no number", e(b"\7" * 9) + n(-1), bytes([code]) + left(b"\7" * 9, number(rule(-1))))
+        yield Wish(
+            f"{name} of -1 over an element that is no number", e(b"\7" * 9) + n(-1), bytes([code]) + left(b"\7" * 9, number(rule(-1))),
+        )  # fmt: skip
         yield Wish(f"{name} of -0", e(b"\x80"), bytes([code]) + left(number(rule(0))))
         yield Wish(f"{name} of a long 5", e(b"\5\0\0\0"), bytes([code]) + left(number(rule(5))))
         yield Wish(f"{name} of a long -5", e(b"\5\0\0\x80"), bytes([code]) + left(number(rule(-5))))
@@ -262,19 +271,29 @@ def limits() -> Iterator[Wish]:
         yield Wish(f"{count} operations, not executed", b"", b"\x00\x63" + b"\x61" * (count - 2) + b"\x68\x51")
         yield Wish(f"{count} operations of an inner script", e(b"\x51" + b"\x61" * count), script_hash(b"\x51" + b"\x61" * count))
         yield Wish(f"{count} locks", b"", b"\x51" + b"\xb1" * count, OLD)
-        yield Wish(f"{count} operations, the last of conditions", b"", b"\x51" + b"\x61" * (count - 2) + b"\x63\x51\x68"[:2] + b"\x51\x68")
+        yield Wish(
+            f"{count} operations, the last of conditions", b"", b"\x51" + b"\x61" * (count - 2) + b"\x63\x51\x68"[:2] + b"\x51\x68",
+        )  # fmt: skip
         for keys in (1, 3, 20):
             yield Wish(
                 f"{count} operations with {keys} keys of none", b"",
                 b"\x61" * (count - 1 - keys) + b"\x00\x00" + e(KEYS[0]) * keys + n(keys) + b"\xae",
             )  # fmt: skip
-        yield Wish(f"{count} operations, CHECKMULTISIG not executed", b"", b"\x00\x63" + b"\x61" * (count - 4) + b"\x60\xae\x68\x51\x61")
+        yield Wish(
+            f"{count} operations, CHECKMULTISIG not executed", b"", b"\x00\x63" + b"\x61" * (count - 4) + b"\x60\xae\x68\x51\x61",
+        )  # fmt: skip
         yield Wish(f"{count} operations, the keys first", b"", b"\x00\x00" + b"\x51" * 20 + b"\x01\x14\xae" + b"\x61" * (count - 21))
-        yield Wish(f"{count} operations, the keys twice", b"", (b"\x00\x00" + b"\x51" * 16 + b"\x60\xae\x75") * 2 + b"\x51" + b"\x61" * (count - 36))
+        yield Wish(
+            f"{count} operations, the keys twice", b"", (b"\x00\x00" + b"\x51" * 16 + b"\x60\xae\x75") * 2 + b"\x51" + b"\x61" * (count - 36),
+        )  # fmt: skip
     yield Wish("201 operations of each", b"\x51" + b"\x61" * 201, b"\x61" * 201)
     yield Wish("201 operations and pushes that don't count", b"\x51" * 200, b"\x61" * 201 + b"\x60" * 200)
     yield Wish("201 operations and RESERVED that doesn't count", b"", b"\x51\x00\x63" + b"\x61" * 199 + b"\x50" * 9 + b"\x68")
     yield Wish("201 operations, one of 61 more", b"", b"\x51\x00\x63" + b"\x61" * 200 + b"\x50\x68")
+
+
+def sizes_of_all() -> Iterator[Wish]:
+    """How many elements there are, and how long scripts."""
     for count in (999, 1000, 1001):
         yield Wish(f"{count} elements", b"\x51" * count, b"\x61")
         yield Wish(f"{count} elements by pushes of bytes", b"", b"\x01\x07" * count)

@@ -7,8 +7,8 @@ from .pieces import Wish
 
 FAMILIES = (
     opcodes.shuffles, opcodes.depth_codes, opcodes.sizes, opcodes.stacks, opcodes.constants, opcodes.equality, opcodes.arithmetic,
-    opcodes.binary, opcodes.comparisons, opcodes.hashes, opcodes.nothing, opcodes.conditions, opcodes.limits, opcodes.unspendable,
-    opcodes.script_hashes, opcodes.other_forms, opcodes.signed_inner,
+    opcodes.binary, opcodes.comparisons, opcodes.hashes, opcodes.nothing, opcodes.conditions, opcodes.limits, opcodes.sizes_of_all,
+    opcodes.unspendable, opcodes.script_hashes, opcodes.other_forms, opcodes.signed_inner,
     signing.plain_signatures, signing.odd_keys, signing.hash_types, signing.signed_places, signing.separators, signing.taken_out,
     signing.taken_out_by_many, signing.strict_shapes, signing.odd_numbers, signing.odd_shapes, signing.multisig,
     signing.multisig_stacks, signing.multisig_counts, signing.twenty_keys, signing.multisig_tried,

@@ -122,7 +122,8 @@ def by_lib(number: int) -> Iterator[List[Any]]:
         codes = [0, 0x51, 0x52, 0x63, 0x65, 0x6A, 0xAC, 0xFF]
         code = bytes(chance.choice(codes) for _ in range(chance.randrange(10)))
         tx = Tx(chance.randrange(-(1 << 31), 1 << 31), inputs, outputs_by(chance, 0), chance.randrange(1 << 32))
-        kind = chance.choice((chance.randrange(1 << 32), chance.randrange(1 << 32), 0x100 | chance.choice(DEFINED), 0xFFFFFF00 | chance.choice(DEFINED)))
+        any_kind, other_kind = chance.randrange(1 << 32), chance.randrange(1 << 32)
+        kind = chance.choice((any_kind, other_kind, 0x100 | chance.choice(DEFINED), 0xFFFFFF00 | chance.choice(DEFINED)))
         yield row_of(Sample(tx, chance.randrange(count), code, code, kind), b"", LIB)
 
 

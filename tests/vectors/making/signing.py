@@ -45,7 +45,10 @@ def hash_types() -> Iterator[Wish]:
     code = e(KEYS[0]) + b"\xac"
     for kind in range(0, 256, 5):
         yield Wish(f"hash type {kind:02x}", joined(signature(0, code, kind)), code)
-    for kind in (1, 2, 3, 4, 0x1F, 0x20, 0x21, 0x22, 0x23, 0x40, 0x42, 0x43, 0x60, 0x7F, 0x80, 0x81, 0x82, 0x83, 0x84, 0xA2, 0xA3, 0xC2, 0xE3, 0xFF):
+    for kind in (
+            1, 2, 3, 4, 0x1F, 0x20, 0x21, 0x22, 0x23, 0x40, 0x42, 0x43, 0x60,
+            0x7F, 0x80, 0x81, 0x82, 0x83, 0x84, 0xA2, 0xA3, 0xC2, 0xE3, 0xFF,
+    ):  # fmt: skip
         yield Wish(f"hash type {kind:02x} before BIP 66", joined(signature(0, code, kind)), code, OLD)
         other = lambda tx, at, kind=kind: e(signature(0, code, kind)(tx, at)[:-1] + bytes([kind ^ 1]))  # noqa: E731
         yield Wish(f"hash type {kind:02x}, said to be {kind ^ 1:02x}", other, code)
@@ -81,7 +84,9 @@ def separators() -> Iterator[Wish]:
         yield Wish(f"CODESEPARATOR {name}", joined(signature(0, code)), spent)
         whole = bytes(b for b in spent if b != 0xAB)
         if code != spent:
-            yield Wish(f"CODESEPARATOR {name}: signed as if it weren't there", joined(signature(0, spent if name == "in a push" else whole)), spent)
+            yield Wish(
+                f"CODESEPARATOR {name}: signed as if it weren't there", joined(signature(0, spent if name == "in a push" else whole)), spent,
+            )  # fmt: skip
         yield Wish(f"CODESEPARATOR {name}: signed with a byte more", joined(signature(0, b"\x61" + code)), spent)
     yield Wish("CODESEPARATOR of the input", joined(signature(0, key + b"\xac"), b"\xab"), key + b"\xac")
     twice = e(KEYS[0]) + b"\xab\xad" + e(KEYS[1]) + b"\xac"
@@ -111,10 +116,14 @@ def taken_out() -> Iterator[Wish]:
     yield Wish("taken out: twice", within(b"\x75" + end, lambda s: e(s) + b"\x75" + e(s) + end), b"\x61")
     yield Wish("taken out: behind CHECKSIG", within(end + b"\x75\x51", lambda s: e(s) + end + e(s) + b"\x75\x51"), b"\x61")
     yield Wish("taken out: not by PUSHDATA1", within(end, lambda s: b"\x4c" + bytes([len(s)]) + s + end), b"\x61")
-    yield Wish("taken out: not from within a push", within(b"\x76\x75" + end, lambda s: e(b"\x07" + e(s)) + b"\x75" + e(s) + end), b"\x61")
+    yield Wish(
+        "taken out: not from within a push", within(b"\x76\x75" + end, lambda s: e(b"\x07" + e(s)) + b"\x75" + e(s) + end), b"\x61",
+    )  # fmt: skip
     yield Wish("taken out: with a separator", within(end, lambda s: e(s) + b"\xab" + end), b"\x61")
     yield Wish("taken out: not executed", within(b"\x00\x63\x68" + end, lambda s: e(s) + b"\x00\x63" + e(s) + b"\x68" + end), b"\x61")
-    yield Wish("taken out: another signature isn't", within(e(b"\7" * 70) + b"\x75" + end, lambda s: e(s) + e(b"\7" * 70) + b"\x75" + end), b"\x61")
+    yield Wish(
+        "taken out: another signature isn't", within(e(b"\7" * 70) + b"\x75" + end, lambda s: e(s) + e(b"\7" * 70) + b"\x75" + end), b"\x61",
+    )  # fmt: skip
     yield Wish("taken out: an empty signature isn't asked", b"\x00" + end + b"\x91", b"\x61")
 
     def wide(size: int, how: Callable[[bytes], bytes]) -> Callable[[bytes], bytes]:
@@ -132,7 +141,9 @@ def taken_out_by_many() -> Iterator[Wish]:
     key = e(KEYS[0])
     several = b"\x51" + key + b"\x51\xae"
     yield Wish("taken out by CHECKMULTISIG", within(b"\x00" + several, lambda s: b"\x00" + e(s) + several), b"\x61")
-    yield Wish("taken out by CHECKMULTISIG, twice", within(b"\x75\x00" + several, lambda s: e(s) + b"\x75\x00" + e(s) + several), b"\x61")
+    yield Wish(
+        "taken out by CHECKMULTISIG, twice", within(b"\x75\x00" + several, lambda s: e(s) + b"\x75\x00" + e(s) + several), b"\x61",
+    )  # fmt: skip
     yield Wish("taken out by CHECKMULTISIG: not", within(b"\x57\x00" + several, lambda s: b"\x00" + e(s) + several), b"\x61")
     both = b"\x52" + e(KEYS[0]) + e(KEYS[1]) + b"\x52\xae"
 
@@ -143,7 +154,9 @@ def taken_out_by_many() -> Iterator[Wish]:
     yield Wish("taken out by CHECKMULTISIG, both", two, b"\x61")
     one_bare = b"\x51" + e(KEYS[0]) + b"\x51\xae"
     shown = signature(0, e(b"\x01\x01") + b"\x75\x00" + one_bare)
-    yield Wish("taken out by CHECKMULTISIG: no other push", lambda tx, at: e(b"\x01\x01") + b"\x75\x00" + e(shown(tx, at)) + one_bare, b"\x61")
+    yield Wish(
+        "taken out by CHECKMULTISIG: no other push", lambda tx, at: e(b"\x01\x01") + b"\x75\x00" + e(shown(tx, at)) + one_bare, b"\x61",
+    )  # fmt: skip
 
 
 def widened(signature: bytes, size: int) -> bytes:
@@ -264,7 +277,9 @@ def odd_shapes() -> Iterator[Wish]:
     for text in shapes:
         for flags in (ALL, OLD):
             yield Wish(f"a signature {text.replace(' ', '')}, not", e(bytes.fromhex(text)), no, flags)
-        yield Wish(f"a signature {text.replace(' ', '')} in a branch that isn't taken", e(bytes.fromhex(text)), b"\x00\x63" + no + b"\x68\x51")
+        yield Wish(
+            f"a signature {text.replace(' ', '')} in a branch that isn't taken", e(bytes.fromhex(text)), b"\x00\x63" + no + b"\x68\x51",
+        )  # fmt: skip
     for flags in (ALL, OLD, ("CSV",), ("DERSIG", "CSV")):
         yield Wish("an empty signature, not", b"\x00", no, flags)
         yield Wish("an empty signature", b"\x00", code, flags)
@@ -317,7 +332,10 @@ def multisig_stacks() -> Iterator[Wish]:
     yield Wish("CHECKMULTISIGVERIFY 0 of 0", b"\x00", b"\x00\x00\xaf\x51")
     for last in (b"\xae", b"\xaf"):
         yield Wish("CHECKMULTISIG: not executed", b"", b"\x00\x63" + last + b"\x68\x51")
-        for own in (b"", b"\x00", b"\x00\x00", b"\x51", b"\x00\x51", b"\x00\x51\x51", b"\x00\x00\x51\x51", b"\x00\x00\x51\x51\x51", b"\x51\x51\x52"):
+        for own in (
+                b"", b"\x00", b"\x00\x00", b"\x51", b"\x00\x51", b"\x00\x51\x51",
+                b"\x00\x00\x51\x51", b"\x00\x00\x51\x51\x51", b"\x51\x51\x52",
+        ):  # fmt: skip
             yield Wish(f"CHECKMULTISIG over {own.hex() or '-'}", own, last + TRUE)
 
 
@@ -327,7 +345,9 @@ def multisig_counts() -> Iterator[Wish]:
     for wanted, count in ((-1, 1), (-1, 0), (0, 1), (-2, 2), (-1, 3)):
         yield Wish(f"CHECKMULTISIG {wanted} of {count}", b"\x00" + n(wanted) + b"\x52" * count + n(count), b"\xae")
     for wanted, count in ((-1, 1), (2, 1), (1, 0), (4, 3), (3, 3), (21, 20), (-1, 0)):
-        yield Wish(f"CHECKMULTISIG {wanted} of {count}, not", b"\x00" + b"\x00" * max(wanted, 0) + n(wanted) + b"\x52" * count + n(count), b"\xae\x91")
+        yield Wish(
+            f"CHECKMULTISIG {wanted} of {count}, not", b"\x00" + b"\x00" * max(wanted, 0) + n(wanted) + b"\x52" * count + n(count), b"\xae\x91",
+        )  # fmt: skip
     for long in (b"\1\0\0\0", b"\1\0\0\0\0", b"\1\0"):
         yield Wish("CHECKMULTISIG: a long number of keys", b"\x00\x00\x52" + e(long), b"\xae")
         yield Wish("CHECKMULTISIG: a long number of signatures", b"\x00\x00" + e(long) + b"\x52\x51", b"\xae\x91")

@@ -119,12 +119,17 @@ def locks() -> Iterator[Wish]:
 
 def lock_values() -> Iterator[Wish]:
     for wanted in (499999999, 500000000, 500000001, 1296688601, 1296688602, 1296688603, 100):
-        yield Wish(f"CHECKLOCKTIMEVERIFY {wanted} at 1296688602", b"", n(wanted) + b"\xb1\x75\x51", lock_time=1296688602, sequences=(3,))
+        yield Wish(
+            f"CHECKLOCKTIMEVERIFY {wanted} at 1296688602", b"", n(wanted) + b"\xb1\x75\x51", lock_time=1296688602, sequences=(3,),
+        )  # fmt: skip
     for wanted in (0, 1, 99, 499999999, 500000000, 500000001):
         yield Wish(f"CHECKLOCKTIMEVERIFY {wanted} at 500000000", b"", n(wanted) + b"\xb1\x75\x51", lock_time=500000000, sequences=(3,))
     for wanted in (0, 1, 500000000):
         yield Wish(f"CHECKLOCKTIMEVERIFY {wanted} at 0", b"", n(wanted) + b"\xb1\x75\x51", sequences=(3,))
-    for top in (b"", b"\0", b"\x80", b"\x64\0\0\0\0", b"\x64\0\0\0\0\0", b"\1\0\0\0\x80", b"\x64\0", b"\x65\0\0\0", b"\x81", b"\1\0\0\0\0", b"\1\0\0\0\0\0", bytes(5), bytes(6)):
+    for top in (
+            b"", b"\0", b"\x80", b"\x64\0\0\0\0", b"\x64\0\0\0\0\0", b"\1\0\0\0\x80", b"\x64\0",
+            b"\x65\0\0\0", b"\x81", b"\1\0\0\0\0", b"\1\0\0\0\0\0", bytes(5), bytes(6),
+    ):  # fmt: skip
         yield Wish(f"CHECKLOCKTIMEVERIFY of {top.hex() or '-'}", e(top), b"\xb1\x75\x51", lock_time=100, sequences=(3,))
         yield Wish(f"CHECKSEQUENCEVERIFY of {top.hex() or '-'}", e(top), b"\xb2\x75\x51", version=2, sequences=(100 | HIGH,))
         yield Wish(f"CHECKLOCKTIMEVERIFY of {top.hex() or '-'} at 0", e(top), b"\xb1\x75\x51", sequences=(3,))
@@ -159,14 +164,30 @@ def locks_by_relay() -> Iterator[Wish]:
     # A transaction that isn't final, or whose relative lock isn't met, is in no block.
     for lock_time in (499999998, 499999999):
         for wanted in (499999997, 499999998, 499999999, 500000000):
-            yield Wish(f"CHECKLOCKTIMEVERIFY {wanted} at {lock_time}", b"", n(wanted) + b"\xb1", lock_time=lock_time, sequences=(3,), by_block=False)
+            yield Wish(
+                f"CHECKLOCKTIMEVERIFY {wanted} at {lock_time}", b"", n(wanted) + b"\xb1", lock_time=lock_time, sequences=(3,), by_block=False,
+            )  # fmt: skip
     for lock_time in (2**31 - 1, 2**31, 2**32 - 1):
         for wanted in (2**31 - 1, 2**31, 2**32 - 1, 2**32, 2**39 - 1):
-            yield Wish(f"CHECKLOCKTIMEVERIFY {wanted} at {lock_time}", b"", n(wanted) + b"\xb1", lock_time=lock_time, sequences=(0,), by_block=False)
+            yield Wish(
+                f"CHECKLOCKTIMEVERIFY {wanted} at {lock_time}", b"", n(wanted) + b"\xb1", lock_time=lock_time, sequences=(0,), by_block=False,
+            )  # fmt: skip
     for sequence in (FINAL, FINAL - 1, HIGH - 1, HIGH, 0):
-        yield Wish(f"CHECKLOCKTIMEVERIFY with the sequence {sequence:x}", b"", b"\x51\xb1", lock_time=2**31, sequences=(sequence,), by_block=False)
-        yield Wish(f"CHECKLOCKTIMEVERIFY of a time with the sequence {sequence:x}", b"", n(500000000) + b"\xb1", lock_time=2**31, sequences=(sequence,), by_block=False)
-    for sequence in (0, 1, 5, 65535, TIMED, TIMED | 5, TIMED | 65535, HIGH, HIGH | 5, HIGH | TIMED | 5, 0x10005, 0x200005, 0x800005, 0x40000005, FINAL):
-        for wanted in (1, 4, 5, 6, 65535, TIMED, TIMED | 5, TIMED | 6, 0x10005, 0x200005, 0x800004, 0x40000005, HIGH, HIGH | 6, 2**32, 2**39 - 1):
+        yield Wish(
+            f"CHECKLOCKTIMEVERIFY with the sequence {sequence:x}", b"", b"\x51\xb1", lock_time=2**31, sequences=(sequence,), by_block=False,
+        )  # fmt: skip
+        yield Wish(
+            f"CHECKLOCKTIMEVERIFY of a time with the sequence {sequence:x}", b"", n(500000000) + b"\xb1", lock_time=2**31, sequences=(sequence,), by_block=False,
+        )  # fmt: skip
+    for sequence in (
+            0, 1, 5, 65535, TIMED, TIMED | 5, TIMED | 65535, HIGH, HIGH | 5,
+            HIGH | TIMED | 5, 0x10005, 0x200005, 0x800005, 0x40000005, FINAL,
+    ):  # fmt: skip
+        for wanted in (
+                1, 4, 5, 6, 65535, TIMED, TIMED | 5, TIMED | 6, 0x10005,
+                0x200005, 0x800004, 0x40000005, HIGH, HIGH | 6, 2**32, 2**39 - 1,
+        ):  # fmt: skip
             if (sequence * 7 + wanted * 3) % 5 < 2 or sequence in (5, TIMED | 5):
-                yield Wish(f"CHECKSEQUENCEVERIFY {wanted:x} at {sequence:x}", b"", n(wanted) + b"\xb2", version=2, sequences=(sequence,), by_block=False)
+                yield Wish(
+                    f"CHECKSEQUENCEVERIFY {wanted:x} at {sequence:x}", b"", n(wanted) + b"\xb2", version=2, sequences=(sequence,), by_block=False,
+                )  # fmt: skip

@@ -50,7 +50,9 @@ def rules() -> Iterator[Tx]:
     yield Tx(1, [PLAIN._replace(place=k) for k in range(40)] + [PLAIN._replace(place=39)], [ONE], 0)
     yield Tx(1, [PLAIN, PLAIN], [Output(-1, b"")], 0)
     yield Tx(1, [PLAIN, PLAIN], [], 0)
-    for id, index in ((bytes(32), FINAL), (bytes(32), FINAL - 1), (bytes(32), 0), (b"\1" + bytes(31), FINAL), (bytes(31) + b"\1", FINAL)):
+    for id, index in (
+            (bytes(32), FINAL), (bytes(32), FINAL - 1), (bytes(32), 0), (b"\1" + bytes(31), FINAL), (bytes(31) + b"\1", FINAL),
+    ):  # fmt: skip
         null = Input(id, index, b"\1\2", FINAL)
         yield Tx(1, [PLAIN, null], [ONE], 0)
         yield Tx(1, [null, PLAIN], [ONE], 0)
@@ -82,7 +84,10 @@ def broken() -> Iterator[bytes]:
         if end % 3 == 0 or end in (4, 5, 37, 41, 42, 43, 46, 47, 48, 56, 57, 58, 61):
             yield whole[:end]
     places = (4, 41, 47, 56)
-    forms = ("fd0100", "fdfc00", "fe01000000", "feffff0000", "fe01000002", "ff0100000000000000", "ffffffffff00000000", "ff0000000001000000", "fd01", "ff00")
+    forms = (
+        "fd0100", "fdfc00", "fe01000000", "feffff0000", "fe01000002", "ff0100000000000000", "ffffffffff00000000", "ff0000000001000000",
+        "fd01", "ff00",
+    )  # fmt: skip
     for place in places:
         for form in forms:
             yield whole[:place] + bytes.fromhex(form) + whole[place + 1 :]
@@ -100,7 +105,7 @@ def row_of(chain: Chain, tx: Tx) -> List[Any]:
     inputs = [[i.prevout.hash.hex(), i.prevout.n, bytes(i.scriptSig).hex(), i.nSequence] for i in theirs.vin]
     outputs = [[o.nValue, bytes(o.scriptPubKey).hex()] for o in theirs.vout]
     id = theirs.GetTxid()[::-1].hex()
-    core = [[_id(i), i.get("vout", FINAL), i["scriptSig"]["hex"] if "scriptSig" in i else i["coinbase"], i["sequence"]] for i in found["vin"]]
+    core = [[_id(i), i.get("vout", FINAL), _script(i), i["sequence"]] for i in found["vin"]]
     if core != inputs or [o["scriptPubKey"]["hex"] for o in found["vout"]] != [o[1] for o in outputs]:
         raise Disagree(f"litecoind reads {found} and python3-bitcoinlib {theirs}")
     if (found["txid"], found["version"], found["locktime"]) != (id, theirs.nVersion % (1 << 32), theirs.nLockTime):
@@ -122,6 +127,10 @@ def row_of(chain: Chain, tx: Tx) -> List[Any]:
 
 def _id(input: Dict[str, Any]) -> str:
     return bytes.fromhex(input["txid"])[::-1].hex() if "txid" in input else bytes(32).hex()
+
+
+def _script(input: Dict[str, Any]) -> str:
+    return str(input["scriptSig"]["hex"] if "scriptSig" in input else input["coinbase"])
 
 
 def reason_of(chain: Chain, tx: Tx, data: bytes) -> Tuple[str, str]:
