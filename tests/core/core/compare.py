@@ -5,29 +5,26 @@ from collections import Counter
 from dataclasses import dataclass, field
 from pathlib import Path
 from types import TracebackType
-from typing import List, NamedTuple, Optional, Tuple, Type
+from typing import Callable, List, NamedTuple, Optional, Tuple, Type
 
 from wakotehu.encoding import GENESIS
 
-from .model import CoreTree
+from .chainstate import Chainstate
 from .peer import HEIGHTS, Peer, remove
-from .playing import (
-    Base, Lines, Seen, Verdicts, coins_at, play_library, play_model, play_peer, play_program, write_scenario,
-)  # fmt: skip
+from .playing import CORE, OURS, Base, Lines, Played, model, play_library, play_model, play_peer, play_program, write_scenario
 from .trees import List_, Maker
 
 
 class Difference(NamedTuple):
-    """A step at which the peer's answer isn't explained: what, where, and who said what."""
+    """A step at which an answer isn't what it has to be: what, where, what was answered, and what the rules say."""
 
     what: str
     step: int
-    core: object
-    ours: object
+    found: object
     expected: object
 
     def __str__(self) -> str:
-        return f"{self.what} at step {self.step}\n  Core      {self.core}\n  ours      {self.ours}\n  expected  {self.expected}"
+        return f"{self.what} at step {self.step}\n  answered  {self.found}\n  expected  {self.expected}"
 
 
 @dataclass
@@ -36,47 +33,72 @@ class Tally:
 
     lists: int = 0
     commands: int = 0
-    #: Commands after which both said the same, and after which they differ as Bitcoin Core's bookkeeping says.
+    #: Commands after which both said the same, and after which each said what it has to.
     equal: int = 0
-    explained: int = 0
-    #: Commands from where on the answer hangs on addresses.
+    apart: int = 0
+    #: Commands from where on the peer's answer hangs on addresses; ours are compared there too.
     unclear: int = 0
-    sets: int = 0
+    #: Replies of ours, and what the blocks that were tried over their coins came to, on the active branch or instead of it.
     replies: "Counter[str]" = field(default_factory=Counter)
+    tries: "Counter[Tuple[str, bool]]" = field(default_factory=Counter)
 
 
-def compare(
-    core: List[Seen], ours: List[Seen], expected: List[Optional[Seen]], tally: Tally
-) -> Optional[Difference]:
-    """The first step at which the peer's answer isn't the expected one, or a coin differs beside one best block."""
-    for step, (theirs, own, said) in enumerate(zip(core, ours, expected)):
+class Four(NamedTuple):
+    """What four said of a list: the peer, ours, and what each has to say."""
+
+    core: Played
+    ours: Played
+    core_expected: Played
+    ours_expected: Played
+    #: Of what is expected of ours.
+    chain: Chainstate
+
+
+def differs(who: str, found: Played, expected: Played) -> Optional[Difference]:
+    """The first step at which it isn't what it has to be, or the coins at the end."""
+    for step, (seen, said) in enumerate(zip(found.seen, expected.seen)):
         if said is None:
-            tally.unclear += len(core) - step
             return None
-        if theirs._replace(reads=()) != said:
-            return Difference("an answer that no known difference explains", step, theirs, own, said)
-        if theirs.best == own.best and theirs.reads != own.reads:
-            return Difference("coins differ", step, theirs.reads, own.reads, None)
+        if seen != said:
+            return Difference(f"{who}: another answer", step, seen, said)
+    if found.coins != expected.coins:
+        return Difference(f"{who}: other coins at the end", len(found.seen) - 1, found.coins, expected.coins)
+    return None
+
+
+def count(four: Four, tally: Tally) -> None:
+    tally.lists += 1
+    for theirs, own, said in zip(four.core.seen, four.ours.seen, four.core_expected.seen):
+        assert own is not None
         tally.commands += 1
-        tally.replies[theirs.reply] += 1
-        if theirs == own:
+        tally.replies[own.reply.split(" ")[0]] += 1
+        if said is None:
+            tally.unclear += 1
+        elif theirs == own.as_core():
             tally.equal += 1
         else:
-            tally.explained += 1
-    return None
+            tally.apart += 1
+    for tried in four.chain.tries:
+        tally.tries[(tried.reason.split(" ")[0], tried.is_reorganisation)] += 1
+
+
+def as_core(played: Played) -> Played:
+    return played._replace(seen=[seen and seen.as_core() for seen in played.seen])
 
 
 class Bench:
     """A peer over a base, and lists that are played on it."""
 
     def __init__(self, height: int, room: Path, program: Optional[str] = None, kept: Optional[Path] = None) -> None:
-        self.maker, self.base = Maker(height), Base()
+        self.maker = Maker(height)
+        self.base = Base(self.maker.base)
+        self.product: Callable[[Lines], Played] = play_library
         self.height, self.program = height, program
         self.folder = room / f"peer-{height}"
         if kept is not None and (kept / f"base-{height}").exists():
             shutil.copytree(kept / f"base-{height}", self.folder)
         self.peer = Peer(self.folder)
-        self.reverse, self.precious_work = -1, 0
+        self.reverse, self.precious_height = -1, 0
         self._lay_base()
         if kept is not None and not (kept / f"base-{height}").exists():
             self.peer.stop(is_kept=True)
@@ -101,33 +123,29 @@ class Bench:
         self.peer.stop()
         remove(self.folder)
 
-    def play(self, list_: List_, tally: Tally) -> Optional[Difference]:
-        """Plays a list at both: the first difference that isn't explained."""
+    def ask(self, list_: List_) -> Tuple[Lines, Four]:
+        """Plays a list at both, and by what each has to say."""
         lines = Lines(self.base, list_)
-        core = play_peer(self.peer, lines)
-        ours = play_library(lines)
-        expected = self.expect(lines)
-        if self.program is not None:
-            printed = play_program(self.program, lines)
-            if printed != ours:
-                step = next(n for n, (a, b) in enumerate(zip(printed, ours)) if a != b)
-                return Difference("the program and the library differ", step, None, ours[step], printed[step])
-        tally.lists += 1
-        found = compare(core.seen, ours, expected, tally)
-        if found is not None or not core.seen:
-            return found
-        coins = coins_at(lines, core.seen[-1].best)
-        if coins != core.coins:
-            return Difference("the coins at the end differ", len(ours) - 1, core.coins, coins, coins)
-        tally.sets += 1
-        return None
+        core, core_expected = play_peer(self.peer, lines), self.expect(lines)
+        chain = model(OURS, self.base, lines)
+        return lines, Four(core, self.product(lines), core_expected, play_model(lines, chain), chain)
 
-    def expect(self, lines: Lines) -> List[Optional[Seen]]:
-        """What Bitcoin Core's bookkeeping makes of a list, behind the lists before it."""
-        tree = CoreTree(Verdicts(lines), self.height, reverse=self.reverse, precious_work=self.precious_work)
-        expected = play_model(lines, tree)
-        self.reverse, self.precious_work = tree.reverse, tree.precious_work
-        if None in expected:
+    def play(self, list_: List_, tally: Tally) -> Optional[Difference]:
+        """The first answer of a list that isn't what it has to be."""
+        lines, four = self.ask(list_)
+        count(four, tally)
+        found = differs("ours", four.ours, four.ours_expected) or differs("Core", four.core, as_core(four.core_expected))
+        if found is None and self.program is not None:
+            printed = Played(play_program(self.program, lines), four.ours.coins)
+            found = differs("the program", printed, four.ours_expected)
+        return found
+
+    def expect(self, lines: Lines) -> Played:
+        """What Bitcoin Core says of a list, behind the lists before it."""
+        chain = model(CORE, self.base, lines, self.reverse, self.precious_height)
+        expected = play_model(lines, chain)
+        self.reverse, self.precious_height = chain.reverse, chain.precious_height
+        if None in expected.seen:
             self._restart()
         return expected
 
@@ -136,7 +154,7 @@ class Bench:
         self.peer.stop(is_kept=True)
         self.peer = Peer(self.folder)
         self.peer.call("setmocktime", GENESIS.time + 600 * self.height + 10**6)
-        self.reverse, self.precious_work = -1, 0
+        self.reverse, self.precious_height = -1, 0
 
     def shrink(self, list_: List_) -> Tuple[List_, Difference]:
         """The list with as few commands as still differ, and how. Each trial has blocks of its own."""

@@ -6,7 +6,7 @@ stand its faults. Each step has what Bitcoin Core answers and what ours does.
 
 from typing import Callable, Dict, List, NamedTuple, Tuple
 
-from wakotehu.encoding import Input, Output, Transaction, coinbase, hash160, push, push_number, subsidy
+from wakotehu.encoding import Input, Output, Transaction, coinbase, hash160, merkle_root, push, push_number, subsidy
 
 from .spelling import ROOT, Logical
 from .trees import FINAL, TRUE, Command, List_, Maker
@@ -21,12 +21,19 @@ class Step(NamedTuple):
 
 
 class Kind(NamedTuple):
-    """A kind of difference: its name in docs/CORE.md, blocks, and steps; the height of the base that it wants."""
+    """A kind of difference: its name in docs/CORE.md, blocks, and steps; the height of the base that it wants; and the kind
+    of which it is another case."""
 
     name: str
     blocks: Tuple[str, ...]
     steps: Tuple[Step, ...]
     base: int = 0
+    case_of: str = ""
+
+    @property
+    def switch(self) -> str:
+        """The switch of the rules (rules.py) that it stands for."""
+        return self.case_of or self.name
 
 
 def _step(text: str) -> Step:
@@ -34,9 +41,9 @@ def _step(text: str) -> Step:
     return Step(command, core, ours)
 
 
-def _kind(name: str, blocks: str, steps: str, base: int = 0) -> Kind:
+def _kind(name: str, blocks: str, steps: str, base: int = 0, case_of: str = "") -> Kind:
     lines = [line for line in steps.strip().splitlines() if line.strip()]
-    return Kind(name, tuple(line.strip() for line in blocks.strip().splitlines()), tuple(map(_step, lines)), base)
+    return Kind(name, tuple(line.strip() for line in blocks.strip().splitlines()), tuple(map(_step, lines)), base, case_of)
 
 
 KINDS: Tuple[Kind, ...] = (
@@ -69,6 +76,7 @@ KINDS: Tuple[Kind, ...] = (
         invalidate a1  | done, base       | done, base
         reconsider x2  | done, a1         | done, a2
         """,
+        case_of="marks above an invalidated block",
     ),
     _kind(
         "a child of a marked branch that was valid",
@@ -148,6 +156,29 @@ KINDS: Tuple[Kind, ...] = (
         submit a1      | accepted, a1      | accepted, a1
         submit b1      | inconclusive, a1  | inconclusive, a1
         submit b1      | duplicate, a1     | duplicate-inconclusive, a1
+        """,
+    ),
+    _kind(
+        "other bytes under the header of a block that was never tried",
+        """
+        a1 on base
+        b1 on base of three transactions
+        c1 on base its last transaction twice
+        """,
+        """
+        submit a1      | accepted, a1           | accepted, a1
+        submit b1      | inconclusive, a1       | inconclusive, a1
+        submit c1      | bad-txns-duplicate, a1 | duplicate-inconclusive, a1
+        submit b1      | duplicate, a1          | duplicate-inconclusive, a1
+        """,
+    ),
+    _kind(
+        "a block that begins with no coinbase",
+        """
+        a1 on base without coinbase and work
+        """,
+        """
+        submit a1      | bad-cb-missing, base | high-hash, base
         """,
     ),
     _kind(
@@ -269,6 +300,22 @@ def _another_height(block: Logical, height: int, maker: Maker, blocks: List[Logi
     block.transactions[0] = tx._replace(inputs=[tx.inputs[0]._replace(script=own)])
 
 
+def _three(block: Logical, height: int, maker: Maker, blocks: List[Logical]) -> None:
+    block.transactions += [Transaction(1, [Input(bytes([n]) * 32, 0, b"", FINAL)], [Output(0, TRUE)], 0) for n in (8, 9)]
+
+
+def _last_twice(block: Logical, height: int, maker: Maker, blocks: List[Logical]) -> None:
+    """The block before it, with its last transaction twice."""
+    other = blocks[-1]
+    block.root = merkle_root([tx.id for tx in other.transactions])
+    block.transactions = other.transactions + other.transactions[-1:]
+
+
+def _no_coinbase_and_work(block: Logical, height: int, maker: Maker, blocks: List[Logical]) -> None:
+    block.transactions[0] = Transaction(1, [Input(b"\7" * 32, 0, b"", FINAL)], [Output(0, TRUE)], 0)
+    block.works = False
+
+
 def _bytes_behind(block: Logical, height: int, maker: Maker, blocks: List[Logical]) -> None:
     block.behind = b"\0"
 
@@ -305,6 +352,9 @@ FAULTS: Dict[str, Callable[[Logical, int, Maker, List[Logical]], None]] = {
     "too old": _too_old,
     "not final": _not_final,
     "another height": _another_height,
+    "of three transactions": _three,
+    "its last transaction twice": _last_twice,
+    "without coinbase and work": _no_coinbase_and_work,
     "bytes behind": _bytes_behind,
     "no inputs": _no_inputs,
     "bits 1d00ffff": _own_bits,

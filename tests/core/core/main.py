@@ -8,10 +8,9 @@ from collections import Counter
 from pathlib import Path
 from typing import Dict, List, Sequence
 
-from . import differences, peer, scripts, table
+from . import differences, peer, planted, scripts, table
 from .compare import Bench, Tally
-from .planted import RULES, Finder
-from .playing import Lines, play_library, play_peer
+from .rules import ALL_KINDS
 
 #: Heights of bases: none, round maturity, round halvings, and below and above each soft fork.
 SHORT_BASES = (110,)
@@ -27,7 +26,7 @@ def main(words: Sequence[str]) -> int:
     print(peer.version())
     with tempfile.TemporaryDirectory() as room:
         run = _Run(options, Path(room))
-        faults = run.kinds() + run.table() + run.lists() + run.pairs() + run.planted()
+        faults = run.kinds() + run.table() + run.lists() + run.pairs()
     print(f"{time.monotonic() - begun:.0f} seconds, {'no difference that docs/CORE.md lacks' if not faults else f'{faults} faults'}")
     return 1 if faults else 0
 
@@ -54,19 +53,18 @@ class _Run:
         return Bench(height, self.room, self.options.program, self.options.keep)
 
     def kinds(self) -> int:
-        """Each kind of difference is as docs/CORE.md has it."""
-        faults = 0
+        """Each kind of difference is as docs/CORE.md has it, and each switch of the rules is one of them."""
+        faults = [f"no small list for {kind}" for kind in ALL_KINDS - {kind.switch for kind in differences.KINDS}]
         by_base: Dict[int, List[differences.Kind]] = {}
         for kind in differences.KINDS:
             by_base.setdefault(kind.base, []).append(kind)
         for height, kinds in by_base.items():
             with self._bench(height) as bench:
-                for kind in kinds:
-                    for fault in show(bench, kind):
-                        faults += 1
-                        print(f"FAULT {kind.name}: {fault}")
-        print(f"{len(differences.KINDS)} kinds of differences, each as docs/CORE.md has it" if not faults else "")
-        return faults
+                faults += [f"{kind.name}: {fault}" for kind in kinds for fault in planted.kind_faults(bench, kind)]
+        for fault in faults:
+            print(f"FAULT {fault}")
+        print(f"{len(differences.KINDS)} kinds of differences" + (", each as docs/CORE.md has it" if not faults else ""))
+        return len(faults)
 
     def table(self) -> int:
         """The table of scenarios at both, on a peer of its own each."""
@@ -81,12 +79,12 @@ class _Run:
                     print(f"FAULT the scenario {name}: {found}")
         print(
             f"{tally.lists} scenarios of the table, {tally.commands} commands: {tally.equal} answered alike, "
-            f"{tally.explained} otherwise as foretold"
+            f"{tally.apart} otherwise, each as it has to be"
         )
         return faults
 
     def lists(self) -> int:
-        """Random lists at both."""
+        """Random lists at both; then wrong products against what was recorded."""
         faults, tally = 0, Tally()
         for height in SHORT_BASES if self.short else BASES:
             count = self.options.lists or (8 if self.short else 60 if height < 600 else 20)
@@ -97,12 +95,24 @@ class _Run:
                     if found is not None:
                         faults += 1
                         print("FAULT " + bench.report(list_, found))
+                if height == SHORT_BASES[0]:
+                    faults += self._products(bench)
         print(
-            f"{tally.lists} lists, {tally.commands} commands: {tally.equal} answered alike, {tally.explained} otherwise as "
-            f"Bitcoin Core's bookkeeping says, {tally.unclear} behind a tie by addresses; {tally.sets} whole sets of coins "
-            f"alike"
+            f"{tally.lists} lists, {tally.commands} commands: {tally.equal} answered alike, {tally.apart} otherwise, each as "
+            f"it has to be; {tally.unclear} behind a tie by addresses"
         )
         print("  " + ", ".join(f"{word} {count}" for word, count in tally.replies.most_common()))
+        return faults
+
+    def _products(self, bench: Bench) -> int:
+        """Wrong products are found."""
+        faults = 0
+        recorded = [planted.record(bench, bench.maker.list(seed)) for seed in range(5001, 5041)]
+        for name, change in planted.products(recorded).items():
+            if planted.product_found(recorded, change) is None:
+                faults += 1
+                print(f"FAULT a wrong product isn't found: {name}")
+        print(f"{len(planted.products(recorded))} wrong products, each found")
         return faults
 
     def pairs(self) -> int:
@@ -127,42 +137,6 @@ class _Run:
                 faults += 1
                 print(f"FAULT no pair finds a wrong rule: {name}")
         return faults
-
-    def planted(self) -> int:
-        """Wrong rules of blocks and their tree are found."""
-        if self.short:
-            return 0
-        faults = 0
-        with self._bench(110) as bench:
-            finder = Finder(bench, LISTS_TO_FIND)
-            for wrong in RULES:
-                count = finder.find(wrong)
-                faults += count is None
-                print(f"  {wrong.name}: " + (f"found in list {count}" if count else f"FAULT, not found in {LISTS_TO_FIND} lists"))
-        print(f"{len(RULES)} wrong rules planted")
-        return faults
-
-
-#: In so many lists each wrong rule has to be found.
-LISTS_TO_FIND = 60
-
-
-def show(bench: Bench, kind: differences.Kind) -> List[str]:
-    """In what a kind of difference isn't as it is written."""
-    list_, names = differences.made(kind, bench.maker)
-    lines = Lines(bench.base, list_)
-    back: Dict[int, str] = {number: name for name, number in names.items() if number >= list_.base}
-    back[-1] = "base"
-    core, ours = play_peer(bench.peer, lines).seen, play_library(lines)
-    # The peer's counts go on.
-    bench.expect(lines)
-    faults = []
-    for step, theirs, own in zip(kind.steps, core, ours):
-        for who, seen, said in (("Core", theirs, step.core), ("ours", own, step.ours)):
-            answer = f"{seen.reply}, {back[seen.best]}"
-            if answer != said:
-                faults.append(f"{step.command}: {who} answers {answer}, not {said}")
-    return faults
 
 
 if __name__ == "__main__":

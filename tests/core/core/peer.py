@@ -42,10 +42,14 @@ def is_there() -> bool:
     return shutil.which(PROGRAM) is not None
 
 
+def work(header: bytes) -> int:
+    """What is compared with a target: scrypt of the header, as a number."""
+    return int.from_bytes(hashlib.scrypt(header, salt=header, n=1024, r=1, p=1, dklen=32), "little")
+
+
 def has_work(header: bytes) -> bool:
-    """Whether the header meets the target of regtest by scrypt."""
-    digest = hashlib.scrypt(header, salt=header, n=1024, r=1, p=1, dklen=32)
-    return int.from_bytes(digest, "little") <= 0x7FFFFF << 232
+    """Whether the header meets the target of regtest."""
+    return work(header) <= 0x7FFFFF << 232
 
 
 class Peer:

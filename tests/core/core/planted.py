@@ -1,165 +1,109 @@
-"""Wrong rules, planted in what is expected of the peer: each has to be found."""
+"""Wrong products and wrong rules, each of which has to be found.
 
-from typing import Callable, List, NamedTuple, Optional, Type
+A wrong product is the library with its answers changed: it is found where it isn't what the rules say. A wrong rule is
+planted in the rules (rules.py, chainstate.py): it is found where the peer's answers contradict it, and where ours do.
+"""
 
-from .compare import Bench
-from .model import CoreTree, Node, Verdict
-from .playing import Lines, Seen, Verdicts, play_model, play_peer
+from typing import Callable, Dict, Iterator, NamedTuple, Optional, Sequence
 
-Verdicts_ = Callable[[int], Verdict]
-
-
-class Wrong(NamedTuple):
-    """A wrong rule: of the bookkeeping (a tree), or of blocks (what it makes of a verdict)."""
-
-    name: str
-    tree: Type[CoreTree] = CoreTree
-    verdict: Optional[Callable[[Verdict], Verdict]] = None
+from .compare import Bench, Difference, Four, as_core, differs
+from .differences import Kind, made
+from .playing import CORE, OURS, Base, Lines, Seen, Setting, model, play_model
+from .rules import ALL_KINDS
+from .trees import List_
 
 
-class _LaterWins(CoreTree):
-    def _best(self) -> Optional[Node]:
-        for node in self.nodes.values():
-            node.sequence = -abs(node.sequence)
-        return super()._best()
+class Recorded(NamedTuple):
+    """A list that was played, and the peer's count of preferences before it."""
 
-
-class _OwnLineAlone(CoreTree):
-    def reconsider(self, number: int) -> str:
-        node = self.nodes.get(number)
-        at = node
-        while at is not None:
-            at.failed_itself = at.failed_below = False
-            if at.has_data and self.tip.rank < at.rank:
-                self.candidates.add(at)
-            at = at.parent
-        self._activate()
-        return "not-found" if node is None else "done"
-
-
-class _MarksNothingAbove(CoreTree):
-    def invalidate(self, number: int) -> str:
-        before = {n: n.failed for n in self.nodes.values()}
-        reply = super().invalidate(number)
-        for node, failed in before.items():
-            if node.number != number and not failed:
-                node.failed_itself = node.failed_below = False
-        return reply
-
-
-class _PreciousIsForgotten(CoreTree):
-    def precious(self, number: int) -> str:
-        return "done" if number in self.nodes else "not-found"
-
-
-class _LowerIsPreferred(CoreTree):
-    def precious(self, number: int) -> str:
-        node = self.nodes.get(number)
-        if node is not None and node.height < self.tip.height and node.has_data and not node.failed:
-            self.tip = node
-            return "done"
-        return super().precious(number)
-
-
-class _MarkedIsDuplicate(CoreTree):
-    def submit(self, number: int, parent: Optional[int], too_new: bool) -> str:
-        if number in self.nodes and self.nodes[number].failed:
-            return "duplicate"
-        return super().submit(number, parent, too_new)
-
-
-class _HeaderGoes(CoreTree):
-    def submit(self, number: int, parent: Optional[int], too_new: bool) -> str:
-        reply = super().submit(number, parent, too_new)
-        node = self.nodes.get(number)
-        if node is not None and not node.has_data:
-            del self.nodes[number]
-        return reply
-
-
-class _UntriedIsInconclusive(CoreTree):
-    def submit(self, number: int, parent: Optional[int], too_new: bool) -> str:
-        node = self.nodes.get(number)
-        reply = super().submit(number, parent, too_new)
-        return "duplicate-inconclusive" if node is not None and reply == "duplicate" and not node.was_valid else reply
-
-
-class _NeverTooNew(CoreTree):
-    def submit(self, number: int, parent: Optional[int], too_new: bool) -> str:
-        return super().submit(number, parent, False)
-
-
-class _ChildOfMarkedIsKept(CoreTree):
-    def _header_fault(self, parent: Optional[int], verdict: Verdict, too_new: bool) -> str:
-        reason = super()._header_fault(parent, verdict, too_new)
-        return "" if reason == "bad-prevblk" else reason
-
-
-def _without(reason: str) -> Callable[[Verdict], Verdict]:
-    return lambda verdict: Verdict("", 0) if verdict.reason == reason else verdict
-
-
-RULES: List[Wrong] = [
-    Wrong("of two blocks of one height the later one is active", _LaterWins),
-    Wrong("reconsider takes the marks from a block and what is below alone", _OwnLineAlone),
-    Wrong("invalidate marks one block alone", _MarksNothingAbove),
-    Wrong("precious does nothing", _PreciousIsForgotten),
-    Wrong("precious makes a lower block active", _LowerIsPreferred),
-    Wrong("a marked block that comes again is a duplicate", _MarkedIsDuplicate),
-    Wrong("no header stays of a block that isn't final", _HeaderGoes),
-    Wrong("a block that was never tried is duplicate-inconclusive", _UntriedIsInconclusive),
-    Wrong("no block is too new", _NeverTooNew),
-    Wrong("a child of a marked block is kept", _ChildOfMarkedIsKept),
-    *(
-        Wrong(f"{reason} is no fault", verdict=_without(reason))
-        for reason in (
-            "bad-txns-inputs-missingorspent", "bad-txns-nonfinal", "bad-cb-amount", "blk-bad-inputs", "bad-txns-BIP30",
-            "bad-txns-in-belowout", "bad-blk-sigops", "bad-diffbits", "time-too-old", "high-hash", "bad-txnmrklroot",
-            "bad-txns-vout-toolarge", "bad-cb-length",
-        )  # fmt: skip
-    ),
-]
-
-
-def _changed(right: Verdicts, change: Callable[[Verdict], Verdict]) -> Verdicts_:
-    return lambda number: change(right(number))
-
-
-class _Recorded(NamedTuple):
+    base: Base
     lines: Lines
-    core: List[Seen]
+    four: Four
     reverse: int
-    precious_work: int
+    precious_height: int
+
+    def says(self, setting: Setting) -> Optional[Difference]:
+        """How a model differs from what was answered."""
+        found = self.four.core if setting.is_peer else self.four.ours
+        chain = model(setting, self.base, self.lines, self.reverse, self.precious_height)
+        try:
+            said = play_model(self.lines, chain)
+        except (AssertionError, KeyError, IndexError, StopIteration) as error:
+            return Difference("it falls apart", 0, error, None)
+        return differs("", found, as_core(said) if setting.is_peer else said)
 
 
-class Finder:
-    """Lists that a peer has played, against which wrong rules are held."""
+def record(bench: Bench, list_: List_) -> Recorded:
+    """Plays a list at both, and keeps the answers."""
+    reverse, precious_height = bench.reverse, bench.precious_height
+    lines, four = bench.ask(list_)
+    return Recorded(bench.base, lines, four, reverse, precious_height)
 
-    def __init__(self, bench: Bench, lists: int) -> None:
-        self.bench = bench
-        self.played: List[_Recorded] = []
-        for seed in range(1, lists + 1):
-            lines = Lines(bench.base, bench.maker.list(seed))
-            core = play_peer(bench.peer, lines).seen
-            self.played.append(_Recorded(lines, core, bench.reverse, bench.precious_work))
-            bench.expect(lines)
 
-    def find(self, wrong: Wrong) -> Optional[int]:
-        """In which list a wrong rule is found first, counted from 1."""
-        for count, (lines, core, reverse, precious_work) in enumerate(self.played, 1):
-            right = Verdicts(lines)
-            change = wrong.verdict
-            verdict: Verdicts_ = right
-            if change is not None:
-                verdict = _changed(right, change)
-            tree = wrong.tree(verdict, self.bench.height, reverse=reverse, precious_work=precious_work)
-            try:
-                expected = play_model(lines, tree)
-            except (AssertionError, KeyError, ValueError):
-                return count  # the bookkeeping falls apart
-            for theirs, said in zip(core, expected):
-                if said is None:
-                    break
-                if theirs._replace(reads=()) != said:
-                    return count
-        return None
+# ---- wrong products
+
+Change = Callable[[Seen], Seen]
+
+
+def _tips_of_others(seen: Seen) -> Seen:
+    return seen._replace(tips=tuple((n, h, length, "active" if s == "valid-fork" else s) for n, h, length, s in seen.tips))
+
+
+def _is_unit_off(seen: Seen) -> Seen:
+    return seen._replace(reads=tuple(read and (read[0] + 1, *read[1:]) for read in seen.reads))
+
+
+#: What every answer of a wrong product is changed to.
+PRODUCTS: Dict[str, Change] = {
+    "banana to every command": lambda seen: seen._replace(reply="banana"),
+    "the base as the best block": lambda seen: seen._replace(best=-1),
+    "no tips": lambda seen: seen._replace(tips=()),
+    "a fork as active": _tips_of_others,
+    "tips in another order": lambda seen: seen._replace(tips=seen.tips[::-1]),
+    "no coin": lambda seen: seen._replace(reads=tuple(None for _ in seen.reads)),
+    "coins of another value": _is_unit_off,
+}
+
+
+def answering(wrong: str, right: str) -> Change:
+    """A product that answers another reply in the place of one."""
+    return lambda seen: seen._replace(reply=wrong) if seen.reply.split(" ")[0] == right else seen
+
+
+def products(recorded: Sequence[Recorded]) -> Dict[str, Change]:
+    """Those, and for each reply of the lists a product that answers another in its place."""
+    said = {seen.reply.split(" ")[0] for it in recorded for seen in it.four.ours_expected.seen if seen is not None}
+    wrong = {right: "accepted" if right != "accepted" else "inconclusive" for right in sorted(said)}
+    return {**PRODUCTS, **{f"{other} for {right}": answering(other, right) for right, other in wrong.items()}}
+
+
+def product_found(recorded: Sequence[Recorded], change: Change) -> Optional[int]:
+    """In which list, from 1, a wrong product is found."""
+    for number, (_, _, four, _, _) in enumerate(recorded, 1):
+        wrong = four.ours._replace(seen=[seen and change(seen) for seen in four.ours.seen])
+        if differs("", wrong, four.ours_expected) is not None:
+            return number
+    return None
+
+
+# ---- kinds
+
+
+def kind_faults(bench: Bench, kind: Kind) -> Iterator[str]:
+    """In what a kind of difference isn't as it is written: its answers, what the rules say, and its switch of them."""
+    list_, names = made(kind, bench.maker)
+    played = record(bench, list_)
+    back: Dict[int, str] = {number: name for name, number in reversed(list(names.items())) if number >= list_.base}
+    back[-1] = "base"
+    for step, theirs, own in zip(kind.steps, played.four.core.seen, played.four.ours.seen):
+        for who, seen, said in (("Core", theirs, step.core), ("ours", own, step.ours)):
+            assert seen is not None
+            answer = f"{seen.reply}, {back[seen.best]}"
+            if answer != said:
+                yield f"{step.command}: {who} answers {answer}, not {said}"
+    for setting, other in ((CORE, ALL_KINDS - {kind.switch}), (OURS, frozenset({kind.switch}))):
+        found = played.says(setting)
+        if found is not None:
+            yield str(found)
+        if played.says(setting._replace(kinds=other)) is None:
+            yield f"its switch changes nothing of {'Core' if setting.is_peer else 'ours'}"

@@ -3,19 +3,23 @@
 import subprocess
 import tempfile
 from pathlib import Path
-from typing import Dict, List, NamedTuple, Optional, Sequence, Tuple
+from typing import Dict, FrozenSet, List, Mapping, NamedTuple, Optional, Sequence, Tuple, Type, Union
 
-from wakotehu import Chainstate, consensus
+import wakotehu
 from wakotehu.encoding import GENESIS
 from wakotehu.rpc.blockchain import coins_hash
 
-from .model import BY_ITSELF, COINS, HEADER, PLACE, CoreTree, Unclear, Verdict
+from . import peer as peer_
+from .chainstate import Chainstate, Ground, Unclear
 from .peer import HEIGHTS, Peer
-from .spelling import ROOT, Chain, ours, theirs
+from .rules import ALL_KINDS, Body, Coin, Coins, Point, Rules, Signatures, Tx
+from .spelling import ROOT, Chain, Logical, ours, theirs
 from .trees import Command, List_
 
-#: Reasons by the place of the header, and of the rest of a block.
-HEADER_REASONS = ("bad-diffbits", "time-too-old", "time-too-new", "bad-version")
+AnyCoin = Union[Coin, wakotehu.Coin]
+
+#: The most that all coins may be worth, here.
+MONEY = 21 * 10**14
 
 #: An answer to a read of a coin: value, script, height, whether a coinbase made it, confirmations.
 Read = Optional[Tuple[int, str, int, bool, int]]
@@ -27,13 +31,19 @@ class Seen(NamedTuple):
     reply: str
     best: int
     height: int
-    tips: Tuple[Tuple[int, int, str], ...]
+    #: Number, height, how many blocks off the active branch, status; in order.
+    tips: Tuple[Tuple[int, int, int, str], ...]
     reads: Tuple[Read, ...]
+
+    def as_core(self) -> "Seen":
+        """The same in Bitcoin Core's words, with tips in no order."""
+        return self._replace(reply=word(self.reply), tips=tuple(sorted(self.tips)))
 
 
 class Played(NamedTuple):
-    seen: List[Seen]
-    #: How many coins there are at the end, and their hash over the peer's best id.
+    """What was seen after each command, and all coins at the end: how many, and their hash over the peer's best id."""
+
+    seen: Sequence[Optional[Seen]]
     coins: Tuple[int, str]
 
 
@@ -59,8 +69,22 @@ class Lines:
         # So that no two lists have a header in common: the peer keeps those of the lists before.
         nonce = (list_.seed % 4096 << 8 | list_.salt % 256) << 12
         self.ours, self.theirs = base.ours.copy(nonce), base.theirs.copy(nonce)
+        own = range(list_.base, len(list_.blocks))
+        self._txs = {n: [Tx(tx) for tx in list_.blocks[n].transactions] for n in own}
+        self._bodies: Dict[bool, Dict[int, Body]] = {}
+        self.signatures = Signatures(_triple(line) for line in list_.table)
         self.by_ours = self._numbers(self.ours)
         self.by_theirs = self._numbers(self.theirs)
+        #: Of each own block the first number of its id, and that of its parent's.
+        self.names = {n: self.canonical(n) for n in own}
+        self.parents = {n: self.canonical(list_.blocks[n].parent) for n in own}
+
+    def bodies(self, is_peer: bool) -> Dict[int, Body]:
+        """The list's own blocks as the rules have them, in either chain."""
+        if is_peer not in self._bodies:
+            chain = self.theirs if is_peer else self.ours
+            self._bodies[is_peer] = {n: chain.body(self.list.blocks, n, txs) for n, txs in self._txs.items()}
+        return self._bodies[is_peer]
 
     def _numbers(self, chain: Chain) -> Dict[bytes, int]:
         found = {chain.genesis: -1}
@@ -73,15 +97,29 @@ class Lines:
         return number if number >= self.list.base else -1
 
     def canonical(self, number: int) -> int:
-        """The first block with the same header."""
+        """The first block with the same header; -1 for the base."""
         return self.by_ours[self.ours.id(self.list.blocks, number)]
 
 
-class Base:
-    """The spellings of a base, which lists share."""
+def _triple(line: str) -> Tuple[bytes, bytes, bytes]:
+    key, signature, digest = (bytes.fromhex(part) for part in line.split())
+    return key, signature, digest
 
-    def __init__(self, ours_: Optional[Chain] = None, theirs_: Optional[Chain] = None) -> None:
-        self.ours, self.theirs = ours_ or ours(), theirs_ or theirs()
+
+class Base:
+    """The spellings of a base, which lists share, and what it leaves."""
+
+    def __init__(self, blocks: Sequence[Logical]) -> None:
+        self.ours, self.theirs = ours(), theirs()
+        rules = Rules(MONEY, HEIGHTS, Signatures(()), frozenset())
+        coins: Coins = {}
+        times, medians = [GENESIS.time], [GENESIS.time]
+        for height, block in enumerate(blocks, 1):
+            for tx in block.transactions:
+                rules.after(Tx(tx), height, coins)
+            times.append(block.time)
+            medians.append(sorted(times[-11:])[len(times[-11:]) // 2])
+        self.ground = Ground(medians, tuple(times[-11:]), coins)
 
 
 # ---- the peer
@@ -109,7 +147,7 @@ def _look_at_peer(peer: Peer, lines: Lines, reply: str, outs: Sequence[Tuple[byt
     reads = [("gettxout", [id[::-1].hex(), index, False]) for id, index in outs]
     best, count, tips, *coins = peer.calls([("getbestblockhash", []), ("getblockcount", []), ("getchaintips", []), *reads])
     known = [
-        (lines.by_theirs[bytes.fromhex(t["hash"])[::-1]], t["height"], t["status"])
+        (lines.by_theirs[bytes.fromhex(t["hash"])[::-1]], t["height"], t["branchlen"], t["status"])
         for t in tips
         if bytes.fromhex(t["hash"])[::-1] in lines.by_theirs
     ]
@@ -183,9 +221,9 @@ def _read_answers(answers: List[str], lines: Lines) -> Seen:
         return -1 if text == "genesis" else lines.by_ours[bytes.fromhex(text)[::-1]]
 
     tips = [t.split() for t in answers[2].split("; ")]
-    found = tuple(sorted((number(name), int(height), status) for name, height, _, status in tips))
-    height = next(h for _, h, status in found if status == "active")
-    return Seen(word(answers[0]), number(answers[1]), height, found, tuple(map(_read_coin, answers[3:])))
+    found = tuple((number(name), int(height), int(length), status) for name, height, length, status in tips)
+    height = next(h for _, h, _, status in found if status == "active")
+    return Seen(answers[0], number(answers[1]), height, found, tuple(map(_read_coin, answers[3:])))
 
 
 def _read_coin(text: str) -> Read:
@@ -198,10 +236,10 @@ def _read_coin(text: str) -> Read:
 # ---- ours, by the library
 
 
-def play_library(lines: Lines, heights: Sequence[int] = HEIGHTS) -> List[Seen]:
+def play_library(lines: Lines, heights: Sequence[int] = HEIGHTS) -> Played:
     """What the library answers after each command."""
     list_ = lines.list
-    with Chainstate(heights, table_of(list_)) as chain:
+    with wakotehu.Chainstate(heights, table_of(list_)) as chain:
         lay_base(chain, lines)
         seen = []
         for step, command in enumerate(list_.commands):
@@ -210,24 +248,17 @@ def play_library(lines: Lines, heights: Sequence[int] = HEIGHTS) -> List[Seen]:
                 reply = chain.try_submit(data, command.now)
             else:
                 reply = chain.try_mark(command.word, id)
-            seen.append(_look_at_library(chain, lines, word(reply.text), asked(list_, step)))
-        return seen
+            seen.append(_look_at_library(chain, lines, reply.text, asked(list_, step)))
+        coins = chain.coins()
+        return Played(seen, hash_coins(lines, seen[-1].best if seen else -1, {(id, n): coin for id, n, coin in coins}))
 
 
-def coins_at(lines: Lines, best: int) -> Tuple[int, str]:
-    """The coins that the branch of a block leaves, by the library: how many, and their hash over its id at the peer."""
+def hash_coins(lines: Lines, best: int, coins: Mapping[Point, AnyCoin]) -> Tuple[int, str]:
+    """How many coins there are, and their hash over a block's id at the peer, as Bitcoin Core has it."""
     list_ = lines.list
-    path, at = [], best
-    while at >= list_.base:
-        path.append(at)
-        at = list_.blocks[at].parent
-    with Chainstate(HEIGHTS, table_of(list_)) as chain:
-        lay_base(chain, lines)
-        for block in reversed(path):
-            chain.submit(lines.ours.spell(list_.blocks, block)[1], 2**32 - 1)
-        coins = sorted(chain.coins(), key=lambda it: it[:2])
     top = best if best >= list_.base else list_.base - 1 if list_.base else ROOT
-    return len(coins), coins_hash(lines.theirs.id(list_.blocks, top), coins)[::-1].hex()
+    in_order = sorted((id, n, coin) for (id, n), coin in coins.items())
+    return len(coins), coins_hash(lines.theirs.id(list_.blocks, top), in_order)[::-1].hex()
 
 
 def table_of(list_: List_) -> str:
@@ -235,107 +266,59 @@ def table_of(list_: List_) -> str:
     return "".join(line + "\n" for line in list_.table)
 
 
-def lay_base(chain: Chainstate, lines: Lines) -> None:
+def lay_base(chain: wakotehu.Chainstate, lines: Lines) -> None:
     for number in range(lines.list.base):
         chain.submit(lines.ours.spell(lines.list.blocks, number)[1], 2**32 - 1)
 
 
-def _look_at_library(chain: Chainstate, lines: Lines, reply: str, outs: Sequence[Tuple[bytes, int]]) -> Seen:
+def _look_at_library(chain: wakotehu.Chainstate, lines: Lines, reply: str, outs: Sequence[Point]) -> Seen:
     height = chain.height()
-    tips = tuple(sorted((lines.by_ours[tip.id], tip.height, tip.status) for tip in chain.tips()))
-    reads: List[Read] = []
-    for id, index in outs:
-        coin = chain.coin(id, index)
-        reads.append(coin and (coin.value, coin.script.hex(), coin.height, coin.coinbase, height + 1 - coin.height))
-    return Seen(reply, lines.by_ours[chain.best()], height, tips, tuple(reads))
+    tips = tuple((lines.by_ours[tip.id], tip.height, tip.length, tip.status) for tip in chain.tips())
+    return Seen(reply, lines.by_ours[chain.best()], height, tips, tuple(_read(chain.coin(*out), height) for out in outs))
 
 
-# ---- what Bitcoin Core's bookkeeping makes of our verdicts
+def _read(coin: Optional[AnyCoin], height: int) -> Read:
+    return coin and (coin.value, coin.script.hex(), coin.height, coin.coinbase, height + 1 - coin.height)
 
 
-class Verdicts:
-    """Of each block the first rule that it breaks on its own branch, by the library: by itself and by its place from what
-    it is, and over the coins of its branch by that branch alone, from the base on."""
-
-    def __init__(self, lines: Lines, heights: Sequence[int] = HEIGHTS) -> None:
-        self.lines, self.heights = lines, heights
-        self.found: Dict[int, Verdict] = {}
-        self.over_coins: Dict[int, str] = {}
-
-    def __call__(self, number: int) -> Verdict:
-        if number not in self.found:
-            self.found[number] = self._find(number)
-        return self.found[number]
-
-    def _find(self, number: int) -> Verdict:
-        data = self._data(number)
-        reason = consensus.block(data).reason
-        if reason:
-            return Verdict(reason, BY_ITSELF)
-        height, median = self._place(number)
-        reason = word(consensus.block_place(data, height, median, 2**32 - 1, self.heights))
-        if reason:
-            return Verdict(reason, HEADER if reason in HEADER_REASONS else PLACE)
-        if number not in self.over_coins:
-            self._try(number)
-        reason = self.over_coins.get(number, "")
-        return Verdict(reason, COINS if reason else 0)
-
-    def _data(self, number: int) -> bytes:
-        """A block as the peer reads it: what stands behind it is no part of it."""
-        blocks = self.lines.list.blocks
-        data = self.lines.ours.spell(blocks, number)[1]
-        return data[: len(data) - len(blocks[number].behind)]
-
-    def _place(self, number: int) -> Tuple[int, int]:
-        """The height of a block, and the median time past of its parent."""
-        blocks, height = self.lines.list.blocks, 0
-        times: List[int] = []
-        at = number
-        while at != ROOT:
-            height += 1
-            at = blocks[at].parent
-            if len(times) < 11:
-                times.append(GENESIS.time if at == ROOT else blocks[at].time)
-        return height, sorted(times)[len(times) // 2]
-
-    def _try(self, number: int) -> None:
-        list_, lines = self.lines.list, self.lines
-        path = []
-        at = number
-        while at >= list_.base:
-            path.append(at)
-            at = list_.blocks[at].parent
-        with Chainstate(self.heights, table_of(list_)) as chain:
-            lay_base(chain, lines)
-            for block in reversed(path):
-                reply = chain.try_submit(self._data(block), 2**32 - 1)
-                if reply.text != "accepted":
-                    # On a block that breaks a rule none is tried.
-                    self.over_coins.setdefault(block, word(reply.text))
-                    break
-                self.over_coins.setdefault(block, "")
+# ---- what the published rules say
 
 
-def play_model(lines: Lines, tree: CoreTree) -> List[Optional[Seen]]:
-    """What Bitcoin Core's bookkeeping says, without reads of coins; None from where it hangs on addresses."""
+class Setting(NamedTuple):
+    """A model: of the peer or of ours, the kinds in which Bitcoin Core is followed, its rules, and the chainstate over them."""
+
+    is_peer: bool
+    kinds: FrozenSet[str]
+    rules: Type[Rules] = Rules
+    chainstate: Type[Chainstate] = Chainstate
+
+
+OURS = Setting(False, frozenset())
+CORE = Setting(True, ALL_KINDS)
+
+
+def model(setting: Setting, base: Base, lines: Lines, reverse: int = -1, precious_height: int = 0) -> Chainstate:
+    """A model before a list; the peer's count of preferences goes on from list to list."""
+    rules = setting.rules(peer_.MAX_MONEY if setting.is_peer else MONEY, HEIGHTS, lines.signatures, setting.kinds)
+    bodies = lines.bodies(setting.is_peer)
+    return setting.chainstate(
+        rules, base.ground, bodies, lines.names, lines.parents, reverse=reverse, precious_height=precious_height
+    )
+
+
+def play_model(lines: Lines, chain: Chainstate) -> Played:
+    """What a model says after each command; None from where Bitcoin Core's answer hangs on addresses."""
     list_ = lines.list
     out: List[Optional[Seen]] = []
-    for command in list_.commands:
+    for step, command in enumerate(list_.commands):
         try:
-            reply = _ask_model(lines, tree, command)
+            if command.word == "submit":
+                reply = chain.submit(command.block, command.now)
+            else:
+                reply = getattr(chain, command.word)(lines.canonical(command.block))
         except Unclear:
-            return out + [None] * (len(list_.commands) - len(out))
-        out.append(Seen(reply, tree.tip.number, tree.tip.height, tuple(sorted(tree.tips())), ()))
-    return out
-
-
-def _ask_model(lines: Lines, tree: CoreTree, command: Command) -> str:
-    block = lines.list.blocks[command.block]
-    number = lines.canonical(command.block)
-    if command.word != "submit":
-        return str(getattr(tree, command.word)(number))
-    parent = lines.of(block.parent) if block.parent != ROOT else -1
-    if parent >= 0:
-        parent = lines.canonical(parent)
-    return tree.submit(number, parent, block.time > command.now + 7200)
+            return Played(out + [None] * (len(list_.commands) - len(out)), (0, ""))
+        active, coins = chain.active, chain.coins()
+        reads = tuple(_read(coins.get(point), active.height) for point in asked(list_, step))
+        out.append(Seen(reply, active.number, active.height, tuple(chain.tips()), reads))
+    return Played(out, hash_coins(lines, chain.active.number, chain.coins()))

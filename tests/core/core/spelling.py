@@ -1,12 +1,12 @@
 """Blocks that stand in two chains: the same transactions, versions, times and faults, with each chain's own header."""
 
-import hashlib
-from dataclasses import dataclass, field
+from dataclasses import dataclass
 from typing import Callable, Dict, List, Optional, Tuple
 
 from wakotehu.encoding import GENESIS, Block, Header, Transaction, double_sha, merkle_root, write_block, write_header
 
-from .peer import GENESIS_ID, has_work
+from . import peer
+from .rules import Body, Tx
 
 #: The genesis block, as the parent of a block.
 ROOT = -1
@@ -14,9 +14,12 @@ ROOT = -1
 BITS = 0x207FFFFF
 
 
-def has_work_here(header: bytes) -> bool:
-    """Whether a header meets the target of regtest by double SHA-256."""
-    return int.from_bytes(double_sha(header), "little") <= 0x7FFFFF << 232
+TARGET = 0x7FFFFF << 232
+
+
+def work(header: bytes) -> int:
+    """What is compared with a target here: double SHA-256 of the header, as a number."""
+    return int.from_bytes(double_sha(header), "little")
 
 
 @dataclass
@@ -41,14 +44,14 @@ class Logical:
 class Chain:
     """The spellings of logical blocks in one chain."""
 
-    def __init__(self, genesis: bytes, works: Callable[[bytes], bool]) -> None:
-        self.genesis, self._works = genesis, works
+    def __init__(self, genesis: bytes, work: Callable[[bytes], int]) -> None:
+        self.genesis, self._work = genesis, work
         self._spelled: Dict[int, Tuple[bytes, bytes]] = {}
         self._nonce = 0
 
     def copy(self, nonce: int) -> "Chain":
         """The same, so that other blocks may come behind those that were spelled, with nonces from this one on."""
-        chain = Chain(self.genesis, self._works)
+        chain = Chain(self.genesis, self._work)
         chain._spelled, chain._nonce = dict(self._spelled), nonce
         return chain
 
@@ -63,10 +66,16 @@ class Chain:
     def id(self, blocks: List[Logical], number: int) -> bytes:
         return self.genesis if number == ROOT else self.spell(blocks, number)[0]
 
+    def body(self, blocks: List[Logical], number: int, txs: List[Tx]) -> Body:
+        """A block as the rules have it."""
+        block, data = blocks[number], self.spell(blocks, number)[1]
+        length = len(data) - len(block.behind)
+        return Body(self._work(data[:80]), block.version, block.time, block.bits, data[36:68], txs, length, len(block.behind))
+
     def _write(self, block: Logical, parent: bytes) -> Tuple[bytes, bytes]:
         root = merkle_root([tx.id for tx in block.transactions]) if block.root is None else block.root
         header = Header(block.version, parent, root, block.time, block.bits, self._nonce)
-        while self._works(write_header(header)) != block.works:
+        while (self._work(write_header(header)) <= TARGET) != block.works:
             header = header._replace(nonce=header.nonce + 1)
         spelled = write_header(header)
         body = write_block(Block(header, block.transactions))[80:] if block.body is None else block.body
@@ -75,9 +84,9 @@ class Chain:
 
 def ours() -> Chain:
     """The chain of this project: Bitcoin's regtest."""
-    return Chain(GENESIS.id, has_work_here)
+    return Chain(GENESIS.id, work)
 
 
 def theirs() -> Chain:
     """The chain of the peer."""
-    return Chain(GENESIS_ID, has_work)
+    return Chain(peer.GENESIS_ID, peer.work)

@@ -8,7 +8,7 @@ from typing import Dict, Iterator, List, NamedTuple, Optional, Tuple
 import scenarios
 from wakotehu.encoding import GENESIS, EncodingError, Header, double_sha, read_block
 
-from .spelling import ROOT, Logical, has_work_here
+from .spelling import ROOT, TARGET, Logical, work
 from .trees import Command, List_
 
 
@@ -79,7 +79,7 @@ def _blocks(shown: List[Tuple[str, bytes]]) -> Tuple[Optional[List[Logical]], Di
         blocks.append(
             Logical(
                 ids[header.parent], header.time, block.transactions, header.version, header.bits, header.root,
-                has_work_here(data[:80]), data[80:],
+                work(data[:80]) <= TARGET, data[80:],
             )  # fmt: skip
         )
     return blocks, numbers

@@ -369,7 +369,8 @@ def _size(m: _Making, block: Logical, branch: _Branch, height: int, median: int)
     top = block.transactions[0]
 
     def filled(count: int) -> List[Transaction]:
-        return [top._replace(outputs=[*top.outputs, Output(0, bytes(count))]), *block.transactions[1:]]
+        filler = b"\x4e" + struct.pack("<I", count) + bytes(count)
+        return [top._replace(outputs=[*top.outputs, Output(0, filler)]), *block.transactions[1:]]
 
     def size(txs: List[Transaction]) -> int:
         return 81 + sum(len(write_transaction(tx)) for tx in txs)
