@@ -67,11 +67,15 @@ class Node:
         return self.height >= other.height and next(n for n in self.branch() if n.height == other.height) is other
 
 
-class Try(NamedTuple):
-    """A block that was tried over its coins: what it broke, and whether blocks were taken back for it."""
+#: Where a block was refused.
+BY_ITSELF, BY_PLACE, ON_BRANCH, REORGANISING = "by itself", "by its place", "on the active block", "in a reorganisation"
+
+
+class Refusal(NamedTuple):
+    """A block that was refused, and where: over its coins, with or without blocks that were taken back for it."""
 
     reason: str
-    is_reorganisation: bool
+    where: str
 
 
 @dataclass
@@ -88,7 +92,7 @@ class Chainstate:
     #: Bitcoin Core's count of preferences (below 0, so a later one goes first), and the height where it last began.
     reverse: int = -1
     precious_height: int = 0
-    tries: List[Try] = field(default_factory=list)
+    refusals: List[Refusal] = field(default_factory=list)
 
     def __post_init__(self) -> None:
         ground = self.ground
@@ -112,15 +116,18 @@ class Chainstate:
         if node is not None:
             return self._again(node, block)
         above = self.nodes.get(self.parents[number])
-        reason = self.rules.alone(block) or self._header_fault(block, above, now)
+        reason = self.rules.alone(block)
         if reason:
-            return reason
+            return self._refuse(reason, BY_ITSELF)
+        reason = self._header_fault(block, above, now)
+        if reason:
+            return self._refuse(reason, BY_PLACE)
         assert above is not None
         node = Node(name, block, above, above.height + 1, (*above.times, block.time)[-11:])
         reason = self.rules.place(block, self.place(node))
         if reason:
             self._keep_header(node, reason)
-            return reason
+            return self._refuse(reason, BY_PLACE)
         self.nodes[name] = node
         node.is_whole = above.is_whole
         if node.is_whole:
@@ -128,6 +135,10 @@ class Chainstate:
             self.sequence += 1
         checked = self._settle()
         return checked.get(node, "inconclusive") or "accepted"
+
+    def _refuse(self, reason: str, where: str) -> str:
+        self.refusals.append(Refusal(reason.split(" ")[0], where))
+        return reason
 
     def _undecoded(self, block: Body) -> str:
         has_rest = block.behind > 0 and rules.BEHIND not in self.kinds
@@ -278,7 +289,7 @@ class Chainstate:
 
     def _best(self) -> Node:
         """The best block that is usable, not below the active one."""
-        while True:
+        for _ in range(len(self.nodes) + 1):
             marked = self._marked()
             usable = [n for n in self.nodes.values() if n not in marked and n.is_whole and n not in self.left_out]
             best = max(usable, key=lambda n: n.rank)
@@ -289,12 +300,13 @@ class Chainstate:
                 raise Unclear
             else:
                 return best
+        raise AssertionError("each turn notes a mark")
 
     def _settle(self) -> Dict[Node, str]:
         """The best usable block with a valid branch becomes active; on the way blocks are seen, or marked. What each that
         was connected or refused came to."""
         checked: Dict[Node, str] = {}
-        while True:
+        for _ in range(2 * len(self.nodes) + 1):
             best, before = self._best(), self.active
             if best is before:
                 return checked
@@ -303,12 +315,13 @@ class Chainstate:
             fork = path[-1].parent
             for node in reversed(path):
                 reason = self._try(node)[0]
-                self.tries.append(Try(reason, fork is not before))
                 checked[node] = reason
                 if reason:
+                    self._refuse(reason, ON_BRANCH if fork is before else REORGANISING)
                     node.is_bad = True
                     self.spreading.add(node)
                     break
                 node.was_valid = True
                 self.left_out.discard(node)
                 self.active = node
+        raise AssertionError("each turn marks a block or finds the best one")

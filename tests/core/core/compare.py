@@ -9,7 +9,7 @@ from typing import Callable, List, NamedTuple, Optional, Tuple, Type
 
 from wakotehu.encoding import GENESIS
 
-from .chainstate import Chainstate
+from .chainstate import Chainstate, Refusal
 from .peer import HEIGHTS, Peer, remove
 from .playing import CORE, OURS, Base, Lines, Played, model, play_library, play_model, play_peer, play_program, write_scenario
 from .trees import List_, Maker
@@ -38,9 +38,9 @@ class Tally:
     apart: int = 0
     #: Commands from where on the peer's answer hangs on addresses; ours are compared there too.
     unclear: int = 0
-    #: Replies of ours, and what the blocks that were tried over their coins came to, on the active branch or instead of it.
+    #: Replies of ours, and which rules were broken where.
     replies: "Counter[str]" = field(default_factory=Counter)
-    tries: "Counter[Tuple[str, bool]]" = field(default_factory=Counter)
+    refusals: "Counter[Refusal]" = field(default_factory=Counter)
 
 
 class Four(NamedTuple):
@@ -78,8 +78,7 @@ def count(four: Four, tally: Tally) -> None:
             tally.equal += 1
         else:
             tally.apart += 1
-    for tried in four.chain.tries:
-        tally.tries[(tried.reason.split(" ")[0], tried.is_reorganisation)] += 1
+    tally.refusals.update(four.chain.refusals)
 
 
 def as_core(played: Played) -> Played:
@@ -134,6 +133,9 @@ class Bench:
         """The first answer of a list that isn't what it has to be."""
         lines, four = self.ask(list_)
         count(four, tally)
+        return self.judge(lines, four)
+
+    def judge(self, lines: Lines, four: Four) -> Optional[Difference]:
         found = differs("ours", four.ours, four.ours_expected) or differs("Core", four.core, as_core(four.core_expected))
         if found is None and self.program is not None:
             printed = Played(play_program(self.program, lines), four.ours.coins)

@@ -8,12 +8,22 @@ from collections import Counter
 from pathlib import Path
 from typing import Dict, List, Sequence
 
-from . import differences, peer, planted, scripts, table
+from . import cases, differences, peer, planted, scripts, table
+from .chainstate import BY_ITSELF, BY_PLACE, ON_BRANCH, REORGANISING, Refusal
 from .compare import Bench, Tally
 from .rules import ALL_KINDS
+from .wrong import RULES
 
-#: Heights of bases: none, round maturity, round halvings, and below and above each soft fork.
-SHORT_BASES = (110,)
+#: Heights of bases on which each rule comes: with no soft fork in force, and with all.
+RULE_BASES = (110, 1360)
+#: In so many lists each wrong rule has to be found.
+LISTS_TO_FIND = 60
+#: What has to be broken, where, and how often in 100 lists.
+REQUIRED = (
+    (BY_ITSELF, tuple(cases.ALONE), 20), (BY_PLACE, tuple(cases.PLACE), 20), (ON_BRANCH, tuple(cases.COINS), 20),
+    (REORGANISING, tuple(cases.COINS), 5),
+)  # fmt: skip
+#: Heights of other bases: none, round maturity, round halvings, and below and above each soft fork.
 BASES = (0, 1, 99, 101, 110, 149, 150, 299, 431, 440, 499, 501, 1250, 1252, 1350, 1352)
 #: Bases of script pairs, with other rules in force each.
 SHORT_PAIR_BASES = (440,)
@@ -26,7 +36,7 @@ def main(words: Sequence[str]) -> int:
     print(peer.version())
     with tempfile.TemporaryDirectory() as room:
         run = _Run(options, Path(room))
-        faults = run.kinds() + run.table() + run.lists() + run.pairs()
+        faults = run.kinds() + run.rules() + run.table() + run.lists() + run.pairs()
     print(f"{time.monotonic() - begun:.0f} seconds, {'no difference that docs/CORE.md lacks' if not faults else f'{faults} faults'}")
     return 1 if faults else 0
 
@@ -36,7 +46,7 @@ def _options(words: Sequence[str]) -> argparse.Namespace:
     parser.add_argument("--short", action="store_true", help="some of it, in about a minute")
     parser.add_argument("--program", help="regchain, whose answers are compared too (else the library's alone)")
     parser.add_argument("--seed", type=int, default=1, help="the first seed of lists and pairs (1)")
-    parser.add_argument("--lists", type=int, help="lists on each base (60, on high bases 20; short 8)")
+    parser.add_argument("--lists", type=int, help="lists on each base (50, on bases of other heights 40 or 20; short 30)")
     parser.add_argument("--pairs", type=int, help="script pairs on each base (25,000; short 2,000)")
     parser.add_argument("--keep", type=Path, metavar="FOLDER", help="keeps the peer's data of each base here")
     return parser.parse_args(words)
@@ -46,6 +56,7 @@ class _Run:
     def __init__(self, options: argparse.Namespace, room: Path) -> None:
         self.options, self.room = options, room
         self.short = bool(options.short)
+        self.begun = time.monotonic()
 
     def _bench(self, height: int) -> Bench:
         if self.options.keep is not None:
@@ -83,11 +94,32 @@ class _Run:
         )
         return faults
 
-    def lists(self) -> int:
-        """Random lists at both; then wrong products against what was recorded."""
+    def rules(self) -> int:
+        """Lists in which each rule is broken and just kept; then wrong products and wrong rules against what was answered."""
         faults, tally = 0, Tally()
-        for height in SHORT_BASES if self.short else BASES:
-            count = self.options.lists or (8 if self.short else 60 if height < 600 else 20)
+        count = self.options.lists or (LISTS_TO_FIND // 2 if self.short else 50)
+        by_base: List[List[planted.Recorded]] = []
+        for height in RULE_BASES:
+            with self._bench(height) as bench:
+                seeds = range(self.options.seed, self.options.seed + count)
+                by_base.append([])
+                for seed in seeds:
+                    played, found = planted.record(bench, bench.maker.list(seed), tally)
+                    by_base[-1].append(played)
+                    if found is not None:
+                        faults += 1
+                        print("FAULT " + bench.report(played.lines.list, found))
+        recorded = [played for pair in zip(*by_base) for played in pair]
+        self._timed("lists were played")
+        faults += self._told(tally) + self._reasons(tally) + self._products(recorded) + self._wrong(recorded)
+        self._timed("wrong rules were looked for")
+        return faults
+
+    def lists(self) -> int:
+        """Lists on bases of other heights."""
+        faults, tally = 0, Tally()
+        for height in () if self.short else BASES:
+            count = self.options.lists or (40 if height < 600 else 20)
             with self._bench(height) as bench:
                 for seed in range(self.options.seed, self.options.seed + count):
                     list_ = bench.maker.list(seed)
@@ -95,24 +127,56 @@ class _Run:
                     if found is not None:
                         faults += 1
                         print("FAULT " + bench.report(list_, found))
-                if height == SHORT_BASES[0]:
-                    faults += self._products(bench)
+        return faults + (self._told(tally) if tally.lists else 0)
+
+    def _told(self, tally: Tally) -> int:
         print(
             f"{tally.lists} lists, {tally.commands} commands: {tally.equal} answered alike, {tally.apart} otherwise, each as "
             f"it has to be; {tally.unclear} behind a tie by addresses"
         )
-        print("  " + ", ".join(f"{word} {count}" for word, count in tally.replies.most_common()))
+        print("  replies: " + ", ".join(f"{word} {count}" for word, count in tally.replies.most_common()))
+        return 0
+
+    def _reasons(self, tally: Tally) -> int:
+        """Each rule was broken so often, and those over the coins in reorganisations too."""
+        faults = 0
+        for where, reasons, least in REQUIRED:
+            wanted = least * tally.lists // 100
+            counts = {reason: tally.refusals[Refusal(reason, where)] for reason in reasons}
+            print(f"  refused {where}: " + ", ".join(f"{reason} {count}" for reason, count in counts.items()))
+            for reason, count in counts.items():
+                if count < wanted:
+                    faults += 1
+                    print(f"FAULT {reason} {where} came {count} times, not {wanted}")
         return faults
 
-    def _products(self, bench: Bench) -> int:
+    def _products(self, recorded: Sequence[planted.Recorded]) -> int:
         """Wrong products are found."""
-        faults = 0
-        recorded = [planted.record(bench, bench.maker.list(seed)) for seed in range(5001, 5041)]
-        for name, change in planted.products(recorded).items():
-            if planted.product_found(recorded, change) is None:
+        faults, products = 0, planted.products(recorded)
+        last = 0
+        for name, change in products.items():
+            found = planted.product_found(recorded, change)
+            last = max(last, found or 0)
+            if found is None:
                 faults += 1
                 print(f"FAULT a wrong product isn't found: {name}")
-        print(f"{len(planted.products(recorded))} wrong products, each found")
+        print(f"{len(products)} wrong products, the last found in list {last}")
+        return faults
+
+    def _timed(self, what: str) -> None:
+        print(f"  ({time.monotonic() - self.begun:.0f} seconds: {what})", flush=True)
+
+    def _wrong(self, recorded: Sequence[planted.Recorded]) -> int:
+        """Wrong rules are found: the peer contradicts each, and so do our answers."""
+        faults, some = 0, recorded[:LISTS_TO_FIND]
+        for wrong in RULES:
+            found = planted.rule_found(some, wrong)
+            is_found = found.by_ours is not None and (wrong.is_ours or found.by_core is not None)
+            faults += not is_found
+            if not is_found or not self.short:
+                by = f"by ours in list {found.by_ours}, by Core in list {found.by_core}"
+                print(("  " if is_found else f"FAULT not found in {len(some)} lists: ") + f"{wrong.name}: {by}")
+        print(f"{len(RULES)} wrong rules planted, {len(RULES) - faults} found in {len(some)} lists")
         return faults
 
     def pairs(self) -> int:

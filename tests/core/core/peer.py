@@ -135,6 +135,8 @@ class Peer:
                 self._link = http.client.HTTPConnection("127.0.0.1", self.port, timeout=120)
             try:
                 self._link.request("POST", "/", body, head)
+                # The peer writes a long answer in pieces, and waits for an acknowledgement behind each.
+                self._link.sock.setsockopt(socket.IPPROTO_TCP, socket.TCP_QUICKACK, 1)
                 return self._link.getresponse().read()
             except (OSError, http.client.HTTPException):
                 self._link.close()

@@ -4,12 +4,13 @@ A wrong product is the library with its answers changed: it is found where it is
 planted in the rules (rules.py, chainstate.py): it is found where the peer's answers contradict it, and where ours do.
 """
 
-from typing import Callable, Dict, Iterator, NamedTuple, Optional, Sequence
+from typing import Callable, Dict, Iterator, NamedTuple, Optional, Sequence, Tuple
 
-from .compare import Bench, Difference, Four, as_core, differs
+from .compare import Bench, Difference, Four, Tally, as_core, count, differs
 from .differences import Kind, made
 from .playing import CORE, OURS, Base, Lines, Seen, Setting, model, play_model
 from .rules import ALL_KINDS
+from .wrong import Wrong
 from .trees import List_
 
 
@@ -28,16 +29,17 @@ class Recorded(NamedTuple):
         chain = model(setting, self.base, self.lines, self.reverse, self.precious_height)
         try:
             said = play_model(self.lines, chain)
-        except (AssertionError, KeyError, IndexError, StopIteration) as error:
+        except (AssertionError, AttributeError, KeyError, IndexError, StopIteration, TypeError, ValueError) as error:
             return Difference("it falls apart", 0, error, None)
         return differs("", found, as_core(said) if setting.is_peer else said)
 
 
-def record(bench: Bench, list_: List_) -> Recorded:
-    """Plays a list at both, and keeps the answers."""
+def record(bench: Bench, list_: List_, tally: Tally) -> Tuple[Recorded, Optional[Difference]]:
+    """Plays a list at both and keeps the answers; the first that isn't what it has to be."""
     reverse, precious_height = bench.reverse, bench.precious_height
     lines, four = bench.ask(list_)
-    return Recorded(bench.base, lines, four, reverse, precious_height)
+    count(four, tally)
+    return Recorded(bench.base, lines, four, reverse, precious_height), bench.judge(lines, four)
 
 
 # ---- wrong products
@@ -86,13 +88,31 @@ def product_found(recorded: Sequence[Recorded], change: Change) -> Optional[int]
     return None
 
 
+# ---- wrong rules
+
+
+class Found(NamedTuple):
+    """In which list a wrong rule is contradicted first: by the peer's answers, and by ours. None where in no list."""
+
+    by_core: Optional[int]
+    by_ours: Optional[int]
+
+
+def rule_found(recorded: Sequence[Recorded], wrong: "Wrong") -> Found:
+    def first(setting: Setting) -> Optional[int]:
+        planted = setting._replace(rules=wrong.rules, chainstate=wrong.chainstate)
+        return next((n for n, it in enumerate(recorded, 1) if it.says(planted) is not None), None)
+
+    return Found(first(CORE), first(OURS))
+
+
 # ---- kinds
 
 
 def kind_faults(bench: Bench, kind: Kind) -> Iterator[str]:
     """In what a kind of difference isn't as it is written: its answers, what the rules say, and its switch of them."""
     list_, names = made(kind, bench.maker)
-    played = record(bench, list_)
+    played, _ = record(bench, list_, Tally())
     back: Dict[int, str] = {number: name for name, number in reversed(list(names.items())) if number >= list_.base}
     back[-1] = "base"
     for step, theirs, own in zip(kind.steps, played.four.core.seen, played.four.ours.seen):

@@ -349,7 +349,7 @@ class Pairs:
         above = bench.maker.base[-1].time + 600
         # A coinbase of its own, so that no two blocks are equal.
         self.seed += 1
-        top = coinbase(bench.height + 1, subsidy(bench.height + 1), TRUE, struct.pack("<I", self.seed))
+        top = coinbase(bench.height + 1, subsidy(bench.height + 1), TRUE, struct.pack("<Q", self.seed % 2**64))
         blocks = [*bench.maker.base, Logical(bench.height - 1, above, [top, funding])]
         id, data = bench.base.theirs.copy(0).spell(blocks, bench.height)
         if bench.peer.submit(data) != "accepted":
