@@ -1,7 +1,7 @@
 """Does an input's script spend an output's? By docs/RULES.md, "Running scripts", and by nothing of ours that runs."""
 
 import hashlib
-from typing import Callable, Dict, FrozenSet, Iterator, List, NamedTuple, Optional, Tuple
+from typing import Callable, Dict, FrozenSet, Iterator, List, NamedTuple, Optional, Tuple, Type
 
 from wakotehu.encoding import Transaction, hash160, push, signature_digest
 
@@ -103,18 +103,20 @@ def _is_shortest(part: bytes) -> bool:
     return len(part) > 0 and not part[0] & 0x80 and (part[0] != 0 or len(part) == 1 or part[1] & 0x80 != 0)
 
 
-def accepts(tx: Transaction, input: int, spent: bytes, flags: FrozenSet[str], is_valid: IsValid) -> bool:
+def accepts(
+    tx: Transaction, input: int, spent: bytes, flags: FrozenSet[str], is_valid: IsValid, run: "Optional[Type[Run]]" = None
+) -> bool:
     """Whether the input may spend the output's script; `flags` of DERSIG, CLTV, CSV."""
-    own = tx.inputs[input].script
+    own, run = tx.inputs[input].script, run or Run
     try:
-        stack = Run(tx, input, flags, is_valid).run(own, [])
-        left = Run(tx, input, flags, is_valid).run(spent, list(stack))
+        stack = run(tx, input, flags, is_valid).run(own, [])
+        left = run(tx, input, flags, is_valid).run(spent, list(stack))
         if not left or not is_true(left[-1]):
             return False
         if pays_to_script_hash(spent):
             if not is_push_only(own) or not stack:
                 return False
-            left = Run(tx, input, flags, is_valid).run(stack[-1], stack[:-1])
+            left = run(tx, input, flags, is_valid).run_inner(stack)
             return bool(left) and is_true(left[-1])
     except Refused:
         return False
@@ -157,15 +159,22 @@ class Run:
         self.open: List[bool] = []
         self.count = 0
 
+    MOST_BYTES, MOST_ELEMENTS, MOST_PUSHED, MOST_OPCODES, MOST_KEYS = 10000, 1000, 520, 201, 20
+    LOCK_NUMBER = 5
+
+    def run_inner(self, stack: List[bytes]) -> List[bytes]:
+        """The top as a script on the others (BIP 16)."""
+        return self.run(stack[-1], stack[:-1])
+
     def run(self, script: bytes, stack: List[bytes]) -> List[bytes]:
         self.stack = stack
-        if len(script) > 10000:
+        if len(script) > self.MOST_BYTES:
             raise Refused
         self.script, self.code, end = script, script, 0
         for op in opcodes(script):
             end = op.end
             self._step(op)
-            if len(self.stack) + len(self.other) > 1000:
+            if len(self.stack) + len(self.other) > self.MOST_ELEMENTS:
                 raise Refused
         if end != len(script) or self.open:
             raise Refused
@@ -179,7 +188,7 @@ class Run:
         return out
 
     def _step(self, op: Op) -> None:
-        if op.data is not None and len(op.data) > 520 or op.code in DISABLED:
+        if op.data is not None and len(op.data) > self.MOST_PUSHED or op.code in DISABLED:
             raise Refused
         self._tally(op.code > 0x60)
         runs = all(self.open)
@@ -196,7 +205,7 @@ class Run:
 
     def _tally(self, more: int) -> None:
         self.count += more
-        if self.count > 201:
+        if self.count > self.MOST_OPCODES:
             raise Refused
 
     def _condition(self, code: int, runs: bool) -> None:
@@ -271,7 +280,7 @@ class Run:
     def _top(self) -> int:
         if not self.stack:
             raise Refused
-        return number(self.stack[-1], 5)
+        return number(self.stack[-1], self.LOCK_NUMBER)
 
     def _lock_time(self) -> None:
         if "CLTV" not in self.flags:
@@ -296,7 +305,10 @@ class Run:
 
     def _check_one(self, signature: bytes, key: bytes) -> bool:
         self._shape(signature)
-        return self._signs(signature, key, without(self.code, [signature]))
+        return self._signs(signature, key, self._signed_code([signature]))
+
+    def _signed_code(self, signatures: List[bytes]) -> bytes:
+        return without(self.code, signatures)
 
     def _shape(self, signature: bytes) -> None:
         if "DERSIG" in self.flags and not is_strict(signature):
@@ -305,23 +317,24 @@ class Run:
     def _signs(self, signature: bytes, key: bytes, code: bytes) -> bool:
         if not signature:
             return False
-        digest = signature_digest(self.tx, self.input, code, signature[-1])
-        return self.is_valid(key, signature[:-1], digest)
+        return self.is_valid(key, signature[:-1], self._digest(code, signature[-1]))
+
+    def _digest(self, code: bytes, kind: int) -> bytes:
+        return signature_digest(self.tx, self.input, code, kind)
 
     def _some(self, most: int) -> List[bytes]:
         """A number on the top, and so many elements below it."""
         count = number(self.take(1)[0])
         if not 0 <= count <= most:
             raise Refused
-        if most == 20:
-            self._tally(count)
         return self.take(count)
 
     def _check_many(self) -> bool:
-        keys = self._some(20)
+        keys = self._some(self.MOST_KEYS)
+        self._tally(len(keys))
         signatures = self._some(len(keys))
         self.take(1)
-        code = without(self.code, signatures)
+        code = self._signed_code(signatures)
         while signatures:
             if len(signatures) > len(keys):
                 return False

@@ -12,7 +12,7 @@ from . import cases, differences, peer, planted, scripts, table
 from .chainstate import BY_ITSELF, BY_PLACE, ON_BRANCH, REORGANISING, Refusal
 from .compare import Bench, Tally
 from .rules import ALL_KINDS
-from .wrong import RULES
+from .wrong import RULES, SCRIPTS
 
 #: Heights of bases on which each rule comes: with no soft fork in force, and with all.
 RULE_BASES = (110, 1360)
@@ -47,7 +47,7 @@ def _options(words: Sequence[str]) -> argparse.Namespace:
     parser.add_argument("--program", help="regchain, whose answers are compared too (else the library's alone)")
     parser.add_argument("--seed", type=int, default=1, help="the first seed of lists and pairs (1)")
     parser.add_argument("--lists", type=int, help="lists on each base (50, on bases of other heights 40 or 20; short 30)")
-    parser.add_argument("--pairs", type=int, help="script pairs on each base (25,000; short 2,000)")
+    parser.add_argument("--pairs", type=int, help="script pairs on each base (25,000; short 4,000)")
     parser.add_argument("--keep", type=Path, metavar="FOLDER", help="keeps the peer's data of each base here")
     return parser.parse_args(words)
 
@@ -185,18 +185,22 @@ class _Run:
         for height in SHORT_PAIR_BASES if self.short else PAIR_BASES:
             with self._bench(height) as bench:
                 pairs = scripts.Pairs(bench, self.options.seed * 1000003 + height)
-                pairs.play(self.options.pairs or (2000 if self.short else 25000))
+                pairs.play(self.options.pairs or (4000 if self.short else 25000))
                 for found in pairs.differing(scripts.right(pairs.height, pairs.author.secp)):
                     faults += 1
                     print(f"FAULT {found}")
+                for found in pairs.differing(scripts.by_rules(pairs.height, pairs.author.secp)):
+                    faults += 1
+                    print(f"FAULT the rules as they are written here: {found}")
                 said = Counter("accepted" if s == "accepted" else "not a matter of scripts" if s in scripts.OTHERS else "refused" for _, s in pairs.played)
                 print(f"{len(pairs.played)} script pairs at height {pairs.height}: " + ", ".join(f"{n} {w}" for w, n in said.most_common()))
                 faults += self._planted_pairs(pairs)
         return faults
 
     def _planted_pairs(self, pairs: scripts.Pairs) -> int:
-        faults = 0
-        for name, rule in scripts.wrong(pairs.height, pairs.author.secp).items():
+        faults, secp = 0, pairs.author.secp
+        readings = {name: scripts.by_rules(pairs.height, secp, run) for name, run in SCRIPTS}
+        for name, rule in {**scripts.wrong(pairs.height, secp), **readings}.items():
             if next(pairs.differing(rule), None) is None:
                 faults += 1
                 print(f"FAULT no pair finds a wrong rule: {name}")

@@ -3,7 +3,7 @@
 import random
 import struct
 from dataclasses import dataclass
-from typing import Callable, Dict, Iterator, List, NamedTuple, Sequence, Set, Tuple
+from typing import Callable, Dict, Iterator, List, NamedTuple, Sequence, Set, Tuple, Type
 
 from wakotehu import consensus
 from wakotehu.encoding import (
@@ -12,6 +12,7 @@ from wakotehu.encoding import (
 )  # fmt: skip
 from wakotehu.signatures import Secp256k1
 
+from . import interpreter
 from .compare import Bench
 from .peer import has_work
 from .spelling import BITS, Logical
@@ -23,10 +24,11 @@ def flags_at(height: int) -> Set[str]:
 
 
 class Pair(NamedTuple):
-    """A spend: what is spent, and the transaction that spends it alone."""
+    """A spend: what is spent, the transaction that spends it, and by which input; the others spend what anyone may."""
 
     spent: bytes
     tx: Transaction
+    input: int
 
 
 #: Numbers round the edges of script numbers and of locks.
@@ -60,6 +62,8 @@ class Author:
     def __post_init__(self) -> None:
         self.secp = Secp256k1()
         self.keys = [self.secp.public_key(s, compressed) for s in SECRETS for compressed in (True, False)]
+        #: The inner scripts of outputs that pay to a script hash.
+        self.inner: Dict[bytes, bytes] = {}
 
     # ---- pieces
 
@@ -106,7 +110,7 @@ class Author:
             if draw < 0.3:
                 out += self.pushed() + self.chance.choice((b"\x63", b"\x64"))
                 depth += 1
-            elif draw < 0.45:
+            elif draw < 0.5:
                 out += b"\x67"
             elif draw < 0.65 and depth:
                 out += b"\x68"
@@ -130,7 +134,23 @@ class Author:
             count = self.chance.choice((998, 999, 1000))
             return b"\x51" * count + b"\x6b" * self.chance.choice((0, 1, 2)) + b"\x76"
         rest = self.chance.choice((9999, 10000, 10001)) - 1
-        return (push(bytes(500)) + b"\x75") * (rest // 504) + b"\x61" * (rest % 504 % 200) + b"\x51"
+        return (push(bytes(500)) + b"\x75") * (rest // 504) + push(bytes(rest % 504 - 4)) + b"\x75\x51"
+
+    def edge_code(self) -> bytes:
+        """Numbers that opcodes take, at their edges."""
+        kind = self.chance.randrange(4)
+        if kind < 2:
+            count = self.chance.randrange(1, 5)
+            n = self.chance.choice((0, count - 1, count - 1, count, -1))
+            code = b"\x79" if kind else b"\x7a"
+            values = b"".join(bytes([0x51 + k]) for k in range(count))
+            return values + (push(number(n)) if n else b"\x00") + code + bytes([0x51 + self.chance.randrange(count)]) + b"\x87"
+        keys, wanted = self.chance.choice(((20, 0), (20, 1), (21, 0), (21, 0), (1, 2), (2, 3), (0, 1), (0, 0), (3, 0), (3, 3)))
+        spelled = [push(number(n)) if n else b"\x00" for n in (wanted, keys)]
+        many = b"\x00" * (1 + wanted) + spelled[0] + b"\x51" * keys + spelled[1] + b"\xae"
+        fill = 0 if kind == 2 else self.chance.choice((200 - keys, 201 - keys, 199 - keys))
+        # Signatures of no bytes aren't valid.
+        return b"\x61" * max(fill - (wanted > 0), 0) + many + b"\x91" * (wanted > 0)
 
     def lock_code(self) -> bytes:
         value = self.chance.choice(EDGES + (100, 1296688602, 1 << 22, (1 << 22) | 5, 1 << 31))
@@ -140,8 +160,11 @@ class Author:
         writers: Sequence[Callable[[], bytes]] = (
             self.any_code, self.any_code, self.counted_code, self.counted_code, self.branching_code, self.lock_code,
         )  # fmt: skip
-        if self.chance.random() < 0.03:
+        draw = self.chance.random()
+        if draw < 0.1:
             return self.long_code()
+        if draw < 0.2:
+            return self.edge_code()
         code = self.chance.choice(writers)()
         if self.chance.random() < 0.5:
             code += b"\x51"
@@ -154,9 +177,11 @@ class Author:
         draw = self.chance.random()
         if draw < 0.35:
             return self.signed_output()
-        code = self.code()
-        if draw < 0.45 and len(code) <= 520:
-            return b"\xa9\x14" + hash160(code) + b"\x87"
+        code = self.signed_output() if 0.45 < draw < 0.55 else self.code()
+        if draw < 0.55:
+            script = b"\xa9\x14" + hash160(code) + b"\x87"
+            self.inner[script] = code
+            return script
         return code[:10000]
 
     def signed_output(self) -> bytes:
@@ -184,8 +209,10 @@ class Author:
 
     # ---- inputs
 
-    def spend(self, spent: bytes, outpoint: Tuple[bytes, int], value: int, height: int, time: int) -> Transaction:
-        """A transaction that spends an output, and is final at a height."""
+    def spend(
+        self, spent: bytes, outpoint: Tuple[bytes, int], others: Sequence[Tuple[bytes, int]], value: int, height: int, time: int
+    ) -> Pair:
+        """A transaction that spends an output, and up to three others, and is final at a height."""
         version = self.chance.choice((1, 2, 2, 3, -1))
         sequence = self.chance.choice((FINAL, FINAL - 1, 0, 1, 5, 1 << 22, (1 << 22) | 5, 1 << 31, 65535))
         lock = self.chance.choice((0, 0, 1, 100, height - 1, time - 100000)) if sequence != FINAL else self.chance.choice((0, 2**32 - 1, 600000000))
@@ -193,14 +220,24 @@ class Author:
             # The lock of BIP 68 has to be met by a coin of the block below.
             sequence &= 1 << 22 | 1 if self.chance.random() < 0.9 else FINAL
             sequence &= ~(1 << 22)
-        outputs = [Output(value // 2, TRUE)] * self.chance.choice((1, 1, 2))
-        tx = Transaction(version, [Input(*outpoint, b"", sequence)], outputs, lock)
-        return tx._replace(inputs=[tx.inputs[0]._replace(script=self.input(spent, tx))])
+        outputs = [Output(value // 4, TRUE), Output(0, b"\x52"), Output(1, TRUE), Output(2, TRUE)][: self.chance.choice((1, 1, 2, 2, 4))]
+        of = (FINAL,) if sequence == FINAL else (FINAL, FINAL - 1, 0, 1, (1 << 31) | 5)
+        more = self.chance.sample(others, self.chance.choice((0, 0, 1, 2, 3)))
+        inputs = [Input(*other, b"", self.chance.choice(of)) for other in more]
+        at = self.chance.randrange(len(inputs) + 1)
+        inputs.insert(at, Input(*outpoint, b"", sequence))
+        tx = Transaction(version, inputs, outputs, lock)
+        inputs[at] = inputs[at]._replace(script=self.input(spent, tx, at))
+        return Pair(spent, tx, at)
 
-    def input(self, spent: bytes, tx: Transaction) -> bytes:
+    def input(self, spent: bytes, tx: Transaction, at: int) -> bytes:
+        if spent in self.inner and self.chance.random() < 0.95:
+            inner = self.inner[spent]
+            own = self.input(inner, tx, at)
+            return own + (push(inner) if inner else b"\x00") if self.chance.random() < 0.97 else own + self.pushed()
         if b"\xac" in spent[-3:] or spent[-1:] == b"\xae" or spent[-2:-1] in (b"\xaf", b"\xac"):
             if self.chance.random() < 0.95:
-                return self.signatures(spent, tx)
+                return self.signatures(spent, tx, at)
         draw = self.chance.random()
         if draw < 0.4:
             return b""
@@ -208,7 +245,7 @@ class Author:
             return b"".join(self.pushed() for _ in range(self.chance.randrange(4)))
         return self.code()
 
-    def signatures(self, spent: bytes, tx: Transaction) -> bytes:
+    def signatures(self, spent: bytes, tx: Transaction, at: int) -> bytes:
         count = 1
         out = b""
         if spent[-1:] == b"\xae" or spent[-2:-1] == b"\xaf":
@@ -219,17 +256,17 @@ class Author:
         count += self.chance.choice((0,) * 12 + (1, -1))
         secrets = sorted(self.chance.choices(SECRETS, k=max(count, 0)))
         for secret in secrets:
-            out += self.signature(spent, tx, secret)
+            out += self.signature(spent, tx, at, secret)
         if spent[:1] == b"\x76":
             out += push(self.chance.choice(self.keys))
         return out
 
-    def signature(self, spent: bytes, tx: Transaction, secret: bytes) -> bytes:
+    def signature(self, spent: bytes, tx: Transaction, at: int, secret: bytes) -> bytes:
         kind = self.chance.choice((1, 1, 2, 3, 0x81, 0x82, 0x83, self.chance.randrange(256)))
         code = spent
         if b"\xab" in spent and self.chance.random() < 0.5:
             code = spent[spent.index(b"\xab") + 1 :]
-        signature = self.secp.sign(secret, signature_digest(tx, 0, code, kind))
+        signature = self.secp.sign(secret, signature_digest(tx, at, code, kind))
         draw = self.chance.random()
         if draw < 0.25:
             signature = self.altered(signature)
@@ -281,7 +318,7 @@ def accepts(pair: Pair, flags: Set[str], secp: Secp256k1) -> bool:
     """Whether ours accepts the spend by some rules: libsecp256k1 is asked about each signature that the scripts come to."""
     data, valid, invalid = write_transaction(pair.tx), b"", b""
     while True:
-        answer = consensus.verify_known(data, 0, pair.spent, flags, valid, invalid)
+        answer = consensus.verify_known(data, pair.input, pair.spent, flags, valid, invalid)
         if isinstance(answer, bool):
             return answer
         if secp.valid(answer):
@@ -297,7 +334,7 @@ def ours(pair: Pair, height: int, secp: Secp256k1) -> bool:
 
 def proposal(pair: Pair, value: int, height: int, time: int, parent: bytes) -> bytes:
     """A block with the spend on the peer's best block, without work."""
-    fees = value - sum(out.value for out in pair.tx.outputs)
+    fees = value * len(pair.tx.inputs) - sum(out.value for out in pair.tx.outputs)
     txs = [coinbase(height, subsidy(height) + fees), pair.tx]
     return write_block(Block(Header(4, parent, merkle_root([tx.id for tx in txs]), time, BITS, 0), txs))
 
@@ -317,6 +354,9 @@ class Disagreement(NamedTuple):
             f"  spent {self.pair.spent.hex()}\n  transaction {write_transaction(tx).hex()}"
         )
 
+
+#: How many coins there are for other inputs.
+OTHER_COINS = 8
 
 #: Answers that aren't about scripts: the coin isn't there (it can't be spent at all), or a lock of BIP 68 isn't met.
 OTHERS = ("bad-txns-inputs-missingorspent", "bad-txns-nonfinal")
@@ -344,8 +384,10 @@ class Pairs:
     def _play_over(self, outputs: List[bytes], times: int) -> None:
         bench = self.bench
         coin = next(c for c in bench.maker.coins if c.kind == "true")
-        value = self._value = coin.value // len(outputs)
-        funding = Transaction(1, [Input(coin.id, coin.index, b"", FINAL)], [Output(value, o) for o in outputs], 0)
+        value = self._value = coin.value // (len(outputs) + OTHER_COINS)
+        made = [Output(value, script) for script in (*outputs, *[TRUE] * OTHER_COINS)]
+        funding = Transaction(1, [Input(coin.id, coin.index, b"", FINAL)], made, 0)
+        others = [(funding.id, n) for n in range(len(outputs), len(made))]
         above = bench.maker.base[-1].time + 600
         # A coinbase of its own, so that no two blocks are equal.
         self.seed += 1
@@ -355,7 +397,7 @@ class Pairs:
         if bench.peer.submit(data) != "accepted":
             raise RuntimeError("the block with the outputs is refused")
         pairs = [
-            Pair(o, self.author.spend(o, (funding.id, n), value, self.height, above))
+            self.author.spend(o, (funding.id, n), others, value, self.height, above)
             for _ in range(times)
             for n, o in enumerate(outputs)
         ]
@@ -389,6 +431,19 @@ class Pairs:
                 yield Disagreement(self.height, pair, yes, said)
 
 
+def by_rules(height: int, secp: Secp256k1, run: Type[interpreter.Run] = interpreter.Run) -> Callable[[Pair], bool]:
+    """What the rules say, as they are written in Python, or a wrong reading of them."""
+    flags = frozenset(flags_at(height))
+    known: Dict[Tuple[bytes, bytes, bytes], bool] = {}
+
+    def is_valid(*triple: bytes) -> bool:
+        if triple not in known:
+            known[triple] = secp.valid(consensus.Triple(*triple))  # type: ignore[index]
+        return known[triple]  # type: ignore[index]
+
+    return lambda pair: interpreter.accepts(pair.tx, pair.input, pair.spent, flags, is_valid, run)
+
+
 def right(height: int, secp: Secp256k1) -> Callable[[Pair], bool]:
     """What ours says at a height."""
     return lambda pair: ours(pair, height, secp)
@@ -403,5 +458,5 @@ def wrong(height: int, secp: Secp256k1) -> Dict[str, Callable[[Pair], bool]]:
     known = flags_at(height)
     rules = {f"{name} isn't in force": by(known - {name}) for name in sorted(known)}
     rules.update({f"{name} is in force": by(known | {name}) for name in sorted(consensus.ALL - known)})
-    rules["no signature is valid"] = lambda pair: consensus.verify(write_transaction(pair.tx), 0, pair.spent, known, b"")
+    rules["no signature is valid"] = lambda pair: consensus.verify(write_transaction(pair.tx), pair.input, pair.spent, known, b"")
     return rules

@@ -1,12 +1,13 @@
 """Wrong rules: one or more for each branch of the definitions."""
 
+import hashlib
 from typing import Callable, List, NamedTuple, Optional, Tuple, Type
 
-from wakotehu.encoding import hash160
+from wakotehu.encoding import Output, hash160, signature_digest, without_separators, write_transaction
 
 from . import rules
 from .chainstate import Chainstate, Node
-from .interpreter import is_push_only, opcodes, pays_to_script_hash
+from .interpreter import Refused, Run, is_push_only, opcodes, pays_to_script_hash
 from .rules import Body, Coins, Place, Rules, Tx, Turn, height_push, tally
 
 
@@ -724,4 +725,158 @@ RULES: List[Wrong] = [
     _tree("a valid fork is told as headers", _status=_status({"valid-fork": "valid-headers"})),
     _tree("an invalid tip is told as headers", _status=_status({"invalid": "valid-headers"})),
     _tree("headers are told as a valid fork", _status=_status({"valid-headers": "valid-fork"})),
+]
+
+
+# ---- scripts
+
+
+class _SingleIsAll(Run):
+    """SINGLE without an output signs as ALL."""
+
+    def _digest(self, code: bytes, kind: int) -> bytes:
+        is_bare = kind & 31 == 3 and self.input >= len(self.tx.outputs)
+        return signature_digest(self.tx, self.input, code, kind & 0x80 | 1 if is_bare else kind)
+
+
+class _SequencesStay(Run):
+    """With NONE and SINGLE the other inputs' sequences are signed."""
+
+    def _digest(self, code: bytes, kind: int) -> bytes:
+        if kind & 31 not in (2, 3) or (kind & 31 == 3 and self.input >= len(self.tx.outputs)):
+            return super()._digest(code, kind)
+        outputs = [] if kind & 31 == 2 else [Output(-1, b"")] * self.input + [self.tx.outputs[self.input]]
+        inputs = [i._replace(script=without_separators(code) if n == self.input else b"") for n, i in enumerate(self.tx.inputs)]
+        if kind & 0x80:
+            inputs = [inputs[self.input]]
+        data = write_transaction(self.tx._replace(inputs=inputs, outputs=outputs))
+        return hashlib.sha256(hashlib.sha256(data + kind.to_bytes(4, "little")).digest()).digest()
+
+
+class _SignsTheFirst(Run):
+    """The first input is signed whichever it is."""
+
+    def _digest(self, code: bytes, kind: int) -> bytes:
+        return signature_digest(self.tx, 0, code, kind)
+
+
+class _TypeOfFiveBits(Run):
+    """A hash type counts by its low bits."""
+
+    def _digest(self, code: bytes, kind: int) -> bytes:
+        return signature_digest(self.tx, self.input, code, kind & 0x9F)
+
+
+class _InnerIsNotRun(Run):
+    def run_inner(self, stack: List[bytes]) -> List[bytes]:
+        return [b"\1"]
+
+
+class _InnerOnNothing(Run):
+    def run_inner(self, stack: List[bytes]) -> List[bytes]:
+        return self.run(stack[-1], [])
+
+
+class _InnerOnItself(Run):
+    def run_inner(self, stack: List[bytes]) -> List[bytes]:
+        return self.run(stack[-1], list(stack))
+
+
+class _WholeCode(Run):
+    """CODESEPARATOR is nothing."""
+
+    def _signed_code(self, signatures: List[bytes]) -> bytes:
+        return self.script
+
+
+class _KeysAreNotCounted(Run):
+    """Keys aren't counted among the opcodes."""
+
+    def _check_many(self) -> bool:
+        before = self.count
+        self.count = 0
+        found = super()._check_many()
+        self.count = before
+        return found
+
+
+class _MoreSignatures(Run):
+    """There may be one signature more than keys."""
+
+    def _some(self, most: int) -> List[bytes]:
+        return super()._some(most if most == self.MOST_KEYS else most + 1)
+
+
+class _NothingMore(Run):
+    """CHECKMULTISIG takes no element more."""
+
+    def _check_many(self) -> bool:
+        if len(self.stack) < 2:
+            raise Refused
+        self.stack.insert(0, b"")
+        return super()._check_many()
+
+
+class _NotIfIsIf(Run):
+    def _condition(self, code: int, runs: bool) -> None:
+        super()._condition(0x63 if code == 0x64 else code, runs)
+
+
+class _ElseOnce(Run):
+    """A condition has one ELSE."""
+
+    def _condition(self, code: int, runs: bool) -> None:
+        marks = self.__dict__.setdefault("marks", [])
+        if code in (0x63, 0x64):
+            marks.append(False)
+        elif code == 0x68 and marks:
+            marks.pop()
+        elif code == 0x67 and marks:
+            if marks[-1]:
+                raise Refused
+            marks[-1] = True
+        super()._condition(code, runs)
+
+
+class _OpenIsFine(Run):
+    """A condition may stay open."""
+
+    def run(self, script: bytes, stack: List[bytes]) -> List[bytes]:
+        try:
+            return super().run(script, stack)
+        except Refused:
+            if not self.open:
+                raise
+            return self.stack
+
+
+def _limit(**changed: int) -> Type[Run]:
+    return type("Planted", (Run,), dict(changed))
+
+
+#: Wrong readings of scripts, each of which some pair of each base has to find.
+SCRIPTS: List[Tuple[str, Type[Run]]] = [
+    ("SINGLE without an output signs as ALL", _SingleIsAll),
+    ("other inputs' sequences are signed with NONE and SINGLE", _SequencesStay),
+    ("the first input is signed whichever it is", _SignsTheFirst),
+    ("a hash type counts by its low bits", _TypeOfFiveBits),
+    ("an inner script isn't run", _InnerIsNotRun),
+    ("an inner script runs on an empty stack", _InnerOnNothing),
+    ("an inner script stays on the stack", _InnerOnItself),
+    ("CODESEPARATOR is nothing", _WholeCode),
+    ("CHECKMULTISIG takes no element more", _NothingMore),
+    ("the keys of CHECKMULTISIG aren't counted", _KeysAreNotCounted),
+    ("there may be a signature more than keys", _MoreSignatures),
+    ("19 keys", _limit(MOST_KEYS=19)),
+    ("21 keys", _limit(MOST_KEYS=21)),
+    ("NOTIF is IF", _NotIfIsIf),
+    ("a condition has one ELSE", _ElseOnce),
+    ("a condition may stay open", _OpenIsFine),
+    ("a push has at most 519 bytes", _limit(MOST_PUSHED=519)),
+    ("a push has at most 521 bytes", _limit(MOST_PUSHED=521)),
+    ("a script has at most 9,999 bytes", _limit(MOST_BYTES=9999)),
+    ("200 opcodes", _limit(MOST_OPCODES=200)),
+    ("202 opcodes", _limit(MOST_OPCODES=202)),
+    ("999 elements", _limit(MOST_ELEMENTS=999)),
+    ("1,001 elements", _limit(MOST_ELEMENTS=1001)),
 ]
