@@ -136,6 +136,22 @@ KINDS: Tuple[Kind, ...] = (
         base=101,
     ),
     _kind(
+        "a block below a header that stays",
+        """
+        a1 on base
+        a2 on a1 not final
+        """,
+        """
+        submit a1      | accepted, a1          | accepted, a1
+        submit a2      | bad-txns-nonfinal, a1 | bad-txns-nonfinal, a1
+        invalidate a1  | done, base            | done, base
+        reconsider a2  | done, base            | not-found, base
+        precious a1    | done, a1              | done, base
+        """,
+        base=101,
+        case_of="a header stays of a block that isn't final",
+    ),
+    _kind(
         "a header stays of a block without its height",
         """
         a1 on base another height

@@ -192,7 +192,8 @@ class _Run:
                 for found in pairs.differing(scripts.by_rules(pairs.height, pairs.author.secp)):
                     faults += 1
                     print(f"FAULT the rules as they are written here: {found}")
-                said = Counter("accepted" if s == "accepted" else "not a matter of scripts" if s in scripts.OTHERS else "refused" for _, s in pairs.played)
+                others = dict.fromkeys(scripts.OTHERS, "not a matter of scripts")
+                said = Counter(others.get(said, "accepted" if said == "accepted" else "refused") for _, said in pairs.played)
                 print(f"{len(pairs.played)} script pairs at height {pairs.height}: " + ", ".join(f"{n} {w}" for w, n in said.most_common()))
                 faults += self._planted_pairs(pairs)
         return faults

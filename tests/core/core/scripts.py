@@ -138,7 +138,10 @@ class Author:
 
     def edge_code(self) -> bytes:
         """Numbers that opcodes take, at their edges."""
-        kind = self.chance.randrange(4)
+        kind = self.chance.randrange(5)
+        if kind == 4:
+            condition = self.chance.choice((b"\x00", b"\x51", b"\x01\x80", b"\x01\x00", b"\x02\x00\x80", b"\x02\x80\x00"))
+            return condition + self.chance.choice((b"\x63", b"\x64")) + b"\x51\x67\x00" * self.chance.choice((1, 1, 2)) + b"\x68"
         if kind < 2:
             count = self.chance.randrange(1, 5)
             n = self.chance.choice((0, count - 1, count - 1, count, -1))
@@ -163,7 +166,7 @@ class Author:
         draw = self.chance.random()
         if draw < 0.1:
             return self.long_code()
-        if draw < 0.2:
+        if draw < 0.22:
             return self.edge_code()
         code = self.chance.choice(writers)()
         if self.chance.random() < 0.5:
@@ -220,7 +223,8 @@ class Author:
             # The lock of BIP 68 has to be met by a coin of the block below.
             sequence &= 1 << 22 | 1 if self.chance.random() < 0.9 else FINAL
             sequence &= ~(1 << 22)
-        outputs = [Output(value // 4, TRUE), Output(0, b"\x52"), Output(1, TRUE), Output(2, TRUE)][: self.chance.choice((1, 1, 2, 2, 4))]
+        outputs = [Output(value // 4, TRUE), Output(0, b"\x52"), Output(1, TRUE), Output(2, TRUE)]
+        outputs = outputs[: self.chance.choice((1, 1, 2, 2, 4))]
         of = (FINAL,) if sequence == FINAL else (FINAL, FINAL - 1, 0, 1, (1 << 31) | 5)
         more = self.chance.sample(others, self.chance.choice((0, 0, 1, 2, 3)))
         inputs = [Input(*other, b"", self.chance.choice(of)) for other in more]

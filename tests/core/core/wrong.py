@@ -3,7 +3,7 @@
 import hashlib
 from typing import Callable, List, NamedTuple, Optional, Tuple, Type
 
-from wakotehu.encoding import Output, hash160, signature_digest, without_separators, write_transaction
+from wakotehu.encoding import Input, Output, hash160, signature_digest, without_separators, write_transaction
 
 from . import rules
 from .chainstate import Chainstate, Node
@@ -72,6 +72,10 @@ def _twin_of_neighbours(self: Rules, level: List[bytes]) -> bool:
     return any(a == b for a, b in zip(level, level[1:]))
 
 
+def _has_null(self: Rules, inputs: List[Input]) -> bool:
+    return any(self.is_null(i.id, i.index) for i in inputs)
+
+
 def _total_at_the_end(self: Rules, tx: Tx) -> str:
     found = next(filter(None, (self.value_fault(o.value, 0) for o in tx.outputs)), "")
     return found or self.value_fault(0, sum(o.value for o in tx.outputs))
@@ -96,7 +100,9 @@ def _script_length(least: int, most: int) -> Callable[[Rules, Tx], bool]:
     return lambda self, tx: self.is_coinbase(tx) and not least <= len(tx.inputs[0].script) <= most
 
 
-def _counting(one: int = 1, many: int = 20, verify: bool = True, accurate: bool = False, pushes: bool = False) -> Callable[[Rules, Tx], int]:
+def _counting(
+    one: int = 1, many: int = 20, verify: bool = True, accurate: bool = False, pushes: bool = False
+) -> Callable[[Rules, Tx], int]:
     """Plain operations counted otherwise."""
 
     def count(script: bytes) -> int:
@@ -269,9 +275,11 @@ def _locks(
     return is_met
 
 
-def _locks_of_versions(is_locked: Callable[[int], bool], which: Callable[[int], bool] = lambda n: True) -> Callable[[Rules, Turn], bool]:
+def _locks_of_versions(
+    is_locked: Callable[[int], bool], which: Callable[[int], bool] = lambda n: True, first: Optional[int] = None
+) -> Callable[[Rules, Turn], bool]:
     def breaks(self: Rules, turn: Turn) -> bool:
-        if turn.place.height < self.csv or not is_locked(turn.tx.tx.version):
+        if turn.place.height < (self.csv if first is None else first) or not is_locked(turn.tx.tx.version):
             return False
         pairs = list(zip(turn.tx.inputs, turn.spent()))
         return not all(self.is_lock_met(i.sequence, c.height, turn.place) for n, (i, c) in enumerate(pairs) if which(n))
@@ -561,7 +569,7 @@ def _told(name: str, right: str, wrong: str, is_ours: bool = False) -> Wrong:
 RULES: List[Wrong] = [
     # A block by itself.
     _rule("any work will do", is_without_work=never),
-    _rule("twice as much work is asked", TARGET=Rules.TARGET // 2, BITS=Rules.BITS, is_without_work=lambda self, block: block.work > self.TARGET),
+    _rule("twice as much work is asked", is_without_work=lambda self, block: block.work > self.TARGET // 2),
     _rule("any root will do", has_other_root=never),
     _rule("an odd level is filled up with zeros", pairs=_padded_with_zeros),
     _rule("no twin is looked for", has_twin=never),
@@ -576,9 +584,12 @@ RULES: List[Wrong] = [
     _rule("a block needs no coinbase", is_ours=True, lacks_coinbase=never),
     _rule("the id makes an outpoint null", is_null=lambda self, id, index: id == bytes(32)),
     _rule("the number makes an outpoint null", is_null=lambda self, id, index: index == 0xFFFFFFFF),
-    _rule("a coinbase has a null input, and may have others", is_coinbase=lambda self, tx: any(self.is_null(i.id, i.index) for i in tx.inputs)),
+    _rule("a coinbase has a null input, and may have others", is_coinbase=lambda self, tx: _has_null(self, tx.inputs)),
     _rule("there may be two coinbases", has_second_coinbase=never),
-    _rule("the second transaction alone may be no coinbase", has_second_coinbase=lambda self, block: any(map(self.is_coinbase, block.txs[1:2]))),
+    _rule(
+        "the second transaction alone may be no coinbase",
+        has_second_coinbase=lambda self, block: any(map(self.is_coinbase, block.txs[1:2])),
+    ),
     _rule("a transaction needs no inputs", is_ours=True, has_no_input=never),
     _rule("a transaction needs no outputs", has_no_output=never),
     _rule("a value may be negative", value_fault=_value_fault(negative=never)),
@@ -597,7 +608,10 @@ RULES: List[Wrong] = [
     _rule("a coinbase's script has at most 99 bytes", has_bad_coinbase_script=_script_length(2, 99)),
     _rule("a coinbase's script has at most 101 bytes", has_bad_coinbase_script=_script_length(2, 101)),
     _rule("an input may be null", names_null=never),
-    _rule("the first input alone mustn't be null", names_null=lambda self, tx: not self.is_coinbase(tx) and any(self.is_null(i.id, i.index) for i in tx.inputs[:1])),
+    _rule(
+        "the first input alone mustn't be null",
+        names_null=lambda self, tx: not self.is_coinbase(tx) and _has_null(self, tx.inputs[:1]),
+    ),
     _rule("any number of operations", has_many_operations=never, goes_over_by_its_own=never, goes_over=never),
     _rule("19,999 operations", MOST_OPERATIONS=19999),
     _rule("20,001 operations", MOST_OPERATIONS=20001),
@@ -663,7 +677,7 @@ RULES: List[Wrong] = [
     _rule("a transaction may pay more than it spends", spends_more=never),
     _rule("a transaction pays less than it spends", spends_more=_not_less),
     _rule("no relative locks", breaks_a_lock=never),
-    _rule("relative locks at every height", breaks_a_lock=lambda self, turn: not all(self.is_lock_met(i.sequence, c.height, turn.place) for i, c in zip(turn.tx.inputs, turn.spent())) and _versions(turn.tx.tx.version)),
+    _rule("relative locks at every height", breaks_a_lock=_locks_of_versions(_versions, first=0)),
     _rule("relative locks of version 1 too", breaks_a_lock=_locks_of_versions(lambda version: version >= 1 or version < 0)),
     _rule("no relative locks of negative versions", breaks_a_lock=_locks_of_versions(lambda version: version >= 2)),
     _rule("relative locks of the first input alone", breaks_a_lock=_locks_of_versions(_versions, lambda n: n == 0)),
