@@ -14,6 +14,7 @@ from .compare import Bench, Tally
 from .rules import ALL_KINDS
 from .wrong import RULES, SCRIPTS
 
+DOCUMENT = Path(__file__).parents[3] / "docs" / "CORE.md"
 #: Heights of bases on which each rule comes: with no soft fork in force, and with all.
 RULE_BASES = (110, 1360)
 #: In so many lists each wrong rule has to be found.
@@ -43,7 +44,7 @@ def main(words: Sequence[str]) -> int:
 
 def _options(words: Sequence[str]) -> argparse.Namespace:
     parser = argparse.ArgumentParser(prog="tests/core/run", description=__doc__)
-    parser.add_argument("--short", action="store_true", help="some of it, in about a minute")
+    parser.add_argument("--short", action="store_true", help="some of it, in a minute or two")
     parser.add_argument("--program", help="regchain, whose answers are compared too (else the library's alone)")
     parser.add_argument("--seed", type=int, default=1, help="the first seed of lists and pairs (1)")
     parser.add_argument("--lists", type=int, help="lists on each base (50, on bases of other heights 40 or 20; short 30)")
@@ -66,6 +67,8 @@ class _Run:
     def kinds(self) -> int:
         """Each kind of difference is as docs/CORE.md has it, and each switch of the rules is one of them."""
         faults = [f"no small list for {kind}" for kind in ALL_KINDS - {kind.switch for kind in differences.KINDS}]
+        rows = {line.split(" | ")[0][2:] for line in DOCUMENT.read_text().splitlines() if line.startswith("| ")}
+        faults += [f"docs/CORE.md has no row: {kind.name}" for kind in differences.KINDS if kind.name not in rows]
         by_base: Dict[int, List[differences.Kind]] = {}
         for kind in differences.KINDS:
             by_base.setdefault(kind.base, []).append(kind)
