@@ -2,10 +2,14 @@
 another seed, COUNT how many inputs."""
 
 import hashlib
-import json
 import os
 import random
+import sys
 import unittest
+
+sys.path.append(os.path.join(os.path.dirname(os.path.abspath(__file__)), "..", "..", "..", "tests", "vectors"))
+
+from play import pairs
 
 from blocks import NOW, Maker, block_id, spend, with_script
 from test_bench import KEYS, SECP, SECRETS, multisig, pay_to_script
@@ -15,7 +19,6 @@ from wakotehu.encoding import Input, Output, Transaction, push, read_transaction
 
 SEED = int(os.environ.get("SEED", random.randrange(1 << 32)))
 COUNT = int(os.environ.get("COUNT", 10000)) // 10
-VECTORS = os.path.join(os.path.dirname(os.path.abspath(__file__)), "..", "..", "..", "tests", "vectors", "script_tests.json")
 ALL = ahead.Flags(True, True, True)
 
 
@@ -81,21 +84,10 @@ class AskedTest(unittest.TestCase):
         self.assertGreater(many, COUNT // 50)
 
     def test_the_vectors(self):
-        def data(text):
-            parts = (part.partition("*") for part in text.split())
-            return b"".join(bytes.fromhex(digits) * int(times or 1) for digits, _, times in parts)
-
-        with open(VECTORS, encoding="utf-8") as file:
-            rows = json.load(file)[1:]
-        for row in rows:
-            setting = row[0] if isinstance(row[0], dict) else {}
-            own, spent, flags = row[-5:-2]
-            inputs = [Input(b"\7" * 32, 0, script, setting.get("sequence", 0)) for script in (b"", data(own[2:]))]
-            tx = Transaction(setting.get("version", 1), inputs, [Output(1, b"")], setting.get("lock_time", 0))
-            names = flags.split(",")
-            forced = ahead.Flags("DERSIG" in names, "CLTV" in names, "CSV" in names)
+        for pair in pairs():
+            forced = ahead.Flags("DERSIG" in pair.flags, "CLTV" in pair.flags, "CSV" in pair.flags)
             for salt in (b"\0", b"\1", b"\2"):
-                self.same(write_transaction(tx), 1, data(spent[2:]), forced, salt)
+                self.same(pair.tx, pair.input, pair.spent, forced, salt)
 
     def test_wrong_guesses_cost_no_more_than_right_ones(self):
         """Of scripts whose way hangs on each verdict few signatures are tested that aren't asked for."""

@@ -110,7 +110,7 @@ class InstallTest(unittest.TestCase):
         )  # fmt: skip
         self.assertEqual((done.returncode, os.listdir(self.folder)), (1, []))
         self.assertIn("/nowhere/regchain isn't there", done.stderr)
-        self.assertEqual(run(f"{FFI}/python/build", "--help").split()[:2], ["Makes", "a"])
+        self.assertEqual(run(f"{FFI}/python/build", "--help").split()[:2], ["ffi/python/build", "[FOLDER]"])
         done = subprocess.run([f"{FFI}/python/build", "--nonsense"], capture_output=True)
         self.assertEqual(done.returncode, 2)
 
