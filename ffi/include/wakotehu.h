@@ -358,7 +358,7 @@ wakotehu_code wakotehu_strict_signature(const uint8_t *bytes, size_t length, uin
 wakotehu_code wakotehu_signature_digest(const uint8_t *bytes, size_t length, uint64_t input, const uint8_t *code,
                                         size_t code_length, uint32_t kind, uint8_t *digest);
 
-/* The same of the code just as it is given, with each OP_CODESEPARATOR in it: no signature of Bitcoin's signs that where
+/* The same for the code just as it is given, with each OP_CODESEPARATOR in it: no signature of Bitcoin's signs that where
  * there is one. */
 wakotehu_code wakotehu_signature_digest_as_given(const uint8_t *bytes, size_t length, uint64_t input,
                                                  const uint8_t *code, size_t code_length, uint32_t kind,

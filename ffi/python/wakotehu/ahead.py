@@ -1,7 +1,7 @@
 """What the scripts of inputs will ask for, one signature after the other: guessed, so that libsecp256k1 may be asked about
 many at once.
 
-A chainstate by need names the first signature of each script of which nothing is known. A script that asks for many would
+A chainstate by need names the first signature of each script about which nothing is known. A script that asks for many would
 cost a submission for each. So it is run here, under the verdicts that are known and the guess that others are like them.
 Nothing here decides: what is found out is learned as a verdict of libsecp256k1, and the chainstate asks for whatever was
 guessed wrong.

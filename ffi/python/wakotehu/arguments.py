@@ -149,7 +149,7 @@ def words_of(value: object, name: str, known: Collection[str]) -> Iterable[str]:
 
 
 def path(value: object, name: str) -> str:
-    """A path, as a text or an object that has one. A name that begins like an option is written so that it is none."""
+    """A path, as a text or an object that has one. A name that begins like an option is written so that it isn't read as one."""
     try:
         found = os.fsdecode(os.fspath(value))  # type: ignore[call-overload]
     except TypeError:

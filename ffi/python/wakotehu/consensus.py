@@ -434,7 +434,7 @@ def signature_digest(data: bytes, input: int, code: bytes, kind: int) -> bytes:
 
 
 def signature_digest_as_given(data: bytes, input: int, code: bytes, kind: int) -> bytes:
-    """The same of the code just as it is given, with each OP_CODESEPARATOR in it."""
+    """The same for the code just as it is given, with each OP_CODESEPARATOR in it."""
     return _digest("signature_digest_as_given", data, input, code, kind)
 
 
