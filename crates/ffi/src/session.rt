@@ -211,8 +211,8 @@ impl Session {
 
     /// The coin at the least outpoint above another, with that outpoint; above `None`, the least of all.
     pub(crate) fn coin_after(&self, at: Option<&OutPoint>) -> Option<(&OutPoint, &Coin)>
-        ensures { IsNext (coins (rules_of self.now) ledger (tree_of self.now)) (option_copied at.entry)
-            (option_map deref_pair result) }
+        ensures { let all = coins (rules_of self.now) ledger (tree_of self.now) in
+            IsNext all (option_copied at.entry) (option_map deref_pair result) }
     {
         self.chain.coins().after(at)
     }
