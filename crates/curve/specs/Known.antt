@@ -12,6 +12,10 @@ Known = Triple → Option Bool
 abbrev pub Agrees : Known → Triples → Type 0
 Agrees known triples = (t : Triple) → (valid : Bool) → known t ≡ Some valid → set.contains triples t ≡ valid
 
+-- with a table all is known: its triples are valid, and no others
+abbrev pub all_known : Triples → Known
+all_known table t = Some (set.contains table t)
+
 -- so it is under every set that agrees
 abbrev pub Under : Known → (Triples → Type 0) → Type 0
 Under known P = (triples : Triples) → Agrees known triples → P triples

@@ -80,7 +80,13 @@ impl KnownSignatures {
 }
 
 impl KnowsSignatures for KnownSignatures {
+    ghost use Rattle.curve.specs.laws.Agreeing.{found_agrees};
+
     ghost known = { verdict_in };
+
+    ghost agreeing = { λ found. found.valid };
+
+    ghost agrees = { found_agrees };
 
     fn find(&self, key: &[u8], signature: &[u8], digest: &[u8; 32]) -> Option<bool> {
         if self.valid.has(key, signature, digest) {

@@ -4,8 +4,7 @@ pub mod Truth
 pub mod FirstFalse
 pub mod Counts
 pub mod Bounds
-pub mod Stopping
-pub mod Coming
-pub mod Pairs
 pub mod Exchanges
 pub mod Opcodes
+pub mod Pairs
+pub mod Inputs

@@ -7,7 +7,8 @@ pub mod Signatures
 pub mod Timelocks
 pub mod Row
 pub mod Rules
-pub mod Asking
+pub mod Question
+pub mod Answer
 pub mod inside
 pub mod computed
 pub mod laws

@@ -2,6 +2,7 @@
 use Rattle.std.specs.Prelude.{ℕ, ◌-◌, ◌==◌, List, [], ◌∷◌, length, Bool, true, false, not, ◌&&◌, ◌||◌, nat_lt, nat_le, if◌then◌else◌, Option, Some, None, pos, ℤ, ◌+ℤ◌, ◌-ℤ◌, neg_ℤ, int_lt, unsigned_abs}
 use Rattle.std.specs.Int.{int_min, int_max}
 use Rattle.std.specs.Str.{bytes_eq}
+use Rattle.txn.specs.declared.tx.Tx.{Tx}
 use Rattle.sha1.specs.Sha1.{sha1}
 use Rattle.sha2.specs.Sha256.{sha256}
 use Rattle.ripemd.specs.Ripemd160.{ripemd160}
@@ -12,7 +13,6 @@ use Rattle.script.specs.Op.{pushed_of}
 use Rattle.interp.specs.Limits.{max_element_size}
 use Rattle.interp.specs.Stack.{Bytes}
 use Rattle.interp.specs.Elements.{truth, truth_bytes, flag}
-use Rattle.interp.specs.Spending.{Spending}
 use Rattle.interp.specs.declared.flags.Flags.{Flags}
 use Rattle.interp.specs.Timelocks.{locks_until, locks_for}
 
@@ -59,7 +59,7 @@ pub data Row : Type 0 where
   -- signed code begins after it
   Separates : Row
   -- where its rule is in force, fails unless the number on top, which stays, passes the test; else does nothing
-  Asks : (Flags → Bool) → (Spending → ℕ → Bool) → Row
+  Asks : (Flags → Bool) → (Tx → ℕ → ℕ → Bool) → Row
 
 abbrev pub moves : ℕ → List ℕ → Row
 moves n left = Changes (Moves n left)
@@ -187,8 +187,8 @@ rows =
     ∷ (0xae, Tests Multisig)  -- OP_CHECKMULTISIG
     ∷ (0xaf, AndVerifies Multisig)  -- OP_CHECKMULTISIGVERIFY
     ∷ (0xb0, Nothing)  -- OP_NOP1
-    ∷ (0xb1, Asks (λ flags. flags.cltv) (λ p n. locks_until p.tx p.input n))  -- OP_CHECKLOCKTIMEVERIFY
-    ∷ (0xb2, Asks (λ flags. flags.csv) (λ p n. locks_for p.tx p.input n))  -- OP_CHECKSEQUENCEVERIFY
+    ∷ (0xb1, Asks (λ flags. flags.cltv) locks_until)  -- OP_CHECKLOCKTIMEVERIFY
+    ∷ (0xb2, Asks (λ flags. flags.csv) locks_for)  -- OP_CHECKSEQUENCEVERIFY
     ∷ []
 
 -- an opcode without a row fails

@@ -138,7 +138,7 @@ Executed p after (Changes x) s t = OnMain (Affects x) s t
 Executed p after (Tests check) s t = Checks p check s t
 Executed p after (AndVerifies check) s t = (mid : State) × Checks p check s mid × OnMain TakesTrue mid t
 Executed p after Separates s t = t ≡ record s { code = after }
-Executed p after (Asks in_force test) s t = AskingInForce (in_force p.flags) (test p) s t
+Executed p after (Asks in_force test) s t = AskingInForce (in_force p.flags) (test p.tx p.input) s t
 Executed p after row s t = Controls row s t
 
 -- ---- one opcode in a branch that isn't taken

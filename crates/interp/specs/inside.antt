@@ -1,3 +1,3 @@
 -- What private functions and invariants alone cite.
 pub mod Spending
-pub mod Keys
+pub mod Going

@@ -1,16 +1,16 @@
 //! One script, opcode by opcode.
 
-ghost use Rattle.std.specs.Prelude.{◌≡◌, ◌<◌, ◌≤◌, ◌+◌, ℕ, List, [], length, true, IfOk, IfErr, IfSome};
-ghost use Rattle.curve.specs.Known.{Under};
-ghost use Rattle.interp.specs.Asking.{IsStopped, SigAsks, MultisigAsks, CheckAsks, RowAsks, StepAsks};
+ghost use Rattle.std.specs.Prelude.{◌≡◌, ◌<◌, ◌≤◌, ◌+◌, ℕ, List, length, option_and_then, IfOk, IfSome};
+ghost use Rattle.curve.specs.Known.{Known};
+ghost use Rattle.interp.specs.Answer.{answer_map};
+ghost use Rattle.interp.specs.inside.Going.{Goes, Leaves};
+ghost use Rattle.interp.specs.Question.{Question, question_of};
 ghost use Rattle.interp.specs.computed.Stack.{Gives};
-ghost use Rattle.interp.specs.Spending.{Spending};
-ghost use Rattle.interp.specs.inside.Spending.{spending_for};
 ghost use Rattle.interp.specs.State.{start, is_executing};
 ghost use Rattle.interp.specs.Timelocks.{locks_until, locks_for};
 ghost use Rattle.interp.specs.computed.Meaning.{meaning, check_of};
-ghost use Rattle.interp.specs.computed.Step.{after_executing, after_skipping, after_verify, with_main, after_open, after_turn, after_close, to_alt, from_alt, counts_of, after_sig, after_checking_multisig, after_asking, after_test, after_acting, with_count, within_bounds, step_at, step, stack_left};
-ghost use Rattle.interp.specs.Row.{push_row, row_at, row_of, AndVerifies};
+ghost use Rattle.interp.specs.computed.Step.{after_executing, after_skipping, after_verify, with_main, after_open, after_turn, after_close, to_alt, from_alt, counts_of, after_checking_multisig, verified, after_asking, after_test, after_acting, with_count, within_bounds, step_at, step, stack_left};
+ghost use Rattle.interp.specs.Row.{push_row, row_at, row_of, Sig};
 
 use crate::changes::{apply, compare, push, verify};
 use crate::conditions::Conditions;
@@ -196,11 +196,8 @@ impl<'a> Execution<'a> {
         known: &K,
     ) -> Result<bool, Unverified>
         requires { job.now.input < length job.now.tx.now.inputs }
-        ensures answer { IfOk result (λ done. Under (K.known known.now) (λ triples.
-            let p = spending_for job.now triples in
-            Gives done (with_main self.old (after_sig p self.old.code self.old.main)) self.new)) }
-        ensures stops { IfErr result (IsStopped (K.known known.now) (λ triples.
-            SigAsks (spending_for job.now triples) self.old)) }
+        ensures { Goes result
+            (after_test (K.known known.now) (question_of job.now) Sig self.old) self.new }
     {
         if self.main.len() < 2 {
             return Ok(false);
@@ -219,10 +216,8 @@ impl<'a> Execution<'a> {
         known: &K,
     ) -> Result<bool, Unverified>
         requires { job.now.input < length job.now.tx.now.inputs }
-        ensures answer { IfOk result (λ done. Under (K.known known.now) (λ triples. Gives done
-            (after_checking_multisig (spending_for job.now triples) self.old) self.new)) }
-        ensures stops { IfErr result (IsStopped (K.known known.now) (λ triples.
-            MultisigAsks (spending_for job.now triples) self.old)) }
+        ensures { Goes result
+            (after_checking_multisig (K.known known.now) (question_of job.now) self.old) self.new }
     {
         let Some(counts) = self.counts() else {
             return Ok(false);
@@ -240,10 +235,8 @@ impl<'a> Execution<'a> {
         by: Test,
     ) -> Result<bool, Unverified>
         requires { job.now.input < length job.now.tx.now.inputs }
-        ensures answer { IfOk result (λ done. Under (K.known known.now) (λ triples. Gives done
-            (after_test (spending_for job.now triples) (check_of by) self.old) self.new)) }
-        ensures stops { IfErr result (IsStopped (K.known known.now) (λ triples.
-            CheckAsks (spending_for job.now triples) (check_of by) self.old)) }
+        ensures { Goes result
+            (after_test (K.known known.now) (question_of job.now) (check_of by) self.old) self.new }
     {
         match by {
             Test::Equal => Ok(compare(alloc, &mut self.main)?),
@@ -261,11 +254,8 @@ impl<'a> Execution<'a> {
         by: Test,
     ) -> Result<bool, Unverified>
         requires { job.now.input < length job.now.tx.now.inputs }
-        ensures answer { IfOk result (λ done. Under (K.known known.now) (λ triples. Gives done
-            (after_executing (spending_for job.now triples) [] (AndVerifies (check_of by))
-            self.old) self.new)) }
-        ensures stops { IfErr result (IsStopped (K.known known.now) (λ triples.
-            CheckAsks (spending_for job.now triples) (check_of by) self.old)) }
+        ensures { Goes result (answer_map (option_and_then verified)
+            (after_test (K.known known.now) (question_of job.now) (check_of by) self.old)) self.new }
     {
         if !self.test(alloc, job, known, by)? {
             return Ok(false);
@@ -303,11 +293,8 @@ impl<'a> Execution<'a> {
         op: Op,
     ) -> Result<bool, Unverified>
         requires { job.now.input < length job.now.tx.now.inputs }
-        ensures answer { IfOk result (λ done. Under (K.known known.now) (λ triples. Gives done
-            (after_executing (spending_for job.now triples) after.now (meaning op) self.old)
-            self.new)) }
-        ensures stops { IfErr result (IsStopped (K.known known.now) (λ triples.
-            RowAsks (spending_for job.now triples) (meaning op) self.old)) }
+        ensures { Goes result (after_executing (K.known known.now) (question_of job.now)
+            after.now (meaning op) self.old) self.new }
     {
         match op {
             Op::Disabled | Op::Fails => Ok(false),
@@ -372,12 +359,8 @@ impl<'a> Execution<'a> {
         number: u8,
     ) -> Result<bool, Unverified>
         requires { job.now.input < length job.now.tx.now.inputs }
-        ensures answer { IfOk result (λ done. Under (K.known known.now) (λ triples. Gives done
-            (after_acting (spending_for job.now triples) after.now (row_at number) self.old)
-            self.new)) }
-        ensures stops { IfErr result (IsStopped (K.known known.now) (λ triples t.
-            (is_executing self.old ≡ true)
-            × RowAsks (spending_for job.now triples) (row_at number) self.old t)) }
+        ensures { Goes result (after_acting (K.known known.now) (question_of job.now)
+            after.now (row_at number) self.old) self.new }
     {
         if self.is_executing() {
             self.execute(alloc, job, known, after, op_of(number))
@@ -389,8 +372,8 @@ impl<'a> Execution<'a> {
     /// A push of bytes.
     #[tactic(auto, unfolding(crate::specs::computed::Step::after_acting))]
     fn act_push(&mut self, alloc: Global, bytes: &[u8]) -> Result<bool, Memory>
-        ensures { IfOk result (λ done. (p : Spending) (after : List ℕ)
-            → Gives done (after_acting p after (push_row bytes.now) self.old) self.new) }
+        ensures { IfOk result (λ done. (known : Known) (q : Question) (after : List ℕ)
+            → Leaves done (after_acting known q after (push_row bytes.now) self.old) self.new) }
     {
         if bytes.len() > MAX_PUSH {
             return Ok(false);
@@ -435,10 +418,8 @@ impl<'a> Execution<'a> {
         op: &[u8],
     ) -> Result<bool, Unverified>
         requires { job.now.input < length job.now.tx.now.inputs }
-        ensures answer { IfOk result (λ done. Under (K.known known.now) (λ triples. Gives done
-            (step (spending_for job.now triples) after.now op.now self.old) self.new)) }
-        ensures stops { IfErr result (IsStopped (K.known known.now) (λ triples.
-            StepAsks (spending_for job.now triples) op.now self.old)) }
+        ensures { Goes result
+            (step (K.known known.now) (question_of job.now) after.now op.now self.old) self.new }
     {
         let Some(number) = op.first() else {
             return Ok(false);

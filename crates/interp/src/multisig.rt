@@ -1,15 +1,14 @@
 //! CHECKMULTISIG.
 
-ghost use Rattle.std.specs.Prelude.{◌≡◌, ◌+◌, ◌-◌, ◌<◌, ◌≤◌, length, take, drop, IfOk, IfErr, IfSome};
+ghost use Rattle.std.specs.Prelude.{◌≡◌, ◌+◌, ◌-◌, ◌<◌, ◌≤◌, length, take, drop, IfOk, IfSome};
 ghost use Rattle.std.specs.List.{concat};
 ghost use Rattle.script.specs.Removal.{bytes_of};
-ghost use Rattle.curve.specs.Known.{Under};
-ghost use Rattle.interp.specs.Asking.{Stops, IsStopped, TryingAsks};
-ghost use Rattle.interp.specs.inside.Keys.{IsFirstKey, IsFirstUnknown};
-ghost use Rattle.interp.specs.inside.Spending.{spending_for};
-ghost use Rattle.interp.specs.Signatures.{is_valid, signature_proper, signed_code};
+ghost use Rattle.interp.specs.Answer.{Tells};
+ghost use Rattle.sighash.specs.Digest.{digest_of};
+ghost use Rattle.interp.specs.Question.{question_of};
+ghost use Rattle.interp.specs.Signatures.{type_of};
 ghost use Rattle.interp.specs.computed.Signatures.{pairs_verdict};
-ghost use Rattle.interp.specs.computed.Step.{many, keys_in, signatures_in, multisig_answer};
+ghost use Rattle.interp.specs.computed.Step.{many, multisig_answer};
 
 use crate::element::{Element, natural};
 use crate::job::Job;
@@ -54,29 +53,26 @@ fn slices(
     Ok(slices)
 }
 
-/// The place of the first key for which a signature is valid over this digest.
-fn first_key<K: KnowsSignatures>(
-    alloc: Global,
-    known: &K,
-    digest: &[u8; 32],
+/// What a signature signs, which may be in hand already.
+fn known_or_worked_out(
+    job: &Job,
+    code: &[&[u8]],
     signature: &[u8],
-    keys: &[&[u8]],
-) -> Result<Option<usize>, Unverified>
-    requires { 0 < length signature.now }
-    ensures answer { IfOk result (IsFirstKey (K.known known.now)
-        (signature_proper signature.now) digest.now (bytes_of keys.now)) }
-    ensures stops { IfErr result (Stops (K.known known.now) (IsFirstUnknown (K.known known.now)
-        (signature_proper signature.now) digest.now (bytes_of keys.now))) }
+    in_hand: Option<[u8; 32]>,
+) -> [u8; 32]
+    requires input { job.now.input < length job.now.tx.now.inputs }
+    requires right { IfSome in_hand (λ digest. digest ≡ digest_of job.now.tx.now job.now.input
+        (concat (bytes_of code.now)) (type_of signature.now)) }
+    ensures { result ≡ digest_of job.now.tx.now job.now.input (concat (bytes_of code.now))
+        (type_of signature.now) }
 {
-    for place in 0..keys.len() {
-        if is_valid(alloc, known, digest, signature, keys[place])? {
-            return Ok(Some(place));
-        }
+    match in_hand {
+        Some(digest) => digest,
+        None => digest_for(job, code, signature),
     }
-    Ok(None)
 }
 
-/// Tries signatures and keys in order: None where one that is tried may not be.
+/// Tries signatures and keys from the top down: None where one that is tried may not be.
 fn try_pairs<K: KnowsSignatures>(
     alloc: Global,
     job: &Job,
@@ -86,32 +82,30 @@ fn try_pairs<K: KnowsSignatures>(
     keys: &[&[u8]],
 ) -> Result<Option<bool>, Unverified>
     requires { job.now.input < length job.now.tx.now.inputs }
-    ensures answer { IfOk result (λ answer. Under (K.known known.now) (λ triples.
-        answer ≡ pairs_verdict (spending_for job.now triples) (concat (bytes_of code.now))
-        (bytes_of signatures.now) (bytes_of keys.now))) }
-    ensures stops { IfErr result (IsStopped (K.known known.now) (λ triples.
-        TryingAsks (spending_for job.now triples) (concat (bytes_of code.now))
-        (bytes_of signatures.now) (bytes_of keys.now))) }
+    ensures { Tells result (pairs_verdict (K.known known.now) (question_of job.now)
+        (concat (bytes_of code.now)) (bytes_of signatures.now) (bytes_of keys.now)) }
 {
-    let [signature, others @ ..] = signatures else {
-        return Ok(Some(true));
-    };
-    if keys.len() <= others.len() {
-        return Ok(Some(false));
+    let mut used = 0;
+    // What the first signature that isn't used up signs, once one key was tried with it.
+    let mut signed = None;
+    for place in 0..keys.len() {
+        let Some(signature) = signatures.get(used) else {
+            return Ok(Some(true));
+        };
+        if keys.len() - place < signatures.len() - used {
+            return Ok(Some(false));
+        }
+        if !may_be_tried(job.flags, signature) {
+            return Ok(None);
+        }
+        if !signature.is_empty() {
+            let digest = known_or_worked_out(job, code, signature, signed);
+            let valid = is_valid(alloc, known, &digest, signature, keys[place])?;
+            signed = if valid { None } else { Some(digest) };
+            used += usize::from(valid);
+        }
     }
-    if !may_be_tried(job.flags, signature) {
-        return Ok(None);
-    }
-    if signature.is_empty() {
-        return Ok(Some(false));
-    }
-    let digest = digest_for(job, code, signature);
-    let (spare, _) = keys.split_at(keys.len() - others.len());
-    let Some(used) = first_key(alloc, known, &digest, signature, spare)? else {
-        return Ok(Some(false));
-    };
-    let (_, left) = keys.split_at(used + 1);
-    try_pairs(alloc, job, known, code, others, left)
+    Ok(Some(used == signatures.len()))
 }
 
 /// What CHECKMULTISIG answers, with so many keys and signatures on the stack.
@@ -127,12 +121,7 @@ pub fn answer<K: KnowsSignatures>(
     requires few { counts.0 ≤ 20 }
     requires no_more { counts.1 ≤ counts.0 }
     requires there { counts.0 + counts.1 + 3 ≤ length stack.now }
-    ensures answer { IfOk result (λ answer. Under (K.known known.now) (λ triples.
-        answer ≡ multisig_answer (spending_for job.now triples) code.now stack.now counts)) }
-    ensures stops { IfErr result (IsStopped (K.known known.now) (λ triples.
-        TryingAsks (spending_for job.now triples)
-        (signed_code code.now (signatures_in counts.0 counts.1 stack.now))
-        (signatures_in counts.0 counts.1 stack.now) (keys_in counts.0 stack.now))) }
+    ensures { Tells result (multisig_answer (K.known known.now) (question_of job.now) code.now stack.now counts) }
 {
     let (keys, signatures) = counts;
     let middle = keys + 2;

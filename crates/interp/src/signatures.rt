@@ -1,15 +1,14 @@
 //! What is signed, and CHECKSIG.
 
-ghost use Rattle.std.specs.Prelude.{◌≡◌, ◌<◌, [], ◌∷◌, length, map, IfOk, IfErr, Some};
+ghost use Rattle.std.specs.Prelude.{◌≡◌, ◌<◌, [], ◌∷◌, length, map, IfOk};
 ghost use Rattle.std.specs.List.{concat};
 ghost use Rattle.script.specs.Removal.{bytes_of};
 ghost use Rattle.sighash.specs.Digest.{digest_of};
-ghost use Rattle.curve.specs.Known.{Under};
 ghost use Rattle.curve.specs.Triple.{triple_of};
-ghost use Rattle.interp.specs.Asking.{Stops, IsStopped, PairAsks};
-ghost use Rattle.interp.specs.inside.Spending.{spending_for};
-ghost use Rattle.interp.specs.Signatures.{push_of, pieces_of, signed_code, type_of, signature_proper, is_valid};
-ghost use Rattle.interp.specs.computed.Signatures.{may_be_tried, pair_verdict};
+ghost use Rattle.interp.specs.Answer.{Tells};
+ghost use Rattle.interp.specs.Question.{question_of};
+ghost use Rattle.interp.specs.Signatures.{push_of, pieces_of, signed_code, type_of, signature_proper};
+ghost use Rattle.interp.specs.computed.Signatures.{may_be_tried, verdict_or_wanted, pair_verdict};
 
 use crate::element::Element;
 use crate::flags::Flags;
@@ -105,10 +104,8 @@ pub fn is_valid<K: KnowsSignatures>(
     key: &[u8],
 ) -> Result<bool, Unverified>
     requires { 0 < length signature.now }
-    ensures answer { let t = triple_of key.now (signature_proper signature.now) digest.now in
-        IfOk result (λ valid. K.known known.now t ≡ Some valid) }
-    ensures stops { let t = triple_of key.now (signature_proper signature.now) digest.now in
-        IfErr result (Stops (K.known known.now) (λ unknown. unknown ≡ t)) }
+    ensures { let t = triple_of key.now (signature_proper signature.now) digest.now in
+        Tells result (verdict_or_wanted (K.known known.now t) t) }
 {
     let proper = &signature[..signature.len() - 1];
     match known.find(key, proper, digest) {
@@ -129,7 +126,7 @@ pub fn may_be_tried(flags: Flags, signature: &[u8]) -> bool
 }
 
 /// Whether a signature is valid for a key over a running script's code: None where it may not be tried.
-#[tactic(auto, unfolding(crate::specs::computed::Signatures::pair_verdict, crate::specs::Signatures::is_valid))]
+#[tactic(auto, unfolding(crate::specs::computed::Signatures::pair_verdict))]
 pub fn judge<K: KnowsSignatures>(
     alloc: Global,
     job: &Job,
@@ -139,12 +136,8 @@ pub fn judge<K: KnowsSignatures>(
     key: &[u8],
 ) -> Result<Option<bool>, Unverified>
     requires { job.now.input < length job.now.tx.now.inputs }
-    ensures answer { IfOk result (λ valid. Under (K.known known.now) (λ triples.
-        valid ≡ pair_verdict (spending_for job.now triples)
-        (signed_code code.now (signature.now ∷ [])) signature.now key.now)) }
-    ensures stops { IfErr result (IsStopped (K.known known.now) (λ triples.
-        PairAsks (spending_for job.now triples)
-        (signed_code code.now (signature.now ∷ [])) signature.now key.now)) }
+    ensures { Tells result (pair_verdict (K.known known.now) (question_of job.now)
+        (signed_code code.now (signature.now ∷ [])) signature.now key.now) }
 {
     if !may_be_tried(job.flags, signature) {
         return Ok(None);

@@ -1,12 +1,11 @@
 //! The scripts of an input and of the output that it spends.
 
-ghost use Rattle.std.specs.Prelude.{◌≡◌, ◌<◌, ◌↔◌, [], ◌∷◌, ◌++◌, length, IsTrue, IfOk, IfErr, MatchOption};
+ghost use Rattle.std.specs.Prelude.{◌≡◌, ◌<◌, ◌↔◌, [], ◌∷◌, ◌++◌, length, IsTrue, IfOk, MatchOption};
 ghost use Rattle.script.specs.Ops.{ops, rest};
-ghost use Rattle.curve.specs.Known.{Under};
-ghost use Rattle.interp.specs.Asking.{IsStopped, RunAsks, InnerAsks, SpentAsks, ScriptsAsk, Asks};
-ghost use Rattle.interp.specs.inside.Spending.{spending_for};
+ghost use Rattle.interp.specs.Answer.{Tells};
+ghost use Rattle.interp.specs.Question.{question_of};
 ghost use Rattle.interp.specs.Rules.{Accepts};
-ghost use Rattle.interp.specs.computed.Step.{outcome, ends_true, inner_verdict, verdict_on, verdict};
+ghost use Rattle.interp.specs.computed.Step.{outcome, ends_true, inner_verdict, verdict_on, verdict_with, verdict};
 
 use crate::element::Element;
 use crate::execution::Execution;
@@ -43,12 +42,7 @@ pub fn verify_with<K: KnowsSignatures>(
 ) -> Result<bool, Unverified>
     // The input is one of the transaction's.
     requires { job.now.input < length job.now.tx.now.inputs }
-    // The verdict is the same whatever the others are that are valid.
-    ensures answer { IfOk result (λ yes. Under (K.known known.now) (λ triples. IsTrue yes
-        ↔ Accepts job.now.tx.now job.now.input job.now.spent.now job.now.flags triples)) }
-    // And so is the one that has to be found out.
-    ensures stops { IfErr result (IsStopped (K.known known.now) (λ triples.
-        Asks job.now.tx.now job.now.input job.now.spent.now job.now.flags triples)) }
+    ensures { Tells result (verdict (K.known known.now) (question_of job.now)) }
 {
     let script = job.tx.inputs.as_slice()[job.input].script.as_slice();
     let yes = accepts(alloc, job, known, script)?;
@@ -81,10 +75,7 @@ fn run<K: KnowsSignatures>(
     stack: Pile<Element>,
 ) -> Result<Option<Pile<Element>>, Unverified>
     requires { job.now.input < length job.now.tx.now.inputs }
-    ensures answer { IfOk result (λ end. Under (K.known known.now) (λ triples.
-        end ≡ outcome (spending_for job.now triples) script.now stack)) }
-    ensures stops { IfErr result (IsStopped (K.known known.now) (λ triples.
-        RunAsks (spending_for job.now triples) script.now stack)) }
+    ensures { Tells result (outcome (K.known known.now) (question_of job.now) script.now stack) }
 {
     if script.len() > MAX_SCRIPT_SIZE {
         return Ok(None);
@@ -113,10 +104,8 @@ fn runs_to_true<K: KnowsSignatures>(
     stack: Pile<Element>,
 ) -> Result<bool, Unverified>
     requires { job.now.input < length job.now.tx.now.inputs }
-    ensures answer { IfOk result (λ yes. Under (K.known known.now) (λ triples.
-        yes ≡ ends_true (outcome (spending_for job.now triples) script.now stack))) }
-    ensures stops { IfErr result (IsStopped (K.known known.now) (λ triples.
-        RunAsks (spending_for job.now triples) script.now stack)) }
+    ensures { Tells result
+        (ends_true (outcome (K.known known.now) (question_of job.now) script.now stack)) }
 {
     let Some(end) = run(alloc, job, known, script, stack)? else {
         return Ok(false);
@@ -138,10 +127,7 @@ fn accepts_inner<K: KnowsSignatures>(
     left: Pile<Element>,
 ) -> Result<bool, Unverified>
     requires { job.now.input < length job.now.tx.now.inputs }
-    ensures answer { IfOk result (λ yes. Under (K.known known.now) (λ triples.
-        yes ≡ inner_verdict (spending_for job.now triples) script.now left)) }
-    ensures stops { IfErr result (IsStopped (K.known known.now) (λ triples.
-        InnerAsks (spending_for job.now triples) script.now left)) }
+    ensures { Tells result (inner_verdict (K.known known.now) (question_of job.now) script.now left) }
 {
     if !push_only(script) {
         return Ok(false);
@@ -164,10 +150,7 @@ fn accepts_on<K: KnowsSignatures>(
     left: Pile<Element>,
 ) -> Result<bool, Unverified>
     requires { job.now.input < length job.now.tx.now.inputs }
-    ensures answer { IfOk result (λ yes. Under (K.known known.now) (λ triples.
-        yes ≡ verdict_on (spending_for job.now triples) script.now job.now.spent.now left)) }
-    ensures stops { IfErr result (IsStopped (K.known known.now) (λ triples.
-        SpentAsks (spending_for job.now triples) script.now job.now.spent.now left)) }
+    ensures { Tells result (verdict_on (K.known known.now) (question_of job.now) script.now left) }
 {
     if !is_p2sh(job.spent) {
         return runs_to_true(alloc, job, known, job.spent, left);
@@ -180,7 +163,7 @@ fn accepts_on<K: KnowsSignatures>(
 }
 
 /// Whether the scripts accept, with the input script.
-#[tactic(auto, unfolding(crate::specs::computed::Step::verdict))]
+#[tactic(auto, unfolding(crate::specs::computed::Step::verdict_with))]
 fn accepts<K: KnowsSignatures>(
     alloc: Global,
     job: &Job,
@@ -188,10 +171,7 @@ fn accepts<K: KnowsSignatures>(
     script: &[u8],
 ) -> Result<bool, Unverified>
     requires { job.now.input < length job.now.tx.now.inputs }
-    ensures answer { IfOk result (λ yes. Under (K.known known.now) (λ triples.
-        yes ≡ verdict (spending_for job.now triples) script.now job.now.spent.now)) }
-    ensures stops { IfErr result (IsStopped (K.known known.now) (λ triples.
-        ScriptsAsk (spending_for job.now triples) script.now job.now.spent.now)) }
+    ensures { Tells result (verdict_with (K.known known.now) (question_of job.now) script.now) }
 {
     let Some(left) = run(alloc, job, known, script, Pile::new(alloc))? else {
         return Ok(false);

@@ -47,5 +47,5 @@ meaning op.EndIf = row.Closes
 meaning op.ToAlt = row.ToAlt
 meaning op.FromAlt = row.FromAlt
 meaning op.CodeSeparator = row.Separates
-meaning op.LockTime = row.Asks (λ flags. flags.cltv) (λ p n. locks_until p.tx p.input n)
-meaning op.Sequence = row.Asks (λ flags. flags.csv) (λ p n. locks_for p.tx p.input n)
+meaning op.LockTime = row.Asks (λ flags. flags.cltv) locks_until
+meaning op.Sequence = row.Asks (λ flags. flags.csv) locks_for

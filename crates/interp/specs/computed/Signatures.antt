@@ -1,22 +1,39 @@
--- Whether signatures are valid, as functions.
-use Rattle.std.specs.Prelude.{ℕ, List, [], ◌∷◌, length, Bool, true, false, not, ◌||◌, nat_lt, Option, Some, None, option_and_then, if◌then◌else◌}
+-- Whether signatures are valid, by what is known.
+use Rattle.std.specs.Prelude.{ℕ, ◌==◌, List, [], ◌∷◌, length, Bool, true, false, not, ◌||◌, nat_lt, Option, Some, None, if◌then◌else◌}
+use Rattle.sighash.specs.Digest.{digest_of}
 use Rattle.curve.specs.computed.Shape.{is_strict}
+use Rattle.curve.specs.Known.{Known}
+use Rattle.curve.specs.Triple.{Triple, triple_of}
+use Rattle.interp.specs.Answer.{Answer, Says, Wants, answer_map, and_then}
+use Rattle.interp.specs.Question.{Question}
+use Rattle.interp.specs.Signatures.{signature_proper, type_of}
 use Rattle.interp.specs.Stack.{Bytes}
-use Rattle.interp.specs.Spending.{Spending}
 use Rattle.interp.specs.declared.flags.Flags.{Flags}
-use Rattle.interp.specs.Signatures.{is_valid}
 
 -- a signature is strictly encoded or empty, or that rule is out of force
 unfoldable pub may_be_tried : Flags → Bytes → Bool
 may_be_tried flags signature = not flags.dersig || is_strict signature
 
--- whether a pair is valid, where the signature may be tried
-unfoldable pub pair_verdict : Spending → List ℕ → Bytes → Bytes → Option Bool
-pair_verdict p code signature key = if may_be_tried p.flags signature then Some (is_valid p code signature key) else None
+-- the verdict on a triple, or else it is wanted
+abbrev pub verdict_or_wanted : Option Bool → Triple → Answer Bool
+verdict_or_wanted (Some valid) t = Says valid
+verdict_or_wanted None t = Wants t
 
-unfoldable pub pairs_verdict : Spending → List ℕ → List Bytes → List Bytes → Option Bool
-pairs_verdict p code [] keys = Some true
-pairs_verdict p code (signature ∷ signatures) [] = Some false
-pairs_verdict p code (signature ∷ signatures) (key ∷ keys) =
-    if nat_lt (length keys) (length signatures) then Some false
-    else option_and_then (λ valid. if valid then pairs_verdict p code signatures keys else pairs_verdict p code (signature ∷ signatures) keys) (pair_verdict p code signature key)
+-- what is asked of a signature that isn't empty: whether it is valid for this key, over the digest of its type
+abbrev pub triple_for : Question → List ℕ → Bytes → Bytes → Triple
+triple_for q code signature key = triple_of key (signature_proper signature) (digest_of q.tx q.input code (type_of signature))
+
+-- whether a pair is valid, where the signature may be tried
+unfoldable pub pair_verdict : Known → Question → List ℕ → Bytes → Bytes → Answer (Option Bool)
+pair_verdict known q code signature key =
+    if may_be_tried q.flags signature
+    then (if length signature == 0 then Says (Some false) else answer_map Some (verdict_or_wanted (known (triple_for q code signature key)) (triple_for q code signature key)))
+    else Says None
+
+-- pairs from the top down: a valid one uses up both, another the key alone
+unfoldable pub pairs_verdict : Known → Question → List ℕ → List Bytes → List Bytes → Answer (Option Bool)
+pairs_verdict known q code [] keys = Says (Some true)
+pairs_verdict known q code (signature ∷ signatures) [] = Says (Some false)
+pairs_verdict known q code (signature ∷ signatures) (key ∷ keys) =
+    if nat_lt (length keys) (length signatures) then Says (Some false)
+    else and_then (λ valid. if valid then pairs_verdict known q code signatures keys else pairs_verdict known q code (signature ∷ signatures) keys) (pair_verdict known q code signature key)

@@ -1,16 +1,20 @@
--- One opcode, a script and the verdict on an input, computed.
-use Rattle.std.specs.Prelude.{ℕ, ◌+◌, ◌==◌, List, [], ◌∷◌, ◌++◌, length, take, drop, Bool, true, false, not, ◌&&◌, Option, Some, None, option_and_then, nat_lt, if◌then◌else◌, pos, ℤ, remove}
+-- One opcode, a script and the verdict on an input, by what is known of signatures (Bitcoin Core's `EvalScript` and
+-- `VerifyScript`).
+use Rattle.std.specs.Prelude.{ℕ, ◌+◌, ◌==◌, List, [], ◌∷◌, ◌++◌, length, take, drop, Bool, true, false, not, Option, Some, None, option_and_then, nat_lt, if◌then◌else◌, pos, ℤ, remove, slice_get}
 use Rattle.std.specs.Option.{option_map, option_map_or}
 use Rattle.std.specs.List.{concat}
 use Rattle.script.specs.Ops.{ops, rest, is_whole}
 use Rattle.script.specs.Kinds.{is_push_only, is_p2sh, max_script_size}
 use Rattle.script.specs.Num.{operand, shortest_bytes}
+use Rattle.txn.specs.declared.input.TxIn.{TxIn}
 use Rattle.interp.specs.Limits.{max_ops, max_keys, max_elements, max_number_size}
 use Rattle.interp.specs.Stack.{Stack, Bytes, stack_with, nth}
 use Rattle.interp.specs.computed.Stack.{rearrangement}
 use Rattle.interp.specs.Elements.{truth, truth_bytes}
 use Rattle.interp.specs.computed.Elements.{top_is_true, natural_of}
-use Rattle.interp.specs.Spending.{Spending}
+use Rattle.curve.specs.Known.{Known}
+use Rattle.interp.specs.Answer.{Answer, Says, Wants, answer_map, on_some, and_then, also}
+use Rattle.interp.specs.Question.{Question}
 use Rattle.interp.specs.State.{State, is_executing, start}
 use Rattle.interp.specs.Signatures.{signed_code}
 use Rattle.interp.specs.computed.Signatures.{pair_verdict, pairs_verdict}
@@ -109,13 +113,12 @@ abbrev pub from_alt : State → Stack → Option State
 from_alt s [] = None
 from_alt s (a ∷ rest) = Some (record s { main = a ∷ s.main; alt = rest })
 
--- CHECKSIG, of a code
-abbrev pub sig_answer : Spending → List ℕ → Bytes → Bytes → Option (List Bytes)
-sig_answer p code signature key =
-    option_map (λ valid. truth_bytes valid ∷ []) (pair_verdict p (signed_code code (signature ∷ [])) signature key)
-
-unfoldable pub after_sig : Spending → List ℕ → Stack → Option Stack
-after_sig p code s = on_two (sig_answer p code) s
+-- CHECKSIG, of a code: in the place of a signature and a key above it comes whether they are a valid pair
+unfoldable pub after_sig : Known → Question → List ℕ → Stack → Answer (Option Stack)
+after_sig known q code [] = Says None
+after_sig known q code (key ∷ []) = Says None
+after_sig known q code (key ∷ signature ∷ rest) =
+    answer_map (option_map (λ valid. truth_bytes valid ∷ rest)) (pair_verdict known q (signed_code code (signature ∷ [])) signature key)
 
 -- CHECKMULTISIG: a number on top, from 0 to so many
 unfoldable pub many : ℕ → Stack → Option ℕ
@@ -135,44 +138,49 @@ counts_of s = do
   signatures ← many keys (drop (keys + 1) s.main)
   if nat_lt (length s.main) (keys + signatures + 3) then None else (if nat_lt max_ops (s.count + keys) then None else Some (keys, signatures))
 
-abbrev pub multisig_answer : Spending → List ℕ → Stack → ℕ × ℕ → Option Bool
-multisig_answer p code s counts =
-    pairs_verdict p (signed_code code (signatures_in counts.0 counts.1 s)) (signatures_in counts.0 counts.1 s) (keys_in counts.0 s)
+abbrev pub multisig_answer : Known → Question → List ℕ → Stack → ℕ × ℕ → Answer (Option Bool)
+multisig_answer known q code s counts =
+    pairs_verdict known q (signed_code code (signatures_in counts.0 counts.1 s)) (signatures_in counts.0 counts.1 s) (keys_in counts.0 s)
 
 abbrev pub after_multisig : State → ℕ × ℕ → Bool → State
 after_multisig s counts valid =
     record s { main = truth_bytes valid ∷ drop (counts.0 + counts.1 + 3) s.main; count = s.count + counts.0 }
 
-unfoldable pub after_checking_multisig : Spending → State → Option State
-after_checking_multisig p s = do
-  counts ← counts_of s
-  valid ← multisig_answer p s.code s.main counts
-  Some (after_multisig s counts valid)
+abbrev pub after_counts : Known → Question → State → ℕ × ℕ → Answer (Option State)
+after_counts known q s counts = answer_map (option_map (after_multisig s counts)) (multisig_answer known q s.code s.main counts)
+
+unfoldable pub after_checking_multisig : Known → Question → State → Answer (Option State)
+after_checking_multisig known q s = on_some (after_counts known q s) (counts_of s)
 
 unfoldable pub after_asking : (ℕ → Bool) → State → Stack → Option State
 after_asking test s [] = None
 after_asking test s (a ∷ rest) = if is_met test a then Some s else None
 
-abbrev pub after_test : Spending → Check → State → Option State
-after_test p (Of x) s = with_main s (effect x s.main)
-after_test p Sig s = with_main s (after_sig p s.code s.main)
-after_test p Multisig s = after_checking_multisig p s
+abbrev pub after_test : Known → Question → Check → State → Answer (Option State)
+after_test known q (Of x) s = Says (with_main s (effect x s.main))
+after_test known q Sig s = answer_map (with_main s) (after_sig known q s.code s.main)
+after_test known q Multisig s = after_checking_multisig known q s
+
+-- and then VERIFY
+abbrev pub verified : State → Option State
+verified s = with_main s (after_verify s.main)
 
 -- a row that is executed; what follows the opcode in the script is `after`
-abbrev pub after_executing : Spending → List ℕ → Row → State → Option State
-after_executing p after Disabled s = None
-after_executing p after Fails s = None
-after_executing p after Nothing s = Some s
-after_executing p after (Changes x) s = with_main s (effect x s.main)
-after_executing p after (Tests check) s = after_test p check s
-after_executing p after (AndVerifies check) s = after_test p check s >>= λ t. with_main t (after_verify t.main)
-after_executing p after (Opens at) s = after_open at s s.main
-after_executing p after Turns s = after_turn s s.conditions
-after_executing p after Closes s = after_close s s.conditions
-after_executing p after ToAlt s = to_alt s s.main
-after_executing p after FromAlt s = from_alt s s.alt
-after_executing p after Separates s = Some (record s { code = after })
-after_executing p after (Asks in_force test) s = if in_force p.flags then after_asking (test p) s s.main else Some s
+abbrev pub after_executing : Known → Question → List ℕ → Row → State → Answer (Option State)
+after_executing known q after Disabled s = Says None
+after_executing known q after Fails s = Says None
+after_executing known q after Nothing s = Says (Some s)
+after_executing known q after (Changes x) s = Says (with_main s (effect x s.main))
+after_executing known q after (Tests check) s = after_test known q check s
+after_executing known q after (AndVerifies check) s = answer_map (option_and_then verified) (after_test known q check s)
+after_executing known q after (Opens at) s = Says (after_open at s s.main)
+after_executing known q after Turns s = Says (after_turn s s.conditions)
+after_executing known q after Closes s = Says (after_close s s.conditions)
+after_executing known q after ToAlt s = Says (to_alt s s.main)
+after_executing known q after FromAlt s = Says (from_alt s s.alt)
+after_executing known q after Separates s = Says (Some (record s { code = after }))
+after_executing known q after (Asks in_force test) s =
+    Says (if in_force q.flags then after_asking (test q.tx q.input) s s.main else Some s)
 
 -- a row in a branch that isn't taken
 abbrev pub after_skipping : Row → State → Option State
@@ -190,8 +198,8 @@ after_skipping FromAlt s = Some s
 after_skipping Separates s = Some s
 after_skipping (Asks in_force test) s = Some s
 
-unfoldable pub after_acting : Spending → List ℕ → Row → State → Option State
-after_acting p after row s = if is_executing s then after_executing p after row s else after_skipping row s
+unfoldable pub after_acting : Known → Question → List ℕ → Row → State → Answer (Option State)
+after_acting known q after row s = if is_executing s then after_executing known q after row s else Says (after_skipping row s)
 
 -- no more than so many opcodes above 60, taken or not
 unfoldable pub with_count : ℕ → State → Option State
@@ -202,49 +210,71 @@ unfoldable pub within_bounds : State → Option State
 within_bounds s = if nat_lt max_elements (length s.main + length s.alt) then None else Some s
 
 -- one opcode of this number and this row
-unfoldable pub step_at : Spending → List ℕ → ℕ → Row → State → Option State
-step_at p after number row s = do
-  counted_state ← with_count number s
-  acted_state ← after_acting p after row counted_state
-  within_bounds acted_state
+abbrev pub after_counting : Known → Question → List ℕ → Row → State → Answer (Option State)
+after_counting known q after row s = answer_map (option_and_then within_bounds) (after_acting known q after row s)
+
+unfoldable pub step_at : Known → Question → List ℕ → ℕ → Row → State → Answer (Option State)
+step_at known q after number row s = on_some (after_counting known q after row) (with_count number s)
 
 -- one opcode with its bytes
-unfoldable pub step : Spending → List ℕ → List ℕ → State → Option State
-step p after [] s = None
-step p after (number ∷ bytes) s = step_at p after number (row_of (number ∷ bytes)) s
+unfoldable pub step : Known → Question → List ℕ → List ℕ → State → Answer (Option State)
+step known q after [] s = Says None
+step known q after (number ∷ bytes) s = step_at known q after number (row_of (number ∷ bytes)) s
 
 -- ---- a script
 -- opcodes one after the other, and then what is left of the script
-unfoldable pub run : Spending → List ℕ → List (List ℕ) → State → Option State
-run p left [] s = Some s
-run p left (op ∷ others) s = option_and_then (run p left others) (step p (concat others ++ left) op s)
+unfoldable pub run : Known → Question → List ℕ → List (List ℕ) → State → Answer (Option State)
+run known q left [] s = Says (Some s)
+run known q left (op ∷ others) s = and_then (run known q left others) (step known q (concat others ++ left) op s)
 
 -- the main stack, where no condition is open
 abbrev pub stack_left : State → Option Stack
 stack_left s = if length s.conditions == 0 then Some s.main else None
 
--- a script on a stack, and the stack that it leaves
-unfoldable pub outcome : Spending → List ℕ → Stack → Option Stack
-outcome p script stack =
-    if nat_lt max_script_size (length script) then None
-    else (if is_whole script then option_and_then stack_left (run p (rest script) (ops script) (start script stack)) else None)
+-- the same, where no push of the script was cut short
+abbrev pub end_of : Bool → State → Option Stack
+end_of whole s = if whole then stack_left s else None
 
-unfoldable pub ends_true : Option Stack → Bool
-ends_true end = option_map_or top_is_true end false
+-- a script on a stack, and the stack that it leaves
+unfoldable pub outcome : Known → Question → List ℕ → Stack → Answer (Option Stack)
+outcome known q script stack =
+    if nat_lt max_script_size (length script) then Says None
+    else answer_map (option_and_then (end_of (is_whole script))) (run known q (rest script) (ops script) (start script stack))
+
+-- it ends, with a true element on top
+abbrev pub has_true_top : Option Stack → Bool
+has_true_top end = option_map_or top_is_true end false
+
+unfoldable pub ends_true : Answer (Option Stack) → Answer Bool
+ends_true end = answer_map has_true_top end
 
 -- ---- an input
 -- BIP 16: the top of the stack that the input script left, run as a script on the others
-abbrev pub inner_outcome : Spending → Stack → Option Stack
-inner_outcome p [] = None
-inner_outcome p (inner ∷ others) = outcome p inner others
+abbrev pub inner_outcome : Known → Question → Stack → Answer (Option Stack)
+inner_outcome known q [] = Says None
+inner_outcome known q (inner ∷ others) = outcome known q inner others
 
-unfoldable pub inner_verdict : Spending → List ℕ → Stack → Bool
-inner_verdict p script left = is_push_only script && ends_true (inner_outcome p left)
+unfoldable pub inner_verdict : Known → Question → List ℕ → Stack → Answer Bool
+inner_verdict known q script left = if is_push_only script then ends_true (inner_outcome known q left) else Says false
 
 -- the spent script on the stack that the input script left, and the inner script where there is one
-unfoldable pub verdict_on : Spending → List ℕ → List ℕ → Stack → Bool
-verdict_on p script spent left =
-    ends_true (outcome p spent left) && (if is_p2sh spent then inner_verdict p script left else true)
+unfoldable pub verdict_on : Known → Question → List ℕ → Stack → Answer Bool
+verdict_on known q script left =
+    also (ends_true (outcome known q q.spent left)) (if is_p2sh q.spent then inner_verdict known q script left else Says true)
 
-unfoldable pub verdict : Spending → List ℕ → List ℕ → Bool
-verdict p script spent = option_map_or (verdict_on p script spent) (outcome p script []) false
+-- the same, where the input script left a stack
+abbrev pub verdict_after : Known → Question → List ℕ → Answer (Option Stack) → Answer Bool
+verdict_after known q script (Says (Some left)) = verdict_on known q script left
+verdict_after known q script (Says None) = Says false
+verdict_after known q script (Wants t) = Wants t
+
+unfoldable pub verdict_with : Known → Question → List ℕ → Answer Bool
+verdict_with known q script = verdict_after known q script (outcome known q script [])
+
+-- with the script of an input; no where there is no such input
+abbrev pub verdict_of_input : Known → Question → Option TxIn → Answer Bool
+verdict_of_input known q (Some own) = verdict_with known q own.script
+verdict_of_input known q None = Says false
+
+unfoldable pub verdict : Known → Question → Answer Bool
+verdict known q = verdict_of_input known q (slice_get q.tx.inputs q.input)

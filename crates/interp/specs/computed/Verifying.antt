@@ -1,13 +1,17 @@
--- The verdict on an input, computed.
-use Rattle.std.specs.Prelude.{ℕ, List, Bool, false, slice_get}
-use Rattle.std.specs.Option.{option_map_or}
+-- The verdict on an input, with a table of the valid signatures, as a test.
+use Rattle.std.specs.Prelude.{ℕ, List, Bool, false}
 use Rattle.txn.specs.declared.tx.Tx.{Tx}
+use Rattle.curve.specs.Known.{all_known}
 use Rattle.curve.specs.Triple.{Triples}
 use Rattle.interp.specs.declared.flags.Flags.{Flags}
-use Rattle.interp.specs.Spending.{spending_of}
+use Rattle.interp.specs.Answer.{Answer, Says, Wants}
+use Rattle.interp.specs.Question.{question}
 use Rattle.interp.specs.computed.Step.{verdict}
 
--- no where there is no such input
+-- it is yes
+abbrev pub is_yes : Answer Bool → Bool
+is_yes (Says answer) = answer
+is_yes (Wants t) = false
+
 unfoldable pub accepts : Tx → ℕ → List ℕ → Flags → Triples → Bool
-accepts tx input spent flags triples =
-    option_map_or (λ own. verdict (spending_of tx input flags triples) own.script spent) (slice_get tx.inputs input) false
+accepts tx input spent flags triples = is_yes (verdict (all_known triples) (question tx input spent flags))

@@ -1,158 +1,141 @@
--- What is computed of scripts is what the relations say.
+-- What is answered of scripts with a table is what the relations say.
 use Rattle.std.specs.Prelude.{if◌then◌else◌}
-use Rattle.std.proofs.Common.{◌≡◌, ℕ, zero, suc, ◌<◌, ◌≤◌, List, [], ◌∷◌, ◌++◌, Bool, true, false, ◌&&◌, eqb, Option, Some, None, length, get_or, slice_get, IsTrue, refl, sym, ap, ◌∙◌, ⊎_elim, append-nil, arith}
-use Rattle.std.specs.Option.{option_and_then, option_map_or}
+use Rattle.std.proofs.Common.{◌≡◌, ℕ, ◌≤◌, List, [], ◌∷◌, ◌++◌, Bool, true, false, eqb, Option, Some, None, length, slice_get, refl, sym, ap, ◌∙◌, ⊎_elim, append-nil, arith}
+use Rattle.std.specs.Option.{option_and_then}
 use Rattle.std.specs.List.{concat}
-use Rattle.std.proofs.lemmas.Bool.{cases_lt, and_parts, and_from}
+use Rattle.std.proofs.lemmas.Bool.{cases_lt}
 use Rattle.std.proofs.lemmas.List.{nil_from_length}
 use borrow.Author.Tests.{ne_eqb, eqb-true}
 use Rattle.script.specs.Ops.{ops, rest, is_whole}
 use Rattle.script.specs.Kinds.{is_push_only, is_p2sh}
-use Rattle.txn.specs.declared.tx.Tx.{Tx}
 use Rattle.txn.specs.declared.input.TxIn.{TxIn}
+use Rattle.curve.specs.Known.{all_known}
 use Rattle.curve.specs.Triple.{Triples}
+use Rattle.interp.specs.Answer.{Answer, Says, Wants, and_then, also}
+use Rattle.interp.specs.Question.{Question}
 use Rattle.interp.specs.Stack.{Stack}
-use Rattle.interp.specs.computed.Elements.{top_is_true}
-use Rattle.interp.specs.Spending.{Spending, spending_of}
-use Rattle.interp.specs.declared.flags.Flags.{Flags}
+use Rattle.interp.specs.inside.Spending.{spending_for}
 use Rattle.interp.specs.State.{State, start}
-use Rattle.interp.specs.computed.Step.{run, step, stack_left, outcome, ends_true, inner_outcome, inner_verdict, verdict_on, verdict}
+use Rattle.interp.specs.computed.Step.{run, step, end_of, outcome, has_true_top, ends_true, inner_outcome, inner_verdict, verdict_on, verdict_after, verdict_with, verdict_of_input, verdict}
 use Rattle.interp.specs.Rules.{Steps, Run, RunsToTrue, AcceptsInner, Accepts}
 use Rattle.interp.specs.laws.Affecting.{then-some}
-use Rattle.interp.specs.laws.Runs.{outcome-long, outcome-cut, outcome-ran}
+use Rattle.interp.specs.laws.Answers.{map-says, then-says}
+use Rattle.interp.specs.laws.Runs.{outcome-long, outcome-ran}
 use Rattle.interp.specs.laws.Following.{step-sound, step-again}
 
--- ---- a run
-run-sound : (p : Spending) (list : List (List ℕ)) (s t : State) → run p [] list s ≡ Some t → Steps p list s t
-unfolding run
-run-sound p [] s t e = cc
-run-sound p (op ∷ others) s t e =
-    let h = then-some (step p (concat others ++ []) op s) (run p [] others) t e in
-    (h.0, step-sound p (concat others) op s h.0 (ap (λ after. step p after op s) (sym (append-nil (concat others))) ∙ h.1), run-sound p others h.0 t h.2)
+module _ (q : Question) (triples : Triples) where
+  -- ---- a run
+  run-sound : (list : List (List ℕ)) (s t : State) → run (all_known triples) q [] list s ≡ Says (Some t) → Steps (spending_for q triples) list s t
+  unfolding run
+  run-sound [] s t e = cc
+  run-sound (op ∷ others) s t e =
+      let h = then-says (run (all_known triples) q [] others) (step (all_known triples) q (concat others ++ []) op s) t e in
+      (h.0, step-sound q triples (concat others) op s h.0 (ap (λ after. step (all_known triples) q after op s) (sym (append-nil (concat others))) ∙ h.1), run-sound others h.0 t h.2)
 
-run-again : (p : Spending) (list : List (List ℕ)) (s t : State) → Steps p list s t → run p [] list s ≡ Some t
-unfolding run
-run-again p [] s t r = ap Some (sym r)
-run-again p (op ∷ others) s t r =
-    ap (option_and_then (run p [] others)) (ap (λ after. step p after op s) (append-nil (concat others)) ∙ step-again p (concat others) op s r.0 r.1) ∙ run-again p others r.0 t r.2
+  run-again : (list : List (List ℕ)) (s t : State) → Steps (spending_for q triples) list s t → run (all_known triples) q [] list s ≡ Says (Some t)
+  unfolding run
+  run-again [] s t r = ap (λ u. Says (Some u)) (sym r)
+  run-again (op ∷ others) s t r =
+      ap (and_then (run (all_known triples) q [] others)) (ap (λ after. step (all_known triples) q after op s) (append-nil (concat others)) ∙ step-again q triples (concat others) op s r.0 r.1) ∙ run-again others r.0 t r.2
 
-finished-by : (s : State) (end : Stack) (cs : List Bool) → s.conditions ≡ cs → (if eqb (length cs) 0 then Some s.main else None) ≡ Some end → (s.conditions ≡ []) × (end ≡ s.main)
-finished-by s end [] is e = (is, sym (cc))
-finished-by s end (c ∷ cs) is e = let f = rw (ne_eqb (length (c ∷ cs)) 0 (λ z. omega arith)) at e in cc
+  finished-by : (s : State) (end : Stack) (cs : List Bool) → s.conditions ≡ cs → (if eqb (length cs) 0 then Some s.main else None) ≡ Some end → (s.conditions ≡ []) × (end ≡ s.main)
+  finished-by s end [] is e = (is, sym (cc))
+  finished-by s end (c ∷ cs) is e = let f = rw (ne_eqb (length (c ∷ cs)) 0 (λ z. omega arith)) at e in cc
 
-ran-sound : (p : Spending) (script : List ℕ) (stack end : Stack) → length script ≤ 10000 → is_whole script ≡ true → outcome p script stack ≡ Some end → Run p script stack end
-ran-sound p script stack end small whole e =
-    let none : rest script ≡ [] = nil_from_length (rest script) (eqb-true (length (rest script)) 0 whole) in
-    let f = outcome-ran p script stack (run p (rest script) (ops script) (start script stack)) small whole refl in
-    let h = then-some (run p (rest script) (ops script) (start script stack)) stack_left end (sym f ∙ e) in
-    let over = finished-by h.0 end h.0.conditions refl h.2 in
-    record {
-      short = small;
-      whole = none;
-      last = h.0;
-      steps = run-sound p (ops script) (start script stack) h.0 (ap (λ left. run p left (ops script) (start script stack)) (sym none) ∙ h.1);
-      closed = over.0;
-      left = over.1;
-    }
+  ran-sound : (script : List ℕ) (stack end : Stack) (s : State) (whole : Bool) → length script ≤ 10000 → is_whole script ≡ whole
+      → run (all_known triples) q (rest script) (ops script) (start script stack) ≡ Says (Some s) → end_of whole s ≡ Some end → Run (spending_for q triples) script stack end
+  ran-sound script stack end s true small whole ran e =
+      let none : rest script ≡ [] = nil_from_length (rest script) (eqb-true (length (rest script)) 0 whole) in
+      let over = finished-by s end s.conditions refl e in
+      record {
+        short = small;
+        whole = none;
+        last = s;
+        steps = run-sound (ops script) (start script stack) s (ap (λ left. run (all_known triples) q left (ops script) (start script stack)) (sym none) ∙ ran);
+        closed = over.0;
+        left = over.1;
+      }
+  ran-sound script stack end s false small whole ran e = cc
 
-pub outcome-sound : (p : Spending) (script : List ℕ) (stack end : Stack) → outcome p script stack ≡ Some end → Run p script stack end
-outcome-sound p script stack end e =
-    ⊎_elim (λ long. let f = outcome-long p script stack long in let no : None ≡ Some end = sym f ∙ e in cc)
-    (λ small. whole-by small (is_whole script) refl) (cases_lt 10000 (length script))
-  where
-    whole-by : length script ≤ 10000 → (b : Bool) → is_whole script ≡ b → Run p script stack end
-    whole-by small true is = ran-sound p script stack end small is e
-    whole-by small false is = let f = outcome-cut p script stack is in let no : None ≡ Some end = sym f ∙ e in cc
+  outcome-sound : (script : List ℕ) (stack end : Stack) → outcome (all_known triples) q script stack ≡ Says (Some end) → Run (spending_for q triples) script stack end
+  outcome-sound script stack end e =
+      ⊎_elim (λ long. let f = sym (outcome-long (all_known triples) q script stack long) ∙ e in cc)
+      (λ small.
+      let o = map-says (option_and_then (end_of (is_whole script))) (run (all_known triples) q (rest script) (ops script) (start script stack)) (Some end) (sym (outcome-ran (all_known triples) q script stack small) ∙ e) in
+      let h = then-some o.0 (end_of (is_whole script)) end o.2 in
+      ran-sound script stack end h.0 (is_whole script) small refl (o.1 ∙ ap Says h.1) h.2) (cases_lt 10000 (length script))
 
-outcome-again : (p : Spending) (script : List ℕ) (stack end : Stack) → Run p script stack end → outcome p script stack ≡ Some end
-outcome-again p script stack end r =
-    let ran = ap (λ left. run p left (ops script) (start script stack)) r.whole ∙ run-again p (ops script) (start script stack) r.last r.steps in
-    outcome-ran p script stack (Some r.last) r.short (ap (λ l. eqb (length l) 0) r.whole) ran ∙ rw r.closed (ap Some (sym r.left))
+  outcome-again : (script : List ℕ) (stack end : Stack) → Run (spending_for q triples) script stack end → outcome (all_known triples) q script stack ≡ Says (Some end)
+  outcome-again script stack end r =
+      let ran : run (all_known triples) q (rest script) (ops script) (start script stack) ≡ Says (Some r.last) = ap (λ left. run (all_known triples) q left (ops script) (start script stack)) r.whole ∙ run-again (ops script) (start script stack) r.last r.steps in
+      let whole : is_whole script ≡ true = ap (λ l. eqb (length l) 0) r.whole in
+      outcome-ran (all_known triples) q script stack r.short ∙ rw (ran, whole, r.closed) (ap (λ u. Says (Some u)) (sym r.left))
 
--- ---- a true top
-ends-by : (p : Spending) (script : List ℕ) (stack : Stack) (o : Option Stack) → outcome p script stack ≡ o → option_map_or top_is_true o false ≡ true → RunsToTrue p script stack
-ends-by p script stack None is e = cc
-ends-by p script stack (Some []) is e = cc
-ends-by p script stack (Some (a ∷ others)) is e = (a ∷ others, outcome-sound p script stack (a ∷ others) is, (a, others, refl, e))
+  -- ---- a true top
+  ends-by : (script : List ℕ) (stack : Stack) (o : Option Stack) → outcome (all_known triples) q script stack ≡ Says o → has_true_top o ≡ true → RunsToTrue (spending_for q triples) script stack
+  ends-by script stack None is e = cc
+  ends-by script stack (Some []) is e = cc
+  ends-by script stack (Some (a ∷ others)) is e = (a ∷ others, outcome-sound script stack (a ∷ others) is, (a, others, refl, e))
 
-pub ends-sound : (p : Spending) (script : List ℕ) (stack : Stack) → ends_true (outcome p script stack) ≡ true → RunsToTrue p script stack
-unfolding ends_true
-ends-sound p script stack e = ends-by p script stack (outcome p script stack) refl e
+  ends-sound : (script : List ℕ) (stack : Stack) → ends_true (outcome (all_known triples) q script stack) ≡ Says true → RunsToTrue (spending_for q triples) script stack
+  unfolding ends_true
+  ends-sound script stack e =
+      let h = map-says has_true_top (outcome (all_known triples) q script stack) true e in ends-by script stack h.0 h.1 h.2
 
-ends-again : (p : Spending) (script : List ℕ) (stack : Stack) → RunsToTrue p script stack → ends_true (outcome p script stack) ≡ true
-unfolding ends_true
-ends-again p script stack r = rw (outcome-again p script stack r.0 r.1, r.2.2) r.2.3
+  ends-again : (script : List ℕ) (stack : Stack) → RunsToTrue (spending_for q triples) script stack → ends_true (outcome (all_known triples) q script stack) ≡ Says true
+  unfolding ends_true
+  ends-again script stack r = rw (outcome-again script stack r.0 r.1, r.2.2) (ap Says r.2.3)
 
--- ---- the inner script
-inner-by : (p : Spending) (script : List ℕ) (left : Stack) → is_push_only script ≡ true → ends_true (inner_outcome p left) ≡ true → AcceptsInner p script left
-unfolding ends_true
-inner-by p script [] only e = cc
-inner-by p script (inner ∷ others) only e = (only, (inner, others, refl, ends-by p inner others (outcome p inner others) refl e))
+  -- ---- the inner script
+  inner-by : (script : List ℕ) (left : Stack) (only : Bool) → is_push_only script ≡ only → (if only then ends_true (inner_outcome (all_known triples) q left) else Says false) ≡ Says true → AcceptsInner (spending_for q triples) script left
+  unfolding ends_true
+  inner-by script left false only e = cc
+  inner-by script [] true only e = cc
+  inner-by script (inner ∷ others) true only e = (only, (inner, others, refl, ends-sound inner others e))
 
-inner-sound : (p : Spending) (script : List ℕ) (left : Stack) → inner_verdict p script left ≡ true → AcceptsInner p script left
-unfolding inner_verdict
-inner-sound p script left e =
-    let both = and_parts (is_push_only script) (ends_true (inner_outcome p left)) e in inner-by p script left both.0 both.1
+  inner-sound : (script : List ℕ) (left : Stack) → inner_verdict (all_known triples) q script left ≡ Says true → AcceptsInner (spending_for q triples) script left
+  unfolding inner_verdict
+  inner-sound script left e = inner-by script left (is_push_only script) refl e
 
-inner-again : (p : Spending) (script : List ℕ) (left : Stack) → AcceptsInner p script left → inner_verdict p script left ≡ true
-unfolding inner_verdict
-inner-again p script left (only, (inner, others, is, r)) =
-    and_from (is_push_only script) (ends_true (inner_outcome p left)) only (rw is (ends-again p inner others r))
+  inner-again : (script : List ℕ) (left : Stack) → AcceptsInner (spending_for q triples) script left → inner_verdict (all_known triples) q script left ≡ Says true
+  unfolding inner_verdict
+  inner-again script left (only, (inner, others, is, r)) = rw (only, is) (ends-again inner others r)
 
-pub inner-empty : (p : Spending) (script : List ℕ) (left : Stack) → length left ≡ 0 → false ≡ inner_verdict p script left
-unfolding inner_verdict ends_true
-inner-empty p script [] h = neither (is_push_only script)
-  where
-    neither : (b : Bool) → false ≡ (b && false)
-    neither true = refl
-    neither false = refl
-inner-empty p script (a ∷ left) h = absurd (omega arith)
+  -- ---- the input
+  both-say : (a b : Answer Bool) → also a b ≡ Says true → (a ≡ Says true) × (b ≡ Says true)
+  both-say (Says true) b e = (refl, e)
+  both-say (Says false) b e = cc
+  both-say (Wants t) b e = cc
 
--- ---- the input
-on-sound : (p : Spending) (script spent : List ℕ) (left : Stack) → verdict_on p script spent left ≡ true → RunsToTrue p spent left × (is_p2sh spent ≡ true → AcceptsInner p script left)
-unfolding verdict_on
-on-sound p script spent left e =
-    let both = and_parts (ends_true (outcome p spent left)) (if is_p2sh spent then inner_verdict p script left else true) e in
-    (ends-sound p spent left both.0, λ is. inner-sound p script left (rw is at both.1))
+  on-sound : (script : List ℕ) (left : Stack) → verdict_on (all_known triples) q script left ≡ Says true → RunsToTrue (spending_for q triples) q.spent left × (is_p2sh q.spent ≡ true → AcceptsInner (spending_for q triples) script left)
+  unfolding verdict_on
+  on-sound script left e =
+      let both = both-say (ends_true (outcome (all_known triples) q q.spent left)) (if is_p2sh q.spent then inner_verdict (all_known triples) q script left else Says true) e in
+      (ends-sound q.spent left both.0, λ is. inner-sound script left (rw is at both.1))
 
-on-again : (p : Spending) (script spent : List ℕ) (left : Stack) → RunsToTrue p spent left → (is_p2sh spent ≡ true → AcceptsInner p script left) → verdict_on p script spent left ≡ true
-unfolding verdict_on
-on-again p script spent left r inner =
-    and_from (ends_true (outcome p spent left)) (if is_p2sh spent then inner_verdict p script left else true) (ends-again p spent left r) (by (is_p2sh spent) (λ is. inner-again p script left (inner is)))
-  where
-    by : (b : Bool) → (b ≡ true → inner_verdict p script left ≡ true) → (if b then inner_verdict p script left else true) ≡ true
-    by true h = h refl
-    by false h = refl
+  on-again : (script : List ℕ) (left : Stack) → RunsToTrue (spending_for q triples) q.spent left → (is_p2sh q.spent ≡ true → AcceptsInner (spending_for q triples) script left) → verdict_on (all_known triples) q script left ≡ Says true
+  unfolding verdict_on
+  on-again script left r inner = rw (ends-again q.spent left r) (by (is_p2sh q.spent) (λ is. inner-again script left (inner is)))
+    where
+      by : (b : Bool) → (b ≡ true → inner_verdict (all_known triples) q script left ≡ Says true) → (if b then inner_verdict (all_known triples) q script left else Says true) ≡ Says true
+      by true h = h refl
+      by false h = refl
 
-accepted-by : (p : Spending) (script spent : List ℕ) (o : Option Stack) → outcome p script [] ≡ o → option_map_or (verdict_on p script spent) o false ≡ true → (left : Stack) × Run p script [] left × RunsToTrue p spent left × (is_p2sh spent ≡ true → AcceptsInner p script left)
-accepted-by p script spent None is e = cc
-accepted-by p script spent (Some left) is e = let h = on-sound p script spent left e in (left, outcome-sound p script [] left is, h.0, h.1)
+  after-by : (script : List ℕ) (o : Answer (Option Stack)) → outcome (all_known triples) q script [] ≡ o → verdict_after (all_known triples) q script o ≡ Says true
+      → (left : Stack) × Run (spending_for q triples) script [] left × RunsToTrue (spending_for q triples) q.spent left × (is_p2sh q.spent ≡ true → AcceptsInner (spending_for q triples) script left)
+  after-by script (Says None) is e = cc
+  after-by script (Wants t) is e = cc
+  after-by script (Says (Some left)) is e = let h = on-sound script left e in (left, outcome-sound script [] left is, h.0, h.1)
 
-pub accepted-sound : (tx : Tx) (input : ℕ) (spent : List ℕ) (flags : Flags) (triples : Triples) (own : TxIn) → slice_get tx.inputs input ≡ Some own → verdict (spending_of tx input flags triples) own.script spent ≡ true → Accepts tx input spent flags triples
-unfolding verdict
-accepted-sound tx input spent flags triples own is e =
-    let p = spending_of tx input flags triples in
-    (own, is, accepted-by p own.script spent (outcome p own.script []) refl e)
+  accepted-by : (own : Option TxIn) → slice_get q.tx.inputs q.input ≡ own → verdict_of_input (all_known triples) q own ≡ Says true → Accepts q.tx q.input q.spent q.flags triples
+  unfolding verdict_with
+  accepted-by None is e = cc
+  accepted-by (Some own) is e = (own, is, after-by own.script (outcome (all_known triples) q own.script []) refl e)
 
-pub accepted-again : (tx : Tx) (input : ℕ) (spent : List ℕ) (flags : Flags) (triples : Triples) (own : TxIn) → slice_get tx.inputs input ≡ Some own → Accepts tx input spent flags triples → verdict (spending_of tx input flags triples) own.script spent ≡ true
-unfolding verdict
-accepted-again tx input spent flags triples own is (other, other_is, (left, ran, to_true, inner)) =
-    let p = spending_of tx input flags triples in
-    let same : other ≡ own = cc in
-    let at : (script : List ℕ) → other.script ≡ script → option_map_or (verdict_on p script spent) (outcome p script []) false ≡ true =
-    λ script e. rw (sym e) (rw (outcome-again p other.script [] left ran) (on-again p other.script spent left to_true inner)) in
-    at own.script (ap (λ (i : TxIn). i.script) same)
+  pub accepted-sound : verdict (all_known triples) q ≡ Says true → Accepts q.tx q.input q.spent q.flags triples
+  unfolding verdict
+  accepted-sound e = accepted-by (slice_get q.tx.inputs q.input) refl e
 
-pub verified-is : (tx : Tx) (input : ℕ) (spent : List ℕ) (flags : Flags) (triples : Triples) (own : TxIn) (script : List ℕ) (answer : Bool) → slice_get tx.inputs input ≡ Some own → script ≡ own.script
-    → answer ≡ verdict (spending_of tx input flags triples) script spent → (IsTrue answer → Accepts tx input spent flags triples) × (Accepts tx input spent flags triples → IsTrue answer)
-verified-is tx input spent flags triples own script answer is same e =
-    let f = e ∙ ap (λ (s : List ℕ). verdict (spending_of tx input flags triples) s spent) same in
-    (λ t. accepted-sound tx input spent flags triples own is (sym f ∙ t), λ r. f ∙ accepted-again tx input spent flags triples own is r)
-
-there : {A : Type 0} (xs : List A) (k : ℕ) (d : A) → k < length xs → slice_get xs k ≡ Some (get_or xs k d)
-there [] k d h = absurd (omega arith)
-there (x ∷ xs) zero d h = refl
-there (x ∷ xs) (suc k) d h = there xs k d (omega arith)
-
-pub found-there : {A : Type 0} (xs ys : List A) (k : ℕ) (x : A) → x ≡ get_or xs k x → xs ≡ ys → k < length ys → slice_get ys k ≡ Some x
-found-there xs ys k x is same h = there ys k x h ∙ ap Some (sym (is ∙ ap (λ zs. get_or zs k x) same))
+  pub accepted-again : Accepts q.tx q.input q.spent q.flags triples → verdict (all_known triples) q ≡ Says true
+  unfolding verdict verdict_with
+  accepted-again (own, is, (left, ran, to_true, inner)) = rw (is, outcome-again own.script [] left ran) (on-again own.script left to_true inner)

@@ -1,27 +1,30 @@
 -- What is computed of signatures is what the relations say.
 use Rattle.std.specs.Prelude.{if◌then◌else◌}
-use Rattle.std.proofs.Common.{◌≡◌, ◌⊎◌, inl, inr, ℕ, suc, ◌+◌, ◌<◌, ◌≤◌, List, [], ◌∷◌, ◌++◌, Bool, true, false, not, ◌||◌, ltb, Option, Some, None, length, take, drop, refl, sym, ap, ◌∙◌, subst, ⊎_elim, pos, length-append, length-drop, arith}
+use Rattle.std.proofs.Common.{◌≡◌, ◌⊎◌, inl, inr, ℕ, suc, ◌+◌, ◌<◌, ◌≤◌, List, [], ◌∷◌, ◌++◌, Bool, true, false, not, ◌||◌, ltb, eqb, Option, Some, None, length, take, drop, refl, sym, ap, ◌∙◌, subst, ⊎_elim, pos, length-append, length-drop, arith}
 use Rattle.std.proofs.lemmas.Bool.{cases_lt}
 use Rattle.std.proofs.lemmas.List.{take_at, drop_at, take-append-drop, length-take-le}
 use Rattle.std.proofs.Math.Seq.{drop-append-add}
 use borrow.Author.Tests.{lt-ltb, le-ltb}
-use Rattle.std.specs.Option.{option_and_then}
+use Rattle.std.specs.Option.{option_and_then, option_map}
 use Rattle.curve.specs.Shape.{IsStrict}
 use Rattle.curve.specs.laws.Shape.{strict-sound, strict-again}
 use Rattle.curve.specs.computed.Shape.{is_strict}
-use Rattle.interp.specs.Stack.{Stack, Bytes, stack_with}
+use Rattle.interp.specs.Stack.{Stack, Bytes}
 use Rattle.interp.specs.Elements.{truth_bytes}
 use Rattle.interp.specs.computed.Elements.{natural_of}
-use Rattle.interp.specs.Spending.{Spending}
+use Rattle.interp.specs.Answer.{Says}
+use Rattle.interp.specs.Question.{Question}
+use Rattle.interp.specs.inside.Spending.{spending_for}
 use Rattle.interp.specs.declared.flags.Flags.{Flags}
 use Rattle.interp.specs.State.{State}
 use Rattle.interp.specs.Signatures.{signed_code, is_valid, MayBeTried, Tries}
 use Rattle.interp.specs.computed.Signatures.{may_be_tried, pair_verdict, pairs_verdict}
-use Rattle.interp.specs.computed.Step.{sig_answer, after_sig, many, keys_in, signatures_in, counts_of, multisig_answer, after_multisig, after_checking_multisig}
+use Rattle.interp.specs.computed.Step.{after_sig, after_counts, many, keys_in, signatures_in, counts_of, multisig_answer, after_multisig, after_checking_multisig}
 use Rattle.interp.specs.Rules.{IsNumber, ChecksOne, TakesMany, ChecksMany}
-use Rattle.curve.specs.Triple.{Triple}
-use Rattle.interp.specs.Asking.{TryingAsks, MultisigAsks}
-use Rattle.interp.specs.laws.Affecting.{then-some, map-some, natural-sound, natural-again, two-sound}
+use Rattle.curve.specs.Known.{all_known}
+use Rattle.curve.specs.Triple.{Triples}
+use Rattle.interp.specs.laws.Affecting.{then-some, map-some, natural-sound, natural-again}
+use Rattle.interp.specs.laws.Answers.{map-says, some-says, then-says}
 
 -- ---- a pair
 pub may-sound : (flags : Flags) (signature : Bytes) → may_be_tried flags signature ≡ true → MayBeTried flags signature
@@ -36,68 +39,82 @@ may-again flags signature h = by flags.dersig h
     by true h = strict-again signature (h refl)
     by false h = refl
 
-judged-by : (p : Spending) (code : List ℕ) (signature key : Bytes) (valid b : Bool) → may_be_tried p.flags signature ≡ b → (if b then Some (is_valid p code signature key) else None) ≡ Some valid → (may_be_tried p.flags signature ≡ true) × (is_valid p code signature key ≡ valid)
-judged-by p code signature key valid true is e = (is, cc)
-judged-by p code signature key valid false is e = cc
+-- with a table all pairs that may be tried have a verdict
+pair-by : (q : Question) (triples : Triples) (code : List ℕ) (signature key : Bytes) (may empty : Bool) → may_be_tried q.flags signature ≡ may → eqb (length signature) 0 ≡ empty
+    → pair_verdict (all_known triples) q code signature key ≡ (if may then Says (Some (is_valid (spending_for q triples) code signature key)) else Says None)
+unfolding pair_verdict is_valid
+pair-by q triples code signature key false empty is e = rw is refl
+pair-by q triples code signature key true true is e = rw (is, e) refl
+pair-by q triples code signature key true false is e = rw (is, e) refl
 
-judged-sound : (p : Spending) (code : List ℕ) (signature key : Bytes) (valid : Bool) → pair_verdict p code signature key ≡ Some valid → MayBeTried p.flags signature × (is_valid p code signature key ≡ valid)
-unfolding pair_verdict
-judged-sound p code signature key valid e =
-    let h = judged-by p code signature key valid (may_be_tried p.flags signature) refl e in (may-sound p.flags signature h.0, h.1)
+judged-by : (q : Question) (triples : Triples) (code : List ℕ) (signature key : Bytes) (valid may : Bool) → may_be_tried q.flags signature ≡ may → pair_verdict (all_known triples) q code signature key ≡ Says (Some valid)
+    → MayBeTried q.flags signature × (is_valid (spending_for q triples) code signature key ≡ valid)
+judged-by q triples code signature key valid true is e =
+    let f = sym (pair-by q triples code signature key true (eqb (length signature) 0) is refl) ∙ e in (may-sound q.flags signature is, cc)
+judged-by q triples code signature key valid false is e =
+    let f = sym (pair-by q triples code signature key false (eqb (length signature) 0) is refl) ∙ e in cc
 
-judged-again : (p : Spending) (code : List ℕ) (signature key : Bytes) (valid : Bool) → MayBeTried p.flags signature → is_valid p code signature key ≡ valid → pair_verdict p code signature key ≡ Some valid
-unfolding pair_verdict
-judged-again p code signature key valid h is = rw (may-again p.flags signature h, is) refl
+judged-sound : (q : Question) (triples : Triples) (code : List ℕ) (signature key : Bytes) (valid : Bool) → pair_verdict (all_known triples) q code signature key ≡ Says (Some valid)
+    → MayBeTried q.flags signature × (is_valid (spending_for q triples) code signature key ≡ valid)
+judged-sound q triples code signature key valid e = judged-by q triples code signature key valid (may_be_tried q.flags signature) refl e
+
+judged-again : (q : Question) (triples : Triples) (code : List ℕ) (signature key : Bytes) (valid : Bool) → MayBeTried q.flags signature → is_valid (spending_for q triples) code signature key ≡ valid
+    → pair_verdict (all_known triples) q code signature key ≡ Says (Some valid)
+judged-again q triples code signature key valid h is =
+    pair-by q triples code signature key true (eqb (length signature) 0) (may-again q.flags signature h) refl ∙ ap (λ v. Says (Some v)) is
 
 -- ---- CHECKSIG
-pub sig-sound : (p : Spending) (code : List ℕ) (old new : Stack) → after_sig p code old ≡ Some new → ChecksOne p code old new
+pub sig-sound : (q : Question) (triples : Triples) (code : List ℕ) (old new : Stack) → after_sig (all_known triples) q code old ≡ Says (Some new) → ChecksOne (spending_for q triples) code old new
 unfolding after_sig
-sig-sound p code old new e =
-    let h = two-sound (sig_answer p code) old new e in
-    sig-by h.0 h.1 h.2 h.3 h.4 h.5 h.6
-  where
-    sig-by : (signature key : Bytes) (rest : Stack) (left : List Bytes) → old ≡ key ∷ signature ∷ rest → sig_answer p code signature key ≡ Some left → new ≡ stack_with left rest → ChecksOne p code old new
-    sig-by signature key rest left is gives after =
-        let g = map-some (pair_verdict p (signed_code code (signature ∷ [])) signature key) (λ valid. truth_bytes valid ∷ []) left gives in
-        let j = judged-sound p (signed_code code (signature ∷ [])) signature key g.0 g.1 in
-        (signature, key, rest, is, j.0, after ∙ ap (λ l. stack_with l rest) (g.2 ∙ ap (λ valid. truth_bytes valid ∷ []) (sym j.1)))
+sig-sound q triples code [] new e = cc
+sig-sound q triples code (key ∷ []) new e = cc
+sig-sound q triples code (key ∷ signature ∷ rest) new e =
+    let signed = signed_code code (signature ∷ []) in
+    let g = map-says (option_map (λ valid. truth_bytes valid ∷ rest)) (pair_verdict (all_known triples) q signed signature key) (Some new) e in
+    let v = map-some g.0 (λ valid. truth_bytes valid ∷ rest) new g.2 in
+    let j = judged-sound q triples signed signature key v.0 (g.1 ∙ ap Says v.1) in
+    (signature, key, rest, refl, j.0, v.2 ∙ ap (λ valid. truth_bytes valid ∷ rest) (sym j.1))
 
-pub sig-again : (p : Spending) (code : List ℕ) (old new : Stack) → ChecksOne p code old new → after_sig p code old ≡ Some new
+pub sig-again : (q : Question) (triples : Triples) (code : List ℕ) (old new : Stack) → ChecksOne (spending_for q triples) code old new → after_sig (all_known triples) q code old ≡ Says (Some new)
 unfolding after_sig
-sig-again p code old new (signature, key, rest, is, strict, after) =
-    let j = judged-again p (signed_code code (signature ∷ [])) signature key _ strict refl in
+sig-again q triples code old new (signature, key, rest, is, strict, after) =
+    let j = judged-again q triples (signed_code code (signature ∷ [])) signature key _ strict refl in
     rw (is, j, after) refl
 
 -- ---- pairs
-pair-by : (p : Spending) (code : List ℕ) (signature key : Bytes) (signatures keys : List Bytes) (answer valid : Bool) → is_valid p code signature key ≡ valid
-    → (if valid then pairs_verdict p code signatures keys else pairs_verdict p code (signature ∷ signatures) keys) ≡ Some answer
-    → (pairs_verdict p code signatures keys ≡ Some answer → Tries p code signatures keys answer)
-    → (pairs_verdict p code (signature ∷ signatures) keys ≡ Some answer → Tries p code (signature ∷ signatures) keys answer)
-    → ((is_valid p code signature key ≡ true) × Tries p code signatures keys answer) ⊎ ((is_valid p code signature key ≡ false) × Tries p code (signature ∷ signatures) keys answer)
-pair-by p code signature key signatures keys answer true is e used kept = inl (is, used e)
-pair-by p code signature key signatures keys answer false is e used kept = inr (is, kept e)
+pairs-by : (q : Question) (triples : Triples) (code : List ℕ) (signature key : Bytes) (signatures keys : List Bytes) (answer valid : Bool) → is_valid (spending_for q triples) code signature key ≡ valid
+    → (if valid then pairs_verdict (all_known triples) q code signatures keys else pairs_verdict (all_known triples) q code (signature ∷ signatures) keys) ≡ Says (Some answer)
+    → (pairs_verdict (all_known triples) q code signatures keys ≡ Says (Some answer) → Tries (spending_for q triples) code signatures keys answer)
+    → (pairs_verdict (all_known triples) q code (signature ∷ signatures) keys ≡ Says (Some answer) → Tries (spending_for q triples) code (signature ∷ signatures) keys answer)
+    → ((is_valid (spending_for q triples) code signature key ≡ true) × Tries (spending_for q triples) code signatures keys answer)
+    ⊎ ((is_valid (spending_for q triples) code signature key ≡ false) × Tries (spending_for q triples) code (signature ∷ signatures) keys answer)
+pairs-by q triples code signature key signatures keys answer true is e used kept = inl (is, used e)
+pairs-by q triples code signature key signatures keys answer false is e used kept = inr (is, kept e)
 
-tried-sound : (p : Spending) (code : List ℕ) (signatures keys : List Bytes) (answer : Bool) → pairs_verdict p code signatures keys ≡ Some answer → Tries p code signatures keys answer
+tried-sound : (q : Question) (triples : Triples) (code : List ℕ) (signatures keys : List Bytes) (answer : Bool) → pairs_verdict (all_known triples) q code signatures keys ≡ Says (Some answer)
+    → Tries (spending_for q triples) code signatures keys answer
 unfolding pairs_verdict
-tried-sound p code [] keys answer e = cc
-tried-sound p code (signature ∷ signatures) [] answer e = cc
-tried-sound p code (signature ∷ signatures) (key ∷ keys) answer e =
+tried-sound q triples code [] keys answer e = cc
+tried-sound q triples code (signature ∷ signatures) [] answer e = cc
+tried-sound q triples code (signature ∷ signatures) (key ∷ keys) answer e =
+    let known = all_known triples in
     ⊎_elim (λ short. let f = rw (lt-ltb (length keys) (length signatures) short) at e in inl (short, cc))
     (λ enough.
     let f = rw (le-ltb (length keys) (length signatures) enough) at e in
-    let h = then-some (pair_verdict p code signature key) (λ valid. (if valid then pairs_verdict p code signatures keys else pairs_verdict p code (signature ∷ signatures) keys)) answer f in
-    let j = judged-sound p code signature key h.0 h.1 in
-    inr (enough, j.0, pair-by p code signature key signatures keys answer h.0 j.1 h.2 (tried-sound p code signatures keys answer) (tried-sound p code (signature ∷ signatures) keys answer)))
+    let h = then-says (λ valid. (if valid then pairs_verdict known q code signatures keys else pairs_verdict known q code (signature ∷ signatures) keys)) (pair_verdict known q code signature key) answer f in
+    let j = judged-sound q triples code signature key h.0 h.1 in
+    inr (enough, j.0, pairs-by q triples code signature key signatures keys answer h.0 j.1 h.2 (tried-sound q triples code signatures keys answer) (tried-sound q triples code (signature ∷ signatures) keys answer)))
     (cases_lt (length keys) (length signatures))
 
-tried-again : (p : Spending) (code : List ℕ) (signatures keys : List Bytes) (answer : Bool) → Tries p code signatures keys answer → pairs_verdict p code signatures keys ≡ Some answer
+tried-again : (q : Question) (triples : Triples) (code : List ℕ) (signatures keys : List Bytes) (answer : Bool) → Tries (spending_for q triples) code signatures keys answer
+    → pairs_verdict (all_known triples) q code signatures keys ≡ Says (Some answer)
 unfolding pairs_verdict
-tried-again p code [] keys answer r = ap Some (sym r)
-tried-again p code (signature ∷ signatures) [] answer r = ap Some (sym r)
-tried-again p code (signature ∷ signatures) (key ∷ keys) answer r =
+tried-again q triples code [] keys answer r = ap (λ a. Says (Some a)) (sym r)
+tried-again q triples code (signature ∷ signatures) [] answer r = ap (λ a. Says (Some a)) (sym r)
+tried-again q triples code (signature ∷ signatures) (key ∷ keys) answer r =
     ⊎_elim (λ h. rw (lt-ltb (length keys) (length signatures) h.0, h.1) refl)
-    (λ h. ⊎_elim (λ v. rw (le-ltb (length keys) (length signatures) h.0, judged-again p code signature key true h.1 v.0) (tried-again p code signatures keys answer v.1))
-    (λ v. rw (le-ltb (length keys) (length signatures) h.0, judged-again p code signature key false h.1 v.0) (tried-again p code (signature ∷ signatures) keys answer v.1)) h.2) r
+    (λ h. ⊎_elim (λ v. rw (le-ltb (length keys) (length signatures) h.0, judged-again q triples code signature key true h.1 v.0) (tried-again q triples code signatures keys answer v.1))
+    (λ v. rw (le-ltb (length keys) (length signatures) h.0, judged-again q triples code signature key false h.1 v.0) (tried-again q triples code (signature ∷ signatures) keys answer v.1)) h.2) r
 
 -- ---- how the elements of CHECKMULTISIG lie
 abbrev layout : Bytes → List Bytes → Bytes → List Bytes → Bytes → Stack → Stack
@@ -248,36 +265,29 @@ takes-sound s n m e =
       many_keys = l.many_keys;
     }
 
-pub multisig-sound : (p : Spending) (s t : State) → after_checking_multisig p s ≡ Some t → ChecksMany p s t
+pub multisig-sound : (q : Question) (triples : Triples) (s t : State) → after_checking_multisig (all_known triples) q s ≡ Says (Some t) → ChecksMany (spending_for q triples) s t
 unfolding after_checking_multisig
-multisig-sound p s t e =
-    let h = then-some (counts_of s) (λ counts. option_and_then (λ valid. Some (after_multisig s counts valid)) (multisig_answer p s.code s.main counts)) t e in
-    let g = then-some (multisig_answer p s.code s.main h.0) (λ valid. Some (after_multisig s h.0 valid)) t h.2 in
+multisig-sound q triples s t e =
+    let known = all_known triples in
+    let h = some-says (after_counts known q s) (counts_of s) t e in
+    let o = map-says (option_map (after_multisig s h.0)) (multisig_answer known q s.code s.main h.0) (Some t) h.2 in
+    let g = map-some o.0 (after_multisig s h.0) t o.2 in
     let n = h.0.0 in
     let m = h.0.1 in
     let l = takes-sound s n m h.1 in
-    let answered : pairs_verdict p (signed_code s.code l.taken.signatures) l.taken.signatures l.taken.keys ≡ Some g.0 =
-    sym (ap (λ ks. pairs_verdict p (signed_code s.code (signatures_in n m s.main)) (signatures_in n m s.main) ks) l.keys_are ∙ ap (λ ss. pairs_verdict p (signed_code s.code ss) ss l.taken.keys) l.signatures_are) ∙ g.1 in
-    let ended : t ≡ after_multisig s h.0 g.0 = sym (cc (g.2)) in
+    let answered : pairs_verdict known q (signed_code s.code l.taken.signatures) l.taken.signatures l.taken.keys ≡ Says (Some g.0) =
+    sym (ap (λ ks. pairs_verdict known q (signed_code s.code (signatures_in n m s.main)) (signatures_in n m s.main) ks) l.keys_are ∙ ap (λ ss. pairs_verdict known q (signed_code s.code ss) ss l.taken.keys) l.signatures_are) ∙ o.1 ∙ ap Says g.1 in
     record {
       taken = l.taken;
       answer = g.0;
-      tries = tried-sound p (signed_code s.code l.taken.signatures) l.taken.signatures l.taken.keys g.0 answered;
-      after = ended ∙ ap (λ main. record s { main = truth_bytes g.0 ∷ main; count = s.count + n }) l.left ∙ ap (λ j. record s { main = truth_bytes g.0 ∷ l.taken.below; count = s.count + j }) (sym l.many_keys);
+      tries = tried-sound q triples (signed_code s.code l.taken.signatures) l.taken.signatures l.taken.keys g.0 answered;
+      after = g.2 ∙ ap (λ main. record s { main = truth_bytes g.0 ∷ main; count = s.count + n }) l.left ∙ ap (λ j. record s { main = truth_bytes g.0 ∷ l.taken.below; count = s.count + j }) (sym l.many_keys);
     }
 
-pub multisig-asks : (p : Spending) (s : State) (n m : ℕ) (t : Triple) → counts_of s ≡ Some (n, m)
-    → TryingAsks p (signed_code s.code (signatures_in n m s.main)) (signatures_in n m s.main) (keys_in n s.main) t → MultisigAsks p s t
-multisig-asks p s n m t e asks =
-    let l = takes-sound s n m e in (
-      l.taken,
-      subst (λ (keys : List Bytes). TryingAsks p (signed_code s.code l.taken.signatures) l.taken.signatures keys t) l.keys_are
-          (subst (λ (signatures : List Bytes). TryingAsks p (signed_code s.code signatures) signatures (keys_in n s.main) t) l.signatures_are asks),
-    )
-
-pub multisig-again : (p : Spending) (s t : State) → ChecksMany p s t → after_checking_multisig p s ≡ Some t
+pub multisig-again : (q : Question) (triples : Triples) (s t : State) → ChecksMany (spending_for q triples) s t → after_checking_multisig (all_known triples) q s ≡ Says (Some t)
 unfolding after_checking_multisig
-multisig-again p s t c =
+multisig-again q triples s t c =
+    let known = all_known triples in
     let r = c.taken in
     let n = length r.keys in
     let m = length r.signatures in
@@ -290,5 +300,5 @@ multisig-again p s t c =
     let keys_are : keys_in n s.main ≡ r.keys = ap (keys_in n) r.before ∙ at-keys r.n r.m r.extra r.keys r.signatures r.below in
     let signatures_are : signatures_in n m s.main ≡ r.signatures = ap (signatures_in n m) r.before ∙ at-signatures r.n r.m r.extra r.keys r.signatures r.below in
     let left : drop (n + m + 3) s.main ≡ r.below = ap (drop (n + m + 3)) r.before ∙ at-end r.n r.m r.extra r.keys r.signatures r.below in
-    let answered : multisig_answer p s.code s.main (n, m) ≡ Some c.answer = rw (keys_are, signatures_are) (tried-again p (signed_code s.code r.signatures) r.signatures r.keys c.answer c.tries) in
-    rw (counts, answered) (ap Some (ap (λ main. record s { main = truth_bytes c.answer ∷ main; count = s.count + n }) left ∙ sym c.after))
+    let answered : multisig_answer known q s.code s.main (n, m) ≡ Says (Some c.answer) = rw (keys_are, signatures_are) (tried-again q triples (signed_code s.code r.signatures) r.signatures r.keys c.answer c.tries) in
+    rw (counts, answered) (ap (λ u. Says (Some u)) (ap (λ main. record s { main = truth_bytes c.answer ∷ main; count = s.count + n }) left ∙ sym c.after))

@@ -7,12 +7,18 @@ use Rattle.std.specs.Option.{option_map_or, option_and_then}
 use Rattle.interp.specs.Stack.{Stack, Bytes, stack_with}
 use Rattle.interp.specs.Elements.{truth}
 use Rattle.interp.specs.computed.Elements.{natural_of}
+use Rattle.curve.specs.Known.{all_known}
+use Rattle.curve.specs.Triple.{Triples}
+use Rattle.interp.specs.Answer.{Says, answer_map}
+use Rattle.interp.specs.Question.{Question}
 use Rattle.interp.specs.Spending.{Spending}
+use Rattle.interp.specs.inside.Spending.{spending_for}
+use Rattle.interp.specs.laws.Answers.{map-says, some-says, said}
 use Rattle.interp.specs.State.{State, is_executing}
 use Rattle.interp.specs.Timelocks.{is_same}
 use Rattle.interp.specs.computed.Timelocks.{is_met}
 use Rattle.interp.specs.Row.{Check, Of, Sig, Multisig, Row, Disabled, Fails, Nothing, Changes, Tests, AndVerifies, Opens, Turns, Closes, ToAlt, FromAlt, Separates, Asks, verify, row_of}
-use Rattle.interp.specs.computed.Step.{effect, with_main, after_verify, after_open, after_turn, after_close, to_alt, from_alt, after_sig, after_test, after_asking, after_executing, after_skipping, after_acting, with_count, within_bounds, step_at, step}
+use Rattle.interp.specs.computed.Step.{effect, with_main, after_verify, after_open, after_turn, after_close, to_alt, from_alt, after_sig, after_test, verified, after_counting, after_asking, after_executing, after_skipping, after_acting, with_count, within_bounds, step_at, step}
 use Rattle.interp.specs.Rules.{Affects, OnMain, TakesTrue, Opening, Turning, Closing, ChecksOne, Checks, Asking, Executed, Skipped, Acts, Counts, Step1}
 use Rattle.interp.specs.laws.Affecting.{then-some, effect-sound, effect-again, natural-sound, natural-again}
 use Rattle.interp.specs.laws.Checking.{sig-sound, sig-again, multisig-sound, multisig-again}
@@ -113,49 +119,52 @@ asks-again : (b : Bool) (test : ℕ → Bool) (s t : State) → ((b ≡ true) ×
 asks-again b test s t r = ⊎_elim (λ h. rw h.0 (asked-again test s t h.1)) (λ h. rw h.0 (ap Some (sym h.1))) r
 
 -- ---- tests
-tested-sound : (p : Spending) (check : Check) (s t : State) → after_test p check s ≡ Some t → Checks p check s t
-tested-sound p (Of x) s t e = on_main-by (Affects x) s t (effect x s.main) (λ new. effect-sound x s.main new) e
-tested-sound p Sig s t e = on_main-by (ChecksOne p s.code) s t (after_sig p s.code s.main) (λ new. sig-sound p s.code s.main new) e
-tested-sound p Multisig s t e = multisig-sound p s t e
+tested-sound : (q : Question) (triples : Triples) (check : Check) (s t : State) → after_test (all_known triples) q check s ≡ Says (Some t) → Checks (spending_for q triples) check s t
+tested-sound q triples (Of x) s t e = on_main-by (Affects x) s t (effect x s.main) (λ new. effect-sound x s.main new) (said _ _ e)
+tested-sound q triples Sig s t e =
+    let h = map-says (with_main s) (after_sig (all_known triples) q s.code s.main) (Some t) e in
+    on_main-by (ChecksOne (spending_for q triples) s.code) s t h.0 (λ new is. sig-sound q triples s.code s.main new (h.1 ∙ ap Says is)) h.2
+tested-sound q triples Multisig s t e = multisig-sound q triples s t e
 
-tested-again : (p : Spending) (check : Check) (s t : State) → Checks p check s t → after_test p check s ≡ Some t
-tested-again p (Of x) s t r = on_main-again (Affects x) s t (effect x s.main) (λ new. effect-again x s.main new) r
-tested-again p Sig s t r = on_main-again (ChecksOne p s.code) s t (after_sig p s.code s.main) (λ new. sig-again p s.code s.main new) r
-tested-again p Multisig s t r = multisig-again p s t r
+tested-again : (q : Question) (triples : Triples) (check : Check) (s t : State) → Checks (spending_for q triples) check s t → after_test (all_known triples) q check s ≡ Says (Some t)
+tested-again q triples (Of x) s t r = ap Says (on_main-again (Affects x) s t (effect x s.main) (λ new. effect-again x s.main new) r)
+tested-again q triples Sig s t r = ap (answer_map (with_main s)) (sig-again q triples s.code s.main r.0 r.1) ∙ ap (λ u. Says (Some u)) (sym r.2)
+tested-again q triples Multisig s t r = multisig-again q triples s t r
 
 -- ---- rows
-executed-sound : (p : Spending) (after : List ℕ) (row : Row) (s t : State) → after_executing p after row s ≡ Some t → Executed p after row s t
-executed-sound p after Disabled s t e = cc
-executed-sound p after Fails s t e = cc
-executed-sound p after Nothing s t e = cc
-executed-sound p after (Changes x) s t e = on_main-by (Affects x) s t (effect x s.main) (λ new. effect-sound x s.main new) e
-executed-sound p after (Tests check) s t e = tested-sound p check s t e
-executed-sound p after (AndVerifies check) s t e =
-    let h = then-some (after_test p check s) (λ m. with_main m (after_verify m.main)) t e in
-    (h.0, tested-sound p check s h.0 h.1, on_main-by TakesTrue h.0 t (after_verify h.0.main) (λ new. true-sound h.0.main new) h.2)
-executed-sound p after (Opens at) s t e = opened-sound at s t s.main refl e
-executed-sound p after Turns s t e = turned-sound s t s.conditions refl e
-executed-sound p after Closes s t e = closed-sound s t s.conditions refl e
-executed-sound p after ToAlt s t e = to_alt-sound p after s t s.main refl e
-executed-sound p after FromAlt s t e = from_alt-sound p after s t s.alt refl e
-executed-sound p after Separates s t e = cc
-executed-sound p after (Asks in_force test) s t e = asks-sound (in_force p.flags) (test p) s t e
+executed-sound : (q : Question) (triples : Triples) (after : List ℕ) (row : Row) (s t : State) → after_executing (all_known triples) q after row s ≡ Says (Some t) → Executed (spending_for q triples) after row s t
+executed-sound q triples after Disabled s t e = cc
+executed-sound q triples after Fails s t e = cc
+executed-sound q triples after Nothing s t e = cc
+executed-sound q triples after (Changes x) s t e = on_main-by (Affects x) s t (effect x s.main) (λ new. effect-sound x s.main new) (said _ _ e)
+executed-sound q triples after (Tests check) s t e = tested-sound q triples check s t e
+executed-sound q triples after (AndVerifies check) s t e =
+    let h = map-says (option_and_then verified) (after_test (all_known triples) q check s) (Some t) e in
+    let v = then-some h.0 verified t h.2 in
+    (v.0, tested-sound q triples check s v.0 (h.1 ∙ ap Says v.1), on_main-by TakesTrue v.0 t (after_verify v.0.main) (λ new. true-sound v.0.main new) v.2)
+executed-sound q triples after (Opens at) s t e = opened-sound at s t s.main refl (said _ _ e)
+executed-sound q triples after Turns s t e = turned-sound s t s.conditions refl (said _ _ e)
+executed-sound q triples after Closes s t e = closed-sound s t s.conditions refl (said _ _ e)
+executed-sound q triples after ToAlt s t e = to_alt-sound (spending_for q triples) after s t s.main refl (said _ _ e)
+executed-sound q triples after FromAlt s t e = from_alt-sound (spending_for q triples) after s t s.alt refl (said _ _ e)
+executed-sound q triples after Separates s t e = cc
+executed-sound q triples after (Asks in_force test) s t e = asks-sound (in_force q.flags) (test q.tx q.input) s t (said _ _ e)
 
-executed-again : (p : Spending) (after : List ℕ) (row : Row) (s t : State) → Executed p after row s t → after_executing p after row s ≡ Some t
-executed-again p after Disabled s t r = absurd r
-executed-again p after Fails s t r = absurd r
-executed-again p after Nothing s t r = ap Some (sym r)
-executed-again p after (Changes x) s t r = on_main-again (Affects x) s t (effect x s.main) (λ new. effect-again x s.main new) r
-executed-again p after (Tests check) s t r = tested-again p check s t r
-executed-again p after (AndVerifies check) s t r =
-    ap (option_and_then (λ m. with_main m (after_verify m.main))) (tested-again p check s r.0 r.1) ∙ on_main-again TakesTrue r.0 t (after_verify r.0.main) (λ new. true-again r.0.main new) r.2
-executed-again p after (Opens at) s t r = opened-again at s t r
-executed-again p after Turns s t r = turned-again s t r
-executed-again p after Closes s t r = closed-again s t r
-executed-again p after ToAlt s t r = rw (r.2, r.3) refl
-executed-again p after FromAlt s t r = rw (r.2, r.3) refl
-executed-again p after Separates s t r = ap Some (sym r)
-executed-again p after (Asks in_force test) s t r = asks-again (in_force p.flags) (test p) s t r
+executed-again : (q : Question) (triples : Triples) (after : List ℕ) (row : Row) (s t : State) → Executed (spending_for q triples) after row s t → after_executing (all_known triples) q after row s ≡ Says (Some t)
+executed-again q triples after Disabled s t r = absurd r
+executed-again q triples after Fails s t r = absurd r
+executed-again q triples after Nothing s t r = ap (λ u. Says (Some u)) (sym r)
+executed-again q triples after (Changes x) s t r = ap Says (on_main-again (Affects x) s t (effect x s.main) (λ new. effect-again x s.main new) r)
+executed-again q triples after (Tests check) s t r = tested-again q triples check s t r
+executed-again q triples after (AndVerifies check) s t r =
+    ap (answer_map (option_and_then verified)) (tested-again q triples check s r.0 r.1) ∙ ap Says (on_main-again TakesTrue r.0 t (after_verify r.0.main) (λ new. true-again r.0.main new) r.2)
+executed-again q triples after (Opens at) s t r = ap Says (opened-again at s t r)
+executed-again q triples after Turns s t r = ap Says (turned-again s t r)
+executed-again q triples after Closes s t r = ap Says (closed-again s t r)
+executed-again q triples after ToAlt s t r = rw (r.2, r.3) refl
+executed-again q triples after FromAlt s t r = rw (r.2, r.3) refl
+executed-again q triples after Separates s t r = ap (λ u. Says (Some u)) (sym r)
+executed-again q triples after (Asks in_force test) s t r = ap Says (asks-again (in_force q.flags) (test q.tx q.input) s t r)
 
 skipped-sound : (row : Row) (s t : State) → after_skipping row s ≡ Some t → Skipped row s t
 skipped-sound Disabled s t e = cc
@@ -188,17 +197,19 @@ skipped-again Separates s t r = ap Some (sym r)
 skipped-again (Asks in_force test) s t r = ap Some (sym r)
 
 -- ---- one opcode
-acted-sound : (p : Spending) (after : List ℕ) (row : Row) (s t : State) → after_acting p after row s ≡ Some t → Acts p after row s t
-unfolding after_acting
-acted-sound p after row s t e = acted-by (is_executing s) refl e
-  where
-    acted-by : (b : Bool) → is_executing s ≡ b → (if b then after_executing p after row s else after_skipping row s) ≡ Some t → Acts p after row s t
-    acted-by true is e = inl (is, executed-sound p after row s t e)
-    acted-by false is e = inr (is, skipped-sound row s t e)
+acted-by : (q : Question) (triples : Triples) (after : List ℕ) (row : Row) (s t : State) (b : Bool) → is_executing s ≡ b → (if b then after_executing (all_known triples) q after row s else Says (after_skipping row s)) ≡ Says (Some t)
+    → Acts (spending_for q triples) after row s t
+acted-by q triples after row s t true is e = inl (is, executed-sound q triples after row s t e)
+acted-by q triples after row s t false is e = inr (is, skipped-sound row s t (said _ _ e))
 
-acted-again : (p : Spending) (after : List ℕ) (row : Row) (s t : State) → Acts p after row s t → after_acting p after row s ≡ Some t
+acted-sound : (q : Question) (triples : Triples) (after : List ℕ) (row : Row) (s t : State) → after_acting (all_known triples) q after row s ≡ Says (Some t) → Acts (spending_for q triples) after row s t
 unfolding after_acting
-acted-again p after row s t r = ⊎_elim (λ h. rw h.0 (executed-again p after row s t h.1)) (λ h. rw h.0 (skipped-again row s t h.1)) r
+acted-sound q triples after row s t e = acted-by q triples after row s t (is_executing s) refl e
+
+acted-again : (q : Question) (triples : Triples) (after : List ℕ) (row : Row) (s t : State) → Acts (spending_for q triples) after row s t → after_acting (all_known triples) q after row s ≡ Says (Some t)
+unfolding after_acting
+acted-again q triples after row s t r =
+    ⊎_elim (λ h. rw h.0 (executed-again q triples after row s t h.1)) (λ h. rw h.0 (ap Says (skipped-again row s t h.1))) r
 
 pub counted-sound : (b : ℕ) (s t : State) → with_count b s ≡ Some t → Counts b s t
 unfolding with_count
@@ -222,19 +233,21 @@ bounded-again : (s : State) → length s.main + length s.alt ≤ 1000 → within
 unfolding within_bounds
 bounded-again s h = rw (le-ltb 1000 (length s.main + length s.alt) h) refl
 
-pub step-sound : (p : Spending) (after op : List ℕ) (s t : State) → step p after op s ≡ Some t → Step1 p after op s t
+pub step-sound : (q : Question) (triples : Triples) (after op : List ℕ) (s t : State) → step (all_known triples) q after op s ≡ Says (Some t) → Step1 (spending_for q triples) after op s t
 unfolding step step_at
-step-sound p after [] s t e = cc
-step-sound p after (b ∷ bytes) s t e =
-    let c = then-some (with_count b s) (λ x. option_and_then within_bounds (after_acting p after (row_of (b ∷ bytes)) x)) t e in
-    let a = then-some (after_acting p after (row_of (b ∷ bytes)) c.0) within_bounds t c.2 in
+step-sound q triples after [] s t e = cc
+step-sound q triples after (b ∷ bytes) s t e =
+    let row = row_of (b ∷ bytes) in
+    let c = some-says (after_counting (all_known triples) q after row) (with_count b s) t e in
+    let o = map-says (option_and_then within_bounds) (after_acting (all_known triples) q after row c.0) (Some t) c.2 in
+    let a = then-some o.0 within_bounds t o.2 in
     let l = bounded-sound a.0 t a.2 in
-    let P : State → Type 0 = λ u. Acts p after (row_of (b ∷ bytes)) c.0 u × (length u.main + length u.alt ≤ 1000) in
-    let r = subst P l.0 (acted-sound p after (row_of (b ∷ bytes)) c.0 a.0 a.1, l.1) in
+    let P : State → Type 0 = λ u. Acts (spending_for q triples) after row c.0 u × (length u.main + length u.alt ≤ 1000) in
+    let r = subst P l.0 (acted-sound q triples after row c.0 a.0 (o.1 ∙ ap Says a.1), l.1) in
     (c.0, counted-sound b s c.0 c.1, r.0, r.1)
 
-pub step-again : (p : Spending) (after op : List ℕ) (s t : State) → Step1 p after op s t → step p after op s ≡ Some t
+pub step-again : (q : Question) (triples : Triples) (after op : List ℕ) (s t : State) → Step1 (spending_for q triples) after op s t → step (all_known triples) q after op s ≡ Says (Some t)
 unfolding step step_at
-step-again p after [] s t r = absurd r
-step-again p after (b ∷ bytes) s t r =
-    rw (counted-again b s r.0 r.1, acted-again p after (row_of (b ∷ bytes)) r.0 t r.2) (bounded-again t r.3)
+step-again q triples after [] s t r = absurd r
+step-again q triples after (b ∷ bytes) s t r =
+    rw (counted-again b s r.0 r.1, acted-again q triples after (row_of (b ∷ bytes)) r.0 t r.2) (ap Says (bounded-again t r.3))

@@ -1,0 +1,13 @@
+-- What a call answers that changes what it is called on.
+use Rattle.std.specs.Prelude.{◌≡◌, Bool, true, false, Option, Some, None, Result, Ok, Err}
+use Rattle.interp.specs.Answer.{Answer, Says, Stops}
+use Rattle.interp.specs.declared.unverified.Unverified.{Unverified}
+
+-- what it leaves, where it says yes
+abbrev pub Leaves : {A : Type 0} → Bool → Answer (Option A) → A → Type 0
+Leaves true answer new = answer ≡ Says (Some new)
+Leaves false answer new = answer ≡ Says None
+
+abbrev pub Goes : {A : Type 0} → Result Bool Unverified → Answer (Option A) → A → Type 0
+Goes (Ok done) answer new = Leaves done answer new
+Goes (Err stop) answer new = Stops answer stop
