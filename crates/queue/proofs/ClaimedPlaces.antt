@@ -1,7 +1,7 @@
 -- Each place is of one claim, and lies between its first place and the next one's.
-use Rattle.std.proofs.Common.{◌≡◌, ℕ, ◌+◌, ◌*◌, ◌-◌, ◌/◌, ◌<◌, ◌≤◌, ltb, if◌then◌else◌, sym, subst, arith}
+use Rattle.std.proofs.Common.{◌≡◌, ℕ, ◌+◌, ◌<◌, ◌≤◌, arith}
 use Rattle.std.proofs.lemmas.Bool.Decides.{nat_tests}
-use Rattle.queue.specs.inside.ClaimedPlaces.{wide, claims_in, begin_of, claim_of}
+use Rattle.queue.specs.inside.ClaimedPlaces.{claims_in, begin_of, claim_of}
 
 pub claim_of-below : (count place : ℕ) → place < count → claim_of count place < claims_in count
 claim_of-below count place below = grind (arith, nat_tests)

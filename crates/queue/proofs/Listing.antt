@@ -7,7 +7,8 @@ use Rattle.txn.specs.declared.tx.Tx.{Tx}
 use Rattle.interp.specs.declared.flags.Flags.{Flags}
 use Rattle.interp.specs.declared.job.Job.{Job}
 use Rattle.queue.specs.declared.early_jobs.Listed.{Listed}
-use Rattle.queue.specs.Jobs.{HasInput, IsThere, Question, Spending, question, question_of, questions, tx_at}
+use Rattle.interp.specs.Question.{Question, question, question_of}
+use Rattle.queue.specs.Jobs.{HasInput, Spending, questions, tx_at}
 use Rattle.queue.specs.inside.Pairing.{spending_of}
 use Rattle.queue.proofs.Pairs.{batch_of, tx_read}
 

@@ -1,20 +1,25 @@
 -- Jobs and the verdicts that are of them.
 use Rattle.std.proofs.Common.{◌≡◌, inl, inr, ℕ, zero, suc, ◌-◌, ◌+◌, ◌<◌, ◌≤◌, Bool, true, false, cond, List, [], ◌∷◌, ◌++◌, length, get_or, map, Option, None, Some, refl, sym, ap, subst, ◌∙◌, ⊎_elim, arith}
-use Rattle.std.specs.Prelude.{◌⊎◌, IfSome, IfNone, IsSome, is_some, slice_get, slice_index_or}
+use Rattle.std.specs.Prelude.{◌⊎◌, All, IfSome, IfNone, IsSome, is_some, slice_get, slice_index_or}
 use Rattle.std.specs.Option.{option_map, option_and_then}
-use Rattle.std.proofs.lemmas.Option.{slice_get-map, slice_get_past, slice_get_read, get_or_from_slice_get}
+use Rattle.std.proofs.lemmas.Option.{slice_get-map, slice_get_past, slice_get_read, slice_get_within, get_or_from_slice_get}
+use Rattle.std.proofs.lemmas.List.{length-map}
 use Rattle.std.proofs.lemmas.Bool.{cases_eq}
 use Rattle.txn.specs.declared.input.TxIn.{TxIn}
 use Rattle.txn.specs.declared.tx.Tx.{Tx}
-use Rattle.curve.specs.Triple.{Triples}
+use Rattle.curve.specs.Known.{Known}
+use Rattle.interp.specs.computed.Step.{verdict}
+use Rattle.queue.proofs.Answering.{early-says}
 use Rattle.interp.specs.declared.flags.Flags.{Flags}
+use Rattle.interp.specs.Answer.{Answer, Says}
 use Rattle.interp.specs.declared.job.Job.{Job}
 use Rattle.queue.specs.declared.early_jobs.Listed.{Listed}
 use Rattle.queue.specs.declared.verdict_index.Key.{Key}
 use Rattle.queue.specs.declared.verdict_index.Slot.{Slot}
-use Rattle.queue.specs.Jobs.{Question, question, question_of, IsAnswer, AreNumbered, Spending, Batch, tx_at, questions, Answered}
-use Rattle.queue.specs.inside.Pairing.{spending_of, Fits, IsOfSame, Covers, first_outpoint, key_of, slot_for, AreKnown, AreAllKnown, answer_at}
-use Rattle.queue.proofs.Answering.{test_of}
+use Rattle.interp.specs.Question.{Question, question, question_of}
+use Rattle.queue.specs.Jobs.{Answered, AreAnswers, AreNumbered, Batch, IsEarly, Spending, questions, tx_at}
+use Rattle.queue.specs.inside.Pairing.{spending_of, IsOfSame, Covers, first_outpoint, key_of, slot_for}
+use Rattle.queue.specs.Early.{Fits, AreKnown, AreAllKnown, answer_at}
 
 pub some_is : {A : Type 0} (x y : A) → ◌≡◌ {A = Option A} (Some x) (Some y) → x ≡ y
 some_is x y h = cc
@@ -123,15 +128,13 @@ stays_some false v o h = h
 -- ---- answers in order
 
 -- one answer more
-pub known_next : (triples : Triples) (jobs : List Job) (known : List (Option Bool)) (place : ℕ) (job : Job) (answer : Option Bool)
-    → AreKnown triples jobs known → length known ≡ place → slice_get jobs place ≡ Some job → IfSome answer (λ said. IsAnswer (question_of job) triples said)
-    → AreKnown triples jobs (known ++ answer ∷ [])
-known_next triples jobs known place job answer are count is right k other said at_k known_k =
+pub known_next : (verdict : ℕ → Answer Bool) (known : List (Option Bool)) (place : ℕ) (answer : Option Bool) → AreKnown verdict known → length known ≡ place → IfSome answer (λ said. verdict place ≡ Says said)
+    → AreKnown verdict (known ++ answer ∷ [])
+known_next verdict known place answer are count right k said known_k =
     ⊎_elim
-    (λ before. are k other said at_k before)
+    (λ before. are k said before)
     (λ (last : (k ≡ length known) × (answer ≡ Some said)).
-    let same : job ≡ other = some_is job other (sym is ∙ ap (slice_get jobs) (sym (last.0 ∙ count)) ∙ at_k) in
-    test_of triples other said (subst (λ (j : Job). IsAnswer (question_of j) triples said) same (subst (λ (o : Option Bool). IfSome o (λ b. IsAnswer (question_of job) triples b)) last.1 right)))
+    ap verdict (last.0 ∙ count) ∙ subst (λ (o : Option Bool). IfSome o (λ b. verdict place ≡ Says b)) last.1 right)
     (slice_get-push known answer k (Some said) known_k)
 
 -- of the first so many jobs, each that a verdict fits has its answer
@@ -248,3 +251,22 @@ own_all batch n new all before at q asked =
     let a = asked_at batch at q asked in
     let none : ◌≡◌ {A = Option Spending} None (Some a.0) = sym (slice_get_past batch.spendings at (omega (arith, h, all))) ∙ a.1 in absurd cc)
     (below_or at n)
+
+-- ---- the answer of a verdict
+
+pub list-there : (verdicts : List Answered) (slot : Slot) (q : Question) → Fits verdicts slot q → slot.verdicts < length verdicts
+list-there verdicts slot q fits = slice_get_within verdicts slot.verdicts fits.own fits.there
+
+module _ (verdicts : List Answered) (slot : Slot) (q : Question) (own : Answered) (fits : Fits verdicts slot q) (is : own ≡ get_or verdicts slot.verdicts own) where
+  its : fits.own ≡ own
+  its = sym (is ∙ get_or_from_slice_get verdicts slot.verdicts fits.own own fits.there)
+
+  asked : slice_get (questions own.batch) slot.place ≡ Some q
+  asked = ap (λ (a : Answered). slice_get (questions a.batch) slot.place) (sym its) ∙ fits.asked
+
+  pub answer-there : length own.answers ≡ length own.batch.spendings → slot.place < length own.answers
+  answer-there each = omega (arith, each, slice_get_within (questions own.batch) slot.place q asked, length-map own.batch.spendings (λ s. question (tx_at own.batch.txs s.place) s.input s.spent own.batch.flags))
+
+  pub answer-right : (known : Known) → All (IsEarly known) verdicts → AreAnswers (questions own.batch) own.triples own.answers → (answer : Bool) → slice_get own.answers slot.place ≡ Some answer → verdict known q ≡ Says answer
+  answer-right known early right answer there =
+      early-says own.triples known (subst (IsEarly known) (sym is) (early slot.verdicts own (list-there verdicts slot q fits))) q answer (right slot.place q answer asked there)

@@ -1,28 +1,17 @@
 -- Which jobs of a list are accepted, and the first one that isn't.
-use Rattle.std.specs.Prelude.{◌≡◌, ℕ, ◌<◌, pos, Bool, true, false, List, [], length, map, get_or, Option, Some, None, slice_get, All}
-use Rattle.std.specs.List.{Any}
+use Rattle.std.specs.Prelude.{◌≡◌, ℕ, ◌<◌, pos, Bool, true, false, List, [], length, map, get_or, Option, Some, None, slice_get}
 use Rattle.txn.specs.declared.tx.Tx.{Tx}
-use Rattle.curve.specs.Known.{Known, Under}
+use Rattle.curve.specs.Known.{Known, all_known}
+use Rattle.curve.specs.laws.Growth.{Grows}
 use Rattle.curve.specs.Triple.{Triple, Triples}
 use Rattle.interp.specs.declared.flags.Flags.{Flags}
 use Rattle.interp.specs.declared.job.Job.{Job}
-use Rattle.interp.specs.Asking.{Asks}
+use Rattle.interp.specs.Answer.{Answer, Says, Wants}
+use Rattle.interp.specs.Question.{Question, question, question_of}
 use Rattle.interp.specs.Rules.{Accepts}
+use Rattle.interp.specs.computed.Step.{verdict}
 use Rattle.queue.specs.declared.undecided.Undecided.{Undecided}
 use Rattle.queue.specs.declared.undecided.Undecided.TheVariants.{Memory, Unknown}
-
--- what a job asks: may this input of this transaction spend an output with this script, under these rules?
-pub record Question : Type 0 where
-  pub tx : Tx
-  pub input : ℕ
-  pub spent : List ℕ
-  pub flags : Flags
-
-abbrev pub question : Tx → ℕ → List ℕ → Flags → Question
-question tx input spent flags = record { tx = tx; input = input; spent = spent; flags = flags }
-
-abbrev pub question_of : Job → Question
-question_of job = question job.tx.now job.input job.spent.now job.flags
 
 -- the job's input is one of its transaction's
 abbrev pub HasInput : Job → Type 0
@@ -81,32 +70,25 @@ abbrev pub AreAnswers : List Question → Triples → List Bool → Type 0
 AreAnswers asked triples answers =
     (place : ℕ) (q : Question) (yes : Bool) → slice_get asked place ≡ Some q → slice_get answers place ≡ Some yes → IsAnswer q triples yes
 
--- ---- the first failure
-
--- the job at this place, if there is one, is accepted
-abbrev pub AcceptsAt : Triples → List Job → ℕ → Type 0
-AcceptsAt triples jobs place = (job : Job) → slice_get jobs place ≡ Some job → IsAccepted (question_of job) triples
-
--- there is a job at this place, and it isn't accepted
-abbrev pub FailsAt : Triples → List Job → ℕ → Type 0
-FailsAt triples jobs place = (job : Job) × (slice_get jobs place ≡ Some job) × ¬ IsAccepted (question_of job) triples
-
--- none where every job is accepted, and else the least place whose job isn't
-abbrev pub IsFirstFailure : Triples → List Job → Option ℕ → Type 0
-IsFirstFailure triples jobs None = (place : ℕ) → AcceptsAt triples jobs place
-IsFirstFailure triples jobs (Some least) = FailsAt triples jobs least × ((place : ℕ) → place < least → AcceptsAt triples jobs place)
-
 -- ---- where there is no answer
 
--- of a triple nothing is known, and the question asks for it under every set that agrees
+-- what is known doesn't suffice for a verdict on the question: whether this triple is valid has to be found out
 abbrev pub IsWanted : Known → Question → Triple → Type 0
-IsWanted known q t = (known t ≡ None) × Under known (λ triples. Asks q.tx q.input q.spent q.flags triples t)
+IsWanted known q t = verdict known q ≡ Wants t
 
--- one of these jobs asks for it
-abbrev pub IsWantedIn : Known → List Job → Triple → Type 0
-IsWantedIn known jobs t = Any (λ job. IsWanted known (question_of job) t) jobs
+-- the verdict on the job at a place; where there is no job, nothing is refused
+abbrev pub verdict_of : Known → Option Job → Answer Bool
+verdict_of known None = Says true
+verdict_of known (Some job) = verdict known (question_of job)
 
--- there are signatures to find out first, and this holds of each; of running out of memory nothing is said
-abbrev pub IsUndecided : (Triple → Type 0) → Undecided → Type 0
-IsUndecided Wanted Memory = Unit {0}
-IsUndecided Wanted (Unknown unknown) = (0 < length unknown.items) × All Wanted unknown.items
+abbrev pub verdict_at : Known → List Job → ℕ → Answer Bool
+verdict_at known jobs place = verdict_of known (slice_get jobs place)
+
+-- the signatures that have to be found out first; of running out of memory nothing is said
+abbrev pub told_by : Undecided → Option (List Triple)
+told_by Memory = None
+told_by (Unknown unknown) = Some unknown.items
+
+-- what verdicts of these signatures said is known
+abbrev pub IsEarly : Known → Answered → Type 0
+IsEarly known answered = Grows (all_known answered.triples) known

@@ -1,3 +1,4 @@
+pub mod Failing
 pub mod Lending
 pub mod Sharing
 pub mod Undecided

@@ -1,19 +1,20 @@
-//! What the workers go through: places, each accepted or refused.
+//! What the workers go through: places, each with a verdict.
 
-ghost use Rattle.std.specs.Prelude.{◌≡◌, ℕ, ◌<◌, Bool, IfOk, IfSome, MatchBool, None, Option};
+ghost use Rattle.std.specs.Prelude.{◌≡◌, ℕ, ◌<◌, Bool, IfOk, IfSome, None, Option};
+ghost use Rattle.interp.specs.Answer.{Answer, Says};
+ghost use Rattle.queue.specs.Ahead.{answer_of};
 
+use crate::verdict::Verdict;
 use std::alloc::Global;
 use wire::Memory;
 
-/// Places to be checked.
+/// Places to be judged.
 ///
 /// The threads are generic in it: a closure of a thread that captures a type with a lifetime passes no fact on.
 pub trait Places {
     ghost count: { Self → ℕ };
 
-    ghost accepts: { Self → ℕ → Type 0 };
-
-    ghost refuses: { Self → ℕ → Type 0 };
+    ghost verdict: { Self → ℕ → Answer Bool };
 
     /// The answers that are known already.
     ghost known_at: { Self → ℕ → Option Bool };
@@ -25,13 +26,11 @@ pub trait Places {
     fn known(&self, place: usize) -> Option<bool>
         requires { place < count self.now }
         ensures value { result ≡ known_at self.now place }
-        ensures right { IfSome result (λ yes.
-            MatchBool yes (accepts self.now place) (refuses self.now place)) };
+        ensures right { IfSome result (λ answer. verdict self.now place ≡ Says answer) };
 
-    /// The answer for a place, of which none is known.
-    fn check(&self, alloc: Global, place: usize) -> Result<bool, Memory>
+    /// The verdict on a place, of which no answer is known.
+    fn judge(&self, alloc: Global, place: usize) -> Result<Verdict, Memory>
         requires place { place < count self.now }
         requires unknown { known_at self.now place ≡ None }
-        ensures { IfOk result (λ yes.
-            MatchBool yes (accepts self.now place) (refuses self.now place)) };
+        ensures { IfOk result (λ v. verdict self.now place ≡ answer_of v) };
 }

@@ -1,105 +1,165 @@
-//! Who runs the jobs.
+//! Who runs jobs ahead of the caller.
 
-ghost use Rattle.std.specs.Prelude.{◌≡◌, ◌<◌, ◌≤◌, ◌^◌, length, All, IfOk};
+ghost use Rattle.std.specs.Prelude.{◌≡◌, ◌≤◌, All, IfOk};
 ghost use denote.Param.Send.{IsSync};
-ghost use Rattle.queue.specs.Jobs.{HasInput, AreNumbered, IsFirstFailure};
+ghost use Rattle.queue.specs.Jobs.{verdict_at};
+ghost use Rattle.queue.specs.Ahead.{AreOf};
 ghost use Rattle.queue.specs.laws.Sharing.{IsSync-prop};
 
+use crate::checks::Places;
 use crate::gate::Gate;
 use crate::jobs::JobList;
-use crate::known_verdicts::known_answers;
-use crate::verdicts::Verdicts;
-use crate::workers::{first_failure_with, first_refused_alone};
-use curve::Table;
-use interp::Job;
+use crate::judges::Judges;
+use crate::verdict::Seen;
+use crate::workers::{Words, work};
+use curve::{KnownSignatures, Table};
 use std::alloc::Global;
-use std::thread::Threads;
+use std::sync::atomic::AtomicU64;
+use std::thread::{Threads, map_indices};
 use wire::Memory;
 
-/// Who runs the jobs of a list: threads, or the caller alone. Whoever takes a crew needs no leave to start threads.
-pub trait Crew {
+/// Who runs jobs ahead of the caller, by what a judge knows: threads, or nobody. Whoever takes a crew needs no leave to
+/// start threads.
+pub trait Crew<S: Judges> {
     /// What a crew needs to know of its own type: of threads, that they may share the handle that starts them.
     ghost is_ready: { Self → Type 0 };
 
     /// There is one proof of it, so that a struct can keep it beside a crew.
     ghost ready_once: { (crew : Self) → IsProp (is_ready crew) };
 
-    /// The least place whose job isn't accepted, or none. A job that a verdict fits isn't run.
-    fn first_failure_with(
+    /// Verdicts on jobs of a list, as many as were found.
+    fn run_ahead(
         &self,
         alloc: Global,
-        jobs: &[Job],
-        numbers: &[usize],
-        verdicts: &[Verdicts],
-        table: &Table,
+        list: &JobList<S>,
         workers: usize,
         gate: &(dyn Gate + Sync),
-    ) -> Result<Option<usize>, Memory>
-        requires ready { is_ready self.now }
-        requires workers { (1 ≤ workers) × (workers ≤ 16) }
-        requires few { length jobs.now < 2 ^ 32 }
-        requires inputs { All HasInput jobs.now }
-        // Jobs of one number are of one transaction, which is compared once with a verdict's.
-        requires numbered { AreNumbered numbers.now jobs.now }
-        requires same_table { All (λ v. v.triples ≡ table.now) verdicts.now }
-        ensures { IfOk result (λ place. IsFirstFailure table.now jobs.now place) };
+    ) -> Result<Vec<Seen>, Memory>
+        requires { is_ready self.now }
+        ensures { IfOk result (λ seen.
+            AreOf (verdict_at (S.known list.now.by.now) list.now.jobs.now) seen.items) };
 }
 
-/// The caller and threads that it starts, up to the number of workers.
+/// Threads, as many as there are workers.
 #[derive(Clone, Copy)]
 pub struct Threaded<'r, R> {
     pub rt: &'r R,
 }
 
-impl<'r, R: Threads + Sync> Crew for Threaded<'r, R> {
+impl<'r, R: Threads + Sync> Crew<Table> for Threaded<'r, R> {
     ghost is_ready = { λ _. IsSync R.row };
 
     ghost ready_once = { λ _. IsSync-prop R.row };
 
-    fn first_failure_with(
+    fn run_ahead(
         &self,
         alloc: Global,
-        jobs: &[Job],
-        numbers: &[usize],
-        verdicts: &[Verdicts],
-        table: &Table,
+        list: &JobList<Table>,
         workers: usize,
         gate: &(dyn Gate + Sync),
-    ) -> Result<Option<usize>, Memory> {
-        first_failure_with(
-            self.rt, alloc, jobs, numbers, verdicts, table, workers, &gate,
-        )
+    ) -> Result<Vec<Seen>, Memory> {
+        in_threads(self.rt, alloc, list, workers, &gate)
     }
 }
 
-/// The caller alone, whatever the number of workers: for where no thread may be started.
+impl<'r, R: Threads + Sync> Crew<KnownSignatures> for Threaded<'r, R> {
+    ghost is_ready = { λ _. IsSync R.row };
+
+    ghost ready_once = { λ _. IsSync-prop R.row };
+
+    fn run_ahead(
+        &self,
+        alloc: Global,
+        list: &JobList<KnownSignatures>,
+        workers: usize,
+        gate: &(dyn Gate + Sync),
+    ) -> Result<Vec<Seen>, Memory> {
+        in_threads(self.rt, alloc, list, workers, &gate)
+    }
+}
+
+/// Nobody: the caller runs every job, whatever the number of workers.
 #[derive(Clone, Copy)]
 pub struct Alone;
 
-impl Crew for Alone {
+impl<S: Judges> Crew<S> for Alone {
     ghost use Rattle.std.specs.Coded.{Unit-prop};
 
     ghost is_ready = { λ _. Unit {0} };
 
     ghost ready_once = { λ _. Unit-prop };
 
-    fn first_failure_with(
+    fn run_ahead(
         &self,
         alloc: Global,
-        jobs: &[Job],
-        numbers: &[usize],
-        verdicts: &[Verdicts],
-        table: &Table,
+        _list: &JobList<S>,
         _workers: usize,
-        gate: &(dyn Gate + Sync),
-    ) -> Result<Option<usize>, Memory> {
-        let known = known_answers(alloc, jobs, numbers, verdicts, table)?;
-        let list = JobList {
-            jobs,
-            verdicts,
-            table,
-            known: &known,
-        };
-        first_refused_alone(alloc, &list, &gate)
+        _gate: &(dyn Gate + Sync),
+    ) -> Result<Vec<Seen>, Memory> {
+        Ok(Vec::new(alloc))
     }
+}
+
+/// What so many workers find. One worker has nothing to run ahead of.
+pub(crate) fn in_threads<R: Threads + Sync, G: Gate + Sync, C: Places + Sync>(
+    rt: &R,
+    alloc: Global,
+    list: &C,
+    workers: usize,
+    gate: &G,
+) -> Result<Vec<Seen>, Memory>
+    ensures { IfOk result (λ seen. AreOf (C.verdict list.now) seen.items) }
+{
+    let workers = busy_workers(list, workers);
+    if workers <= 1 {
+        return Ok(Vec::new(alloc));
+    }
+    let words = Words {
+        claimed: AtomicU64::new(0),
+        noted: AtomicU64::new(u64::MAX),
+    };
+    let reports = map_indices(
+        rt,
+        alloc,
+        workers,
+        &|_worker: usize| -> Result<Vec<Seen>, Memory>
+            ensures { IfOk result (λ seen. AreOf (C.verdict list.entry.now) seen.items) }
+        { work(alloc, list, &words, gate) },
+    )?;
+    gather(alloc, list, reports)
+}
+
+/// All that the workers found, if none ran out of memory.
+fn gather<C: Places>(
+    alloc: Global,
+    _list: &C,
+    reports: Vec<Result<Vec<Seen>, Memory>>,
+) -> Result<Vec<Seen>, Memory>
+    requires { All (λ report. IfOk report (λ seen.
+        AreOf (C.verdict _list.now) seen.items)) reports.items }
+    ensures { IfOk result (λ seen. AreOf (C.verdict _list.now) seen.items) }
+{
+    let mut all = Vec::new(alloc);
+    for report in reports {
+        let mut seen = report?;
+        all.append(&mut seen)?;
+    }
+    Ok(all)
+}
+
+/// How many workers have something to run: no more than there are, and than places whose answer isn't known.
+fn busy_workers<C: Places>(list: &C, workers: usize) -> usize
+    ensures most { result ≤ workers }
+    ensures places { result ≤ C.count list.now }
+{
+    let mut left = 0;
+    for place in 0..list.count_places() {
+        if left >= workers {
+            return workers;
+        }
+        if list.known(place).is_none() {
+            left += 1;
+        }
+    }
+    left
 }

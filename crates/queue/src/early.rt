@@ -1,12 +1,15 @@
 //! Answers that are got before they are asked for.
 
-ghost use Rattle.std.specs.Prelude.{◌≡◌, ℕ, Bool, ◌<◌, ◌≤◌, ◌^◌, IfOk, IfSome, MatchBool, None, Some, length, map, slice_get, vec_len};
+ghost use Rattle.std.specs.Prelude.{◌≡◌, ℕ, Bool, ◌<◌, ◌≤◌, ◌^◌, IfOk, IfSome, None, length, map, vec_len, Some};
+ghost use Rattle.interp.specs.Answer.{Says};
 ghost use Rattle.queue.specs.Jobs.{AreAnswers, questions};
+ghost use Rattle.queue.specs.Early.{AreKnown};
 
 use crate::checks::Places;
 use crate::early_jobs::EarlyJobs;
 use crate::gate::Gate;
 use crate::jobs::JobList;
+use crate::verdict::Verdict;
 use crate::verdicts::Verdicts;
 use crate::workers::run;
 use curve::Table;
@@ -52,8 +55,9 @@ fn early_answers<R: Threads + Sync, G: Gate + Sync>(
     let jobs = jobs.jobs(alloc, &midstates)?;
     let list = JobList {
         jobs: &jobs,
-        verdicts: &[],
-        table,
+        count: jobs.len(),
+        by: table,
+        early: &[],
         known: &[],
     };
     let found = answers(rt, alloc, &list, workers, gate)?;
@@ -74,7 +78,7 @@ fn all_answers(alloc: Global, found: &[Option<bool>]) -> Result<Vec<bool>, Memor
     Ok(yeses)
 }
 
-/// The answer at each place, where there was memory for it.
+/// The answer at each place, where there was memory for it and no signature is unknown.
 fn answers<R: Threads + Sync, G: Gate + Sync, C: Places + Sync>(
     rt: &R,
     alloc: Global,
@@ -85,8 +89,7 @@ fn answers<R: Threads + Sync, G: Gate + Sync, C: Places + Sync>(
     requires workers { 0 < workers }
     requires unknown { (place : ℕ) → C.known_at list.now place ≡ None }
     ensures len { IfOk result (λ found. vec_len found ≡ C.count list.now) }
-    ensures each { IfOk result (λ found. (place : ℕ) (yes : Bool) → slice_get found.items place ≡
-        Some (Some yes) → MatchBool yes (C.accepts list.now place) (C.refuses list.now place)) }
+    ensures each { IfOk result (λ found. AreKnown (C.verdict list.now) found.items) }
 {
     let mut found = Vec::from_elem(alloc, None, list.count_places())?;
     for_each_mut(
@@ -95,9 +98,22 @@ fn answers<R: Threads + Sync, G: Gate + Sync, C: Places + Sync>(
         workers,
         &|place: usize, slot: &mut Option<bool>|
             requires { (place < C.count list.now) × (C.known_at list.now place ≡ None) }
-            ensures { IfSome slot.exit.now (λ yes.
-                MatchBool yes (C.accepts list.entry.now place) (C.refuses list.entry.now place)) }
-        { *slot = run(alloc, list, place, gate).ok() },
+            ensures { IfSome slot.exit.now (λ answer.
+                C.verdict list.entry.now place ≡ Says answer) }
+        { *slot = answer(alloc, list, place, gate) },
     );
     Ok(found)
+}
+
+/// The answer at a place, unless there was no memory or a signature is unknown.
+fn answer<G: Gate, C: Places>(alloc: Global, list: &C, place: usize, gate: &G) -> Option<bool>
+    requires place { place < C.count list.now }
+    requires unknown { C.known_at list.now place ≡ None }
+    ensures { IfSome result (λ answer. C.verdict list.now place ≡ Says answer) }
+{
+    match run(alloc, list, place, gate) {
+        Ok(Verdict::Yes) => Some(true),
+        Ok(Verdict::No) => Some(false),
+        Ok(Verdict::Wants(_)) | Err(_) => None,
+    }
 }

@@ -65,7 +65,8 @@ impl<'t> Model for EarlyJobs<'t> {
 }
 
 impl<'t> EarlyJobs<'t> {
-    ghost use Rattle.queue.specs.Jobs.{HasInput, Question, Spending, question_of, questions, spending, tx_at, IsThere};
+    ghost use Rattle.interp.specs.Question.{Question, question_of};
+    ghost use Rattle.queue.specs.Jobs.{HasInput, Spending, questions, spending, tx_at, IsThere};
     ghost use Rattle.queue.specs.inside.Pairing.{key_of};
     ghost use Rattle.sighash.specs.Midstates.{AreOf};
 

@@ -2,12 +2,16 @@
 
 ghost use Rattle.std.specs.Prelude.{◌≡◌, ◌-◌, ◌<◌, ◌≤◌, ℕ, All, IfOk, IfSome, IsSome, IsTrue, Some, length, slice_get};
 ghost use Rattle.interp.specs.declared.job.Job.{Job};
-ghost use Rattle.queue.specs.Jobs.{AreNumbered, HasInput, IsAnswer, question_of};
-ghost use Rattle.queue.specs.inside.Pairing.{AreAllKnown, AreKnown, Covers, Fits, IsOfSame};
+ghost use Rattle.interp.specs.Question.{question_of};
+ghost use Rattle.queue.specs.Jobs.{AreNumbered, HasInput, IsEarly, verdict_at};
+ghost use Rattle.interp.specs.Answer.{Says};
+ghost use Rattle.interp.specs.computed.Step.{verdict};
+ghost use Rattle.queue.specs.Early.{AreAllKnown, AreKnown, Fits};
+ghost use Rattle.queue.specs.inside.Pairing.{Covers, IsOfSame};
 
+use crate::judges::Judges;
 use crate::verdict_index::{Index, Slot};
 use crate::verdicts::Verdicts;
-use curve::Table;
 use interp::Job;
 use std::alloc::Global;
 use wire::Memory;
@@ -15,38 +19,42 @@ use wire::Memory;
 /// Of each job its answer, where a verdict fits it. Without any verdict it is no list at all.
 ///
 /// A job with the number of the job before it is of the same transaction, which isn't compared again.
-pub(crate) fn known_answers(
+pub(crate) fn known_answers<S: Judges>(
     alloc: Global,
     jobs: &[Job],
     numbers: &[usize],
     verdicts: &[Verdicts],
-    table: &Table,
+    by: &S,
 ) -> Result<Vec<Option<bool>>, Memory>
     requires inputs { All HasInput jobs.now }
     requires numbered { AreNumbered numbers.now jobs.now }
-    requires same_table { All (λ v. v.triples ≡ table.now) verdicts.now }
-    ensures right { IfOk result (λ known. AreKnown table.now jobs.now known.items) }
+    requires early { All (IsEarly (S.known by.now)) verdicts.now }
+    ensures right { IfOk result (λ known.
+        AreKnown (verdict_at (S.known by.now) jobs.now) known.items) }
     // Each job that a verdict fits has its answer, so none of them is run.
     ensures all { IfOk result (λ known. AreAllKnown verdicts.now jobs.now known.items) }
 {
     if verdicts.is_empty() {
         return Ok(Vec::new(alloc));
     }
-    let index = Index::new(alloc, verdicts, table)?;
-    answers_in(alloc, jobs, numbers, &index)
+    let index = Index::new(alloc, verdicts)?;
+    answers_in(alloc, jobs, numbers, &index, by)
 }
 
 /// Of each job its answer, where a verdict of the index fits it.
-fn answers_in(
+fn answers_in<S: Judges>(
     alloc: Global,
     jobs: &[Job],
     numbers: &[usize],
     index: &Index,
+    by: &S,
 ) -> Result<Vec<Option<bool>>, Memory>
     requires inputs { All HasInput jobs.now }
     requires numbered { AreNumbered numbers.now jobs.now }
     requires covers { Covers index.now.verdicts.now index.now.slots.entries }
-    ensures right { IfOk result (λ known. AreKnown index.now.table.now jobs.now known.items) }
+    requires early { All (IsEarly (S.known by.now)) index.now.verdicts.now }
+    ensures right { IfOk result (λ known.
+        AreKnown (verdict_at (S.known by.now) jobs.now) known.items) }
     ensures all { IfOk result (λ known.
         AreAllKnown index.now.verdicts.now jobs.now known.items) }
 {
@@ -56,7 +64,7 @@ fn answers_in(
         let job = &jobs[place];
         let before = slot_before(jobs, numbers, index, place, slot);
         slot = index.find(before, job);
-        known.push(answer_in(index, slot, job))?;
+        known.push(answer_in(index, slot, job, by))?;
     }
     Ok(known)
 }
@@ -83,13 +91,15 @@ fn slot_before(
 }
 
 /// The answer of the verdict in a slot, if there is one.
-fn answer_in(index: &Index, slot: Option<Slot>, job: &Job) -> Option<bool>
-    requires { IfSome slot (λ slot. Fits index.now.verdicts.now slot (question_of job.now)) }
-    ensures right { IfSome result (λ yes.
-        IsAnswer (question_of job.now) index.now.table.now yes) }
+fn answer_in<S: Judges>(index: &Index, slot: Option<Slot>, job: &Job, by: &S) -> Option<bool>
+    requires fits { IfSome slot (λ slot.
+        Fits index.now.verdicts.now slot (question_of job.now)) }
+    requires early { All (IsEarly (S.known by.now)) index.now.verdicts.now }
+    ensures right { IfSome result (λ answer.
+        verdict (S.known by.now) (question_of job.now) ≡ Says answer) }
     ensures some { IsSome slot → IsSome result }
 {
-    index.answer(slot?, job)
+    Some(index.answer(slot?, job, by))
 }
 
 /// Whether the number at a place equals the one before it.

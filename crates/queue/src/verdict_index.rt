@@ -2,14 +2,17 @@
 
 ghost use Rattle.std.specs.Prelude.{◌≡◌, ℕ, All, IfOk, IfSome, IsSome, IsTrue, OnOk, Some, slice_get};
 ghost use Rattle.std.specs.Option.{IfNone};
-ghost use Rattle.std.proofs.Props.{props};
 ghost use Rattle.queue.specs.declared.verdict_index.Key.{Key};
 ghost use Rattle.queue.specs.declared.verdict_index.Slot.{Slot};
-ghost use Rattle.queue.specs.Jobs.{HasInput, IsAnswer, Question, question_of, questions};
-ghost use Rattle.queue.specs.inside.Pairing.{Covers, Fits, IsOfSame, key_of, slot_for};
+ghost use Rattle.interp.specs.Question.{Question, question_of};
+ghost use Rattle.queue.specs.Jobs.{HasInput, IsEarly, questions};
+ghost use Rattle.interp.specs.Answer.{Says};
+ghost use Rattle.interp.specs.computed.Step.{verdict};
+ghost use Rattle.queue.specs.inside.Pairing.{Covers, IsOfSame, key_of, slot_for};
+ghost use Rattle.queue.specs.Early.{Fits};
 
+use crate::judges::Judges;
 use crate::verdicts::Verdicts;
-use curve::Table;
 use interp::Job;
 use std::alloc::Global;
 use std::collections::BTreeMap;
@@ -31,24 +34,16 @@ pub struct Slot {
     pub place: usize,
 }
 
-/// Verdicts under a table, and of each key that some have one of them.
+/// Verdicts, and of each key that some have one of them.
 #[derive(Drop)]
-pub struct Index<'a> {
-    verdicts: &'a [Verdicts<'a>],
+pub struct Index<'a, 't> {
+    verdicts: &'a [Verdicts<'t>],
     slots: BTreeMap<Key, Slot>,
-    table: &'a Table,
-    ghost same_table: { All (λ v. v.triples ≡ table.now) verdicts.now } by { Prim.hlevel props },
 }
 
-impl<'a> Index<'a> {
+impl<'a, 't> Index<'a, 't> {
     /// The index of these verdicts.
-    pub fn new(
-        alloc: Global,
-        verdicts: &'a [Verdicts<'a>],
-        table: &'a Table,
-    ) -> Result<Index<'a>, Memory>
-        requires { All (λ v. v.triples ≡ table.now) verdicts.now }
-        ensures table { IfOk result (λ index. index.table.now ≡ table.entry.now) }
+    pub fn new(alloc: Global, verdicts: &'a [Verdicts<'t>]) -> Result<Index<'a, 't>, Memory>
         ensures verdicts { IfOk result (λ index. index.verdicts.now ≡ verdicts.entry.now) }
         ensures covers { IfOk result (λ index.
             Covers verdicts.entry.now index.slots.entries) }
@@ -57,11 +52,7 @@ impl<'a> Index<'a> {
         for list in 0..verdicts.len() {
             add_slots(&mut slots, list, &verdicts[list])?;
         }
-        Ok(Index {
-            verdicts,
-            slots,
-            table,
-        })
+        Ok(Index { verdicts, slots })
     }
 
     /// A verdict that fits a job. There is one where any of them fits it.
@@ -123,18 +114,14 @@ impl<'a> Index<'a> {
         None
     }
 
-    /// The answer of the verdict in a slot.
-    pub fn answer(&self, slot: Slot, job: &Job) -> Option<bool>
-        requires { Fits self.now.verdicts.now slot (question_of job.now) }
-        ensures right { IfSome result (λ yes.
-            IsAnswer (question_of job.now) self.now.table.now yes) }
-        ensures some { IsSome result }
+    /// The answer of the verdict in a slot, which is right by all that this judge knows.
+    pub fn answer<S: Judges>(&self, slot: Slot, job: &Job, _by: &S) -> bool
+        requires fits { Fits self.now.verdicts.now slot (question_of job.now) }
+        requires early { All (IsEarly (S.known _by.now)) self.now.verdicts.now }
+        ensures { verdict (S.known _by.now) (question_of job.now) ≡ Says result }
     {
-        self.verdicts
-            .get(slot.verdicts)?
-            .answers()
-            .get(slot.place)
-            .copied()
+        let own = &self.verdicts[slot.verdicts];
+        own.answers()[slot.place]
     }
 }
 

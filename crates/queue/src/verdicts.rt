@@ -40,7 +40,8 @@ impl<'t> Model for Verdicts<'t> {
 }
 
 impl<'t> Verdicts<'t> {
-    ghost use Rattle.queue.specs.Jobs.{AreAnswers, question_of, questions};
+    ghost use Rattle.interp.specs.Question.{question_of};
+    ghost use Rattle.queue.specs.Jobs.{AreAnswers, questions};
 
     /// The verdicts with these answers.
     pub(crate) fn of(jobs: EarlyJobs<'t>, table: &'t Table, answers: Vec<bool>) -> Verdicts<'t>

@@ -1,6 +1,5 @@
 -- Answers that are known before jobs are run.
-use Rattle.std.specs.Prelude.{◌≡◌, ℕ, Bool, List, [], ◌∷◌, Option, Some, IsSome, slice_get}
-use Rattle.std.specs.Option.{option_and_then}
+use Rattle.std.specs.Prelude.{◌≡◌, List, [], ◌∷◌, Option, IsSome}
 use Rattle.std.specs.Map.{lookup}
 use Rattle.std.specs.BTreeMap.{is_at}
 use Rattle.std.specs.declared.cmp.Ordering.{Ordering}
@@ -9,24 +8,17 @@ use Rattle.std.specs.Cmp.Lexicographic.{slice_cmp}
 use Rattle.txn.specs.declared.outpoint.OutPoint.{OutPoint}
 use Rattle.txn.specs.declared.input.TxIn.{TxIn}
 use Rattle.txn.specs.declared.tx.Tx.{Tx}
-use Rattle.curve.specs.Triple.{Triples}
-use Rattle.interp.specs.computed.Verifying.{accepts}
-use Rattle.interp.specs.declared.job.Job.{Job}
 use Rattle.queue.specs.declared.early_jobs.Listed.{Listed}
 use Rattle.queue.specs.declared.verdict_index.Key.{Key}
 use Rattle.queue.specs.declared.verdict_index.Slot.{Slot}
-use Rattle.queue.specs.Jobs.{Spending, spending, Question, question_of, questions, Answered}
+use Rattle.interp.specs.Question.{Question}
+use Rattle.queue.specs.Early.{Fits}
+use Rattle.queue.specs.Jobs.{Spending, spending, Answered}
 
 abbrev pub spending_of : Listed → Spending
 spending_of listed = spending listed.place listed.input listed.spent.items
 
 -- ---- the verdict that fits
-
--- a verdict of some lists, in a slot, answers this question
-pub record Fits (verdicts : List Answered) (slot : Slot) (q : Question) : Type 0 where
-  pub own : Answered
-  pub there : slice_get verdicts slot.verdicts ≡ Some own
-  pub asked : slice_get (questions own.batch) slot.place ≡ Some q
 
 -- it is of an equal transaction
 abbrev pub IsOfSame : List Answered → Slot → Tx → Type 0
@@ -51,23 +43,3 @@ slot_for entries key = lookup (is_at (key_cmp key)) entries
 -- each key of a verdict has a slot
 abbrev pub Covers : List Answered → List (Key × Slot) → Type 0
 Covers verdicts entries = (slot : Slot) (q : Question) → Fits verdicts slot q → IsSome (slot_for entries (key_of q))
-
--- ---- answers that are known
-
--- the answer at a place, if it is known
-abbrev pub answer_at : List (Option Bool) → ℕ → Option Bool
-answer_at known place = option_and_then (λ answer. answer) (slice_get known place)
-
--- of each job that a verdict fits it is known
-abbrev pub AreAllKnown : List Answered → List Job → List (Option Bool) → Type 0
-AreAllKnown verdicts jobs known =
-    (place : ℕ) (job : Job) (slot : Slot) → slice_get jobs place ≡ Some job → Fits verdicts slot (question_of job) → IsSome (answer_at known place)
-
--- whether the job is accepted, as a test
-abbrev pub is_accepted : Triples → Job → Bool
-is_accepted triples job = accepts job.tx.now job.input job.spent.now job.flags triples
-
--- where an answer of a job is known, it is right
-abbrev pub AreKnown : Triples → List Job → List (Option Bool) → Type 0
-AreKnown triples jobs known =
-    (place : ℕ) (job : Job) (yes : Bool) → slice_get jobs place ≡ Some job → slice_get known place ≡ Some (Some yes) → is_accepted triples job ≡ yes

@@ -1,6 +1,7 @@
 use Rattle.std.proofs.Common.{rules, ◌≡◌, List, Bool, Option, Some, map, ap, subst, ◌∙◌}
 use Rattle.std.proofs.lemmas.Result.{IfOk-weaker}
-use Rattle.queue.specs.Jobs.{Question, AreAnswers, question_of, questions}
+use Rattle.interp.specs.Question.{Question, question_of}
+use Rattle.queue.specs.Jobs.{AreAnswers, questions}
 use Rattle.queue.proofs.Answering.{answers-of}
 use Rattle.queue.proofs.early.early_answers.Goals as goal
 

@@ -3,7 +3,8 @@ use Rattle.std.specs.Prelude.{IsSome, slice_get, is_some}
 use Rattle.std.specs.BTreeMap.{is_at}
 use Rattle.queue.specs.declared.verdict_index.Key.{Key}
 use Rattle.queue.specs.declared.verdict_index.Slot.{Slot}
-use Rattle.queue.specs.Jobs.{Batch, Question, questions}
+use Rattle.interp.specs.Question.{Question}
+use Rattle.queue.specs.Jobs.{Batch, questions}
 use Rattle.queue.specs.inside.Pairing.{key_cmp, key_of, slot_for}
 use Rattle.queue.proofs.Pairs.{own_all, own_next, stays_some}
 use Rattle.queue.proofs.verdict_index.add_slots.Goals as goal

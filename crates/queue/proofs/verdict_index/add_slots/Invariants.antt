@@ -1,7 +1,8 @@
 use Rattle.std.proofs.Common.{◌≡◌, ℕ, ◌<◌, Some}
 use Rattle.std.specs.Prelude.{IsSome, slice_get}
 use Rattle.queue.specs.declared.verdict_index.Key.{Key}
-use Rattle.queue.specs.Jobs.{Question, questions}
+use Rattle.interp.specs.Question.{Question}
+use Rattle.queue.specs.Jobs.{questions}
 use Rattle.queue.specs.inside.Pairing.{key_of, slot_for}
 use Rattle.queue.proofs.verdict_index.add_slots.Given as goal
 

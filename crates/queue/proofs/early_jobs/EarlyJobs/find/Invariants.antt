@@ -1,6 +1,7 @@
 use Rattle.std.proofs.Common.{◌≡◌, ℕ, ◌<◌, Some}
 use Rattle.std.specs.Prelude.{slice_get}
-use Rattle.queue.specs.Jobs.{question_of, questions}
+use Rattle.interp.specs.Question.{question_of}
+use Rattle.queue.specs.Jobs.{questions}
 use Rattle.queue.proofs.early_jobs.EarlyJobs.find.Given as goal
 
 abbrev pub invariant-loop-at : goal.invariant-loop-at

@@ -2,7 +2,8 @@ use Rattle.std.proofs.Common.{rules, ◌≡◌, ℕ, ◌<◌, List, length, get_
 use Rattle.txn.specs.declared.tx.Tx.{Tx}
 use Rattle.sighash.specs.Midstates.{AreOf}
 use Rattle.queue.specs.declared.early_jobs.Listed.{Listed}
-use Rattle.queue.specs.Jobs.{Batch, IsThere, question, tx_at}
+use Rattle.interp.specs.Question.{question}
+use Rattle.queue.specs.Jobs.{Batch, IsThere, tx_at}
 use Rattle.queue.specs.inside.Pairing.{spending_of}
 use Rattle.queue.specs.laws.Lending.{lent_of}
 use Rattle.queue.proofs.Listing.{asked_next, asked_push, inputs_push, tx_lent}

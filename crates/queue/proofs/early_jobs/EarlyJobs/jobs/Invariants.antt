@@ -1,5 +1,6 @@
 use Rattle.std.proofs.Common.{◌≡◌, All, map, take}
-use Rattle.queue.specs.Jobs.{HasInput, question_of, questions}
+use Rattle.interp.specs.Question.{question_of}
+use Rattle.queue.specs.Jobs.{HasInput, questions}
 use Rattle.queue.proofs.Pairs.{batch_of}
 use Rattle.queue.proofs.early_jobs.EarlyJobs.jobs.Given as goal
 

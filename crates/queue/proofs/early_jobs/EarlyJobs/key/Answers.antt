@@ -6,7 +6,8 @@ use Rattle.std.proofs.lemmas.Option.{slice_get_read, slice_get-map}
 use Rattle.txn.specs.declared.input.TxIn.{TxIn}
 use Rattle.queue.specs.declared.early_jobs.Listed.{Listed}
 use Rattle.queue.specs.declared.verdict_index.Key.{Key}
-use Rattle.queue.specs.Jobs.{Batch, Question, Spending, questions, tx_at}
+use Rattle.interp.specs.Question.{Question}
+use Rattle.queue.specs.Jobs.{Batch, Spending, questions, tx_at}
 use Rattle.queue.specs.inside.Pairing.{first_outpoint, key_of, spending_of}
 use Rattle.queue.proofs.Pairs.{asks, asked_at, batch_of, first_of, some_is, tx_read}
 use Rattle.queue.proofs.early_jobs.EarlyJobs.key.Goals as goal

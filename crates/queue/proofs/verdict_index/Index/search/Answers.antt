@@ -1,6 +1,6 @@
 use Rattle.std.proofs.Common.{rules, ◌<◌, get_or, length}
 use Rattle.std.proofs.lemmas.Option.{slice_get-get_or}
-use Rattle.queue.specs.Jobs.{question_of}
+use Rattle.interp.specs.Question.{question_of}
 use Rattle.queue.proofs.Pairs.{none_all, none_next}
 use Rattle.queue.proofs.verdict_index.Index.search.Goals as goal
 

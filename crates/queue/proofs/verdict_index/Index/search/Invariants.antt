@@ -1,7 +1,7 @@
 use Rattle.std.proofs.Common.{◌<◌}
 use Rattle.queue.specs.declared.verdict_index.Slot.{Slot}
-use Rattle.queue.specs.Jobs.{question_of}
-use Rattle.queue.specs.inside.Pairing.{Fits}
+use Rattle.interp.specs.Question.{question_of}
+use Rattle.queue.specs.Early.{Fits}
 use Rattle.queue.proofs.verdict_index.Index.search.Given as goal
 
 abbrev pub invariant-loop-list : goal.invariant-loop-list

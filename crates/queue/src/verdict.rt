@@ -1,0 +1,21 @@
+//! What running a job comes to.
+
+use curve::KeptTriple;
+
+/// What is known of a job.
+#[derive(Drop)]
+pub enum Verdict {
+    /// It is accepted.
+    Yes,
+    /// It isn't.
+    No,
+    /// Whether this signature is valid has to be found out first.
+    Wants(Box<KeptTriple>),
+}
+
+/// The verdict that was found of the job at a place.
+#[derive(Drop)]
+pub struct Seen {
+    pub place: usize,
+    pub verdict: Verdict,
+}
