@@ -1,3 +1,4 @@
+pub mod Commits
 pub mod Cores
 pub mod Openings
 pub mod Outcomes

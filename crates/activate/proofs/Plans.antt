@@ -1,6 +1,6 @@
 -- What tries do to the state between a command and its settled state.
 use Rattle.std.proofs.Common.{◌≡◌, ℕ, suc, ◌+◌, ◌<◌, ◌≤◌, Bool, true, false, cond, ◌||◌, ◌&&◌, List, [], ◌∷◌, ◌++◌, length, reverse, Some, None, sym, refl, ap, ◌∙◌, subst, inl, inr, ◌⊎◌, arith}
-use Rattle.std.proofs.lemmas.Bool.{or_left, cases_eq, eq-eqb, ne_eqb, false_from_ne_true}
+use Rattle.std.proofs.lemmas.Bool.{or_left, cases_eq, eq-eqb, ne_eqb, false_from_ne_true, and_parts}
 use Rattle.std.proofs.lemmas.List.{append_assoc, reverse-append, reverse-reverse, length-reverse, length-append}
 use Rattle.hash.specs.declared.id.Id.{Id}
 use Rattle.block.specs.declared.block.Block.{Block}
@@ -33,7 +33,7 @@ use Rattle.chain.specs.laws.Actives.{active_kept, active_valid}
 use Rattle.chain.specs.laws.Candidates.{never_fails, same_first, on_candidate_from}
 use Rattle.activate.specs.laws.Noting.{above-on}
 use Rattle.chain.specs.laws.Settled.{active-settle, settle-blocks, active_seen, bad_in-order, seen_in-order}
-use Rattle.chain.specs.laws.Tries.{tried-blocks, tried-precious, genesis-tried, active-tried, settle-tried, best-candidate, active-best, settle-best, count_without_mark, unmarked-tried}
+use Rattle.chain.specs.laws.Tries.{tried-blocks, tried-precious, genesis-tried, active-tried, settle-tried, best-candidate, active-best, settle-best, was_on_candidate, count_without_mark, unmarked-tried}
 
 module _ (r : Rules Block Id) where
   -- a followed chainstate can be tried
@@ -109,7 +109,15 @@ params-other a b is = ap (λ (x : CoreState). x.params) (sym is.same)
 
 module _ (r : Rules Block Id) where
   pub between_none : (a : CoreState) → CanTry r a → TriesLead r a a
-  between_none a can = record { flags = other_none a; can = can; settles = refl; active_is = refl }
+  between_none a can = record { flags = other_none a; can = can; settles = refl; active_is = refl; candidates = λ x was. was }
+
+  -- what is on a candidate's branch after a try was so before
+  pub candidates-tried : (b : CoreState) (p : ℕ) → CanTry r b → (x : ℕ) → on_candidate r (state_after_try r b.state p) x ≡ true → on_candidate r b.state x ≡ true
+  unfolding state_after_try fails_on
+  candidates-tried b p can x was =
+      let marks = fails_on r b.state.blocks p in
+      was_on_candidate r b.state marks (passes_on r b.state.blocks p) can.genesis
+      (λ c y v o. false_from_ne_true (marks y) (λ h. never_fails r b.state.blocks c y v o (and_parts (first_to_fail r b.state.blocks y) (on b.state.blocks p y) h).0)) x was
 
   -- a try that failed keeps what settling gives
   pub between-tried : (a b : CoreState) (p : ℕ) → TriesLead r a b → IsBest b.state (has_no_mark b.state) (length b.state.blocks) p → TriesLead r a (record b { state = state_after_try r b.state p })
@@ -118,6 +126,7 @@ module _ (r : Rules Block Id) where
     can = can-tried r b p is.can;
     settles = settle-tried r b.state p is.can.genesis best.kept (best-candidate r b.state p is.can.genesis best) ∙ is.settles;
     active_is = active-tried r b.state p is.can.genesis ∙ is.active_is;
+    candidates = λ x was. is.candidates x (candidates-tried b p is.can x was);
   }
 
   -- and leaves fewer blocks unmarked

@@ -1,18 +1,138 @@
--- What a block wants isn't known.
-use Rattle.std.proofs.Common.{◌≡◌, List, None}
-use Rattle.curve.specs.Known.{Known}
+-- What a block wants where it is connected is wanted by the step that tries it.
+use Rattle.std.proofs.Common.{◌≡◌, ℕ, suc, ◌<◌, ◌≤◌, true, false, List, length, Option, Result, Ok, Err, IfErr, sym, ap, ◌∙◌, subst, arith}
+use Rattle.std.proofs.lemmas.Bool.{false_from_ne_true}
+use Rattle.block.specs.declared.block.Block.{Block}
+use Rattle.curve.specs.Known.{Known, Under}
 use Rattle.curve.specs.Triple.{Triple}
 use Rattle.txn.specs.declared.tx.Tx.{Tx}
 use Rattle.coins.specs.Coins.{Coins}
-use Rattle.queue.specs.declared.undecided.Undecided.{Undecided}
-use Rattle.queue.specs.Jobs.{IsUndecided}
-use Rattle.queue.specs.laws.Undecided.{undecided_weaker}
-use Rattle.connect.specs.Setting.{Setting}
+use Rattle.hash.specs.declared.id.Id.{Id}
+use Rattle.rules.specs.declared.params.Params.{Params}
 use Rattle.connect.specs.Scripts.{IsWantedByBlock}
-use Rattle.activate.specs.CoreState.{IsWantedByABlock}
+use Rattle.connect.specs.Setting.{Setting}
+use Rattle.connect.specs.Stops.{AreWanted}
+use Rattle.connect.specs.laws.Stops.{wanted_weaker}
+use Rattle.tree.specs.Branches.{Blocks, Kept, block_at, on, parent_at}
+use Rattle.tree.specs.Names.{names}
+use Rattle.tree.specs.Sound.{IsBest}
+use Rattle.tree.specs.State.{State, has_no_mark, with_block}
+use Rattle.tree.specs.laws.Above.{IsShared}
+use Rattle.tree.specs.laws.Added.{block_here, blocks-old}
+use Rattle.tree.specs.laws.Branches.{on-bounds, on-itself, on_there, parent_here}
+use Rattle.chain.specs.Regtest.{ledger, regtest, setting_on}
+use Rattle.chain.specs.Replay.{replay}
+use Rattle.chain.specs.Settle.{on_candidate}
+use Rattle.chain.specs.Step.{Request}
+use Rattle.chain.specs.laws.Candidates.{on_candidate_from}
+use Rattle.chain.specs.laws.Tries.{best-candidate}
+use Rattle.activate.specs.CoreState.{CoreState, branch_blocks, coins_after}
+use Rattle.activate.specs.Wants.{IsToSettle, IsWantedAt, IsWantedBy, IsWantedIn}
+use Rattle.activate.specs.inside.Ascents.{IsWantedAbove}
+use Rattle.activate.specs.inside.Paths.{IsWantedOnWay}
+use Rattle.activate.specs.inside.Preparation.{CanTry, HasOtherFlags, TriesLead}
+use Rattle.activate.proofs.Plans.{active-other, params-other}
 
-pub wanted_by_it : (s : Setting) (m : Coins) (txs : List Tx) (known : Known) (stop : Undecided) → IsUndecided (IsWantedByBlock s m txs known) stop → IsUndecided (IsWantedByABlock known) stop
-wanted_by_it s m txs known stop is = undecided_weaker (IsWantedByBlock s m txs known) (IsWantedByABlock known) (λ t wanted. (s, m, txs, wanted)) stop is
+-- the best usable block is a candidate, so are those of its branch on one's
+on-best : (c : CoreState) (known : Known) (p : ℕ) → Under known (λ triples. CanTry (regtest c.params triples) c) → IsBest c.state (has_no_mark c.state) (length c.state.blocks) p
+    → (x : ℕ) → on c.state.blocks p x ≡ true → Under known (λ triples. on_candidate (regtest c.params triples) c.state x ≡ true)
+on-best c known p can best x there triples agrees =
+    let r = regtest c.params triples in
+    on_candidate_from r c.state p x best.kept (best-candidate r c.state p (can triples agrees).genesis best) there
 
-pub wanted_unknown : (known : Known) (t : Triple) → IsWantedByABlock known t → known t ≡ None
-wanted_unknown known t wanted = wanted.3.script.4.0
+module _ (params : Params) (known : Known) where
+  -- over the coins of its parent's branch
+  at-place : (t : Blocks Block) (p : ℕ) (s : Setting) (m : Coins) (txs : List Tx) → s ≡ setting_on params (branch_blocks t (parent_at t p)) → m ≡ coins_after t (parent_at t p) → txs ≡ (block_at names t p).txs
+      → (triple : Triple) → IsWantedByBlock s m txs known triple → IsWantedAt params t known p triple
+  at-place t p s m txs place coins is triple w =
+      subst (λ (q : Setting). IsWantedByBlock q (coins_after t (parent_at t p)) (block_at names t p).txs known triple) place
+      (subst (λ (n : Coins). IsWantedByBlock s n (block_at names t p).txs known triple) coins
+      (subst (λ (l : List Tx). IsWantedByBlock s m l known triple) is w))
+
+  pub wanted_at : (t : Blocks Block) (p : ℕ) (s : Setting) (m : Coins) (txs : List Tx) → s ≡ setting_on params (branch_blocks t (parent_at t p)) → m ≡ coins_after t (parent_at t p) → txs ≡ (block_at names t p).txs
+      → (told : Option (List Triple)) → AreWanted (IsWantedByBlock s m txs known) told → AreWanted (IsWantedAt params t known p) told
+  wanted_at t p s m txs place coins is told are = wanted_weaker (IsWantedByBlock s m txs known) (IsWantedAt params t known p) (at-place t p s m txs place coins is) told are
+
+  pub wanted_above : (t : Blocks Block) (f p x : ℕ) → f < x → on t p x ≡ true → (told : Option (List Triple)) → AreWanted (IsWantedAt params t known x) told → AreWanted (IsWantedAbove params t f p known) told
+  wanted_above t f p x above there told are = wanted_weaker (IsWantedAt params t known x) (IsWantedAbove params t f p known) (λ triple w. record { place = x; above = above; there = there; wanted = w }) told are
+
+  -- above the last block that both branches share
+  pub wanted_on-way : (t : Blocks Block) (a p f q : ℕ) → q ≡ p → IsShared t a p f → (told : Option (List Triple)) → AreWanted (IsWantedAbove params t f q known) told → AreWanted (IsWantedOnWay params t a p known) told
+  wanted_on-way t a p f q same shared told are =
+      wanted_weaker (IsWantedAbove params t f q known) (IsWantedOnWay params t a p known) (λ triple w.
+      let x = w.place in
+      let above = w.above in
+      let there = subst (λ (y : ℕ). on t y x ≡ true) same w.there in
+      record {
+        place = x;
+        there = there;
+        apart = false_from_ne_true (on t a x) (λ here. let low = (on-bounds t f x (shared.last x here there)).0 in absurd (omega (arith, low, above)));
+        wanted = w.wanted;
+      }) told are
+
+  -- a new block on p
+  pub wanted_new : (s : State Block) (b : Block) (p : ℕ) → p ≤ length s.blocks → (place : Setting) (m : Coins) → place ≡ setting_on params (branch_blocks s.blocks p) → m ≡ coins_after s.blocks p
+      → (told : Option (List Triple)) → AreWanted (IsWantedByBlock place m b.txs known) told → AreWanted (IsWantedAt params (with_block s b p).blocks known (suc (length s.blocks))) told
+  wanted_new s b p h place m e f told are =
+      let k : Kept Block = record { block = b; parent = p } in
+      let t = (with_block s b p).blocks in
+      let n = suc (length s.blocks) in
+      let below : ◌≡◌ {A = List Block} (branch_blocks t (parent_at t n)) (branch_blocks s.blocks p) = ap (branch_blocks t) (parent_here k s.blocks h) ∙ blocks-old names k s.blocks p h in
+      wanted_at t n place m b.txs (e ∙ ap (setting_on params) (sym below)) (f ∙ ap (replay ledger) (sym below)) (ap (λ (x : Block). x.txs) (sym (block_here names k s.blocks))) told are
+
+-- the best usable block is tried
+pub wanted_best : (c : CoreState) (known : Known) (p : ℕ) → Under known (λ triples. CanTry (regtest c.params triples) c) → IsBest c.state (has_no_mark c.state) (length c.state.blocks) p
+    → (told : Option (List Triple)) → AreWanted (IsWantedOnWay c.params c.state.blocks c.active p known) told → AreWanted (IsWantedIn c known) told
+wanted_best c known p can best told are =
+    wanted_weaker (IsWantedOnWay c.params c.state.blocks c.active p known) (IsWantedIn c known) (λ triple w. record {
+      place = w.place;
+      kept = (on-bounds c.state.blocks p w.place w.there).1;
+      candidate = on-best c known p can best w.place w.there;
+      inactive = w.apart;
+      wanted = w.wanted;
+    }) told are
+
+-- so is a new block on the active one, where it is the best usable one
+pub wanted_tip : (a : CoreState) (known : Known) (b : Block) → a.active ≤ length a.state.blocks → let c : CoreState = record a { state = with_block a.state b a.active } in
+    Under known (λ triples. CanTry (regtest a.params triples) c) → IsBest c.state (has_no_mark c.state) (length c.state.blocks) (suc (length a.state.blocks))
+    → (told : Option (List Triple)) → AreWanted (IsWantedAt a.params c.state.blocks known (suc (length a.state.blocks))) told → AreWanted (IsWantedIn c known) told
+wanted_tip a known b k can best told are =
+    let n = suc (length a.state.blocks) in
+    let c : CoreState = record a { state = with_block a.state b a.active } in
+    let old : on c.state.blocks a.active n ≡ on a.state.blocks a.active n = on_there (record { block = b; parent = a.active }) a.state.blocks a.active n (omega arith) in
+    wanted_best c known n can best told
+    (wanted_weaker (IsWantedAt a.params c.state.blocks known n) (IsWantedOnWay a.params c.state.blocks a.active n known) (λ triple w. record {
+      place = n;
+      there = on-itself c.state.blocks n (omega arith);
+      apart = false_from_ne_true (on c.state.blocks a.active n) (λ here. let low = (on-bounds a.state.blocks a.active n (sym old ∙ here)).1 in absurd (omega (arith, low)));
+      wanted = w;
+    }) told are)
+
+-- what is wanted after tries was wanted before
+pub wanted_before : (a b : CoreState) (known : Known) → HasOtherFlags a b → Under known (λ triples. TriesLead (regtest a.params triples) a b)
+    → (told : Option (List Triple)) → AreWanted (IsWantedIn b known) told → AreWanted (IsWantedIn a known) told
+wanted_before a b known flags lead told are =
+    wanted_weaker (IsWantedIn b known) (IsWantedIn a known) (λ triple w.
+    let params = params-other a b flags in
+    let act = active-other a b flags in
+    record {
+      place = w.place;
+      kept = subst (λ (t : Blocks Block). w.place ≤ length t) flags.blocks_are w.kept;
+      candidate = λ triples agrees. (lead triples agrees).candidates w.place (subst (λ (q : Params). on_candidate (regtest q triples) b.state w.place ≡ true) params (w.candidate triples agrees));
+      inactive = subst (λ (q : ℕ). on a.state.blocks q w.place ≡ false) act (subst (λ (t : Blocks Block). on t b.active w.place ≡ false) flags.blocks_are w.inactive);
+      wanted = subst (λ (q : Params). IsWantedAt q a.state.blocks known w.place triple) params (subst (λ (t : Blocks Block). IsWantedAt b.params t known w.place triple) flags.blocks_are w.wanted);
+    }) told are
+
+pub wanted_by : (c : CoreState) (request : Request Block Id) (known : Known) (s : State Block) → IsToSettle c known request s → (told : Option (List Triple))
+    → AreWanted (IsWantedIn (record c { state = s }) known) told → AreWanted (IsWantedBy c request known) told
+wanted_by c request known s changed told are =
+    wanted_weaker (IsWantedIn (record c { state = s }) known) (IsWantedBy c request known) (λ triple w. record { state = s; to_settle = changed; wanted = w }) told are
+
+pub if_err : {T E : Type 0} {P Q : E → Type 0} (r : Result T E) → ((e : E) → P e → Q e) → IfErr r P → IfErr r Q
+if_err (Ok x) f h = tt
+if_err (Err e) f h = f e h
+
+-- what is wanted in a state that a request has made of another
+pub wanted_from : {T E : Type 0} (c m : CoreState) (request : Request Block Id) (known : Known) (s : State Block) → m ≡ record c { state = s } → IsToSettle c known request s → (r : Result T E) (told : E → Option (List Triple))
+    → IfErr r (λ e. AreWanted (IsWantedIn m known) (told e)) → IfErr r (λ e. AreWanted (IsWantedBy c request known) (told e))
+wanted_from c m request known s made changed r told h =
+    if_err r (λ e are. wanted_by c request known s changed (told e) (subst (λ (x : CoreState). AreWanted (IsWantedIn x known) (told e)) made are)) h

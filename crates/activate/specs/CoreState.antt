@@ -3,13 +3,9 @@ use Rattle.std.specs.Prelude.{◌≡◌, ℕ, suc, ◌+◌, ◌-◌, ◌<◌, na
 use Rattle.block.specs.declared.block.Block.{Block}
 use Rattle.block.specs.Decoding.{block_of_bytes}
 use Rattle.block.specs.Stored.{genesis_alone}
-use Rattle.txn.specs.declared.tx.Tx.{Tx}
-use Rattle.curve.specs.Known.{Known}
-use Rattle.curve.specs.Triple.{Triple, Triples}
+use Rattle.curve.specs.Triple.{Triples}
 use Rattle.coins.specs.Coins.{Coins}
 use Rattle.rules.specs.declared.params.Params.{Params}
-use Rattle.connect.specs.Scripts.{IsWantedByBlock}
-use Rattle.connect.specs.Setting.{Setting}
 use Rattle.tree.specs.Branches.{Blocks, block_at, branch, height, parent_at, blocks_at}
 use Rattle.tree.specs.Tips.{last_shared}
 use Rattle.tree.specs.State.{State, opening}
@@ -89,8 +85,7 @@ UndoFollows a b =
     let shared = height t (last_shared t a.active b.active) in
     b.undo_kept ≡ lesser_of most_undo ((a.undo_kept - (height t a.active - shared)) + (height t b.active - shared))
 
--- ---- what a step wants
-
--- a script of some block, over some coins, asks for a signature of which nothing is known
-abbrev pub IsWantedByABlock : Known → Triple → Type 0
-IsWantedByABlock known t = (s : Setting) × (coins : Coins) × (txs : List Tx) × IsWantedByBlock s coins txs known t
+-- so it is after a step that led from a to b
+pub record KeepsUndo (a b : CoreState) : Type 0 where
+  pub one_more : HasOneMore a b
+  pub follows : UndoFollows a b

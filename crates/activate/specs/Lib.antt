@@ -1,3 +1,4 @@
 pub mod CoreState
+pub mod Wants
 pub mod inside
 pub mod laws

@@ -1,27 +1,29 @@
 //! The walk up a branch, block by block.
 
-ghost use Rattle.std.specs.Prelude.{◌≡◌, ◌≤◌, ◌<◌, true, length, reverse, IfOk, IfErr, OnOk, None};
+ghost use Rattle.std.specs.Prelude.{◌≡◌, ◌≤◌, ◌<◌, ◌++◌, ◌∷◌, [], true, length, reverse, IfOk, IfErr, OnOk, None};
 ghost use Rattle.std.specs.Result.{result_err};
 ghost use Rattle.tree.specs.Branches.{parent_at, height};
 ghost use Rattle.chain.specs.Valid.{fault, branch_connects};
 ghost use Rattle.chain.specs.Regtest.{medians_of, regtest};
 ghost use Rattle.chain.specs.Settled.{AllKept};
-ghost use Rattle.activate.specs.CoreState.{IsWantedByABlock, branch_blocks, coins_after};
+ghost use Rattle.activate.specs.CoreState.{branch_blocks, coins_after};
+ghost use Rattle.activate.specs.Wants.{IsWantedAt};
+ghost use Rattle.connect.specs.Stops.{AreWanted};
 ghost use Rattle.activate.specs.inside.Keeping.{undo_at};
-ghost use Rattle.activate.specs.inside.Ascents.{top_of, IsTop, LeadsUp};
+ghost use Rattle.activate.specs.inside.Ascents.{top_of, IsTop, IsWantedAbove, LeadsUp};
 ghost use Rattle.activate.specs.inside.Paths.{IsStop};
 ghost use Rattle.curve.specs.Known.{Under};
-ghost use Rattle.queue.specs.Jobs.{IsUndecided};
 
 use crate::path::BranchPath;
 use coins::{Base, Cache};
-use connect::{Context, RunsScripts, connect_in_layer_by};
-use queue::{Gate, Undecided};
+use connect::{Context, RunsScripts, connect_in_layer};
+use queue::Gate;
 use rules::Params;
 use std::alloc::Global;
 use tree::Tree;
 use txn::{Reason, ids};
 use undo::BlockUndo;
+use wire::Memory;
 
 /// What a walk up a path leaves where each block connects.
 #[derive(Drop)]
@@ -51,7 +53,7 @@ pub(crate) fn connect_up<'b, B: Base, S: RunsScripts>(
     path: &BranchPath,
     env: &S,
     gate: &(dyn Gate + Sync),
-) -> Result<Result<Ascent<'b, B>, Stop>, Undecided>
+) -> Result<Result<Ascent<'b, B>, Stop>, S::Stop>
     requires path { LeadsUp tree.now.blocks path.now.fork path.now.up.items }
     requires kept { Under (S.known env.now) (λ triples.
         AllKept (regtest params.now triples) tree.now.blocks) }
@@ -71,7 +73,9 @@ pub(crate) fn connect_up<'b, B: Base, S: RunsScripts>(
         stop.passed stop.reason))) }
     ensures base { IfOk result (λ answer. IfOk answer (λ ascent.
         ascent.layer.base ≡ layer.entry.base)) }
-    ensures wants { IfErr result (IsUndecided (IsWantedByABlock (S.known env.now))) }
+    ensures wants { IfErr result (λ stop. AreWanted
+        (IsWantedAbove params.now tree.now.blocks path.now.fork
+        (top_of path.now.fork path.now.up.items) (S.known env.now)) (S.told stop)) }
 {
     let up = path.up.as_slice();
     let mut medians = medians;
@@ -81,7 +85,7 @@ pub(crate) fn connect_up<'b, B: Base, S: RunsScripts>(
         match connect_next(alloc, layer, tree, params, &mut medians, place, env, gate)? {
             Ok((left, spent)) => {
                 layer = left;
-                undo.push(spent)?;
+                append(&mut undo, spent)?;
             }
             Err(reason) => return Ok(Err(Stop { passed, reason })),
         }
@@ -100,7 +104,7 @@ fn connect_next<'b, B: Base, S: RunsScripts>(
     place: usize,
     env: &S,
     gate: &(dyn Gate + Sync),
-) -> Result<Result<(Cache<'b, B>, BlockUndo), Reason>, Undecided>
+) -> Result<Result<(Cache<'b, B>, BlockUndo), Reason>, S::Stop>
     requires above { 0 < place }
     requires place { place ≤ length tree.now.blocks }
     requires kept { Under (S.known env.now) (λ triples.
@@ -124,7 +128,8 @@ fn connect_next<'b, B: Base, S: RunsScripts>(
         ≡ reverse (medians_of (branch_blocks tree.now.blocks place)))) }
     ensures base { IfOk result (λ answer.
         IfOk answer (λ done. done.0.base ≡ layer.entry.base)) }
-    ensures wants { IfErr result (IsUndecided (IsWantedByABlock (S.known env.now))) }
+    ensures wants { IfErr result (λ stop. AreWanted
+        (IsWantedAt params.now tree.now.blocks (S.known env.now) place) (S.told stop)) }
 {
     let block = tree.block(place).read(alloc)?;
     let ids = ids(alloc, block.txs.as_slice())?;
@@ -135,13 +140,20 @@ fn connect_next<'b, B: Base, S: RunsScripts>(
         medians: below,
         params,
     };
-    match connect_in_layer_by(alloc, layer, &context, &block, &ids, env, gate)? {
+    match connect_in_layer(alloc, layer, &context, &block, &ids, env, gate)? {
         Ok(done) => {
-            medians.push(tree.median(place))?;
+            append(medians, tree.median(place))?;
             Ok(Ok(done))
         }
         Err(reason) => Ok(Err(reason)),
     }
+}
+
+/// Adds an item at the end of a list.
+fn append<T: Drop>(list: &mut Vec<T>, item: T) -> Result<(), Memory>
+    ensures { OnOk result (list.new.items ≡ list.old.items ++ item ∷ []) }
+{
+    Ok(list.push(item)?)
 }
 
 /// The height of a block. There are so few of them that it fits.

@@ -1,14 +1,14 @@
 //! A try of a block: whether its branch connects.
 
-ghost use Rattle.std.specs.Prelude.{◌≡◌, ◌≤◌, true, length, IfOk, IfErr, None};
+ghost use Rattle.std.specs.Prelude.{◌≡◌, ◌+◌, ◌<◌, ◌≤◌, true, length, take, IfOk, IfErr, None};
 ghost use Rattle.chain.specs.Valid.{branch_connects};
 ghost use Rattle.chain.specs.Regtest.{regtest};
 ghost use Rattle.chain.specs.Settled.{AllKept};
-ghost use Rattle.activate.specs.CoreState.{IsWantedByABlock, coins_after};
+ghost use Rattle.activate.specs.CoreState.{coins_after};
+ghost use Rattle.connect.specs.Stops.{AreWanted};
 ghost use Rattle.activate.specs.inside.Keeping.{IsBranch};
-ghost use Rattle.activate.specs.inside.Paths.{IsAttempt};
+ghost use Rattle.activate.specs.inside.Paths.{IsAttempt, IsWantedOnWay};
 ghost use Rattle.curve.specs.Known.{Under};
-ghost use Rattle.queue.specs.Jobs.{IsUndecided};
 
 use crate::ascent::connect_up;
 use crate::disconnection::disconnect_to_fork;
@@ -16,12 +16,13 @@ use crate::fork_search::path_to;
 use crate::path::{Attempt, FailedTry, Reorganisation};
 use coins::{Base, Cache};
 use connect::RunsScripts;
-use queue::{Gate, Undecided};
+use queue::Gate;
 use rules::Params;
 use std::alloc::Global;
 use std::collections::VecDeque;
 use tree::Tree;
 use undo::BlockUndo;
+use wire::Memory;
 
 /// The active branch, as a try looks at it.
 #[derive(Clone, Copy)]
@@ -46,7 +47,7 @@ pub(crate) fn try_branch<B: Base, S: RunsScripts>(
     place: usize,
     env: &S,
     gate: &(dyn Gate + Sync),
-) -> Result<Attempt, Undecided>
+) -> Result<Attempt, S::Stop>
     requires branch { let b = active_branch.now in
         IsBranch b.tree.now.blocks b.active b.branch.now b.medians.now b.undo.now.items }
     requires active { active_branch.now.active ≤ length active_branch.now.tree.now.blocks }
@@ -60,7 +61,9 @@ pub(crate) fn try_branch<B: Base, S: RunsScripts>(
     ensures attempt { let b = active_branch.now in
         IfOk result (λ attempt. Under (S.known env.now) (λ triples.
         IsAttempt (regtest b.params.now triples) b.tree.now.blocks b.active place attempt)) }
-    ensures wants { IfErr result (IsUndecided (IsWantedByABlock (S.known env.now))) }
+    ensures wants { let b = active_branch.now in IfErr result (λ stop. AreWanted
+        (IsWantedOnWay b.params.now b.tree.now.blocks b.active place (S.known env.now))
+        (S.told stop)) }
 {
     let path = path_to(alloc, active_branch, place)?;
     let layer = disconnect_to_fork(
@@ -72,7 +75,7 @@ pub(crate) fn try_branch<B: Base, S: RunsScripts>(
         active_branch.undo,
         path.fork,
     )?;
-    let shared = Vec::from_slice(alloc, &active_branch.medians[..=path.height])?;
+    let shared = medians_up_to(alloc, active_branch.medians, path.height)?;
     match connect_up(
         alloc,
         layer,
@@ -97,4 +100,12 @@ pub(crate) fn try_branch<B: Base, S: RunsScripts>(
             reason: stop.reason,
         })),
     }
+}
+
+/// The medians time past of the lowest blocks of a branch, up to a height.
+fn medians_up_to(alloc: Global, medians: &[u32], height: usize) -> Result<Vec<u32>, Memory>
+    requires { height < length medians.now }
+    ensures { IfOk result (λ list. list.items ≡ take (height + 1) medians.now) }
+{
+    Ok(Vec::from_slice(alloc, &medians[..=height])?)
 }

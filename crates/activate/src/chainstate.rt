@@ -5,7 +5,6 @@ ghost use Rattle.std.specs.Option.{option_map};
 ghost use Rattle.std.specs.FinMap as coin_map;
 ghost use Rattle.curve.specs.Known.{Under};
 ghost use Rattle.curve.specs.Triple.{Triples};
-ghost use Rattle.queue.specs.Jobs.{IsUndecided};
 ghost use Rattle.rules.specs.Params.{regtest as regtest_params};
 ghost use Rattle.tree.specs.Branches.{height, place_of};
 ghost use Rattle.tree.specs.Names.{names};
@@ -15,7 +14,9 @@ ghost use Rattle.chain.specs.Prepared.{command_of};
 ghost use Rattle.chain.specs.Regtest.{ledger, regtest};
 ghost use Rattle.chain.specs.Replay.{coins};
 ghost use Rattle.chain.specs.Settle.{active, best, tips};
-ghost use Rattle.activate.specs.CoreState.{HasOneMore, IsBlockOf, IsChainstate, IsWantedByABlock, UndoFollows, most_undo, opened_core};
+ghost use Rattle.activate.specs.CoreState.{IsBlockOf, IsChainstate, KeepsUndo, most_undo, opened_core};
+ghost use Rattle.activate.specs.Wants.{IsWantedByStep};
+ghost use Rattle.connect.specs.Stops.{AreWanted};
 
 use crate::active_branch::MOST_UNDO;
 use crate::core_state::Core;
@@ -24,8 +25,9 @@ use block::Bytes;
 use chain::{Command, PreparedCommand, Reply};
 use coins::CoinMap;
 use connect::{Env, RunsScripts};
+use curve::Table;
 use hash::Id;
-use queue::{Crew, Gate, Undecided};
+use queue::{Crew, Gate};
 use rules::Params;
 use std::alloc::Global;
 use std::marker::Model;
@@ -76,99 +78,28 @@ impl Chainstate {
         })
     }
 
-    /// Takes a command. Each call brings the table that the first one brought.
-    pub fn step<C: Crew>(
-        &mut self,
-        alloc: Global,
-        command: &Command,
-        env: &Env<'_, C>,
-        gate: &(dyn Gate + Sync),
-    ) -> Result<Reply, Memory>
-        requires is_chainstate { IsChainstate self.old env.now.table.now }
-        ensures outcome { IfOk result (λ reply.
-            (self.new.core.state, reply)
-            ≡ outcome (regtest self.old.core.params env.now.table.now)
-            self.old.core.state command.now) }
-        ensures params { self.new.core.params ≡ self.old.core.params }
-        ensures is_chainstate { IsChainstate self.new env.now.table.now }
-        ensures undo { OnOk result (HasOneMore self.old.core self.new.core) }
-        ensures undo_kept { OnOk result (UndoFollows self.old.core self.new.core) }
-        ensures err { OnErr result (self.new ≡ self.old) }
-    {
-        let prepared = PreparedCommand::of(alloc, command)?;
-        self.step_prepared(alloc, &prepared, env, gate)
-    }
-
-    /// Takes a command that was prepared before, without looking at its bytes again.
-    pub fn step_prepared<C: Crew>(
-        &mut self,
-        alloc: Global,
-        command: &PreparedCommand,
-        env: &Env<'_, C>,
-        gate: &(dyn Gate + Sync),
-    ) -> Result<Reply, Memory>
-        requires is_chainstate { IsChainstate self.old env.now.table.now }
-        ensures outcome { IfOk result (λ reply.
-            (self.new.core.state, reply)
-            ≡ outcome (regtest self.old.core.params env.now.table.now)
-            self.old.core.state (command_of command.now)) }
-        ensures params { self.new.core.params ≡ self.old.core.params }
-        ensures is_chainstate { IsChainstate self.new env.now.table.now }
-        ensures undo { OnOk result (HasOneMore self.old.core self.new.core) }
-        ensures undo_kept { OnOk result (UndoFollows self.old.core self.new.core) }
-        ensures err { OnErr result (self.new ≡ self.old) }
-    {
-        match self.step_prepared_by(alloc, command, env, gate) {
-            Ok(reply) => Ok(reply),
-            Err(Undecided::Memory) => Err(Memory),
-            // Of a table all is known.
-            Err(Undecided::Unknown(_)) => unreachable!(),
-        }
-    }
-
-    /// Takes a command by what is known of signatures, or else says which have to be found out first. Then nothing has
-    /// changed, and the same call can be made again once more is known.
-    pub fn step_by<S: RunsScripts>(
-        &mut self,
-        alloc: Global,
-        command: &Command,
-        env: &S,
-        gate: &(dyn Gate + Sync),
-    ) -> Result<Reply, Undecided>
-        requires is_chainstate { Under (S.known env.now) (λ triples. IsChainstate self.old triples) }
-        ensures outcome { IfOk result (λ reply. Under (S.known env.now) (λ triples.
-            (self.new.core.state, reply)
-            ≡ outcome (regtest self.old.core.params triples) self.old.core.state command.now)) }
-        // Of none of these signatures a verdict is known, and there is one at least.
-        ensures wants { IfErr result (IsUndecided (IsWantedByABlock (S.known env.now))) }
-        ensures params { self.new.core.params ≡ self.old.core.params }
-        ensures is_chainstate { Under (S.known env.now) (λ triples. IsChainstate self.new triples) }
-        ensures undo { OnOk result (HasOneMore self.old.core self.new.core) }
-        ensures undo_kept { OnOk result (UndoFollows self.old.core self.new.core) }
-        ensures err { OnErr result (self.new ≡ self.old) }
-    {
-        let prepared = PreparedCommand::of(alloc, command)?;
-        self.step_prepared_by(alloc, &prepared, env, gate)
-    }
-
-    /// As `step_by`, with a command that was prepared before.
-    pub fn step_prepared_by<S: RunsScripts>(
+    /// Takes a command. Where signatures aren't all known, it may instead list those that have to be verified first:
+    /// then nothing has changed, and the same call can be made again once they are known. Each call brings the table
+    /// that the first one brought, or what is known by then.
+    pub fn step<S: RunsScripts>(
         &mut self,
         alloc: Global,
         command: &PreparedCommand,
         env: &S,
         gate: &(dyn Gate + Sync),
-    ) -> Result<Reply, Undecided>
+    ) -> Result<Reply, S::Stop>
         requires is_chainstate { Under (S.known env.now) (λ triples. IsChainstate self.old triples) }
         ensures outcome { IfOk result (λ reply. Under (S.known env.now) (λ triples.
             (self.new.core.state, reply)
-            ≡ outcome (regtest self.old.core.params triples) self.old.core.state (command_of command.now))) }
-        // Of none of these signatures a verdict is known, and there is one at least.
-        ensures wants { IfErr result (IsUndecided (IsWantedByABlock (S.known env.now))) }
+            ≡ outcome (regtest self.old.core.params triples) self.old.core.state
+            (command_of command.now))) }
+        // There is one at least: no verdict on it is known, and a block that this step tries asks for it.
+        ensures wants { IfErr result (λ stop. AreWanted
+            (IsWantedByStep self.old.core (command_of command.now) (S.known env.now))
+            (S.told stop)) }
         ensures params { self.new.core.params ≡ self.old.core.params }
         ensures is_chainstate { Under (S.known env.now) (λ triples. IsChainstate self.new triples) }
-        ensures undo { OnOk result (HasOneMore self.old.core self.new.core) }
-        ensures undo_kept { OnOk result (UndoFollows self.old.core self.new.core) }
+        ensures undo { OnOk result (KeepsUndo self.old.core self.new.core) }
         ensures err { OnErr result (self.new ≡ self.old) }
     {
         // The clause on undo rests on it.
@@ -179,9 +110,7 @@ impl Chainstate {
             rollback,
             rest,
             changes,
-        } = self
-            .core
-            .prepare_by(alloc, &self.coins, command, env, gate)?;
+        } = self.core.prepare(alloc, &self.coins, command, env, gate)?;
         match self.coins.lay_taken(alloc, changes) {
             Ok(()) => {
                 self.core.commit(rest);
@@ -189,43 +118,44 @@ impl Chainstate {
             }
             Err(_) => {
                 self.core.roll_back(rollback);
-                Err(Undecided::Memory)
+                Err(S::Stop::from(Memory))
             }
         }
     }
 
     /// Takes commands one after the other. Out of memory leaves it behind the last command that was taken.
-    pub fn run<C: Crew>(
+    pub fn run<C: Crew<Table>>(
         &mut self,
         alloc: Global,
         commands: &[Command],
-        env: &Env<'_, C>,
+        env: &Env<'_, Table, C>,
         gate: &(dyn Gate + Sync),
     ) -> Result<Vec<Reply>, Memory>
-        requires is_chainstate { IsChainstate self.old env.now.table.now }
+        requires is_chainstate { IsChainstate self.old env.now.signatures.now }
         ensures replies { IfOk result (λ replies.
             replies.items
-            ≡ replies_of (regtest self.old.core.params env.now.table.now)
+            ≡ replies_of (regtest self.old.core.params env.now.signatures.now)
             self.old.core.state commands.now) }
         ensures state { OnOk result
             (self.new.core.state
             ≡ state_after_commands
-            (regtest self.old.core.params env.now.table.now)
+            (regtest self.old.core.params env.now.signatures.now)
             self.old.core.state commands.now) }
         ensures params { self.new.core.params ≡ self.old.core.params }
-        ensures is_chainstate { IsChainstate self.new env.now.table.now }
+        ensures is_chainstate { IsChainstate self.new env.now.signatures.now }
         ensures err { OnErr result
             ((n : ℕ) × (n ≤ length commands.now)
             ×
             (self.new.core.state
             ≡ state_after_commands
-            (regtest self.old.core.params env.now.table.now)
+            (regtest self.old.core.params env.now.signatures.now)
             self.old.core.state (take n commands.now))) }
     {
         let mut replies = Vec::new(alloc);
         for index in 0..commands.len() {
             replies.reserve(1)?;
-            let reply = self.step(alloc, &commands[index], env, gate)?;
+            let command = PreparedCommand::of(alloc, &commands[index])?;
+            let reply = self.step(alloc, &command, env, gate)?;
             replies.push_reserved(reply);
         }
         Ok(replies)

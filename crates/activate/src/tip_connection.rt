@@ -10,14 +10,14 @@ ghost use Rattle.connect.specs.Setting.{setting};
 ghost use Rattle.connect.specs.Turns.{effect, undo_of};
 ghost use Rattle.connect.specs.computed.Scripts.{connect_fault};
 ghost use Rattle.curve.specs.Known.{Under};
-ghost use Rattle.activate.specs.CoreState.{IsWantedByABlock};
-ghost use Rattle.queue.specs.Jobs.{IsUndecided};
+ghost use Rattle.connect.specs.Scripts.{IsWantedByBlock};
+ghost use Rattle.connect.specs.Stops.{AreWanted};
 
 use block::Block;
 use coins::{Base, Cache, Changes};
-use connect::{Context, RunsScripts, connect_by};
+use connect::{Context, RunsScripts, connect};
 use hash::Id;
-use queue::{Gate, Undecided};
+use queue::Gate;
 use std::alloc::Global;
 use txn::Reason;
 use undo::BlockUndo;
@@ -39,7 +39,7 @@ pub(crate) fn connect_tip<B: Base, S: RunsScripts>(
     ids: &[Id],
     env: &S,
     gate: &(dyn Gate + Sync),
-) -> Result<Result<ConnectedTip, Reason>, Undecided>
+) -> Result<Result<ConnectedTip, Reason>, S::Stop>
     requires alone { first_broken (alone_rules block.now) ≡ None }
     requires ids { ids.now ≡ ids_of block.now.txs }
     ensures fault { IfOk result (λ answer.
@@ -59,10 +59,11 @@ pub(crate) fn connect_tip<B: Base, S: RunsScripts>(
         IfOk answer (λ connected.
         after_changes (B.coins base.now) connected.changes
         ≡ effect context.now.height (B.coins base.now) block.now.txs)) }
-    ensures wants { IfErr result (IsUndecided (IsWantedByABlock (S.known env.now))) }
+    ensures wants { let s = setting context.now in IfErr result (λ stop. AreWanted
+        (IsWantedByBlock s (B.coins base.now) block.now.txs (S.known env.now)) (S.told stop)) }
 {
     let mut layer = Cache::over(alloc, base);
-    match connect_by(alloc, &mut layer, context, block, ids, env, gate)? {
+    match connect(alloc, &mut layer, context, block, ids, env, gate)? {
         Err(reason) => Ok(Err(reason)),
         Ok(undo) => {
             let changes = layer.into_changes();

@@ -1,6 +1,8 @@
 -- Lists of scripts that have to accept.
 use Rattle.std.proofs.Common.{◌≡◌, All, inl, inr, ℕ, zero, suc, ◌+◌, ◌<◌, List, [], ◌∷◌, ◌++◌, length, get_or, map, Option, Some, None, slice_get, refl, sym, ap, ap₂, subst, ◌∙◌, arith}
-use Rattle.std.specs.List.{zip, enumerate_from, AllZip, Any}
+use Rattle.std.proofs.Common.{◌≢◌, false}
+use Rattle.std.specs.Prelude.{IfSome}
+use Rattle.std.specs.List.{zip, enumerate_from, AllZip}
 use Rattle.std.proofs.lemmas.List.{map-append, length-map, length_push}
 use Rattle.std.proofs.lemmas.List.Elements.{All-push}
 use Rattle.txn.specs.declared.reason.Reason.TheVariants.{ScriptRefused}
@@ -10,8 +12,14 @@ use Rattle.interp.specs.declared.flags.Flags.{Flags}
 use Rattle.curve.specs.Known.{Known}
 use Rattle.curve.specs.Triple.{Triple, Triples}
 use Rattle.interp.specs.declared.job.Job.{Job}
-use Rattle.queue.specs.Jobs.{HasInput, question, question_of, IsAccepted, AcceptsAt, FailsAt, IsWanted, IsWantedIn}
-use Rattle.connect.specs.Scripts.{Check, input_checks, IsFirstRefused}
+use Rattle.interp.specs.Question.{question, question_of}
+use Rattle.interp.specs.Answer.{Says, Wants}
+use Rattle.queue.specs.Jobs.{HasInput, IsAccepted, verdict_at}
+use Rattle.queue.specs.laws.Failing.{AcceptsAt, FailsAt}
+use Rattle.queue.specs.Telling.{AreTheWants}
+use Rattle.queue.specs.laws.Failing.{all-wanted}
+use Rattle.connect.specs.Stops.{AreWanted}
+use Rattle.connect.specs.Scripts.{Check, input_checks, IsFirstRefused, IsWantedAmong}
 use Rattle.connect.specs.inside.Listing.{checks_from}
 
 pub zip_push : {A B : Type 0} (xs : List A) (ys : List B) (x : A) (y : B) → length xs ≡ length ys → zip (xs ++ x ∷ []) (ys ++ y ∷ []) ≡ zip xs ys ++ (x, y) ∷ []
@@ -90,14 +98,23 @@ alike_length R (x ∷ xs) (y ∷ ys) h = ap (λ n. suc n) (alike_length R xs ys 
 
 -- ---- what is wanted
 
--- by a job, and so by its check
-pub wanted_check : (known : Known) (places : List ℕ) (jobs : List Job) → length places ≡ length jobs → (t : Triple) → IsWantedIn known jobs t
-    → Any (λ (check : Check). IsWanted known check.1 t) (zip places (map question_of jobs))
-wanted_check known [] [] even t (k, job, lt, is, w) = absurd (omega (arith, lt))
-wanted_check known [] (j ∷ jobs) even t wanted = absurd (omega (arith, even))
-wanted_check known (p ∷ places) [] even t wanted = absurd (omega (arith, even))
-wanted_check known (p ∷ places) (j ∷ jobs) even t (zero, job, lt, is, w) =
-    (zero, (p, question_of j), omega arith, refl, subst (λ (x : Job). IsWanted known (question_of x) t) (sym is) w)
-wanted_check known (p ∷ places) (j ∷ jobs) even t (suc k, job, lt, is, w) =
-    let r = wanted_check known places jobs (omega (arith, even)) t (k, job, omega (arith, lt), is, w) in
-    (suc r.0, r.1, omega (arith, r.2), r.3, r.4)
+-- at the place of a job, none before which is refused, and so by its check
+pub wanted_at : (known : Known) (places : List ℕ) (jobs : List Job) → length places ≡ length jobs → (place : ℕ) (t : Triple) → verdict_at known jobs place ≡ Wants t
+    → ((before : ℕ) → before < place → verdict_at known jobs before ≢ Says false) → IsWantedAmong known (zip places (map question_of jobs)) t
+wanted_at known [] [] even place t e before = cc
+wanted_at known [] (j ∷ jobs) even place t e before = absurd (omega (arith, even))
+wanted_at known (p ∷ places) [] even place t e before = absurd (omega (arith, even))
+wanted_at known (p ∷ places) (j ∷ jobs) even zero t e before = inl e
+wanted_at known (p ∷ places) (j ∷ jobs) even (suc place) t e before =
+    inr (before 0 (omega arith), wanted_at known places jobs (omega (arith, even)) place t e (λ x low. before (suc x) (omega (arith, low))))
+
+-- and so is each of those that are told
+pub told_wanted : (known : Known) (places : List ℕ) (jobs : List Job) → length places ≡ length jobs → (told : Option (List Triple))
+    → IfSome told (AreTheWants (length jobs) (verdict_at known jobs)) → AreWanted (IsWantedAmong known (zip places (map question_of jobs))) told
+told_wanted known places jobs even None are = tt
+told_wanted known places jobs even (Some list) are = (
+  are.0,
+  subst (All (IsWantedAmong known (zip places (map question_of jobs)))) (sym are.3)
+      (all-wanted (IsWantedAmong known (zip places (map question_of jobs))) (verdict_at known jobs) are.1
+      (λ place t low e. wanted_at known places jobs even place t e (λ x below. are.2.before x (omega (arith, low, below))))),
+)

@@ -8,7 +8,8 @@ use Rattle.txn.specs.declared.tx.Tx.{Tx}
 use Rattle.coins.specs.declared.coin.Coin.{Coin}
 use Rattle.interp.specs.declared.flags.Flags.{Flags}
 use Rattle.interp.specs.declared.job.Job.{Job}
-use Rattle.queue.specs.Jobs.{question, question_of, AreNumbered}
+use Rattle.interp.specs.Question.{question, question_of}
+use Rattle.queue.specs.Jobs.{AreNumbered}
 use Rattle.connect.specs.Scripts.{Check, input_checks}
 use Rattle.connect.specs.inside.Listing.{checks_from}
 

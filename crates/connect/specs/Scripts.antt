@@ -1,6 +1,7 @@
 -- The scripts of a block, which run last.
 use Rattle.std.specs.Prelude.{◌≡◌, ◌⊎◌, ℕ, List, [], ◌∷◌, map, Option, Some, None}
-use Rattle.std.specs.List.{Any, flat_map, enumerate_from}
+use Rattle.std.proofs.Common.{◌≢◌, false}
+use Rattle.std.specs.List.{flat_map, enumerate_from}
 use Rattle.txn.specs.declared.tx.Tx.{Tx}
 use Rattle.txn.specs.declared.reason.Reason.{Reason}
 use Rattle.txn.specs.declared.reason.Reason.TheVariants.{ScriptRefused}
@@ -8,7 +9,10 @@ use Rattle.txn.specs.First.{first_broken}
 use Rattle.curve.specs.Known.{Known}
 use Rattle.curve.specs.Triple.{Triple, Triples}
 use Rattle.interp.specs.declared.flags.Flags.{Flags}
-use Rattle.queue.specs.Jobs.{Question, question, IsAccepted, IsWanted}
+use Rattle.interp.specs.Answer.{Says}
+use Rattle.interp.specs.computed.Step.{verdict}
+use Rattle.interp.specs.Question.{Question, question}
+use Rattle.queue.specs.Jobs.{IsAccepted, IsWanted}
 use Rattle.coins.specs.declared.coin.Coin.{Coin}
 use Rattle.coins.specs.Coins.{Coins}
 use Rattle.rules.specs.declared.in_force.InForce.{InForce}
@@ -52,7 +56,13 @@ abbrev pub IsConnectFault : Setting → Coins → List Tx → Triples → Option
 IsConnectFault s m txs triples found =
     IsBefore (first_broken (connect_rules s m txs)) (IsFirstRefused triples (script_checks s m txs)) found
 
--- no other rule is broken, and a script of the block asks for a signature of which nothing is known
+-- one of these scripts wants it, and none before that one is refused
+abbrev pub IsWantedAmong : Known → List Check → Triple → Type 0
+IsWantedAmong known [] t = ⊥
+IsWantedAmong known (check ∷ checks) t =
+    IsWanted known check.1 t ⊎ ((verdict known check.1 ≢ Says false) × IsWantedAmong known checks t)
+
+-- no other rule is broken, and a script of the block wants a signature of which nothing is known
 pub record IsWantedByBlock (s : Setting) (m : Coins) (txs : List Tx) (known : Known) (t : Triple) : Type 0 where
   pub passes : first_broken (connect_rules s m txs) ≡ None
-  pub script : Any (λ check. IsWanted known check.1 t) (script_checks s m txs)
+  pub script : IsWantedAmong known (script_checks s m txs) t

@@ -14,13 +14,13 @@ ghost use Rattle.connect.specs.Turns.{turns, effect};
 ghost use Rattle.connect.specs.Faults.{overwrites, fees, turn_rules, connect_rules};
 ghost use Rattle.connect.specs.Scripts.{IsConnectFault, IsWantedByBlock};
 ghost use Rattle.connect.specs.Connecting.{IsConnected};
+ghost use Rattle.connect.specs.Stops.{AreWanted};
 ghost use Rattle.connect.specs.inside.Turns.{IsReason, IsLawful, PassInTurn, PassTogether};
 ghost use Rattle.curve.specs.Known.{Under};
-ghost use Rattle.queue.specs.Jobs.{IsUndecided};
 ghost use Rattle.connect.specs.declared.lookups.Lookup.TheVariants.{Above};
 
 use crate::amounts::paid;
-use crate::context::{Context, Env};
+use crate::context::Context;
 use crate::lookups::{Lookup, overwrites};
 use crate::runs_scripts::RunsScripts;
 use crate::scripts::first_refused;
@@ -29,51 +29,19 @@ use crate::turn::connect_tx;
 use block::{Block, subsidy};
 use coins::{Base, Cache, Writes};
 use hash::Id;
-use queue::{Crew, Gate, Undecided};
+use queue::Gate;
 use std::alloc::Global;
 use txn::{Reason, Tx, TxOut};
 use undo::BlockUndo;
 use wire::Memory;
 
 /// Connects a block to the coins of its parent's branch: the first rule that it breaks over them, its scripts
-/// last, or else the coins after it with what it spent (Bitcoin Core's `ConnectBlock`).
+/// last, or else the coins after it with what it spent (Bitcoin Core's `ConnectBlock`). Where signatures aren't all
+/// known, it may instead list those that have to be verified first.
 ///
 /// The ids are its transactions', from `txn::ids`. The answer depends on neither the crew, the
 /// number of workers, the gate nor the early verdicts.
-pub fn connect<B: Base, C: Crew>(
-    alloc: Global,
-    cache: &mut Cache<'_, B>,
-    context: &Context,
-    block: &Block,
-    ids: &[Id],
-    env: &Env<'_, C>,
-    gate: &(dyn Gate + Sync),
-) -> Result<Result<BlockUndo, Reason>, Memory>
-    // It breaks no rule by itself.
-    requires alone { first_broken (alone_rules block.now) ≡ None }
-    requires ids { ids.now ≡ ids_of block.now.txs }
-    ensures fault { IfOk result (λ answer.
-        IsConnectFault (setting context.now) cache.old.coins block.now.txs env.now.table.now
-        (result_err answer)) }
-    ensures coins { IfOk result (λ answer. OnOk answer (cache.new ≡
-        record cache.old { coins = effect context.now.height cache.old.coins block.now.txs })) }
-    // With its undo it can be taken back by `disconnect`.
-    ensures connected { IfOk result (λ answer. IfOk answer (λ undo.
-        IsConnected (setting context.now) cache.old.coins block.now cache.new.coins undo)) }
-    // A reason leaves the coins as they were, and so does running out of memory.
-    ensures kept { IfOk result (λ answer. OnErr answer (cache.new ≡ cache.old)) }
-    ensures err { OnErr result (cache.new ≡ cache.old) }
-{
-    match connect_by(alloc, cache, context, block, ids, env, gate) {
-        Ok(answer) => Ok(answer),
-        Err(Undecided::Memory) => Err(Memory),
-        // Of a table all is known.
-        Err(Undecided::Unknown(_)) => unreachable!(),
-    }
-}
-
-/// The same as [`connect`] by what is known of signatures, or else those that have to be found out first.
-pub fn connect_by<B: Base, S: RunsScripts>(
+pub fn connect<B: Base, S: RunsScripts>(
     alloc: Global,
     cache: &mut Cache<'_, B>,
     context: &Context,
@@ -81,14 +49,15 @@ pub fn connect_by<B: Base, S: RunsScripts>(
     ids: &[Id],
     env: &S,
     gate: &(dyn Gate + Sync),
-) -> Result<Result<BlockUndo, Reason>, Undecided>
+) -> Result<Result<BlockUndo, Reason>, S::Stop>
     // It breaks no rule by itself.
     requires alone { first_broken (alone_rules block.now) ≡ None }
     requires ids { ids.now ≡ ids_of block.now.txs }
     ensures fault { IfOk result (λ answer. Under (S.known env.now) (λ triples.
         IsConnectFault (setting context.now) cache.old.coins block.now.txs triples (result_err answer))) }
-    ensures stops { IfErr result (IsUndecided
-        (IsWantedByBlock (setting context.now) cache.old.coins block.now.txs (S.known env.now))) }
+    ensures stops { IfErr result (λ stop. AreWanted
+        (IsWantedByBlock (setting context.now) cache.old.coins block.now.txs (S.known env.now))
+        (S.told stop)) }
     ensures coins { IfOk result (λ answer. OnOk answer (cache.new ≡
         record cache.old { coins = effect context.now.height cache.old.coins block.now.txs })) }
     // With its undo it can be taken back by `disconnect`.
@@ -116,13 +85,14 @@ fn attempt<B: Base, S: RunsScripts>(
     ids: &[Id],
     env: &S,
     gate: &(dyn Gate + Sync),
-) -> Result<Result<(BlockUndo, Writes), Reason>, Undecided>
+) -> Result<Result<(BlockUndo, Writes), Reason>, S::Stop>
     requires alone { first_broken (alone_rules block.now) ≡ None }
     requires ids { ids.now ≡ ids_of block.now.txs }
     ensures fault { IfOk result (λ answer. Under (S.known env.now) (λ triples.
         IsConnectFault (setting context.now) (B.coins base.now) block.now.txs triples (result_err answer))) }
-    ensures stops { IfErr result (IsUndecided
-        (IsWantedByBlock (setting context.now) (B.coins base.now) block.now.txs (S.known env.now))) }
+    ensures stops { IfErr result (λ stop. AreWanted
+        (IsWantedByBlock (setting context.now) (B.coins base.now) block.now.txs (S.known env.now))
+        (S.told stop)) }
     ensures sound { IfOk result (λ answer. IfOk answer (λ done.
         IsSound (B.coins base.now) done.1)) }
     ensures over { IfOk result (λ answer. IfOk answer (λ done. over (B.coins base.now) done.1 ≡
@@ -139,39 +109,8 @@ fn attempt<B: Base, S: RunsScripts>(
 }
 
 /// The same as [`connect`] in a layer that is the caller's own, on which other blocks may have written before. It is
-/// given back where the block connects, with what that spent, and dropped at a reason or out of memory.
-pub fn connect_in_layer<'b, B: Base, C: Crew>(
-    alloc: Global,
-    layer: Cache<'b, B>,
-    context: &Context,
-    block: &Block,
-    ids: &[Id],
-    env: &Env<'_, C>,
-    gate: &(dyn Gate + Sync),
-) -> Result<Result<(Cache<'b, B>, BlockUndo), Reason>, Memory>
-    // It breaks no rule by itself.
-    requires alone { first_broken (alone_rules block.now) ≡ None }
-    requires ids { ids.now ≡ ids_of block.now.txs }
-    ensures fault { IfOk result (λ answer.
-        IsConnectFault (setting context.now) layer.entry.coins block.now.txs env.now.table.now
-        (result_err answer)) }
-    ensures coins { let m = layer.entry.coins in
-        IfOk result (λ answer. IfOk answer (λ done. done.0 ≡
-        record layer.entry { coins = effect context.now.height m block.now.txs })) }
-    // With its undo it can be taken back by `disconnect_in_layer`.
-    ensures connected { IfOk result (λ answer. IfOk answer (λ done.
-        IsConnected (setting context.now) layer.entry.coins block.now done.0.coins done.1)) }
-{
-    match connect_in_layer_by(alloc, layer, context, block, ids, env, gate) {
-        Ok(answer) => Ok(answer),
-        Err(Undecided::Memory) => Err(Memory),
-        // Of a table all is known.
-        Err(Undecided::Unknown(_)) => unreachable!(),
-    }
-}
-
-/// The same as [`connect_in_layer`] by what is known of signatures. The layer is dropped where there is no answer too.
-pub fn connect_in_layer_by<'b, B: Base, S: RunsScripts>(
+/// given back where the block connects, with what that spent, and dropped at a reason or where there is no answer.
+pub fn connect_in_layer<'b, B: Base, S: RunsScripts>(
     alloc: Global,
     layer: Cache<'b, B>,
     context: &Context,
@@ -179,14 +118,15 @@ pub fn connect_in_layer_by<'b, B: Base, S: RunsScripts>(
     ids: &[Id],
     env: &S,
     gate: &(dyn Gate + Sync),
-) -> Result<Result<(Cache<'b, B>, BlockUndo), Reason>, Undecided>
+) -> Result<Result<(Cache<'b, B>, BlockUndo), Reason>, S::Stop>
     // It breaks no rule by itself.
     requires alone { first_broken (alone_rules block.now) ≡ None }
     requires ids { ids.now ≡ ids_of block.now.txs }
     ensures fault { IfOk result (λ answer. Under (S.known env.now) (λ triples.
         IsConnectFault (setting context.now) layer.entry.coins block.now.txs triples (result_err answer))) }
-    ensures stops { IfErr result (IsUndecided
-        (IsWantedByBlock (setting context.now) layer.entry.coins block.now.txs (S.known env.now))) }
+    ensures stops { IfErr result (λ stop. AreWanted
+        (IsWantedByBlock (setting context.now) layer.entry.coins block.now.txs (S.known env.now))
+        (S.told stop)) }
     ensures coins { let m = layer.entry.coins in
         IfOk result (λ answer. IfOk answer (λ done. done.0 ≡
         record layer.entry { coins = effect context.now.height m block.now.txs })) }
@@ -207,14 +147,15 @@ fn connect_block<'b, B: Base, S: RunsScripts>(
     env: &S,
     gate: &(dyn Gate + Sync),
     lookup: Lookup,
-) -> Result<Result<(Cache<'b, B>, BlockUndo), Reason>, Undecided>
+) -> Result<Result<(Cache<'b, B>, BlockUndo), Reason>, S::Stop>
     requires alone { first_broken (alone_rules block.now) ≡ None }
     requires ids { ids.now ≡ ids_of block.now.txs }
     requires fresh { lookup ≡ Above → layer.coins ≡ layer.base }
     ensures fault { IfOk result (λ answer. Under (S.known env.now) (λ triples.
         IsConnectFault (setting context.now) layer.entry.coins block.now.txs triples (result_err answer))) }
-    ensures stops { IfErr result (IsUndecided
-        (IsWantedByBlock (setting context.now) layer.entry.coins block.now.txs (S.known env.now))) }
+    ensures stops { IfErr result (λ stop. AreWanted
+        (IsWantedByBlock (setting context.now) layer.entry.coins block.now.txs (S.known env.now))
+        (S.told stop)) }
     ensures coins { let m = layer.entry.coins in
         IfOk result (λ answer. IfOk answer (λ done. done.0 ≡
         record layer.entry { coins = effect context.now.height m block.now.txs })) }
@@ -223,7 +164,7 @@ fn connect_block<'b, B: Base, S: RunsScripts>(
 {
     match connect_txs(alloc, layer, context, block.txs.as_slice(), ids, lookup) {
         Err(Stop::Broken(reason)) => Ok(Err(reason)),
-        Err(Stop::Memory) => Err(Undecided::Memory),
+        Err(Stop::Memory) => Err(S::Stop::from(Memory)),
         Ok((layer, undo)) => {
             let others = &block.txs.as_slice()[1..];
             let rules = context.params.at(context.height);

@@ -1,10 +1,10 @@
 //! What connecting a block needs beside the block and the coins.
 
-ghost use Rattle.std.specs.Prelude.{◌≡◌, ◌≤◌, All};
+ghost use Rattle.std.specs.Prelude.{◌≤◌, All};
+ghost use Rattle.queue.specs.Jobs.{IsEarly};
 ghost use Rattle.std.proofs.Props.{props};
 
-use curve::Table;
-use queue::{Crew, Verdicts};
+use queue::{Crew, Judges, Verdicts};
 use rules::Params;
 
 /// A block's place: its branch, and the rules that are in force there.
@@ -23,16 +23,16 @@ pub struct Context<'a> {
 /// One with threads is made in a function that is generic in the crew: the prover makes no proof of one that makes it
 /// for a named type of crew with a type parameter.
 #[derive(Drop)]
-pub struct Env<'a, C: Crew> {
-    /// The signatures that are valid.
-    pub table: &'a Table,
+pub struct Env<'a, S: Judges, C: Crew<S>> {
+    /// A table of the valid signatures, or those that were found out.
+    pub signatures: &'a S,
     /// From 1 to 16.
     pub workers: usize,
-    /// Verdicts under the same table that were got before, possibly none.
+    /// Verdicts that were got before, by no more than is known now; possibly none.
     pub early: &'a [Verdicts<'a>],
     /// Who runs the scripts.
     pub crew: &'a C,
     pub ghost ready: { C.is_ready crew.now } by { C.ready_once crew.now },
     pub ghost few: { (1 ≤ workers) × (workers ≤ 16) } by { Prim.hlevel props },
-    pub ghost same_table: { All (λ v. v.triples ≡ table.now) early.now } by { Prim.hlevel props },
+    pub ghost right: { All (IsEarly (S.known signatures.now)) early.now } by { Prim.hlevel props },
 }

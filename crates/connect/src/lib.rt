@@ -16,7 +16,7 @@ mod stop;
 mod turn;
 
 pub use applying::apply_in_layer;
-pub use connecting::{connect, connect_by, connect_in_layer, connect_in_layer_by};
+pub use connecting::{connect, connect_in_layer};
 pub use context::{Context, Env};
 pub use disconnecting::{disconnect, disconnect_in_layer};
 pub use early::{early_jobs, script_flags};

@@ -1,57 +1,66 @@
 //! Who runs the scripts of a block, and by what is known of signatures.
 
-ghost use Rattle.std.specs.Prelude.{◌<◌, ◌^◌, All, IfErr, IfOk, length};
-ghost use Rattle.curve.specs.Known.{Agrees, Known, Under};
-ghost use Rattle.curve.specs.Triple.{Triples};
-ghost use Rattle.queue.specs.Jobs.{AreNumbered, HasInput, IsFirstFailure, IsUndecided, IsWantedIn};
+ghost use Rattle.std.specs.Prelude.{◌≡◌, All, List, None, Option, length};
+ghost use Rattle.curve.specs.Known.{Agrees, Known};
+ghost use Rattle.curve.specs.Triple.{Triple, Triples};
+ghost use Rattle.queue.specs.Jobs.{AreNumbered, HasInput, verdict_at};
+ghost use Rattle.queue.specs.Telling.{Told};
 
 use crate::context::Env;
-use curve::KnownSignatures;
 use interp::Job;
-use queue::{Crew, Gate, Undecided, first_failure_by};
+use queue::{Crew, Gate, Judges, Runs, first_failure};
 use std::alloc::Global;
+use wire::Memory;
 
 /// Who runs the scripts of a block.
 pub trait RunsScripts {
+    /// Why there may be no answer: `Memory` where all signatures are known, and else `Undecided`.
+    type Stop: From<Memory> + Drop;
+
     /// What is known of signatures.
     ghost known: { Self → Known };
 
     /// A set of valid signatures that agrees with it.
     ghost agreeing: { Self → Triples };
 
+    /// The signatures that a stop lists, which have to be verified first; out of memory it has no list.
+    ghost told: { Self.Stop → Option (List Triple) };
+
     /// Whether there are verdicts that were got before, so that maybe no job is run.
     fn has_verdicts(&self) -> bool;
 
-    /// The least place whose job isn't accepted, or none; or the signatures that have to be found out first.
+    /// The least place whose job isn't accepted, or none; or all signatures that the jobs before it want.
     fn first_failure(
         &self,
         alloc: Global,
         jobs: &[Job],
         numbers: &[usize],
         gate: &(dyn Gate + Sync),
-    ) -> Result<Option<usize>, Undecided>
-        requires few { length jobs.now < 2 ^ 32 }
+    ) -> Result<Option<usize>, Self::Stop>
         requires inputs { All HasInput jobs.now }
         // Jobs of one number are of one transaction.
         requires numbered { AreNumbered numbers.now jobs.now }
-        ensures answer { IfOk result (λ place. Under (known self.now) (λ triples.
-            IsFirstFailure triples jobs.now place)) }
-        ensures stops { IfErr result (IsUndecided (IsWantedIn (known self.now) jobs.now)) };
+        ensures { Told (length jobs.now) (verdict_at (known self.now) jobs.now) told result };
 
     ghost agrees: { (it : Self) → Agrees (known it) (agreeing it) };
+
+    /// Out of memory a stop has no list.
+    ghost memory_tells: { (memory : _) (stop : Self.Stop) → Self.Stop.from_gives memory stop →
+        told stop ≡ None };
 }
 
-/// By a table, of which all is known.
-impl<'a, C: Crew> RunsScripts for Env<'a, C> {
-    ghost use Rattle.std.specs.Prelude.{Some};
-    ghost use Rattle.std.specs.FinSet as set;
-    ghost use Rattle.connect.specs.laws.Agreeing.{table_agrees};
+impl<'a, S: Judges, C: Crew<S>> RunsScripts for Env<'a, S, C> {
+    type Stop = S::Stop;
 
-    ghost known = { λ env t. Some (set.contains env.table.now t) };
+    ghost known = { λ env. S.known env.signatures.now };
 
-    ghost agreeing = { λ env. env.table.now };
+    ghost agreeing = { λ env. S.agreeing env.signatures.now };
 
-    ghost agrees = { λ env. table_agrees env.table.now };
+    ghost told = { S.told };
+
+    ghost agrees = { λ env. S.agrees env.signatures.now };
+
+    ghost memory_tells = { S.memory_tells };
 
     fn has_verdicts(&self) -> bool {
         !self.early.is_empty()
@@ -63,42 +72,13 @@ impl<'a, C: Crew> RunsScripts for Env<'a, C> {
         jobs: &[Job],
         numbers: &[usize],
         gate: &(dyn Gate + Sync),
-    ) -> Result<Option<usize>, Undecided> {
-        let found = self.crew.first_failure_with(
-            alloc,
-            jobs,
-            numbers,
-            self.early,
-            self.table,
-            self.workers,
-            gate,
-        )?;
-        Ok(found)
-    }
-}
-
-/// By signatures that were found out. The caller runs the scripts.
-impl RunsScripts for KnownSignatures {
-    ghost use Rattle.curve.specs.Known.{verdict_in};
-    ghost use Rattle.connect.specs.laws.Agreeing.{found_agrees};
-
-    ghost known = { verdict_in };
-
-    ghost agreeing = { λ found. found.valid };
-
-    ghost agrees = { found_agrees };
-
-    fn has_verdicts(&self) -> bool {
-        false
-    }
-
-    fn first_failure(
-        &self,
-        alloc: Global,
-        jobs: &[Job],
-        _numbers: &[usize],
-        gate: &(dyn Gate + Sync),
-    ) -> Result<Option<usize>, Undecided> {
-        first_failure_by(alloc, jobs, self, gate)
+    ) -> Result<Option<usize>, S::Stop> {
+        let runs = Runs {
+            by: self.signatures,
+            early: self.early,
+            crew: self.crew,
+            workers: self.workers,
+        };
+        first_failure(alloc, jobs, numbers, &runs, gate)
     }
 }

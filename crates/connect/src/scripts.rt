@@ -1,17 +1,18 @@
 //! The scripts of a block, run after all else.
 
 ghost use Rattle.std.specs.Prelude.{◌≡◌, ◌+◌, ◌<◌, ◌≤◌, ◌^◌, ◌++◌, All, IfErr, IfOk, IfSome, OnOk, length, sum_by};
-ghost use Rattle.std.specs.List.{AllZip, Any};
+ghost use Rattle.std.specs.List.{AllZip};
 ghost use Rattle.curve.specs.Known.{Under};
-ghost use Rattle.queue.specs.Jobs.{HasInput, IsUndecided, IsWanted};
+ghost use Rattle.queue.specs.Jobs.{HasInput};
 ghost use Rattle.sighash.specs.Midstates.{AreOf};
-ghost use Rattle.connect.specs.Scripts.{flags_of, input_checks, IsFirstRefused};
+ghost use Rattle.connect.specs.Scripts.{flags_of, input_checks, IsFirstRefused, IsWantedAmong};
+ghost use Rattle.connect.specs.Stops.{AreWanted};
 ghost use Rattle.connect.specs.inside.Listing.{checks_from, checks_in, IsEven};
 
 use crate::runs_scripts::RunsScripts;
 use coins::Coin;
 use interp::{Flags, Job};
-use queue::{Gate, Undecided};
+use queue::Gate;
 use rules::InForce;
 use sighash::{Midstates, SpentScripts};
 use std::alloc::Global;
@@ -36,13 +37,13 @@ pub(crate) fn first_refused<'a, S: RunsScripts>(
     rules: InForce,
     env: &S,
     gate: &(dyn Gate + Sync),
-) -> Result<Option<Reason>, Undecided>
+) -> Result<Option<Reason>, S::Stop>
     requires alike { AllZip (λ tx coins. length coins ≤ length tx.inputs) txs.now undo.now }
     requires few { sum_by (λ coins. length coins) undo.now ≤ 1000000 }
     ensures answer { IfOk result (λ found. Under (S.known env.now) (λ triples.
         IsFirstRefused triples (checks_from (flags_of rules) 1 txs.now undo.now) found)) }
-    ensures stops { IfErr result (IsUndecided (λ t. Any (λ check.
-        IsWanted (S.known env.now) check.1 t) (checks_from (flags_of rules) 1 txs.now undo.now))) }
+    ensures stops { IfErr result (λ stop. AreWanted (IsWantedAmong (S.known env.now)
+        (checks_from (flags_of rules) 1 txs.now undo.now)) (S.told stop)) }
 {
     let coins = SpentCoins { undo };
     let midstates = midstates(alloc, txs, &coins, env)?;

@@ -1,5 +1,5 @@
 -- Words for the walk up a path, block by block. No public clause needs them.
-use Rattle.std.specs.Prelude.{◌≡◌, ℕ, ◌≤◌, true, List, [], ◌∷◌, length, map, reverse}
+use Rattle.std.specs.Prelude.{◌≡◌, ℕ, ◌<◌, ◌≤◌, true, List, [], ◌∷◌, length, map, reverse}
 use Rattle.hash.specs.declared.id.Id.{Id}
 use Rattle.block.specs.declared.block.Block.{Block}
 use Rattle.coins.specs.declared.coin.Coin.{Coin}
@@ -10,6 +10,10 @@ use Rattle.chain.specs.Rules.{Rules}
 use Rattle.chain.specs.Valid.{branch_connects}
 use Rattle.activate.specs.CoreState.{coins_after}
 use Rattle.activate.specs.inside.Keeping.{undo_at}
+use Rattle.activate.specs.Wants.{IsWantedAt}
+use Rattle.curve.specs.Known.{Known}
+use Rattle.curve.specs.Triple.{Triple}
+use Rattle.rules.specs.declared.params.Params.{Params}
 
 -- the highest of these places above the fork f, or f where there is none
 abbrev pub top_of : ℕ → List ℕ → ℕ
@@ -21,6 +25,13 @@ pub record LeadsUp (t : Blocks Block) (f : ℕ) (up : List ℕ) : Type 0 where
   pub kept : top_of f up ≤ length t
   pub shared : on t (top_of f up) f ≡ true
   pub all : up ≡ above t (top_of f up) f
+
+-- a block above the fork f on the branch of p wants it
+pub record IsWantedAbove (params : Params) (t : Blocks Block) (f p : ℕ) (known : Known) (triple : Triple) : Type 0 where
+  pub place : ℕ
+  pub above : f < place
+  pub there : on t p place ≡ true
+  pub wanted : IsWantedAt params t known place triple
 
 -- each of these blocks, the highest first, connects: what they spend, the lowest first, and which coins they leave
 pub record IsTop (r : Rules Block Id) (t : Blocks Block) (f : ℕ) (up : List ℕ) (undo : List (List (List Coin))) (coins : Coins) : Type 0 where

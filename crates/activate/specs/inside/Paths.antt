@@ -1,5 +1,5 @@
 -- Words for what `Core` does inside when another block becomes the active one. No public clause needs them.
-use Rattle.std.specs.Prelude.{◌≡◌, ℕ, ◌<◌, true, List, ◌∷◌, ◌++◌, length, map, reverse, Some}
+use Rattle.std.specs.Prelude.{◌≡◌, ℕ, ◌<◌, true, false, List, ◌∷◌, ◌++◌, length, map, reverse, Some}
 use Rattle.txn.specs.declared.reason.Reason.{Reason}
 use Rattle.hash.specs.declared.id.Id.{Id}
 use Rattle.block.specs.declared.block.Block.{Block}
@@ -19,6 +19,10 @@ use Rattle.chain.specs.Valid.{fault, branch_connects}
 use Rattle.chain.specs.Faults.{IsFirstFault}
 use Rattle.activate.specs.CoreState.{coins_after}
 use Rattle.activate.specs.inside.Keeping.{undo_at}
+use Rattle.activate.specs.Wants.{IsWantedAt}
+use Rattle.curve.specs.Known.{Known}
+use Rattle.curve.specs.Triple.{Triple}
+use Rattle.rules.specs.declared.params.Params.{Params}
 
 -- the block at a place was connected to the coins of its parent's branch
 pub record WasConnected (t : Blocks Block) (p : ℕ) : Type 0 where
@@ -29,6 +33,13 @@ pub record WasConnected (t : Blocks Block) (p : ℕ) : Type 0 where
 -- so was each of its branch, but for genesis
 abbrev pub AreConnected : Blocks Block → ℕ → Type 0
 AreConnected t p = (x : ℕ) → 0 < x → on t p x ≡ true → WasConnected t x
+
+-- a block on the branch of p, but not on that of a, wants it
+pub record IsWantedOnWay (params : Params) (t : Blocks Block) (a p : ℕ) (known : Known) (triple : Triple) : Type 0 where
+  pub place : ℕ
+  pub there : on t p place ≡ true
+  pub apart : on t a place ≡ false
+  pub wanted : IsWantedAt params t known place triple
 
 -- from the active block at a to the block at p: down to the last block that their branches share, and up from there
 pub record IsPath (t : Blocks Block) (a p : ℕ) (path : BranchPath) : Type 0 where

@@ -25,7 +25,7 @@ use Rattle.activate.specs.declared.path.Reorganisation.{Reorganisation}
 use Rattle.activate.specs.declared.path.BranchPath.{BranchPath}
 use Rattle.chain.specs.Rules.{Rules}
 use Rattle.chain.specs.Valid.{branch_connects}
-use Rattle.chain.specs.Settle.{active, settle}
+use Rattle.chain.specs.Settle.{active, on_candidate, settle}
 use Rattle.chain.specs.Try.{state_after_try}
 use Rattle.chain.specs.Settled.{AllKept}
 use Rattle.chain.specs.Commands.{outcome}
@@ -139,6 +139,7 @@ pub record TriesLead (r : Rules Block Id) (a b : CoreState) : Type 0 where
   pub can : CanTry r b
   pub settles : settle r b.state ≡ settle r a.state
   pub active_is : active r b.state ≡ active r a.state
+  pub candidates : (x : ℕ) → on_candidate r b.state x ≡ true → on_candidate r a.state x ≡ true
 
 -- and a try of the block at p settles the state
 pub record TryLeads (r : Rules Block Id) (a b : CoreState) (p : ℕ) (move : Reorganisation) : Type 0 where

@@ -59,7 +59,7 @@ setting_under params height medians = record { height = height; cutoff = get_or 
 
 module _ (params : Params) (bs : List Block) where
   -- where the block on top of these stands
-  setting-next : (height : ℕ) (medians : List ℕ) → height ≡ length bs → 0 < length bs → medians ≡ reverse (medians_of bs)
+  pub setting-next : (height : ℕ) (medians : List ℕ) → height ≡ length bs → 0 < length bs → medians ≡ reverse (medians_of bs)
       → ◌≡◌ {A = Setting} (setting_under params height medians) (setting_on params bs)
   setting-next height medians h z m =
       ap (λ (n : ℕ). setting_under params n medians) h
@@ -141,6 +141,7 @@ module _ (t : Blocks Block) (f : ℕ) where
   -- a block of a path, and those below it, of which the first is its parent
   pub record IsNext (up : List ℕ) (x : ℕ) (rest : List ℕ) : Type 0 where
     pub above_genesis : 0 < x
+    pub above_fork : f < x
     pub kept : x ≤ length t
     pub parent : parent_at t x ≡ top_of f rest
     pub there : on t (top_of f up) x ≡ true
@@ -153,6 +154,7 @@ module _ (t : Blocks Block) (f : ℕ) where
       let b = n.above_f in
       record {
         above_genesis = omega arith;
+        above_fork = b;
         kept = n.kept;
         parent = sym (ap (top_of f) n.rest_is ∙ top-above (parent_at t x) (parent-kept t x (omega arith) n.kept) n.on_parent);
         there = ap (λ (l : List ℕ). has l x) (above-rest t p f w.kept w.shared ∙ ap (λ (l : List ℕ). l ++ branch t f) (sym w.all ∙ e) ∙ append_assoc front (x ∷ rest) (branch t f)) ∙ has-mid front x (rest ++ branch t f);

@@ -6,10 +6,11 @@ ghost use Rattle.chain.specs.Regtest.{regtest};
 ghost use Rattle.chain.specs.Settle.{settle};
 ghost use Rattle.chain.specs.Step.{Invalidate, Reconsider, Precious, mark_says, step};
 ghost use Rattle.chain.specs.declared.reply.MarkReply.TheVariants.{Done};
-ghost use Rattle.activate.specs.CoreState.{CoreState, Follows, IsWantedByABlock, coins_of};
+ghost use Rattle.activate.specs.CoreState.{CoreState, Follows, coins_of};
+ghost use Rattle.activate.specs.Wants.{IsWantedBy, IsWantedIn};
+ghost use Rattle.connect.specs.Stops.{AreWanted};
 ghost use Rattle.activate.specs.inside.Preparation.{CanTry, FlagsFit, IsPreparationFor, with_flags};
 ghost use Rattle.curve.specs.Known.{Under};
-ghost use Rattle.queue.specs.Jobs.{IsUndecided};
 
 use crate::core_state::Core;
 use crate::core_state::preparing::still;
@@ -18,7 +19,7 @@ use chain::{MarkReply, Reply};
 use coins::Base;
 use connect::RunsScripts;
 use hash::Id;
-use queue::{Gate, Undecided};
+use queue::Gate;
 use std::alloc::Global;
 use tree::Flags;
 use wire::Memory;
@@ -32,7 +33,7 @@ impl Core {
         id: &Id,
         env: &S,
         gate: &(dyn Gate + Sync),
-    ) -> Result<Prepared, Undecided>
+    ) -> Result<Prepared, S::Stop>
         requires follows { Under (S.known env.now) (λ triples. Follows self.old triples) }
         requires coins { B.coins base.now ≡ coins_of self.old }
         ensures prepared { IfOk result (λ prepared.
@@ -41,7 +42,8 @@ impl Core {
             self.old.state (Invalidate id.now))
             self.new prepared)) }
         ensures err { OnErr result (self.new ≡ self.old) }
-        ensures wants { IfErr result (IsUndecided (IsWantedByABlock (S.known env.now))) }
+        ensures wants { IfErr result (λ stop. AreWanted
+            (IsWantedBy self.old (Invalidate id.now) (S.known env.now)) (S.told stop)) }
     {
         let place = match self.tree.find(id) {
             None => return Ok(still(alloc, Reply::Mark(MarkReply::NotFound))),
@@ -61,7 +63,7 @@ impl Core {
         id: &Id,
         env: &S,
         gate: &(dyn Gate + Sync),
-    ) -> Result<Prepared, Undecided>
+    ) -> Result<Prepared, S::Stop>
         requires follows { Under (S.known env.now) (λ triples. Follows self.old triples) }
         requires coins { B.coins base.now ≡ coins_of self.old }
         ensures prepared { IfOk result (λ prepared.
@@ -70,7 +72,8 @@ impl Core {
             self.old.state (Reconsider id.now))
             self.new prepared)) }
         ensures err { OnErr result (self.new ≡ self.old) }
-        ensures wants { IfErr result (IsUndecided (IsWantedByABlock (S.known env.now))) }
+        ensures wants { IfErr result (λ stop. AreWanted
+            (IsWantedBy self.old (Reconsider id.now) (S.known env.now)) (S.told stop)) }
     {
         let Some(place) = self.tree.find(id) else {
             return Ok(still(alloc, Reply::Mark(MarkReply::NotFound)));
@@ -117,7 +120,7 @@ impl Core {
         flags: Flags,
         env: &S,
         gate: &(dyn Gate + Sync),
-    ) -> Result<Prepared, Undecided>
+    ) -> Result<Prepared, S::Stop>
         requires can { Under (S.known env.now) (λ triples. CanTry (regtest self.old.params triples) self.old) }
         requires flags { FlagsFit self.old.state (Some flags) }
         requires coins { B.coins base.now ≡ coins_of self.old }
@@ -133,7 +136,8 @@ impl Core {
         ensures err { OnErr result
             (self.new
             ≡ record self.old { state = with_flags (Some flags) self.old.state }) }
-        ensures wants { IfErr result (IsUndecided (IsWantedByABlock (S.known env.now))) }
+        ensures wants { IfErr result (λ stop. AreWanted
+            (IsWantedIn self.old (S.known env.now)) (S.told stop)) }
     {
         match self.settle_rest(alloc, base, env, gate) {
             Ok((place, found)) => Ok(Prepared {
@@ -161,7 +165,7 @@ impl Core {
         id: &Id,
         env: &S,
         gate: &(dyn Gate + Sync),
-    ) -> Result<Prepared, Undecided>
+    ) -> Result<Prepared, S::Stop>
         requires follows { Under (S.known env.now) (λ triples. Follows self.old triples) }
         requires coins { B.coins base.now ≡ coins_of self.old }
         ensures prepared { IfOk result (λ prepared.
@@ -170,7 +174,8 @@ impl Core {
             self.old.state (Precious id.now))
             self.new prepared)) }
         ensures err { OnErr result (self.new ≡ self.old) }
-        ensures wants { IfErr result (IsUndecided (IsWantedByABlock (S.known env.now))) }
+        ensures wants { IfErr result (λ stop. AreWanted
+            (IsWantedBy self.old (Precious id.now) (S.known env.now)) (S.told stop)) }
     {
         let Some(place) = self.tree.find(id) else {
             return Ok(still(alloc, Reply::Mark(MarkReply::NotFound)));

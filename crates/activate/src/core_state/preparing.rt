@@ -1,6 +1,6 @@
 //! What a command does, found out before anything is changed.
 
-ghost use Rattle.std.specs.Prelude.{◌≡◌, ℕ, ◌≤◌, ◌<◌, IfOk, None, Some, OnOk, OnErr, suc, length, IfErr};
+ghost use Rattle.std.specs.Prelude.{◌≡◌, ℕ, ◌≤◌, ◌<◌, [], IfOk, None, Some, OnOk, OnErr, suc, length, vec_capacity, IfErr};
 ghost use Rattle.hash.specs.declared.id.Id.{Id};
 ghost use Rattle.block.specs.declared.block.Block.{Block};
 ghost use Rattle.tree.specs.Branches.{place_of};
@@ -15,10 +15,11 @@ ghost use Rattle.chain.specs.Rules.{Rules};
 ghost use Rattle.chain.specs.Faults.{IsNew};
 ghost use Rattle.chain.specs.Step.{Submit, step};
 ghost use Rattle.chain.specs.Submission.{answer_known};
-ghost use Rattle.activate.specs.CoreState.{Follows, IsWantedByABlock, coins_of};
+ghost use Rattle.activate.specs.CoreState.{Follows, coins_of};
+ghost use Rattle.activate.specs.Wants.{IsWantedBy, IsWantedByStep, IsWantedIn};
+ghost use Rattle.connect.specs.Stops.{AreWanted};
 ghost use Rattle.activate.specs.inside.Preparation.{IsPreparation, IsPreparationFor, ChangesNothing};
 ghost use Rattle.curve.specs.Known.{Under};
-ghost use Rattle.queue.specs.Jobs.{IsUndecided};
 
 use crate::block_faults::fault_or_parent;
 use crate::core_state::Core;
@@ -28,8 +29,8 @@ use crate::tip_connection::connect_tip;
 use block::{Bytes, StoredBlock};
 use chain::{PreparedCommand, Reply, SubmitReply, SubmittedBlock};
 use coins::{Base, Changes};
-use connect::{Context, Env, RunsScripts};
-use queue::{Crew, Gate, Undecided};
+use connect::{Context, RunsScripts};
+use queue::Gate;
 use std::alloc::Global;
 use tree::{AddFault, MAX_BLOCKS};
 use wire::Memory;
@@ -49,48 +50,33 @@ pub(crate) fn still(alloc: Global, reply: Reply) -> Prepared
     }
 }
 
+/// A list with room for one item.
+fn room<T: Drop>(alloc: Global) -> Result<Vec<T>, Memory>
+    ensures empty { IfOk result (λ list. list.items ≡ []) }
+    ensures room { IfOk result (λ list. 1 ≤ vec_capacity list) }
+{
+    Ok(Vec::with_capacity(alloc, 1)?)
+}
+
 impl Core {
     /// Finds out everything that a command does, and gets all memory for it. Where it refuses nothing has changed;
     /// else the tree is changed, and the rollback says how to take that back.
-    pub(crate) fn prepare<B: Base, C: Crew>(
-        &mut self,
-        alloc: Global,
-        base: &B,
-        command: &PreparedCommand,
-        env: &Env<'_, C>,
-        gate: &(dyn Gate + Sync),
-    ) -> Result<Prepared, Memory>
-        requires follows { Follows self.old env.now.table.now }
-        requires coins { B.coins base.now ≡ coins_of self.old }
-        ensures prepared { IfOk result (λ prepared.
-            IsPreparation (regtest self.old.params env.now.table.now) self.old
-            (command_of command.now) self.new prepared) }
-        ensures err { OnErr result (self.new ≡ self.old) }
-    {
-        match self.prepare_by(alloc, base, command, env, gate) {
-            Ok(prepared) => Ok(prepared),
-            Err(Undecided::Memory) => Err(Memory),
-            // Of a table all is known.
-            Err(Undecided::Unknown(_)) => unreachable!(),
-        }
-    }
-
-    /// The same by what is known of signatures, or else those that have to be found out first.
-    pub(crate) fn prepare_by<B: Base, S: RunsScripts>(
+    pub(crate) fn prepare<B: Base, S: RunsScripts>(
         &mut self,
         alloc: Global,
         base: &B,
         command: &PreparedCommand,
         env: &S,
         gate: &(dyn Gate + Sync),
-    ) -> Result<Prepared, Undecided>
+    ) -> Result<Prepared, S::Stop>
         requires follows { Under (S.known env.now) (λ triples. Follows self.old triples) }
         requires coins { B.coins base.now ≡ coins_of self.old }
         ensures prepared { IfOk result (λ prepared.
             Under (S.known env.now) (λ triples. IsPreparation (regtest self.old.params triples) self.old
             (command_of command.now) self.new prepared)) }
         ensures err { OnErr result (self.new ≡ self.old) }
-        ensures wants { IfErr result (IsUndecided (IsWantedByABlock (S.known env.now))) }
+        ensures wants { IfErr result (λ stop. AreWanted
+            (IsWantedByStep self.old (command_of command.now) (S.known env.now)) (S.told stop)) }
     {
         match command {
             PreparedCommand::Submit(submission, now) => match submission.block() {
@@ -119,7 +105,7 @@ impl Core {
         now: u64,
         env: &S,
         gate: &(dyn Gate + Sync),
-    ) -> Result<Prepared, Undecided>
+    ) -> Result<Prepared, S::Stop>
         requires follows { Under (S.known env.now) (λ triples. Follows self.old triples) }
         requires submission { IsSubmission bytes.now (Some submitted.now) }
         requires coins { B.coins base.now ≡ coins_of self.old }
@@ -129,7 +115,9 @@ impl Core {
             self.old.state (Submit now submitted.now.block))
             self.new prepared)) }
         ensures err { OnErr result (self.new ≡ self.old) }
-        ensures wants { IfErr result (IsUndecided (IsWantedByABlock (S.known env.now))) }
+        ensures wants { IfErr result (λ stop. AreWanted
+            (IsWantedBy self.old (Submit now submitted.now.block) (S.known env.now))
+            (S.told stop)) }
     {
         if let Some(place) = self.tree.find(&submitted.id) {
             return Ok(still(alloc, Reply::Submit(self.known(place))));
@@ -169,7 +157,7 @@ impl Core {
         submitted: &SubmittedBlock,
         env: &S,
         gate: &(dyn Gate + Sync),
-    ) -> Result<Prepared, Undecided>
+    ) -> Result<Prepared, S::Stop>
         requires follows { Under (S.known env.now) (λ triples. Follows self.old triples) }
         requires new { (now : ℕ) × Under (S.known env.now) (λ triples.
             IsNew (regtest self.old.params triples) self.old.state now
@@ -185,7 +173,9 @@ impl Core {
             self.old.state (Submit now submitted.now.block))
             self.new prepared)) }
         ensures err { OnErr result (self.new ≡ self.old) }
-        ensures wants { IfErr result (IsUndecided (IsWantedByABlock (S.known env.now))) }
+        ensures wants { let c = self.old in IfErr result (λ stop. AreWanted
+            (IsWantedIn (record c { state = with_block c.state submitted.now.block c.active })
+            (S.known env.now)) (S.told stop)) }
     {
         let height = self.tree.height(self.active);
         let context = Context {
@@ -197,8 +187,8 @@ impl Core {
         let block = &submitted.block;
         let ids = submitted.ids.as_slice();
         let connected = connect_tip(alloc, base, &context, block, ids, env, gate)?;
-        let mut up = Vec::with_capacity(alloc, 1)?;
-        let mut undo = Vec::with_capacity(alloc, 1)?;
+        let mut up = room(alloc)?;
+        let mut undo = room(alloc)?;
         let fork = self.active;
         let place = self.add(bytes, submitted, fork)?;
         let rollback = Rollback {
@@ -236,7 +226,7 @@ impl Core {
         parent: usize,
         env: &S,
         gate: &(dyn Gate + Sync),
-    ) -> Result<Prepared, Undecided>
+    ) -> Result<Prepared, S::Stop>
         requires follows { Under (S.known env.now) (λ triples. Follows self.old triples) }
         requires new { (now : ℕ) × Under (S.known env.now) (λ triples.
             IsNew (regtest self.old.params triples) self.old.state now
@@ -252,7 +242,9 @@ impl Core {
             self.old.state (Submit now submitted.now.block))
             self.new prepared)) }
         ensures err { OnErr result (self.new ≡ self.old) }
-        ensures wants { IfErr result (IsUndecided (IsWantedByABlock (S.known env.now))) }
+        ensures wants { let c = self.old in IfErr result (λ stop. AreWanted
+            (IsWantedIn (record c { state = with_block c.state submitted.now.block parent })
+            (S.known env.now)) (S.told stop)) }
     {
         let place = self.add(bytes, submitted, parent)?;
         if !self.tree.better(place, self.active) {

@@ -10,11 +10,12 @@ ghost use Rattle.chain.specs.Settle.{settle};
 ghost use Rattle.chain.specs.Try.{state_after_try};
 ghost use Rattle.chain.specs.Submission.{answer_added};
 ghost use Rattle.chain.specs.Regtest.{regtest};
-ghost use Rattle.activate.specs.CoreState.{IsWantedByABlock, coins_of};
-ghost use Rattle.activate.specs.inside.Paths.{FailsAt, IsAttempt};
+ghost use Rattle.activate.specs.CoreState.{coins_of};
+ghost use Rattle.activate.specs.Wants.{IsWantedIn};
+ghost use Rattle.connect.specs.Stops.{AreWanted};
+ghost use Rattle.activate.specs.inside.Paths.{FailsAt, IsAttempt, IsWantedOnWay};
 ghost use Rattle.activate.specs.inside.Preparation.{CanFlag, CanTry, HasOtherFlags, TryLeads, Settles, reply_to_failed_try};
 ghost use Rattle.curve.specs.Known.{Under};
-ghost use Rattle.queue.specs.Jobs.{IsUndecided};
 
 use crate::branch_try::{ActiveBranch, try_branch};
 use crate::core_state::Core;
@@ -24,7 +25,7 @@ use crate::try_flags::flag_failed_try;
 use chain::SubmitReply;
 use coins::{Base, Changes};
 use connect::RunsScripts;
-use queue::{Gate, Undecided};
+use queue::Gate;
 use std::alloc::Global;
 use tree::Flags;
 
@@ -48,7 +49,7 @@ impl Core {
         place: usize,
         env: &S,
         gate: &(dyn Gate + Sync),
-    ) -> Result<Settled, Undecided>
+    ) -> Result<Settled, S::Stop>
         requires can { Under (S.known env.now) (λ triples. CanTry (regtest self.old.params triples) self.old) }
         requires best { let s = self.old.state in
             IsBest s (has_no_mark s) (length s.blocks) place }
@@ -62,7 +63,8 @@ impl Core {
             (settle (regtest self.old.params triples) self.old.state)
             place)) }
         ensures err { OnErr result (self.new ≡ self.old) }
-        ensures wants { IfErr result (IsUndecided (IsWantedByABlock (S.known env.now))) }
+        ensures wants { IfErr result (λ stop. AreWanted
+            (IsWantedIn self.old (S.known env.now)) (S.told stop)) }
     {
         match self.try_block(alloc, base, place, env, gate)? {
             Attempt::Succeeds(found) => Ok(Settled {
@@ -84,7 +86,7 @@ impl Core {
         failed: FailedTry,
         env: &S,
         gate: &(dyn Gate + Sync),
-    ) -> Result<Settled, Undecided>
+    ) -> Result<Settled, S::Stop>
         requires can { Under (S.known env.now) (λ triples. CanTry (regtest self.old.params triples) self.old) }
         requires best { let s = self.old.state in
             IsBest s (has_no_mark s) (length s.blocks) place }
@@ -101,7 +103,8 @@ impl Core {
             (settle (regtest self.old.params triples) self.old.state)
             place)) }
         ensures err { OnErr result (self.new ≡ self.old) }
-        ensures wants { IfErr result (IsUndecided (IsWantedByABlock (S.known env.now))) }
+        ensures wants { IfErr result (λ stop. AreWanted
+            (IsWantedIn self.old (S.known env.now)) (S.told stop)) }
     {
         let flags = self.tree.flags(alloc)?;
         self.flag(&failed);
@@ -127,14 +130,15 @@ impl Core {
         base: &B,
         env: &S,
         gate: &(dyn Gate + Sync),
-    ) -> Result<(usize, Reorganisation), Undecided>
+    ) -> Result<(usize, Reorganisation), S::Stop>
         requires can { Under (S.known env.now) (λ triples. CanTry (regtest self.old.params triples) self.old) }
         requires coins { B.coins base.now ≡ coins_of self.old }
         ensures leads { IfOk result (λ found.
             Under (S.known env.now) (λ triples. TryLeads (regtest self.old.params triples) self.old self.new
             found.0 found.1)) }
         ensures flags { HasOtherFlags self.old self.new }
-        ensures wants { IfErr result (IsUndecided (IsWantedByABlock (S.known env.now))) }
+        ensures wants { IfErr result (λ stop. AreWanted
+            (IsWantedIn self.old (S.known env.now)) (S.told stop)) }
     {
         'tries: loop {
             let place = self.tree.best_usable();
@@ -162,14 +166,16 @@ impl Core {
         place: usize,
         env: &S,
         gate: &(dyn Gate + Sync),
-    ) -> Result<Attempt, Undecided>
+    ) -> Result<Attempt, S::Stop>
         requires can { Under (S.known env.now) (λ triples. CanTry (regtest self.now.params triples) self.now) }
         requires place { place ≤ length self.now.state.blocks }
         requires coins { B.coins base.now ≡ coins_of self.now }
         ensures attempt { IfOk result (λ attempt.
             Under (S.known env.now) (λ triples. IsAttempt (regtest self.now.params triples) self.now.state.blocks
             self.now.active place attempt)) }
-        ensures wants { IfErr result (IsUndecided (IsWantedByABlock (S.known env.now))) }
+        ensures wants { IfErr result (λ stop. AreWanted
+            (IsWantedOnWay self.now.params self.now.state.blocks self.now.active place
+            (S.known env.now)) (S.told stop)) }
     {
         let active_branch = ActiveBranch {
             tree: &self.tree,

@@ -4,7 +4,7 @@ use Rattle.std.specs.List.{zip}
 use Rattle.txn.specs.declared.tx.Tx.{Tx}
 use Rattle.coins.specs.declared.coin.Coin.{Coin}
 use Rattle.interp.specs.declared.flags.Flags.{Flags}
-use Rattle.queue.specs.Jobs.{question_of}
+use Rattle.interp.specs.Question.{question_of}
 use Rattle.connect.specs.declared.scripts.Checks.{Checks}
 use Rattle.connect.specs.Scripts.{Check, input_checks}
 

@@ -14,11 +14,11 @@ use Rattle.tree.specs.Branches.{Blocks, parent_at, height}
 use Rattle.tree.specs.laws.Parents.{height-parent}
 use Rattle.chain.specs.Regtest.{medians_of, regtest}
 use Rattle.activate.specs.CoreState.{branch_blocks}
-use Rattle.activate.specs.laws.Climbing.{length-parent, setting_under, fault-next, undo-next, coins-next, medians-next}
+use Rattle.activate.specs.laws.Climbing.{length-parent, setting-next, setting_under, fault-next, undo-next, coins-next, medians-next}
 use Rattle.chain.specs.laws.Kept.{alone-at}
 use Rattle.chain.specs.laws.Medians.{length-medians}
 use Rattle.std.proofs.lemmas.Result.{err_from_is_err_and}
-use Rattle.activate.proofs.Wanted.{wanted_by_it}
+use Rattle.activate.proofs.Wanted.{wanted_at}
 use Rattle.activate.proofs.ascent.connect_next.Goals as goal
 
 -- there is a median below
@@ -46,8 +46,8 @@ bounds-below-below g c =
     let s = some t p c.as_slice-below.result.now (length-parent c.args.params.now triples t p c.requires.above c.requires.place) (omega arith) (c.as_slice-below.ensures.value ∙ c.requires.medians) in
     omega arith
 
-pub connect_in_layer_by-requires-clause-alone : goal.connect_in_layer_by-requires-clause-alone
-connect_in_layer_by-requires-clause-alone g c =
+pub connect_in_layer-requires-clause-alone : goal.connect_in_layer-requires-clause-alone
+connect_in_layer-requires-clause-alone g c =
     let triples = g.S.RunsScripts.agreeing c.args.env.now in
     let agrees = g.met.S.RunsScripts.agrees c.args.env.now in
     ap (λ (b : Block). first_broken (alone_rules b)) (c.in_ok-block.ensures ∙ c.block.ensures)
@@ -87,7 +87,7 @@ pub returns-in-Ok-clause-medians : goal.returns-in-Ok-clause-medians
 returns-in-Ok-clause-medians g c =
     let params = c.args.params.now in
     let t = c.args.tree.now.blocks in
-    c.in_ok-push-in-Ok.ensures.items
+    c.in_ok-append-in-Ok.ensures
     ∙ ap (λ (l : List ℕ). l ++ c.median.result ∷ []) c.requires.medians
     ∙ ap (λ (x : ℕ). reverse (medians_of (branch_blocks t (parent_at t c.args.place))) ++ x ∷ []) c.median.ensures
     ∙ sym (medians-next t c.args.place c.requires.above c.requires.place)
@@ -112,5 +112,14 @@ returns-in-Ok-clause-base g c =
 
 pub returns-in_err-done-clause-wants : goal.returns-in_err-done-clause-wants
 returns-in_err-done-clause-wants g c =
+    let triples = g.S.RunsScripts.agreeing c.args.env.now in
+    let params = c.args.params.now in
+    let t = c.args.tree.now.blocks in
+    let p = c.args.place in
+    let blocks = branch_blocks t (parent_at t p) in
+    let medians = c.as_slice-below.ensures.value ∙ c.requires.medians in
+    let long = length-parent params triples t p c.requires.above c.requires.place in
+    let up = height-parent t p c.requires.above c.requires.place in
+    let place = setting-next params blocks c.height_of.result c.as_slice-below.result.now (c.height_of.ensures ∙ sym long) (omega arith) medians in
     let passed = err_from_is_err_and c.from_residual-in_err-done.result c.from_residual-in_err-done.ensures.1 in
-    rw (passed.1, passed.2) (wanted_by_it _ _ _ _ _ c.in_err-done.ensures.stops)
+    rw (passed.1, passed.2) (wanted_at params (g.S.RunsScripts.known c.args.env.now) t p _ _ _ place c.requires.coins (ap (λ (b : Block). b.txs) (c.in_ok-block.ensures ∙ c.block.ensures)) _ c.in_err-done.ensures.stops)

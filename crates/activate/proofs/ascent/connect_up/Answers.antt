@@ -9,6 +9,8 @@ use Rattle.activate.specs.CoreState.{branch_blocks, coins_after}
 use Rattle.activate.specs.inside.Keeping.{undo_at}
 use Rattle.activate.specs.inside.Ascents.{top_of, LeadsUp}
 use Rattle.activate.specs.laws.Climbing.{is-next, rest-next, parts-back, counted-back, valid-next, first-next}
+use Rattle.std.proofs.lemmas.Result.{err_from_is_err_and}
+use Rattle.activate.proofs.Wanted.{wanted_above}
 use Rattle.activate.proofs.ascent.connect_up.Goals as goal
 
 pub connect_next-requires-clause-above : goal.connect_next-requires-clause-above
@@ -84,7 +86,7 @@ loop-passed-preserved g c =
     let base = subst (λ a. IfOk a (λ (d : Layer × List (List Coin)). d.0.base ≡ c.loop-passed.layer.base)) c.in-Ok.is c.in_ok-left.ensures.base in
     let medians = subst (λ a. OnOk a (c.connect_next.new.medians.items ≡ reverse (medians_of (branch_blocks t x)))) c.in-Ok.is c.in_ok-left.ensures.medians in
     record {
-      spent = c.in_ok-push-in-Ok.ensures.items
+      spent = c.in_ok-append-in-Ok.ensures
           ∙ ap (λ (l : List (List (List Coin))). l ++ c.in-Ok.spent ∷ []) i.spent
           ∙ ap (λ (u : List (List Coin)). reverse (map (undo_at t) (drop (length up - passed) up)) ++ u ∷ []) spent
           ∙ sym (reverse-append (undo_at t x ∷ []) (map (undo_at t) (drop (length up - passed) up)))
@@ -95,3 +97,17 @@ loop-passed-preserved g c =
       medians = medians ∙ ap (λ (p : ℕ). reverse (medians_of (branch_blocks t p))) (sym top);
       base = base ∙ i.base;
     }
+
+pub returns-in_err-left-clause-wants : goal.returns-in_err-left-clause-wants
+returns-in_err-left-clause-wants g c =
+    let known = g.S.RunsScripts.known c.args.env.now in
+    let t = c.args.tree.now.blocks in
+    let f = c.args.path.now.fork in
+    let up = c.as_slice-up.result.now in
+    let passed = c.loop-passed.passed in
+    let x = get_or up (length up - 1 - passed) 0 in
+    let w = subst (LeadsUp t f) (sym c.as_slice-up.ensures.value) c.requires.path in
+    let n = is-next t f up w passed c.loop-passed-test.true x refl in
+    let there = ap (λ (l : List ℕ). Rattle.tree.specs.Branches.on t (top_of f l) x) (sym c.as_slice-up.ensures.value) ∙ n.there in
+    let told = err_from_is_err_and c.from_residual.result c.from_residual.ensures.1 in
+    rw (told.1, told.2) (wanted_above c.args.params.now known t f (top_of f c.args.path.now.up.items) x n.above_fork there _ c.in_err-left.ensures.wants)

@@ -1,5 +1,4 @@
 use Rattle.std.proofs.Common.{◌≡◌, ℕ, ◌+◌, ◌≤◌, List, length, reverse, take, Result, Ok, Err, IfOk, IfErr, sym, ap, ◌∙◌, subst, arith}
-use Rattle.std.proofs.lemmas.List.{length-take-le}
 use Rattle.block.specs.declared.block.Block.{Block}
 use Rattle.tree.specs.Branches.{Blocks, branch, on}
 use Rattle.tree.specs.laws.Above.{above}
@@ -13,6 +12,8 @@ use Rattle.activate.specs.CoreState.{branch_blocks, coins_after}
 use Rattle.activate.specs.inside.Paths.{IsPath, IsStop}
 use Rattle.activate.specs.inside.Ascents.{top_of, LeadsUp, IsTop}
 use Rattle.activate.specs.laws.Climbing.{top-above, height-below, length-branch, length-medians_at, medians-shared, were-connected}
+use Rattle.std.proofs.lemmas.Result.{err_from_is_err_and}
+use Rattle.activate.proofs.Wanted.{wanted_on-way}
 use Rattle.activate.proofs.branch_try.try_branch.Goals as goal
 
 -- a path leads to its block, from a block of the active branch
@@ -64,14 +65,10 @@ disconnect_to_fork-requires-clause-connected g c =
     were-connected c.args.active_branch.now.params.now triples c.args.active_branch.now.tree.now.blocks c.args.active_branch.now.active
     c.requires.active (c.requires.kept triples agrees) (c.requires.good triples agrees)
 
-pub overflow_add-path : goal.overflow_add-path
-overflow_add-path g c = let few = c.in_ok-path.ensures.few in omega arith
-
-pub slice_bounds-from_slice-end : goal.slice_bounds-from_slice-end
-slice_bounds-from_slice-end g c =
-    sym (length-take-le (c.in_ok-path.path.height + 1) c.args.active_branch.now.medians.now
-    (enough c.args.active_branch.now.tree.now.blocks c.args.active_branch.now.active c.args.place c.in_ok-path.path c.in_ok-path.ensures.path c.requires.active
-    c.args.active_branch.now.medians.now c.requires.branch.medians_are))
+pub medians_up_to-requires : goal.medians_up_to-requires
+medians_up_to-requires g c =
+    let far = enough c.args.active_branch.now.tree.now.blocks c.args.active_branch.now.active c.args.place c.in_ok-path.path c.in_ok-path.ensures.path c.requires.active c.args.active_branch.now.medians.now c.requires.branch.medians_are in
+    omega (arith, far)
 
 pub connect_up-requires-clause-path : goal.connect_up-requires-clause-path
 connect_up-requires-clause-path g c =
@@ -84,7 +81,7 @@ connect_up-requires-clause-good g c triples agrees =
 
 pub connect_up-requires-clause-medians : goal.connect_up-requires-clause-medians
 connect_up-requires-clause-medians g c =
-    c.in_ok-shared.ensures.items
+    c.in_ok-shared.ensures
     ∙ ap (take (c.in_ok-path.path.height + 1)) c.requires.branch.medians_are
     ∙ shared c.args.active_branch.now.tree.now.blocks c.args.active_branch.now.active c.args.place c.in_ok-path.path c.in_ok-path.ensures.path c.requires.active
 
@@ -120,3 +117,12 @@ returns-in-Err-clause-attempt g c triples agrees =
       path = w;
       stop = subst (λ (q : ℕ). IsStop r t q path.up.items c.in-Err.stop.passed c.in-Err.stop.reason) (leads t c.args.active_branch.now.active c.args.place path w c.requires.place) stop;
     }
+
+pub returns-in_err-ascent-clause-wants : goal.returns-in_err-ascent-clause-wants
+returns-in_err-ascent-clause-wants g c =
+    let b = c.args.active_branch.now in
+    let t = b.tree.now.blocks in
+    let path = c.in_ok-path.path in
+    let w = c.in_ok-path.ensures.path in
+    let passed = err_from_is_err_and c.from_residual-in_err-ascent.result c.from_residual-in_err-ascent.ensures.1 in
+    rw (passed.1, passed.2) (wanted_on-way b.params.now (g.S.RunsScripts.known c.args.env.now) t b.active c.args.place path.fork (top_of path.fork path.up.items) (leads t b.active c.args.place path w c.requires.place) w.shared _ c.in_err-ascent.ensures.wants)

@@ -3,10 +3,10 @@ use Rattle.std.specs.Result.{result_err}
 use Rattle.txn.specs.declared.reason.Reason.{Reason}
 use Rattle.coins.specs.Coins.{Coins}
 use Rattle.connect.specs.Setting.{setting}
-use Rattle.connect.specs.Scripts.{IsConnectFault}
+use Rattle.connect.specs.Scripts.{IsConnectFault, IsWantedByBlock}
 use Rattle.connect.specs.laws.Scripts.{fault-found}
 use Rattle.std.proofs.lemmas.Result.{err_from_is_err_and}
-use Rattle.activate.proofs.Wanted.{wanted_by_it}
+use Rattle.connect.specs.laws.Stops.{wanted_weaker}
 use Rattle.activate.proofs.tip_connection.connect_tip.Goals as goal
 
 pub returns-in-Err-clause-fault : goal.returns-in-Err-clause-fault
@@ -28,4 +28,8 @@ returns-in-Ok-clause-fault g c triples agrees =
 pub returns-in_err-reason-clause-wants : goal.returns-in_err-reason-clause-wants
 returns-in_err-reason-clause-wants g c =
     let passed = err_from_is_err_and c.from_residual.result c.from_residual.ensures.1 in
-    rw (passed.1, passed.2) (wanted_by_it _ _ _ _ _ c.in_err-reason.ensures.stops)
+    let s = setting c.args.context.now in
+    let txs = c.args.block.now.txs in
+    let known = g.S.RunsScripts.known c.args.env.now in
+    rw (passed.1, passed.2) (wanted_weaker (IsWantedByBlock s c.over-layer.result.coins txs known) (IsWantedByBlock s (g.B.Base.coins c.args.base.now) txs known)
+    (λ triple w. subst (λ (m : Coins). IsWantedByBlock s m txs known triple) c.over-layer.ensures.coins w) _ c.in_err-reason.ensures.stops)

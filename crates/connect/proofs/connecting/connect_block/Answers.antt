@@ -1,20 +1,19 @@
 use Rattle.std.proofs.Common.{◌≡◌, ◌≤◌, ◌-◌, List, length, take, drop, Option, Some, None, sym, ap, subst, ◌∙◌, arith}
-use Rattle.std.specs.List.{AllByRecursion, Any}
+use Rattle.std.specs.List.{AllByRecursion}
 use Rattle.std.proofs.lemmas.Result.{err_from_is_err_and}
 use Rattle.txn.specs.declared.tx.Tx.{Tx}
 use Rattle.txn.specs.declared.reason.Reason.{Reason}
 use Rattle.txn.specs.First.{first_broken}
 use Rattle.block.specs.declared.block.Block.{Block}
 use Rattle.curve.specs.Triple.{Triple, Triples}
-use Rattle.queue.specs.Jobs.{IsWanted}
-use Rattle.queue.specs.laws.Undecided.{undecided_weaker}
+use Rattle.connect.specs.laws.Stops.{wanted_weaker}
 use Rattle.coins.specs.declared.coin.Coin.{Coin}
 use Rattle.coins.specs.Coins.{Coins}
 use Rattle.rules.specs.declared.in_force.InForce.{InForce}
 use Rattle.connect.specs.Setting.{Setting, setting}
 use Rattle.connect.specs.Turns.{undo_of}
 use Rattle.connect.specs.Faults.{connect_rules}
-use Rattle.connect.specs.Scripts.{Check, flags_of, IsConnectFault, IsFirstRefused, IsWantedByBlock}
+use Rattle.connect.specs.Scripts.{Check, flags_of, IsConnectFault, IsFirstRefused, IsWantedAmong, IsWantedByBlock}
 use Rattle.connect.specs.inside.Listing.{checks_from}
 use Rattle.connect.specs.inside.Turns.{IsLawful}
 use Rattle.connect.specs.laws.Alone.{lawful_block}
@@ -88,8 +87,8 @@ returns-in_err-reason-in-Ok-clause-stops g c =
     let l = listed s m c.args.block.now _ c.in-Ok.undo (lawful_block c.args.block.now c.requires.alone) c.as_slice-in-Ok.ensures undo in
     let passed = err_from_is_err_and c.from_residual.result c.from_residual.ensures.1 in
     let known = g.S.RunsScripts.known c.args.env.now in
-    let wants : (t : Triple) → Any (λ check. IsWanted known check.1 t) (checks_from (flags_of c.at-rules.result) 1 (take (length c.as_slice-in-Ok.result.now - 1) (drop 1 c.as_slice-in-Ok.result.now)) c.in-Ok.undo) → IsWantedByBlock s m c.args.block.now.txs known t = λ t wanted. record {
+    let wants : (t : Triple) → IsWantedAmong known (checks_from (flags_of c.at-rules.result) 1 (take (length c.as_slice-in-Ok.result.now - 1) (drop 1 c.as_slice-in-Ok.result.now)) c.in-Ok.undo) t → IsWantedByBlock s m c.args.block.now.txs known t = λ t wanted. record {
       passes = ap (λ (l : List Tx). first_broken (connect_rules s m l)) (sym c.as_slice.ensures) ∙ c.in-Ok.ensures.pass.none;
-      script = subst (λ (k : List Check). Any (λ check. IsWanted known check.1 t) k) (l.checks _ c.at-rules.ensures) wanted;
+      script = subst (λ (k : List Check). IsWantedAmong known k t) (l.checks _ c.at-rules.ensures) wanted;
     } in
-    rw (passed.1, passed.2) (undecided_weaker _ _ wants _ c.in_err-reason-in-Ok.ensures.stops)
+    rw (passed.1, passed.2) (wanted_weaker _ _ wants _ c.in_err-reason-in-Ok.ensures.stops)

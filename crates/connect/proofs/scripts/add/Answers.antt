@@ -1,6 +1,6 @@
 use Rattle.std.proofs.Common.{rules, ◌≡◌, ◌+◌, ◌++◌, ◌∷◌, [], List, length, take, sym, ap, ap₂, ◌∙◌, arith}
 use Rattle.std.proofs.lemmas.List.{append_assoc, length_push, length-take-le}
-use Rattle.queue.specs.Jobs.{question}
+use Rattle.interp.specs.Question.{question}
 use Rattle.connect.specs.Scripts.{Check, input_checks}
 use Rattle.connect.specs.inside.Listing.{checks_in}
 use Rattle.connect.proofs.Steps.{take_item}

@@ -1,16 +1,20 @@
 use Rattle.std.proofs.Common.{◌≡◌, ℕ, List, length, map, Option, Some, None, ap, ap₂, subst, ◌∙◌, arith}
-use Rattle.std.specs.List.{zip, Any}
+use Rattle.std.specs.List.{zip}
+use Rattle.std.specs.Prelude.{IfSome}
 use Rattle.std.proofs.lemmas.Result.{err_from_is_err_and}
 use Rattle.txn.specs.declared.reason.Reason.TheVariants.{ScriptRefused}
 use Rattle.curve.specs.Known.{Agrees}
-use Rattle.curve.specs.Triple.{Triple}
 use Rattle.interp.specs.declared.flags.Flags.{Flags}
 use Rattle.interp.specs.declared.job.Job.{Job}
-use Rattle.queue.specs.Jobs.{question_of, IsFirstFailure, IsWanted, IsWantedIn}
-use Rattle.queue.specs.laws.Undecided.{undecided_weaker}
-use Rattle.connect.specs.Scripts.{Check, flags_of, IsFirstRefused}
+use Rattle.interp.specs.Question.{question_of}
+use Rattle.queue.specs.laws.Failing.{IsFirstFailure}
+use Rattle.queue.specs.Jobs.{verdict_at}
+use Rattle.queue.specs.Telling.{AreTheWants}
+use Rattle.queue.specs.laws.Failing.{first-under}
+use Rattle.connect.specs.Stops.{AreWanted}
+use Rattle.connect.specs.Scripts.{Check, flags_of, IsFirstRefused, IsWantedAmong}
 use Rattle.connect.specs.inside.Listing.{checks_from, checks_in}
-use Rattle.connect.proofs.Checks.{none_refused, first_refused_is, below_of, wanted_check}
+use Rattle.connect.proofs.Checks.{none_refused, first_refused_is, below_of, told_wanted}
 use Rattle.connect.proofs.Numbers.{numbered}
 use Rattle.connect.proofs.scripts.first_refused.Goals as goal
 
@@ -25,7 +29,7 @@ returns-in_default-clause-answer g c triples agrees =
     let checks = c.in_ok-checks.checks in
     let all : checks_in checks ≡ checks_from (flags_of c.args.rules) 1 c.args.txs.now c.args.undo.now = c.in_ok-checks.ensures.checks_from ∙ ap (λ (f : Flags). checks_from f 1 c.args.txs.now c.args.undo.now) c.flags_of.ensures in
     let none : IsFirstFailure triples checks.jobs.items None =
-    subst (λ (l : List Job). IsFirstFailure triples l None) c.deref-2.ensures.value (subst (λ (o : Option ℕ). IsFirstFailure triples c.deref-2.result.now o) c.in_default.is (c.in_ok-found.ensures.answer triples agrees)) in
+    subst (λ (l : List Job). IsFirstFailure triples l None) c.deref-2.ensures.value (subst (λ (o : Option ℕ). IsFirstFailure triples c.deref-2.result.now o) c.in_default.is (first-under (g.S.RunsScripts.known c.args.env.now) c.deref-2.result.now _ c.in_ok-found.ensures triples agrees)) in
     subst (λ (l : List Check). IsFirstRefused triples l None) all (none_refused triples checks.places.items checks.jobs.items none)
 
 pub index-requires : goal.index-requires
@@ -34,7 +38,7 @@ index-requires g c =
     let triples = g.S.RunsScripts.agreeing c.args.env.now in
     let agrees : Agrees (g.S.RunsScripts.known c.args.env.now) triples = g.met.S.RunsScripts.agrees c.args.env.now in
     let first : IsFirstFailure triples checks.jobs.items (Some c.in-Some.place) =
-    subst (λ (l : List Job). IsFirstFailure triples l (Some c.in-Some.place)) c.deref-2.ensures.value (subst (λ (o : Option ℕ). IsFirstFailure triples c.deref-2.result.now o) c.in-Some.is (c.in_ok-found.ensures.answer triples agrees)) in
+    subst (λ (l : List Job). IsFirstFailure triples l (Some c.in-Some.place)) c.deref-2.ensures.value (subst (λ (o : Option ℕ). IsFirstFailure triples c.deref-2.result.now o) c.in-Some.is (first-under (g.S.RunsScripts.known c.args.env.now) c.deref-2.result.now _ c.in_ok-found.ensures triples agrees)) in
     let below = below_of checks.jobs.items c.in-Some.place first.0.0 first.0.1 in
     omega (arith, c.in_ok-checks.ensures.even)
 
@@ -44,7 +48,7 @@ index-requires-2 g c =
     let triples = g.S.RunsScripts.agreeing c.args.env.now in
     let agrees : Agrees (g.S.RunsScripts.known c.args.env.now) triples = g.met.S.RunsScripts.agrees c.args.env.now in
     let first : IsFirstFailure triples checks.jobs.items (Some c.in-Some.place) =
-    subst (λ (l : List Job). IsFirstFailure triples l (Some c.in-Some.place)) c.deref-2.ensures.value (subst (λ (o : Option ℕ). IsFirstFailure triples c.deref-2.result.now o) c.in-Some.is (c.in_ok-found.ensures.answer triples agrees)) in
+    subst (λ (l : List Job). IsFirstFailure triples l (Some c.in-Some.place)) c.deref-2.ensures.value (subst (λ (o : Option ℕ). IsFirstFailure triples c.deref-2.result.now o) c.in-Some.is (first-under (g.S.RunsScripts.known c.args.env.now) c.deref-2.result.now _ c.in_ok-found.ensures triples agrees)) in
     let below = below_of checks.jobs.items c.in-Some.place first.0.0 first.0.1 in
     omega arith
 
@@ -54,7 +58,7 @@ returns-clause-answer g c triples agrees =
     let place = c.in-Some.place in
     let all : checks_in checks ≡ checks_from (flags_of c.args.rules) 1 c.args.txs.now c.args.undo.now = c.in_ok-checks.ensures.checks_from ∙ ap (λ (f : Flags). checks_from f 1 c.args.txs.now c.args.undo.now) c.flags_of.ensures in
     let first : IsFirstFailure triples checks.jobs.items (Some place) =
-    subst (λ (l : List Job). IsFirstFailure triples l (Some place)) c.deref-2.ensures.value (subst (λ (o : Option ℕ). IsFirstFailure triples c.deref-2.result.now o) c.in-Some.is (c.in_ok-found.ensures.answer triples agrees)) in
+    subst (λ (l : List Job). IsFirstFailure triples l (Some place)) c.deref-2.ensures.value (subst (λ (o : Option ℕ). IsFirstFailure triples c.deref-2.result.now o) c.in-Some.is (first-under (g.S.RunsScripts.known c.args.env.now) c.deref-2.result.now _ c.in_ok-found.ensures triples agrees)) in
     let below = below_of checks.jobs.items place first.0.0 first.0.1 in
     let even : length checks.places.items ≡ length checks.jobs.items = c.in_ok-checks.ensures.even in
     subst (λ (l : List Check). IsFirstRefused triples l (Some (ScriptRefused c.index.result.now c.index-2.result.now.input))) all
@@ -66,7 +70,7 @@ returns-in_err-found-clause-stops g c =
     let checks = c.in_ok-checks.checks in
     let all : checks_in checks ≡ checks_from (flags_of c.args.rules) 1 c.args.txs.now c.args.undo.now = c.in_ok-checks.ensures.checks_from ∙ ap (λ (f : Flags). checks_from f 1 c.args.txs.now c.args.undo.now) c.flags_of.ensures in
     let passed = err_from_is_err_and c.from_residual-in_err-found.result c.from_residual-in_err-found.ensures.1 in
-    let known_so : (t : Triple) → IsWantedIn known c.deref-2.result.now t → Any (λ check. IsWanted known check.1 t) (checks_from (flags_of c.args.rules) 1 c.args.txs.now c.args.undo.now) = λ t wanted.
-    subst (λ (l : List Check). Any (λ check. IsWanted known check.1 t) l) all
-    (wanted_check known checks.places.items checks.jobs.items c.in_ok-checks.ensures.even t (subst (λ (l : List Job). IsWantedIn known l t) c.deref-2.ensures.value wanted)) in
-    rw (passed.1, passed.2) (undecided_weaker _ _ known_so _ c.in_err-found.ensures.stops)
+    let told = g.S.RunsScripts.told c.in_err-found.field-0.0 in
+    rw (passed.1, passed.2) (subst (λ (l : List Check). AreWanted (IsWantedAmong known l) told) all
+    (told_wanted known checks.places.items checks.jobs.items c.in_ok-checks.ensures.even told
+    (subst (λ (l : List Job). IfSome told (AreTheWants (length l) (verdict_at known l))) c.deref-2.ensures.value c.in_err-found.ensures)))

@@ -24,6 +24,8 @@ use Rattle.activate.specs.CoreState.{CoreState, Follows, coins_of}
 use Rattle.chain.specs.laws.Steps.{faultless-alone, faultless-parent, step-added, step-beside}
 use Rattle.activate.proofs.Plans.{can-follows}
 use Rattle.activate.proofs.Planned.{best-added, can-added, coins-added, fresh-back, plan-beside, plan-settled, says-added}
+use Rattle.connect.specs.Stops.{AreWanted}
+use Rattle.activate.specs.Wants.{IsWantedIn}
 use Rattle.activate.proofs.core_state.Core.prepare_beside.Goals as goal
 
 -- a new block on the block p, in a chainstate that follows its commands
@@ -156,3 +158,9 @@ add-requires-clause-new g c =
     let triples = g.S.RunsScripts.agreeing c.args.env.now in
     let agrees = g.met.S.RunsScripts.agrees c.args.env.now in
     ap (place_of names c.args.self.now.state.blocks) c.requires.submission.1.id ∙ (c.requires.new.1 triples agrees).unknown
+
+pub returns-in-Err-clause-wants : goal.returns-in-Err-clause-wants
+returns-in-Err-clause-wants g c =
+    let known = g.S.RunsScripts.known c.args.env.now in
+    let told = g.S.RunsScripts.told c.in-Err.stop in
+    subst (λ (x : CoreState). AreWanted (IsWantedIn x known) told) c.in_ok-place.ensures.ok c.in-Err.ensures.wants

@@ -1,4 +1,4 @@
-use Rattle.std.proofs.Common.{◌≡◌, ℕ, suc, ◌<◌, ◌≤◌, length, Option, Some, None, sym, ap, subst, ◌∙◌, arith}
+use Rattle.std.proofs.Common.{◌≡◌, ℕ, suc, ◌<◌, ◌≤◌, length, Option, Some, None, refl, sym, ap, subst, ◌∙◌, arith}
 use Rattle.std.specs.Result.{result_err}
 use Rattle.hash.specs.declared.id.Id.{Id}
 use Rattle.block.specs.declared.block.Block.{Block}
@@ -18,6 +18,9 @@ use Rattle.chain.specs.Regtest.{regtest}
 use Rattle.activate.specs.CoreState.{CoreState}
 use Rattle.chain.specs.laws.Steps.{step-known, step-full, step-faulty}
 use Rattle.activate.proofs.Planned.{plan-still}
+use Rattle.tree.specs.State.{with_block}
+use Rattle.activate.specs.Wants.{IsToSettle}
+use Rattle.activate.proofs.Wanted.{if_err, wanted_by}
 use Rattle.activate.proofs.core_state.Core.prepare_block.Goals as goal
 
 -- what was looked up inside, of a block's id, is so of the chainstate as it is seen
@@ -105,3 +108,20 @@ returns-in-Ok-2-clause-prepared g c =
     c.prepare_beside.ensures.prepared c.args.now
     (λ triples agrees. new_there c.self.view_is c.args.submitted.now.block c.requires.submission.1.id c.find.ensures c.in_default.is c.len.ensures.count (let t = c.if-len-ge-MAX_BLOCKS.false in omega arith)
     triples c.args.now c.in-Ok.parent (c.in-Ok.ensures.fault triples) c.in-Ok.ensures.parent)
+
+pub returns-in-Ok-clause-wants : goal.returns-in-Ok-clause-wants
+returns-in-Ok-clause-wants g c =
+    let a : CoreState = c.args.self.now in
+    let known = g.S.RunsScripts.known c.args.env.now in
+    let b = c.args.submitted.now.block in
+    let is : IsToSettle a known (Submit c.args.now b) (with_block a.state b a.active) = (a.active, λ triples agrees. new_on_tip c.self.view_is b c.requires.submission.1.id c.find.ensures c.in_default.is c.len.ensures.count (let t = c.if-len-ge-MAX_BLOCKS.false in omega arith) triples c.args.now c.in-Ok.parent (c.in-Ok.ensures.fault triples) c.in-Ok.ensures.parent c.if-parent-self.true, refl) in
+    if_err c.prepare_on_tip.result (λ stop are. wanted_by a (Submit c.args.now b) known (with_block a.state b a.active) is (g.S.RunsScripts.told stop) are) c.prepare_on_tip.ensures.wants
+
+pub returns-in-Ok-2-clause-wants : goal.returns-in-Ok-2-clause-wants
+returns-in-Ok-2-clause-wants g c =
+    let a : CoreState = c.args.self.now in
+    let known = g.S.RunsScripts.known c.args.env.now in
+    let b = c.args.submitted.now.block in
+    let p = c.in-Ok.parent in
+    let is : IsToSettle a known (Submit c.args.now b) (with_block a.state b p) = (p, λ triples agrees. new_there c.self.view_is b c.requires.submission.1.id c.find.ensures c.in_default.is c.len.ensures.count (let t = c.if-len-ge-MAX_BLOCKS.false in omega arith) triples c.args.now p (c.in-Ok.ensures.fault triples) c.in-Ok.ensures.parent, refl) in
+    if_err c.prepare_beside.result (λ stop are. wanted_by a (Submit c.args.now b) known (with_block a.state b p) is (g.S.RunsScripts.told stop) are) c.prepare_beside.ensures.wants

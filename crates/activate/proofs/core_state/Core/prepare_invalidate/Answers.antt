@@ -16,6 +16,7 @@ use Rattle.chain.specs.laws.Steps.{step-genesis, step_not-found}
 use Rattle.activate.proofs.Plans.{can-follows}
 use Rattle.activate.proofs.Planned.{can-marked, fit-before, flags-before, if_ok, plan-still}
 use Rattle.chain.specs.laws.Findings.{invalidate_done}
+use Rattle.activate.proofs.Wanted.{wanted_from}
 use Rattle.activate.proofs.core_state.Core.prepare_invalidate.Goals as goal
 
 pub returns-in-None-clause-prepared : goal.returns-in-None-clause-prepared
@@ -72,3 +73,12 @@ returns-clause-prepared g c =
     subst (λ t. IsPreparationFor r a t c.settle_marks.new.self prepared) says
     (subst (λ q. IsPreparationFor (regtest q triples) a (mark_says (settle (regtest q triples) m.state) Done) c.settle_marks.new.self prepared) (ap (λ (x : CoreState). x.params) c.mark.ensures) (x triples agrees)))
     (c.settle_marks.ensures.prepared a (flags-before a m c.in_ok-flags.flags kept rollback))
+
+pub returns-clause-wants : goal.returns-clause-wants
+returns-clause-wants g c =
+    let a : CoreState = c.args.self.now in
+    let p = c.in-Some.place in
+    let n = c.in-Some.place-test in
+    let z : 0 < p = omega arith in
+    let found : place_of names a.state.blocks c.args.id.now ≡ Some p = subst (λ (x : CoreState). place_of names x.state.blocks c.args.id.now ≡ Some p) c.self.view_is (sym c.find.ensures ∙ c.in-Some.is) in
+    wanted_from a c.mark.new.self (Invalidate c.args.id.now) (g.S.RunsScripts.known c.args.env.now) (with_mark a.state p) c.mark.ensures (p, found, z, refl) c.settle_marks.result g.S.RunsScripts.told c.settle_marks.ensures.wants

@@ -1,4 +1,4 @@
-use Rattle.std.proofs.Common.{◌≡◌, ℕ, ◌+◌, List, [], ◌∷◌, ◌++◌, length, Option, None, Some, Vec, Global, IfOk, sym, refl, ap, ◌∙◌, subst, arith}
+use Rattle.std.proofs.Common.{◌≡◌, ℕ, suc, ◌+◌, ◌≤◌, List, [], ◌∷◌, ◌++◌, length, Option, None, Some, Vec, Global, IfOk, sym, refl, ap, ◌∙◌, subst, arith}
 use Rattle.std.specs.Result.{result_err}
 use Rattle.txn.specs.declared.reason.Reason.{Reason}
 use Rattle.coins.specs.declared.coin.Coin.{Coin}
@@ -23,6 +23,12 @@ use Rattle.activate.specs.declared.path.BranchPath.{BranchPath}
 use Rattle.activate.proofs.Plans.{can-follows}
 use Rattle.chain.specs.laws.Steps.{faultless-alone}
 use Rattle.activate.proofs.Tips.{fault-tip, plan-fails, plan-moves, setting-tip}
+use Rattle.connect.specs.laws.Stops.{wanted_weaker}
+use Rattle.activate.specs.Wants.{IsWantedAt}
+use Rattle.chain.specs.laws.Ordinary.{best-tip}
+use Rattle.activate.proofs.Planned.{can-added}
+use Rattle.activate.proofs.Wanted.{wanted_new, wanted_tip}
+use Rattle.std.proofs.lemmas.Result.{err_from_is_err_and}
 use Rattle.activate.proofs.core_state.Core.prepare_on_tip.Goals as goal
 
 pub overflow_add-context : goal.overflow_add-context
@@ -105,8 +111,8 @@ returns-in-Ok-clause-prepared g c now was triples agrees =
     let changes : AreChanges (coins_of a) (effect (height a.state.blocks a.active + 1) (coins_of a) c.args.submitted.now.block.txs) connected.changes =
     subst (λ (m : Coins). AreChanges m (effect (height a.state.blocks a.active + 1) m c.args.submitted.now.block.txs) connected.changes) c.requires.coins
     (subst (λ (n : ℕ). AreChanges (g.B.Base.coins c.args.base.now) (effect n (g.B.Base.coins c.args.base.now) c.args.submitted.now.block.txs) connected.changes) tall listed) in
-    let one : path.up.items ≡ c.in_ok-place.place ∷ [] = c.push_reserved.ensures.items ∙ ap (λ (l : List ℕ). l ++ (c.in_ok-place.place ∷ [])) c.in_ok-up.ensures.items in
-    let two : undo.items ≡ connected.undo ∷ [] = c.push_reserved-in-Ok.ensures.items ∙ ap (λ (l : List (List (List Coin))). l ++ (connected.undo ∷ [])) c.in_ok-undo.ensures.items in
+    let one : path.up.items ≡ c.in_ok-place.place ∷ [] = c.push_reserved.ensures.items ∙ ap (λ (l : List ℕ). l ++ (c.in_ok-place.place ∷ [])) c.in_ok-up.ensures.empty in
+    let two : undo.items ≡ connected.undo ∷ [] = c.push_reserved-in-Ok.ensures.items ∙ ap (λ (l : List (List (List Coin))). l ++ (connected.undo ∷ [])) c.in_ok-undo.ensures.empty in
     subst (λ (x : CoreState). IsPreparationFor r a (step r a.state (Submit now c.args.submitted.now.block)) x (record { reply = reply.Submit Accepted; rollback = record { first = BlockAdded; flags = None }; rest = Activate c.in_ok-place.place path undo; changes = connected.changes })) (sym ok)
     (plan-moves a.params triples a (c.requires.follows triples agrees).sound (c.requires.follows triples agrees).active_is can c.args.submitted.now.block now is fresh good _ c.in_ok-place.place path undo connected.undo c.in_ok-place.ensures.place refl refl refl
     fork high one two taken changes refl)
@@ -122,3 +128,29 @@ add-requires-clause-new g c =
     let triples = g.S.RunsScripts.agreeing c.args.env.now in
     let agrees = g.met.S.RunsScripts.agrees c.args.env.now in
     ap (place_of names c.args.self.now.state.blocks) c.requires.submission.1.id ∙ (c.requires.new.1 triples agrees).unknown
+
+pub returns-in_err-connected-clause-wants : goal.returns-in_err-connected-clause-wants
+returns-in_err-connected-clause-wants g c =
+    let set = g.S.RunsScripts.agreeing c.args.env.now in
+    let agrees = g.met.S.RunsScripts.agrees c.args.env.now in
+    let known = g.S.RunsScripts.known c.args.env.now in
+    let a : CoreState = c.args.self.now in
+    let kept : a.active ≤ length a.state.blocks = (can-follows (regtest a.params set) a (c.requires.follows set agrees).sound (c.requires.follows set agrees).kept (c.requires.follows set agrees).active_is).kept in
+    let t = c.self.inside.tree.blocks in
+    let p = c.self.inside.active in
+    let b = c.args.submitted.now.block in
+    let place = setting-tip c.self.inside.params t p _ c.self.invariant.0 (ap (λ (n : ℕ). n + 1) c.height-height.ensures.value) c.median.ensures (c.as_slice.ensures.value ∙ c.self.invariant.1.medians_are) refl in
+    let coins = c.requires.coins ∙ sym (ap coins_of c.self.view_is) in
+    let passed = err_from_is_err_and c.from_residual.result c.from_residual.ensures.1 in
+    let n : ℕ = suc (length a.state.blocks) in
+    let m : ℕ = suc (length c.self.inside.tree.blocks) in
+    rw (passed.1, passed.2) (wanted_tip a known b kept (λ triples agrees.
+    let r = regtest a.params triples in
+    let follows = c.requires.follows triples agrees in
+    let is = c.requires.new.1 triples agrees in
+    let can = can-follows r a follows.sound follows.kept follows.active_is in
+    can-added r a follows.sound b a.active can (faultless-alone r a.state c.requires.new.0 b is.faultless) can.kept is.unknown is.parent)
+    (best-tip (regtest a.params set) a.state (c.requires.follows set agrees).sound b a.active (c.requires.follows set agrees).active_is) _
+    (wanted_weaker (IsWantedAt c.self.inside.params (with_block c.self.inside.tree b p).blocks known m) (IsWantedAt a.params (with_block a.state b a.active).blocks known n)
+    (λ triple w. subst (λ (x : CoreState). IsWantedAt x.params (with_block x.state b x.active).blocks known (suc (length x.state.blocks)) triple) c.self.view_is w) _
+    (wanted_new c.self.inside.params known c.self.inside.tree b p c.self.invariant.0 _ _ place coins _ c.in_err-connected.ensures.wants)))

@@ -18,6 +18,9 @@ use Rattle.chain.specs.laws.Steps.{step_not-found}
 use Rattle.activate.proofs.Plans.{can-follows}
 use Rattle.activate.proofs.Planned.{best-called, can-called, plan-settled, plan-still}
 use Rattle.chain.specs.laws.Findings.{prefer_done, prefer_lower}
+use Rattle.connect.specs.Stops.{AreWanted}
+use Rattle.activate.specs.Wants.{IsWantedIn}
+use Rattle.activate.proofs.Wanted.{wanted_by}
 use Rattle.activate.proofs.core_state.Core.prepare_precious.Goals as goal
 
 pub returns-in_default-clause-prepared : goal.returns-in_default-clause-prepared
@@ -100,3 +103,17 @@ returns-in-Ok-clause-prepared g c triples agrees =
     let can = can-called r a p (can-follows r a (c.requires.follows triples agrees).sound (c.requires.follows triples agrees).kept (c.requires.follows triples agrees).active_is) in
     plan-settled r a b c.settle.new.self s.flags s.rest s.changes settled can.genesis _ refl refl refl (step r a.state (Precious c.args.id.now)) CalledPrecious refl refl refl refl (omega arith)
     (prefer_done a.params triples a.state c.args.id.now p found b.state (settle r b.state) (subst (λ (q : ℕ). height a.state.blocks q ≤ height a.state.blocks p) (c.requires.follows triples agrees).active_is high) refl refl)
+
+pub returns-in-Err-clause-wants : goal.returns-in-Err-clause-wants
+returns-in-Err-clause-wants g c =
+    let a : CoreState = c.args.self.now in
+    let p = c.in-Some.place in
+    let found : place_of names a.state.blocks c.args.id.now ≡ Some p = subst (λ (x : CoreState). place_of names x.state.blocks c.args.id.now ≡ Some p) c.self.view_is (sym c.find.ensures ∙ c.in-Some.is) in
+    let one = c.height.ensures.value in
+    let two = c.height-2.ensures in
+    let less = c.if-height.false in
+    let inside : height c.self.inside.tree.blocks c.self.inside.active ≤ height c.self.inside.tree.blocks p = omega arith in
+    let high : height a.state.blocks a.active ≤ height a.state.blocks p = subst (λ (x : CoreState). height x.state.blocks x.active ≤ height x.state.blocks p) c.self.view_is inside in
+    let known = g.S.RunsScripts.known c.args.env.now in
+    let told = g.S.RunsScripts.told c.in-Err.stop in
+    wanted_by a (Precious c.args.id.now) known (with_call a.state p) (p, found, high, refl) told (subst (λ (x : CoreState). AreWanted (IsWantedIn x known) told) c.in_ok-call.ensures.ok c.in-Err.ensures.wants)

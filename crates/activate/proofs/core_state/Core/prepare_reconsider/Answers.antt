@@ -17,6 +17,7 @@ use Rattle.chain.specs.laws.Steps.{step_not-found}
 use Rattle.activate.proofs.Plans.{can-follows}
 use Rattle.activate.proofs.Planned.{can-cleared, fit-before, flags-before, if_ok, plan-still}
 use Rattle.chain.specs.laws.Findings.{reconsider_done}
+use Rattle.activate.proofs.Wanted.{wanted_from}
 use Rattle.activate.proofs.core_state.Core.prepare_reconsider.Goals as goal
 
 pub returns-in_default-clause-prepared : goal.returns-in_default-clause-prepared
@@ -86,3 +87,10 @@ returns-clause-err g c =
     on_err : {V E : Type 0} {P Q : Type 0} (o : Result V E) → (P → Q) → OnErr o P → OnErr o Q
     on_err (Ok x) f p = p
     on_err (Err e) f p = f p
+
+pub returns-clause-wants : goal.returns-clause-wants
+returns-clause-wants g c =
+    let a : CoreState = c.args.self.now in
+    let p = c.in-Some.place in
+    let found : place_of names a.state.blocks c.args.id.now ≡ Some p = subst (λ (x : CoreState). place_of names x.state.blocks c.args.id.now ≡ Some p) c.self.view_is (sym c.find.ensures ∙ c.in-Some.is) in
+    wanted_from a c.clear.new.self (Reconsider c.args.id.now) (g.S.RunsScripts.known c.args.env.now) (without_marks a.state p) c.in_ok-clear.ensures.ok (p, found, refl) c.settle_marks.result g.S.RunsScripts.told c.settle_marks.ensures.wants

@@ -5,6 +5,8 @@ use Rattle.chain.specs.Regtest.{regtest}
 use Rattle.activate.specs.CoreState.{CoreState}
 use Rattle.activate.specs.inside.Paths.{LeadsTo, IsAttempt}
 use Rattle.activate.proofs.Plans.{said-once, settles-once}
+use Rattle.std.proofs.lemmas.Result.{err_from_is_err_and}
+use Rattle.activate.proofs.Wanted.{wanted_best}
 use Rattle.activate.proofs.core_state.Core.settle.Goals as goal
 
 pub returns-in-Succeeds-clause-settled : goal.returns-in-Succeeds-clause-settled
@@ -26,3 +28,8 @@ pub settle_after-requires-clause-fails : goal.settle_after-requires-clause-fails
 settle_after-requires-clause-fails g c triples agrees =
     let a : CoreState = c.args.self.now in
     subst (λ (x : Attempt). IsAttempt (regtest a.params triples) a.state.blocks a.active c.args.place x) c.in-Fails.is (c.in_ok-found.ensures.attempt triples agrees)
+
+pub returns-in_err-found-clause-wants : goal.returns-in_err-found-clause-wants
+returns-in_err-found-clause-wants g c =
+    let passed = err_from_is_err_and c.from_residual.result c.from_residual.ensures.1 in
+    rw (passed.1, passed.2) (wanted_best c.args.self.now (g.S.RunsScripts.known c.args.env.now) c.args.place c.requires.can c.requires.best _ c.in_err-found.ensures.wants)

@@ -1,5 +1,7 @@
 use Rattle.std.proofs.Common.{◌≡◌, ℕ, suc, Some, length, refl, sym, ap, subst, ◌∙◌}
 use Rattle.hash.specs.declared.id.Id.{Id}
+use Rattle.curve.specs.Known.{Agrees}
+use Rattle.curve.specs.Triple.{Triples}
 use Rattle.rules.specs.declared.params.Params.{Params}
 use Rattle.tree.specs.Flags.{FlagsOf, flags_of}
 use Rattle.tree.specs.Sound.{IsBest}
@@ -11,9 +13,10 @@ use Rattle.chain.specs.Try.{state_after_try}
 use Rattle.activate.specs.declared.path.FailedTry.{FailedTry}
 use Rattle.activate.specs.declared.prepared.Completion.TheVariants.{Activate}
 use Rattle.activate.specs.inside.Paths.{FailsAt}
-use Rattle.activate.specs.inside.Preparation.{CanFlag, CanTry, HasOtherFlags, TryLeads, with_flags}
+use Rattle.activate.specs.inside.Preparation.{CanFlag, CanTry, HasOtherFlags, TriesLead, TryLeads, with_flags}
 use Rattle.activate.specs.CoreState.{CoreState, coins_of}
-use Rattle.activate.proofs.Plans.{back-other, can-tried, coins-other, fit-other, leads-after, other-tried, other_none, other_trans, passed-less, said-after, settles-leads}
+use Rattle.activate.proofs.Plans.{back-other, between-tried, between_none, can-tried, coins-other, fit-other, leads-after, other-tried, other_none, other_trans, passed-less, said-after, settles-leads}
+use Rattle.activate.proofs.Wanted.{wanted_before}
 use Rattle.activate.proofs.core_state.Core.settle_after.Goals as goal
 
 -- what the try's marks ask
@@ -115,3 +118,15 @@ flag-requires g c =
     let triples = g.S.RunsScripts.agreeing c.args.env.now in
     let agrees = g.met.S.RunsScripts.agrees c.args.env.now in
     (regtest c.args.self.now.params triples, c.args.place, can_flag (c.requires.can triples agrees) c.requires.best (c.requires.fails triples agrees))
+
+pub returns-clause-wants : goal.returns-clause-wants
+returns-clause-wants g c =
+    let triples = g.S.RunsScripts.agreeing c.args.env.now in
+    let agrees = g.met.S.RunsScripts.agrees c.args.env.now in
+    let a : CoreState = c.args.self.now in
+    let p = c.args.place in
+    let marked : (t : Triples) → Agrees (g.S.RunsScripts.known c.args.env.now) t → c.flag.new.self ≡ record a { state = state_after_try (regtest a.params t) a.state p } = λ triples agrees. c.flag.ensures (regtest a.params triples) p (can_flag (c.requires.can triples agrees) c.requires.best (c.requires.fails triples agrees)) in
+    wanted_before a c.flag.new.self (g.S.RunsScripts.known c.args.env.now)
+    (subst (λ (x : CoreState). HasOtherFlags a x) (sym (marked triples agrees)) (other-tried (regtest a.params triples) a a p (other_none a)))
+    (λ triples agrees. let r = regtest a.params triples in subst (λ (x : CoreState). TriesLead r a x) (sym (marked triples agrees)) (between-tried r a a p (between_none r a (c.requires.can triples agrees)) c.requires.best))
+    _ c.in-Err.ensures.wants

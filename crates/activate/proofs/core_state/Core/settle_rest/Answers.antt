@@ -1,4 +1,5 @@
 use Rattle.std.proofs.Common.{◌≡◌, ◌<◌, ℕ, length, sym, subst, ◌∙◌}
+use Rattle.curve.specs.Known.{Under}
 use Rattle.curve.specs.Triple.{Triples}
 use Rattle.rules.specs.declared.params.Params.{Params}
 use Rattle.tree.specs.State.{has_no_mark}
@@ -12,6 +13,8 @@ use Rattle.activate.specs.CoreState.{CoreState}
 use Rattle.activate.specs.inside.Paths.{FailsAt, LeadsTo, IsAttempt}
 use Rattle.chain.specs.laws.Tries.{count_without_mark}
 use Rattle.activate.proofs.Plans.{between_none, between-tried, coins-other, fewer-unmarked, leads-last, params-other}
+use Rattle.std.proofs.lemmas.Result.{err_from_is_err_and}
+use Rattle.activate.proofs.Wanted.{wanted_before, wanted_best}
 use Rattle.activate.proofs.core_state.Core.settle_rest.Goals as goal
 
 -- the best place, of the state that the struct's fields are
@@ -95,3 +98,17 @@ flag-requires g c =
     let best = best_here c.self.view_is c.best_usable-place.ensures in
     let fails = failed_here b triples (c.in_ok-found.ensures.attempt triples agrees) c.in-Fails.is (params-other a b (c.tries.invariant triples agrees).flags) in
     (r, p, record { can = (c.tries.invariant triples agrees).can; kept = best.kept; fails = fails })
+
+pub returns-in_err-found-clause-wants : goal.returns-in_err-found-clause-wants
+returns-in_err-found-clause-wants g c =
+    let triples = g.S.RunsScripts.agreeing c.args.env.now in
+    let agrees = g.met.S.RunsScripts.agrees c.args.env.now in
+    let known = g.S.RunsScripts.known c.args.env.now in
+    let a : CoreState = c.args.self.now in
+    let b : CoreState = c.tries.self in
+    let p = c.best_usable-place.result in
+    let flags = (c.tries.invariant triples agrees).flags in
+    let best = best_here c.self.view_is c.best_usable-place.ensures in
+    let can : Under known (λ triples. CanTry (regtest b.params triples) b) = λ triples agrees. subst (λ (q : Params). CanTry (regtest q triples) b) (sym (params-other a b flags)) (c.tries.invariant triples agrees).can in
+    let passed = err_from_is_err_and c.from_residual.result c.from_residual.ensures.1 in
+    rw (passed.1, passed.2) (wanted_before a b known flags c.tries.invariant _ (wanted_best b known p can best _ c.in_err-found.ensures.wants))

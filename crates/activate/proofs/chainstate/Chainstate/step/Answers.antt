@@ -1,28 +1,18 @@
-use Rattle.std.proofs.Common.{◌≡◌, refl, ap, ◌∙◌, sym, subst}
-use Rattle.hash.specs.declared.id.Id.{Id}
-use Rattle.block.specs.declared.block.Block.{Block}
+use Rattle.std.proofs.Common.{◌≡◌, ap, ◌∙◌, sym, subst}
 use Rattle.curve.specs.Triple.{Triples}
 use Rattle.rules.specs.declared.params.Params.{Params}
 use Rattle.coins.specs.Coins.{Coins}
 use Rattle.coins.specs.Changes.{after_changes}
 use Rattle.coins.specs.laws.Changing.{laid-changes}
-use Rattle.chain.specs.Rules.{Rules}
-use Rattle.activate.specs.declared.prepared.Completion.{Completion}
-use Rattle.activate.specs.declared.prepared.Completion.TheVariants.{Nothing, Mark, Activate}
 use Rattle.activate.specs.inside.Preparation.{IsReady, core_after_commit}
 use Rattle.chain.specs.Prepared.{command_of}
 use Rattle.chain.specs.Regtest.{regtest}
-use Rattle.activate.specs.CoreState.{HasOneMore, UndoFollows, Follows, IsChainstate, CoreState, WithCoins, coins_of}
+use Rattle.activate.specs.CoreState.{HasOneMore, KeepsUndo, UndoFollows, Follows, IsChainstate, CoreState, WithCoins, coins_of}
+use Rattle.activate.proofs.Commits.{committed, params_after}
 use Rattle.activate.proofs.Outcomes.{follows-plan}
 use Rattle.activate.proofs.Undo.{few-of, more-undo, undo-follows}
-use Rattle.activate.proofs.chainstate.Chainstate.step_prepared_by.Goals.{in-Activate-1, in-Nothing-1, in-Some-1, in-None-1}
-use Rattle.activate.proofs.chainstate.Chainstate.step_prepared_by.Goals as goal
-
--- what a commit leaves, under the rules of the state before
-committed : (a b e : CoreState) (rest : Completion) (triples : Triples) → b.params ≡ a.params → IsReady (regtest a.params triples) b rest
-    → ((t : Triples) → IsReady (regtest b.params t) b rest → e ≡ core_after_commit (regtest b.params t) b rest) → e ≡ core_after_commit (regtest a.params triples) b rest
-committed a b e rest triples same ready commits =
-    commits triples (subst (λ (q : Params). IsReady (regtest q triples) b rest) (sym same) ready) ∙ ap (λ (q : Params). core_after_commit (regtest q triples) b rest) same
+use Rattle.activate.proofs.chainstate.Chainstate.step.Goals.{in-Activate-1, in-Nothing-1, in-Some-1, in-None-1}
+use Rattle.activate.proofs.chainstate.Chainstate.step.Goals as goal
 
 -- the struct's own fields are a chainstate
 inside : {x y : WithCoins} (triples : Triples) → x ≡ y → IsChainstate y triples → IsChainstate x triples
@@ -31,7 +21,7 @@ inside triples same h = subst (λ (z : WithCoins). IsChainstate z triples) (sym 
 pub returns-in-Ok-clause-is_chainstate : goal.returns-in-Ok-clause-is_chainstate
 returns-in-Ok-clause-is_chainstate g c triples agrees =
     let a : CoreState = c.self.inside.core in
-    let b : CoreState = c.prepare_by.new.self in
+    let b : CoreState = c.prepare.new.self in
     let prepared = c.in_ok-reply.field-0 in
     let was = inside triples c.self.view_is (c.requires.is_chainstate triples agrees) in
     let plan = c.in_ok-reply.ensures.prepared triples agrees in
@@ -52,49 +42,37 @@ returns-in-Ok-clause-undo g c =
     let triples = g.S.RunsScripts.agreeing c.args.env.now in
     let agrees = g.met.S.RunsScripts.agrees c.args.env.now in
     let a : CoreState = c.self.inside.core in
-    let b : CoreState = c.prepare_by.new.self in
-    let prepared = c.in_ok-reply.field-0 in
-    let plan = c.in_ok-reply.ensures.prepared triples agrees in
-    let done = committed a b c.commit.new.self prepared.rest triples plan.params_are plan.ready c.commit.ensures in
-    let more : HasOneMore c.args.self.now.core c.commit.new.self =
-    subst (λ (x : WithCoins). HasOneMore x.core c.commit.new.self) c.self.view_is (subst (λ (x : CoreState). HasOneMore a x) (sym done) (more-undo (regtest a.params triples) a b _ prepared plan)) in
-    elim c.match-rollback.branch [
-      | in-Some-1 w ↦ subst (λ (x : WithCoins). HasOneMore c.args.self.now.core x.core) (sym w.self-is) more
-      | in-None-1 w ↦ subst (λ (x : WithCoins). HasOneMore c.args.self.now.core x.core) (sym w.self-is) more
-    ]
-
-pub returns-in-Ok-clause-undo_kept : goal.returns-in-Ok-clause-undo_kept
-returns-in-Ok-clause-undo_kept g c =
-    let triples = g.S.RunsScripts.agreeing c.args.env.now in
-    let agrees = g.met.S.RunsScripts.agrees c.args.env.now in
-    let a : CoreState = c.self.inside.core in
-    let b : CoreState = c.prepare_by.new.self in
+    let b : CoreState = c.prepare.new.self in
     let prepared = c.in_ok-reply.field-0 in
     let was = inside triples c.self.view_is (c.requires.is_chainstate triples agrees) in
     let plan = c.in_ok-reply.ensures.prepared triples agrees in
     let done = committed a b c.commit.new.self prepared.rest triples plan.params_are plan.ready c.commit.ensures in
-    let left : UndoFollows c.args.self.now.core c.commit.new.self =
-    subst (λ (x : WithCoins). UndoFollows x.core c.commit.new.self) c.self.view_is (subst (λ (x : CoreState). UndoFollows a x) (sym done) (undo-follows a b triples (command_of c.args.command.now) prepared was.follows plan (few-of c.undo_kept-few.result a.undo_kept c.undo_kept-few.ensures.value c.undo_kept-few.ensures.few))) in
+    let few = few-of c.undo_kept-few.result a.undo_kept c.undo_kept-few.ensures.value c.undo_kept-few.ensures.few in
+    let both : KeepsUndo a c.commit.new.self = record {
+      one_more = subst (λ (x : CoreState). HasOneMore a x) (sym done) (more-undo (regtest a.params triples) a b _ prepared plan);
+      follows = subst (λ (x : CoreState). UndoFollows a x) (sym done) (undo-follows a b triples (command_of c.args.command.now) prepared was.follows plan few);
+    } in
+    let left : KeepsUndo c.args.self.now.core c.commit.new.self = subst (λ (x : WithCoins). KeepsUndo x.core c.commit.new.self) c.self.view_is both in
     elim c.match-rollback.branch [
-      | in-Some-1 w ↦ subst (λ (x : WithCoins). UndoFollows c.args.self.now.core x.core) (sym w.self-is) left
-      | in-None-1 w ↦ subst (λ (x : WithCoins). UndoFollows c.args.self.now.core x.core) (sym w.self-is) left
+      | in-Some-1 w ↦ subst (λ (x : WithCoins). KeepsUndo c.args.self.now.core x.core) (sym w.self-is) left
+      | in-None-1 w ↦ subst (λ (x : WithCoins). KeepsUndo c.args.self.now.core x.core) (sym w.self-is) left
     ]
 
 pub commit-requires : goal.commit-requires
 commit-requires g c =
     let triples = g.S.RunsScripts.agreeing c.args.env.now in
     let agrees = g.met.S.RunsScripts.agrees c.args.env.now in
-    let b : CoreState = c.prepare_by.new.self in (
+    let b : CoreState = c.prepare.new.self in (
       triples,
       subst (λ (q : Params). IsReady (regtest q triples) b c.in_ok-reply.field-0.rest) (sym (c.in_ok-reply.ensures.prepared triples agrees).params_are) (c.in_ok-reply.ensures.prepared triples agrees).ready,
     )
 
-pub prepare_by-requires-clause-follows : goal.prepare_by-requires-clause-follows
-prepare_by-requires-clause-follows g c triples agrees =
+pub prepare-requires-clause-follows : goal.prepare-requires-clause-follows
+prepare-requires-clause-follows g c triples agrees =
     subst (λ (x : WithCoins). Follows x.core triples) (sym c.self.view_is) (c.requires.is_chainstate triples agrees).follows
 
-pub prepare_by-requires-clause-coins : goal.prepare_by-requires-clause-coins
-prepare_by-requires-clause-coins g c =
+pub prepare-requires-clause-coins : goal.prepare-requires-clause-coins
+prepare-requires-clause-coins g c =
     let triples = g.S.RunsScripts.agreeing c.args.env.now in
     let agrees = g.met.S.RunsScripts.agrees c.args.env.now in
     subst (λ (x : WithCoins). x.coins ≡ coins_of x.core) (sym c.self.view_is) (c.requires.is_chainstate triples agrees).coins_are
@@ -117,17 +95,12 @@ with_coins core coins = record { core = core; coins = coins }
 rolled_back : {a b : CoreState} {m n : Coins} → a ≡ b → m ≡ n → with_coins a m ≡ with_coins b n
 rolled_back core coins i = with_coins (core i) (coins i)
 
-params_after : (r : Rules Block Id) (b : CoreState) (rest : Completion) → (core_after_commit r b rest).params ≡ b.params
-params_after r b Nothing = refl
-params_after r b (Mark p) = refl
-params_after r b (Activate p path undo) = refl
-
 pub returns-in-Ok-clause-params : goal.returns-in-Ok-clause-params
 returns-in-Ok-clause-params g c =
     let triples = g.S.RunsScripts.agreeing c.args.env.now in
     let agrees = g.met.S.RunsScripts.agrees c.args.env.now in
     let a : CoreState = c.self.inside.core in
-    let b : CoreState = c.prepare_by.new.self in
+    let b : CoreState = c.prepare.new.self in
     let prepared = c.in_ok-reply.field-0 in
     let plan = c.in_ok-reply.ensures.prepared triples agrees in
     let done = committed a b c.commit.new.self prepared.rest triples plan.params_are plan.ready c.commit.ensures in

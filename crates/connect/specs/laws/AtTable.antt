@@ -1,0 +1,18 @@
+-- At a table what holds under each set that agrees is what holds of the table.
+use Rattle.std.specs.Prelude.{◌≡◌, All, List, Some}
+use Rattle.std.proofs.Common.{subst, sym}
+use Rattle.queue.specs.Jobs.{Answered, IsEarly}
+use Rattle.curve.specs.Known.{Under, all_known}
+use Rattle.curve.specs.Triple.{Triples}
+use Rattle.curve.specs.laws.Growth.{table-alone}
+use Rattle.curve.specs.laws.Agreeing.{table_agrees}
+
+pub at_table : (table : Triples) (P : Triples → Type 0) → P table → Under (all_known table) P
+at_table table P holds triples agrees = subst P (sym ((table-alone table triples).0 agrees)) holds
+
+pub of_table : (table : Triples) (P : Triples → Type 0) → Under (all_known table) P → P table
+of_table table P under = under table (table_agrees table)
+
+-- verdicts of the table are early ones
+pub tables_early : (table : Triples) (list : List Answered) → All (λ v. v.triples ≡ table) list → All (IsEarly (all_known table)) list
+tables_early table list same = λ k d within t valid is. subst (λ (x : Triples). all_known x t ≡ Some valid) (same k d within) is
