@@ -135,7 +135,7 @@ fn take_each(
     ensures { IsChainstate chain.new table.now }
 {
     let env = Env {
-        table,
+        signatures: table,
         workers: 1,
         early: &[],
         crew: &Alone,

@@ -54,7 +54,8 @@ where
 
 /// Connects a block by this crew and these verdicts, and counts the coins that it spends. The environment is made where
 /// the crew's type is a parameter (`connect::Env` says why).
-pub fn timed<'a, R, C: Crew>(
+#[tactic(auto, using(connect::specs::laws::AtTable::tables_early))]
+pub fn timed<'a, R, C: Crew<Table>>(
     rt: &R,
     map: &CoinMap,
     block: &Block,
@@ -70,7 +71,7 @@ where
     requires same_table { All (λ v. v.triples ≡ table.now) early.now }
 {
     let env = Env {
-        table,
+        signatures: table,
         workers,
         early,
         crew,
@@ -98,12 +99,12 @@ fn ids_alone(alloc: Global, block: &Block) -> Result<Vec<Id>, Fault>
 }
 
 /// Connects a block.
-fn undo_of<C: Crew>(
+fn undo_of<C: Crew<Table>>(
     alloc: Global,
     cache: &mut Cache<'_, CoinMap>,
     block: &Block,
     ids: &[Id],
-    env: &Env<'_, C>,
+    env: &Env<'_, Table, C>,
 ) -> Result<BlockUndo, Fault>
     requires alone { first_broken (alone_rules block.now) ≡ None }
     requires ids { ids.now ≡ ids_of block.now.txs }

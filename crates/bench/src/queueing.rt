@@ -1,6 +1,6 @@
 //! Script checks on several threads.
 
-ghost use Rattle.std.specs.Prelude.{◌<◌, ◌^◌, length, All, IsTrue};
+ghost use Rattle.std.specs.Prelude.{All, IsTrue};
 ghost use Rattle.queue.specs.Jobs.{HasInput};
 
 use crate::check::Check;
@@ -9,18 +9,19 @@ use crate::scripts;
 use crate::timing::{Outcome, Timer};
 use curve::Table;
 use interp::Job;
-use queue::{Open, first_failure};
+use queue::{Crew, Open, Runs, Threaded, first_failure};
 use scenarios::inputs;
 use scenarios::inputs::spends::Spends;
+use std::alloc::Global;
 use std::rt::Clock;
 use std::thread::Threads;
+use wire::Memory;
 
-/// Whether the queue takes these jobs: there are fewer than 2^32, each of an input that is there.
+/// Whether the queue takes these jobs: each is of an input that is there.
 fn are_ready(jobs: &[Job]) -> bool
-    ensures few { IsTrue result → length jobs.now < 2 ^ 32 }
-    ensures inputs { IsTrue result → All HasInput jobs.now }
+    ensures { IsTrue result → All HasInput jobs.now }
 {
-    jobs.len() < 0x1_0000_0000 && jobs.iter().all(|job| job.input < job.tx.inputs.len())
+    jobs.iter().all(|job| job.input < job.tx.inputs.len())
 }
 
 /// Who runs scripts.
@@ -93,6 +94,26 @@ where
         return Ok(false);
     }
     let workers = workers.clamp(1, 16);
-    let failure = first_failure(rt, rt.alloc(), jobs, table, workers, &Open)?;
+    let failure = failing(&Threaded { rt }, rt.alloc(), jobs, table, workers)?;
     Ok(failure.is_none())
+}
+
+/// The least job that isn't accepted, by a crew of so many.
+fn failing<C: Crew<Table>>(
+    crew: &C,
+    alloc: Global,
+    jobs: &[Job],
+    table: &Table,
+    workers: usize,
+) -> Result<Option<usize>, Memory>
+    requires ready { C.is_ready crew.now }
+    requires inputs { All HasInput jobs.now }
+{
+    let runs = Runs {
+        by: table,
+        early: &[],
+        crew,
+        workers,
+    };
+    first_failure(alloc, jobs, &[], &runs, &Open)
 }

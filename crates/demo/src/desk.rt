@@ -2,7 +2,7 @@
 
 use crate::request::Request;
 use activate::Chainstate;
-use chain::{Bytes, Command, Reply, SubmitReply};
+use chain::{Bytes, Command, PreparedCommand, Reply, SubmitReply};
 use coins::{Base, Coin};
 use connect::Env;
 use curve::Table;
@@ -79,12 +79,13 @@ impl<'t> Desk<'t> {
 
     fn step(&mut self, alloc: Global, command: &Command) -> Result<Reply, Memory> {
         let env = Env {
-            table: self.table,
+            signatures: self.table,
             workers: 1,
             early: &[],
             crew: &Alone,
         };
-        self.chain.step(alloc, command, &env, &Open)
+        let command = PreparedCommand::of(alloc, command)?;
+        self.chain.step(alloc, &command, &env, &Open)
     }
 
     fn show_tips<R: AllocGlobal + Print>(&self, rt: &R) -> anyhow::Result<()> {

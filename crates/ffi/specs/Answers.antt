@@ -93,17 +93,17 @@ pub record IsTaken (s : SessionState) (after : Option SessionState) (c : Command
   pub told : IsTold reply a
 
 -- it took no step, and only what it wants may be another list
-pub record IsNotTaken (s : SessionState) (after : Option SessionState) (code : ℕ) : Type 0 where
+pub record IsNotTaken (s : SessionState) (after : Option SessionState) (c : Command) (code : ℕ) : Type 0 where
   pub next : SessionState
   pub after_is : after ≡ Some next
-  pub step_is : IsNoStep s next code
+  pub step_is : IsNoStep s next c code
 
 -- The step is taken; or none is, and what is told stays as it was.
 abbrev pub IsAnswered : Option SessionState → Option SessionState → Command → Answer → Answer → ℕ → Type 0
 IsAnswered None after c before told result = (result ≡ 2) × (after ≡ None) × (told ≡ before)
 IsAnswered (Some s) after c before told result =
     ((result ≡ 0) × IsTaken s after c told)
-    ⊎ (IsNotTaken s after result × (told ≡ before))
+    ⊎ (IsNotTaken s after c result × (told ≡ before))
 
 -- a verdict is given
 pub record IsLearnt (s : SessionState) (after : Option SessionState) (t : Triple) (valid : Bool) (code : ℕ) : Type 0 where

@@ -1,10 +1,12 @@
 -- What is told of an input by what is known of signatures: those of one table are valid, those of another aren't.
-use Rattle.std.specs.Prelude.{◌≡◌, ◌⊎◌, ◌↔◌, ℕ, ◌<◌, Bool, IsTrue, List, length, None}
+use Rattle.std.specs.Prelude.{◌≡◌, ◌⊎◌, ◌↔◌, ℕ, ◌<◌, Bool, IsTrue, List, length}
 use Rattle.txn.specs.declared.tx.Tx.{Tx}
 use Rattle.curve.specs.Known.{Under, Verdicts, AreApart, verdict_in}
 use Rattle.curve.specs.Lines.{IsFirstBad, IsTableOf}
 use Rattle.curve.specs.Triple.{Triple}
-use Rattle.interp.specs.Asking.{Asks}
+use Rattle.interp.specs.Answer.{Wants}
+use Rattle.interp.specs.Question.{question}
+use Rattle.interp.specs.computed.Step.{verdict}
 use Rattle.interp.specs.Rules.{Accepts}
 use Rattle.interp.specs.declared.flags.Flags.{Flags}
 use Rattle.ffi.specs.Refusals.{bit}
@@ -22,10 +24,9 @@ pub record IsAgreed (tx : Tx) (input : ℕ) (spent : List ℕ) (flags : Flags) (
   pub told_is : told ≡ bit yes
   pub verdict : Under (verdict_in found) (λ triples. IsTrue yes ↔ Accepts tx input spent flags triples)
 
--- of a triple nothing is known, and the scripts ask for it whatever else is valid
-pub record IsWanted (tx : Tx) (input : ℕ) (spent : List ℕ) (flags : Flags) (found : Verdicts) (t : Triple) : Type 0 where
-  pub unknown : verdict_in found t ≡ None
-  pub asked : Under (verdict_in found) (λ triples. Asks tx input spent flags triples t)
+-- what is known doesn't suffice for a verdict: whether this triple is valid has to be found out first
+abbrev pub IsWanted : Tx → ℕ → List ℕ → Flags → Verdicts → Triple → Type 0
+IsWanted tx input spent flags found t = verdict (verdict_in found) (question tx input spent flags) ≡ Wants t
 
 -- what is passed for a triple's line: its room and the number of its bytes, before a call and after it
 pub record Asked : Type 0 where

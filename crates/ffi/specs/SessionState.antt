@@ -1,16 +1,18 @@
 -- A chainstate with what is known of signatures.
-use Rattle.std.specs.Prelude.{◌≡◌, ℕ, ◌<◌, ◌⊎◌, Bool, true, false, List, [], length, All, Option, None, Some, if◌then◌else◌}
+use Rattle.std.specs.Prelude.{◌≡◌, ℕ, ◌<◌, ◌⊎◌, Bool, List, [], length, All, Option, None, Some, if◌then◌else◌}
 use Rattle.std.specs.FinSet as set
 use Rattle.std.specs.FinMap as coin_map
 use Rattle.hash.specs.declared.id.Id.{Id}
 use Rattle.block.specs.declared.block.Block.{Block}
-use Rattle.curve.specs.Known.{Known, Under, Verdicts, verdict_in, with_verdict}
+use Rattle.curve.specs.Known.{Known, Verdicts, verdict_in, with_verdict}
 use Rattle.curve.specs.Triple.{Triple, Triples}
 use Rattle.rules.specs.declared.params.Params.{Params}
 use Rattle.tree.specs.State.{State}
 use Rattle.chain.specs.Rules.{Rules}
 use Rattle.chain.specs.Regtest.{regtest}
-use Rattle.activate.specs.CoreState.{IsWantedByABlock, WithCoins, opened_core}
+use Rattle.chain.specs.declared.command.Command.{Command}
+use Rattle.activate.specs.CoreState.{WithCoins, opened_core}
+use Rattle.activate.specs.Wants.{IsWantedByStep}
 
 pub record SessionState : Type 0 where
   pub chain : WithCoins
@@ -19,7 +21,7 @@ pub record SessionState : Type 0 where
   pub invalid : Triples
   -- whether nothing is known of all others; else they aren't valid
   pub by_need : Bool
-  -- those of which the last step that was none said that they have to be found out first
+  -- those that have to be verified before the step that was asked for last can be taken
   pub wanted : List Triple
 
 -- ---- what it judges by
@@ -58,17 +60,17 @@ pub record KeepsRules (before after : SessionState) : Type 0 where
   pub known : known_of after ≡ known_of before
   pub triples : after.triples ≡ before.triples
 
--- ---- a step that is none
--- signatures have to be found out first: of none of them a verdict is known, and a script asks for each. All else stays
-pub record IsWanting (before after : SessionState) : Type 0 where
+-- ---- a step that isn't taken
+-- signatures have to be verified first: scripts of blocks that this step tries ask for each. All else stays
+pub record IsWanting (before after : SessionState) (command : Command) : Type 0 where
   pub wanted : List Triple
   pub after_is : after ≡ record before { wanted = wanted }
   pub some : 0 < length wanted
-  pub unknown : All (IsWantedByABlock (known_of before)) wanted
+  pub unknown : All (IsWantedByStep before.chain.core command (known_of before)) wanted
 
 -- or there was no memory
-abbrev pub IsNoStep : SessionState → SessionState → ℕ → Type 0
-IsNoStep before after code = ((code ≡ 31) × IsWanting before after) ⊎ ((code ≡ 1) × (after ≡ before))
+abbrev pub IsNoStep : SessionState → SessionState → Command → ℕ → Type 0
+IsNoStep before after command code = ((code ≡ 31) × IsWanting before after command) ⊎ ((code ≡ 1) × (after ≡ before))
 
 -- ---- a verdict more
 abbrev pub learnt : SessionState → Triple → Bool → SessionState

@@ -63,7 +63,13 @@ impl FoundSignatures {
 }
 
 impl KnowsSignatures for FoundSignatures {
+    ghost use Rattle.curve.specs.laws.Agreeing.{found_agrees};
+
     ghost known = { verdict_in };
+
+    ghost agreeing = { λ found. found.valid };
+
+    ghost agrees = { found_agrees };
 
     fn find(&self, key: &[u8], signature: &[u8], digest: &[u8; 32]) -> Option<bool> {
         self.parts[usize::from(digest[0])].find(key, signature, digest)

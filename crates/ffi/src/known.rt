@@ -3,8 +3,10 @@
 ghost use Rattle.std.specs.Prelude.{◌≡◌, ◌↔◌, ◌⊎◌, ◌<◌, length, IsTrue, IfOk, IfErr, OnOk};
 ghost use Rattle.curve.specs.Known.{Under, verdict_in};
 ghost use Rattle.curve.specs.Lines.{lines};
-ghost use Rattle.interp.specs.Asking.{Asks, IsStopped};
+ghost use Rattle.interp.specs.Answer.{Stops};
+ghost use Rattle.interp.specs.Question.{question};
 ghost use Rattle.interp.specs.Rules.{Accepts};
+ghost use Rattle.interp.specs.computed.Step.{verdict};
 ghost use Rattle.txn.specs.computed.Reading.{tx_at};
 ghost use Rattle.ffi.specs.Known.{AreOf, IsFound, IsFoundBy, IsInputFound, IsLineTold, asked_of};
 ghost use Rattle.ffi.specs.Refusals.{IsTold};
@@ -138,8 +140,8 @@ fn judge<'a>(
     requires { input < length tx.now.inputs }
     ensures answer { IfOk result (λ yes. Under (verdict_in known.now) (λ triples. IsTrue yes
         ↔ Accepts tx.now input spent.now (flags_of flags.now) triples)) }
-    ensures stops { IfErr result (IsStopped (verdict_in known.now)
-        (Asks tx.now input spent.now (flags_of flags.now))) }
+    ensures stops { IfErr result (Stops (verdict (verdict_in known.now)
+        (question tx.now input spent.now (flags_of flags.now)))) }
 {
     let flags = flags_of(flags);
     let job = Job {

@@ -26,11 +26,12 @@ use crate::found::FoundSignatures;
 use crate::signatures::Signatures;
 use activate::Chainstate;
 use block::Bytes;
-use chain::{Command, Reply};
+use chain::{Command, PreparedCommand, Reply};
 use coins::{Base, Coin};
-use curve::{KeptTriple, Table, TableFault};
+use connect::Env;
+use curve::{KeptTriple, KnowsSignatures, Table, TableFault};
 use hash::Id;
-use queue::{Open, Undecided};
+use queue::{Alone, Open, Undecided};
 use rules::Params;
 use std::alloc::Global;
 use std::marker::Model;
@@ -133,9 +134,18 @@ impl Session {
             ≡ outcome (rules_under self.old triples) (tree_of self.old) command.now)) }
         ensures rules { OnOk result (KeepsRules self.old self.new) }
         ensures wanted { OnOk result (self.new.wanted ≡ []) }
-        ensures refused { IfErr result (IsNoStep self.old self.new) }
+        ensures refused { IfErr result (IsNoStep self.old self.new command.now) }
     {
-        match self.chain.step_by(alloc, command, &self.signatures, &Open) {
+        let Ok(command) = PreparedCommand::of(alloc, command) else {
+            return Err(MEMORY);
+        };
+        let env = Env {
+            signatures: &self.signatures,
+            workers: 1,
+            early: &[],
+            crew: &Alone,
+        };
+        match self.chain.step(alloc, &command, &env, &Open) {
             Ok(reply) => {
                 self.wanted.truncate(0);
                 Ok(reply)
@@ -159,7 +169,7 @@ impl Session {
         ensures { let t = triple_of key.now signature.now digest.now in
             IsLearntBy self.old self.new t valid (known_of self.old t) result }
     {
-        match self.signatures.verdict(key, signature, digest) {
+        match self.signatures.find(key, signature, digest) {
             Some(known) => { if known == valid { DONE } else { CONTRADICTION } }
             None => match &mut self.signatures {
                 Signatures::Listed(_) => unreachable!(),

@@ -1,15 +1,10 @@
 //! What a session knows of signatures.
 
-ghost use Rattle.std.specs.Prelude.{◌≡◌};
-ghost use Rattle.curve.specs.Triple.{triple_of};
 ghost use Rattle.ffi.specs.inside.Signatures.{known_in};
 
 use crate::found::FoundSignatures;
-use connect::RunsScripts;
-use curve::{KnowsSignatures, Table};
-use interp::Job;
-use queue::{Gate, Undecided, first_failure_by};
-use std::alloc::Global;
+use curve::{KeptTriple, KnowsSignatures, Table};
+use queue::{Judges, Undecided};
 
 /// The valid signatures, or verdicts that are found out by need.
 #[derive(Drop)]
@@ -20,20 +15,7 @@ pub enum Signatures {
     Found(FoundSignatures),
 }
 
-impl Signatures {
-    /// The verdict on a triple, where one is known.
-    pub(crate) fn verdict(&self, key: &[u8], signature: &[u8], digest: &[u8; 32]) -> Option<bool>
-        ensures { result ≡ known_in self.now (triple_of key.now signature.now digest.now) }
-    {
-        match self {
-            Signatures::Listed(table) => table.find(key, signature, digest),
-            Signatures::Found(found) => found.find(key, signature, digest),
-        }
-    }
-}
-
-/// The caller runs the scripts.
-impl RunsScripts for Signatures {
+impl KnowsSignatures for Signatures {
     ghost use Rattle.ffi.specs.Signatures.{valid_in};
     ghost use Rattle.ffi.specs.inside.Agreeing.{agrees_in};
 
@@ -43,20 +25,25 @@ impl RunsScripts for Signatures {
 
     ghost agrees = { agrees_in };
 
-    fn has_verdicts(&self) -> bool {
-        false
-    }
-
-    fn first_failure(
-        &self,
-        alloc: Global,
-        jobs: &[Job],
-        _numbers: &[usize],
-        gate: &(dyn Gate + Sync),
-    ) -> Result<Option<usize>, Undecided> {
+    fn find(&self, key: &[u8], signature: &[u8], digest: &[u8; 32]) -> Option<bool> {
         match self {
-            Signatures::Listed(table) => first_failure_by(alloc, jobs, table, gate),
-            Signatures::Found(found) => first_failure_by(alloc, jobs, found, gate),
+            Signatures::Listed(table) => table.find(key, signature, digest),
+            Signatures::Found(found) => found.find(key, signature, digest),
         }
     }
+}
+
+impl Judges for Signatures {
+    ghost use Rattle.queue.specs.Jobs.{told_by};
+    ghost use Rattle.queue.specs.laws.Undecided.{memory_tells};
+
+    type Stop = Undecided;
+
+    ghost told = { told_by };
+
+    fn stop(&self, wants: Vec<KeptTriple>) -> Undecided {
+        Undecided::Unknown(wants)
+    }
+
+    ghost memory_tells = { memory_tells };
 }

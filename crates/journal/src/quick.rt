@@ -6,7 +6,7 @@ ghost use Rattle.chain.specs.Regtest.{regtest};
 ghost use Rattle.chain.specs.Commands.{replies_of};
 
 use activate::Chainstate;
-use chain::{Command, Reply};
+use chain::{Command, PreparedCommand, Reply};
 use connect::Env;
 use curve::Table;
 use queue::{Alone, Open};
@@ -28,14 +28,15 @@ pub fn quick<W: Watch>(
 {
     let mut chain = Chainstate::with(alloc, *params)?;
     let env = Env {
-        table,
+        signatures: table,
         workers: 1,
         early: &[],
         crew: &Alone,
     };
     let mut replies = Vec::new(alloc);
     for index in 0..commands.len() {
-        replies.push(chain.step(alloc, &commands[index], &env, &Open)?)?;
+        let command = PreparedCommand::of(alloc, &commands[index])?;
+        replies.push(chain.step(alloc, &command, &env, &Open)?)?;
         watch.done(index + 1);
     }
     Ok(replies)

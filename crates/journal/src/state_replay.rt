@@ -43,7 +43,7 @@ pub fn replayed_state(
 {
     let mut chain = Chainstate::with(alloc, *params)?;
     let env = Env {
-        table,
+        signatures: table,
         workers: 1,
         early: &[],
         crew: &Alone,

@@ -179,7 +179,8 @@ impl<J: Naming> PublishedHistory<J> {
     }
 
     /// Takes a step, which is owed then. Bytes that are no block take none.
-    fn take_step<C: Crew>(
+    #[tactic(auto, using(connect::specs::laws::AtTable::tables_early))]
+    fn take_step<C: Crew<Table>>(
         &mut self,
         token: &SeatToken<J>,
         command: &PreparedCommand,
@@ -203,7 +204,7 @@ impl<J: Naming> PublishedHistory<J> {
             return Err(Refusal::Memory);
         };
         let env = Env {
-            table: &self.table,
+            signatures: &*self.table,
             workers,
             early,
             crew,
@@ -304,7 +305,7 @@ impl<J: Naming> PublishedHistory<J> {
 
     /// Takes a step over the coins that are published, and publishes it. Without an answer it is owed. Bytes that are
     /// no block take none.
-    pub(crate) fn step<R: Wait, C: Crew>(
+    pub(crate) fn step<R: Wait, C: Crew<Table>>(
         &mut self,
         rt: &R,
         token: &SeatToken<J>,

@@ -1,14 +1,15 @@
 //! The chainstate of one thread, and the one that is lent its coins.
 
-ghost use Rattle.std.specs.Prelude.{◌≡◌, OnOk};
+ghost use Rattle.std.specs.Prelude.{◌≡◌, IfOk, OnErr, OnOk};
 ghost use Rattle.coins.specs.Changes.{after_changes};
+ghost use Rattle.activate.specs.CoreState.{Follows, coins_of};
 
 use crate::allocations::{begin, end};
 use crate::log::Log;
 use crate::seat_calls::MOST_TRIES;
 use crate::state::coins_text;
 use activate::{Chainstate, Core};
-use chain::{Command, Reply};
+use chain::{Command, PreparedCommand, Reply};
 use coins::{Changes, CoinMap};
 use connect::Env as Environment;
 use curve::Table;
@@ -100,7 +101,7 @@ impl<'t> Whole<'t> {
     /// Takes commands: their replies.
     pub fn run(&mut self, alloc: Global, commands: &[Command]) -> Result<Vec<Reply>, Memory> {
         let env = Environment {
-            table: self.table,
+            signatures: self.table,
             workers: 1,
             early: &[],
             crew: &Alone,
@@ -153,14 +154,8 @@ impl<'t> Lent<'t> {
             mut coins,
             table,
         } = self;
-        let env = Environment {
-            table,
-            workers: 1,
-            early: &[],
-            crew: &Alone,
-        };
         begin(rt, desk.is_counted);
-        let done = core.step_over(rt.alloc(), &coins, command, &env, &Open);
+        let done = step_over(rt.alloc(), &mut core, &coins, command, table);
         let refused = end(rt);
         let Ok((reply, changes)) = done else {
             log.refused(refused, "step_over", "memory")?;
@@ -171,6 +166,30 @@ impl<'t> Lent<'t> {
         lay(rt, &mut coins, &changes, desk, log)?;
         Ok((Chain::Lent(Lent { core, coins, table }), Some(reply)))
     }
+}
+
+/// Takes a command over coins: the reply, and the coins that change.
+fn step_over(
+    alloc: Global,
+    core: &mut Core,
+    coins: &CoinMap,
+    command: &Command,
+    table: &Table,
+) -> Result<(Reply, Changes), Memory>
+    requires follows { Follows core.old table.now }
+    requires coins { coins.now ≡ coins_of core.old }
+    ensures follows { Follows core.new table.now }
+    ensures laid { IfOk result (λ done. after_changes coins.now done.1 ≡ coins_of core.new) }
+    ensures err { OnErr result (core.new ≡ core.old) }
+{
+    let command = PreparedCommand::of(alloc, command)?;
+    let env = Environment {
+        signatures: table,
+        workers: 1,
+        early: &[],
+        crew: &Alone,
+    };
+    core.step_over(alloc, coins, &command, &env, &Open)
 }
 
 /// Lays a list over coins. A refusal that leaves other coins is written.

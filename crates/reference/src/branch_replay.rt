@@ -184,7 +184,7 @@ fn connect_next(
 {
     let ids = ids(alloc, block.txs.as_slice())?;
     let env = Env {
-        table: chain.table,
+        signatures: chain.table,
         workers: 1,
         early: &[],
         crew: &Alone,

@@ -42,7 +42,7 @@ fn broken<B: Base>(
         params: &Params::regtest(),
     };
     let env = Env {
-        table: &Table::new(alloc),
+        signatures: &Table::new(alloc),
         workers: 1,
         early: &[],
         crew: &Alone,

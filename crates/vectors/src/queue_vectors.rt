@@ -6,7 +6,7 @@ ghost use Rattle.queue.specs.Jobs.{HasInput};
 use curve::Table;
 use hash::Id;
 use interp::{Flags, Job};
-use queue::{Alone, Crew, EarlyJobs, Gate, Threaded, Verdicts, check_early};
+use queue::{Alone, Crew, EarlyJobs, Gate, Runs, Threaded, Verdicts, check_early, first_failure};
 use std::alloc::{AllocError, Global};
 use std::sync::atomic::AtomicU64;
 use std::sync::atomic::Ordering::SeqCst;
@@ -198,41 +198,45 @@ where
     Ok([alone, threaded] == [row.answer; 2])
 }
 
-/// Whether there are few jobs, each of an input that is there.
+/// Whether each job is of an input that is there.
 fn are_ready(jobs: &[Job]) -> bool
-    ensures few { IsTrue result → length jobs.now < 2 ^ 32 }
-    ensures inputs { IsTrue result → All HasInput jobs.now }
+    ensures { IsTrue result → All HasInput jobs.now }
 {
-    jobs.len() < 1000 && jobs.iter().all(|job| job.input < job.tx.inputs.len())
+    jobs.iter().all(|job| job.input < job.tx.inputs.len())
 }
 
 /// The least job that isn't accepted, where each is compared by itself with the verdicts.
-fn failing<C: Crew>(
-    crew: &C,
+#[tactic(auto, using(connect::specs::laws::AtTable::tables_early))]
+fn failing<'a, C: Crew<Table>>(
+    crew: &'a C,
     alloc: Global,
     jobs: &[Job],
-    verdicts: &[Verdicts],
-    table: &Table,
+    verdicts: &'a [Verdicts<'a>],
+    table: &'a Table,
     gate: &(dyn Gate + Sync),
 ) -> Result<Option<usize>, Memory>
     requires ready { C.is_ready crew.now }
-    requires few { length jobs.now < 2 ^ 32 }
     requires inputs { All HasInput jobs.now }
     requires same_table { All (λ v. v.triples ≡ table.now) verdicts.now }
 {
-    crew.first_failure_with(alloc, jobs, &[], verdicts, table, 2, gate)
+    let runs = Runs {
+        by: table,
+        early: verdicts,
+        crew,
+        workers: 2,
+    };
+    first_failure(alloc, jobs, &[], &runs, gate)
 }
 
 /// The same by two workers. The crew is made where its type is a parameter (`connect::Env` says why).
-fn by_threads<R: Threads + Sync>(
+fn by_threads<'a, R: Threads + Sync>(
     rt: &R,
     alloc: Global,
     jobs: &[Job],
-    verdicts: &[Verdicts],
-    table: &Table,
+    verdicts: &'a [Verdicts<'a>],
+    table: &'a Table,
     gate: &(dyn Gate + Sync),
 ) -> Result<Option<usize>, Memory>
-    requires few { length jobs.now < 2 ^ 32 }
     requires inputs { All HasInput jobs.now }
     requires same_table { All (λ v. v.triples ≡ table.now) verdicts.now }
 {

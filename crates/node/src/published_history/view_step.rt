@@ -16,6 +16,7 @@ use activate::Core;
 use chain::{PreparedCommand, Reply};
 use coins::Changes;
 use connect::Env;
+use curve::Table;
 use queue::{Crew, Gate};
 use std::alloc::Global;
 use view::{ChainInfo, Naming, Note, Tips, View};
@@ -40,21 +41,21 @@ fn is_whole(note: &Note, found: &Note) -> bool
 
 /// Takes a command over the coins of a view, if it is just as long as this history: the reply, and the coins that
 /// change.
-fn step_over_view<C: Crew>(
+fn step_over_view<C: Crew<Table>>(
     alloc: Global,
     view: &View,
     note: &Note,
     core: &mut Core,
     command: &PreparedCommand,
-    env: &Env<'_, C>,
+    env: &Env<'_, Table, C>,
     gate: &(dyn Gate + Sync),
 ) -> Result<(Reply, Changes), Refusal>
     requires exact { IsExact view.now }
     requires book { note.now.book ≡ view.now.origin.book }
     requires params { core.old.params ≡ view.now.origin.params }
-    requires table { env.now.table.now ≡ view.now.origin.triples }
+    requires table { env.now.signatures.now ≡ view.now.origin.triples }
     requires state { core.old.state ≡ state_after view.now.origin note.now.entries }
-    requires follows { Follows core.old env.now.table.now }
+    requires follows { Follows core.old env.now.signatures.now }
     ensures step { let triples = view.now.origin.triples in
         IfOk result (λ done. IsCoreStep triples core.old core.new (command_of command.now) done.0 done.1) }
     ensures err { OnErr result (core.new ≡ core.old) }
@@ -65,27 +66,27 @@ fn step_over_view<C: Crew>(
     if !is_whole(note, &found) {
         return Err(Refusal::Closed);
     }
-    match core.step_prepared_over(alloc, view.coins(), command, env, gate) {
+    match core.step_over(alloc, view.coins(), command, env, gate) {
         Ok(done) => Ok(done),
         Err(_) => Err(Refusal::Memory),
     }
 }
 
 /// Takes a command over the coins that the reader finds, if just this history is published.
-pub(crate) fn step_by_reader<J: Naming, C: Crew>(
+pub(crate) fn step_by_reader<J: Naming, C: Crew<Table>>(
     alloc: Global,
     home: &mut ReaderHome<J>,
     note: &Note,
     core: &mut Core,
     command: &PreparedCommand,
-    env: &Env<'_, C>,
+    env: &Env<'_, Table, C>,
     gate: &(dyn Gate + Sync),
 ) -> Result<(Reply, Changes), Refusal>
     requires book { note.now.book ≡ J.origin.book }
     requires params { core.old.params ≡ J.origin.params }
-    requires table { env.now.table.now ≡ J.origin.triples }
+    requires table { env.now.signatures.now ≡ J.origin.triples }
     requires state { core.old.state ≡ state_after J.origin note.now.entries }
-    requires follows { Follows core.old env.now.table.now }
+    requires follows { Follows core.old env.now.signatures.now }
     ensures home { home.new ≡ home.old }
     ensures step { let triples = J.origin.triples in
         IfOk result (λ done. IsCoreStep triples core.old core.new (command_of command.now) done.0 done.1) }

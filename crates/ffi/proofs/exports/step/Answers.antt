@@ -26,7 +26,7 @@ returns-in-Ok c =
 pub returns-in-Err : goal.returns-in-Err
 returns-in-Err c =
     rw c.in-Some.ensures.value (inr (
-      subst (λ t. IsNotTaken t c.put.new.slot.kept.value c.in-Err.code) c.deref_mut.ensures.value (record {
+      subst (λ t. IsNotTaken t c.put.new.slot.kept.value c.args.asked.now c.in-Err.code) c.deref_mut.ensures.value (record {
         next = _;
         after_is = c.put.ensures;
         step_is = c.in-Err.ensures.refused;

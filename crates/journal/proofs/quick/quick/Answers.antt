@@ -7,7 +7,9 @@ use Rattle.chain.specs.declared.reply.Reply.{Reply}
 use Rattle.chain.specs.Submission.{Outcome}
 use Rattle.chain.specs.Commands.{outcome, replies_of}
 use Rattle.chain.specs.Regtest.{regtest}
-use Rattle.activate.specs.CoreState.{WithCoins}
+use Rattle.activate.specs.CoreState.{IsChainstate, WithCoins}
+use Rattle.curve.specs.laws.Agreeing.{table_agrees}
+use Rattle.connect.specs.laws.AtTable.{at_table}
 use Rattle.journal.proofs.quick.quick.Goals as goal
 
 pub loop-index-init : goal.loop-index-init
@@ -29,7 +31,8 @@ loop-index-preserved g c =
     let i = c.loop-index.index in
     let done = c.loop-index.replies.items in
     let says : (u, c.in_ok-step.field-0) ≡ outcome r s c.index-commands-index.result =
-    c.in_ok-step.ensures.outcome
+    c.in_ok-step.ensures.outcome c.args.table.now (table_agrees c.args.table.now)
+    ∙ ap (λ (d : Command). outcome (regtest c.loop-index.chain.core.params c.args.table.now) s d) c.in_ok-command.ensures
     ∙ ap (λ (q : Params). outcome (regtest q c.args.table.now) s c.index-commands-index.result) c.loop-index.invariant.params in
     record {
       replies = ap (λ (l : List Reply). l ++ replies_of r u (drop (i + 1) cs)) c.in_ok-push.ensures.items
@@ -39,7 +42,7 @@ loop-index-preserved g c =
           ∙ ap (λ (l : List Reply). done ++ l) (sym (at_drop_more (λ (l : List Command). replies_of r s l) cs i c.index-commands-index.result c.loop-index-test.true))
           ∙ c.loop-index.invariant.replies;
       params = c.in_ok-step.ensures.params ∙ c.loop-index.invariant.params;
-      is_chainstate = c.in_ok-step.ensures.is_chainstate;
+      is_chainstate = c.in_ok-step.ensures.is_chainstate c.args.table.now (table_agrees c.args.table.now);
     }
 
 pub returns : goal.returns
@@ -48,3 +51,6 @@ returns g c =
     sym (append-nil c.loop-index.replies.items)
     ∙ ap (λ (l : List Reply). c.loop-index.replies.items ++ l) (sym (at_drop_all (λ (l : List Command). replies_of r c.loop-index.chain.core.state l) c.args.commands.now c.loop-index.index c.loop-index-test.false))
     ∙ c.loop-index.invariant.replies
+
+pub step-requires : goal.step-requires
+step-requires g c = record { is_chainstate = at_table c.args.table.now (IsChainstate c.loop-index.chain) c.loop-index.invariant.is_chainstate }

@@ -2,6 +2,7 @@ use Rattle.std.proofs.Common.{Some, None, subst}
 use Rattle.std.specs.Result.{result_err}
 use Rattle.connect.specs.Setting.{setting}
 use Rattle.connect.specs.Scripts.{IsConnectFault}
+use Rattle.curve.specs.laws.Agreeing.{table_agrees}
 use Rattle.connect.specs.laws.Scripts.{fault-found}
 use Rattle.reference.proofs.branch_replay.connect_next.Goals as goal
 
@@ -11,7 +12,7 @@ returns-in-Ok-clause-fault c =
     let m = c.args.coins.now.coins in
     let txs = c.args.block.now.txs in
     let triples = c.args.chain.now.table.now in
-    (fault-found s m txs triples None).0 (subst (λ a. IsConnectFault s m txs triples (result_err a)) c.in-Ok.is c.in_ok-connect.ensures.fault)
+    (fault-found s m txs triples None).0 (subst (λ a. IsConnectFault s m txs triples (result_err a)) c.in-Ok.is (c.in_ok-connect.ensures.fault triples (table_agrees triples)))
 
 pub returns-clause-fault : goal.returns-clause-fault
 returns-clause-fault c =
@@ -19,4 +20,4 @@ returns-clause-fault c =
     let m = c.args.coins.now.coins in
     let txs = c.args.block.now.txs in
     let triples = c.args.chain.now.table.now in
-    (fault-found s m txs triples (Some c.in-Err.reason)).0 (subst (λ a. IsConnectFault s m txs triples (result_err a)) c.in-Err.is c.in_ok-connect.ensures.fault)
+    (fault-found s m txs triples (Some c.in-Err.reason)).0 (subst (λ a. IsConnectFault s m txs triples (result_err a)) c.in-Err.is (c.in_ok-connect.ensures.fault triples (table_agrees triples)))

@@ -3,8 +3,10 @@ use Rattle.block.specs.declared.block.Block.{Block}
 use Rattle.curve.specs.Known.{Known, Agrees}
 use Rattle.curve.specs.Triple.{Triple}
 use Rattle.queue.specs.declared.undecided.Undecided.TheVariants.{Unknown}
-use Rattle.queue.specs.Jobs.{IsUndecided}
-use Rattle.activate.specs.CoreState.{IsWantedByABlock, WithCoins}
+use Rattle.connect.specs.Stops.{AreWanted, told_by}
+use Rattle.activate.specs.CoreState.{CoreState, WithCoins}
+use Rattle.activate.specs.Wants.{IsWantedByStep}
+use Rattle.chain.specs.Prepared.{command_of}
 use Rattle.chain.specs.Commands.{outcome}
 use Rattle.chain.specs.Submission.{Outcome}
 use Rattle.ffi.specs.SessionState.{SessionState, known_of, rules_under, tree_of}
@@ -13,11 +15,6 @@ use Rattle.ffi.specs.declared.signatures.Signatures.{Signatures}
 use Rattle.ffi.specs.inside.Signatures.{known_in}
 use Rattle.ffi.proofs.Sessions.{known-same}
 use Rattle.ffi.proofs.session.Session.step.Goals as goal
-
-pub returns-in-Ok-clause-outcome : goal.returns-in-Ok-clause-outcome
-returns-in-Ok-clause-outcome c triples agrees =
-    let knows : Agrees (known_in c.self.inside.signatures) triples = subst (λ (k : Known). Agrees k triples) (ap known_of (sym c.self.view_is) ∙ known-same c.self.inside.signatures c.self.inside.chain c.self.inside.wanted.items) agrees in
-    subst (λ (x : SessionState). ◌≡◌ {A = Outcome Block} (c.step_by.new.self.core.state, c.in-Ok.reply) (outcome (rules_under x triples) (tree_of x) c.args.command.now)) c.self.view_is (c.in-Ok.ensures.outcome triples knows)
 
 -- the session after a step that wants these
 abbrev wanting : Signatures → List Triple → WithCoins → SessionState
@@ -29,12 +26,20 @@ wanting signatures items chain = record {
   wanted = items;
 }
 
-pub returns-in-Err-Unknown-clause-refused : goal.returns-in-Err-Unknown-clause-refused
-returns-in-Err-Unknown-clause-refused c =
+pub returns-in-Ok-step-clause-outcome : goal.returns-in-Ok-step-clause-outcome
+returns-in-Ok-step-clause-outcome c triples agrees =
+    let knows : Agrees (known_in c.self.inside.signatures) triples = subst (λ (k : Known). Agrees k triples) (ap known_of (sym c.self.view_is) ∙ known-same c.self.inside.signatures c.self.inside.chain c.self.inside.wanted.items) agrees in
+    subst (λ (x : SessionState). ◌≡◌ {A = Outcome Block} (c.step.new.self.core.state, c.in-Ok-step.reply) (outcome (rules_under x triples) (tree_of x) c.args.command.now)) c.self.view_is
+    (c.in-Ok-step.ensures.outcome triples knows ∙ ap (outcome (rules_under (wanting c.self.inside.signatures c.self.inside.wanted.items c.self.inside.chain) triples) c.self.inside.chain.core.state) c.in-Ok.ensures)
+
+pub returns-clause-refused : goal.returns-clause-refused
+returns-clause-refused c =
     let signatures = c.self.inside.signatures in
     let items = c.in-Err-Unknown.unknown.items in
-    let told : IsUndecided (IsWantedByABlock (known_in signatures)) (Unknown c.in-Err-Unknown.unknown) =
-    subst (IsUndecided (IsWantedByABlock (known_in signatures))) c.in-Err-Unknown.field-0-is c.in-Err-Unknown.ensures.wants in
+    let chain = c.self.inside.chain in
+    let told : AreWanted (IsWantedByStep chain.core c.args.command.now (known_in signatures)) (told_by (Unknown c.in-Err-Unknown.unknown)) =
+    subst (λ k. AreWanted (IsWantedByStep chain.core k (known_in signatures)) (told_by (Unknown c.in-Err-Unknown.unknown))) c.in-Ok.ensures
+    (subst (λ stop. AreWanted (IsWantedByStep chain.core (command_of c.in-Ok.command) (known_in signatures)) (told_by stop)) c.in-Err-Unknown.field-0-is c.in-Err-Unknown.ensures.wants) in
     let knows : known_in signatures ≡ known_of c.args.self.now = sym (ap known_of (sym c.self.view_is) ∙ known-same signatures c.self.inside.chain c.self.inside.wanted.items) in
     inl (
       refl,
@@ -42,6 +47,7 @@ returns-in-Err-Unknown-clause-refused c =
         wanted = items;
         after_is = ap (wanting signatures items) c.in-Err-Unknown.ensures.err ∙ ap (λ (x : SessionState). record x { wanted = items }) c.self.view_is;
         some = told.0;
-        unknown = subst (λ (k : Known). All (IsWantedByABlock k) items) knows told.1;
+        unknown = subst (λ (x : CoreState). All (IsWantedByStep x c.args.command.now (known_of c.args.self.now)) items) (ap (λ (x : SessionState). x.chain.core) c.self.view_is)
+            (subst (λ (k : Known). All (IsWantedByStep chain.core c.args.command.now k) items) knows told.1);
       },
     )
