@@ -1,6 +1,7 @@
 """The tests beside Bitcoin Core's code, from the command line."""
 
 import argparse
+import os
 import sys
 import tempfile
 import time
@@ -8,7 +9,7 @@ from collections import Counter
 from pathlib import Path
 from typing import Dict, List, Sequence
 
-from . import cases, differences, peer, planted, scripts, table
+from . import cases, changed, differences, peer, planted, scripts, table
 from .chainstate import BY_ITSELF, BY_PLACE, ON_BRANCH, REORGANISING, Refusal
 from .compare import Bench, Tally
 from .rules import ALL_KINDS
@@ -27,8 +28,11 @@ REQUIRED = (
 #: Heights of other bases: none, round maturity, round halvings, and below and above each soft fork.
 BASES = (0, 1, 99, 101, 110, 149, 150, 299, 431, 440, 499, 501, 1250, 1252, 1350, 1352)
 #: Bases of script pairs, with other rules in force each.
-SHORT_PAIR_BASES = (440,)
+SHORT_PAIR_BASES = (110, 1360)
 PAIR_BASES = (110, 440, 1260, 1360)
+#: How many pairs of all bases together look for small changes of a reading, and the least share of them that is found.
+CHANGE_PAIRS, LEAST_SHARE = 20000, 95.0
+SHORT_CHANGE_PAIRS, SHORT_LEAST_SHARE = 7000, 95.0
 
 
 def main(words: Sequence[str]) -> int:
@@ -48,7 +52,8 @@ def _options(words: Sequence[str]) -> argparse.Namespace:
     parser.add_argument("--program", help="regchain, whose answers are compared too (else the library's alone)")
     parser.add_argument("--seed", type=int, default=1, help="the first seed of lists and pairs (1)")
     parser.add_argument("--lists", type=int, help="lists on each base (50, on bases of other heights 40 or 20; short 30)")
-    parser.add_argument("--pairs", type=int, help="script pairs on each base (25,000; short 4,000)")
+    parser.add_argument("--pairs", type=int, help="script pairs on each base (25,000; short 3,500)")
+    parser.add_argument("--jobs", type=int, help="processes that look for small changes of a reading (as many as processors, at most 4)")
     parser.add_argument("--keep", type=Path, metavar="FOLDER", help="keeps the peer's data of each base here")
     return parser.parse_args(words)
 
@@ -185,10 +190,12 @@ class _Run:
     def pairs(self) -> int:
         """Script pairs at both."""
         faults = 0
+        every: List[scripts.Pairs] = []
         for height in SHORT_PAIR_BASES if self.short else PAIR_BASES:
             with self._bench(height) as bench:
                 pairs = scripts.Pairs(bench, self.options.seed * 1000003 + height)
-                pairs.play(self.options.pairs or (4000 if self.short else 25000))
+                pairs.play(self.options.pairs or (3500 if self.short else 25000))
+                every.append(pairs)
                 for found in pairs.differing(scripts.right(pairs.height, pairs.author.secp)):
                     faults += 1
                     print(f"FAULT {found}")
@@ -199,7 +206,20 @@ class _Run:
                 said = Counter(others.get(said, "accepted" if said == "accepted" else "refused") for _, said in pairs.played)
                 print(f"{len(pairs.played)} script pairs at height {pairs.height}: " + ", ".join(f"{n} {w}" for w, n in said.most_common()))
                 faults += self._planted_pairs(pairs)
-        return faults
+        self._timed("pairs were played")
+        return faults + self._changed(every)
+
+    def _changed(self, every: Sequence[scripts.Pairs]) -> int:
+        """Of the small changes of a reading of scripts enough are found by some of the pairs."""
+        count, least = (SHORT_CHANGE_PAIRS, SHORT_LEAST_SHARE) if self.short else (CHANGE_PAIRS, LEAST_SHARE)
+        rows = changed.rows_of(every, count // len(every))
+        found = changed.Measure(rows).try_all(self.options.jobs or min(len(os.sched_getaffinity(0)), 4))
+        share = changed.print_table(found, len(rows), not self.short)
+        self._timed("small changes were looked for")
+        if self.options.pairs is None and share < least:
+            print(f"FAULT less than {least} % of the small changes are found")
+            return 1
+        return 0
 
     def _planted_pairs(self, pairs: scripts.Pairs) -> int:
         faults, secp = 0, pairs.author.secp

@@ -14,6 +14,7 @@ from wakotehu.signatures import Secp256k1
 
 from . import interpreter
 from .compare import Bench
+from .families import Families, Plan
 from .peer import has_work
 from .spelling import BITS, Logical
 from .trees import FINAL, TRUE
@@ -212,27 +213,35 @@ class Author:
 
     # ---- inputs
 
+    def plan(self) -> Plan:
+        """An output at random, and inputs at random for it."""
+        spent = self.output()
+        return Plan(spent, lambda tx, at: self.input(spent, tx, at))
+
     def spend(
-        self, spent: bytes, outpoint: Tuple[bytes, int], others: Sequence[Tuple[bytes, int]], value: int, height: int, time: int
+        self, plan: Plan, outpoint: Tuple[bytes, int], others: Sequence[Tuple[bytes, int]], value: int, height: int, time: int
     ) -> Pair:
         """A transaction that spends an output, and up to three others, and is final at a height."""
-        version = self.chance.choice((1, 2, 2, 3, -1))
-        sequence = self.chance.choice((FINAL, FINAL - 1, 0, 1, 5, 1 << 22, (1 << 22) | 5, 1 << 31, 65535))
-        lock = self.chance.choice((0, 0, 1, 100, height - 1, time - 100000)) if sequence != FINAL else self.chance.choice((0, 2**32 - 1, 600000000))
-        if height >= 432 and version in (2, 3, -1) and not sequence & 1 << 31:
-            # The lock of BIP 68 has to be met by a coin of the block below.
-            sequence &= 1 << 22 | 1 if self.chance.random() < 0.9 else FINAL
-            sequence &= ~(1 << 22)
+        version = self.chance.choice((1, 2, 2, 3, -1)) if plan.version is None else plan.version
+        sequence, lock = plan.sequence, plan.lock_time
+        if sequence is None:
+            sequence = self.chance.choice((FINAL, FINAL - 1, 0, 1, 5, 1 << 22, (1 << 22) | 5, 1 << 31, 65535))
+            if height >= 432 and not 0 <= version < 2 and not sequence & 1 << 31:
+                # The lock of BIP 68 has to be met by a coin of the block below.
+                sequence &= 1 if self.chance.random() < 0.9 else FINAL & ~(1 << 22)
+        if lock is None:
+            locks = (0, 0, 1, 100, height - 1, time - 100000) if sequence != FINAL else (0, 2**32 - 1, 600000000)
+            lock = self.chance.choice(locks)
         outputs = [Output(value // 4, TRUE), Output(0, b"\x52"), Output(1, TRUE), Output(2, TRUE)]
-        outputs = outputs[: self.chance.choice((1, 1, 2, 2, 4))]
+        outputs = outputs[: self.chance.choice((1, 1, 2, 2, 3, 4))]
         of = (FINAL,) if sequence == FINAL else (FINAL, FINAL - 1, 0, 1, (1 << 31) | 5)
         more = self.chance.sample(others, self.chance.choice((0, 0, 1, 2, 3)))
         inputs = [Input(*other, b"", self.chance.choice(of)) for other in more]
         at = self.chance.randrange(len(inputs) + 1)
         inputs.insert(at, Input(*outpoint, b"", sequence))
         tx = Transaction(version, inputs, outputs, lock)
-        inputs[at] = inputs[at]._replace(script=self.input(spent, tx, at))
-        return Pair(spent, tx, at)
+        inputs[at] = inputs[at]._replace(script=plan.own(tx, at))
+        return Pair(plan.spent, tx, at)
 
     def input(self, spent: bytes, tx: Transaction, at: int) -> bytes:
         if spent in self.inner and self.chance.random() < 0.95:
@@ -362,37 +371,46 @@ class Disagreement(NamedTuple):
 #: How many coins there are for other inputs.
 OTHER_COINS = 8
 
+#: How many outputs a block has, how often each is spent, and the share of pairs that are of no family.
+OUTPUTS, SPENDS, AT_RANDOM = 500, 2, 0.2
+
 #: Answers that aren't about scripts: the coin isn't there (it can't be spent at all), or a lock of BIP 68 isn't met.
 OTHERS = ("bad-txns-inputs-missingorspent", "bad-txns-nonfinal")
 
 
 @dataclass
 class Pairs:
-    """Pairs over outputs that stand in a block on a bench's base, and what the peer says of each."""
+    """Pairs over outputs that stand in a block on a bench's base, and what the peer says of each: of families mostly."""
 
     bench: Bench
     seed: int
 
     def __post_init__(self) -> None:
-        self.author = Author(random.Random(self.seed))
+        chance = random.Random(self.seed)
+        self.author = Author(chance)
         self.height = self.bench.height + 2
+        self.time = self.bench.maker.base[-1].time + 600
+        self.families = Families(chance, self.height, self.time)
         self.played: List[Tuple[Pair, str]] = []
         self._value = 0
 
     def play(self, count: int) -> None:
-        """So many pairs, over a fifth as many outputs."""
-        outputs = [self.author.output() for _ in range(max(1, count // 5))]
-        for first in range(0, len(outputs), 500):
-            self._play_over(outputs[first : first + 500], 5)
+        """So many pairs, over half as many outputs."""
+        plans = [self._plan() for _ in range(max(1, count // SPENDS))]
+        for first in range(0, len(plans), OUTPUTS):
+            self._play_over(plans[first : first + OUTPUTS])
 
-    def _play_over(self, outputs: List[bytes], times: int) -> None:
+    def _plan(self) -> Plan:
+        return self.author.plan() if self.author.chance.random() < AT_RANDOM else self.families.plan()
+
+    def _play_over(self, plans: List[Plan]) -> None:
         bench = self.bench
         coin = next(c for c in bench.maker.coins if c.kind == "true")
-        value = self._value = coin.value // (len(outputs) + OTHER_COINS)
-        made = [Output(value, script) for script in (*outputs, *[TRUE] * OTHER_COINS)]
+        value = self._value = coin.value // (len(plans) + OTHER_COINS)
+        made = [Output(value, script) for script in (*(plan.spent for plan in plans), *[TRUE] * OTHER_COINS)]
         funding = Transaction(1, [Input(coin.id, coin.index, b"", FINAL)], made, 0)
-        others = [(funding.id, n) for n in range(len(outputs), len(made))]
-        above = bench.maker.base[-1].time + 600
+        others = [(funding.id, n) for n in range(len(plans), len(made))]
+        above = self.time
         # A coinbase of its own, so that no two blocks are equal.
         self.seed += 1
         top = coinbase(bench.height + 1, subsidy(bench.height + 1), TRUE, struct.pack("<Q", self.seed % 2**64))
@@ -401,15 +419,15 @@ class Pairs:
         if bench.peer.submit(data) != "accepted":
             raise RuntimeError("the block with the outputs is refused")
         pairs = [
-            self.author.spend(o, (funding.id, n), others, value, self.height, above)
-            for _ in range(times)
-            for n, o in enumerate(outputs)
+            self.author.spend(plan, (funding.id, n), others, value, self.height, above)
+            for _ in range(SPENDS)
+            for n, plan in enumerate(plans)
         ]
         for first in range(0, len(pairs), 200):
             part = pairs[first : first + 200]
             answers = bench.peer.propose([proposal(p, value, self.height, above + 600, id) for p in part])
             self.played += zip(part, answers)
-        for pair, said in self.played[-len(pairs) :: max(1, len(pairs) // 8)]:
+        for pair, said in self.played[-len(pairs) :: max(1, len(pairs) // 4)]:
             self._submit(blocks, id, pair, said)
         bench.peer.mark("invalidate", id)
 
