@@ -3,11 +3,17 @@ the step in which it happens refused."""
 import glob
 import os
 import subprocess
+import sys
 from collections import Counter
 
 import running
 from running import ROOT, ProgramTest, lines
 from writing import transaction
+
+sys.path[:0] = [os.path.join(ROOT, "tests", "refusals"), os.path.join(ROOT, "tools")]
+
+import places  # noqa: E402
+import unproved  # noqa: E402
 
 # A coin that comes where one map holds so many has many maps opened, and each that comes then brings one over
 # (crates/coins).
@@ -147,7 +153,7 @@ class RefusedCoins(ProgramTest):
 
     def run_forks(self, line: int, **more: int) -> list[int]:
         """Refuses allocations of the step whose answer is in the line of this number: how many it makes, how many
-        processes ended by a signal, and how many with another status than 0."""
+        processes ended by a signal, how many with another status than 0, and how many were refused."""
         settings = {"FROM": line - 1, "TO": line, "LINES": CALL, "LONG": LONG, "LONG_LINES": 2 * CALL, **more}
         settings["AT_ONCE"] = os.cpu_count() or 1
         env = {f"FORKS_{name}": str(value) for name, value in settings.items()}
@@ -155,6 +161,7 @@ class RefusedCoins(ProgramTest):
             os.remove(file)
         words = [running.PROGRAM, "run", "--scenario", "scenario.txt", "--workers", "1"]
         env |= {"LD_PRELOAD": self.shim, "FORKS_ROOM": self.path("room")}
+        env |= {"STACKS_TABLE": self.path("table"), "STACKS_FILE": self.path("room/stacks")}
         with open(self.path("out"), "wb") as out:
             subprocess.run(words, cwd=self.folder, env=env, stdout=out, stderr=subprocess.DEVNULL, check=True, timeout=300)
         return [int(word) for word in self.read("room/count").split()]
@@ -164,8 +171,9 @@ class RefusedCoins(ProgramTest):
         refused what the answer's line takes ends with a fault, and wrote nothing."""
         number = self.run_forks(line, FIRST=0, LAST=0)[0]
         self.assertGreater(number, 2 * ENDS)
-        _, killed, faults = self.run_forks(line, FIRST=ENDS, LAST=number - ENDS, APART=APART)
+        _, killed, faults, refused = self.run_forks(line, FIRST=ENDS, LAST=number - ENDS, APART=APART)
         self.assertEqual(killed, 0)
+        self.expect_stacks(number, refused)
         met: Counter[str] = Counter()
         for file in glob.glob(self.path("room/[0-9]*")):
             written = self.read(file).splitlines()
@@ -180,8 +188,23 @@ class RefusedCoins(ProgramTest):
         self.assertEqual(sorted(met), sorted(answers))
         self.assertGreater(sum(met.values()), 2 * ENDS + (number - 2 * ENDS) // APART - 20)
 
+    def expect_stacks(self, number: int, refused: int) -> None:
+        """At least one allocation of each call stack was refused, and each call stack could be read. Prints which weren't."""
+        stacks = list(places.stacks_in(self.path("room/stacks")))
+        met = {it.hash: it for it in stacks if it.kind == "met"}
+        self.assertEqual(met.keys(), {it.hash for it in stacks if it.kind == "refused"})
+        self.assertGreater(len(met), 20)
+        self.assertEqual([it for it in met.values() if not self.calls.is_consistent(it.frames)], [])
+        print(
+            f"of {number} allocations by {len(met)} call stacks {refused} are refused, of each stack one; the others, from {ENDS + 1} "
+            f"to {number - ENDS} except for each {APART}th, are of the same stacks",
+            file=sys.__stdout__,
+        )
+
     def test_allocations_refused(self) -> None:
         self.make_folder("room")
+        self.calls = places.Program(running.PROGRAM, set(unproved.crates(ROOT)))
+        self.calls.write_table(self.path("table"))
         before = ["txout A:1 = 1 51 height 105 conf 2 @106", "txout A:3 = 1 51 height 105 conf 2 @106"]
         before += ["txout B:0 = 1 51 height 106 conf 1 @106", "txout X:0 = none @106", "best = b @106"]
 

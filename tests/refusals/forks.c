@@ -8,19 +8,17 @@
  * refuses nothing.
  *
  * The process forks at the first FORKS_FIRST allocations, at those behind the number FORKS_LAST, and at every FORKS_APART-th
- * between; at none where FORKS_LAST is 0. At most FORKS_AT_ONCE children run at once. At its end the parent writes into
- * the file `count` of FORKS_ROOM how many allocations there were, how many children ended by a signal, and how many with
- * another status than 0. The program has to run on one thread.
+ * between; at none where FORKS_LAST is 0. Where STACKS_TABLE and STACKS_FILE are there (stacks.h), it forks too at the first
+ * allocation of each call stack, and both are told of each: that it was met, and that it was refused. At most FORKS_AT_ONCE
+ * children run at once. At its end the parent writes into the file `count` of FORKS_ROOM how many allocations there were, how
+ * many children ended by a signal, how many with another status than 0, and how many there were. The program has to run on one
+ * thread.
  */
 #define _GNU_SOURCE
 #include <errno.h>
-#include <fcntl.h>
-#include <stdio.h>
-#include <stdlib.h>
-#include <string.h>
-#include <sys/syscall.h>
 #include <sys/wait.h>
-#include <unistd.h>
+
+#include "stacks.h"
 
 extern void *__libc_malloc(size_t size);
 extern void *__libc_calloc(size_t count, size_t size);
@@ -28,7 +26,7 @@ extern void *__libc_realloc(void *block, size_t size);
 extern void *__libc_memalign(size_t alignment, size_t size);
 
 static unsigned long from, to, lines, last_line, long_apart, long_lines, at_once, first, last, apart;
-static unsigned long number, running, killed, refused;
+static unsigned long number, running, killed, refused, forked;
 static const char *room;
 static int is_child;
 
@@ -65,19 +63,27 @@ static void become_child(void)
     alarm(120); /* one that hangs is ended by SIGALRM */
 }
 
-/* Whether the process forks at the allocation of this number. */
-static int is_chosen(void)
+/* Whether the process forks at the allocation of this number; what is told of its stack. */
+static int is_chosen(struct caller by)
 {
-    return last && (number <= first || number > last || (apart && number % apart == 0));
+    int is_of_number = number <= first || number > last || (apart && number % apart == 0);
+    struct stack stack;
+    if (!last || !stacks_table)
+        return last && is_of_number;
+    stacks_walk(&stack, by);
+    int is_new = stacks_tell(&stack, 0, number);
+    if (is_new || is_of_number)
+        stacks_tell(&stack, 1, number);
+    return is_new || is_of_number;
 }
 
 /* Whether this allocation is refused. */
-static int refuse(void)
+static int refuse(struct caller by)
 {
     if (is_child || !room || lines < from || lines >= to)
         return 0;
     number++;
-    if (!is_chosen())
+    if (!is_chosen(by))
         return 0;
     while (running >= at_once)
         reap();
@@ -86,6 +92,7 @@ static int refuse(void)
         leave(97);
     if (child > 0) {
         running++;
+        forked++;
         return 0;
     }
     become_child();
@@ -95,27 +102,27 @@ static int refuse(void)
 
 void *malloc(size_t size)
 {
-    return refuse() ? NULL : __libc_malloc(size);
+    return refuse(CALLER) ? NULL : __libc_malloc(size);
 }
 
 void *calloc(size_t count, size_t size)
 {
-    return refuse() ? NULL : __libc_calloc(count, size);
+    return refuse(CALLER) ? NULL : __libc_calloc(count, size);
 }
 
 void *realloc(void *block, size_t size)
 {
-    return refuse() ? NULL : __libc_realloc(block, size);
+    return refuse(CALLER) ? NULL : __libc_realloc(block, size);
 }
 
 void *aligned_alloc(size_t alignment, size_t size)
 {
-    return refuse() ? NULL : __libc_memalign(alignment, size);
+    return refuse(CALLER) ? NULL : __libc_memalign(alignment, size);
 }
 
 int posix_memalign(void **block, size_t alignment, size_t size)
 {
-    void *made = refuse() ? NULL : __libc_memalign(alignment, size);
+    void *made = refuse(CALLER) ? NULL : __libc_memalign(alignment, size);
     if (!made)
         return ENOMEM;
     *block = made;
@@ -154,6 +161,7 @@ __attribute__((constructor)) static void begin(void)
     if (at_once == 0)
         at_once = 1;
     room = getenv("FORKS_ROOM");
+    stacks_begin(getenv("STACKS_TABLE"), getenv("STACKS_FILE"), 1);
 }
 
 /* The runtime ends the process by this, so nothing can be done behind `main`. */
@@ -166,7 +174,7 @@ void _exit(int status)
     char name[4096], text[64];
     snprintf(name, sizeof name, "%s/count", room);
     int file = open(name, O_WRONLY | O_CREAT | O_TRUNC, 0644);
-    int length = snprintf(text, sizeof text, "%lu %lu %lu\n", number, killed, refused);
+    int length = snprintf(text, sizeof text, "%lu %lu %lu %lu\n", number, killed, refused, forked);
     if (file < 0 || syscall(SYS_write, file, text, (size_t)length) != length)
         leave(99);
     leave(status);

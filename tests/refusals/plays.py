@@ -52,8 +52,8 @@ class Play(collections.namedtuple("Play", "door name seats skipped count")):
         numbers |= {"refused": self.count, "first": first, "count": number}
         return [self.door, "-", *(f"{name}={value}" for name, value in numbers.items())]
 
-    def run(self, shim, first, number):
-        env = {"LD_PRELOAD": shim, "REFUSALS_SECONDS": str(SECONDS)}
+    def run(self, shim, first, number, **more):
+        env = shim.env(REFUSALS_SECONDS=SECONDS, **more)
         how = {"env": env, "input": self.text, "capture_output": True, "text": True}
         return subprocess.run([PLAYER, *self.words(first, number)], **how)
 

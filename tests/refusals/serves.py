@@ -91,11 +91,11 @@ def one_by_one(words, env, lines):
         return subprocess.CompletedProcess(words, served.returncode, b"".join(out) + rest, err)
 
 
-def serve(regchain, how, lines, folder, more=(), shim=None, at=0, count=0):
+def serve(regchain, how, lines, folder, more=(), shim=None, at=0, count=0, **env):
     """A run: how it ended, and how many allocations counted and were refused."""
-    report, env = f"{folder}.report", {}
+    report = f"{folder}.report"
     if shim:
-        env = {"LD_PRELOAD": shim, "REFUSE_AT": str(at), "REFUSE_COUNT": str(count), "REFUSE_REPORT": report}
+        env = shim.env(REFUSE_AT=at, REFUSE_COUNT=count, REFUSE_REPORT=report, **env)
     words = [regchain, "serve", "--seats", "2", "--save", folder, *more]
     try:
         ran = how(words, env, lines)
@@ -129,17 +129,18 @@ class Kind(NamedTuple):
 class Sweep:
     """What a served node meets."""
 
-    def __init__(self, regchain, shim, kind, faults):
-        self.regchain, self.shim, self.kind, self.faults = regchain, shim, kind, faults
+    def __init__(self, regchain, places, kind, faults):
+        self.regchain, self.places, self.kind, self.faults = regchain, places, kind, faults
         self.lines = kind.lines
         self.met, self.lock = collections.Counter(), threading.Lock()
 
-    def serve(self, folder, at=0, count=0):
+    def serve(self, folder, shim, at=0, count=0, **env):
         os.mkdir(folder)
-        return serve(self.regchain, self.kind.how, self.lines, folder, self.kind.more, self.shim, at, count)
+        return serve(self.regchain, self.kind.how, self.lines, folder, self.kind.more, shim, at, count, **env)
 
     def run(self, room, pool):
-        whole, counted, _ = self.serve(f"{room}/whole")
+        met, stacks = self.places.meet(lambda telling: self.serve(f"{room}/whole", telling, STACKS_MET=1))
+        whole, counted, _ = met
         if whole is None or whole.returncode or whole.stderr:
             self.faults.add(f"{self.kind}: fails with nothing refused: {whole}")
             return 0
@@ -148,6 +149,8 @@ class Sweep:
             self.faults.add(f"{self.kind}: not an answer a line with nothing refused")
         # Threads begin in another order each time, so some more are tried than counted.
         list(pool.map(lambda at: self.once(room, at), range(1, counted + 6)))
+        refused = self.places.refused()
+        list(pool.map(lambda stack: self.once(room, 0, stack), [it.hash for it in stacks if it.hash not in refused]))
         if not self.met["refused"]:
             self.faults.add(f"{self.kind}: nothing was refused")
         return counted
@@ -156,14 +159,15 @@ class Sweep:
     def key(answer):
         return json.dumps(answer["id"])
 
-    def once(self, room, at):
-        folder = f"{room}/{at}"
-        ran, _, refused = self.serve(folder, at, self.kind.count)
+    def once(self, room, at, stack=0):
+        """A run in which the allocation of this number is refused, or the first one of a call stack."""
+        folder = f"{room}/{at}-{stack}"
+        ran, _, refused = self.serve(folder, self.places.shim, at, self.kind.count, REFUSE_STACK=stack)
         what = self.outcome(ran, folder)
         if what in ("told", "fault") and not refused:
             what = f"{what}, and nothing was refused"
         if what not in ("right", "told", "fault"):
-            self.faults.add(f"{self.kind}, allocation {at}: {what}")
+            self.faults.add(f"{self.kind}, allocation {at or f'of the stack {stack}'}: {what}")
         with self.lock:
             self.met[what] += 1
             self.met["refused"] += refused
@@ -243,9 +247,9 @@ def kinds(regchain, room):
     return found
 
 
-def play(regchain, room, shim, faults, pool):
+def play(regchain, room, places, faults, pool):
     for number, kind in enumerate(kinds(regchain, room)):
-        sweep = Sweep(regchain, shim, kind, faults)
+        sweep = Sweep(regchain, places, kind, faults)
         folder = f"{room}/serve{number}"
         os.mkdir(folder)
         counted = sweep.run(folder, pool)

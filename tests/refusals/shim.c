@@ -10,6 +10,9 @@
  *   REFUSALS_ON    Allocations count from here,
  *   REFUSALS_OFF   to here. The answer is how many were refused in between.
  *
+ * With REFUSE_STACK, a number, also the first allocation is refused whose call stack has that hash; stacks.h says how stacks
+ * are read and told.
+ *
  * A program that asks nothing is told by two variables of its environment, REFUSE_AT (N) and REFUSE_COUNT (M): then all
  * allocations count from the first one on, those before `main` too. Where REFUSE_REPORT is a file, it is written at the
  * end: how many counted, and how many were refused.
@@ -30,13 +33,50 @@ extern char **environ;
 static atomic_int counting;
 static atomic_ulong counted, refused, first, most, refused_before;
 
-/* Whether this allocation is refused. */
-static int refuse(void)
+/* Whether the allocation of this number is one of those that are refused. */
+static int is_of_number(unsigned long number)
 {
-    if (!atomic_load(&counting))
-        return 0;
-    unsigned long number = atomic_fetch_add(&counted, 1) + 1, from = atomic_load(&first);
-    if (from == 0 || number < from || number - from >= atomic_load(&most))
+    unsigned long least = atomic_load(&first);
+    return least != 0 && number >= least && number - least < atomic_load(&most);
+}
+
+#ifdef LINKED
+
+/* No stacks are read. */
+#define CALLER 0
+#define is_refused(number, caller) is_of_number(number)
+typedef int caller;
+
+#else
+
+#include "stacks.h"
+
+typedef struct caller caller;
+static uint64_t refused_stack;
+static atomic_int is_stack_refused;
+
+/* Whether the allocation of this number is one of those that are refused, and what is told of its stack. */
+static int is_refused(unsigned long number, caller by)
+{
+    int is_chosen = is_of_number(number);
+    struct stack stack;
+    if (!stacks_table || (!is_chosen && !stacks_met && !refused_stack))
+        return is_chosen;
+    stacks_walk(&stack, by);
+    if (stack.hash == refused_stack && !atomic_exchange(&is_stack_refused, 1))
+        is_chosen = 1;
+    if (is_chosen || stacks_met)
+        stacks_tell(&stack, is_chosen, number);
+    return is_chosen;
+}
+
+#endif
+
+/* Whether this allocation is refused, which is asked for from there. */
+static int refuse(caller by)
+{
+    (void)by;
+    if (!atomic_load(&counting) || !is_refused(atomic_fetch_add(&counted, 1) + 1, by))
         return 0;
     atomic_fetch_add(&refused, 1);
     errno = ENOMEM;
@@ -53,14 +93,14 @@ struct tried {
 
 struct tried rattle_alloc(size_t size, size_t alignment)
 {
-    void *block = refuse() ? NULL : malloc(size ? size : alignment);
+    void *block = refuse(CALLER) ? NULL : malloc(size ? size : alignment);
     return (struct tried){block != NULL, block};
 }
 
 struct tried rattle_realloc(void *block, size_t kept, size_t size, size_t alignment)
 {
     (void)kept;
-    void *moved = refuse() ? NULL : realloc(block, size ? size : alignment);
+    void *moved = refuse(CALLER) ? NULL : realloc(block, size ? size : alignment);
     return (struct tried){moved != NULL, moved};
 }
 
@@ -98,27 +138,27 @@ extern void *__libc_memalign(size_t alignment, size_t size);
 
 void *malloc(size_t size)
 {
-    return refuse() ? NULL : __libc_malloc(size);
+    return refuse(CALLER) ? NULL : __libc_malloc(size);
 }
 
 void *calloc(size_t count, size_t size)
 {
-    return refuse() ? NULL : __libc_calloc(count, size);
+    return refuse(CALLER) ? NULL : __libc_calloc(count, size);
 }
 
 void *realloc(void *block, size_t size)
 {
-    return refuse() ? NULL : __libc_realloc(block, size);
+    return refuse(CALLER) ? NULL : __libc_realloc(block, size);
 }
 
 void *aligned_alloc(size_t alignment, size_t size)
 {
-    return refuse() ? NULL : __libc_memalign(alignment, size);
+    return refuse(CALLER) ? NULL : __libc_memalign(alignment, size);
 }
 
 int posix_memalign(void **block, size_t alignment, size_t size)
 {
-    void *made = refuse() ? NULL : __libc_memalign(alignment, size);
+    void *made = refuse(CALLER) ? NULL : __libc_memalign(alignment, size);
     if (!made)
         return ENOMEM;
     *block = made;
@@ -190,6 +230,11 @@ static char *answer(const char *name)
 
 __attribute__((constructor)) static void begin(void)
 {
+#ifndef LINKED
+    const char *stack = found("REFUSE_STACK");
+    stacks_begin(found("STACKS_TABLE"), found("STACKS_FILE"), found("STACKS_MET") != NULL);
+    refused_stack = stack ? strtoull(stack, NULL, 10) : 0;
+#endif
     if (!found("REFUSE_AT"))
         return;
     atomic_store(&first, number_of("REFUSE_AT", 0));
