@@ -534,11 +534,11 @@ def _longest_coin(m: "Making", at: int) -> Optional[Laid]:
     return Laid(m.template(m.lay(m.template(at, [tx])), [spend], coins[0].value), len(script) < 100)
 
 
-@_of(COINS, "bad-txns-premature-spend-of-coinbase")
+@_of(COINS, "bad-txns-premature-spend-of-coinbase", 3)
 def _age(m: "Making", at: int) -> Optional[Laid]:
     """Coins of coinbases at their edge: 99 (or fewer), 100 and 101 blocks."""
     branch = m.branches[at]
-    age = m.chance.choice((99, 99, 99, 98, 1, 100, 101))
+    age = m.chance.choice((99, 99, 99, 99, 99, 98, 1, 100, 101))
     coins = [
         coin
         for coin in (*m.maker.coins, *branch.made.values())

@@ -9,9 +9,10 @@ from typing import Callable, List, NamedTuple, Optional, Tuple, Type
 
 from wakotehu.encoding import GENESIS
 
+from . import goals
 from .chainstate import Chainstate, Refusal
 from .peer import HEIGHTS, Peer, remove
-from .playing import CORE, OURS, Base, Lines, Played, model, play_library, play_model, play_peer, play_program, write_scenario
+from .playing import CORE, Base, Lines, Played, model, play_library, play_model, play_peer, play_program, write_scenario
 from .trees import List_, Maker
 
 
@@ -41,6 +42,8 @@ class Tally:
     #: Replies of ours, and which rules were broken where.
     replies: "Counter[str]" = field(default_factory=Counter)
     refusals: "Counter[Refusal]" = field(default_factory=Counter)
+    #: How often the rules were asked at their edges.
+    edges: "Counter[str]" = field(default_factory=Counter)
 
 
 class Four(NamedTuple):
@@ -79,6 +82,7 @@ def count(four: Four, tally: Tally) -> None:
         else:
             tally.apart += 1
     tally.refusals.update(four.chain.refusals)
+    tally.edges.update(goals.told(four.chain))
 
 
 def as_core(played: Played) -> Played:
@@ -91,6 +95,7 @@ class Bench:
     def __init__(self, height: int, room: Path, program: Optional[str] = None, kept: Optional[Path] = None) -> None:
         self.maker = Maker(height)
         self.base = Base(self.maker.base)
+        self.made = {tx.id for block in self.maker.base for tx in block.transactions}
         self.product: Callable[[Lines], Played] = play_library
         self.height, self.program = height, program
         self.folder = room / f"peer-{height}"
@@ -126,7 +131,7 @@ class Bench:
         """Plays a list at both, and by what each has to say."""
         lines = Lines(self.base, list_)
         core, core_expected = play_peer(self.peer, lines), self.expect(lines)
-        chain = model(OURS, self.base, lines)
+        chain = goals.telling(self.base, lines, self.made)
         return lines, Four(core, self.product(lines), core_expected, play_model(lines, chain), chain)
 
     def play(self, list_: List_, tally: Tally) -> Optional[Difference]:

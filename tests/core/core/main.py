@@ -9,7 +9,7 @@ from collections import Counter
 from pathlib import Path
 from typing import Dict, List, Sequence
 
-from . import cases, changed, differences, peer, planted, scripts, table
+from . import cases, changed, differences, goals, peer, planted, scripts, table
 from .chainstate import BY_ITSELF, BY_PLACE, ON_BRANCH, REORGANISING, Refusal
 from .compare import Bench, Tally
 from .rules import ALL_KINDS
@@ -119,7 +119,8 @@ class _Run:
                         print("FAULT " + bench.report(played.lines.list, found))
         recorded = [played for pair in zip(*by_base) for played in pair]
         self._timed("lists were played")
-        faults += self._told(tally) + self._reasons(tally) + self._products(recorded) + self._wrong(recorded)
+        faults += self._told(tally) + self._reasons(tally) + self._edges(tally)
+        faults += self._products(recorded) + self._wrong(recorded)
         self._timed("wrong rules were looked for")
         return faults
 
@@ -157,6 +158,13 @@ class _Run:
                     faults += 1
                     print(f"FAULT {reason} {where} came {count} times, not {wanted}")
         return faults
+
+    def _edges(self, tally: Tally) -> int:
+        """The lists came to the edges of the rules."""
+        faults = goals.lacking(tally.edges, tally.lists)
+        for fault in faults:
+            print(f"FAULT {fault}")
+        return len(faults)
 
     def _products(self, recorded: Sequence[planted.Recorded]) -> int:
         """Wrong products are found."""
