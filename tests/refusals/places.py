@@ -256,7 +256,7 @@ class Places:
         met, told = self._places(every.values()), self._places(refused.values())
         never = Counter(program.calls[it].function for it in program.all_places() - met)
         print(f"{os.path.basename(program.path)}: {len(met)} places that ask for memory were met, {len(told)} of them refused, by")
-        print(f"  {len(every)} and {len(refused)} call stacks; {sum(never.values())} places, of {len(never)} functions, were never met", flush=True)
+        print(f"  {len(every)} and {len(refused)} call stacks; {sum(never.values())} places, of {len(never)} functions, were never met")
         for function, count in sorted(never.items()) if is_each_told else ():
             print(f"    {count} in {function}")
         odd = [it for it in every.values() if not program.is_consistent(it.frames)]
