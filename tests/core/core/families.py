@@ -7,7 +7,7 @@ Nothing here says what is accepted: most scripts test by themselves all that an 
 import random
 from dataclasses import dataclass
 from enum import Enum
-from typing import Callable, List, NamedTuple, Optional, Sequence, Tuple, Union
+from typing import Any, Callable, Dict, List, NamedTuple, Optional, Sequence, Tuple, TypeVar, Union
 
 from wakotehu.encoding import Input, Output, Transaction, hash160, push, signature_digest
 from wakotehu.signatures import Secp256k1
@@ -36,6 +36,7 @@ class Place(Enum):
 
 
 Part = Union[bytes, Place]
+Item = TypeVar("Item")
 
 #: Numbers at which a spelling grows by a byte, and round them.
 SIZES = (0, 1, 2, 3, 15, 16, 17, 126, 127, 128, 129, 254, 255, 256, 257, 32767, 32768, 65535, 65536, 8388607, 8388608, 2**31 - 1)
@@ -55,7 +56,15 @@ NEVER = (*range(0x7E, 0x82), *range(0x83, 0x87), 0x8D, 0x8E, *range(0x95, 0x9A),
 #: Those that fail only where they are run.
 RESERVED = (0x50, 0x62, 0x89, 0x8A, 0x6A, *range(0xBA, 0x100))
 NOTHING = (0x61, 0xB0, *range(0xB3, 0xBA))
-KINDS = (1, 1, 1, 2, 2, 3, 3, 3, 0x81, 0x82, 0x83, 0x83)
+#: How many elements each opcode takes at least.
+TAKES: Dict[int, int] = {
+    **{code: takes for code, (takes, _) in MOVES.items() if takes}, **{code: 1 for code in (*UNARY, *HASHES, 0x63, 0x64, 0x69, 0x6B)},
+    **{code: 2 for code in (*BINARY, 0x79, 0x7A, 0x87, 0x88, 0xAC, 0xAD)}, **{code: 3 for code in (0xA5, 0xAE, 0xAF)},
+}  # fmt: skip
+FEW = tuple((code, takes, less) for code, takes in TAKES.items() for less in (0, 1))
+#: Opcodes that have no effect where they aren't run.
+NOT_RUN = tuple(code for code in range(0x4F, 0x100) if code not in (0x63, 0x64, 0x67, 0x68, *NEVER))
+KINDS = (1, 2, 3, 3, 0x81, 0x82, 0x83)
 
 SECRETS = [n.to_bytes(32, "big") for n in (3, 5, 7, 11, 13)]
 
@@ -85,14 +94,23 @@ class Families:
     def __post_init__(self) -> None:
         self.secp = Secp256k1()
         self.keys = [self.secp.public_key(secret) for secret in SECRETS]
+        self.decks: Dict[Tuple[object, ...], List[Any]] = {}
         # Fewer of those that ask for a rule which isn't in force yet.
         strict, lock_times, sequences = (12 if self.height >= first else 2 for first in (1251, 1351, 432))
         self.all: Sequence[Tuple[int, Callable[[], Plan]]] = (
             (16, self.numbers), (12, self.moves), (6, self.picks), (5, self.hashes), (5, self.truths), (5, self.pushes),
-            (10, self.each_opcode), (10, self.conditions), (12, self.limits), (strict, self.strict), (20, self.signed),
+            (10, self.each_opcode), (16, self.few), (10, self.conditions), (12, self.limits), (strict, self.strict), (20, self.signed),
             (8, self.taken_out), (10, self.many), (lock_times, self.lock_times), (sequences, self.sequences),
             (5, self.script_hashes), (4, self.own_scripts),
         )  # fmt: skip
+
+    def dealt(self, items: Sequence[Item]) -> Item:
+        """One of these: each comes once before any comes again."""
+        deck = self.decks.setdefault(tuple(items), [])
+        if not deck:
+            deck += self.chance.sample(items, len(items))
+        found: Item = deck.pop()
+        return found
 
     def plan(self) -> Plan:
         """One of them; at times behind its hash."""
@@ -171,9 +189,9 @@ class Families:
         first = self.value()
         draw = self.chance.random()
         if draw < 0.25:
-            code, values = self.chance.choice(UNARY), [first]
+            code, values = self.dealt(UNARY), [first]
         elif draw < 0.85:
-            code, values = self.chance.choice(BINARY), [first, self.near(first) if self.chance.random() < 0.6 else self.value()]
+            code, values = self.dealt(BINARY), [first, self.near(first) if self.chance.random() < 0.6 else self.value()]
         else:
             code, values = 0xA5, [self.near(first), self.near(first), self.near(first)]
         if self.chance.random() < 0.4:
@@ -182,7 +200,7 @@ class Families:
         return self.closed(bytes([code]), front[1:] if self.amiss() and len(front) == len(values) else front)
 
     def moves(self) -> Plan:
-        code = self.chance.choice(tuple(MOVES))
+        code = self.dealt(tuple(MOVES))
         takes, _ = MOVES[code]
         front = self.shorts(takes + self.chance.choice((0, 0, 1, 2)) + self.amiss())
         if code == 0x82:
@@ -207,7 +225,7 @@ class Families:
 
     def hashes(self) -> Plan:
         data = self.chance.randbytes(self.chance.choice((0, 1, 32, 33, 55, 56, 63, 64, 65, 119, 120, 520)))
-        return self.closed(bytes([self.chance.choice(HASHES)]), self.shorts(self.chance.choice((0, 1))) + [data][: 1 + self.amiss()])
+        return self.closed(bytes([self.dealt(HASHES)]), self.shorts(self.chance.choice((0, 1))) + [data][: 1 + self.amiss()])
 
     def truths(self) -> Plan:
         """Elements that are true or false, at the end, and where opcodes take them."""
@@ -242,22 +260,36 @@ class Families:
 
     def each_opcode(self) -> Plan:
         """Any opcode, where it is run and where it isn't, behind elements that suit most."""
-        code = self.chance.choice(self.chance.choice((range(0x4F, 0xBC), range(256), NEVER, RESERVED)))
+        code = self.dealt(self.chance.choice((range(0x4F, 0xBC), range(256), NEVER, RESERVED)))
         whole = bytes([code])
         if code <= 75:
             whole += self.chance.randbytes(code)
         elif code <= 0x4E:
             whole += (2).to_bytes(1 << (code - 76), "little") + b"\2\3"
         draw = self.chance.random()
-        if draw < 0.5:
+        if draw < 0.3:
             whole += {0x63: b"\x68", 0x64: b"\x68"}.get(code, b"")
             return Plan(b"\x51\x00\x63" + whole + b"\x68", lambda *_: b"")
+        if draw < 0.5:
+            many = bytes(self.dealt(NOT_RUN) for _ in range(16))
+            return Plan(b"\x51\x00\x63" + many + b"\x68", lambda *_: b"")
         if code in (0xAC, 0xAD, 0xAE, 0xAF, 0xB1, 0xB2, 0x67, 0x68):
             return Plan(whole + b"\x51", lambda *_: element(self.chance.choice((b"", b"\1"))) * 3)
         if code in (0x63, 0x64):
             return self.closed(whole + b"\x52\x68", [b"\2", self.chance.choice((b"", b"\1"))])
         front = [b"\3", b"\2"] + [self.chance.choice((b"\1", b"\2", b"")) for _ in range(4)]
         return self.closed(whole, front)
+
+    def few(self) -> Plan:
+        """An opcode with as many elements as it takes, or with one less."""
+        code, takes, less = self.dealt(FEW)
+        count = takes - less
+        front = b"".join(self.chance.choice((b"\x00", b"\x51", b"\x52")) for _ in range(count))
+        # PICK and ROLL of 0, and no keys and no signatures for CHECKMULTISIG.
+        front = b"\x00" * count if code in (0x79, 0x7A, 0xAE, 0xAF) else front
+        here = self.chance.randrange(count + 1)
+        end = b"\x68\x51" if code in (0x63, 0x64) else b"\x51"
+        return Plan(front[here:] + bytes([code]) + end, lambda *_: front[:here])
 
     def conditions(self) -> Plan:
         """Conditions within conditions; all that is left tells which parts were run."""
@@ -330,7 +362,7 @@ class Families:
     def _counted_keys(self) -> Plan:
         """The keys of CHECKMULTISIG count as opcodes; there are at most 20."""
         keys = self.chance.choice((0, 1, 2, 19, 20, 20, 21))
-        wanted = self.chance.choice((0, 0, 1, keys))
+        wanted = self.chance.choice((0, 0, 1, keys, keys + 1))
         # Signatures of no bytes aren't valid.
         end = b"\xae" + (b"\x91" if wanted and self.chance.random() < 0.9 else b"")
         fill = self.chance.choice((201, 201, 201, 202, 202, 200, keys + 2)) - len(end) - keys
@@ -368,12 +400,16 @@ class Families:
         return (self.chance.choice(right if self.chance.random() < 0.85 else wrong) + bytes([3]) * size)[:size]
 
     def _bent(self, data: List[int], first: int) -> None:
-        """One byte of the shape one more or less, or another; or the first number up to the end, and a byte more or less."""
+        """One byte of the shape one more or less, or another; the first number up to the end, and a byte more or less; or a byte more."""
         if self.chance.random() < 0.15:
             data[3] = max(len(data) - self.chance.choice((4, 5, 5, 6)), 0)
             return
-        places = [at for at in (0, 1, 2, 3, 4 + first, 5 + first) if at < len(data)]
-        place = self.chance.choice(places)
+        place = min(self.dealt((0, 1, 2, 3, 4, 5, 6)), len(data) - 1)
+        if place == 6:
+            # A byte more behind the second number, which the first length counts.
+            data[1], data[-1:] = data[1] + 1, [3, data[-1]]
+            return
+        place += first if place > 3 and place + first < len(data) else 0
         data[place] = (data[place] + self.chance.choice((1, -1, 1, -1, 64, 128))) % 256
 
     def signed(self) -> Plan:
@@ -403,7 +439,7 @@ class Families:
 
     def signature(self, tx: Transaction, at: int, code: bytes, key: int, share: float) -> bytes:
         """With its hash type; a share of them of a transaction that differs, and some of another type, input or script."""
-        kind = self.chance.choice(KINDS) if self.chance.random() < 0.8 else self.chance.randrange(256)
+        kind = self.chance.choice(KINDS) if self.chance.random() < 0.75 else self.dealt(range(256))
         draw = self.chance.random()
         signed, place, said = tx, at, kind
         if draw < share:
@@ -474,6 +510,8 @@ class Families:
         wanted = self.chance.choice((0, 1, 1, 2, 2, keys, keys)) if keys < 6 else self.chance.choice((1, 2))
         wanted = min(wanted, keys)
         said = (wanted + self.chance.choice((0,) * 10 + (1, -1)), keys + self.chance.choice((0,) * 16 + (1, -1)))
+        if self.chance.random() < 0.05:
+            said = self.chance.choice(((said[0], -1), (-1, said[1]), (-1, -1)))
         end = self.chance.choice((b"\xae", b"\xae", b"\xae\x91", b"\xaf\x51", b"\xaf\x74"))
         spelled = [element(self.keys[k] if self.chance.random() < 0.97 else self.keys[k][:-1]) for k in order]
         code = told(said[0]) + b"".join(spelled) + told(said[1]) + end

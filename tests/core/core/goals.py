@@ -16,7 +16,8 @@ from .rules import Body, Coins, Place, Rules, Turn, Tx, tally
 #: What has to come, and how often in 100 lists.
 GOALS: Dict[str, int] = {
     **{f"a coinbase's coin {age} blocks old, {where}": 5 for age in (99, 100, 101) for where in (ON_BRANCH, REORGANISING)},
-    "BIP 30: all outputs of the same are spent": 5, "BIP 30: the last output alone is there": 5, "BIP 30: the first output alone is there": 5,
+    "BIP 30: all outputs of the same are spent": 5, "BIP 30: the last output alone is there": 5,
+    "BIP 30: the first output alone is there": 5,
     "a relative lock by height, just met": 5, "a relative lock by height, short by one": 5, "a relative lock by time, just met": 5,
     "a relative lock by time, short by one": 5, "a relative lock by the median of the coin's parent, not of its block": 5,
     "a relative lock by the median, not the block's own time": 5, "a relative lock with other bits": 5,
@@ -205,4 +206,5 @@ def lacking(goals: "Counter[str]", lists: int) -> List[str]:
     print("  edges of the rules, as often as the lists came to them:")
     for goal, least in GOALS.items():
         print(f"    {goals[goal]:>6} {goal}")
-    return [f"{goal}: {goals[goal]} times, not {least * lists // 100}" for goal, least in GOALS.items() if goals[goal] < least * lists // 100]
+    seldom = [(goal, least * lists // 100) for goal, least in GOALS.items() if goals[goal] < least * lists // 100]
+    return [f"{goal}: {goals[goal]} times, not {least}" for goal, least in seldom]

@@ -9,7 +9,7 @@ from collections import Counter
 from pathlib import Path
 from typing import Dict, List, Sequence
 
-from . import cases, changed, differences, goals, peer, planted, scripts, table
+from . import cases, changed, differences, goals, peer, planted, reached, scripts, table
 from .chainstate import BY_ITSELF, BY_PLACE, ON_BRANCH, REORGANISING, Refusal
 from .compare import Bench, Tally
 from .rules import ALL_KINDS
@@ -218,16 +218,21 @@ class _Run:
         return faults + self._changed(every)
 
     def _changed(self, every: Sequence[scripts.Pairs]) -> int:
-        """Of the small changes of a reading of scripts enough are found by some of the pairs."""
+        """Some of the pairs come to each edge, and find enough of the small changes of a reading of scripts."""
         count, least = (SHORT_CHANGE_PAIRS, SHORT_LEAST_SHARE) if self.short else (CHANGE_PAIRS, LEAST_SHARE)
+        faults = 0
+        is_whole = self.options.pairs is None and not self.short
+        for lack in reached.lacking(reached.count(every, count // len(every))):
+            faults += is_whole
+            print(f"{'FAULT' if is_whole else '    by bad luck'} {lack}")
         rows = changed.rows_of(every, count // len(every))
         found = changed.Measure(rows).try_all(self.options.jobs or min(len(os.sched_getaffinity(0)), 4))
         share = changed.print_table(found, len(rows), not self.short)
         self._timed("small changes were looked for")
         if self.options.pairs is None and share < least:
             print(f"FAULT less than {least} % of the small changes are found")
-            return 1
-        return 0
+            faults += 1
+        return faults
 
     def _planted_pairs(self, pairs: scripts.Pairs) -> int:
         faults, secp = 0, pairs.author.secp
