@@ -13,7 +13,7 @@ import tempfile
 import threading
 from bisect import bisect_right
 from collections import Counter
-from typing import Callable, Dict, Iterable, Iterator, List, NamedTuple, Optional, Set, Tuple, TypeVar
+from typing import Callable, Collection, Dict, Iterable, Iterator, List, NamedTuple, Optional, Set, Tuple, TypeVar
 
 ALLOCATOR = ("rattle_alloc", "rattle_realloc")
 LINE = re.compile(r"^ +([0-9a-f]+):\t(\S+) *([^#]*?) *(?:#.*)?$")
@@ -219,6 +219,11 @@ class Shim(NamedTuple):
         return self._replace(file=file)
 
 
+def are_too_many(odd: Collection[Stack], every: Collection[Stack]) -> bool:
+    """Whether more than one call stack in fifty can't be read: those of functions with a stack of another kind."""
+    return 50 * len(odd) > len(every)
+
+
 class Places:
     """What was met, and what was refused, of a program."""
 
@@ -260,7 +265,9 @@ class Places:
         for function, count in sorted(never.items()) if is_each_told else ():
             print(f"    {count} in {function}")
         odd = [it for it in every.values() if not program.is_consistent(it.frames)]
-        faults = [f"{len(odd)} of {len(every)} call stacks can't be read"] if odd else []
+        if odd:
+            print(f"  {len(odd)} call stacks can't be read to their end")
+        faults = [f"{len(odd)} of {len(every)} call stacks can't be read to their end"] if are_too_many(odd, every.values()) else []
         if not met:
             return faults + ["no place was met"]
         # One that is planted: as if nothing had been refused at the last place.
