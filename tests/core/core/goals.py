@@ -134,7 +134,8 @@ class Telling(Rules):
             kind = "time" if by_time else "height"
             self._tell(f"a relative lock by {kind}, just met", left == 0)
             self._tell(f"a relative lock by {kind}, short by one", left == -1)
-            if by_time:
+            # A coin of the block itself has no median of its own yet.
+            if by_time and height < place.height:
                 own = place.median_at(height) + 512 * count <= place.cutoff
                 self._tell("a relative lock by the median of the coin's parent, not of its block", own != met)
                 now = self.lock_begins(height, place) + 512 * count <= place.time
