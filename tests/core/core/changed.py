@@ -190,9 +190,9 @@ class Measure:
 def statements_of(part: ast.stmt) -> Dict[int, int]:
     """Of each line of a function, the line at which its innermost statement begins."""
     found: Dict[int, int] = {}
-    if isinstance(part, (ast.FunctionDef, ast.ClassDef)):
-        for node in ast.walk(part):
-            if isinstance(node, ast.stmt) and node is not part:
+    for function in (node for node in ast.walk(part) if isinstance(node, ast.FunctionDef)):
+        for node in ast.walk(function):
+            if isinstance(node, ast.stmt) and node is not function:
                 # Statements come after those around them.
                 found.update((line, node.lineno) for line in range(node.lineno, (node.end_lineno or node.lineno) + 1))
     return found
