@@ -15,7 +15,7 @@ from bisect import bisect_right
 from collections import Counter
 from typing import Callable, Collection, Dict, Iterable, Iterator, List, NamedTuple, Optional, Set, Tuple, TypeVar
 
-ALLOCATOR = ("rattle_alloc", "rattle_realloc")
+ALLOCATOR = ("rattle_alloc", "rattle_realloc", "malloc@plt", "realloc@plt", "calloc@plt")
 LINE = re.compile(r"^ +([0-9a-f]+):\t(\S+) *([^#]*?) *(?:#.*)?$")
 LABEL = re.compile(r"^([0-9a-f]+) <(.*)>:$")
 TARGET = re.compile(r"^([0-9a-f]+) <")
@@ -139,8 +139,8 @@ class Program:
         return self.names[bisect_right(self.starts, address) - 1]
 
     def is_ours(self, function: str) -> bool:
-        """Whether a function is of a crate of this repository."""
-        return re.split(r"::|\+", function.lstrip("<"))[0] in self.crates
+        """Whether a function is of a crate of this repository, or of the C file over them."""
+        return function.startswith("wakotehu_") or re.split(r"::|\+", function.lstrip("<"))[0] in self.crates
 
     def place_of(self, stack: Tuple[int, ...]) -> Optional[int]:
         """The innermost call of a stack in a function of this repository."""
