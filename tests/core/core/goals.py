@@ -15,7 +15,7 @@ from .rules import Body, Coins, Place, Rules, Turn, Tx, tally
 
 #: What has to come, and how often in 100 lists.
 GOALS: Dict[str, int] = {
-    **{f"a coinbase's coin {age} blocks old, {where}": 5 for age in (99, 100, 101) for where in (ON_BRANCH, REORGANISING)},
+    **{f"a coinbase's coin {age} blocks old, {where}": n for age in (99, 100, 101) for where, n in ((ON_BRANCH, 5), (REORGANISING, 3))},
     "BIP 30: all outputs of the same are spent": 5, "BIP 30: the last output alone is there": 5,
     "BIP 30: the first output alone is there": 5,
     "a relative lock by height, just met": 5, "a relative lock by height, short by one": 5, "a relative lock by time, just met": 5,
