@@ -241,7 +241,7 @@ class Families:
 
     def pushes(self) -> Plan:
         """Each form of a push, whole and cut."""
-        size = self.chance.choice((0, 1, 2, 16, 74, 75, 76, 77, 254, 255, 256, 257, 519, 520, 521))
+        size = self.dealt((0, 1, 2, 16, 74, 75, 76, 77, 254, 255, 256, 257, 519, 520, 520, 521, 521))
         data = self.chance.randbytes(size)
         wide = self.chance.choice([w for w, most in ((0, 75), (1, 255), (2, 65535), (4, 2**32)) if size <= most])
         pushed = bytes([{0: size, 1: 0x4C, 2: 0x4D, 4: 0x4E}[wide]]) + (size.to_bytes(wide, "little") if wide else b"") + data
@@ -319,10 +319,10 @@ class Families:
 
     def limits(self) -> Plan:
         writers = (self._bytes, self._not_counted, *(self._counted, self._filled, self._counted_keys) * 2)
-        return self.chance.choice(writers)()
+        return self.dealt(writers)()
 
     def _bytes(self) -> Plan:
-        rest = self.chance.choice((10000, 10000, 10001)) - 1
+        rest = self.dealt((10000, 10000, 10001)) - 1
         code = (push(bytes(500)) + b"\x75") * (rest // 504) + push(bytes(rest % 504 - 4)) + b"\x75\x51"
         if self.chance.random() < 0.5:
             return Plan(code, lambda *_: b"")
@@ -361,7 +361,7 @@ class Families:
 
     def _counted_keys(self) -> Plan:
         """The keys of CHECKMULTISIG count as opcodes; there are at most 20."""
-        keys = self.chance.choice((0, 1, 2, 19, 20, 20, 21))
+        keys = self.dealt((0, 1, 2, 19, 20, 20, 21, 21))
         wanted = self.chance.choice((0, 0, 1, keys, keys + 1))
         # Signatures of no bytes aren't valid.
         end = b"\xae" + (b"\x91" if wanted and self.chance.random() < 0.9 else b"")
