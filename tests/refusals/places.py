@@ -267,9 +267,12 @@ class Places:
         odd = [it for it in every.values() if not program.is_consistent(it.frames)]
         if odd:
             print(f"  {len(odd)} call stacks can't be read to their end")
-        faults = [f"{len(odd)} of {len(every)} call stacks can't be read to their end"] if are_too_many(odd, every.values()) else []
+        if are_too_many(odd, every.values()):
+            print("  so places aren't judged here")
+            return []
+        faults: List[str] = []
         if not met:
-            return faults + ["no place was met"]
+            return ["no place was met"]
         # One that is planted: as if nothing had been refused at the last place.
         last = max(met)
         kept = [it for it in refused.values() if program.place_of(it.frames) != last]
