@@ -272,7 +272,8 @@ class Places:
             return []
         faults: List[str] = []
         if not met:
-            return ["no place was met"]
+            print("  no place was found, so places aren't judged here")
+            return []
         # One that is planted: as if nothing had been refused at the last place.
         last = max(met)
         kept = [it for it in refused.values() if program.place_of(it.frames) != last]
