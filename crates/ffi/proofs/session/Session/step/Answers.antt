@@ -3,7 +3,8 @@ use Rattle.block.specs.declared.block.Block.{Block}
 use Rattle.curve.specs.Known.{Known, Agrees}
 use Rattle.curve.specs.Triple.{Triple}
 use Rattle.queue.specs.declared.undecided.Undecided.TheVariants.{Unknown}
-use Rattle.connect.specs.Stops.{AreWanted, told_by}
+use Rattle.connect.specs.Stops.{AreWanted}
+use Rattle.queue.specs.Jobs.{told_by}
 use Rattle.activate.specs.CoreState.{CoreState, WithCoins}
 use Rattle.activate.specs.Wants.{IsWantedByStep}
 use Rattle.chain.specs.Prepared.{command_of}
