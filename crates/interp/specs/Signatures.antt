@@ -2,6 +2,7 @@
 use Rattle.std.specs.Prelude.{◌≡◌, ◌⊎◌, ℕ, ◌-◌, ◌%◌, ◌^◌, ◌<◌, ◌≤◌, ◌==◌, List, [], ◌∷◌, ◌++◌, length, map, take, slice_index, Bool, true, false, not, ◌&&◌, nat_lt, if◌then◌else◌}
 use Rattle.std.specs.Int.{w16, w32, to_le_bytes}
 use Rattle.std.specs.FinSet as set
+use Rattle.script.specs.Op.{op_pushdata1, op_pushdata2, op_pushdata4}
 use Rattle.script.specs.Removal.{without}
 use Rattle.sighash.specs.Digest.{digest_of}
 use Rattle.curve.specs.Shape.{IsStrict}
@@ -13,10 +14,10 @@ use Rattle.interp.specs.declared.flags.Flags.{Flags}
 -- the shortest opcode by length that pushes these bytes
 unfoldable pub push_of : Bytes → List ℕ
 push_of bytes =
-    if nat_lt (length bytes) 76 then length bytes ∷ bytes
-    else (if nat_lt (length bytes) (2 ^ 8) then 76 ∷ length bytes ∷ bytes
-    else (if nat_lt (length bytes) (2 ^ 16) then 77 ∷ (to_le_bytes w16 (length bytes) ++ bytes)
-    else 78 ∷ (to_le_bytes w32 (length bytes % 2 ^ 32) ++ bytes)))
+    if nat_lt (length bytes) op_pushdata1 then length bytes ∷ bytes
+    else (if nat_lt (length bytes) (2 ^ 8) then op_pushdata1 ∷ length bytes ∷ bytes
+    else (if nat_lt (length bytes) (2 ^ 16) then op_pushdata2 ∷ (to_le_bytes w16 (length bytes) ++ bytes)
+    else op_pushdata4 ∷ (to_le_bytes w32 (length bytes % 2 ^ 32) ++ bytes)))
 
 -- what is taken out of the code: pushes of the signatures, and CODESEPARATORs
 abbrev pub pieces_of : List Bytes → List (List ℕ)

@@ -15,7 +15,7 @@ use crate::flags::Flags;
 use crate::job::Job;
 use crate::unverified::Unverified;
 use curve::{KeptTriple, KnowsSignatures, der_shape};
-use script::opcode::OP_CODESEPARATOR;
+use script::opcode::{OP_CODESEPARATOR, OP_PUSHDATA1, OP_PUSHDATA2, OP_PUSHDATA4};
 use script::without;
 use std::alloc::Global;
 use wire::Memory;
@@ -27,16 +27,16 @@ fn push_of(alloc: Global, bytes: &[u8]) -> Result<Element, Memory>
 {
     let len = bytes.len();
     let mut op = Vec::new(alloc);
-    if len < 76 {
+    if len < usize::from(OP_PUSHDATA1) {
         op.push(len as u8)?;
     } else if len < 0x100 {
-        op.extend_from_slice(&[76, len as u8])?;
+        op.extend_from_slice(&[OP_PUSHDATA1, len as u8])?;
     } else if len < 0x1_0000 {
         let [a, b] = (len as u16).to_le_bytes();
-        op.extend_from_slice(&[77, a, b])?;
+        op.extend_from_slice(&[OP_PUSHDATA2, a, b])?;
     } else {
         let [a, b, c, d] = ((len % 0x1_0000_0000) as u32).to_le_bytes();
-        op.extend_from_slice(&[78, a, b, c, d])?;
+        op.extend_from_slice(&[OP_PUSHDATA4, a, b, c, d])?;
     }
     op.extend_from_slice(bytes)?;
     Ok(Element::from_vec(op))

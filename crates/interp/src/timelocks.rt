@@ -2,20 +2,14 @@
 
 ghost use Rattle.std.specs.Prelude.{◌≡◌, ◌<◌, ◌^◌, ◌==◌, length, Bool};
 ghost use Rattle.interp.specs.Spending.{sequence_of};
-ghost use Rattle.interp.specs.Timelocks.{is_height, locks_until, is_as_long, locks_for};
+ghost use Rattle.txn.specs.LockTime.{is_height};
+ghost use Rattle.interp.specs.Timelocks.{locks_until, is_as_long, locks_for};
 ghost use Rattle.interp.specs.computed.Timelocks.{is_met};
 
 use crate::element::natural;
 use crate::job::Job;
-
-/// A lock time below it is a height, and else seconds since 1970 (Bitcoin Core's `LOCKTIME_THRESHOLD`).
-const LOCKTIME_THRESHOLD: u64 = 500_000_000;
-
-/// The sequence number of an input that puts the lock time out of force.
-const SEQUENCE_FINAL: u32 = 0xffff_ffff;
-
-/// The least version, as an unsigned number, of a transaction with relative locks (BIP 68).
-const LEAST_VERSION: u32 = 2;
+use txn::LOCKTIME_THRESHOLD;
+use txn::sequence::{SEQUENCE_FINAL, duration, has_relative_locks, is_disabled, is_time};
 
 /// How many bytes a lock on the stack has at most.
 const MAX_LOCK: usize = 5;
@@ -30,7 +24,7 @@ fn sequence(job: &Job) -> u32
 fn is_height(lock_time: u64) -> bool
     ensures { result ≡ is_height lock_time }
 {
-    lock_time < LOCKTIME_THRESHOLD
+    lock_time < u64::from(LOCKTIME_THRESHOLD)
 }
 
 /// Whether the transaction can't be in a block before this height or time.
@@ -48,7 +42,7 @@ fn locks_until(job: &Job, n: u64) -> bool
 fn is_as_long(n: u64, sequence: u64) -> bool
     ensures { result ≡ is_as_long n sequence }
 {
-    n / 0x40_0000 % 2 == sequence / 0x40_0000 % 2 && n % 0x1_0000 <= sequence % 0x1_0000
+    is_time(n) == is_time(sequence) && duration(n) <= duration(sequence)
 }
 
 /// Whether the input waits for as many blocks or seconds as this lock asks for.
@@ -58,10 +52,8 @@ fn locks_for(job: &Job, n: u64) -> bool
     ensures { result ≡ locks_for job.now.tx.now job.now.input n }
 {
     let sequence = u64::from(sequence(job));
-    n / 0x8000_0000 % 2 == 1
-        || job.tx.version.cast_unsigned() >= LEAST_VERSION
-            && sequence / 0x8000_0000 % 2 == 0
-            && is_as_long(n, sequence)
+    is_disabled(n)
+        || has_relative_locks(job.tx) && !is_disabled(sequence) && is_as_long(n, sequence)
 }
 
 /// What CHECKLOCKTIMEVERIFY asks of the element on top (BIP 65).

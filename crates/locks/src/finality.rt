@@ -2,12 +2,11 @@
 
 ghost use Rattle.std.specs.Prelude.{◌≡◌, ◌==◌};
 ghost use Rattle.std.specs.List.{list_all};
+ghost use Rattle.txn.specs.Sequence.{sequence_final};
 ghost use Rattle.locks.specs.Finality.{has_passed, is_final};
 
+use txn::sequence::SEQUENCE_FINAL;
 use txn::{LOCKTIME_THRESHOLD, Tx, TxIn};
-
-/// The sequence number of an input that asks for no lock time (Bitcoin Core's `SEQUENCE_FINAL`).
-pub const SEQUENCE_FINAL: u32 = 0xffff_ffff;
 
 /// Whether a transaction may be in a block of this height (Bitcoin Core's `IsFinalTx`). The cutoff is the
 /// time that its lock time must lie below: the median time past of the block's parent (BIP 113).
@@ -33,7 +32,7 @@ fn has_passed(lock_time: u32, height: u32, cutoff: u32) -> bool
 
 /// Whether no input asks for the lock time.
 fn asks_for_none(inputs: &[TxIn]) -> bool
-    ensures { result ≡ list_all (λ input. input.sequence == 0xffffffff) inputs.now }
+    ensures { result ≡ list_all (λ input. input.sequence == sequence_final) inputs.now }
 {
     inputs.iter().all(|input| input.sequence == SEQUENCE_FINAL)
 }

@@ -1,26 +1,14 @@
 //! Relative locks (BIP 68).
 
-ghost use Rattle.std.specs.Prelude.{◌≡◌, ◌==◌, ◌<◌, ◌^◌, length};
-ghost use Rattle.std.specs.Int.{bit_at};
+ghost use Rattle.std.specs.Prelude.{◌≡◌, length};
 ghost use Rattle.std.specs.List.{list_all, zip};
-ghost use Rattle.locks.specs.Relative.{duration, is_met, are_met};
+ghost use Rattle.locks.specs.Relative.{is_met, are_met};
 
+use txn::sequence::{duration, has_relative_locks, is_disabled, is_time};
 use txn::{Tx, TxIn};
-
-/// An input with this bit has no relative lock (BIP 68).
-const DISABLE_FLAG: u32 = 1 << 31;
-
-/// An input with this bit is locked for a time, and else for a number of blocks (BIP 68).
-const TYPE_FLAG: u32 = 1 << 22;
-
-/// The bits of a sequence number that say for how long (BIP 68).
-const DURATION_MASK: u32 = 0xffff;
 
 /// Seconds in a unit of a relative lock that is a time (BIP 68).
 const TIME_UNIT: u64 = 512;
-
-/// The least version, as an unsigned number, of a transaction with relative locks (BIP 68).
-const LEAST_VERSION: u32 = 2;
 
 /// From where the lock of an input counts.
 #[derive(Clone, Copy, Debug, PartialEq, Eq)]
@@ -39,8 +27,7 @@ pub fn relative_ok(tx: &Tx, starts: &[LockStart], height: u32, cutoff: u32) -> b
     requires { length starts.now ≡ length tx.now.inputs }
     ensures { result ≡ are_met tx.now starts.now height cutoff }
 {
-    tx.version.cast_unsigned() < LEAST_VERSION
-        || is_each_met(tx.inputs.as_slice(), starts, height, cutoff)
+    !has_relative_locks(tx) || is_each_met(tx.inputs.as_slice(), starts, height, cutoff)
 }
 
 /// Whether the lock of each input is met.
@@ -56,32 +43,13 @@ fn is_each_met(inputs: &[TxIn], starts: &[LockStart], height: u32, cutoff: u32) 
 fn is_met(sequence: u32, start: &LockStart, height: u32, cutoff: u32) -> bool
     ensures { result ≡ is_met height cutoff sequence start.now }
 {
+    let sequence = u64::from(sequence);
     if is_disabled(sequence) {
         return true;
     }
-    let duration = u64::from(duration(sequence));
     if is_time(sequence) {
-        u64::from(start.median) + TIME_UNIT * duration <= u64::from(cutoff)
+        u64::from(start.median) + TIME_UNIT * duration(sequence) <= u64::from(cutoff)
     } else {
-        u64::from(start.height) + duration <= u64::from(height)
+        u64::from(start.height) + duration(sequence) <= u64::from(height)
     }
-}
-
-fn is_disabled(sequence: u32) -> bool
-    ensures { result ≡ (bit_at sequence 31 == 1) }
-{
-    sequence & DISABLE_FLAG != 0
-}
-
-fn is_time(sequence: u32) -> bool
-    ensures { result ≡ (bit_at sequence 22 == 1) }
-{
-    sequence & TYPE_FLAG != 0
-}
-
-fn duration(sequence: u32) -> u32
-    ensures value { result ≡ duration sequence }
-    ensures bound { result < 2 ^ 16 }
-{
-    sequence & DURATION_MASK
 }

@@ -1,21 +1,19 @@
 -- The opcodes of a script, and the rest, as they are found from left to right. That there is no other way to split a
 -- script is a law.
-use Rattle.std.specs.Prelude.{ℕ, Bool, zero, suc, ◌+◌, List, [], ◌∷◌, length, take, drop, Option, Some, None, option_and_then, nat_lt, ◌==◌, slice_index, if◌then◌else◌}
+use Rattle.std.specs.Prelude.{ℕ, Bool, zero, suc, ◌+◌, List, [], ◌∷◌, length, take, drop, Option, Some, None, option_and_then, nat_lt, ◌==◌, if◌then◌else◌}
+use Rattle.std.specs.Option.{option_map_or}
 use Rattle.std.specs.List.{concat}
-use Rattle.std.specs.Int.{w16, w32, from_le_bytes}
+use Rattle.std.specs.Int.{w32, from_le_bytes}
+use Rattle.script.specs.Op.{length_width}
 
--- `width` bytes for a length, and that many bytes
+-- so many bytes for a length, the lowest first, and that many bytes; the number is the length where there are none
 abbrev pub sized_len : ℕ → List ℕ → ℕ → Option ℕ
-sized_len width bytes len = if nat_lt (length bytes) width then None else Some (width + len)
+sized_len number bytes zero = Some number
+sized_len number bytes width = if nat_lt (length bytes) width then None else Some (width + from_le_bytes w32 (take width bytes))
 
 -- how many bytes belong to an opcode after its number, where its length is there
 unfoldable pub operand_len : ℕ → List ℕ → Option ℕ
-operand_len number bytes =
-    if nat_lt number 76 then Some number
-    else (if number == 76 then sized_len 1 bytes (slice_index bytes 0)
-    else (if number == 77 then sized_len 2 bytes (from_le_bytes w16 (take 2 bytes))
-    else (if number == 78 then sized_len 4 bytes (from_le_bytes w32 (take 4 bytes))
-    else Some 0)))
+operand_len number bytes = option_map_or (sized_len number bytes) (length_width number) (Some 0)
 
 -- the length with the number, where so many bytes are there
 abbrev pub within : List ℕ → ℕ → Option ℕ

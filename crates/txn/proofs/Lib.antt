@@ -1,4 +1,5 @@
 pub mod Coinbase
+pub mod Flags
 pub mod Lawful
 pub mod Marks
 pub mod Passed

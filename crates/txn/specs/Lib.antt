@@ -8,6 +8,7 @@ pub mod Identity
 pub mod Limits
 pub mod LockTime
 pub mod Reason
+pub mod Sequence
 pub mod inside
 pub mod computed
 pub mod laws

@@ -12,6 +12,7 @@ mod output;
 mod reading;
 mod reason;
 mod script;
+pub mod sequence;
 mod tx;
 mod writing;
 

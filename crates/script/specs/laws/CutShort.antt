@@ -10,8 +10,8 @@ use borrow.Author.Tests.{le-ltb}
 use Rattle.wire.specs.Grammar.{IsBytes}
 use Rattle.wire.specs.laws.Reading.{IsBytes-take, IsBytes-after}
 use Rattle.script.specs.laws.Grammar.{IsOp, BeginsNone, IsCutShort}
-use Rattle.script.specs.Ops.{operand_len, sized_len, within, op_len, ops, rest}
-use Rattle.script.specs.laws.Ops.{length_taken, none-again, direct-again, bare-again, splits}
+use Rattle.script.specs.Ops.{operand_len, within, op_len, ops, rest}
+use Rattle.script.specs.laws.Ops.{sized_len, operand_1, operand_2, length_taken, none-again, direct-again, bare-again, splits}
 
 -- ---- zeros in place of the bytes that lack
 abbrev zeros : ℕ → List ℕ
@@ -88,8 +88,8 @@ unfolding operand_len
 completes b tail fits e =
     let P : ℕ → Type 0 = λ c. op_len (c ∷ tail) ≡ None → Completes c tail in
     ⊎_elim (λ direct. direct-completes b tail direct (within-none tail b (rw (direct-again b tail direct) at e)))
-    (λ h. ⊎_elim (λ i. let is : 76 ≡ b = omega arith in subst P is (λ f. sized-completes 76 1 (λ t. slice_index t 0) whole-76 tail fits (ap (λ m. option_and_then (within tail) (sized_len 1 tail m)) (sym (first-taken tail)) ∙ f)) e)
-    (λ i. ⊎_elim (λ j. let is : 77 ≡ b = omega arith in subst P is (λ f. sized-completes 77 2 (from_le_bytes w16) whole-77 tail fits f) e)
+    (λ h. ⊎_elim (λ i. let is : 76 ≡ b = omega arith in subst P is (λ f. sized-completes 76 1 (λ t. slice_index t 0) whole-76 tail fits (ap (λ m. option_and_then (within tail) (sized_len 1 tail m)) (sym (first-taken tail)) ∙ ap (option_and_then (within tail)) (sym (operand_1 tail)) ∙ f)) e)
+    (λ i. ⊎_elim (λ j. let is : 77 ≡ b = omega arith in subst P is (λ f. sized-completes 77 2 (from_le_bytes w16) whole-77 tail fits (ap (option_and_then (within tail)) (sym (operand_2 tail)) ∙ f)) e)
     (λ j. ⊎_elim (λ k. let is : 78 ≡ b = omega arith in subst P is (λ f. sized-completes 78 4 (from_le_bytes w32) whole-78 tail fits f) e)
     (λ k. absurd (omega (arith, within-none tail 0 (rw (bare-again b tail k) at e)))) (cases_lt b 79)) (cases_lt b 78)) (cases_lt b 77)) (cases_lt b 76)
 

@@ -2,21 +2,22 @@
 use Rattle.std.specs.Prelude.{◌≡◌, ◌⊎◌, ℕ, ◌^◌, ◌<◌, List, [], ◌∷◌, ◌++◌, length}
 use Rattle.std.specs.Int.{w16, w32, to_le_bytes}
 use Rattle.std.specs.List.{AllByRecursion, concat}
+use Rattle.script.specs.Op.{op_pushdata1, op_pushdata2, op_pushdata4}
 
 -- numbers 0 to 75 push as many of the bytes that follow
 abbrev pub IsDirectPush : ℕ → List ℕ → List ℕ → Type 0
-IsDirectPush number pushed op = (number < 76) × (length pushed ≡ number) × (op ≡ number ∷ pushed)
+IsDirectPush number pushed op = (number < op_pushdata1) × (length pushed ≡ number) × (op ≡ number ∷ pushed)
 
 -- PUSHDATA1, PUSHDATA2 and PUSHDATA4 push what follows a length of one, two or four bytes, the lowest first
 abbrev pub IsSizedPush : ℕ → List ℕ → List ℕ → Type 0
 IsSizedPush number pushed op =
-    ((number ≡ 76) × (length pushed < 2 ^ 8) × (op ≡ 76 ∷ length pushed ∷ pushed))
-    ⊎ ((number ≡ 77) × (length pushed < 2 ^ 16) × (op ≡ 77 ∷ (to_le_bytes w16 (length pushed) ++ pushed)))
-    ⊎ ((number ≡ 78) × (length pushed < 2 ^ 32) × (op ≡ 78 ∷ (to_le_bytes w32 (length pushed) ++ pushed)))
+    ((number ≡ op_pushdata1) × (length pushed < 2 ^ 8) × (op ≡ op_pushdata1 ∷ length pushed ∷ pushed))
+    ⊎ ((number ≡ op_pushdata2) × (length pushed < 2 ^ 16) × (op ≡ op_pushdata2 ∷ (to_le_bytes w16 (length pushed) ++ pushed)))
+    ⊎ ((number ≡ op_pushdata4) × (length pushed < 2 ^ 32) × (op ≡ op_pushdata4 ∷ (to_le_bytes w32 (length pushed) ++ pushed)))
 
 -- any other number stands alone
 abbrev pub IsBare : ℕ → List ℕ → List ℕ → Type 0
-IsBare number pushed op = (78 < number) × (pushed ≡ []) × (op ≡ number ∷ [])
+IsBare number pushed op = (op_pushdata4 < number) × (pushed ≡ []) × (op ≡ number ∷ [])
 
 -- the opcode of this number that pushes these bytes is spelled so
 abbrev pub Spells : ℕ → List ℕ → List ℕ → Type 0

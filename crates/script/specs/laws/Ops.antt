@@ -1,6 +1,7 @@
 -- What is proved of the definitions: the opcodes that are found from left to right are those of the grammar, and no others are.
 use Rattle.std.proofs.Common.{◌≡◌, inl, inr, ℕ, zero, suc, ◌+◌, ◌<◌, ◌≤◌, ◌^◌, List, [], ◌∷◌, ◌++◌, Option, Some, None, length, take, drop, refl, sym, ap, ◌∙◌, subst, ⊎_elim, length-append, length-drop, append_assoc, add-one, zero-add, arith}
 use Rattle.std.specs.Option.{option_and_then}
+use Rattle.std.specs.Prelude.{nat_lt, slice_index, if◌then◌else◌}
 use Rattle.std.specs.List.{concat}
 use Rattle.std.specs.Int.{w16, w32, to_le_bytes, from_le_bytes}
 use Rattle.std.proofs.lemmas.Bool.{cases_lt}
@@ -11,9 +12,9 @@ use Rattle.std.proofs.Math.Seq.{drop-append-add}
 use borrow.Author.Tests.{lt-ltb, le-ltb, ne_eqb}
 use Rattle.wire.specs.Grammar.{IsBytes}
 use Rattle.wire.specs.laws.Reading.{IsBytes-take, IsBytes-after}
-use Rattle.script.specs.Op.{number_of, pushed_of}
+use Rattle.script.specs.Op.{op_pushdata1, op_pushdata2, op_pushdata4, number_of, pushed_of}
 use Rattle.script.specs.laws.Grammar.{IsOp, Spells, BeginsNone}
-use Rattle.script.specs.Ops.{operand_len, sized_len, within, op_len, cut_first, ops_within, ops, rest}
+use Rattle.script.specs.Ops.{operand_len, within, op_len, cut_first, ops_within, ops, rest}
 use Rattle.script.specs.laws.Grammar.{Splits}
 
 -- ---- an opcode of the grammar is found
@@ -25,6 +26,25 @@ whole b tail more e =
     let long = length-append tail more in
     rw (e, le-ltb (length (tail ++ more)) (length tail) (omega arith)) (ap Some (add-one (length tail)))
 
+-- so many bytes for a length that is given, and that many bytes
+abbrev pub sized_len : ℕ → List ℕ → ℕ → Option ℕ
+sized_len width bytes len = if nat_lt (length bytes) width then None else Some (width + len)
+
+pub operand_1 : (bytes : List ℕ) → operand_len op_pushdata1 bytes ≡ sized_len 1 bytes (slice_index bytes 0)
+unfolding operand_len
+operand_1 [] = refl
+operand_1 (a ∷ bytes) = ap (sized_len 1 (a ∷ bytes)) (omega arith)
+
+pub operand_2 : (bytes : List ℕ) → operand_len op_pushdata2 bytes ≡ sized_len 2 bytes (from_le_bytes w16 (take 2 bytes))
+unfolding operand_len
+operand_2 [] = refl
+operand_2 (a ∷ []) = refl
+operand_2 (a ∷ b ∷ bytes) = ap (sized_len 2 (a ∷ b ∷ bytes)) (omega arith)
+
+pub operand_4 : (bytes : List ℕ) → operand_len op_pushdata4 bytes ≡ sized_len 4 bytes (from_le_bytes w32 (take 4 bytes))
+unfolding operand_len
+operand_4 bytes = refl
+
 sized-again : (w n : ℕ) (bytes : List ℕ) → w ≤ length bytes → sized_len w bytes n ≡ Some (w + n)
 sized-again w n bytes h = rw (le-ltb (length bytes) w h) refl
 
@@ -32,17 +52,18 @@ pub direct-again : (n : ℕ) (bytes : List ℕ) → n < 76 → operand_len n byt
 unfolding operand_len
 direct-again n bytes h = rw (lt-ltb n 76 h) refl
 
-one-again : (bytes more : List ℕ) → operand_len 76 ((length bytes ∷ bytes) ++ more) ≡ Some (length (length bytes ∷ bytes))
+one-again : (bytes more : List ℕ) → operand_len op_pushdata1 ((length bytes ∷ bytes) ++ more) ≡ Some (length (length bytes ∷ bytes))
 unfolding operand_len
-one-again bytes more = sized-again 1 (length bytes) ((length bytes ∷ bytes) ++ more) (omega arith) ∙ ap Some (omega arith)
+one-again bytes more = operand_1 ((length bytes ∷ bytes) ++ more) ∙ sized-again 1 (length bytes) ((length bytes ∷ bytes) ++ more) (omega arith) ∙ ap Some (omega arith)
 
-two-again : (bytes more : List ℕ) → length bytes < 2 ^ 16 → operand_len 77 ((to_le_bytes w16 (length bytes) ++ bytes) ++ more) ≡ Some (length (to_le_bytes w16 (length bytes) ++ bytes))
+two-again : (bytes more : List ℕ) → length bytes < 2 ^ 16 → operand_len op_pushdata2 ((to_le_bytes w16 (length bytes) ++ bytes) ++ more) ≡ Some (length (to_le_bytes w16 (length bytes) ++ bytes))
 unfolding operand_len
 two-again bytes more h =
-    ap (sized_len 2 ((to_le_bytes w16 (length bytes) ++ bytes) ++ more)) (from_le_bytes-to_le_bytes_2 (length bytes) h)
+    operand_2 ((to_le_bytes w16 (length bytes) ++ bytes) ++ more)
+    ∙ ap (sized_len 2 ((to_le_bytes w16 (length bytes) ++ bytes) ++ more)) (from_le_bytes-to_le_bytes_2 (length bytes) h)
     ∙ sized-again 2 (length bytes) ((to_le_bytes w16 (length bytes) ++ bytes) ++ more) (omega arith) ∙ ap Some (omega arith)
 
-four-again : (bytes more : List ℕ) → length bytes < 2 ^ 32 → operand_len 78 ((to_le_bytes w32 (length bytes) ++ bytes) ++ more) ≡ Some (length (to_le_bytes w32 (length bytes) ++ bytes))
+four-again : (bytes more : List ℕ) → length bytes < 2 ^ 32 → operand_len op_pushdata4 ((to_le_bytes w32 (length bytes) ++ bytes) ++ more) ≡ Some (length (to_le_bytes w32 (length bytes) ++ bytes))
 unfolding operand_len
 four-again bytes more h =
     ap (sized_len 4 ((to_le_bytes w32 (length bytes) ++ bytes) ++ more)) (from_le_bytes-to_le_bytes_4 (length bytes) h)
@@ -97,21 +118,21 @@ drop_more-front (suc w) m (b ∷ bytes) h =
 pub length_taken : (m : ℕ) (bytes : List ℕ) → m ≤ length bytes → length (take m bytes) ≡ m
 length_taken m bytes h = grind (arith, common_steps)
 
-op-76 : (bytes : List ℕ) (n : ℕ) → IsBytes bytes → operand_len 76 bytes ≡ Some n → n ≤ length bytes → IsOp (76 ∷ take n bytes)
+op-76 : (bytes : List ℕ) (n : ℕ) → IsBytes bytes → operand_len op_pushdata1 bytes ≡ Some n → n ≤ length bytes → IsOp (76 ∷ take n bytes)
 unfolding operand_len
-op-76 [] n fits e long = absurd (omega (arith, (sized-some 1 0 [] n e).0))
+op-76 [] n fits e long = absurd (omega (arith, (sized-some 1 0 [] n (sym (operand_1 []) ∙ e)).0))
 op-76 (m ∷ more) n fits e long =
-    let h = sized-some 1 m (m ∷ more) n e in
+    let h = sized-some 1 m (m ∷ more) n (sym (operand_1 (m ∷ more)) ∙ e) in
     let same : n ≡ suc m = omega (arith, h.1) in
     let cut : take n (m ∷ more) ≡ m ∷ take m more = ap (λ j. take j (m ∷ more)) same in
     let many : length (take m more) ≡ m = length_taken m more (omega arith) in
     (76, take m more, inr (inl (inl (refl, omega (arith, fits 0), ap (λ t. 76 ∷ t) (cut ∙ ap (λ j. j ∷ take m more) (sym many))))))
 
-op-77 : (bytes : List ℕ) (n : ℕ) → IsBytes bytes → operand_len 77 bytes ≡ Some n → n ≤ length bytes → IsOp (77 ∷ take n bytes)
+op-77 : (bytes : List ℕ) (n : ℕ) → IsBytes bytes → operand_len op_pushdata2 bytes ≡ Some n → n ≤ length bytes → IsOp (77 ∷ take n bytes)
 unfolding operand_len
 op-77 bytes n fits e long =
     let m = from_le_bytes w16 (take 2 bytes) in
-    let h = sized-some 2 m bytes n e in
+    let h = sized-some 2 m bytes n (sym (operand_2 bytes) ∙ e) in
     let front = length_taken 2 bytes h.0 in
     let in_range = IsBytes-take 2 bytes fits in
     let below : m < 2 ^ 16 = omega (arith, in_range 0, in_range 1) in
@@ -119,7 +140,7 @@ op-77 bytes n fits e long =
     let spelled : to_le_bytes w16 (length (take m (drop 2 bytes))) ≡ take 2 bytes = ap (to_le_bytes w16) many ∙ le_bytes_2 (take 2 bytes) m front in_range refl in
     (77, take m (drop 2 bytes), inr (inl (inr (inl (refl, omega arith, ap (λ t. 77 ∷ t) (ap (λ j. take j bytes) h.1 ∙ take_more-front 2 m bytes h.0 ∙ ap (λ t. t ++ take m (drop 2 bytes)) (sym spelled)))))))
 
-op-78 : (bytes : List ℕ) (n : ℕ) → IsBytes bytes → operand_len 78 bytes ≡ Some n → n ≤ length bytes → IsOp (78 ∷ take n bytes)
+op-78 : (bytes : List ℕ) (n : ℕ) → IsBytes bytes → operand_len op_pushdata4 bytes ≡ Some n → n ≤ length bytes → IsOp (78 ∷ take n bytes)
 unfolding operand_len
 op-78 bytes n fits e long =
     let m = from_le_bytes w32 (take 4 bytes) in
