@@ -2,7 +2,7 @@
 use Rattle.std.proofs.Common.{◌≡◌, ℕ, zero, suc, ◌≤◌, [], ◌∷◌, cond, nat_lt, Option, Some, None, length, drop, slice_get, refl, ap, ◌∙◌, arith}
 use Rattle.std.specs.Option.{option_and_then}
 use Rattle.interp.specs.Stack.{Stack, Bytes}
-use Rattle.interp.specs.computed.Elements.{natural_of}
+use Rattle.interp.specs.Elements.{natural_of}
 use Rattle.interp.specs.computed.Step.{many}
 
 pub many_past : (most k : ℕ) (s : Stack) → length s ≤ k → many most (drop k s) ≡ None

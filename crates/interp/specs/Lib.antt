@@ -5,6 +5,7 @@ pub mod Spending
 pub mod State
 pub mod Signatures
 pub mod Timelocks
+pub mod Effects
 pub mod Row
 pub mod Rules
 pub mod Question

@@ -1,8 +1,12 @@
 -- The opcodes of BIP 65 and BIP 112.
 use Rattle.std.specs.Prelude.{ℕ, ◌==◌, Bool, true, false, not, ◌&&◌, ◌||◌, nat_le}
+use Rattle.std.specs.Option.{option_map_or}
 use Rattle.txn.specs.declared.tx.Tx.{Tx}
 use Rattle.txn.specs.LockTime.{is_height}
 use Rattle.txn.specs.Sequence.{sequence_final, has_relative_locks, is_disabled, is_time, duration}
+use Rattle.interp.specs.Limits.{max_lock_size}
+use Rattle.interp.specs.Stack.{Bytes}
+use Rattle.interp.specs.Elements.{natural_of}
 use Rattle.interp.specs.Spending.{sequence_of}
 
 abbrev pub is_same : Bool → Bool → Bool
@@ -23,3 +27,7 @@ unfoldable pub locks_for : Tx → ℕ → ℕ → Bool
 locks_for tx input n =
     is_disabled n
     || (has_relative_locks tx && not (is_disabled (sequence_of tx input)) && is_as_long n (sequence_of tx input))
+
+-- a number of at most five bytes that isn't negative passes the test
+unfoldable pub is_met : (ℕ → Bool) → Bytes → Bool
+is_met test a = option_map_or test (natural_of max_lock_size a) false

@@ -6,6 +6,3 @@ pub mod Step
 pub mod Verifying
 pub mod Examples
 pub mod Signatures
-pub mod Stack
-pub mod Timelocks
-pub mod Elements

@@ -1,7 +1,6 @@
 -- What holds of the definitions.
 pub mod Answers
 pub mod Runs
-pub mod Affecting
 pub mod Checking
 pub mod Following
 pub mod Accepting

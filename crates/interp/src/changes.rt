@@ -1,9 +1,8 @@
 //! Opcodes that change the main stack alone.
 
-ghost use Rattle.std.specs.Prelude.{◌≡◌, ◌∷◌, Some, IfOk};
-ghost use Rattle.interp.specs.computed.Stack.{Gives};
-ghost use Rattle.interp.specs.Row.{verify, if_dup, size, equal_bytes};
-ghost use Rattle.interp.specs.computed.Step.{effect};
+ghost use Rattle.std.specs.Prelude.{◌≡◌, IfOk};
+ghost use Rattle.interp.specs.inside.Going.{Gives};
+ghost use Rattle.interp.specs.Effects.{push, verify, if_dup, size, equal_bytes};
 ghost use Rattle.interp.specs.computed.Meaning.{change_of};
 
 use crate::element::Element;
@@ -35,7 +34,7 @@ pub enum Change {
 
 /// Pushes some bytes.
 pub fn push(alloc: Global, stack: &mut Pile<Element>, bytes: &[u8]) -> Result<bool, Memory>
-    ensures { IfOk result (λ there. Gives there (Some (bytes.now ∷ stack.old)) stack.new) }
+    ensures { IfOk result (λ there. Gives there (push bytes.now stack.old) stack.new) }
 {
     stack.push(Element::from_slice(alloc, bytes)?)?;
     Ok(true)
@@ -43,7 +42,7 @@ pub fn push(alloc: Global, stack: &mut Pile<Element>, bytes: &[u8]) -> Result<bo
 
 /// Takes the top, and says whether it is true.
 pub fn verify(stack: &mut Pile<Element>) -> bool
-    ensures { Gives result (effect verify stack.old) stack.new }
+    ensures { Gives result (verify stack.old) stack.new }
 {
     if stack.len() == 0 {
         return false;
@@ -54,7 +53,7 @@ pub fn verify(stack: &mut Pile<Element>) -> bool
 /// Copies the top, if it is true.
 #[inline(never)]
 fn duplicate_if_true(alloc: Global, stack: &mut Pile<Element>) -> Result<bool, Memory>
-    ensures { IfOk result (λ there. Gives there (effect if_dup stack.old) stack.new) }
+    ensures { IfOk result (λ there. Gives there (if_dup stack.old) stack.new) }
 {
     if stack.len() == 0 {
         return Ok(false);
@@ -70,7 +69,7 @@ fn duplicate_if_true(alloc: Global, stack: &mut Pile<Element>) -> Result<bool, M
 /// Pushes the length of the top.
 #[inline(never)]
 fn push_size(alloc: Global, stack: &mut Pile<Element>) -> Result<bool, Memory>
-    ensures { IfOk result (λ there. Gives there (effect size stack.old) stack.new) }
+    ensures { IfOk result (λ there. Gives there (size stack.old) stack.new) }
 {
     if stack.len() == 0 {
         return Ok(false);
@@ -84,7 +83,7 @@ fn push_size(alloc: Global, stack: &mut Pile<Element>) -> Result<bool, Memory>
 
 /// Takes the two on top, and pushes whether they have the same bytes.
 pub fn compare(alloc: Global, stack: &mut Pile<Element>) -> Result<bool, Memory>
-    ensures { IfOk result (λ there. Gives there (effect equal_bytes stack.old) stack.new) }
+    ensures { IfOk result (λ there. Gives there (equal_bytes stack.old) stack.new) }
 {
     if stack.len() < 2 {
         return Ok(false);
@@ -100,7 +99,7 @@ pub fn compare(alloc: Global, stack: &mut Pile<Element>) -> Result<bool, Memory>
 // each value of each row.
 /// Does it, and says whether it could be done.
 pub fn apply(alloc: Global, stack: &mut Pile<Element>, by: Change) -> Result<bool, Memory>
-    ensures { IfOk result (λ there. Gives there (effect (change_of by) stack.old) stack.new) }
+    ensures { IfOk result (λ there. Gives there (change_of by stack.old) stack.new) }
 {
     match by {
         Change::MinusOne => push(alloc, stack, &[0x81]),

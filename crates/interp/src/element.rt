@@ -2,8 +2,7 @@
 
 ghost use Rattle.std.specs.Prelude.{◌≡◌, ℕ, List, min, IfOk};
 ghost use Rattle.script.specs.Num.{shortest_bytes};
-ghost use Rattle.interp.specs.Elements.{truth, truth_bytes};
-ghost use Rattle.interp.specs.computed.Elements.{natural_of};
+ghost use Rattle.interp.specs.Elements.{truth, truth_bytes, natural_of};
 
 use script::Num;
 use std::alloc::Global;

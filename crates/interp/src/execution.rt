@@ -5,11 +5,13 @@ ghost use Rattle.curve.specs.Known.{Known};
 ghost use Rattle.interp.specs.Answer.{answer_map};
 ghost use Rattle.interp.specs.inside.Going.{Goes, Leaves};
 ghost use Rattle.interp.specs.Question.{Question, question_of};
-ghost use Rattle.interp.specs.computed.Stack.{Gives};
+ghost use Rattle.interp.specs.inside.Going.{Gives};
 ghost use Rattle.interp.specs.State.{start, is_executing};
 ghost use Rattle.interp.specs.Timelocks.{locks_until, locks_for};
 ghost use Rattle.interp.specs.computed.Meaning.{meaning, check_of};
-ghost use Rattle.interp.specs.computed.Step.{after_executing, after_skipping, after_verify, with_main, after_open, after_turn, after_close, to_alt, from_alt, counts_of, after_checking_multisig, verified, after_asking, after_test, after_acting, with_count, within_bounds, step_at, step, stack_left};
+ghost use Rattle.interp.specs.Effects.{verify, on_main, to_alt, from_alt, branch, turn, close, ask};
+ghost use Rattle.interp.specs.Rules.{skipped, with_count};
+ghost use Rattle.interp.specs.computed.Step.{after_executing, counts_of, after_checking_multisig, after_test, after_acting, within_bounds, step_at, step, stack_left};
 ghost use Rattle.interp.specs.Row.{push_row, row_at, row_of, Sig};
 
 use crate::changes::{apply, compare, push, verify};
@@ -105,13 +107,13 @@ impl<'a> Execution<'a> {
 
     /// Takes the top, and says whether it is true.
     fn verify(&mut self) -> bool
-        ensures { Gives result (with_main self.old (after_verify self.old.main)) self.new }
+        ensures { Gives result (on_main verify self.old) self.new }
     {
         verify(&mut self.main)
     }
 
     fn open(&mut self, at: bool) -> Result<bool, Memory>
-        ensures { IfOk result (λ done. Gives done (after_open at self.old self.old.main) self.new) }
+        ensures { IfOk result (λ done. Gives done (branch at self.old) self.new) }
     {
         if self.main.len() == 0 {
             return Ok(false);
@@ -122,8 +124,7 @@ impl<'a> Execution<'a> {
     }
 
     fn turn(&mut self) -> Result<bool, Memory>
-        ensures { IfOk result (λ done. Gives done
-            (after_turn self.old self.old.conditions) self.new) }
+        ensures { IfOk result (λ done. Gives done (turn self.old) self.new) }
     {
         if self.conditions.len() == 0 {
             return Ok(false);
@@ -134,7 +135,7 @@ impl<'a> Execution<'a> {
     }
 
     fn close(&mut self) -> bool
-        ensures { Gives result (after_close self.old self.old.conditions) self.new }
+        ensures { Gives result (close self.old) self.new }
     {
         if self.conditions.len() == 0 {
             return false;
@@ -145,7 +146,7 @@ impl<'a> Execution<'a> {
 
     /// Moves the top to the alternative stack.
     fn put_aside(&mut self) -> Result<bool, Memory>
-        ensures { IfOk result (λ done. Gives done (to_alt self.old self.old.main) self.new) }
+        ensures { IfOk result (λ done. Gives done (to_alt self.old) self.new) }
     {
         if self.main.len() == 0 {
             return Ok(false);
@@ -157,7 +158,7 @@ impl<'a> Execution<'a> {
 
     /// Moves the top of the alternative stack back.
     fn take_back(&mut self) -> Result<bool, Memory>
-        ensures { IfOk result (λ done. Gives done (from_alt self.old self.old.alt) self.new) }
+        ensures { IfOk result (λ done. Gives done (from_alt self.old) self.new) }
     {
         if self.alt.len() == 0 {
             return Ok(false);
@@ -254,7 +255,7 @@ impl<'a> Execution<'a> {
         by: Test,
     ) -> Result<bool, Unverified>
         requires { job.now.input < length job.now.tx.now.inputs }
-        ensures { Goes result (answer_map (option_and_then verified)
+        ensures { Goes result (answer_map (option_and_then (on_main verify))
             (after_test (K.known known.now) (question_of job.now) (check_of by) self.old)) self.new }
     {
         if !self.test(alloc, job, known, by)? {
@@ -264,21 +265,21 @@ impl<'a> Execution<'a> {
     }
 
     /// Whether the top is there and a lock time that the transaction keeps (BIP 65).
-    #[tactic(auto, unfolding(crate::specs::computed::Step::after_asking))]
+    #[tactic(auto, unfolding(crate::specs::Effects::ask))]
     fn ask_lock_time(&self, job: &Job) -> bool
         requires { job.now.input < length job.now.tx.now.inputs }
-        ensures { Gives result (after_asking
-            (λ n. locks_until job.now.tx.now job.now.input n) self.now self.now.main) self.now }
+        ensures { Gives result (ask
+            (λ n. locks_until job.now.tx.now job.now.input n) self.now) self.now }
     {
         self.main.len() > 0 && meets_lock_time(job, self.main.at(0).as_slice())
     }
 
     /// Whether the top is there and a relative lock that the input keeps (BIP 112).
-    #[tactic(auto, unfolding(crate::specs::computed::Step::after_asking))]
+    #[tactic(auto, unfolding(crate::specs::Effects::ask))]
     fn ask_sequence(&self, job: &Job) -> bool
         requires { job.now.input < length job.now.tx.now.inputs }
-        ensures { Gives result (after_asking
-            (λ n. locks_for job.now.tx.now job.now.input n) self.now self.now.main) self.now }
+        ensures { Gives result (ask
+            (λ n. locks_for job.now.tx.now job.now.input n) self.now) self.now }
     {
         self.main.len() > 0 && meets_sequence(job, self.main.at(0).as_slice())
     }
@@ -321,7 +322,7 @@ impl<'a> Execution<'a> {
     #[tactic(auto, using(crate::proofs::Table::untaken), unfolding(crate::specs::Row::row_at))]
     fn skip(&mut self, number: u8) -> Result<bool, Memory>
         ensures { IfOk result (λ done. Gives done
-            (after_skipping (row_at number) self.old) self.new) }
+            (skipped (row_at number) self.old) self.new) }
     {
         // Asked first, since it is so of most opcodes and the compiler would ask for the others before it.
         if number < OP_IF {
@@ -370,7 +371,7 @@ impl<'a> Execution<'a> {
     }
 
     /// A push of bytes.
-    #[tactic(auto, unfolding(crate::specs::computed::Step::after_acting))]
+    #[tactic(auto, unfolding(crate::specs::computed::Step::after_acting, crate::specs::Row::push_row))]
     fn act_push(&mut self, alloc: Global, bytes: &[u8]) -> Result<bool, Memory>
         ensures { IfOk result (λ done. (known : Known) (q : Question) (after : List ℕ)
             → Leaves done (after_acting known q after (push_row bytes.now) self.old) self.new) }
@@ -385,7 +386,7 @@ impl<'a> Execution<'a> {
     }
 
     /// One more opcode of this number, unless there were as many as there may be.
-    #[tactic(auto, unfolding(crate::specs::computed::Step::with_count))]
+    #[tactic(auto, unfolding(crate::specs::Rules::with_count))]
     fn count_one(&mut self, number: u8) -> bool
         ensures { Gives result (with_count number self.old) self.new }
     {
@@ -408,7 +409,7 @@ impl<'a> Execution<'a> {
     }
 
     /// One opcode with its bytes; `after` follows it in the script.
-    #[tactic(auto, unfolding(crate::specs::computed::Step::step, crate::specs::computed::Step::step_at, crate::specs::computed::Step::with_count, crate::specs::Row::row_of))]
+    #[tactic(auto, unfolding(crate::specs::computed::Step::step, crate::specs::computed::Step::step_at, crate::specs::Rules::with_count, crate::specs::Row::row_of))]
     pub fn step<K: KnowsSignatures>(
         &mut self,
         alloc: Global,

@@ -1,10 +1,10 @@
 //! Opcodes that hash.
 
-ghost use Rattle.std.specs.Prelude.{◌≡◌, IfOk, [], ◌∷◌, Some};
+ghost use Rattle.std.specs.Prelude.{◌≡◌, IfOk};
 ghost use Rattle.sha1.specs.Sha1.{sha1};
 ghost use Rattle.sha2.specs.Sha256.{sha256};
-ghost use Rattle.interp.specs.computed.Stack.{Gives};
-ghost use Rattle.interp.specs.computed.Step.{on_one};
+ghost use Rattle.interp.specs.inside.Going.{Gives};
+ghost use Rattle.interp.specs.Effects.{digest};
 ghost use Rattle.interp.specs.computed.Groups.{hash_of};
 
 use crate::element::Element;
@@ -53,7 +53,7 @@ fn digest_of(alloc: Global, bytes: &[u8], by: Hash) -> Result<Element, Memory>
 #[inline(never)]
 pub fn digest_top(alloc: Global, stack: &mut Pile<Element>, by: Hash) -> Result<bool, Memory>
     ensures { IfOk result (λ there. Gives there
-        (on_one (λ x. Some (hash_of by x ∷ [])) stack.old) stack.new) }
+        (digest (hash_of by) stack.old) stack.new) }
 {
     if stack.len() == 0 {
         return Ok(false);

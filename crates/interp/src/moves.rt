@@ -1,7 +1,8 @@
 //! Rows of the stack: what is taken, and what is left in its place.
 
 ghost use Rattle.std.specs.Prelude.{◌≡◌, IfOk};
-ghost use Rattle.interp.specs.computed.Stack.{Gives, rearrangement};
+ghost use Rattle.interp.specs.inside.Going.{Gives};
+ghost use Rattle.interp.specs.Effects.{moves};
 ghost use Rattle.interp.specs.computed.Groups.{move_of};
 
 use crate::element::Element;
@@ -60,7 +61,7 @@ macro_rules! copy {
 #[tactic(auto, using(crate::proofs::Exchanges::moved))]
 pub fn rearrange(alloc: Global, stack: &mut Pile<Element>, by: Move) -> Result<bool, Memory>
     ensures { IfOk result (λ there. Gives there
-        (rearrangement (move_of by).0 (move_of by).1 stack.old) stack.new) }
+        (moves (move_of by).0 (move_of by).1 stack.old) stack.new) }
 {
     if stack.len() < reach(by) {
         return Ok(false);

@@ -2,9 +2,10 @@
 
 ghost use Rattle.std.specs.Prelude.{◌≡◌, ◌^◌, ◌∷◌, pos, negsuc, ◌<ℤ◌, IfOk, OnOk, MatchOption, IfSome, Some, None};
 ghost use Rattle.script.specs.Num.{operand, shortest_bytes};
-ghost use Rattle.interp.specs.computed.Stack.{Gives};
-ghost use Rattle.interp.specs.computed.Step.{top_number, on_number, on_two_numbers, on_three_numbers};
-ghost use Rattle.interp.specs.computed.Groups.{unary_of, binary_of, within_of};
+ghost use Rattle.interp.specs.inside.Going.{Gives};
+ghost use Rattle.interp.specs.Effects.{pop_number, one_number, two_numbers, three_numbers};
+ghost use Rattle.interp.specs.Row.{within};
+ghost use Rattle.interp.specs.computed.Groups.{unary_of, binary_of};
 
 use crate::element::Element;
 use crate::pile::Pile;
@@ -54,10 +55,10 @@ fn number(bytes: &[u8]) -> Option<i64>
 }
 
 /// Takes the number on top.
-#[tactic(auto, unfolding(crate::specs::computed::Step::top_number))]
+#[tactic(auto, unfolding(crate::specs::Effects::pop_number))]
 fn pop_number(stack: &mut Pile<Element>) -> Option<i64>
-    ensures value { MatchOption result (top_number stack.old ≡ None)
-        (λ z. top_number stack.old ≡ Some (z, stack.new)) }
+    ensures value { MatchOption result (pop_number stack.old ≡ None)
+        (λ z. pop_number stack.old ≡ Some (z, stack.new)) }
     ensures above { IfSome result (λ z. negsuc (2 ^ 31) <ℤ z) }
     ensures below { IfSome result (λ z. z <ℤ pos (2 ^ 31)) }
 {
@@ -115,10 +116,10 @@ fn changed(by: Unary, a: i64) -> i64
 }
 
 /// Changes the number on top, if there is one.
-#[tactic(auto, unfolding(crate::specs::computed::Step::on_number))]
+#[tactic(auto, unfolding(crate::specs::Effects::one_number))]
 #[inline(never)]
 pub fn change_number(alloc: Global, stack: &mut Pile<Element>, by: Unary) -> Result<bool, Memory>
-    ensures { IfOk result (λ there. Gives there (on_number (unary_of by) stack.old) stack.new) }
+    ensures { IfOk result (λ there. Gives there (one_number (unary_of by) stack.old) stack.new) }
 {
     row!(alloc, stack; a -> changed(by, a))
 }
@@ -148,20 +149,20 @@ fn joined(by: Binary, a: i64, b: i64) -> i64
 }
 
 /// Makes a number of the two on top, if they are there.
-#[tactic(auto, unfolding(crate::specs::computed::Step::on_two_numbers))]
+#[tactic(auto, unfolding(crate::specs::Effects::two_numbers))]
 #[inline(never)]
 pub fn join_numbers(alloc: Global, stack: &mut Pile<Element>, by: Binary) -> Result<bool, Memory>
     ensures { IfOk result (λ there. Gives there
-        (on_two_numbers (binary_of by) stack.old) stack.new) }
+        (two_numbers (binary_of by) stack.old) stack.new) }
 {
     row!(alloc, stack; a b -> joined(by, a, b))
 }
 
 /// Whether a number lies from the second on and below the third, if the three are there.
-#[tactic(auto, unfolding(crate::specs::computed::Step::on_three_numbers))]
+#[tactic(auto, unfolding(crate::specs::Effects::three_numbers))]
 #[inline(never)]
 pub fn within(alloc: Global, stack: &mut Pile<Element>) -> Result<bool, Memory>
-    ensures { IfOk result (λ there. Gives there (on_three_numbers within_of stack.old) stack.new) }
+    ensures { IfOk result (λ there. Gives there (within stack.old) stack.new) }
 {
     row!(alloc, stack; x min max -> i64::from(min <= x && x < max))
 }

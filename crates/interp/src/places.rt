@@ -2,8 +2,8 @@
 
 ghost use Rattle.std.specs.Prelude.{◌≡◌, ◌<◌, ◌∷◌, length, remove, IfOk, IfSome, MatchOption, pos, None, Some};
 ghost use Rattle.script.specs.Num.{shortest_bytes};
-ghost use Rattle.interp.specs.computed.Stack.{Gives};
-ghost use Rattle.interp.specs.computed.Step.{after_pick, after_roll, top_place};
+ghost use Rattle.interp.specs.inside.Going.{Gives};
+ghost use Rattle.interp.specs.Effects.{depth, pop_place, pick, roll};
 
 use crate::element::{Element, natural};
 use crate::numbers::push_number;
@@ -14,18 +14,17 @@ use wire::Memory;
 /// Pushes the number of elements.
 #[inline(never)]
 pub fn push_depth(alloc: Global, stack: &mut Pile<Element>) -> Result<bool, Memory>
-    ensures { IfOk result (λ there. Gives there
-        (Some (shortest_bytes (pos (length stack.old)) ∷ stack.old)) stack.new) }
+    ensures { IfOk result (λ there. Gives there (depth stack.old) stack.new) }
 {
     push_number(alloc, stack, stack.depth())?;
     Ok(true)
 }
 
 /// Takes a number, if it is a place among the others: 0 is their top.
-#[tactic(auto, unfolding(crate::specs::computed::Step::top_place))]
+#[tactic(auto, unfolding(crate::specs::Effects::pop_place))]
 fn pop_place(stack: &mut Pile<Element>) -> Option<usize>
-    ensures value { MatchOption result (top_place stack.old ≡ None)
-        (λ n. top_place stack.old ≡ Some (n, stack.new)) }
+    ensures value { MatchOption result (pop_place stack.old ≡ None)
+        (λ n. pop_place stack.old ≡ Some (n, stack.new)) }
     ensures bound { IfSome result (λ n. n < length stack.new) }
 {
     if stack.len() == 0 {
@@ -39,10 +38,10 @@ fn pop_place(stack: &mut Pile<Element>) -> Option<usize>
 }
 
 /// Copies an element to the top.
-#[tactic(auto, unfolding(crate::specs::computed::Step::after_pick))]
+#[tactic(auto, unfolding(crate::specs::Effects::pick))]
 #[inline(never)]
 pub fn pick(alloc: Global, stack: &mut Pile<Element>) -> Result<bool, Memory>
-    ensures { IfOk result (λ there. Gives there (after_pick stack.old) stack.new) }
+    ensures { IfOk result (λ there. Gives there (pick stack.old) stack.new) }
 {
     let Some(n) = pop_place(stack) else {
         return Ok(false);
@@ -52,10 +51,10 @@ pub fn pick(alloc: Global, stack: &mut Pile<Element>) -> Result<bool, Memory>
 }
 
 /// Moves an element to the top.
-#[tactic(auto, unfolding(crate::specs::computed::Step::after_roll))]
+#[tactic(auto, unfolding(crate::specs::Effects::roll))]
 #[inline(never)]
 pub fn roll(stack: &mut Pile<Element>) -> Result<bool, Memory>
-    ensures { IfOk result (λ there. Gives there (after_roll stack.old) stack.new) }
+    ensures { IfOk result (λ there. Gives there (roll stack.old) stack.new) }
 {
     let Some(n) = pop_place(stack) else {
         return Ok(false);

@@ -4,7 +4,7 @@ ghost use Rattle.std.specs.Prelude.{◌≡◌, ◌<◌, ◌^◌, ◌==◌, lengt
 ghost use Rattle.interp.specs.Spending.{sequence_of};
 ghost use Rattle.txn.specs.LockTime.{is_height};
 ghost use Rattle.interp.specs.Timelocks.{locks_until, is_as_long, locks_for};
-ghost use Rattle.interp.specs.computed.Timelocks.{is_met};
+ghost use Rattle.interp.specs.Timelocks.{is_met};
 
 use crate::element::natural;
 use crate::job::Job;
@@ -57,7 +57,7 @@ fn locks_for(job: &Job, n: u64) -> bool
 }
 
 /// What CHECKLOCKTIMEVERIFY asks of the element on top (BIP 65).
-#[tactic(auto, unfolding(crate::specs::computed::Timelocks::is_met))]
+#[tactic(auto, unfolding(crate::specs::Timelocks::is_met))]
 pub fn meets_lock_time(job: &Job, top: &[u8]) -> bool
     requires { job.now.input < length job.now.tx.now.inputs }
     ensures { result ≡ is_met (λ n. locks_until job.now.tx.now job.now.input n) top.now }
@@ -69,7 +69,7 @@ pub fn meets_lock_time(job: &Job, top: &[u8]) -> bool
 }
 
 /// What CHECKSEQUENCEVERIFY asks of the element on top (BIP 112).
-#[tactic(auto, unfolding(crate::specs::computed::Timelocks::is_met))]
+#[tactic(auto, unfolding(crate::specs::Timelocks::is_met))]
 pub fn meets_sequence(job: &Job, top: &[u8]) -> bool
     requires { job.now.input < length job.now.tx.now.inputs }
     ensures { result ≡ is_met (λ n. locks_for job.now.tx.now job.now.input n) top.now }

@@ -8,47 +8,50 @@ use Rattle.curve.specs.Known.{Known}
 use Rattle.interp.specs.Answer.{Says}
 use Rattle.interp.specs.Question.{Question}
 use Rattle.interp.specs.computed.Signatures.{pairs_verdict}
-use Rattle.interp.specs.Row.{row_at, row_of}
-use Rattle.interp.specs.computed.Step.{top_number, on_number, on_two_numbers, on_three_numbers, top_place, after_roll, many, counts_of, after_checking_multisig, after_acting, with_count, within_bounds, step_at, step, run, outcome}
+use Rattle.interp.specs.Row.{row_at, row_of, push_row}
+use Rattle.interp.specs.Effects.{moves, pop_number, one_number, two_numbers, three_numbers, pop_place}
+use Rattle.interp.specs.Effects as effects
+use Rattle.interp.specs.Rules.{with_count}
+use Rattle.interp.specs.computed.Step.{many, counts_of, after_checking_multisig, after_acting, within_bounds, step_at, step, run, outcome}
 
 -- 1 2 3 ROT
 rot : (known : Known) (q : Question) → outcome known q (0x51 ∷ 0x52 ∷ 0x53 ∷ 0x7b ∷ []) [] ≡ Says (Some ((1 ∷ []) ∷ (3 ∷ []) ∷ (2 ∷ []) ∷ []))
-unfolding operand_len ops rest row_at row_of after_acting with_count within_bounds step_at step run outcome
+unfolding operand_len ops rest row_at row_of push_row after_acting with_count within_bounds step_at step run outcome moves
 rot known q = refl
 
 -- 2 5 SUB
 sub : (known : Known) (q : Question) → outcome known q (0x52 ∷ 0x55 ∷ 0x94 ∷ []) [] ≡ Says (Some ((0x83 ∷ []) ∷ []))
-unfolding operand_len ops rest row_at row_of after_acting with_count within_bounds step_at step run outcome operand num_value shortest_bytes shortest_bytes_with top_number on_two_numbers
+unfolding operand_len ops rest row_at row_of push_row after_acting with_count within_bounds step_at step run outcome operand num_value shortest_bytes shortest_bytes_with pop_number two_numbers
 sub known q = refl
 
 -- 2 1 2 WITHIN: the end isn't within
 within : (known : Known) (q : Question) → outcome known q (0x52 ∷ 0x51 ∷ 0x52 ∷ 0xa5 ∷ []) [] ≡ Says (Some ([] ∷ []))
-unfolding operand_len ops rest row_at row_of after_acting with_count within_bounds step_at step run outcome operand num_value shortest_bytes shortest_bytes_with top_number on_three_numbers
+unfolding operand_len ops rest row_at row_of push_row after_acting with_count within_bounds step_at step run outcome operand num_value shortest_bytes shortest_bytes_with pop_number three_numbers
 within known q = refl
 
 -- 7 8 9 and 2 ROLL
 roll : (known : Known) (q : Question) → outcome known q (0x57 ∷ 0x58 ∷ 0x59 ∷ 0x52 ∷ 0x7a ∷ []) [] ≡ Says (Some ((7 ∷ []) ∷ (9 ∷ []) ∷ (8 ∷ []) ∷ []))
-unfolding operand_len ops rest row_at row_of after_acting with_count within_bounds step_at step run outcome operand num_value top_place after_roll
+unfolding operand_len ops rest row_at row_of push_row after_acting with_count within_bounds step_at step run outcome operand num_value pop_place effects.roll
 roll known q = refl
 
 -- ELSE may come again: 1 IF 1 ELSE 0 ELSE 2 ENDIF
 branches : (known : Known) (q : Question) → outcome known q (0x51 ∷ 0x63 ∷ 0x51 ∷ 0x67 ∷ 0x00 ∷ 0x67 ∷ 0x52 ∷ 0x68 ∷ []) [] ≡ Says (Some ((2 ∷ []) ∷ (1 ∷ []) ∷ []))
-unfolding truth pushed_of operand_len ops rest row_at row_of after_acting with_count within_bounds step_at step run outcome
+unfolding truth pushed_of operand_len ops rest row_at row_of push_row after_acting with_count within_bounds step_at step run outcome
 branches known q = refl
 
 -- VERIF in a branch that isn't taken
 verif : (known : Known) (q : Question) → outcome known q (0x00 ∷ 0x63 ∷ 0x65 ∷ 0x68 ∷ 0x51 ∷ []) [] ≡ Says None
-unfolding truth pushed_of operand_len ops rest row_at row_of after_acting with_count within_bounds step_at step run outcome
+unfolding truth pushed_of operand_len ops rest row_at row_of push_row after_acting with_count within_bounds step_at step run outcome
 verif known q = refl
 
 -- 2147483647 1ADD leaves five bytes, which aren't an operand
 five_bytes : (known : Known) (q : Question) → outcome known q (0x04 ∷ 0xff ∷ 0xff ∷ 0xff ∷ 0x7f ∷ 0x8b ∷ 0x8b ∷ []) [] ≡ Says None
-unfolding pushed_of operand_len ops rest row_at row_of after_acting with_count within_bounds step_at step run outcome operand num_value shortest_bytes shortest_bytes_with top_number on_number
+unfolding pushed_of operand_len ops rest row_at row_of push_row after_acting with_count within_bounds step_at step run outcome operand num_value shortest_bytes shortest_bytes_with pop_number one_number
 five_bytes known q = refl
 
 -- no signature of no key, with the element more that CHECKMULTISIG takes
 none_of_none : (known : Known) (q : Question) → outcome known q (0x00 ∷ 0x00 ∷ 0x00 ∷ 0xae ∷ []) [] ≡ Says (Some ((1 ∷ []) ∷ []))
-unfolding pushed_of operand_len ops rest row_at row_of after_acting with_count within_bounds step_at step run outcome operand num_value pairs_verdict many counts_of after_checking_multisig
+unfolding pushed_of operand_len ops rest row_at row_of push_row after_acting with_count within_bounds step_at step run outcome operand num_value pairs_verdict many counts_of after_checking_multisig
 none_of_none known q = refl
 
 -- a push that is cut short

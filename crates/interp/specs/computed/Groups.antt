@@ -8,7 +8,7 @@ use Rattle.hash.specs.Double.{double_sha}
 use Rattle.hash.specs.KeyHash.{hash160}
 use Rattle.interp.specs.Stack.{Bytes}
 use Rattle.interp.specs.Elements.{flag}
-use Rattle.interp.specs.Row.{is_zero, num_eq, is_within}
+use Rattle.interp.specs.Row.{is_zero, num_eq}
 use Rattle.interp.specs.declared.moves.Move.{Move}
 use Rattle.interp.specs.declared.moves.Move.TheVariants.{Drop2, Dup2, Dup3, Over2, Rot2, Swap2, Drop1, Dup, Nip, Over, Rot, Swap, Tuck}
 use Rattle.interp.specs.declared.numbers.Unary.{Unary}
@@ -18,6 +18,7 @@ use Rattle.interp.specs.declared.numbers.Binary.TheVariants.{Add, Sub, BoolAnd, 
 use Rattle.interp.specs.declared.hashes.Hash.{Hash}
 use Rattle.interp.specs.declared.hashes.Hash.TheVariants.{Ripemd160, Sha1, Sha256, Hash160, DoubleSha256}
 
+-- how many elements it takes, and which it leaves
 abbrev pub move_of : Move → ℕ × List ℕ
 move_of Drop2 = (2, [])
 move_of Dup2 = (2, 0 ∷ 1 ∷ 0 ∷ 1 ∷ [])
@@ -54,9 +55,6 @@ binary_of LessOrEqual x y = flag (not (int_lt y x))
 binary_of GreaterOrEqual x y = flag (not (int_lt x y))
 binary_of Min x y = int_min x y
 binary_of Max x y = int_max x y
-
-abbrev pub within_of : ℤ → ℤ → ℤ → ℤ
-within_of x min max = flag (is_within x min max)
 
 abbrev pub hash_of : Hash → Bytes → Bytes
 hash_of Ripemd160 x = ripemd160 x

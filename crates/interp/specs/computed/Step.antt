@@ -1,124 +1,31 @@
 -- One opcode, a script and the verdict on an input, by what is known of signatures (Bitcoin Core's `EvalScript` and
 -- `VerifyScript`).
-use Rattle.std.specs.Prelude.{ℕ, ◌+◌, ◌==◌, List, [], ◌∷◌, ◌++◌, length, take, drop, Bool, true, false, not, Option, Some, None, option_and_then, nat_lt, if◌then◌else◌, pos, ℤ, remove, slice_get}
+use Rattle.std.specs.Prelude.{ℕ, ◌+◌, ◌==◌, List, [], ◌∷◌, ◌++◌, length, take, drop, Bool, true, false, Option, Some, None, option_and_then, nat_lt, if◌then◌else◌, slice_get}
 use Rattle.std.specs.Option.{option_map, option_map_or}
 use Rattle.std.specs.List.{concat}
 use Rattle.script.specs.Ops.{ops, rest, is_whole}
 use Rattle.script.specs.Kinds.{is_push_only, is_p2sh, max_script_size}
-use Rattle.script.specs.Num.{operand, shortest_bytes}
 use Rattle.txn.specs.declared.input.TxIn.{TxIn}
 use Rattle.interp.specs.Limits.{max_ops, max_keys, max_elements, max_number_size}
-use Rattle.interp.specs.Stack.{Stack, Bytes, stack_with, nth}
-use Rattle.interp.specs.computed.Stack.{rearrangement}
-use Rattle.interp.specs.Elements.{truth, truth_bytes}
-use Rattle.interp.specs.computed.Elements.{top_is_true, natural_of}
+use Rattle.interp.specs.Stack.{Stack, Bytes}
+use Rattle.interp.specs.Elements.{truth_bytes, top_is_true, natural_of}
 use Rattle.curve.specs.Known.{Known}
 use Rattle.interp.specs.Answer.{Answer, Says, Wants, answer_map, on_some, and_then, also}
 use Rattle.interp.specs.Question.{Question}
 use Rattle.interp.specs.State.{State, is_executing, start}
 use Rattle.interp.specs.Signatures.{signed_code}
 use Rattle.interp.specs.computed.Signatures.{pair_verdict, pairs_verdict}
-use Rattle.interp.specs.Timelocks.{is_same}
-use Rattle.interp.specs.computed.Timelocks.{is_met}
-use Rattle.interp.specs.Row.{Effect, Puts, Moves, One, Two, OneNumber, TwoNumbers, ThreeNumbers, Depth, Picks, Rolls, Check, Of, Sig, Multisig, Row, Disabled, Fails, Nothing, Changes, Tests, AndVerifies, Opens, Turns, Closes, ToAlt, FromAlt, Separates, Asks, verify, row_of}
+use Rattle.interp.specs.Effects.{◌>>=◌, verify, on_main, ask_if}
+use Rattle.interp.specs.Row.{Check, Of, Sig, Multisig, Row, Does, Controls, Tests, AndVerifies, Separates, Asks, row_of}
+use Rattle.interp.specs.Rules.{skipped, with_count}
 
-infixl 10 ◌>>=◌
-abbrev pub ◌>>=◌ : {A B : Type 0} → Option A → (A → Option B) → Option B
-o >>= f = option_and_then f o
-
--- ---- the main stack
-abbrev pub on_one : (Bytes → Option (List Bytes)) → Stack → Option Stack
-on_one f [] = None
-on_one f (a ∷ rest) = option_map (λ left. stack_with left rest) (f a)
-
-abbrev pub on_two : (Bytes → Bytes → Option (List Bytes)) → Stack → Option Stack
-on_two f [] = None
-on_two f (b ∷ []) = None
-on_two f (b ∷ a ∷ rest) = option_map (λ left. stack_with left rest) (f a b)
-
--- the number on top, and the rest
-unfoldable pub top_number : Stack → Option (ℤ × Stack)
-top_number [] = None
-top_number (a ∷ rest) = option_map (λ z. (z, rest)) (operand max_number_size a)
-
-unfoldable pub on_number : (ℤ → ℤ) → Stack → Option Stack
-on_number f s = do
-  a ← top_number s
-  Some (shortest_bytes (f a.0) ∷ a.1)
-
-unfoldable pub on_two_numbers : (ℤ → ℤ → ℤ) → Stack → Option Stack
-on_two_numbers f s = do
-  b ← top_number s
-  a ← top_number b.1
-  Some (shortest_bytes (f a.0 b.0) ∷ a.1)
-
-unfoldable pub on_three_numbers : (ℤ → ℤ → ℤ → ℤ) → Stack → Option Stack
-on_three_numbers f s = do
-  c ← top_number s
-  b ← top_number c.1
-  a ← top_number b.1
-  Some (shortest_bytes (f a.0 b.0 c.0) ∷ a.1)
-
--- a place among the others, by the number on top, and the others
-abbrev pub place_among : Stack → ℕ → Option (ℕ × Stack)
-place_among rest n = if nat_lt n (length rest) then Some (n, rest) else None
-
-unfoldable pub top_place : Stack → Option (ℕ × Stack)
-top_place [] = None
-top_place (a ∷ rest) = option_and_then (place_among rest) (natural_of max_number_size a)
-
-unfoldable pub after_pick : Stack → Option Stack
-after_pick s = option_map (λ p. nth p.1 p.0 ∷ p.1) (top_place s)
-
-unfoldable pub after_roll : Stack → Option Stack
-after_roll s = option_map (λ p. nth p.1 p.0 ∷ remove p.1 p.0) (top_place s)
-
-abbrev pub effect : Effect → Stack → Option Stack
-effect (Puts x) s = Some (x ∷ s)
-effect (Moves n left) s = rearrangement n left s
-effect (One f) s = on_one f s
-effect (Two f) s = on_two f s
-effect (OneNumber f) s = on_number f s
-effect (TwoNumbers f) s = on_two_numbers f s
-effect (ThreeNumbers f) s = on_three_numbers f s
-effect Depth s = Some (shortest_bytes (pos (length s)) ∷ s)
-effect Picks s = after_pick s
-effect Rolls s = after_roll s
-
--- ---- states
--- a state with another main stack
-abbrev pub with_main : State → Option Stack → Option State
-with_main s m = option_map (λ main. record s { main = main }) m
-
-abbrev pub after_verify : Stack → Option Stack
-after_verify s = effect verify s
-
-abbrev pub after_open : Bool → State → Stack → Option State
-after_open at s [] = None
-after_open at s (a ∷ rest) = Some (record s { main = rest; conditions = is_same at (truth a) ∷ s.conditions })
-
-abbrev pub after_turn : State → List Bool → Option State
-after_turn s [] = None
-after_turn s (c ∷ cs) = Some (record s { conditions = not c ∷ cs })
-
-abbrev pub after_close : State → List Bool → Option State
-after_close s [] = None
-after_close s (c ∷ cs) = Some (record s { conditions = cs })
-
-abbrev pub to_alt : State → Stack → Option State
-to_alt s [] = None
-to_alt s (a ∷ rest) = Some (record s { main = rest; alt = a ∷ s.alt })
-
-abbrev pub from_alt : State → Stack → Option State
-from_alt s [] = None
-from_alt s (a ∷ rest) = Some (record s { main = a ∷ s.main; alt = rest })
-
--- CHECKSIG, of a code: in the place of a signature and a key above it comes whether they are a valid pair
-unfoldable pub after_sig : Known → Question → List ℕ → Stack → Answer (Option Stack)
-after_sig known q code [] = Says None
-after_sig known q code (key ∷ []) = Says None
-after_sig known q code (key ∷ signature ∷ rest) =
-    answer_map (option_map (λ valid. truth_bytes valid ∷ rest)) (pair_verdict known q (signed_code code (signature ∷ [])) signature key)
+-- ---- signatures
+-- CHECKSIG: in the place of a signature and a key above it comes whether they are a valid pair
+unfoldable pub after_sig : Known → Question → State → Stack → Answer (Option State)
+after_sig known q s [] = Says None
+after_sig known q s (key ∷ []) = Says None
+after_sig known q s (key ∷ signature ∷ rest) =
+    answer_map (option_map (λ valid. record s { main = truth_bytes valid ∷ rest })) (pair_verdict known q (signed_code s.code (signature ∷ [])) signature key)
 
 -- CHECKMULTISIG: a number on top, from 0 to so many
 unfoldable pub many : ℕ → Stack → Option ℕ
@@ -152,58 +59,23 @@ after_counts known q s counts = answer_map (option_map (after_multisig s counts)
 unfoldable pub after_checking_multisig : Known → Question → State → Answer (Option State)
 after_checking_multisig known q s = on_some (after_counts known q s) (counts_of s)
 
-unfoldable pub after_asking : (ℕ → Bool) → State → Stack → Option State
-after_asking test s [] = None
-after_asking test s (a ∷ rest) = if is_met test a then Some s else None
-
 abbrev pub after_test : Known → Question → Check → State → Answer (Option State)
-after_test known q (Of x) s = Says (with_main s (effect x s.main))
-after_test known q Sig s = answer_map (with_main s) (after_sig known q s.code s.main)
+after_test known q (Of f) s = Says (on_main f s)
+after_test known q Sig s = after_sig known q s s.main
 after_test known q Multisig s = after_checking_multisig known q s
 
--- and then VERIFY
-abbrev pub verified : State → Option State
-verified s = with_main s (after_verify s.main)
-
+-- ---- one opcode
 -- a row that is executed; what follows the opcode in the script is `after`
 abbrev pub after_executing : Known → Question → List ℕ → Row → State → Answer (Option State)
-after_executing known q after Disabled s = Says None
-after_executing known q after Fails s = Says None
-after_executing known q after Nothing s = Says (Some s)
-after_executing known q after (Changes x) s = Says (with_main s (effect x s.main))
+after_executing known q after (Does f) s = Says (f s)
+after_executing known q after (Controls f untaken) s = Says (f s)
 after_executing known q after (Tests check) s = after_test known q check s
-after_executing known q after (AndVerifies check) s = answer_map (option_and_then verified) (after_test known q check s)
-after_executing known q after (Opens at) s = Says (after_open at s s.main)
-after_executing known q after Turns s = Says (after_turn s s.conditions)
-after_executing known q after Closes s = Says (after_close s s.conditions)
-after_executing known q after ToAlt s = Says (to_alt s s.main)
-after_executing known q after FromAlt s = Says (from_alt s s.alt)
+after_executing known q after (AndVerifies check) s = answer_map (option_and_then (on_main verify)) (after_test known q check s)
 after_executing known q after Separates s = Says (Some (record s { code = after }))
-after_executing known q after (Asks in_force test) s =
-    Says (if in_force q.flags then after_asking (test q.tx q.input) s s.main else Some s)
-
--- a row in a branch that isn't taken
-abbrev pub after_skipping : Row → State → Option State
-after_skipping Disabled s = None
-after_skipping (Opens at) s = Some (record s { conditions = false ∷ s.conditions })
-after_skipping Turns s = after_turn s s.conditions
-after_skipping Closes s = after_close s s.conditions
-after_skipping Fails s = Some s
-after_skipping Nothing s = Some s
-after_skipping (Changes x) s = Some s
-after_skipping (Tests check) s = Some s
-after_skipping (AndVerifies check) s = Some s
-after_skipping ToAlt s = Some s
-after_skipping FromAlt s = Some s
-after_skipping Separates s = Some s
-after_skipping (Asks in_force test) s = Some s
+after_executing known q after (Asks in_force test) s = Says (ask_if (in_force q.flags) (test q.tx q.input) s)
 
 unfoldable pub after_acting : Known → Question → List ℕ → Row → State → Answer (Option State)
-after_acting known q after row s = if is_executing s then after_executing known q after row s else Says (after_skipping row s)
-
--- no more than so many opcodes above 60, taken or not
-unfoldable pub with_count : ℕ → State → Option State
-with_count number s = if nat_lt 0x60 number then (if nat_lt s.count max_ops then Some (record s { count = s.count + 1 }) else None) else Some s
+after_acting known q after row s = if is_executing s then after_executing known q after row s else Says (skipped row s)
 
 -- no more than so many elements on both stacks
 unfoldable pub within_bounds : State → Option State

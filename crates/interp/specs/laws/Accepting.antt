@@ -18,8 +18,7 @@ use Rattle.interp.specs.inside.Spending.{spending_for}
 use Rattle.interp.specs.State.{State, start}
 use Rattle.interp.specs.computed.Step.{run, step, end_of, outcome, has_true_top, ends_true, inner_outcome, inner_verdict, verdict_on, verdict_after, verdict_with, verdict_of_input, verdict}
 use Rattle.interp.specs.Rules.{Steps, Run, RunsToTrue, AcceptsInner, Accepts}
-use Rattle.interp.specs.laws.Affecting.{then-some}
-use Rattle.interp.specs.laws.Answers.{map-says, then-says}
+use Rattle.interp.specs.laws.Answers.{then-some, map-says, then-says}
 use Rattle.interp.specs.laws.Runs.{outcome-long, outcome-ran}
 use Rattle.interp.specs.laws.Following.{step-sound, step-again}
 
@@ -74,8 +73,7 @@ module _ (q : Question) (triples : Triples) where
   -- ---- a true top
   ends-by : (script : List ℕ) (stack : Stack) (o : Option Stack) → outcome (all_known triples) q script stack ≡ Says o → has_true_top o ≡ true → RunsToTrue (spending_for q triples) script stack
   ends-by script stack None is e = cc
-  ends-by script stack (Some []) is e = cc
-  ends-by script stack (Some (a ∷ others)) is e = (a ∷ others, outcome-sound script stack (a ∷ others) is, (a, others, refl, e))
+  ends-by script stack (Some end) is e = (end, outcome-sound script stack end is, e)
 
   ends-sound : (script : List ℕ) (stack : Stack) → ends_true (outcome (all_known triples) q script stack) ≡ Says true → RunsToTrue (spending_for q triples) script stack
   unfolding ends_true
@@ -84,7 +82,7 @@ module _ (q : Question) (triples : Triples) where
 
   ends-again : (script : List ℕ) (stack : Stack) → RunsToTrue (spending_for q triples) script stack → ends_true (outcome (all_known triples) q script stack) ≡ Says true
   unfolding ends_true
-  ends-again script stack r = rw (outcome-again script stack r.0 r.1, r.2.2) (ap Says r.2.3)
+  ends-again script stack r = rw (outcome-again script stack r.0 r.1) (ap Says r.2)
 
   -- ---- the inner script
   inner-by : (script : List ℕ) (left : Stack) (only : Bool) → is_push_only script ≡ only → (if only then ends_true (inner_outcome (all_known triples) q left) else Says false) ≡ Says true → AcceptsInner (spending_for q triples) script left

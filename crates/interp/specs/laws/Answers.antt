@@ -1,8 +1,17 @@
--- What an answer says of those that it is made of.
-use Rattle.std.proofs.Common.{◌≡◌, Option, Some, None, refl}
+-- What an answer, or an outcome, says of those that it is made of.
+use Rattle.std.proofs.Common.{◌≡◌, Option, Some, None, refl, sym}
 use Rattle.std.specs.Prelude.{Result, Ok, Err, IfOk, IfErr}
+use Rattle.std.specs.Option.{option_map, option_and_then}
 use Rattle.interp.specs.Answer.{Answer, Says, Wants, answer_map, on_some, and_then, Stops, Tells}
 use Rattle.interp.specs.declared.unverified.Unverified.{Unverified}
+
+pub then-some : {A B : Type 0} (o : Option A) (f : A → Option B) (y : B) → option_and_then f o ≡ Some y → (x : A) × (o ≡ Some x) × (f x ≡ Some y)
+then-some None f y e = cc
+then-some (Some x) f y e = (x, refl, e)
+
+pub map-some : {A B : Type 0} (o : Option A) (f : A → B) (y : B) → option_map f o ≡ Some y → (x : A) × (o ≡ Some x) × (y ≡ f x)
+map-some None f y e = cc
+map-some (Some x) f y e = (x, refl, sym (cc))
 
 pub map-says : {A B : Type 0} (f : A → B) (a : Answer A) (y : B) → answer_map f a ≡ Says y → (x : A) × (a ≡ Says x) × (f x ≡ y)
 map-says f (Says x) y e = (x, refl, cc)

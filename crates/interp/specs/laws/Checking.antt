@@ -1,6 +1,6 @@
 -- What is computed of signatures is what the relations say.
 use Rattle.std.specs.Prelude.{if◌then◌else◌}
-use Rattle.std.proofs.Common.{◌≡◌, ◌⊎◌, inl, inr, ℕ, suc, ◌+◌, ◌<◌, ◌≤◌, List, [], ◌∷◌, ◌++◌, Bool, true, false, not, ◌||◌, ltb, eqb, Option, Some, None, length, take, drop, refl, sym, ap, ◌∙◌, subst, ⊎_elim, pos, length-append, length-drop, arith}
+use Rattle.std.proofs.Common.{◌≡◌, ◌⊎◌, inl, inr, ℕ, suc, ◌+◌, ◌<◌, ◌≤◌, List, [], ◌∷◌, ◌++◌, Bool, true, false, not, ◌||◌, ltb, eqb, Option, Some, None, length, take, drop, refl, sym, ap, ◌∙◌, subst, ⊎_elim, length-append, length-drop, arith}
 use Rattle.std.proofs.lemmas.Bool.{cases_lt}
 use Rattle.std.proofs.lemmas.List.{take_at, drop_at, take-append-drop, length-take-le}
 use Rattle.std.proofs.Math.Seq.{drop-append-add}
@@ -10,8 +10,7 @@ use Rattle.curve.specs.Shape.{IsStrict}
 use Rattle.curve.specs.laws.Shape.{strict-sound, strict-again}
 use Rattle.curve.specs.computed.Shape.{is_strict}
 use Rattle.interp.specs.Stack.{Stack, Bytes}
-use Rattle.interp.specs.Elements.{truth_bytes}
-use Rattle.interp.specs.computed.Elements.{natural_of}
+use Rattle.interp.specs.Elements.{truth_bytes, natural_of}
 use Rattle.interp.specs.Answer.{Says}
 use Rattle.interp.specs.Question.{Question}
 use Rattle.interp.specs.inside.Spending.{spending_for}
@@ -20,11 +19,10 @@ use Rattle.interp.specs.State.{State}
 use Rattle.interp.specs.Signatures.{signed_code, is_valid, MayBeTried, Tries}
 use Rattle.interp.specs.computed.Signatures.{may_be_tried, pair_verdict, pairs_verdict}
 use Rattle.interp.specs.computed.Step.{after_sig, after_counts, many, keys_in, signatures_in, counts_of, multisig_answer, after_multisig, after_checking_multisig}
-use Rattle.interp.specs.Rules.{IsNumber, ChecksOne, TakesMany, ChecksMany}
+use Rattle.interp.specs.Rules.{ChecksOne, TakesMany, ChecksMany}
 use Rattle.curve.specs.Known.{all_known}
 use Rattle.curve.specs.Triple.{Triples}
-use Rattle.interp.specs.laws.Affecting.{then-some, map-some, natural-sound, natural-again}
-use Rattle.interp.specs.laws.Answers.{map-says, some-says, then-says}
+use Rattle.interp.specs.laws.Answers.{then-some, map-some, map-says, some-says, then-says}
 
 -- ---- a pair
 pub may-sound : (flags : Flags) (signature : Bytes) → may_be_tried flags signature ≡ true → MayBeTried flags signature
@@ -64,21 +62,22 @@ judged-again q triples code signature key valid h is =
     pair-by q triples code signature key true (eqb (length signature) 0) (may-again q.flags signature h) refl ∙ ap (λ v. Says (Some v)) is
 
 -- ---- CHECKSIG
-pub sig-sound : (q : Question) (triples : Triples) (code : List ℕ) (old new : Stack) → after_sig (all_known triples) q code old ≡ Says (Some new) → ChecksOne (spending_for q triples) code old new
+pub sig-sound : (q : Question) (triples : Triples) (s t : State) (main : Stack) → s.main ≡ main → after_sig (all_known triples) q s main ≡ Says (Some t) → ChecksOne (spending_for q triples) s t
 unfolding after_sig
-sig-sound q triples code [] new e = cc
-sig-sound q triples code (key ∷ []) new e = cc
-sig-sound q triples code (key ∷ signature ∷ rest) new e =
-    let signed = signed_code code (signature ∷ []) in
-    let g = map-says (option_map (λ valid. truth_bytes valid ∷ rest)) (pair_verdict (all_known triples) q signed signature key) (Some new) e in
-    let v = map-some g.0 (λ valid. truth_bytes valid ∷ rest) new g.2 in
-    let j = judged-sound q triples signed signature key v.0 (g.1 ∙ ap Says v.1) in
-    (signature, key, rest, refl, j.0, v.2 ∙ ap (λ valid. truth_bytes valid ∷ rest) (sym j.1))
+sig-sound q triples s t [] is e = cc
+sig-sound q triples s t (key ∷ []) is e = cc
+sig-sound q triples s t (key ∷ signature ∷ rest) is e =
+    let code = signed_code s.code (signature ∷ []) in
+    let with_answer : Bool → State = λ valid. record s { main = truth_bytes valid ∷ rest } in
+    let g = map-says (option_map with_answer) (pair_verdict (all_known triples) q code signature key) (Some t) e in
+    let v = map-some g.0 with_answer t g.2 in
+    let j = judged-sound q triples code signature key v.0 (g.1 ∙ ap Says v.1) in
+    (signature, key, rest, is, j.0, v.2 ∙ ap with_answer (sym j.1))
 
-pub sig-again : (q : Question) (triples : Triples) (code : List ℕ) (old new : Stack) → ChecksOne (spending_for q triples) code old new → after_sig (all_known triples) q code old ≡ Says (Some new)
+pub sig-again : (q : Question) (triples : Triples) (s t : State) → ChecksOne (spending_for q triples) s t → after_sig (all_known triples) q s s.main ≡ Says (Some t)
 unfolding after_sig
-sig-again q triples code old new (signature, key, rest, is, strict, after) =
-    let j = judged-again q triples (signed_code code (signature ∷ [])) signature key _ strict refl in
+sig-again q triples s t (signature, key, rest, is, strict, after) =
+    let j = judged-again q triples (signed_code s.code (signature ∷ [])) signature key _ strict refl in
     rw (is, j, after) refl
 
 -- ---- pairs
@@ -145,7 +144,7 @@ module _ (n m extra : Bytes) (keys signatures : List Bytes) (below : Stack) wher
   long = omega (arith, length-append keys (m ∷ (signatures ++ extra ∷ below)), length-append signatures (extra ∷ below))
 
 -- ---- counts
-many-sound : (most : ℕ) (s : Stack) (n : ℕ) → many most s ≡ Some n → (a : Bytes) × (rest : Stack) × (s ≡ a ∷ rest) × IsNumber 4 a (pos n) × (n ≤ most)
+many-sound : (most : ℕ) (s : Stack) (n : ℕ) → many most s ≡ Some n → (a : Bytes) × (rest : Stack) × (s ≡ a ∷ rest) × (natural_of 4 a ≡ Some n) × (n ≤ most)
 unfolding many
 many-sound most [] n e = cc
 many-sound most (a ∷ rest) n e =
@@ -153,11 +152,11 @@ many-sound most (a ∷ rest) n e =
     ⊎_elim (λ above. let f = rw (lt-ltb most h.0 above) at h.2 in cc)
     (λ within. let f = rw (le-ltb most h.0 within) at h.2 in
     let same : h.0 ≡ n = cc in
-    (a, rest, refl, subst (λ (k : ℕ). IsNumber 4 a (pos k)) same (natural-sound 4 a h.0 h.1), omega arith)) (cases_lt most h.0)
+    (a, rest, refl, h.1 ∙ ap Some same, omega arith)) (cases_lt most h.0)
 
-many-again : (most : ℕ) (a : Bytes) (rest : Stack) (n : ℕ) → IsNumber 4 a (pos n) → n ≤ most → many most (a ∷ rest) ≡ Some n
+many-again : (most : ℕ) (a : Bytes) (rest : Stack) (n : ℕ) → natural_of 4 a ≡ Some n → n ≤ most → many most (a ∷ rest) ≡ Some n
 unfolding many
-many-again most a rest n h within = rw (natural-again 4 a n h, le-ltb most n within) refl
+many-again most a rest n h within = rw (h, le-ltb most n within) refl
 
 abbrev limits : State → ℕ → ℕ → Option (ℕ × ℕ)
 limits s keys signatures = (if ltb (length s.main) (keys + signatures + 3) then None else if ltb 201 (s.count + keys) then None else Some (keys, signatures))
@@ -201,10 +200,10 @@ record Lies (n m : ℕ) (nb : Bytes) (main : Stack) : Type 0 where
   lies : main ≡ layout nb keys mb signatures extra below
   many_keys : length keys ≡ n
   many_signatures : length signatures ≡ m
-  m_is : IsNumber 4 mb (pos m)
+  m_is : natural_of 4 mb ≡ Some m
   no_more : m ≤ n
 
-lying : (n m : ℕ) (nb mb : Bytes) (others after tail : Stack) → n ≤ length others → drop n others ≡ mb ∷ after → IsNumber 4 mb (pos m) → m ≤ n → m ≤ length after → drop m after ≡ tail → 0 < length tail → Lies n m nb (nb ∷ others)
+lying : (n m : ℕ) (nb mb : Bytes) (others after tail : Stack) → n ≤ length others → drop n others ≡ mb ∷ after → natural_of 4 mb ≡ Some m → m ≤ n → m ≤ length after → drop m after ≡ tail → 0 < length tail → Lies n m nb (nb ∷ others)
 lying n m nb mb others after [] few cut is no_more enough end some = absurd (omega arith)
 lying n m nb mb others after (extra ∷ below) few cut is no_more enough end some = record {
   keys = take n others;
@@ -253,8 +252,8 @@ takes-sound s n m e =
         extra = l.extra;
         below = l.below;
         before = l.lies;
-        n_is = subst (λ (j : ℕ). IsNumber 4 top.0 (pos j)) (sym l.many_keys) top.3;
-        m_is = subst (λ (j : ℕ). IsNumber 4 l.mb (pos j)) (sym l.many_signatures) l.m_is;
+        n_is = top.3 ∙ ap Some (sym l.many_keys);
+        m_is = l.m_is ∙ ap Some (sym l.many_signatures);
         few_keys = omega (arith, top.4, l.many_keys);
         no_more = omega (arith, l.no_more, l.many_keys, l.many_signatures);
         few_ops = omega (arith, k.3, l.many_keys);

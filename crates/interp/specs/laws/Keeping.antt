@@ -13,9 +13,10 @@ use Rattle.interp.specs.Question.{Question}
 use Rattle.interp.specs.Signatures.{signed_code}
 use Rattle.interp.specs.Stack.{Stack, Bytes}
 use Rattle.interp.specs.State.{State, is_executing, start}
-use Rattle.interp.specs.Row.{Check, Of, Sig, Multisig, Row, Disabled, Fails, Nothing, Changes, Tests, AndVerifies, Opens, Turns, Closes, ToAlt, FromAlt, Separates, Asks, row_of}
+use Rattle.interp.specs.Row.{Check, Of, Sig, Multisig, Row, Does, Controls, Tests, AndVerifies, Separates, Asks, row_of}
+use Rattle.interp.specs.Rules.{with_count}
 use Rattle.interp.specs.computed.Signatures.{may_be_tried, triple_for, verdict_or_wanted, pair_verdict, pairs_verdict}
-use Rattle.interp.specs.computed.Step.{after_sig, counts_of, after_checking_multisig, after_test, after_executing, after_acting, with_count, step_at, step, run, outcome, ends_true, inner_outcome, inner_verdict, verdict_on, verdict_after, verdict_with, verdict_of_input, verdict}
+use Rattle.interp.specs.computed.Step.{after_sig, counts_of, after_checking_multisig, after_test, after_executing, after_acting, step_at, step, run, outcome, ends_true, inner_outcome, inner_verdict, verdict_on, verdict_after, verdict_with, verdict_of_input, verdict}
 
 -- what the first says the second says, and of a triple that the first wants nothing is known
 abbrev Stays : Known → {A : Type 0} → Answer A → Answer A → Type 0
@@ -63,33 +64,26 @@ module _ (known more : Known) (grows : Grows known more) (q : Question) where
       if-stays known (ltb (length keys) (length signatures)) _ _ _ _ refl
       (then-stays known _ _ _ _ (λ valid. if-stays known valid _ _ _ _ (pairs-stay code signatures keys) (pairs-stay code (signature ∷ signatures) keys)) (pair-stays code signature key))
 
-  sig-stays : (code : List ℕ) (s : Stack) → Stays known (after_sig known q code s) (after_sig more q code s)
+  sig-stays : (s : State) (main : Stack) → Stays known (after_sig known q s main) (after_sig more q s main)
   unfolding after_sig
-  sig-stays code [] = refl
-  sig-stays code (key ∷ []) = refl
-  sig-stays code (key ∷ signature ∷ rest) = map-stays known _ _ _ (pair-stays (signed_code code (signature ∷ [])) signature key)
+  sig-stays s [] = refl
+  sig-stays s (key ∷ []) = refl
+  sig-stays s (key ∷ signature ∷ rest) = map-stays known _ _ _ (pair-stays (signed_code s.code (signature ∷ [])) signature key)
 
   multisig-stays : (s : State) → Stays known (after_checking_multisig known q s) (after_checking_multisig more q s)
   unfolding after_checking_multisig
   multisig-stays s = some-stays known _ _ (counts_of s) (λ counts. map-stays known _ _ _ (pairs-stay _ _ _))
 
   test-stays : (check : Check) (s : State) → Stays known (after_test known q check s) (after_test more q check s)
-  test-stays (Of x) s = refl
-  test-stays Sig s = map-stays known _ _ _ (sig-stays s.code s.main)
+  test-stays (Of f) s = refl
+  test-stays Sig s = sig-stays s s.main
   test-stays Multisig s = multisig-stays s
 
   executing-stays : (after : List ℕ) (row : Row) (s : State) → Stays known (after_executing known q after row s) (after_executing more q after row s)
-  executing-stays after Disabled s = refl
-  executing-stays after Fails s = refl
-  executing-stays after Nothing s = refl
-  executing-stays after (Changes x) s = refl
+  executing-stays after (Does f) s = refl
+  executing-stays after (Controls f untaken) s = refl
   executing-stays after (Tests check) s = test-stays check s
   executing-stays after (AndVerifies check) s = map-stays known _ _ _ (test-stays check s)
-  executing-stays after (Opens at) s = refl
-  executing-stays after Turns s = refl
-  executing-stays after Closes s = refl
-  executing-stays after ToAlt s = refl
-  executing-stays after FromAlt s = refl
   executing-stays after Separates s = refl
   executing-stays after (Asks in_force test) s = refl
 

@@ -1,5 +1,5 @@
 -- A script, opcode by opcode.
-use Rattle.std.proofs.Common.{◌≡◌, ℕ, zero, suc, ◌<◌, ◌≤◌, List, [], ◌∷◌, ◌++◌, Bool, true, false, Option, Some, None, length, take, drop, refl, sym, ap, ◌∙◌, append_assoc, length-drop, arith}
+use Rattle.std.proofs.Common.{◌≡◌, ℕ, zero, suc, ◌<◌, ◌≤◌, List, [], ◌∷◌, ◌++◌, Option, Some, None, length, take, drop, refl, sym, ap, ◌∙◌, append_assoc, length-drop, arith}
 use Rattle.std.specs.Option.{option_and_then}
 use Rattle.std.specs.List.{concat}
 use Rattle.std.proofs.lemmas.List.{take-append-drop}
@@ -7,16 +7,11 @@ use borrow.Author.Tests.{lt-ltb, le-ltb}
 use Rattle.script.specs.Ops.{op_len, ops, rest, is_whole}
 use Rattle.script.specs.laws.Ops.{length_taken, op_len_positive, op_len_bound, ops-more, ops-none, rest-more, rest-none}
 use Rattle.interp.specs.Stack.{Stack}
-use Rattle.interp.specs.computed.Stack.{Gives}
 use Rattle.curve.specs.Known.{Known}
 use Rattle.interp.specs.Answer.{Says, answer_map, and_then}
 use Rattle.interp.specs.Question.{Question}
 use Rattle.interp.specs.State.{State, start}
 use Rattle.interp.specs.computed.Step.{run, step, outcome, end_of}
-
-pub gave : {A : Type 0} (b : Bool) (o : Option A) (x : A) → b ≡ true → Gives b o x → o ≡ Some x
-gave true o x e g = g
-gave false o x e g = cc
 
 -- ---- the opcodes and the rest are the script
 whole-none : (bytes : List ℕ) → op_len bytes ≡ None → bytes ≡ concat (ops bytes) ++ rest bytes

@@ -1,6 +1,6 @@
 use Rattle.std.proofs.Common.{◌≡◌, ◌∙◌, sym, ap, refl, None, Some, arith}
 use borrow.Author.Tests.{lt-ltb, le-ltb}
-use Rattle.interp.specs.computed.Elements.{natural_of}
+use Rattle.interp.specs.Elements.{natural_of}
 use Rattle.interp.proofs.Counts.{many_past, many_there}
 use Rattle.interp.proofs.multisig.many.Goals as goal
 
