@@ -3,7 +3,7 @@ use Rattle.std.proofs.Common.{◌≡◌, ℕ, zero, suc, ◌≤◌, [], ◌∷�
 use Rattle.std.specs.Option.{option_and_then}
 use Rattle.interp.specs.Stack.{Stack, Bytes}
 use Rattle.interp.specs.Elements.{natural_of}
-use Rattle.interp.specs.computed.Step.{many}
+use Rattle.interp.specs.inside.Multisig.{many}
 
 pub many_past : (most k : ℕ) (s : Stack) → length s ≤ k → many most (drop k s) ≡ None
 unfolding many

@@ -3,6 +3,7 @@ pub mod Piles
 pub mod Truth
 pub mod FirstFalse
 pub mod Counts
+pub mod Taking
 pub mod Bounds
 pub mod Exchanges
 pub mod Opcodes

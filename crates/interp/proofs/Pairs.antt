@@ -15,7 +15,7 @@ use Rattle.interp.specs.Signatures.{signed_code, signature_proper, type_of}
 use Rattle.curve.specs.computed.Shape.{is_strict}
 use Rattle.interp.specs.declared.flags.Flags.{Flags}
 use Rattle.interp.specs.Stack.{Bytes, Stack, nth}
-use Rattle.interp.specs.computed.Step.{keys_in, signatures_in, multisig_answer}
+use Rattle.interp.specs.inside.Multisig.{keys_in, signatures_in, multisig_answer}
 use Rattle.interp.specs.computed.Signatures.{may_be_tried, verdict_or_wanted, pair_verdict, pairs_verdict}
 
 -- ---- lists

@@ -1,5 +1,5 @@
 -- What scripts do, as relations between states (Bitcoin Core's `EvalScript` and `VerifyScript`).
-use Rattle.std.specs.Prelude.{◌≡◌, ◌⊎◌, ℕ, ◌+◌, ◌≤◌, List, [], ◌∷◌, ◌++◌, length, Bool, true, false, Option, Some, None, nat_lt, if◌then◌else◌, slice_get}
+use Rattle.std.specs.Prelude.{◌≡◌, ◌⊎◌, ℕ, ◌+◌, ◌≤◌, List, [], ◌∷◌, length, take, drop, Bool, true, false, Option, Some, None, nat_lt, if◌then◌else◌, slice_get}
 use Rattle.std.specs.List.{concat}
 use Rattle.script.specs.Ops.{ops, rest}
 use Rattle.script.specs.Kinds.{is_push_only, is_p2sh, max_script_size}
@@ -7,13 +7,13 @@ use Rattle.txn.specs.declared.tx.Tx.{Tx}
 use Rattle.txn.specs.declared.input.TxIn.{TxIn}
 use Rattle.curve.specs.Triple.{Triples}
 use Rattle.interp.specs.Limits.{max_ops, max_keys, max_elements, max_number_size}
-use Rattle.interp.specs.Stack.{Stack, Bytes}
+use Rattle.interp.specs.Stack.{Stack, Bytes, pop}
 use Rattle.interp.specs.Elements.{truth_bytes, top_is_true, natural_of}
 use Rattle.interp.specs.Spending.{Spending, spending_of}
 use Rattle.interp.specs.declared.flags.Flags.{Flags}
 use Rattle.interp.specs.State.{State, is_executing, start}
 use Rattle.interp.specs.Signatures.{signed_code, is_valid, MayBeTried, Tries}
-use Rattle.interp.specs.Effects.{verify, on_main, ask_if}
+use Rattle.interp.specs.Effects.{◌>>=◌, verify, on_main, ask_if}
 use Rattle.interp.specs.Row.{Check, Of, Sig, Multisig, Row, Does, Controls, Tests, AndVerifies, Separates, Asks, row_of}
 
 -- ---- signatures
@@ -23,27 +23,41 @@ ChecksOne p s t =
     (signature key : Bytes) × (rest : Stack) × (s.main ≡ key ∷ signature ∷ rest) × MayBeTried p.flags signature
     × (t ≡ record s { main = truth_bytes (is_valid p (signed_code s.code (signature ∷ [])) signature key) ∷ rest })
 
--- from the top: the number of keys, the keys, the number of signatures, the signatures, and one more
-pub record TakesMany (s : State) : Type 0 where
+-- what CHECKMULTISIG takes: keys, signatures, and what lies below them
+pub record Taken : Type 0 where
   pub keys : List Bytes
   pub signatures : List Bytes
-  pub n : Bytes
-  pub m : Bytes
-  pub extra : Bytes
   pub below : Stack
-  pub before : s.main ≡ n ∷ (keys ++ m ∷ (signatures ++ extra ∷ below))
-  pub n_is : natural_of max_number_size n ≡ Some (length keys)
-  pub m_is : natural_of max_number_size m ≡ Some (length signatures)
-  pub few_keys : length keys ≤ max_keys
-  pub no_more : length signatures ≤ length keys
-  pub few_ops : s.count + length keys ≤ max_ops
 
--- and in their place the answer
-pub record ChecksMany (p : Spending) (s t : State) : Type 0 where
-  pub taken : TakesMany s
-  pub answer : Bool
-  pub tries : Tries p (signed_code s.code taken.signatures) taken.signatures taken.keys answer
-  pub after : t ≡ record s { main = truth_bytes answer ∷ taken.below; count = s.count + length taken.keys }
+-- a number from 0 to so many, and the others
+abbrev pub pop_count : ℕ → Stack → Option (ℕ × Stack)
+pop_count most s = do
+  top ← pop s
+  n ← natural_of max_number_size top.0
+  if nat_lt most n then None else Some (n, top.1)
+
+-- so many elements, and the others
+abbrev pub pop_many : ℕ → Stack → Option (List Bytes × Stack)
+pop_many n s = if nat_lt (length s) n then None else Some (take n s, drop n s)
+
+-- from the top: the number of keys, the keys, the number of signatures, the signatures, and one more
+unfoldable pub multisig_of : State → Option Taken
+multisig_of s = do
+  n ← pop_count max_keys s.main
+  keys ← pop_many n.0 n.1
+  m ← pop_count n.0 keys.1
+  signatures ← pop_many m.0 m.1
+  extra ← pop signatures.1
+  if nat_lt max_ops (s.count + n.0) then None else Some (record { keys = keys.0; signatures = signatures.0; below = extra.1 })
+
+-- the answer comes in their place, and the keys are counted
+abbrev pub with_answer : State → Taken → Bool → State
+with_answer s taken answer = record s { main = truth_bytes answer ∷ taken.below; count = s.count + length taken.keys }
+
+abbrev pub ChecksMany : Spending → State → State → Type 0
+ChecksMany p s t =
+    (taken : Taken) × (answer : Bool) × (multisig_of s ≡ Some taken)
+    × Tries p (signed_code s.code taken.signatures) taken.signatures taken.keys answer × (t ≡ with_answer s taken answer)
 
 abbrev pub Checks : Spending → Check → State → State → Type 0
 Checks p (Of f) s t = on_main f s ≡ Some t

@@ -4,6 +4,7 @@ ghost use Rattle.std.specs.Prelude.{◌≡◌, ◌<◌, ◌≤◌, ◌+◌, ℕ,
 ghost use Rattle.curve.specs.Known.{Known};
 ghost use Rattle.interp.specs.Answer.{answer_map};
 ghost use Rattle.interp.specs.inside.Going.{Goes, Leaves};
+ghost use Rattle.interp.specs.inside.Multisig.{counts_of};
 ghost use Rattle.interp.specs.Question.{Question, question_of};
 ghost use Rattle.interp.specs.inside.Going.{Gives};
 ghost use Rattle.interp.specs.State.{start, is_executing};
@@ -11,7 +12,7 @@ ghost use Rattle.interp.specs.Timelocks.{locks_until, locks_for};
 ghost use Rattle.interp.specs.computed.Meaning.{meaning, check_of};
 ghost use Rattle.interp.specs.Effects.{verify, on_main, to_alt, from_alt, branch, turn, close, ask};
 ghost use Rattle.interp.specs.Rules.{skipped, with_count};
-ghost use Rattle.interp.specs.computed.Step.{after_executing, counts_of, after_checking_multisig, after_test, after_acting, within_bounds, step_at, step, stack_left};
+ghost use Rattle.interp.specs.computed.Step.{after_executing, after_multisig, after_test, after_acting, within_bounds, step_at, step, stack_left};
 ghost use Rattle.interp.specs.Row.{push_row, row_at, row_of, Sig};
 
 use crate::changes::{apply, compare, push, verify};
@@ -169,7 +170,7 @@ impl<'a> Execution<'a> {
     }
 
     /// How many keys and signatures CHECKMULTISIG takes, if they are there and not too many.
-    #[tactic(auto, unfolding(crate::specs::computed::Step::counts_of))]
+    #[tactic(auto, unfolding(crate::specs::inside::Multisig::counts_of))]
     fn counts(&self) -> Option<(usize, usize)>
         ensures value { result ≡ counts_of self.now }
         ensures there { IfSome result (λ counts. counts.0 + counts.1 + 3 ≤ length self.now.main) }
@@ -209,7 +210,7 @@ impl<'a> Execution<'a> {
     }
 
     /// CHECKMULTISIG: takes its keys, its signatures and one element more, and pushes its answer.
-    #[tactic(auto, unfolding(crate::specs::computed::Step::after_checking_multisig))]
+    #[tactic(auto, using(crate::proofs::Taking::taking))]
     fn check_multisig<K: KnowsSignatures>(
         &mut self,
         alloc: Global,
@@ -218,7 +219,7 @@ impl<'a> Execution<'a> {
     ) -> Result<bool, Unverified>
         requires { job.now.input < length job.now.tx.now.inputs }
         ensures { Goes result
-            (after_checking_multisig (K.known known.now) (question_of job.now) self.old) self.new }
+            (after_multisig (K.known known.now) (question_of job.now) self.old) self.new }
     {
         let Some(counts) = self.counts() else {
             return Ok(false);

@@ -8,7 +8,7 @@ ghost use Rattle.sighash.specs.Digest.{digest_of};
 ghost use Rattle.interp.specs.Question.{question_of};
 ghost use Rattle.interp.specs.Signatures.{type_of};
 ghost use Rattle.interp.specs.computed.Signatures.{pairs_verdict};
-ghost use Rattle.interp.specs.computed.Step.{many, multisig_answer};
+ghost use Rattle.interp.specs.inside.Multisig.{many, multisig_answer};
 
 use crate::element::{Element, natural};
 use crate::job::Job;

@@ -11,8 +11,8 @@ use Rattle.interp.specs.computed.Signatures.{pairs_verdict}
 use Rattle.interp.specs.Row.{row_at, row_of, push_row}
 use Rattle.interp.specs.Effects.{moves, pop_number, one_number, two_numbers, three_numbers, pop_place}
 use Rattle.interp.specs.Effects as effects
-use Rattle.interp.specs.Rules.{with_count}
-use Rattle.interp.specs.computed.Step.{many, counts_of, after_checking_multisig, after_acting, within_bounds, step_at, step, run, outcome}
+use Rattle.interp.specs.Rules.{multisig_of, with_count}
+use Rattle.interp.specs.computed.Step.{after_multisig, after_acting, within_bounds, step_at, step, run, outcome}
 
 -- 1 2 3 ROT
 rot : (known : Known) (q : Question) → outcome known q (0x51 ∷ 0x52 ∷ 0x53 ∷ 0x7b ∷ []) [] ≡ Says (Some ((1 ∷ []) ∷ (3 ∷ []) ∷ (2 ∷ []) ∷ []))
@@ -51,7 +51,7 @@ five_bytes known q = refl
 
 -- no signature of no key, with the element more that CHECKMULTISIG takes
 none_of_none : (known : Known) (q : Question) → outcome known q (0x00 ∷ 0x00 ∷ 0x00 ∷ 0xae ∷ []) [] ≡ Says (Some ((1 ∷ []) ∷ []))
-unfolding pushed_of operand_len ops rest row_at row_of push_row after_acting with_count within_bounds step_at step run outcome operand num_value pairs_verdict many counts_of after_checking_multisig
+unfolding pushed_of operand_len ops rest row_at row_of push_row after_acting with_count within_bounds step_at step run outcome operand num_value pairs_verdict multisig_of after_multisig
 none_of_none known q = refl
 
 -- a push that is cut short

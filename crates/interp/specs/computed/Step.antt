@@ -1,23 +1,23 @@
 -- One opcode, a script and the verdict on an input, by what is known of signatures (Bitcoin Core's `EvalScript` and
 -- `VerifyScript`).
-use Rattle.std.specs.Prelude.{ℕ, ◌+◌, ◌==◌, List, [], ◌∷◌, ◌++◌, length, take, drop, Bool, true, false, Option, Some, None, option_and_then, nat_lt, if◌then◌else◌, slice_get}
+use Rattle.std.specs.Prelude.{ℕ, ◌+◌, ◌==◌, List, [], ◌∷◌, ◌++◌, length, Bool, true, false, Option, Some, None, option_and_then, nat_lt, if◌then◌else◌, slice_get}
 use Rattle.std.specs.Option.{option_map, option_map_or}
 use Rattle.std.specs.List.{concat}
 use Rattle.script.specs.Ops.{ops, rest, is_whole}
 use Rattle.script.specs.Kinds.{is_push_only, is_p2sh, max_script_size}
 use Rattle.txn.specs.declared.input.TxIn.{TxIn}
-use Rattle.interp.specs.Limits.{max_ops, max_keys, max_elements, max_number_size}
-use Rattle.interp.specs.Stack.{Stack, Bytes}
-use Rattle.interp.specs.Elements.{truth_bytes, top_is_true, natural_of}
+use Rattle.interp.specs.Limits.{max_elements}
+use Rattle.interp.specs.Stack.{Stack}
+use Rattle.interp.specs.Elements.{truth_bytes, top_is_true}
 use Rattle.curve.specs.Known.{Known}
 use Rattle.interp.specs.Answer.{Answer, Says, Wants, answer_map, on_some, and_then, also}
 use Rattle.interp.specs.Question.{Question}
 use Rattle.interp.specs.State.{State, is_executing, start}
 use Rattle.interp.specs.Signatures.{signed_code}
 use Rattle.interp.specs.computed.Signatures.{pair_verdict, pairs_verdict}
-use Rattle.interp.specs.Effects.{◌>>=◌, verify, on_main, ask_if}
+use Rattle.interp.specs.Effects.{verify, on_main, ask_if}
 use Rattle.interp.specs.Row.{Check, Of, Sig, Multisig, Row, Does, Controls, Tests, AndVerifies, Separates, Asks, row_of}
-use Rattle.interp.specs.Rules.{skipped, with_count}
+use Rattle.interp.specs.Rules.{Taken, multisig_of, with_answer, skipped, with_count}
 
 -- ---- signatures
 -- CHECKSIG: in the place of a signature and a key above it comes whether they are a valid pair
@@ -27,42 +27,18 @@ after_sig known q s (key ∷ []) = Says None
 after_sig known q s (key ∷ signature ∷ rest) =
     answer_map (option_map (λ valid. record s { main = truth_bytes valid ∷ rest })) (pair_verdict known q (signed_code s.code (signature ∷ [])) signature key)
 
--- CHECKMULTISIG: a number on top, from 0 to so many
-unfoldable pub many : ℕ → Stack → Option ℕ
-many most [] = None
-many most (a ∷ rest) = option_and_then (λ n. if nat_lt most n then None else Some n) (natural_of max_number_size a)
+-- CHECKMULTISIG: in the place of what it takes comes its answer
+abbrev pub after_taking : Known → Question → State → Taken → Answer (Option State)
+after_taking known q s taken =
+    answer_map (option_map (with_answer s taken)) (pairs_verdict known q (signed_code s.code taken.signatures) taken.signatures taken.keys)
 
--- the elements that it takes: how many keys and how many signatures there are
-abbrev pub keys_in : ℕ → Stack → List Bytes
-keys_in keys s = take keys (drop 1 s)
-
-abbrev pub signatures_in : ℕ → ℕ → Stack → List Bytes
-signatures_in keys signatures s = take signatures (drop (keys + 2) s)
-
-unfoldable pub counts_of : State → Option (ℕ × ℕ)
-counts_of s = do
-  keys ← many max_keys s.main
-  signatures ← many keys (drop (keys + 1) s.main)
-  if nat_lt (length s.main) (keys + signatures + 3) then None else (if nat_lt max_ops (s.count + keys) then None else Some (keys, signatures))
-
-abbrev pub multisig_answer : Known → Question → List ℕ → Stack → ℕ × ℕ → Answer (Option Bool)
-multisig_answer known q code s counts =
-    pairs_verdict known q (signed_code code (signatures_in counts.0 counts.1 s)) (signatures_in counts.0 counts.1 s) (keys_in counts.0 s)
-
-abbrev pub after_multisig : State → ℕ × ℕ → Bool → State
-after_multisig s counts valid =
-    record s { main = truth_bytes valid ∷ drop (counts.0 + counts.1 + 3) s.main; count = s.count + counts.0 }
-
-abbrev pub after_counts : Known → Question → State → ℕ × ℕ → Answer (Option State)
-after_counts known q s counts = answer_map (option_map (after_multisig s counts)) (multisig_answer known q s.code s.main counts)
-
-unfoldable pub after_checking_multisig : Known → Question → State → Answer (Option State)
-after_checking_multisig known q s = on_some (after_counts known q s) (counts_of s)
+unfoldable pub after_multisig : Known → Question → State → Answer (Option State)
+after_multisig known q s = on_some (after_taking known q s) (multisig_of s)
 
 abbrev pub after_test : Known → Question → Check → State → Answer (Option State)
 after_test known q (Of f) s = Says (on_main f s)
 after_test known q Sig s = after_sig known q s s.main
-after_test known q Multisig s = after_checking_multisig known q s
+after_test known q Multisig s = after_multisig known q s
 
 -- ---- one opcode
 -- a row that is executed; what follows the opcode in the script is `after`

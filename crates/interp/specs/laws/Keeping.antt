@@ -14,9 +14,9 @@ use Rattle.interp.specs.Signatures.{signed_code}
 use Rattle.interp.specs.Stack.{Stack, Bytes}
 use Rattle.interp.specs.State.{State, is_executing, start}
 use Rattle.interp.specs.Row.{Check, Of, Sig, Multisig, Row, Does, Controls, Tests, AndVerifies, Separates, Asks, row_of}
-use Rattle.interp.specs.Rules.{with_count}
+use Rattle.interp.specs.Rules.{multisig_of, with_count}
 use Rattle.interp.specs.computed.Signatures.{may_be_tried, triple_for, verdict_or_wanted, pair_verdict, pairs_verdict}
-use Rattle.interp.specs.computed.Step.{after_sig, counts_of, after_checking_multisig, after_test, after_executing, after_acting, step_at, step, run, outcome, ends_true, inner_outcome, inner_verdict, verdict_on, verdict_after, verdict_with, verdict_of_input, verdict}
+use Rattle.interp.specs.computed.Step.{after_sig, after_multisig, after_test, after_executing, after_acting, step_at, step, run, outcome, ends_true, inner_outcome, inner_verdict, verdict_on, verdict_after, verdict_with, verdict_of_input, verdict}
 
 -- what the first says the second says, and of a triple that the first wants nothing is known
 abbrev Stays : Known → {A : Type 0} → Answer A → Answer A → Type 0
@@ -70,9 +70,9 @@ module _ (known more : Known) (grows : Grows known more) (q : Question) where
   sig-stays s (key ∷ []) = refl
   sig-stays s (key ∷ signature ∷ rest) = map-stays known _ _ _ (pair-stays (signed_code s.code (signature ∷ [])) signature key)
 
-  multisig-stays : (s : State) → Stays known (after_checking_multisig known q s) (after_checking_multisig more q s)
-  unfolding after_checking_multisig
-  multisig-stays s = some-stays known _ _ (counts_of s) (λ counts. map-stays known _ _ _ (pairs-stay _ _ _))
+  multisig-stays : (s : State) → Stays known (after_multisig known q s) (after_multisig more q s)
+  unfolding after_multisig
+  multisig-stays s = some-stays known _ _ (multisig_of s) (λ taken. map-stays known _ _ _ (pairs-stay _ _ _))
 
   test-stays : (check : Check) (s : State) → Stays known (after_test known q check s) (after_test more q check s)
   test-stays (Of f) s = refl
