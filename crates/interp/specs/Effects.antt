@@ -40,9 +40,8 @@ size (a ∷ rest) = Some (shortest_bytes (pos (length a)) ∷ a ∷ rest)
 
 -- `a b -> T or F`: whether they have the same bytes
 abbrev pub equal_bytes : Stack → Option Stack
-equal_bytes [] = None
-equal_bytes (b ∷ []) = None
 equal_bytes (b ∷ a ∷ rest) = Some (truth_bytes (bytes_eq a b) ∷ rest)
+equal_bytes s = None
 
 -- `a -> hash(a)`
 abbrev pub digest : (Bytes → Bytes) → Stack → Option Stack

@@ -1,4 +1,4 @@
--- The same rules as functions, with which the code computes.
+-- What the code computes with: runs by what is known of signatures, and what its names of opcodes stand for.
 pub mod Conditions
 pub mod Groups
 pub mod Meaning

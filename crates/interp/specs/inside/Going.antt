@@ -3,12 +3,12 @@ use Rattle.std.specs.Prelude.{◌≡◌, Bool, true, false, Option, Some, None, 
 use Rattle.interp.specs.Answer.{Answer, Says, Stops}
 use Rattle.interp.specs.declared.unverified.Unverified.{Unverified}
 
--- what it leaves, where it does something
+-- whether there is an outcome, and which
 abbrev pub Gives : {A : Type 0} → Bool → Option A → A → Type 0
 Gives true outcome new = outcome ≡ Some new
 Gives false outcome new = outcome ≡ None
 
--- the same of an answer
+-- what it leaves, where it says yes
 abbrev pub Leaves : {A : Type 0} → Bool → Answer (Option A) → A → Type 0
 Leaves true answer new = answer ≡ Says (Some new)
 Leaves false answer new = answer ≡ Says None
