@@ -26,7 +26,7 @@ use Rattle.chain.specs.Step.{Request}
 use Rattle.chain.specs.laws.Candidates.{on_candidate_from}
 use Rattle.chain.specs.laws.Tries.{best-candidate}
 use Rattle.activate.specs.CoreState.{CoreState, branch_blocks, coins_after}
-use Rattle.activate.specs.Wants.{IsToSettle, IsWantedAt, IsWantedBy, IsWantedIn}
+use Rattle.activate.specs.Wants.{IsToSettle, IsWantedAt, IsWantedBy, IsWantedToSettle}
 use Rattle.activate.specs.inside.Ascents.{IsWantedAbove}
 use Rattle.activate.specs.inside.Paths.{IsWantedOnWay}
 use Rattle.activate.specs.inside.Preparation.{CanTry, HasOtherFlags, TriesLead}
@@ -81,9 +81,9 @@ module _ (params : Params) (known : Known) where
 
 -- the best usable block is tried
 pub wanted_best : (c : CoreState) (known : Known) (p : ℕ) → Under known (λ triples. CanTry (regtest c.params triples) c) → IsBest c.state (has_no_mark c.state) (length c.state.blocks) p
-    → (told : Option (List Triple)) → AreWanted (IsWantedOnWay c.params c.state.blocks c.active p known) told → AreWanted (IsWantedIn c known) told
+    → (told : Option (List Triple)) → AreWanted (IsWantedOnWay c.params c.state.blocks c.active p known) told → AreWanted (IsWantedToSettle c known) told
 wanted_best c known p can best told are =
-    wanted_weaker (IsWantedOnWay c.params c.state.blocks c.active p known) (IsWantedIn c known) (λ triple w. record {
+    wanted_weaker (IsWantedOnWay c.params c.state.blocks c.active p known) (IsWantedToSettle c known) (λ triple w. record {
       place = w.place;
       kept = (on-bounds c.state.blocks p w.place w.there).1;
       candidate = on-best c known p can best w.place w.there;
@@ -94,7 +94,7 @@ wanted_best c known p can best told are =
 -- so is a new block on the active one, where it is the best usable one
 pub wanted_tip : (a : CoreState) (known : Known) (b : Block) → a.active ≤ length a.state.blocks → let c : CoreState = record a { state = with_block a.state b a.active } in
     Under known (λ triples. CanTry (regtest a.params triples) c) → IsBest c.state (has_no_mark c.state) (length c.state.blocks) (suc (length a.state.blocks))
-    → (told : Option (List Triple)) → AreWanted (IsWantedAt a.params c.state.blocks known (suc (length a.state.blocks))) told → AreWanted (IsWantedIn c known) told
+    → (told : Option (List Triple)) → AreWanted (IsWantedAt a.params c.state.blocks known (suc (length a.state.blocks))) told → AreWanted (IsWantedToSettle c known) told
 wanted_tip a known b k can best told are =
     let n = suc (length a.state.blocks) in
     let c : CoreState = record a { state = with_block a.state b a.active } in
@@ -109,9 +109,9 @@ wanted_tip a known b k can best told are =
 
 -- what is wanted after tries was wanted before
 pub wanted_before : (a b : CoreState) (known : Known) → HasOtherFlags a b → Under known (λ triples. TriesLead (regtest a.params triples) a b)
-    → (told : Option (List Triple)) → AreWanted (IsWantedIn b known) told → AreWanted (IsWantedIn a known) told
+    → (told : Option (List Triple)) → AreWanted (IsWantedToSettle b known) told → AreWanted (IsWantedToSettle a known) told
 wanted_before a b known flags lead told are =
-    wanted_weaker (IsWantedIn b known) (IsWantedIn a known) (λ triple w.
+    wanted_weaker (IsWantedToSettle b known) (IsWantedToSettle a known) (λ triple w.
     let params = params-other a b flags in
     let act = active-other a b flags in
     record {
@@ -123,9 +123,9 @@ wanted_before a b known flags lead told are =
     }) told are
 
 pub wanted_by : (c : CoreState) (request : Request Block Id) (known : Known) (s : State Block) → IsToSettle c known request s → (told : Option (List Triple))
-    → AreWanted (IsWantedIn (record c { state = s }) known) told → AreWanted (IsWantedBy c request known) told
+    → AreWanted (IsWantedToSettle (record c { state = s }) known) told → AreWanted (IsWantedBy c request known) told
 wanted_by c request known s changed told are =
-    wanted_weaker (IsWantedIn (record c { state = s }) known) (IsWantedBy c request known) (λ triple w. record { state = s; to_settle = changed; wanted = w }) told are
+    wanted_weaker (IsWantedToSettle (record c { state = s }) known) (IsWantedBy c request known) (λ triple w. record { state = s; to_settle = changed; wanted = w }) told are
 
 pub if_err : {T E : Type 0} {P Q : E → Type 0} (r : Result T E) → ((e : E) → P e → Q e) → IfErr r P → IfErr r Q
 if_err (Ok x) f h = tt
@@ -133,6 +133,6 @@ if_err (Err e) f h = f e h
 
 -- what is wanted in a state that a request has made of another
 pub wanted_from : {T E : Type 0} (c m : CoreState) (request : Request Block Id) (known : Known) (s : State Block) → m ≡ record c { state = s } → IsToSettle c known request s → (r : Result T E) (told : E → Option (List Triple))
-    → IfErr r (λ e. AreWanted (IsWantedIn m known) (told e)) → IfErr r (λ e. AreWanted (IsWantedBy c request known) (told e))
+    → IfErr r (λ e. AreWanted (IsWantedToSettle m known) (told e)) → IfErr r (λ e. AreWanted (IsWantedBy c request known) (told e))
 wanted_from c m request known s made changed r told h =
-    if_err r (λ e are. wanted_by c request known s changed (told e) (subst (λ (x : CoreState). AreWanted (IsWantedIn x known) (told e)) made are)) h
+    if_err r (λ e are. wanted_by c request known s changed (told e) (subst (λ (x : CoreState). AreWanted (IsWantedToSettle x known) (told e)) made are)) h

@@ -25,7 +25,7 @@ IsWantedAt params t known p triple =
     IsWantedByBlock (setting_on params (branch_blocks t parent)) (coins_after t parent) (block_at names t p).txs known triple
 
 -- a block that is tried does: it is on the branch of a candidate, and not on the active one
-pub record IsWantedIn (c : CoreState) (known : Known) (triple : Triple) : Type 0 where
+pub record IsWantedToSettle (c : CoreState) (known : Known) (triple : Triple) : Type 0 where
   pub place : ℕ
   pub kept : place ≤ length c.state.blocks
   pub candidate : Under known (λ triples. on_candidate (regtest c.params triples) c.state place ≡ true)
@@ -45,7 +45,7 @@ IsToSettle c known (Precious id) s =
 pub record IsWantedBy (c : CoreState) (request : Request Block Id) (known : Known) (triple : Triple) : Type 0 where
   pub state : State Block
   pub to_settle : IsToSettle c known request state
-  pub wanted : IsWantedIn (record c { state = state }) known triple
+  pub wanted : IsWantedToSettle (record c { state = state }) known triple
 
 -- the same of a command: bytes that spell no block want nothing
 abbrev pub IsWantedByStep : CoreState → Command → Known → Triple → Type 0

@@ -2,6 +2,7 @@ pub mod Answering
 pub mod Comes
 pub mod Cores
 pub mod Few
+pub mod Following
 pub mod Kept
 pub mod Owing
 pub mod Owning

@@ -1,13 +1,16 @@
 -- The pass of a seat: what it has seen of the history, and what of it is its own.
 use Rattle.std.specs.Prelude.{◌≡◌, ◌⊎◌, ◌&&◌, ℕ, zero, suc, Bool, true, is_none, if◌then◌else◌}
-use Rattle.std.specs.Prelude.{List, [], ◌∷◌, ◌++◌, length, take, drop, Some, None}
+use Rattle.std.specs.Prelude.{List, [], ◌∷◌, ◌++◌, length, take, drop, Option, Some, None}
 use mathlib.Core.List.{IsPrefix}
+use Rattle.txn.specs.declared.outpoint.OutPoint.{OutPoint}
+use Rattle.coins.specs.declared.coin.Coin.{Coin}
 use Rattle.chain.specs.declared.command.Command.{Command}
 use Rattle.chain.specs.declared.reply.Reply.{Reply}
 use Rattle.chain.specs.declared.entry.Entry.{Entry}
 use Rattle.chain.specs.History.{state_at, own_of, entry_of}
 use Rattle.view.specs.Origin.{Origin, machine}
 use Rattle.view.specs.ViewState.{IsLegal}
+use Rattle.node.specs.Told.{AreNext, coins_in}
 
 -- the seat's number, which history it sits at and what that is of, the beginning of it that the seat has seen, and
 -- the seat's own entries in order
@@ -84,6 +87,12 @@ pub record IsRead (p q : Pass) {V : Type 0} (value : (machine p.origin).State �
 pub record IsListed (p q : Pass) (first last at : ℕ) (answer : List Entry) : Type 0 where
   pub at_is : at ≡ length q.seen
   pub answer_is : answer ≡ drop first (take last q.seen)
+  pub mine_is : q.mine ≡ p.mine
+
+-- the answer is the coins above an outpoint, of the state after all that the seat has then seen
+pub record AreCoins (p q : Pass) (above : Option OutPoint) (most at : ℕ) (answer : List (OutPoint × Coin)) : Type 0 where
+  pub at_is : at ≡ length q.seen
+  pub answer_is : AreNext (coins_in p.origin (state_at (machine p.origin) q.seen at)) above most answer
   pub mine_is : q.mine ≡ p.mine
 
 -- of a whole history: what the seat has seen begins it, and the seat's entries in it are its own

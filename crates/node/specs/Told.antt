@@ -1,9 +1,13 @@
 -- What a seat is told of a state.
-use Rattle.std.specs.Prelude.{ℕ, List, map, Option, option_map}
+use Rattle.std.specs.Prelude.{◌≡◌, ◌⊎◌, ℕ, zero, suc, List, [], ◌∷◌, map, Option, None, Some, option_map}
 use Rattle.txn.specs.declared.outpoint.OutPoint.{OutPoint}
+use Rattle.coins.specs.Coins.{Coins}
 use Rattle.coins.specs.declared.coin.Coin.{Coin}
+use Rattle.coins.specs.Next.{IsNext}
 use Rattle.tree.specs.declared.tip.Tip.{Tip}
 use Rattle.tree.specs.Tips.{tip_of_id}
+use Rattle.chain.specs.Regtest.{ledger, regtest}
+use Rattle.chain.specs.Replay.{coins}
 use Rattle.view.specs.Origin.{Origin, machine}
 use Rattle.node.specs.declared.answer.UnspentOutput.{UnspentOutput}
 
@@ -24,3 +28,13 @@ output_at o at s = option_map unspent_output ((machine o).coin s at)
 -- the tips, as a seat reads them
 abbrev pub shown_tips : (o : Origin) → (machine o).State → List Tip
 shown_tips o s = map tip_of_id ((machine o).tips s)
+
+-- all coins of a state
+abbrev pub coins_in : (o : Origin) → (machine o).State → Coins
+coins_in o s = coins (regtest o.params o.triples) ledger s
+
+-- the coins above an outpoint by rising outpoints, so many of them: fewer only where there are no more
+abbrev pub AreNext : Coins → Option OutPoint → ℕ → List (OutPoint × Coin) → Type 0
+AreNext m above most [] = (most ≡ 0) ⊎ IsNext m above None
+AreNext m above zero (e ∷ others) = ⊥
+AreNext m above (suc most) (e ∷ others) = IsNext m above (Some e) × AreNext m (Some e.0) most others

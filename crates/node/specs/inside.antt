@@ -1,6 +1,7 @@
 -- What private clauses and invariants alone cite.
 pub mod Brought
 pub mod EarlyScripts
+pub mod Following
 pub mod Keeping
 pub mod PublishedState
 pub mod Seats

@@ -1,15 +1,17 @@
 //! A seat's reading calls. They wait for nobody: each enters the published view once.
 
 ghost use Rattle.std.specs.Prelude.{◌≡◌, IfOk, IfErr, take, drop};
+ghost use Rattle.std.specs.Option.{option_copied};
 ghost use Rattle.view.specs.Origin.{machine};
 ghost use Rattle.view.specs.ViewState.{IsExact, state_after};
-ghost use Rattle.node.specs.Told.{output_at, shown_tips};
+ghost use Rattle.node.specs.Told.{AreNext, coins_in, output_at, shown_tips};
 
 use crate::answer::{Stamped, UnspentOutput};
 use crate::fault::Fault;
 use crate::node::Node;
 use crate::seat::Seat;
 use chain::Entry;
+use coins::{Coin, CoinMap};
 use hash::Id;
 use std::alloc::Global;
 use tree::Tip;
@@ -27,6 +29,41 @@ fn output(alloc: Global, view: &View, outpoint: &OutPoint) -> Result<Option<Unsp
         Some((coin, confirmations)) => Ok(Some(UnspentOutput::of(alloc, coin, confirmations)?)),
         None => Ok(None),
     }
+}
+
+/// The coins above an outpoint by rising outpoints, at most so many.
+fn next_coins(
+    alloc: Global,
+    coins: &CoinMap,
+    above: Option<&OutPoint>,
+    most: usize,
+) -> Result<Vec<(OutPoint, Coin)>, Memory>
+    ensures { IfOk result (λ list. AreNext coins.now (option_copied above.entry) most list.items) }
+{
+    let mut list = Vec::new(alloc);
+    let mut last = above;
+    for _ in 0..most {
+        let Some((outpoint, coin)) = coins.after(last) else {
+            return Ok(list);
+        };
+        list.push((*outpoint, coin.copy()?))?;
+        last = Some(outpoint);
+    }
+    Ok(list)
+}
+
+/// The coins of a view above an outpoint by rising outpoints, at most so many.
+fn coins_above(
+    alloc: Global,
+    view: &View,
+    above: Option<&OutPoint>,
+    most: usize,
+) -> Result<Vec<(OutPoint, Coin)>, Memory>
+    requires { IsExact view.now }
+    ensures { let o = view.now.origin in let coins = coins_in o (state_after o view.now.journal) in
+        IfOk result (λ list. AreNext coins (option_copied above.entry) most list.items) }
+{
+    next_coins(alloc, view.coins(), above, most)
 }
 
 /// The tips of a view.
@@ -60,7 +97,7 @@ fn copies(alloc: Global, entries: &[SharedEntry]) -> Result<Vec<Entry>, Memory>
 
 impl<'t, J: Naming> Seat<'t, J> {
     ghost use Rattle.node.specs.Calls.{IsReadFault, IsClosedFault};
-    ghost use Rattle.node.specs.Pass.{IsLater, IsOwn, IsRead, IsListed};
+    ghost use Rattle.node.specs.Pass.{AreCoins, IsLater, IsOwn, IsRead, IsListed};
 
     /// The output at an outpoint, if it isn't spent, after all that the seat has then seen (Bitcoin Core's
     /// `gettxout`).
@@ -82,6 +119,33 @@ impl<'t, J: Naming> Seat<'t, J> {
             return Err(Fault::Closed);
         };
         let value = output(alloc, reading.get(), outpoint);
+        self.reader.leave(reading);
+        let value = value?;
+        let at = self.see(found);
+        Ok(Stamped { at, value })
+    }
+
+    /// The coins at the outpoints above one, or from the least on, by rising outpoints, after all that the seat has then
+    /// seen: at most so many, and fewer only where there are no more. Lists with the same stamp are of one state.
+    ///
+    /// Seat and node are of one [`Node::open`](crate::Node::open).
+    pub fn coins_from(
+        &mut self,
+        alloc: Global,
+        _node: &Node<'_, J>,
+        above: Option<&OutPoint>,
+        most: usize,
+    ) -> Result<Stamped<Vec<(OutPoint, Coin)>>, Fault>
+        ensures later { IsLater self.old self.new }
+        ensures answer { IfOk result (λ r.
+            AreCoins self.old self.new (option_copied above.entry) most r.at r.value.items) }
+        ensures own { IsOwn self.new }
+        ensures fault { IfErr result (λ fault. IsReadFault self.old self.new fault) }
+    {
+        let Some((reading, found)) = self.reader.enter_from(&self.seen) else {
+            return Err(Fault::Closed);
+        };
+        let value = coins_above(alloc, reading.get(), above, most);
         self.reader.leave(reading);
         let value = value?;
         let at = self.see(found);

@@ -3,8 +3,11 @@
 ghost use Rattle.std.specs.Prelude.{◌≡◌};
 
 mod asking;
+mod blocks;
 mod board;
 mod earlier;
+mod growth;
+mod looking;
 mod reading;
 mod service;
 mod tally;

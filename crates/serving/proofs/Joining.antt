@@ -8,9 +8,10 @@ use Rattle.json.specs.Token.{Token}
 use Rattle.json.specs.Tree.{items_tokens}
 use Rattle.json.specs.Written.{Written}
 use Rattle.tree.specs.declared.tip.Tip.{Tip}
-use Rattle.serving.specs.Answers.{Adds, members, now_of, tip_items, step_items}
+use Rattle.serving.specs.Answers.{Adds, members, now_of, coin_items, tip_items, step_items}
+use Rattle.serving.specs.declared.answer.CoinAt.{CoinAt}
 use Rattle.serving.specs.declared.answer.Step.{Step}
-use Rattle.serving.specs.inside.Front.{tip_tokens, step_tokens}
+use Rattle.serving.specs.inside.Front.{coin_tokens, tip_tokens, step_tokens}
 
 pub then : {E : Type 0} {u : Unit {0}} {r : Result (Unit {0}) E} {a b c : Written} {ts us : List Token}
     → Adds {E = E} (Ok u) a b ts → Adds r b c us → Adds r a c (ts ++ us)
@@ -41,3 +42,11 @@ tips_closed tips = all_tips tips ∙ sym (append-nil (items_tokens (tip_items ti
 
 pub steps_closed : (steps : List Step) → flat_map step_tokens steps ++ Token.end_array ∷ [] ≡ items_tokens (step_items steps) ++ []
 steps_closed steps = all_steps steps ∙ sym (append-nil (items_tokens (step_items steps)))
+
+all_coins : (coins : List CoinAt) → flat_map coin_tokens coins ++ Token.end_array ∷ [] ≡ items_tokens (coin_items coins)
+all_coins [] = refl
+all_coins (c ∷ cs) =
+    append_assoc (coin_tokens c) (flat_map coin_tokens cs) (Token.end_array ∷ []) ∙ ap (λ rest. coin_tokens c ++ rest) (all_coins cs)
+
+pub coins_closed : (coins : List CoinAt) → flat_map coin_tokens coins ++ Token.end_array ∷ [] ≡ items_tokens (coin_items coins) ++ []
+coins_closed coins = all_coins coins ∙ sym (append-nil (items_tokens (coin_items coins)))

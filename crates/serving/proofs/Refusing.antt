@@ -1,11 +1,12 @@
 -- Which calls a method doesn't mean.
-use Rattle.std.specs.Prelude.{ℕ, List, codes, Option, ⊤}
+use Rattle.std.specs.Prelude.{ℕ, List, codes, true, Option, None, Some, option_map, ⊤}
+use Rattle.std.specs.Option.{is_some}
 use Rattle.std.proofs.Common.{◌≡◌, sym, subst}
 use Rattle.json.specs.Json.{Json}
 use Rattle.hash.specs.declared.id.Id.{Id}
 use Rattle.txn.specs.declared.outpoint.OutPoint.{OutPoint}
 use Rattle.json.specs.Find.{get}
-use Rattle.serving.specs.Requests.{IsNumber, IsSeat, AreBytes, IsId, AreOutPoint, IsCall, IsRequest, IsAsked, method_name}
+use Rattle.serving.specs.Requests.{param, IsNumber, IsSeat, AreBytes, IsId, IsAbove, AreOutPoint, IsCall, IsRequest, IsAsked, method_name}
 use Rattle.serving.specs.declared.request.Asked.TheVariants as asked
 use Rattle.serving.specs.inside.Given.{IsParam}
 use Rattle.serving.specs.declared.method.Method.{Method}
@@ -28,6 +29,11 @@ Takes seats method.Precious p = (id : Id) × IsId (codes "id") p id
 Takes seats method.GetTxOut p = (o : OutPoint) × AreOutPoint p o
 Takes seats method.GetBestBlockHash p = ⊤
 Takes seats method.GetChainTips p = ⊤
+Takes seats method.GetBlock p = (id : Id) × IsId (codes "id") p id
+Takes seats method.GetBlockHeader p = (id : Id) × IsId (codes "id") p id
+Takes seats method.GetBlockHash p = (n : ℕ) × IsNumber (codes "height") p n
+Takes seats method.Coins p = ((o : Option OutPoint) × IsAbove p o) × ((n : ℕ) × IsNumber (codes "most") p n)
+Takes seats method.Wait p = (n : ℕ) × IsNumber (codes "after") p n
 Takes seats method.Note p = ⊤
 Takes seats method.Told p = (n : ℕ) × IsSeat seats (codes "from") p n
 Takes seats method.Journal p = ((n : ℕ) × IsNumber (codes "from") p n) × ((n : ℕ) × IsNumber (codes "to") p n)
@@ -42,9 +48,23 @@ takes seats m p (call.Precious id) h = subst (λ n. Takes seats n p) (sym h.0) (
 takes seats m p (call.Output o) h = subst (λ n. Takes seats n p) (sym h.0) (o, h.1)
 takes seats m p call.Best h = subst (λ n. Takes seats n p) (sym h) tt
 takes seats m p call.Tips h = subst (λ n. Takes seats n p) (sym h) tt
+takes seats m p (call.Block id) h = subst (λ n. Takes seats n p) (sym h.0) (id, h.1)
+takes seats m p (call.Header id) h = subst (λ n. Takes seats n p) (sym h.0) (id, h.1)
+takes seats m p (call.Hash height) h = subst (λ n. Takes seats n p) (sym h.0) (height, h.1)
+takes seats m p (call.Coins above most) h = subst (λ n. Takes seats n p) (sym h.0) ((above, h.1), (most, h.2))
+takes seats m p (call.Wait steps) h = subst (λ n. Takes seats n p) (sym h.0) (steps, h.1)
 takes seats m p call.Note h = subst (λ n. Takes seats n p) (sym h) tt
 takes seats m p (call.Told from) h = subst (λ n. Takes seats n p) (sym h.0) (from, h.1)
 takes seats m p (call.Journal from to) h = subst (λ n. Takes seats n p) (sym h.0) ((from, h.1), (to, h.3))
+
+pub some-is-not-none : {A B : Type 0} (o : Option A) (f : A → B) → is_some o ≡ true → option_map f o ≡ None → ⊥
+some-is-not-none None f some none = cc
+some-is-not-none (Some x) f some none = cc
+
+-- where a transaction is named, and no outpoint
+pub not-above : (p : Option Json) → (param (codes "txid") p ≡ None → ⊥) → ((o : OutPoint) → AreOutPoint p o → ⊥) → (o : Option OutPoint) → IsAbove p o → ⊥
+not-above p named none None h = named h
+not-above p named none (Some o) h = none o h
 
 -- where neither a seat nor a call is meant, a parameter is refused
 pub asked-refused : (seats : ℕ) (j : Json) (m : Method) (seat : Option ℕ) (why : Refusal) → IsRequest j (method_name m) → IsParam why

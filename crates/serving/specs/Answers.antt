@@ -14,6 +14,8 @@ use Rattle.tree.specs.declared.tip.Status.{Status}
 use Rattle.tree.specs.declared.tip.Status.TheVariants.{Active, Invalid, ValidFork, ValidHeaders}
 use Rattle.serving.specs.declared.answer.Answer.{Answer}
 use Rattle.serving.specs.declared.answer.Answer.TheVariants as answer
+use Rattle.serving.specs.declared.answer.CoinAt.{CoinAt}
+use Rattle.serving.specs.declared.answer.Header.{Header}
 use Rattle.serving.specs.declared.answer.Info.{Info}
 use Rattle.serving.specs.declared.answer.Output.{Output}
 use Rattle.serving.specs.declared.answer.Stamped.{Stamped}
@@ -94,6 +96,21 @@ abbrev pub step_items : List Step → Items
 step_items [] = no_items
 step_items (s ∷ ss) = item (object (step_members s)) (step_items ss)
 
+-- a block's header, its height, and how many blocks of the active branch there are from it on
+abbrev pub header_members : Header → Members
+header_members h = text (codes "header") (encode_lower h.bytes.now) (count (codes "height") h.height
+    (member (codes "confirmations") (number (signed_decimal h.confirmations)) no_members))
+
+-- a coin with its outpoint
+abbrev pub coin_members : CoinAt → Members
+coin_members c = text (codes "txid") (hex_of_id c.txid) (count (codes "n") c.n
+    (member (codes "value") (number (signed_decimal c.value)) (text (codes "script") (encode_lower c.script.now)
+    (count (codes "height") c.height (member (codes "coinbase") (boolean c.coinbase) no_members)))))
+
+abbrev pub coin_items : List CoinAt → Items
+coin_items [] = no_items
+coin_items (c ∷ cs) = item (object (coin_members c)) (coin_items cs)
+
 -- what is answered beside the place
 abbrev pub answer_members : Answer → Members
 answer_members answer.Place = no_members
@@ -103,6 +120,10 @@ answer_members (answer.Tips tips) = member (codes "answer") (array (tip_items ti
 answer_members (answer.Output None) = member (codes "answer") null no_members
 answer_members (answer.Output (Some o)) = member (codes "answer") (object (output_members o)) no_members
 answer_members (answer.Steps steps) = member (codes "answer") (array (step_items steps.now)) no_members
+answer_members answer.Absent = member (codes "answer") null no_members
+answer_members (answer.Block bytes) = text (codes "answer") (encode_lower bytes.now) no_members
+answer_members (answer.Header h) = member (codes "answer") (object (header_members h)) no_members
+answer_members (answer.Coins coins) = member (codes "answer") (array (coin_items coins.now)) no_members
 
 -- the place of an answer first
 abbrev pub stamped_members : Stamped → Members

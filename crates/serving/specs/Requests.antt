@@ -64,6 +64,11 @@ abbrev pub AreOutPoint : Option Json → OutPoint → Type 0
 AreOutPoint params outpoint = IsId (codes "txid") params outpoint.id
     × IsNumber (codes "n") params outpoint.index × (outpoint.index < 2 ^ 32)
 
+-- the same, where they name a transaction
+abbrev pub IsAbove : Option Json → Option OutPoint → Type 0
+IsAbove params None = param (codes "txid") params ≡ None
+IsAbove params (Some outpoint) = AreOutPoint params outpoint
+
 -- ---- calls
 
 -- the names of the methods
@@ -75,6 +80,11 @@ method_name method.Precious = codes "precious"
 method_name method.GetTxOut = codes "gettxout"
 method_name method.GetBestBlockHash = codes "getbestblockhash"
 method_name method.GetChainTips = codes "getchaintips"
+method_name method.GetBlock = codes "getblock"
+method_name method.GetBlockHeader = codes "getblockheader"
+method_name method.GetBlockHash = codes "getblockhash"
+method_name method.Coins = codes "coins"
+method_name method.Wait = codes "wait"
 method_name method.Note = codes "note"
 method_name method.Told = codes "told"
 method_name method.Journal = codes "journal"
@@ -91,6 +101,11 @@ IsCall seats m params (call.Precious id) = (m ≡ method.Precious) × IsId (code
 IsCall seats m params (call.Output outpoint) = (m ≡ method.GetTxOut) × AreOutPoint params outpoint
 IsCall seats m params call.Best = m ≡ method.GetBestBlockHash
 IsCall seats m params call.Tips = m ≡ method.GetChainTips
+IsCall seats m params (call.Block id) = (m ≡ method.GetBlock) × IsId (codes "id") params id
+IsCall seats m params (call.Header id) = (m ≡ method.GetBlockHeader) × IsId (codes "id") params id
+IsCall seats m params (call.Hash height) = (m ≡ method.GetBlockHash) × IsNumber (codes "height") params height
+IsCall seats m params (call.Coins above most) = (m ≡ method.Coins) × IsAbove params above × IsNumber (codes "most") params most
+IsCall seats m params (call.Wait steps) = (m ≡ method.Wait) × IsNumber (codes "after") params steps
 IsCall seats m params call.Note = m ≡ method.Note
 IsCall seats m params (call.Told from) = (m ≡ method.Told) × IsSeat seats (codes "from") params from
 IsCall seats m params (call.Journal from to) = (m ≡ method.Journal)

@@ -6,8 +6,8 @@ ghost use Rattle.json.specs.Token.{key, string, boolean};
 ghost use Rattle.std.specs.List.{flat_map};
 ghost use Rattle.hex.specs.Hex.{encode_lower};
 ghost use Rattle.json.specs.Json.{no_members};
-ghost use Rattle.serving.specs.Answers.{Adds, answer_members, tip_members, output_members, step_members, info_members, members, now_of, status_name};
-ghost use Rattle.serving.specs.inside.Front.{tip_tokens, step_tokens};
+ghost use Rattle.serving.specs.Answers.{Adds, answer_members, coin_members, header_members, tip_members, output_members, step_members, info_members, members, now_of, status_name};
+ghost use Rattle.serving.specs.inside.Front.{coin_tokens, tip_tokens, step_tokens};
 
 use crate::object::Object;
 use hash::Id;
@@ -32,6 +32,12 @@ pub enum Answer<'a> {
     Tips(&'a [Tip]),
     Output(Option<Output<'a>>),
     Steps(&'a [Step<'a>]),
+    /// There is no such block.
+    Absent,
+    /// The bytes of a block.
+    Block(&'a [u8]),
+    Header(Header<'a>),
+    Coins(&'a [CoinAt<'a>]),
 }
 
 /// An output that isn't spent. Its value is in satoshis.
@@ -42,6 +48,26 @@ pub struct Output<'a> {
     pub height: u32,
     pub coinbase: bool,
     pub confirmations: u32,
+}
+
+/// A block's header, its height, and how many blocks of the active branch there are from its own on: -1 where it isn't
+/// on that branch.
+#[derive(Clone, Copy)]
+pub struct Header<'a> {
+    pub bytes: &'a [u8],
+    pub height: u64,
+    pub confirmations: i64,
+}
+
+/// A coin, and its outpoint.
+#[derive(Clone, Copy)]
+pub struct CoinAt<'a> {
+    pub txid: Id,
+    pub n: u32,
+    pub value: i64,
+    pub script: &'a [u8],
+    pub height: u32,
+    pub coinbase: bool,
 }
 
 /// A line of the journal.
@@ -101,6 +127,18 @@ impl Object {
                 self.steps(steps)?;
                 self.end_list()
             }
+            Answer::Absent => self.null("answer"),
+            Answer::Block(bytes) => self.bytes(alloc, "answer", bytes),
+            Answer::Header(header) => {
+                self.begin("answer")?;
+                self.header(alloc, header)?;
+                self.end()
+            }
+            Answer::Coins(coins) => {
+                self.begin_list("answer")?;
+                self.coins(alloc, coins)?;
+                self.end_list()
+            }
         }
     }
 
@@ -138,6 +176,44 @@ impl Object {
         self.item()?;
         self.step(step)?;
         self.end()
+    }
+
+    fn coins(&mut self, alloc: Global, coins: &[CoinAt<'_>]) -> Result<(), AllocError>
+        ensures { Adds result self.old self.new (flat_map coin_tokens coins.now) }
+    {
+        for coin in coins {
+            self.whole_coin(alloc, coin)?;
+        }
+        Ok(())
+    }
+
+    fn whole_coin(&mut self, alloc: Global, coin: &CoinAt<'_>) -> Result<(), AllocError>
+        ensures { Adds result self.old self.new (coin_tokens coin.now) }
+    {
+        self.item()?;
+        self.coin(alloc, coin)?;
+        self.end()
+    }
+
+    /// The members of a coin with its outpoint.
+    fn coin(&mut self, alloc: Global, coin: &CoinAt<'_>) -> Result<(), AllocError>
+        ensures { Adds result self.old self.new (members (coin_members coin.now)) }
+    {
+        self.id(alloc, "txid", coin.txid)?;
+        self.number("n", u64::from(coin.n))?;
+        self.signed("value", coin.value)?;
+        self.bytes(alloc, "script", coin.script)?;
+        self.number("height", u64::from(coin.height))?;
+        self.flag("coinbase", coin.coinbase)
+    }
+
+    /// The members of a header.
+    fn header(&mut self, alloc: Global, header: &Header<'_>) -> Result<(), AllocError>
+        ensures { Adds result self.old self.new (members (header_members header.now)) }
+    {
+        self.bytes(alloc, "header", header.bytes)?;
+        self.number("height", header.height)?;
+        self.signed("confirmations", header.confirmations)
     }
 
     /// An id, as it is printed.

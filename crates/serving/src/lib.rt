@@ -11,7 +11,7 @@ mod refusal;
 mod request;
 mod request_id;
 
-pub use answer::{Answer, Info, Output, Stamped, Step, status_word};
+pub use answer::{Answer, CoinAt, Header, Info, Output, Stamped, Step, status_word};
 pub use line::{answer_line, info_line, refusal_line};
 pub use method::Method;
 pub use numeral::Numeral;

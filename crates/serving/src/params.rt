@@ -1,10 +1,10 @@
 //! The parameters of a request.
 
-ghost use Rattle.std.specs.Prelude.{◌≡◌, ◌⊎◌, ℕ, List, option_map, IfOk, IfErr};
+ghost use Rattle.std.specs.Prelude.{◌≡◌, ◌⊎◌, ℕ, List, Option, option_map, IfOk, IfErr};
 ghost use Rattle.json.specs.Value.{value_view};
 ghost use Rattle.hash.specs.declared.id.Id.{Id as AnyId};
 ghost use Rattle.txn.specs.declared.outpoint.OutPoint.{OutPoint as AnyOutPoint};
-ghost use Rattle.serving.specs.Requests.{param, IsNumber, IsSeat, IsId, AreBytes, AreOutPoint};
+ghost use Rattle.serving.specs.Requests.{param, IsNumber, IsSeat, IsId, IsAbove, AreBytes, AreOutPoint};
 ghost use Rattle.serving.specs.inside.Given.{given, IsParam};
 ghost use Rattle.serving.specs.declared.refusal.Refusal.TheVariants as refusals;
 
@@ -94,6 +94,21 @@ impl<'p, 'l> Params<'p, 'l> {
                 index: place as u32,
             }),
             Ok(_) => Err(Refusal::Param("n")),
+            Err(refusal) => Err(refusal),
+        }
+    }
+
+    /// An outpoint, where a transaction is named.
+    pub(crate) fn above(&self) -> Result<Option<OutPoint>, Refusal>
+        ensures ok { IfOk result (λ above. IsAbove (given self.now) above) }
+        ensures err { IfErr result (λ why. IsParam why
+            × ((o : Option AnyOutPoint) → ¬ IsAbove (given self.now) o)) }
+    {
+        if self.get("txid").is_none() {
+            return Ok(None);
+        }
+        match self.outpoint() {
+            Ok(outpoint) => Ok(Some(outpoint)),
             Err(refusal) => Err(refusal),
         }
     }

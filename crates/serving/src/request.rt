@@ -47,6 +47,16 @@ pub enum Call {
     Output(OutPoint),
     Best,
     Tips,
+    /// The bytes of a block.
+    Block(Id),
+    /// The header of a block, and where it stands.
+    Header(Id),
+    /// The block of the active branch at this height.
+    Hash(u64),
+    /// The coins at the outpoints above one, or from the least on, at most so many.
+    Coins(Option<OutPoint>, u64),
+    /// To answer once the history has more steps than these.
+    Wait(u64),
     /// How many entries the seat has seen.
     Note,
     /// To hear what the seat of this number has seen.
@@ -160,6 +170,11 @@ fn call_of(
         Method::GetTxOut => output(params),
         Method::GetBestBlockHash => Ok(Call::Best),
         Method::GetChainTips => Ok(Call::Tips),
+        Method::GetBlock => block(params),
+        Method::GetBlockHeader => header(params),
+        Method::GetBlockHash => hash(params),
+        Method::Coins => coins(params),
+        Method::Wait => wait(params),
         Method::Note => Ok(Call::Note),
         Method::Told => told(params, seats),
         Method::Journal => entries(params),
@@ -190,6 +205,67 @@ fn output(params: &Params<'_, '_>) -> Result<Call, Refusal>
 {
     match params.outpoint() {
         Ok(outpoint) => Ok(Call::Output(outpoint)),
+        Err(refusal) => Err(refusal),
+    }
+}
+
+fn block(params: &Params<'_, '_>) -> Result<Call, Refusal>
+    ensures ok { (seats : ℕ) → IfOk result (λ call.
+        IsCall seats methods.GetBlock (given params.now) call) }
+    ensures err { (seats : ℕ) → IfErr result (λ why.
+        IsNoCall seats methods.GetBlock (given params.now) why) }
+{
+    match params.id("id") {
+        Ok(id) => Ok(Call::Block(id)),
+        Err(refusal) => Err(refusal),
+    }
+}
+
+fn header(params: &Params<'_, '_>) -> Result<Call, Refusal>
+    ensures ok { (seats : ℕ) → IfOk result (λ call.
+        IsCall seats methods.GetBlockHeader (given params.now) call) }
+    ensures err { (seats : ℕ) → IfErr result (λ why.
+        IsNoCall seats methods.GetBlockHeader (given params.now) why) }
+{
+    match params.id("id") {
+        Ok(id) => Ok(Call::Header(id)),
+        Err(refusal) => Err(refusal),
+    }
+}
+
+fn hash(params: &Params<'_, '_>) -> Result<Call, Refusal>
+    ensures ok { (seats : ℕ) → IfOk result (λ call.
+        IsCall seats methods.GetBlockHash (given params.now) call) }
+    ensures err { (seats : ℕ) → IfErr result (λ why.
+        IsNoCall seats methods.GetBlockHash (given params.now) why) }
+{
+    match params.number("height") {
+        Ok(height) => Ok(Call::Hash(height)),
+        Err(refusal) => Err(refusal),
+    }
+}
+
+fn coins(params: &Params<'_, '_>) -> Result<Call, Refusal>
+    ensures ok { (seats : ℕ) → IfOk result (λ call.
+        IsCall seats methods.Coins (given params.now) call) }
+    ensures err { (seats : ℕ) → IfErr result (λ why.
+        IsNoCall seats methods.Coins (given params.now) why) }
+{
+    match (params.above(), params.number("most")) {
+        (Ok(above), Ok(most)) => Ok(Call::Coins(above, most)),
+        (Err(refusal), _) => Err(refusal),
+        (_, Err(refusal)) => Err(refusal),
+    }
+}
+
+fn wait(params: &Params<'_, '_>) -> Result<Call, Refusal>
+    ensures ok { (seats : ℕ) → IfOk result (λ call.
+        IsCall seats methods.Wait (given params.now) call) }
+    ensures err { (seats : ℕ) → IfErr result (λ why.
+        IsNoCall seats methods.Wait (given params.now) why) }
+{
+    match params.number("after") {
+        Ok(steps) => Ok(Call::Wait(steps)),
         Err(refusal) => Err(refusal),
     }
 }

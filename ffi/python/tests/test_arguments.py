@@ -113,6 +113,10 @@ WRONG: Dict[str, List[Any]] = {
         *SEQUENCE, [1], [(bytes(32),)], [(bytes(31), 0)], [(bytes(32), -1)], [(bytes(32), 0.7)], [("00" * 32, 0)], ["ab"],
         [(bytes(32), True)], [(bytes(32), 1 << 32)],
     ],
+    "optional outpoint": [
+        *SEQUENCE[1:], [1], (bytes(32),), (bytes(31), 0), (bytes(32), -1), (bytes(32), 0.7), ("00" * 32, 0), "ab",
+        (bytes(32), True), (bytes(32), 1 << 32), (None, 0),
+    ],
     "triple": [
         *SEQUENCE, [], [b""] * 2, [b""] * 3, (3, b"", bytes(32)), (b"", "a", bytes(32)), (b"", b"", bytes(31)),
         (array.array("I", [1]), b"", bytes(32)),
@@ -188,7 +192,9 @@ SEAT = [
     ("invalidate", {"id": ID}), ("reconsider", {"id": ID}), ("precious", {"id": ID}),
     ("try_mark", {"command": ("command", "precious"), "id": ID}),
     ("gettxout", {"txid": ID, "n": ("number32", 0)}), ("gettxouts", {"outpoints": ("outpoints", [(bytes(32), 0)])}),
-    ("getbestblockhash", {}), ("getchaintips", {}),
+    ("getbestblockhash", {}), ("getchaintips", {}), ("getblock", {"id": ID}), ("getblockheader", {"id": ID}),
+    ("getblockhash", {"height": ("number", 0)}),
+    ("coins", {"above": ("optional outpoint", (bytes(32), 0)), "most": ("number", 1)}), ("wait", {"after": ("number", 0)}),
     ("journal", {"first": ("step", 1), "last": ("number", 9)}), ("note", {}), ("told", {"other": ("own", None)}),
 ]  # fmt: skip
 CHAIN = [
@@ -268,7 +274,8 @@ OTHER = {"ahead", "arguments", "errors", "index", "pipe", "pool", "server", "ver
 #: What other modules of the package call with what was taken before.
 INSIDE = {"chainstate.reply_of"} | {
     f"served.{name}" for name in (
-        "Call", "Opening", "submission", "mark", "output", "outputs", "entries", "told", "request", "checked", "outcome",
+        "Call", "Opening", "submission", "mark", "output", "outputs", "block_of", "header_of", "hash_at", "coins_above", "longer_than",
+        "entries", "told", "request", "checked", "outcome",
         "died", "read_answer",
     )
 }  # fmt: skip
@@ -278,8 +285,8 @@ ANSWERS = {
     "consensus.Opcode", "consensus.Script", "consensus.Refused", "consensus.Triple", "chainstate.Coin",
     "chainstate.Tip", "chainstate.Reply", "chainstate.Reply.check", "bench.Entry", "encoding.EncodingError",
     "encoding.Input", "encoding.Output", "encoding.Transaction", "encoding.Header", "encoding.Block", "encoding.Spelled",
-    "served.Stamped", "served.UnspentOutput", "served.Entry", "served.Info", "node.Seat", "asyncnode.AsyncSeat",
-    "library.Heights",
+    "served.Stamped", "served.UnspentOutput", "served.BlockHeader", "served.Entry", "served.Info", "node.Seat",
+    "asyncnode.AsyncSeat", "library.Heights",
     "library.Answer", "library.Tip", "library.Coin", "library.CoinCall",
 }  # fmt: skip
 

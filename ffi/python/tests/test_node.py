@@ -170,6 +170,33 @@ class NodeTest(unittest.TestCase):
         self.assertEqual([one.value.height if one.value else 0 for one in found[0][:4]], [1, 0, 2, 0])
         self.assertEqual(node.seat(1).gettxouts([]), [])
 
+    def test_blocks_and_coins(self):
+        """By id, by height and one after the other; a seat that waits is told of the next step."""
+        node = self.node(seats=2)
+        writer, reader = node.seat(0), node.seat(1)
+        b1, b2 = self.maker.chain(2)
+        ids = [GENESIS.id, block_id(b1), block_id(b2)]
+        told = []
+        waiting = threading.Thread(target=lambda: told.append(reader.wait(1)))
+        waiting.start()
+        for block in (b1, b2):
+            writer.submit(block, NOW)
+        waiting.join()
+        self.assertEqual(told, [2])
+        self.assertEqual([reader.getblockhash(height) for height in range(3)], [Stamped(2, id) for id in ids])
+        self.assertEqual(reader.getblockhash(3), Stamped(2, None))
+        self.assertEqual(reader.getblock(ids[2]), Stamped(2, b2))
+        self.assertEqual(reader.getblock(b"\1" * 32), Stamped(2, None))
+        self.assertEqual(reader.getblockheader(ids[1]), Stamped(2, (b1[:80], 1, 2)))
+        self.assertEqual(reader.getblockheader(b"\1" * 32), Stamped(2, None))
+        coins = sorted(
+            (self.maker.coinbases[id].id, 0, wakotehu.Coin(5000000000, b"\x51", height, True))
+            for height, id in enumerate(ids) if height
+        )  # fmt: skip
+        self.assertEqual(reader.coins(), Stamped(2, coins))
+        self.assertEqual(reader.coins(most=1), Stamped(2, coins[:1]))
+        self.assertEqual(reader.coins(coins[0][:2]), Stamped(2, coins[1:]))
+
     def test_many_threads_at_each_seat(self):
         """Answers find who asked, and no stamp falls."""
         node = self.node(seats=3)
@@ -344,6 +371,12 @@ class AsyncNodeTest(unittest.IsolatedAsyncioTestCase):
             self.assertEqual([entry.command for entry in (await first.journal(5)).value][-1], "precious")
             with self.assertRaises(errors.DecodeFailed):
                 await first.submit(b"", NOW)
+            best = await second.getblockhash(5)
+            self.assertEqual(best, Stamped(8, block_id(blocks[4])))
+            self.assertEqual(await second.getblock(best.value), Stamped(8, blocks[4]))
+            self.assertEqual(await second.getblockheader(best.value), Stamped(8, (blocks[4][:80], 5, 1)))
+            self.assertEqual(len((await second.coins(most=3)).value), 3)
+            self.assertEqual(await asyncio.gather(first.wait(8), second.precious(best.value)), [9, Stamped(9, "done")])
             many = await asyncio.gather(*(seat.getbestblockhash() for seat in node.seats * 200))
             self.assertEqual({stamped.value for stamped in many}, {block_id(blocks[-1])})
         with self.assertRaises(wakotehu.Closed):

@@ -10,10 +10,11 @@ from weakref import WeakSet, ref
 
 from . import arguments, errors
 from .arguments import Path
-from .chainstate import Reply, Tip
+from .chainstate import Coin, Reply, Tip
 from .served import (
-    BEST, FINISH, INFO, KEPT, MOST, NOTE, TIMEOUT, TIPS, UNDER_WAY, Call, Entry, Info, Opening, Stamped, UnspentOutput,
-    checked, died, entries, mark, outcome, output, outputs, read_answer, request, submission, told,
+    BEST, FINISH, INFO, KEPT, MOST, NOTE, TIMEOUT, TIPS, UNDER_WAY, BlockHeader, Call, Entry, Info, Opening, Stamped,
+    UnspentOutput, block_of, checked, coins_above, died, entries, hash_at, header_of, longer_than, mark, outcome, output,
+    outputs, read_answer, request, submission, told,
 )  # fmt: skip
 
 #: Requests of no seat, and of each.
@@ -306,6 +307,32 @@ class AsyncSeat:
         """As `Seat.getchaintips`."""
         answered: Stamped[List[Tip]] = await self._ask(TIPS)
         return answered
+
+    async def getblock(self, id: bytes) -> Stamped[Optional[bytes]]:
+        """As `Seat.getblock`."""
+        answered: Stamped[Optional[bytes]] = await self._ask(block_of(id))
+        return answered
+
+    async def getblockheader(self, id: bytes) -> Stamped[Optional[BlockHeader]]:
+        """As `Seat.getblockheader`."""
+        answered: Stamped[Optional[BlockHeader]] = await self._ask(header_of(id))
+        return answered
+
+    async def getblockhash(self, height: int) -> Stamped[Optional[bytes]]:
+        """As `Seat.getblockhash`."""
+        answered: Stamped[Optional[bytes]] = await self._ask(hash_at(height))
+        return answered
+
+    async def coins(
+        self, above: Optional[Tuple[bytes, int]] = None, most: int = 1000
+    ) -> Stamped[List[Tuple[bytes, int, Coin]]]:
+        """As `Seat.coins`."""
+        answered: Stamped[List[Tuple[bytes, int, Coin]]] = await self._ask(coins_above(above, most))
+        return answered
+
+    async def wait(self, after: int) -> int:
+        """As `Seat.wait`."""
+        return int(await self._ask(longer_than(after)))
 
     async def journal(self, first: int = 1, last: int = 2**64 - 1) -> Stamped[List[Entry]]:
         """As `Seat.journal`."""

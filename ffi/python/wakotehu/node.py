@@ -12,15 +12,16 @@ from weakref import ref
 from . import arguments
 from .arguments import Path
 from .asyncnode import AsyncNode, AsyncSeat
-from .chainstate import Reply, Tip
+from .chainstate import Coin, Reply, Tip
 from .pipe import Pipe
 from .served import (
-    BEST, FINISH, INFO, NOTE, TIMEOUT, TIPS, UNDER_WAY, Call, Entry, Info, Opening, Stamped, UnspentOutput, checked,
-    entries, mark, output, outputs, program_path, submission, told,
+    BEST, FINISH, INFO, NOTE, TIMEOUT, TIPS, UNDER_WAY, BlockHeader, Call, Entry, Info, Opening, Stamped, UnspentOutput,
+    block_of, checked, coins_above, entries, hash_at, header_of, longer_than, mark, output, outputs, program_path,
+    submission, told,
 )  # fmt: skip
 
 __all__ = [
-    "UNDER_WAY", "AsyncNode", "AsyncSeat", "Entry", "Info", "Node", "Seat", "Stamped", "UnspentOutput", "program_path",
+    "UNDER_WAY", "AsyncNode", "AsyncSeat", "BlockHeader", "Entry", "Info", "Node", "Seat", "Stamped", "UnspentOutput", "program_path",
 ]  # fmt: skip
 
 
@@ -90,6 +91,35 @@ class Seat:
         """The tips, by height downwards, then as they came."""
         answered: Stamped[List[Tip]] = self._ask(TIPS)
         return answered
+
+    def getblock(self, id: bytes) -> Stamped[Optional[bytes]]:
+        """The bytes of a block that was submitted and not refused, or None."""
+        answered: Stamped[Optional[bytes]] = self._ask(block_of(id))
+        return answered
+
+    def getblockheader(self, id: bytes) -> Stamped[Optional[BlockHeader]]:
+        """The header of such a block, and where it stands, or None."""
+        answered: Stamped[Optional[BlockHeader]] = self._ask(header_of(id))
+        return answered
+
+    def getblockhash(self, height: int) -> Stamped[Optional[bytes]]:
+        """The id of the active branch's block at a height, or None above the best one."""
+        answered: Stamped[Optional[bytes]] = self._ask(hash_at(height))
+        return answered
+
+    def coins(
+        self, above: Optional[Tuple[bytes, int]] = None, most: int = 1000
+    ) -> Stamped[List[Tuple[bytes, int, Coin]]]:
+        """The unspent outputs above an outpoint, or from the least on, by rising outpoints, as `Chainstate.coins` lists
+        them: at most so many, at most 1,000, and fewer only where there are no more. Lists with the same `at` are of one
+        state."""
+        answered: Stamped[List[Tuple[bytes, int, Coin]]] = self._ask(coins_above(above, most))
+        return answered
+
+    def wait(self, after: int) -> int:
+        """Waits until the history has more steps than `after`: how many the seat then has seen. Its other calls wait too;
+        those of other seats don't."""
+        return int(self._ask(longer_than(after)))
 
     def journal(self, first: int = 1, last: int = 2**64 - 1) -> Stamped[List[Entry]]:
         """The steps of these numbers, from 1, both included, of all that the seat then has seen."""

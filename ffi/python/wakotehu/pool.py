@@ -3,12 +3,12 @@
 import threading
 from contextlib import contextmanager
 from types import TracebackType
-from typing import Callable, Dict, Iterator, List, NoReturn, Optional, Sequence, Set, Tuple, Type, TypeVar, Union
+from typing import Callable, Dict, Iterator, List, NoReturn, Optional, Sequence, Tuple, Type, TypeVar, Union
 
 from . import arguments, errors
 from .arguments import id_of, octets
 from .chainstate import REGTEST, Coin, Reply, Tip, read_heights
-from .encoding import EncodingError, Spelled, block_at_front, double_sha, read_block
+from .encoding import EncodingError, Spelled, block_at_front, double_sha
 from .index import Index, Unspent, Walks
 from .node import Node, Seat, Stamped
 
@@ -234,24 +234,15 @@ class Pool(Walks):
                 return Unspent(Coin(value, script, height, coinbase), best.value, confirmations)
 
     def coins(self) -> List[Tuple[bytes, int, Coin]]:
-        """As `Bench.coins`: the node is asked for each output that the active branch makes and doesn't spend. Other
-        threads wait."""
+        """As `Bench.coins`. Other threads wait, so that all parts of the list are of one state."""
         self.settle()
         seat, found = self.node.seat(self._number()), []
         seat.told(self.node.seat(self._newest))
-        for id, index in self._left():
-            output = seat.gettxout(id, index).value
-            if output is not None:
-                found.append((id, index, Coin(output.value, output.script, output.height, output.coinbase)))
-        return found
-
-    def _left(self) -> Set[Tuple[bytes, int]]:
-        left: Set[Tuple[bytes, int]] = set()
-        for block in self.index.active[1:]:
-            for tx in read_block(self._data[block]).transactions:
-                left.difference_update((spends.id, spends.index) for spends in tx.inputs)
-                left.update((tx.id, place) for place in range(len(tx.outputs)))
-        return left
+        while True:
+            part = seat.coins(found[-1][:2] if found else None).value
+            if not part:
+                return found
+            found += part
 
     def block(self, id: bytes) -> Optional[bytes]:
         """The bytes of a kept block, or None."""

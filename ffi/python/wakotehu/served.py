@@ -9,7 +9,7 @@ from typing import IO, Any, Callable, Dict, Generic, List, NamedTuple, Optional,
 
 from . import arguments, errors
 from .arguments import Path, id_of, number, octets
-from .chainstate import REGTEST, Reply, Tip, mark_of, moment_of, read_heights, show
+from .chainstate import REGTEST, Coin, Reply, Tip, mark_of, moment_of, read_heights, show
 
 T = TypeVar("T")
 
@@ -51,6 +51,15 @@ class UnspentOutput(NamedTuple):
     script: bytes
     height: int
     coinbase: bool
+    confirmations: int
+
+
+class BlockHeader(NamedTuple):
+    """A block's header of 80 bytes, its height, and how many blocks of the active branch there are from it on: -1 where it
+    isn't on that branch."""
+
+    header: bytes
+    height: int
     confirmations: int
 
 
@@ -119,6 +128,32 @@ def _read_best(result: Dict[str, Any]) -> Stamped[bytes]:
     return Stamped(result["at"], _read_id(result["answer"]["hash"]))
 
 
+def _read_block(result: Dict[str, Any]) -> Stamped[Optional[bytes]]:
+    found = result["answer"]
+    return Stamped(result["at"], None if found is None else bytes.fromhex(found))
+
+
+def _read_header(result: Dict[str, Any]) -> Stamped[Optional[BlockHeader]]:
+    found = result["answer"]
+    if found is None:
+        return Stamped(result["at"], None)
+    header = BlockHeader(bytes.fromhex(found["header"]), found["height"], found["confirmations"])
+    return Stamped(result["at"], header)
+
+
+def _read_hash(result: Dict[str, Any]) -> Stamped[Optional[bytes]]:
+    found = result["answer"]
+    return Stamped(result["at"], None if found is None else _read_id(found["hash"]))
+
+
+def _read_coins(result: Dict[str, Any]) -> Stamped[List[Tuple[bytes, int, Coin]]]:
+    coins = [
+        (_read_id(it["txid"]), it["n"], Coin(it["value"], bytes.fromhex(it["script"]), it["height"], it["coinbase"]))
+        for it in result["answer"]
+    ]
+    return Stamped(result["at"], coins)
+
+
 def _read_tips(result: Dict[str, Any]) -> Stamped[List[Tip]]:
     tips = [Tip(_read_id(tip["hash"]), tip["height"], tip["branchlen"], tip["status"]) for tip in result["answer"]]
     return Stamped(result["at"], tips)
@@ -165,6 +200,30 @@ def outputs(outpoints: Sequence[Tuple[bytes, int]]) -> List[Call]:
         Call("gettxout", f',"txid":"{show(id_of(txid, "outpoints"))}","n":{number(n, "outpoints")}', _read_output)
         for txid, n in pairs
     ]
+
+
+def block_of(id: bytes) -> Call:
+    return Call("getblock", f',"id":"{show(id_of(id))}"', _read_block)
+
+
+def header_of(id: bytes) -> Call:
+    return Call("getblockheader", f',"id":"{show(id_of(id))}"', _read_header)
+
+
+def hash_at(height: int) -> Call:
+    return Call("getblockhash", f',"height":{number(height, "height", 64)}', _read_hash)
+
+
+def coins_above(above: Optional[Tuple[bytes, int]], most: int) -> Call:
+    place = ""
+    if above is not None:
+        txid, n = arguments.several(above, "above", 2)
+        place = f',"txid":"{show(id_of(txid, "above"))}","n":{number(n, "above")}'
+    return Call("coins", f'{place},"most":{number(most, "most", 64)}', _read_coins)
+
+
+def longer_than(steps: int) -> Call:
+    return Call("wait", f',"after":{number(steps, "after", 64)}', _read_place)
 
 
 def entries(first: int, last: int) -> Call:

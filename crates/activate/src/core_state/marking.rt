@@ -7,7 +7,7 @@ ghost use Rattle.chain.specs.Settle.{settle};
 ghost use Rattle.chain.specs.Step.{Invalidate, Reconsider, Precious, mark_says, step};
 ghost use Rattle.chain.specs.declared.reply.MarkReply.TheVariants.{Done};
 ghost use Rattle.activate.specs.CoreState.{CoreState, Follows, coins_of};
-ghost use Rattle.activate.specs.Wants.{IsWantedBy, IsWantedIn};
+ghost use Rattle.activate.specs.Wants.{IsWantedBy, IsWantedToSettle};
 ghost use Rattle.connect.specs.Stops.{AreWanted};
 ghost use Rattle.activate.specs.inside.Preparation.{CanTry, FlagsFit, IsPreparationFor, with_flags};
 ghost use Rattle.curve.specs.Known.{Under};
@@ -137,7 +137,7 @@ impl Core {
             (self.new
             ≡ record self.old { state = with_flags (Some flags) self.old.state }) }
         ensures wants { IfErr result (λ stop. AreWanted
-            (IsWantedIn self.old (S.known env.now)) (S.told stop)) }
+            (IsWantedToSettle self.old (S.known env.now)) (S.told stop)) }
     {
         match self.settle_rest(alloc, base, env, gate) {
             Ok((place, found)) => Ok(Prepared {

@@ -16,7 +16,7 @@ ghost use Rattle.chain.specs.Faults.{IsNew};
 ghost use Rattle.chain.specs.Step.{Submit, step};
 ghost use Rattle.chain.specs.Submission.{answer_known};
 ghost use Rattle.activate.specs.CoreState.{Follows, coins_of};
-ghost use Rattle.activate.specs.Wants.{IsWantedBy, IsWantedByStep, IsWantedIn};
+ghost use Rattle.activate.specs.Wants.{IsWantedBy, IsWantedByStep, IsWantedToSettle};
 ghost use Rattle.connect.specs.Stops.{AreWanted};
 ghost use Rattle.activate.specs.inside.Preparation.{IsPreparation, IsPreparationFor, ChangesNothing};
 ghost use Rattle.curve.specs.Known.{Under};
@@ -174,7 +174,7 @@ impl Core {
             self.new prepared)) }
         ensures err { OnErr result (self.new ≡ self.old) }
         ensures wants { let c = self.old in IfErr result (λ stop. AreWanted
-            (IsWantedIn (record c { state = with_block c.state submitted.now.block c.active })
+            (IsWantedToSettle (record c { state = with_block c.state submitted.now.block c.active })
             (S.known env.now)) (S.told stop)) }
     {
         let height = self.tree.height(self.active);
@@ -243,7 +243,7 @@ impl Core {
             self.new prepared)) }
         ensures err { OnErr result (self.new ≡ self.old) }
         ensures wants { let c = self.old in IfErr result (λ stop. AreWanted
-            (IsWantedIn (record c { state = with_block c.state submitted.now.block parent })
+            (IsWantedToSettle (record c { state = with_block c.state submitted.now.block parent })
             (S.known env.now)) (S.told stop)) }
     {
         let place = self.add(bytes, submitted, parent)?;

@@ -11,7 +11,7 @@ ghost use Rattle.chain.specs.Try.{state_after_try};
 ghost use Rattle.chain.specs.Submission.{answer_added};
 ghost use Rattle.chain.specs.Regtest.{regtest};
 ghost use Rattle.activate.specs.CoreState.{coins_of};
-ghost use Rattle.activate.specs.Wants.{IsWantedIn};
+ghost use Rattle.activate.specs.Wants.{IsWantedToSettle};
 ghost use Rattle.connect.specs.Stops.{AreWanted};
 ghost use Rattle.activate.specs.inside.Paths.{FailsAt, IsAttempt, IsWantedOnWay};
 ghost use Rattle.activate.specs.inside.Preparation.{CanFlag, CanTry, HasOtherFlags, TryLeads, Settles, reply_to_failed_try};
@@ -64,7 +64,7 @@ impl Core {
             place)) }
         ensures err { OnErr result (self.new ≡ self.old) }
         ensures wants { IfErr result (λ stop. AreWanted
-            (IsWantedIn self.old (S.known env.now)) (S.told stop)) }
+            (IsWantedToSettle self.old (S.known env.now)) (S.told stop)) }
     {
         match self.try_block(alloc, base, place, env, gate)? {
             Attempt::Succeeds(found) => Ok(Settled {
@@ -104,7 +104,7 @@ impl Core {
             place)) }
         ensures err { OnErr result (self.new ≡ self.old) }
         ensures wants { IfErr result (λ stop. AreWanted
-            (IsWantedIn self.old (S.known env.now)) (S.told stop)) }
+            (IsWantedToSettle self.old (S.known env.now)) (S.told stop)) }
     {
         let flags = self.tree.flags(alloc)?;
         self.flag(&failed);
@@ -138,7 +138,7 @@ impl Core {
             found.0 found.1)) }
         ensures flags { HasOtherFlags self.old self.new }
         ensures wants { IfErr result (λ stop. AreWanted
-            (IsWantedIn self.old (S.known env.now)) (S.told stop)) }
+            (IsWantedToSettle self.old (S.known env.now)) (S.told stop)) }
     {
         'tries: loop {
             let place = self.tree.best_usable();

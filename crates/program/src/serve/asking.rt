@@ -2,6 +2,7 @@
 
 use crate::objects::{output_of, reply_text};
 use crate::serve::board::Board;
+use crate::serve::looking;
 use crate::serve::turn::{Turn, line_room};
 use crate::serve::words::Facts;
 use arrayvec::ArrayString;
@@ -43,7 +44,9 @@ where
 {
     for turn in desk.turns.iter(rt) {
         let line = answered(rt, node, board, facts, turn, seat);
-        board.lay(rt, desk.number, seat.note());
+        let note = seat.note();
+        board.growth.tell(rt, note.len());
+        board.lay(rt, desk.number, note);
         if !send(rt, desk, board, line) {
             return;
         }
@@ -89,25 +92,47 @@ where
         Ok(Call::Invalidate(block)) => replied(alloc, room, &id, seat.invalidate(rt, node, block)),
         Ok(Call::Reconsider(block)) => replied(alloc, room, &id, seat.reconsider(rt, node, block)),
         Ok(Call::Precious(block)) => replied(alloc, room, &id, seat.precious(rt, node, block)),
-        Ok(Call::Output(outpoint)) => {
-            let output = seat.gettxout(alloc, node, &outpoint);
-            read_or_refused(room, &id, found(alloc, &id, output))
-        }
-        Ok(Call::Best) => read_or_refused(room, &id, best(alloc, &id, seat.getbestblockhash(node))),
-        Ok(Call::Tips) => {
-            let tips = seat.getchaintips(alloc, node);
-            read_or_refused(room, &id, listed_tips(alloc, &id, tips))
-        }
-        Ok(Call::Journal(from, to)) => {
-            let entries = seat.journal(alloc, node, from.saturating_sub(1), to);
-            read_or_refused(room, &id, listed(alloc, &id, facts, from, entries))
+        Ok(Call::Wait(steps)) => {
+            board.growth.wait_past(rt, steps);
+            let read = best_place(alloc, &id, seat.getbestblockhash(node));
+            read_or_refused(room, &id, read)
         }
         Ok(Call::Note) => placed(alloc, room, &id, seat.note().len()),
         Ok(Call::Told(from)) => {
             board.tell(rt, from, seat);
             placed(alloc, room, &id, seat.note().len())
         }
+        Ok(call) => read_or_refused(room, &id, read(rt, node, board, facts, &id, call, seat)),
         Err(refusal) => refusal_line(room, &id, refusal),
+    }
+}
+
+/// The line of a reading call.
+fn read<J: Naming, R>(
+    rt: &R,
+    node: &Node<'_, J>,
+    board: &Board<J>,
+    facts: &Facts<'_>,
+    id: &RequestId,
+    call: Call,
+    seat: &mut Seat<'_, J>,
+) -> Result<Vec<u8>, Refusal>
+where
+    R: AllocGlobal + Threads + Wait + Sync,
+{
+    let alloc = rt.alloc();
+    match call {
+        Call::Output(outpoint) => found(alloc, id, seat.gettxout(alloc, node, &outpoint)),
+        Call::Tips => listed_tips(alloc, id, seat.getchaintips(alloc, node)),
+        Call::Journal(from, to) => {
+            let entries = seat.journal(alloc, node, from.saturating_sub(1), to);
+            listed(alloc, id, facts, from, entries)
+        }
+        Call::Block(block) => looking::block(rt, node, board, id, &block, seat),
+        Call::Header(block) => looking::header(rt, node, board, id, &block, seat),
+        Call::Hash(height) => looking::hash(rt, node, board, id, height, seat),
+        Call::Coins(above, most) => looking::coins(alloc, node, id, above.as_ref(), most, seat),
+        _ => best(alloc, id, seat.getbestblockhash(node)),
     }
 }
 
@@ -159,7 +184,7 @@ fn found(
                 Some(output) => Some(output_of(output)),
                 None => None,
             };
-            stamped(alloc, id, at, Answer::Output(output))
+            read_line(alloc, id, at, Answer::Output(output))
         }
         Err(fault) => Err(refused(fault)),
     }
@@ -171,7 +196,19 @@ fn best(
     best: Result<node::Stamped<Id>, node::Fault>,
 ) -> Result<Vec<u8>, Refusal> {
     match best {
-        Ok(node::Stamped { at, value }) => stamped(alloc, id, at, Answer::Best(value)),
+        Ok(node::Stamped { at, value }) => read_line(alloc, id, at, Answer::Best(value)),
+        Err(fault) => Err(refused(fault)),
+    }
+}
+
+/// The line of how many steps the seat has then seen.
+fn best_place(
+    alloc: Global,
+    id: &RequestId,
+    best: Result<node::Stamped<Id>, node::Fault>,
+) -> Result<Vec<u8>, Refusal> {
+    match best {
+        Ok(node::Stamped { at, .. }) => read_line(alloc, id, at, Answer::Place),
         Err(fault) => Err(refused(fault)),
     }
 }
@@ -183,14 +220,19 @@ fn listed_tips(
 ) -> Result<Vec<u8>, Refusal> {
     match tips {
         Ok(node::Stamped { at, value }) => {
-            stamped(alloc, id, at, Answer::Tips(value.as_slice()))
+            read_line(alloc, id, at, Answer::Tips(value.as_slice()))
         }
         Err(fault) => Err(refused(fault)),
     }
 }
 
 /// The line of a read.
-fn stamped(alloc: Global, id: &RequestId, at: u64, answer: Answer<'_>) -> Result<Vec<u8>, Refusal> {
+pub fn read_line(
+    alloc: Global,
+    id: &RequestId,
+    at: u64,
+    answer: Answer<'_>,
+) -> Result<Vec<u8>, Refusal> {
     let Ok(room) = line_room(alloc, id) else {
         return Err(Refusal::Memory);
     };
@@ -218,7 +260,7 @@ fn listed(
     let Ok(steps) = steps_of(alloc, texts.as_slice()) else {
         return Err(Refusal::Memory);
     };
-    stamped(alloc, id, at, Answer::Steps(steps.as_slice()))
+    read_line(alloc, id, at, Answer::Steps(steps.as_slice()))
 }
 
 /// The texts of entries, of which the first has this number.
@@ -289,7 +331,7 @@ fn entry_text(
 }
 
 /// What a fault of a seat is told as.
-fn refused(fault: node::Fault) -> Refusal {
+pub fn refused(fault: node::Fault) -> Refusal {
     match fault {
         node::Fault::Memory => Refusal::Memory,
         node::Fault::Owed => Refusal::Owed,

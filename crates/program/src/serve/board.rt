@@ -1,16 +1,22 @@
-//! What each seat has seen last, for the others.
+//! What seats have for one another.
 
+use crate::serve::blocks::Blocks;
+use crate::serve::growth::Growth;
 use node::{Naming, Note, Seat};
 use std::alloc::{AllocError, Global};
 use std::sync::atomic::AtomicBool;
 use std::sync::atomic::Ordering::SeqCst;
 use std::sync::{Mutex, Wait};
 
-/// What each seat has seen by its last answer.
+/// What each seat has seen by its last answer, and what is known of the history.
 #[derive(Drop)]
 pub struct Board<J: Naming> {
     notes: Vec<Mutex<Note<J>>>,
     is_short: AtomicBool,
+    /// The blocks of the history, as far as a request asked for them.
+    pub blocks: Mutex<Blocks>,
+    /// How long the history is, for who waits.
+    pub growth: Growth,
 }
 
 impl<J: Naming> Board<J> {
@@ -23,6 +29,8 @@ impl<J: Naming> Board<J> {
         Ok(Board {
             notes,
             is_short: AtomicBool::new(false),
+            blocks: Mutex::new(Blocks::new(alloc)?),
+            growth: Growth::new(),
         })
     }
 

@@ -137,7 +137,7 @@ where
         }
         if is_whole {
             is_whole = scope
-                .spawn(move || run_reader(rt, facts, doors, input, read))
+                .spawn(move || run_reader(rt, board, facts, doors, input, read))
                 .is_ok();
         }
         if !is_whole {
@@ -175,8 +175,9 @@ where
 }
 
 /// The thread that reads. The doors are closed as it ends.
-fn run_reader<R, I>(
+fn run_reader<J: Naming, R, I>(
     rt: &R,
+    board: &Board<J>,
     facts: &Facts<'_>,
     doors: &Mutex<Option<Doors>>,
     input: &Mutex<&mut I>,
@@ -191,6 +192,7 @@ where
     };
     let mut input = input.lock(rt);
     let asked = read_requests(rt, facts, &doors, &mut **input);
+    board.growth.end(rt);
     let mut guard = read.lock(rt);
     *guard = asked;
 }

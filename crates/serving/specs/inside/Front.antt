@@ -5,7 +5,8 @@ use Rattle.json.specs.Tree.{json_tokens}
 use Rattle.json.specs.Json.{object}
 use Rattle.hash.specs.Id.{hex_of_id}
 use Rattle.tree.specs.declared.tip.Tip.{Tip}
-use Rattle.serving.specs.Answers.{id_json, text, tip_members, step_members}
+use Rattle.serving.specs.Answers.{id_json, text, coin_members, tip_members, step_members}
+use Rattle.serving.specs.declared.answer.CoinAt.{CoinAt}
 use Rattle.serving.specs.declared.answer.Step.{Step}
 use Rattle.serving.specs.declared.request_id.RequestId.{RequestId}
 
@@ -15,6 +16,9 @@ front i = begin_object ∷ key (codes "jsonrpc") ∷ string (codes "2.0") ∷ ke
 
 abbrev pub tip_tokens : Tip → List Token
 tip_tokens t = json_tokens (object (text (codes "hash") (hex_of_id t.id) (tip_members t)))
+
+abbrev pub coin_tokens : CoinAt → List Token
+coin_tokens c = json_tokens (object (coin_members c))
 
 abbrev pub step_tokens : Step → List Token
 step_tokens s = json_tokens (object (step_members s))

@@ -53,3 +53,53 @@ returns-in-Err-id-2-clause-err c =
     let none = c.in-Err-id-2.ensures.err in
     subst (λ m. IsNoCall c.args.seats m (given c.args.params.now) c.in-Err-id-2.refusal) (sym c.in-Precious.is)
     (inr (is-param none.0, λ call h. let id = takes c.args.seats method.Precious (given c.args.params.now) call h in none.1 id.0 id.1))
+
+pub returns-in-GetBlock-clause-ok : goal.returns-in-GetBlock-clause-ok
+returns-in-GetBlock-clause-ok c =
+    subst (λ m. IfOk c.block.result (λ call. IsCall c.args.seats m (given c.args.params.now) call))
+    (sym c.in-GetBlock.is) (c.block.ensures.ok c.args.seats)
+
+pub returns-in-GetBlock-clause-err : goal.returns-in-GetBlock-clause-err
+returns-in-GetBlock-clause-err c =
+    subst (λ m. IfErr c.block.result (λ why. IsNoCall c.args.seats m (given c.args.params.now) why))
+    (sym c.in-GetBlock.is) (c.block.ensures.err c.args.seats)
+
+pub returns-in-GetBlockHeader-clause-ok : goal.returns-in-GetBlockHeader-clause-ok
+returns-in-GetBlockHeader-clause-ok c =
+    subst (λ m. IfOk c.header.result (λ call. IsCall c.args.seats m (given c.args.params.now) call))
+    (sym c.in-GetBlockHeader.is) (c.header.ensures.ok c.args.seats)
+
+pub returns-in-GetBlockHeader-clause-err : goal.returns-in-GetBlockHeader-clause-err
+returns-in-GetBlockHeader-clause-err c =
+    subst (λ m. IfErr c.header.result (λ why. IsNoCall c.args.seats m (given c.args.params.now) why))
+    (sym c.in-GetBlockHeader.is) (c.header.ensures.err c.args.seats)
+
+pub returns-in-GetBlockHash-clause-ok : goal.returns-in-GetBlockHash-clause-ok
+returns-in-GetBlockHash-clause-ok c =
+    subst (λ m. IfOk c.hash.result (λ call. IsCall c.args.seats m (given c.args.params.now) call))
+    (sym c.in-GetBlockHash.is) (c.hash.ensures.ok c.args.seats)
+
+pub returns-in-GetBlockHash-clause-err : goal.returns-in-GetBlockHash-clause-err
+returns-in-GetBlockHash-clause-err c =
+    subst (λ m. IfErr c.hash.result (λ why. IsNoCall c.args.seats m (given c.args.params.now) why))
+    (sym c.in-GetBlockHash.is) (c.hash.ensures.err c.args.seats)
+
+pub returns-in-Coins-clause-ok : goal.returns-in-Coins-clause-ok
+returns-in-Coins-clause-ok c =
+    subst (λ m. IfOk c.coins.result (λ call. IsCall c.args.seats m (given c.args.params.now) call))
+    (sym c.in-Coins.is) (c.coins.ensures.ok c.args.seats)
+
+pub returns-in-Coins-clause-err : goal.returns-in-Coins-clause-err
+returns-in-Coins-clause-err c =
+    subst (λ m. IfErr c.coins.result (λ why. IsNoCall c.args.seats m (given c.args.params.now) why))
+    (sym c.in-Coins.is) (c.coins.ensures.err c.args.seats)
+
+pub returns-in-Wait-clause-ok : goal.returns-in-Wait-clause-ok
+returns-in-Wait-clause-ok c =
+    subst (λ m. IfOk c.wait.result (λ call. IsCall c.args.seats m (given c.args.params.now) call))
+    (sym c.in-Wait.is) (c.wait.ensures.ok c.args.seats)
+
+pub returns-in-Wait-clause-err : goal.returns-in-Wait-clause-err
+returns-in-Wait-clause-err c =
+    subst (λ m. IfErr c.wait.result (λ why. IsNoCall c.args.seats m (given c.args.params.now) why))
+    (sym c.in-Wait.is) (c.wait.ensures.err c.args.seats)

@@ -1,6 +1,6 @@
 use Rattle.std.proofs.Common.{sym, subst}
 use Rattle.serving.specs.Answers.{Adds, answer_members, members}
-use Rattle.serving.proofs.Joining.{then, tips_closed, steps_closed}
+use Rattle.serving.proofs.Joining.{then, coins_closed, tips_closed, steps_closed}
 use Rattle.serving.proofs.object.Object.answer.Goals as goal
 
 pub returns-in_ok-id-in-Best : goal.returns-in_ok-id-in-Best
@@ -19,3 +19,14 @@ returns-in_ok-steps-in-Steps c =
     (sym c.in-Steps.is)
     (then c.in_ok-begin_list-in-Steps.ensures
     (rw (steps_closed c.in-Steps.steps.now) at (then c.in_ok-steps-in-Steps.ensures c.end_list-in-Steps.ensures)))
+
+pub returns-in-Block : goal.returns-in-Block
+returns-in-Block c =
+    subst (λ answer. Adds c.bytes.result c.args.self.now c.bytes.new.self (members (answer_members answer))) (sym c.in-Block.is) c.bytes.ensures
+
+pub returns-in_ok-coins-in-Coins : goal.returns-in_ok-coins-in-Coins
+returns-in_ok-coins-in-Coins c =
+    subst (λ answer. Adds c.end_list-in-Coins.result c.args.self.now c.end_list-in-Coins.new.self (members (answer_members answer)))
+    (sym c.in-Coins.is)
+    (then c.in_ok-begin_list-in-Coins.ensures
+    (rw (coins_closed c.in-Coins.coins.now) at (then c.in_ok-coins-in-Coins.ensures c.end_list-in-Coins.ensures)))
