@@ -1,11 +1,11 @@
 -- What opcodes do to stacks and conditions: None where the script fails.
-use Rattle.std.specs.Prelude.{ℕ, List, [], ◌∷◌, ◌++◌, length, map, reverse, take, drop, remove, Bool, false, not, Option, Some, None, option_and_then, nat_lt, if◌then◌else◌, pos, ℤ}
+use Rattle.std.specs.Prelude.{ℕ, List, [], ◌∷◌, ◌++◌, length, map, reverse, take, drop, remove, Bool, false, not, Option, Some, None, option_and_then, nat_lt, int_lt, ◌&&◌, if◌then◌else◌, pos, ℤ}
 use Rattle.std.specs.Option.{option_map}
 use Rattle.std.specs.Str.{bytes_eq}
 use Rattle.script.specs.Num.{operand, shortest_bytes}
 use Rattle.interp.specs.Limits.{max_number_size}
 use Rattle.interp.specs.Stack.{Bytes, Stack, nth, pop}
-use Rattle.interp.specs.Elements.{truth, truth_bytes, natural_of}
+use Rattle.interp.specs.Elements.{truth, truth_bytes, flag, natural_of}
 use Rattle.interp.specs.State.{State}
 use Rattle.interp.specs.Timelocks.{is_same, is_met}
 
@@ -57,7 +57,7 @@ unfoldable pub pop_number : Stack → Option (ℤ × Stack)
 pop_number [] = None
 pop_number (a ∷ rest) = option_map (λ x. (x, rest)) (operand max_number_size a)
 
--- takes numbers, the lowest first, and pushes one that is made of them
+-- takes numbers, and pushes one that is made of them
 unfoldable pub one_number : (ℤ → ℤ) → Stack → Option Stack
 one_number f s = do
   x ← pop_number s
@@ -69,12 +69,13 @@ two_numbers f s = do
   x ← pop_number y.1
   Some (shortest_bytes (f x.0 y.0) ∷ x.1)
 
-unfoldable pub three_numbers : (ℤ → ℤ → ℤ → ℤ) → Stack → Option Stack
-three_numbers f s = do
-  z ← pop_number s
-  y ← pop_number z.1
-  x ← pop_number y.1
-  Some (shortest_bytes (f x.0 y.0 z.0) ∷ x.1)
+-- `x min max -> min <= x and x < max`, as 1 or 0
+unfoldable pub within : Stack → Option Stack
+within s = do
+  max ← pop_number s
+  min ← pop_number max.1
+  x ← pop_number min.1
+  Some (shortest_bytes (flag (not (int_lt x.0 min.0) && int_lt x.0 max.0)) ∷ x.1)
 
 -- the number on top, if it is a place among the others, where 0 is their top; and the others
 unfoldable pub pop_place : Stack → Option (ℕ × Stack)

@@ -12,7 +12,7 @@ use Rattle.interp.specs.Limits.{max_element_size}
 use Rattle.interp.specs.Stack.{Bytes, Stack}
 use Rattle.interp.specs.State.{State}
 use Rattle.interp.specs.Elements.{flag}
-use Rattle.interp.specs.Effects.{push, moves, verify, if_dup, size, equal_bytes, digest, depth, one_number, two_numbers, three_numbers, pick, roll, on_main, to_alt, from_alt, branch, untaken_branch, turn, close}
+use Rattle.interp.specs.Effects.{push, moves, verify, if_dup, size, equal_bytes, digest, depth, one_number, two_numbers, within, pick, roll, on_main, to_alt, from_alt, branch, untaken_branch, turn, close}
 use Rattle.interp.specs.declared.flags.Flags.{Flags}
 use Rattle.interp.specs.Timelocks.{locks_until, locks_for}
 
@@ -58,10 +58,6 @@ is_zero x = unsigned_abs x == 0
 
 abbrev pub num_eq : ℤ → ℤ → Bool
 num_eq x y = is_zero (x -ℤ y)
-
--- `x min max -> min <= x and x < max`
-abbrev pub within : Stack → Option Stack
-within = three_numbers (λ x min max. flag (not (int_lt x min) && int_lt x max))
 
 -- by the opcode's number; the elements that a row moves are named from the lowest
 abbrev pub rows : List (ℕ × Row)

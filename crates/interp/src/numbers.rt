@@ -3,8 +3,7 @@
 ghost use Rattle.std.specs.Prelude.{◌≡◌, ◌^◌, ◌∷◌, pos, negsuc, ◌<ℤ◌, IfOk, OnOk, MatchOption, IfSome, Some, None};
 ghost use Rattle.script.specs.Num.{operand, shortest_bytes};
 ghost use Rattle.interp.specs.inside.Going.{Gives};
-ghost use Rattle.interp.specs.Effects.{pop_number, one_number, two_numbers, three_numbers};
-ghost use Rattle.interp.specs.Row.{within};
+ghost use Rattle.interp.specs.Effects.{pop_number, one_number, two_numbers, within};
 ghost use Rattle.interp.specs.computed.Groups.{unary_of, binary_of};
 
 use crate::element::Element;
@@ -159,7 +158,7 @@ pub fn join_numbers(alloc: Global, stack: &mut Pile<Element>, by: Binary) -> Res
 }
 
 /// Whether a number lies from the second on and below the third, if the three are there.
-#[tactic(auto, unfolding(crate::specs::Effects::three_numbers))]
+#[tactic(auto, unfolding(crate::specs::Effects::within))]
 #[inline(never)]
 pub fn within(alloc: Global, stack: &mut Pile<Element>) -> Result<bool, Memory>
     ensures { IfOk result (λ there. Gives there (within stack.old) stack.new) }

@@ -9,7 +9,7 @@ use Rattle.interp.specs.Answer.{Says}
 use Rattle.interp.specs.Question.{Question}
 use Rattle.interp.specs.computed.Signatures.{pairs_verdict}
 use Rattle.interp.specs.Row.{row_at, row_of, push_row}
-use Rattle.interp.specs.Effects.{moves, pop_number, one_number, two_numbers, three_numbers, pop_place}
+use Rattle.interp.specs.Effects.{moves, pop_number, one_number, two_numbers, pop_place}
 use Rattle.interp.specs.Effects as effects
 use Rattle.interp.specs.Rules.{multisig_of, with_count}
 use Rattle.interp.specs.computed.Step.{after_multisig, after_acting, within_bounds, step_at, step, run, outcome}
@@ -26,7 +26,7 @@ sub known q = refl
 
 -- 2 1 2 WITHIN: the end isn't within
 within : (known : Known) (q : Question) → outcome known q (0x52 ∷ 0x51 ∷ 0x52 ∷ 0xa5 ∷ []) [] ≡ Says (Some ([] ∷ []))
-unfolding operand_len ops rest row_at row_of push_row after_acting with_count within_bounds step_at step run outcome operand num_value shortest_bytes shortest_bytes_with pop_number three_numbers
+unfolding operand_len ops rest row_at row_of push_row after_acting with_count within_bounds step_at step run outcome operand num_value shortest_bytes shortest_bytes_with pop_number effects.within
 within known q = refl
 
 -- 7 8 9 and 2 ROLL

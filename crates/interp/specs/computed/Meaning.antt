@@ -2,8 +2,8 @@
 use Rattle.std.specs.Prelude.{[], ◌∷◌, true, false, Option}
 use Rattle.interp.specs.Timelocks.{locks_until, locks_for}
 use Rattle.interp.specs.Stack.{Stack}
-use Rattle.interp.specs.Effects.{push, moves, verify, if_dup, size, equal_bytes, digest, depth, one_number, two_numbers, pick, roll, to_alt, from_alt, branch, untaken_branch, turn, close}
-use Rattle.interp.specs.Row.{Row, Check, within}
+use Rattle.interp.specs.Effects.{push, moves, verify, if_dup, size, equal_bytes, digest, depth, one_number, two_numbers, within, pick, roll, to_alt, from_alt, branch, untaken_branch, turn, close}
+use Rattle.interp.specs.Row.{Row, Check}
 use Rattle.interp.specs.Row as row
 use Rattle.interp.specs.computed.Groups.{move_of, unary_of, binary_of, hash_of}
 use Rattle.interp.specs.declared.changes.Change.{Change}
