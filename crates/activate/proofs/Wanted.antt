@@ -1,4 +1,5 @@
 -- What a block wants where it is connected is wanted by the step that tries it.
+use Rattle.std.specs.Prelude.{IfSome}
 use Rattle.std.proofs.Common.{◌≡◌, ℕ, suc, ◌<◌, ◌≤◌, true, false, List, length, Option, Result, Ok, Err, IfErr, sym, ap, ◌∙◌, subst, arith}
 use Rattle.std.proofs.lemmas.Bool.{false_from_ne_true}
 use Rattle.block.specs.declared.block.Block.{Block}
@@ -8,9 +9,8 @@ use Rattle.txn.specs.declared.tx.Tx.{Tx}
 use Rattle.coins.specs.Coins.{Coins}
 use Rattle.hash.specs.declared.id.Id.{Id}
 use Rattle.rules.specs.declared.params.Params.{Params}
-use Rattle.connect.specs.Scripts.{IsWantedByBlock}
+use Rattle.connect.specs.Scripts.{AreWantedByBlock}
 use Rattle.connect.specs.Setting.{Setting}
-use Rattle.connect.specs.Stops.{AreWanted}
 use Rattle.connect.specs.laws.Stops.{wanted_weaker}
 use Rattle.tree.specs.Branches.{Blocks, Kept, block_at, on, parent_at}
 use Rattle.tree.specs.Names.{names}
@@ -26,9 +26,9 @@ use Rattle.chain.specs.Step.{Request}
 use Rattle.chain.specs.laws.Candidates.{on_candidate_from}
 use Rattle.chain.specs.laws.Tries.{best-candidate}
 use Rattle.activate.specs.CoreState.{CoreState, branch_blocks, coins_after}
-use Rattle.activate.specs.Wants.{IsToSettle, IsWantedAt, IsWantedBy, IsWantedToSettle}
-use Rattle.activate.specs.inside.Ascents.{IsWantedAbove}
-use Rattle.activate.specs.inside.Paths.{IsWantedOnWay}
+use Rattle.activate.specs.Wants.{IsToSettle, AreWantedAt, AreWantedBy, AreWantedToSettle}
+use Rattle.activate.specs.inside.Ascents.{AreWantedAbove}
+use Rattle.activate.specs.inside.Paths.{AreWantedOnWay}
 use Rattle.activate.specs.inside.Preparation.{CanTry, HasOtherFlags, TriesLead}
 use Rattle.activate.proofs.Plans.{active-other, params-other}
 
@@ -42,23 +42,23 @@ on-best c known p can best x there triples agrees =
 module _ (params : Params) (known : Known) where
   -- over the coins of its parent's branch
   at-place : (t : Blocks Block) (p : ℕ) (s : Setting) (m : Coins) (txs : List Tx) → s ≡ setting_on params (branch_blocks t (parent_at t p)) → m ≡ coins_after t (parent_at t p) → txs ≡ (block_at names t p).txs
-      → (triple : Triple) → IsWantedByBlock s m txs known triple → IsWantedAt params t known p triple
-  at-place t p s m txs place coins is triple w =
-      subst (λ (q : Setting). IsWantedByBlock q (coins_after t (parent_at t p)) (block_at names t p).txs known triple) place
-      (subst (λ (n : Coins). IsWantedByBlock s n (block_at names t p).txs known triple) coins
-      (subst (λ (l : List Tx). IsWantedByBlock s m l known triple) is w))
+      → (list : List Triple) → AreWantedByBlock s m txs known list → AreWantedAt params t known p list
+  at-place t p s m txs place coins is list w =
+      subst (λ (q : Setting). AreWantedByBlock q (coins_after t (parent_at t p)) (block_at names t p).txs known list) place
+      (subst (λ (n : Coins). AreWantedByBlock s n (block_at names t p).txs known list) coins
+      (subst (λ (l : List Tx). AreWantedByBlock s m l known list) is w))
 
   pub wanted_at : (t : Blocks Block) (p : ℕ) (s : Setting) (m : Coins) (txs : List Tx) → s ≡ setting_on params (branch_blocks t (parent_at t p)) → m ≡ coins_after t (parent_at t p) → txs ≡ (block_at names t p).txs
-      → (told : Option (List Triple)) → AreWanted (IsWantedByBlock s m txs known) told → AreWanted (IsWantedAt params t known p) told
-  wanted_at t p s m txs place coins is told are = wanted_weaker (IsWantedByBlock s m txs known) (IsWantedAt params t known p) (at-place t p s m txs place coins is) told are
+      → (told : Option (List Triple)) → IfSome told (AreWantedByBlock s m txs known) → IfSome told (AreWantedAt params t known p)
+  wanted_at t p s m txs place coins is told are = wanted_weaker (AreWantedByBlock s m txs known) (AreWantedAt params t known p) (at-place t p s m txs place coins is) told are
 
-  pub wanted_above : (t : Blocks Block) (f p x : ℕ) → f < x → on t p x ≡ true → (told : Option (List Triple)) → AreWanted (IsWantedAt params t known x) told → AreWanted (IsWantedAbove params t f p known) told
-  wanted_above t f p x above there told are = wanted_weaker (IsWantedAt params t known x) (IsWantedAbove params t f p known) (λ triple w. record { place = x; above = above; there = there; wanted = w }) told are
+  pub wanted_above : (t : Blocks Block) (f p x : ℕ) → f < x → on t p x ≡ true → (told : Option (List Triple)) → IfSome told (AreWantedAt params t known x) → IfSome told (AreWantedAbove params t f p known)
+  wanted_above t f p x above there told are = wanted_weaker (AreWantedAt params t known x) (AreWantedAbove params t f p known) (λ list w. record { place = x; above = above; there = there; wanted = w }) told are
 
   -- above the last block that both branches share
-  pub wanted_on-way : (t : Blocks Block) (a p f q : ℕ) → q ≡ p → IsShared t a p f → (told : Option (List Triple)) → AreWanted (IsWantedAbove params t f q known) told → AreWanted (IsWantedOnWay params t a p known) told
+  pub wanted_on-way : (t : Blocks Block) (a p f q : ℕ) → q ≡ p → IsShared t a p f → (told : Option (List Triple)) → IfSome told (AreWantedAbove params t f q known) → IfSome told (AreWantedOnWay params t a p known)
   wanted_on-way t a p f q same shared told are =
-      wanted_weaker (IsWantedAbove params t f q known) (IsWantedOnWay params t a p known) (λ triple w.
+      wanted_weaker (AreWantedAbove params t f q known) (AreWantedOnWay params t a p known) (λ list w.
       let x = w.place in
       let above = w.above in
       let there = subst (λ (y : ℕ). on t y x ≡ true) same w.there in
@@ -71,7 +71,7 @@ module _ (params : Params) (known : Known) where
 
   -- a new block on p
   pub wanted_new : (s : State Block) (b : Block) (p : ℕ) → p ≤ length s.blocks → (place : Setting) (m : Coins) → place ≡ setting_on params (branch_blocks s.blocks p) → m ≡ coins_after s.blocks p
-      → (told : Option (List Triple)) → AreWanted (IsWantedByBlock place m b.txs known) told → AreWanted (IsWantedAt params (with_block s b p).blocks known (suc (length s.blocks))) told
+      → (told : Option (List Triple)) → IfSome told (AreWantedByBlock place m b.txs known) → IfSome told (AreWantedAt params (with_block s b p).blocks known (suc (length s.blocks)))
   wanted_new s b p h place m e f told are =
       let k : Kept Block = record { block = b; parent = p } in
       let t = (with_block s b p).blocks in
@@ -81,9 +81,9 @@ module _ (params : Params) (known : Known) where
 
 -- the best usable block is tried
 pub wanted_best : (c : CoreState) (known : Known) (p : ℕ) → Under known (λ triples. CanTry (regtest c.params triples) c) → IsBest c.state (has_no_mark c.state) (length c.state.blocks) p
-    → (told : Option (List Triple)) → AreWanted (IsWantedOnWay c.params c.state.blocks c.active p known) told → AreWanted (IsWantedToSettle c known) told
+    → (told : Option (List Triple)) → IfSome told (AreWantedOnWay c.params c.state.blocks c.active p known) → IfSome told (AreWantedToSettle c known)
 wanted_best c known p can best told are =
-    wanted_weaker (IsWantedOnWay c.params c.state.blocks c.active p known) (IsWantedToSettle c known) (λ triple w. record {
+    wanted_weaker (AreWantedOnWay c.params c.state.blocks c.active p known) (AreWantedToSettle c known) (λ list w. record {
       place = w.place;
       kept = (on-bounds c.state.blocks p w.place w.there).1;
       candidate = on-best c known p can best w.place w.there;
@@ -94,13 +94,13 @@ wanted_best c known p can best told are =
 -- so is a new block on the active one, where it is the best usable one
 pub wanted_tip : (a : CoreState) (known : Known) (b : Block) → a.active ≤ length a.state.blocks → let c : CoreState = record a { state = with_block a.state b a.active } in
     Under known (λ triples. CanTry (regtest a.params triples) c) → IsBest c.state (has_no_mark c.state) (length c.state.blocks) (suc (length a.state.blocks))
-    → (told : Option (List Triple)) → AreWanted (IsWantedAt a.params c.state.blocks known (suc (length a.state.blocks))) told → AreWanted (IsWantedToSettle c known) told
+    → (told : Option (List Triple)) → IfSome told (AreWantedAt a.params c.state.blocks known (suc (length a.state.blocks))) → IfSome told (AreWantedToSettle c known)
 wanted_tip a known b k can best told are =
     let n = suc (length a.state.blocks) in
     let c : CoreState = record a { state = with_block a.state b a.active } in
     let old : on c.state.blocks a.active n ≡ on a.state.blocks a.active n = on_there (record { block = b; parent = a.active }) a.state.blocks a.active n (omega arith) in
     wanted_best c known n can best told
-    (wanted_weaker (IsWantedAt a.params c.state.blocks known n) (IsWantedOnWay a.params c.state.blocks a.active n known) (λ triple w. record {
+    (wanted_weaker (AreWantedAt a.params c.state.blocks known n) (AreWantedOnWay a.params c.state.blocks a.active n known) (λ list w. record {
       place = n;
       there = on-itself c.state.blocks n (omega arith);
       apart = false_from_ne_true (on c.state.blocks a.active n) (λ here. let low = (on-bounds a.state.blocks a.active n (sym old ∙ here)).1 in absurd (omega (arith, low)));
@@ -109,9 +109,9 @@ wanted_tip a known b k can best told are =
 
 -- what is wanted after tries was wanted before
 pub wanted_before : (a b : CoreState) (known : Known) → HasOtherFlags a b → Under known (λ triples. TriesLead (regtest a.params triples) a b)
-    → (told : Option (List Triple)) → AreWanted (IsWantedToSettle b known) told → AreWanted (IsWantedToSettle a known) told
+    → (told : Option (List Triple)) → IfSome told (AreWantedToSettle b known) → IfSome told (AreWantedToSettle a known)
 wanted_before a b known flags lead told are =
-    wanted_weaker (IsWantedToSettle b known) (IsWantedToSettle a known) (λ triple w.
+    wanted_weaker (AreWantedToSettle b known) (AreWantedToSettle a known) (λ list w.
     let params = params-other a b flags in
     let act = active-other a b flags in
     record {
@@ -119,13 +119,13 @@ wanted_before a b known flags lead told are =
       kept = subst (λ (t : Blocks Block). w.place ≤ length t) flags.blocks_are w.kept;
       candidate = λ triples agrees. (lead triples agrees).candidates w.place (subst (λ (q : Params). on_candidate (regtest q triples) b.state w.place ≡ true) params (w.candidate triples agrees));
       inactive = subst (λ (q : ℕ). on a.state.blocks q w.place ≡ false) act (subst (λ (t : Blocks Block). on t b.active w.place ≡ false) flags.blocks_are w.inactive);
-      wanted = subst (λ (q : Params). IsWantedAt q a.state.blocks known w.place triple) params (subst (λ (t : Blocks Block). IsWantedAt b.params t known w.place triple) flags.blocks_are w.wanted);
+      wanted = subst (λ (q : Params). AreWantedAt q a.state.blocks known w.place list) params (subst (λ (t : Blocks Block). AreWantedAt b.params t known w.place list) flags.blocks_are w.wanted);
     }) told are
 
 pub wanted_by : (c : CoreState) (request : Request Block Id) (known : Known) (s : State Block) → IsToSettle c known request s → (told : Option (List Triple))
-    → AreWanted (IsWantedToSettle (record c { state = s }) known) told → AreWanted (IsWantedBy c request known) told
+    → IfSome told (AreWantedToSettle (record c { state = s }) known) → IfSome told (AreWantedBy c request known)
 wanted_by c request known s changed told are =
-    wanted_weaker (IsWantedToSettle (record c { state = s }) known) (IsWantedBy c request known) (λ triple w. record { state = s; to_settle = changed; wanted = w }) told are
+    wanted_weaker (AreWantedToSettle (record c { state = s }) known) (AreWantedBy c request known) (λ list w. record { state = s; to_settle = changed; wanted = w }) told are
 
 pub if_err : {T E : Type 0} {P Q : E → Type 0} (r : Result T E) → ((e : E) → P e → Q e) → IfErr r P → IfErr r Q
 if_err (Ok x) f h = tt
@@ -133,6 +133,6 @@ if_err (Err e) f h = f e h
 
 -- what is wanted in a state that a request has made of another
 pub wanted_from : {T E : Type 0} (c m : CoreState) (request : Request Block Id) (known : Known) (s : State Block) → m ≡ record c { state = s } → IsToSettle c known request s → (r : Result T E) (told : E → Option (List Triple))
-    → IfErr r (λ e. AreWanted (IsWantedToSettle m known) (told e)) → IfErr r (λ e. AreWanted (IsWantedBy c request known) (told e))
+    → IfErr r (λ e. IfSome (told e) (AreWantedToSettle m known)) → IfErr r (λ e. IfSome (told e) (AreWantedBy c request known))
 wanted_from c m request known s made changed r told h =
-    if_err r (λ e are. wanted_by c request known s changed (told e) (subst (λ (x : CoreState). AreWanted (IsWantedToSettle x known) (told e)) made are)) h
+    if_err r (λ e are. wanted_by c request known s changed (told e) (subst (λ (x : CoreState). IfSome (told e) (AreWantedToSettle x known)) made are)) h

@@ -1,12 +1,12 @@
--- What a step wants: signatures that scripts of the blocks that it tries ask for.
-use Rattle.std.specs.Prelude.{◌≡◌, ℕ, ◌<◌, ◌≤◌, true, false, length, Some}
+-- What a step wants: all signatures that scripts of one of the blocks that it tries ask for.
+use Rattle.std.specs.Prelude.{◌≡◌, ℕ, ◌<◌, ◌≤◌, true, false, List, length, Some}
 use Rattle.hash.specs.declared.id.Id.{Id}
 use Rattle.block.specs.declared.block.Block.{Block}
 use Rattle.block.specs.Decoding.{block_of_bytes}
 use Rattle.curve.specs.Known.{Known, Under}
 use Rattle.curve.specs.Triple.{Triple}
 use Rattle.rules.specs.declared.params.Params.{Params}
-use Rattle.connect.specs.Scripts.{IsWantedByBlock}
+use Rattle.connect.specs.Scripts.{AreWantedByBlock}
 use Rattle.tree.specs.Branches.{Blocks, block_at, height, on, parent_at, place_of}
 use Rattle.tree.specs.Names.{names}
 use Rattle.tree.specs.State.{State, with_block, with_call, with_mark, without_marks}
@@ -18,19 +18,19 @@ use Rattle.chain.specs.declared.command.Command.{Command}
 use Rattle.chain.specs.declared.command.Command.TheVariants as command
 use Rattle.activate.specs.CoreState.{CoreState, branch_blocks, coins_after}
 
--- the block at a place wants it over the coins of its parent's branch, on which it comes
-abbrev pub IsWantedAt : Params → Blocks Block → Known → ℕ → Triple → Type 0
-IsWantedAt params t known p triple =
+-- the block at a place wants them over the coins of its parent's branch, on which it comes
+abbrev pub AreWantedAt : Params → Blocks Block → Known → ℕ → List Triple → Type 0
+AreWantedAt params t known p list =
     let parent = parent_at t p in
-    IsWantedByBlock (setting_on params (branch_blocks t parent)) (coins_after t parent) (block_at names t p).txs known triple
+    AreWantedByBlock (setting_on params (branch_blocks t parent)) (coins_after t parent) (block_at names t p).txs known list
 
 -- a block that is tried does: it is on the branch of a candidate, and not on the active one
-pub record IsWantedToSettle (c : CoreState) (known : Known) (triple : Triple) : Type 0 where
+pub record AreWantedToSettle (c : CoreState) (known : Known) (list : List Triple) : Type 0 where
   pub place : ℕ
   pub kept : place ≤ length c.state.blocks
   pub candidate : Under known (λ triples. on_candidate (regtest c.params triples) c.state place ≡ true)
   pub inactive : on c.state.blocks c.active place ≡ false
-  pub wanted : IsWantedAt c.params c.state.blocks known place triple
+  pub wanted : AreWantedAt c.params c.state.blocks known place list
 
 -- what a request does to the state before blocks are tried. There is no such state where it tries none
 abbrev pub IsToSettle : CoreState → Known → Request Block Id → State Block → Type 0
@@ -42,15 +42,15 @@ IsToSettle c known (Reconsider id) s = (p : ℕ) × (place_of names c.state.bloc
 IsToSettle c known (Precious id) s =
     (p : ℕ) × (place_of names c.state.blocks id ≡ Some p) × (height c.state.blocks c.active ≤ height c.state.blocks p) × (s ≡ with_call c.state p)
 
-pub record IsWantedBy (c : CoreState) (request : Request Block Id) (known : Known) (triple : Triple) : Type 0 where
+pub record AreWantedBy (c : CoreState) (request : Request Block Id) (known : Known) (list : List Triple) : Type 0 where
   pub state : State Block
   pub to_settle : IsToSettle c known request state
-  pub wanted : IsWantedToSettle (record c { state = state }) known triple
+  pub wanted : AreWantedToSettle (record c { state = state }) known list
 
 -- the same of a command: bytes that spell no block want nothing
-abbrev pub IsWantedByStep : CoreState → Command → Known → Triple → Type 0
-IsWantedByStep c (command.Submit bytes now) known triple =
-    (b : Block) × (block_of_bytes bytes ≡ Some b) × IsWantedBy c (Submit now b) known triple
-IsWantedByStep c (command.Invalidate id) known triple = IsWantedBy c (Invalidate id) known triple
-IsWantedByStep c (command.Reconsider id) known triple = IsWantedBy c (Reconsider id) known triple
-IsWantedByStep c (command.Precious id) known triple = IsWantedBy c (Precious id) known triple
+abbrev pub AreWantedByStep : CoreState → Command → Known → List Triple → Type 0
+AreWantedByStep c (command.Submit bytes now) known list =
+    (b : Block) × (block_of_bytes bytes ≡ Some b) × AreWantedBy c (Submit now b) known list
+AreWantedByStep c (command.Invalidate id) known list = AreWantedBy c (Invalidate id) known list
+AreWantedByStep c (command.Reconsider id) known list = AreWantedBy c (Reconsider id) known list
+AreWantedByStep c (command.Precious id) known list = AreWantedBy c (Precious id) known list

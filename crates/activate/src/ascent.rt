@@ -1,16 +1,15 @@
 //! The walk up a branch, block by block.
 
-ghost use Rattle.std.specs.Prelude.{◌≡◌, ◌≤◌, ◌<◌, ◌++◌, ◌∷◌, [], true, length, reverse, IfOk, IfErr, OnOk, None};
+ghost use Rattle.std.specs.Prelude.{◌≡◌, ◌≤◌, ◌<◌, ◌++◌, ◌∷◌, [], true, length, reverse, IfOk, IfErr, OnOk, None, IfSome};
 ghost use Rattle.std.specs.Result.{result_err};
 ghost use Rattle.tree.specs.Branches.{parent_at, height};
 ghost use Rattle.chain.specs.Valid.{fault, branch_connects};
 ghost use Rattle.chain.specs.Regtest.{medians_of, regtest};
 ghost use Rattle.chain.specs.Settled.{AllKept};
 ghost use Rattle.activate.specs.CoreState.{branch_blocks, coins_after};
-ghost use Rattle.activate.specs.Wants.{IsWantedAt};
-ghost use Rattle.connect.specs.Stops.{AreWanted};
+ghost use Rattle.activate.specs.Wants.{AreWantedAt};
 ghost use Rattle.activate.specs.inside.Keeping.{undo_at};
-ghost use Rattle.activate.specs.inside.Ascents.{top_of, IsTop, IsWantedAbove, LeadsUp};
+ghost use Rattle.activate.specs.inside.Ascents.{top_of, IsTop, AreWantedAbove, LeadsUp};
 ghost use Rattle.activate.specs.inside.Paths.{IsStop};
 ghost use Rattle.curve.specs.Known.{Under};
 
@@ -73,9 +72,9 @@ pub(crate) fn connect_up<'b, B: Base, S: RunsScripts>(
         stop.passed stop.reason))) }
     ensures base { IfOk result (λ answer. IfOk answer (λ ascent.
         ascent.layer.base ≡ layer.entry.base)) }
-    ensures wants { IfErr result (λ stop. AreWanted
-        (IsWantedAbove params.now tree.now.blocks path.now.fork
-        (top_of path.now.fork path.now.up.items) (S.known env.now)) (S.told stop)) }
+    ensures wants { IfErr result (λ stop. IfSome (S.told stop)
+        (AreWantedAbove params.now tree.now.blocks path.now.fork
+        (top_of path.now.fork path.now.up.items) (S.known env.now))) }
 {
     let up = path.up.as_slice();
     let mut medians = medians;
@@ -128,8 +127,8 @@ fn connect_next<'b, B: Base, S: RunsScripts>(
         ≡ reverse (medians_of (branch_blocks tree.now.blocks place)))) }
     ensures base { IfOk result (λ answer.
         IfOk answer (λ done. done.0.base ≡ layer.entry.base)) }
-    ensures wants { IfErr result (λ stop. AreWanted
-        (IsWantedAt params.now tree.now.blocks (S.known env.now) place) (S.told stop)) }
+    ensures wants { IfErr result (λ stop. IfSome (S.told stop)
+        (AreWantedAt params.now tree.now.blocks (S.known env.now) place)) }
 {
     let block = tree.block(place).read(alloc)?;
     let ids = ids(alloc, block.txs.as_slice())?;

@@ -1,13 +1,12 @@
 //! A try of a block: whether its branch connects.
 
-ghost use Rattle.std.specs.Prelude.{◌≡◌, ◌+◌, ◌<◌, ◌≤◌, true, length, take, IfOk, IfErr, None};
+ghost use Rattle.std.specs.Prelude.{◌≡◌, ◌+◌, ◌<◌, ◌≤◌, true, length, take, IfOk, IfErr, None, IfSome};
 ghost use Rattle.chain.specs.Valid.{branch_connects};
 ghost use Rattle.chain.specs.Regtest.{regtest};
 ghost use Rattle.chain.specs.Settled.{AllKept};
 ghost use Rattle.activate.specs.CoreState.{coins_after};
-ghost use Rattle.connect.specs.Stops.{AreWanted};
 ghost use Rattle.activate.specs.inside.Keeping.{IsBranch};
-ghost use Rattle.activate.specs.inside.Paths.{IsAttempt, IsWantedOnWay};
+ghost use Rattle.activate.specs.inside.Paths.{IsAttempt, AreWantedOnWay};
 ghost use Rattle.curve.specs.Known.{Under};
 
 use crate::ascent::connect_up;
@@ -61,9 +60,8 @@ pub(crate) fn try_branch<B: Base, S: RunsScripts>(
     ensures attempt { let b = active_branch.now in
         IfOk result (λ attempt. Under (S.known env.now) (λ triples.
         IsAttempt (regtest b.params.now triples) b.tree.now.blocks b.active place attempt)) }
-    ensures wants { let b = active_branch.now in IfErr result (λ stop. AreWanted
-        (IsWantedOnWay b.params.now b.tree.now.blocks b.active place (S.known env.now))
-        (S.told stop)) }
+    ensures wants { let b = active_branch.now in IfErr result (λ stop. IfSome (S.told stop)
+        (AreWantedOnWay b.params.now b.tree.now.blocks b.active place (S.known env.now))) }
 {
     let path = path_to(alloc, active_branch, place)?;
     let layer = disconnect_to_fork(

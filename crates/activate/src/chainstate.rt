@@ -1,6 +1,6 @@
 //! A chainstate with coins of its own.
 
-ghost use Rattle.std.specs.Prelude.{◌≡◌, ◌≤◌, ℕ, IfErr, IfOk, None, OnErr, OnOk, is_some, length, map, take};
+ghost use Rattle.std.specs.Prelude.{◌≡◌, ◌≤◌, ℕ, IfErr, IfOk, None, OnErr, OnOk, is_some, length, map, take, IfSome};
 ghost use Rattle.std.specs.Option.{option_map};
 ghost use Rattle.std.specs.FinMap as coin_map;
 ghost use Rattle.curve.specs.Known.{Under};
@@ -15,8 +15,7 @@ ghost use Rattle.chain.specs.Regtest.{ledger, regtest};
 ghost use Rattle.chain.specs.Replay.{coins};
 ghost use Rattle.chain.specs.Settle.{active, best, tips};
 ghost use Rattle.activate.specs.CoreState.{IsBlockOf, IsChainstate, KeepsUndo, most_undo, opened_core};
-ghost use Rattle.activate.specs.Wants.{IsWantedByStep};
-ghost use Rattle.connect.specs.Stops.{AreWanted};
+ghost use Rattle.activate.specs.Wants.{AreWantedByStep};
 
 use crate::active_branch::MOST_UNDO;
 use crate::core_state::Core;
@@ -94,9 +93,8 @@ impl Chainstate {
             ≡ outcome (regtest self.old.core.params triples) self.old.core.state
             (command_of command.now))) }
         // There is one at least: no verdict on it is known, and a block that this step tries asks for it.
-        ensures wants { IfErr result (λ stop. AreWanted
-            (IsWantedByStep self.old.core (command_of command.now) (S.known env.now))
-            (S.told stop)) }
+        ensures wants { IfErr result (λ stop. IfSome (S.told stop)
+            (AreWantedByStep self.old.core (command_of command.now) (S.known env.now))) }
         ensures params { self.new.core.params ≡ self.old.core.params }
         ensures is_chainstate { Under (S.known env.now) (λ triples. IsChainstate self.new triples) }
         ensures undo { OnOk result (KeepsUndo self.old.core self.new.core) }

@@ -1,6 +1,6 @@
 //! A block connected to the coins of its parent's branch.
 
-ghost use Rattle.std.specs.Prelude.{◌≡◌, IfOk, None, IfErr};
+ghost use Rattle.std.specs.Prelude.{◌≡◌, IfOk, None, IfErr, IfSome};
 ghost use Rattle.std.specs.Result.{result_err};
 ghost use Rattle.txn.specs.First.{first_broken};
 ghost use Rattle.txn.specs.Identity.{ids_of};
@@ -10,8 +10,7 @@ ghost use Rattle.connect.specs.Setting.{setting};
 ghost use Rattle.connect.specs.Turns.{effect, undo_of};
 ghost use Rattle.connect.specs.computed.Scripts.{connect_fault};
 ghost use Rattle.curve.specs.Known.{Under};
-ghost use Rattle.connect.specs.Scripts.{IsWantedByBlock};
-ghost use Rattle.connect.specs.Stops.{AreWanted};
+ghost use Rattle.connect.specs.Scripts.{AreWantedByBlock};
 
 use block::Block;
 use coins::{Base, Cache, Changes};
@@ -59,8 +58,8 @@ pub(crate) fn connect_tip<B: Base, S: RunsScripts>(
         IfOk answer (λ connected.
         after_changes (B.coins base.now) connected.changes
         ≡ effect context.now.height (B.coins base.now) block.now.txs)) }
-    ensures wants { let s = setting context.now in IfErr result (λ stop. AreWanted
-        (IsWantedByBlock s (B.coins base.now) block.now.txs (S.known env.now)) (S.told stop)) }
+    ensures wants { let s = setting context.now in IfErr result (λ stop. IfSome (S.told stop)
+        (AreWantedByBlock s (B.coins base.now) block.now.txs (S.known env.now))) }
 {
     let mut layer = Cache::over(alloc, base);
     match connect(alloc, &mut layer, context, block, ids, env, gate)? {

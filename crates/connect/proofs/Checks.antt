@@ -1,9 +1,9 @@
 -- Lists of scripts that have to accept.
 use Rattle.std.proofs.Common.{◌≡◌, All, inl, inr, ℕ, zero, suc, ◌+◌, ◌<◌, List, [], ◌∷◌, ◌++◌, length, get_or, map, Option, Some, None, slice_get, refl, sym, ap, ap₂, subst, ◌∙◌, arith}
-use Rattle.std.proofs.Common.{◌≢◌, false}
+use Rattle.std.proofs.Common.{◌≢◌, Bool, true, false, append_assoc}
 use Rattle.std.specs.Prelude.{IfSome}
 use Rattle.std.specs.List.{zip, enumerate_from, AllZip}
-use Rattle.std.proofs.lemmas.List.{map-append, length-map, length_push}
+use Rattle.std.proofs.lemmas.List.{append-nil, map-append, length-map, length_push}
 use Rattle.std.proofs.lemmas.List.Elements.{All-push}
 use Rattle.txn.specs.declared.reason.Reason.TheVariants.{ScriptRefused}
 use Rattle.txn.specs.declared.tx.Tx.{Tx}
@@ -13,13 +13,12 @@ use Rattle.curve.specs.Known.{Known}
 use Rattle.curve.specs.Triple.{Triple, Triples}
 use Rattle.interp.specs.declared.job.Job.{Job}
 use Rattle.interp.specs.Question.{question, question_of}
-use Rattle.interp.specs.Answer.{Says, Wants}
+use Rattle.interp.specs.Answer.{Answer, Says, Wants}
+use Rattle.interp.specs.computed.Step.{verdict}
 use Rattle.queue.specs.Jobs.{HasInput, IsAccepted, verdict_at}
 use Rattle.queue.specs.laws.Failing.{AcceptsAt, FailsAt}
-use Rattle.queue.specs.Telling.{AreTheWants}
-use Rattle.queue.specs.laws.Failing.{all-wanted}
-use Rattle.connect.specs.Stops.{AreWanted}
-use Rattle.connect.specs.Scripts.{Check, input_checks, IsFirstRefused, IsWantedAmong}
+use Rattle.queue.specs.Telling.{AreTheWants, IsEnd, want_of, wants_below}
+use Rattle.connect.specs.Scripts.{Check, input_checks, IsFirstRefused, AreWantedAmong, want_first, wants_of}
 use Rattle.connect.specs.inside.Listing.{checks_from}
 
 pub zip_push : {A B : Type 0} (xs : List A) (ys : List B) (x : A) (y : B) → length xs ≡ length ys → zip (xs ++ x ∷ []) (ys ++ y ∷ []) ≡ zip xs ys ++ (x, y) ∷ []
@@ -98,23 +97,42 @@ alike_length R (x ∷ xs) (y ∷ ys) h = ap (λ n. suc n) (alike_length R xs ys 
 
 -- ---- what is wanted
 
--- at the place of a job, none before which is refused, and so by its check
-pub wanted_at : (known : Known) (places : List ℕ) (jobs : List Job) → length places ≡ length jobs → (place : ℕ) (t : Triple) → verdict_at known jobs place ≡ Wants t
-    → ((before : ℕ) → before < place → verdict_at known jobs before ≢ Says false) → IsWantedAmong known (zip places (map question_of jobs)) t
-wanted_at known [] [] even place t e before = cc
-wanted_at known [] (j ∷ jobs) even place t e before = absurd (omega (arith, even))
-wanted_at known (p ∷ places) [] even place t e before = absurd (omega (arith, even))
-wanted_at known (p ∷ places) (j ∷ jobs) even zero t e before = inl e
-wanted_at known (p ∷ places) (j ∷ jobs) even (suc place) t e before =
-    inr (before 0 (omega arith), wanted_at known places jobs (omega (arith, even)) place t e (λ x low. before (suc x) (omega (arith, low))))
+-- the wants below a place are that of the first and those of the others
+below-first : (verdict : ℕ → Answer Bool) (n : ℕ) → wants_below verdict (suc n) ≡ want_of (verdict 0) ++ wants_below (λ place. verdict (suc place)) n
+unfolding wants_below
+below-first verdict zero = sym (append-nil (want_of (verdict 0)))
+below-first verdict (suc n) =
+    ap (λ (l : List Triple). l ++ want_of (verdict (suc n))) (below-first verdict n)
+    ∙ append_assoc (want_of (verdict 0)) (wants_below (λ place. verdict (suc place)) n) (want_of (verdict (suc n)))
 
--- and so is each of those that are told
+first-wants : (a : Answer Bool) (others : List Triple) → a ≢ Says false → want_first a others ≡ want_of a ++ others
+first-wants (Says true) others other = refl
+first-wants (Says false) others other = absurd (other refl)
+first-wants (Wants t) others other = refl
+
+-- those before the first job that is refused are the scripts' wants
+end_wants : (known : Known) (places : List ℕ) (jobs : List Job) → length places ≡ length jobs → (end : ℕ) → IsEnd (length jobs) (verdict_at known jobs) end
+    → wants_below (verdict_at known jobs) end ≡ wants_of known (zip places (map question_of jobs))
+unfolding wants_below
+end_wants known [] [] even zero is = refl
+end_wants known [] [] even (suc end) is = let inside = is.inside in absurd (omega (arith, inside))
+end_wants known [] (j ∷ jobs) even end is = absurd (omega (arith, even))
+end_wants known (p ∷ places) [] even end is = absurd (omega (arith, even))
+end_wants known (p ∷ places) (j ∷ jobs) even zero is =
+    ap (λ a. want_first a (wants_of known (zip places (map question_of jobs)))) (sym (is.refused (omega arith)))
+end_wants known (p ∷ places) (j ∷ jobs) even (suc end) is =
+    let inside = is.inside in
+    let others : IsEnd (length jobs) (verdict_at known jobs) end = record {
+      inside = omega (arith, inside);
+      before = λ place low. is.before (suc place) (omega (arith, low));
+      refused = λ low. is.refused (omega (arith, low));
+    } in
+    below-first (verdict_at known (j ∷ jobs)) end
+    ∙ ap (λ (l : List Triple). want_of (verdict known (question_of j)) ++ l) (end_wants known places jobs (omega (arith, even)) end others)
+    ∙ sym (first-wants (verdict known (question_of j)) (wants_of known (zip places (map question_of jobs))) (is.before 0 (omega arith)))
+
+-- what is told of jobs is told of their scripts
 pub told_wanted : (known : Known) (places : List ℕ) (jobs : List Job) → length places ≡ length jobs → (told : Option (List Triple))
-    → IfSome told (AreTheWants (length jobs) (verdict_at known jobs)) → AreWanted (IsWantedAmong known (zip places (map question_of jobs))) told
+    → IfSome told (AreTheWants (length jobs) (verdict_at known jobs)) → IfSome told (AreWantedAmong known (zip places (map question_of jobs)))
 told_wanted known places jobs even None are = tt
-told_wanted known places jobs even (Some list) are = (
-  are.0,
-  subst (All (IsWantedAmong known (zip places (map question_of jobs)))) (sym are.3)
-      (all-wanted (IsWantedAmong known (zip places (map question_of jobs))) (verdict_at known jobs) are.1
-      (λ place t low e. wanted_at known places jobs even place t e (λ x below. are.2.before x (omega (arith, low, below))))),
-)
+told_wanted known places jobs even (Some list) are = (are.0, are.3 ∙ end_wants known places jobs even are.1 are.2)

@@ -2,7 +2,6 @@ pub mod Setting
 pub mod Turns
 pub mod Faults
 pub mod Scripts
-pub mod Stops
 pub mod Early
 pub mod Connecting
 pub mod inside

@@ -1,6 +1,5 @@
 -- The scripts of a block, which run last.
-use Rattle.std.specs.Prelude.{◌≡◌, ◌⊎◌, ℕ, List, [], ◌∷◌, map, Option, Some, None}
-use Rattle.std.proofs.Common.{◌≢◌, false}
+use Rattle.std.specs.Prelude.{◌≡◌, ◌⊎◌, ℕ, ◌<◌, Bool, true, false, List, [], ◌∷◌, length, map, Option, Some, None}
 use Rattle.std.specs.List.{flat_map, enumerate_from}
 use Rattle.txn.specs.declared.tx.Tx.{Tx}
 use Rattle.txn.specs.declared.reason.Reason.{Reason}
@@ -9,10 +8,10 @@ use Rattle.txn.specs.First.{first_broken}
 use Rattle.curve.specs.Known.{Known}
 use Rattle.curve.specs.Triple.{Triple, Triples}
 use Rattle.interp.specs.declared.flags.Flags.{Flags}
-use Rattle.interp.specs.Answer.{Says}
+use Rattle.interp.specs.Answer.{Answer, Says, Wants}
 use Rattle.interp.specs.computed.Step.{verdict}
 use Rattle.interp.specs.Question.{Question, question}
-use Rattle.queue.specs.Jobs.{IsAccepted, IsWanted}
+use Rattle.queue.specs.Jobs.{IsAccepted}
 use Rattle.coins.specs.declared.coin.Coin.{Coin}
 use Rattle.coins.specs.Coins.{Coins}
 use Rattle.rules.specs.declared.in_force.InForce.{InForce}
@@ -56,13 +55,22 @@ abbrev pub IsConnectFault : Setting → Coins → List Tx → Triples → Option
 IsConnectFault s m txs triples found =
     IsBefore (first_broken (connect_rules s m txs)) (IsFirstRefused triples (script_checks s m txs)) found
 
--- one of these scripts wants it, and none before that one is refused
-abbrev pub IsWantedAmong : Known → List Check → Triple → Type 0
-IsWantedAmong known [] t = ⊥
-IsWantedAmong known (check ∷ checks) t =
-    IsWanted known check.1 t ⊎ ((verdict known check.1 ≢ Says false) × IsWantedAmong known checks t)
+-- what one script wants, with what is wanted behind it: nothing where it is refused
+abbrev pub want_first : Answer Bool → List Triple → List Triple
+want_first (Says true) others = others
+want_first (Says false) others = []
+want_first (Wants t) others = t ∷ others
 
--- no other rule is broken, and a script of the block wants a signature of which nothing is known
-pub record IsWantedByBlock (s : Setting) (m : Coins) (txs : List Tx) (known : Known) (t : Triple) : Type 0 where
+-- all that these scripts want before the first that is refused, in their order
+abbrev pub wants_of : Known → List Check → List Triple
+wants_of known [] = []
+wants_of known (check ∷ checks) = want_first (verdict known check.1) (wants_of known checks)
+
+-- these are all of them, and there is one
+abbrev pub AreWantedAmong : Known → List Check → List Triple → Type 0
+AreWantedAmong known checks wanted = (0 < length wanted) × (wanted ≡ wants_of known checks)
+
+-- no other rule is broken, and these are all the signatures that scripts of the block want
+pub record AreWantedByBlock (s : Setting) (m : Coins) (txs : List Tx) (known : Known) (wanted : List Triple) : Type 0 where
   pub passes : first_broken (connect_rules s m txs) ≡ None
-  pub script : IsWantedAmong known (script_checks s m txs) t
+  pub scripts : AreWantedAmong known (script_checks s m txs) wanted

@@ -1,6 +1,6 @@
 //! Connecting a block.
 
-ghost use Rattle.std.specs.Prelude.{◌≡◌, ◌+ℤ◌, ◌≤◌, ◌≤ℤ◌, ◌^◌, neg_ℤ, pos, false, int_lt, IfOk, IfErr, OnOk, OnErr, None, length};
+ghost use Rattle.std.specs.Prelude.{◌≡◌, ◌+ℤ◌, ◌≤◌, ◌≤ℤ◌, ◌^◌, neg_ℤ, pos, false, int_lt, IfOk, IfErr, OnOk, OnErr, None, length, IfSome};
 ghost use Rattle.std.specs.List.{AllByRecursion, list_any, flat_map};
 ghost use Rattle.std.specs.Result.{result_err};
 ghost use Rattle.txn.specs.Check.{total};
@@ -12,9 +12,8 @@ ghost use Rattle.rules.specs.Alone.{max_block_sigops, alone_rules};
 ghost use Rattle.connect.specs.Setting.{setting};
 ghost use Rattle.connect.specs.Turns.{turns, effect};
 ghost use Rattle.connect.specs.Faults.{overwrites, fees, turn_rules, connect_rules};
-ghost use Rattle.connect.specs.Scripts.{IsConnectFault, IsWantedByBlock};
+ghost use Rattle.connect.specs.Scripts.{IsConnectFault, AreWantedByBlock};
 ghost use Rattle.connect.specs.Connecting.{IsConnected};
-ghost use Rattle.connect.specs.Stops.{AreWanted};
 ghost use Rattle.connect.specs.inside.Turns.{IsReason, IsLawful, PassInTurn, PassTogether};
 ghost use Rattle.curve.specs.Known.{Under};
 ghost use Rattle.connect.specs.declared.lookups.Lookup.TheVariants.{Above};
@@ -55,9 +54,8 @@ pub fn connect<B: Base, S: RunsScripts>(
     requires ids { ids.now ≡ ids_of block.now.txs }
     ensures fault { IfOk result (λ answer. Under (S.known env.now) (λ triples.
         IsConnectFault (setting context.now) cache.old.coins block.now.txs triples (result_err answer))) }
-    ensures stops { IfErr result (λ stop. AreWanted
-        (IsWantedByBlock (setting context.now) cache.old.coins block.now.txs (S.known env.now))
-        (S.told stop)) }
+    ensures stops { IfErr result (λ stop. IfSome (S.told stop)
+        (AreWantedByBlock (setting context.now) cache.old.coins block.now.txs (S.known env.now))) }
     ensures coins { IfOk result (λ answer. OnOk answer (cache.new ≡
         record cache.old { coins = effect context.now.height cache.old.coins block.now.txs })) }
     // With its undo it can be taken back by `disconnect`.
@@ -90,9 +88,8 @@ fn attempt<B: Base, S: RunsScripts>(
     requires ids { ids.now ≡ ids_of block.now.txs }
     ensures fault { IfOk result (λ answer. Under (S.known env.now) (λ triples.
         IsConnectFault (setting context.now) (B.coins base.now) block.now.txs triples (result_err answer))) }
-    ensures stops { IfErr result (λ stop. AreWanted
-        (IsWantedByBlock (setting context.now) (B.coins base.now) block.now.txs (S.known env.now))
-        (S.told stop)) }
+    ensures stops { IfErr result (λ stop. IfSome (S.told stop)
+        (AreWantedByBlock (setting context.now) (B.coins base.now) block.now.txs (S.known env.now))) }
     ensures sound { IfOk result (λ answer. IfOk answer (λ done.
         IsSound (B.coins base.now) done.1)) }
     ensures over { IfOk result (λ answer. IfOk answer (λ done. over (B.coins base.now) done.1 ≡
@@ -124,9 +121,8 @@ pub fn connect_in_layer<'b, B: Base, S: RunsScripts>(
     requires ids { ids.now ≡ ids_of block.now.txs }
     ensures fault { IfOk result (λ answer. Under (S.known env.now) (λ triples.
         IsConnectFault (setting context.now) layer.entry.coins block.now.txs triples (result_err answer))) }
-    ensures stops { IfErr result (λ stop. AreWanted
-        (IsWantedByBlock (setting context.now) layer.entry.coins block.now.txs (S.known env.now))
-        (S.told stop)) }
+    ensures stops { IfErr result (λ stop. IfSome (S.told stop)
+        (AreWantedByBlock (setting context.now) layer.entry.coins block.now.txs (S.known env.now))) }
     ensures coins { let m = layer.entry.coins in
         IfOk result (λ answer. IfOk answer (λ done. done.0 ≡
         record layer.entry { coins = effect context.now.height m block.now.txs })) }
@@ -153,9 +149,8 @@ fn connect_block<'b, B: Base, S: RunsScripts>(
     requires fresh { lookup ≡ Above → layer.coins ≡ layer.base }
     ensures fault { IfOk result (λ answer. Under (S.known env.now) (λ triples.
         IsConnectFault (setting context.now) layer.entry.coins block.now.txs triples (result_err answer))) }
-    ensures stops { IfErr result (λ stop. AreWanted
-        (IsWantedByBlock (setting context.now) layer.entry.coins block.now.txs (S.known env.now))
-        (S.told stop)) }
+    ensures stops { IfErr result (λ stop. IfSome (S.told stop)
+        (AreWantedByBlock (setting context.now) layer.entry.coins block.now.txs (S.known env.now))) }
     ensures coins { let m = layer.entry.coins in
         IfOk result (λ answer. IfOk answer (λ done. done.0 ≡
         record layer.entry { coins = effect context.now.height m block.now.txs })) }

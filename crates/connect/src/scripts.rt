@@ -5,8 +5,7 @@ ghost use Rattle.std.specs.List.{AllZip};
 ghost use Rattle.curve.specs.Known.{Under};
 ghost use Rattle.queue.specs.Jobs.{HasInput};
 ghost use Rattle.sighash.specs.Midstates.{AreOf};
-ghost use Rattle.connect.specs.Scripts.{flags_of, input_checks, IsFirstRefused, IsWantedAmong};
-ghost use Rattle.connect.specs.Stops.{AreWanted};
+ghost use Rattle.connect.specs.Scripts.{flags_of, input_checks, IsFirstRefused, AreWantedAmong};
 ghost use Rattle.connect.specs.inside.Listing.{checks_from, checks_in, IsEven};
 
 use crate::runs_scripts::RunsScripts;
@@ -42,8 +41,8 @@ pub(crate) fn first_refused<'a, S: RunsScripts>(
     requires few { sum_by (λ coins. length coins) undo.now ≤ 1000000 }
     ensures answer { IfOk result (λ found. Under (S.known env.now) (λ triples.
         IsFirstRefused triples (checks_from (flags_of rules) 1 txs.now undo.now) found)) }
-    ensures stops { IfErr result (λ stop. AreWanted (IsWantedAmong (S.known env.now)
-        (checks_from (flags_of rules) 1 txs.now undo.now)) (S.told stop)) }
+    ensures stops { IfErr result (λ stop. IfSome (S.told stop) (AreWantedAmong (S.known env.now)
+        (checks_from (flags_of rules) 1 txs.now undo.now))) }
 {
     let coins = SpentCoins { undo };
     let midstates = midstates(alloc, txs, &coins, env)?;

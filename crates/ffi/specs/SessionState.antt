@@ -1,5 +1,5 @@
 -- A chainstate with what is known of signatures.
-use Rattle.std.specs.Prelude.{◌≡◌, ℕ, ◌<◌, ◌⊎◌, Bool, List, [], length, All, Option, None, Some, if◌then◌else◌}
+use Rattle.std.specs.Prelude.{◌≡◌, ℕ, ◌⊎◌, Bool, List, [], Option, None, Some, if◌then◌else◌}
 use Rattle.std.specs.FinSet as set
 use Rattle.std.specs.FinMap as coin_map
 use Rattle.hash.specs.declared.id.Id.{Id}
@@ -12,7 +12,7 @@ use Rattle.chain.specs.Rules.{Rules}
 use Rattle.chain.specs.Regtest.{regtest}
 use Rattle.chain.specs.declared.command.Command.{Command}
 use Rattle.activate.specs.CoreState.{WithCoins, opened_core}
-use Rattle.activate.specs.Wants.{IsWantedByStep}
+use Rattle.activate.specs.Wants.{AreWantedByStep}
 
 pub record SessionState : Type 0 where
   pub chain : WithCoins
@@ -61,12 +61,11 @@ pub record KeepsRules (before after : SessionState) : Type 0 where
   pub triples : after.triples ≡ before.triples
 
 -- ---- a step that isn't taken
--- signatures have to be verified first: scripts of blocks that this step tries ask for each. All else stays
+-- signatures have to be verified first: all that scripts of a block that this step tries ask for. All else stays
 pub record IsWanting (before after : SessionState) (command : Command) : Type 0 where
   pub wanted : List Triple
   pub after_is : after ≡ record before { wanted = wanted }
-  pub some : 0 < length wanted
-  pub unknown : All (IsWantedByStep before.chain.core command (known_of before)) wanted
+  pub asked : AreWantedByStep before.chain.core command (known_of before) wanted
 
 -- or there was no memory
 abbrev pub IsNoStep : SessionState → SessionState → Command → ℕ → Type 0

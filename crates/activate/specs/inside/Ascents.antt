@@ -10,7 +10,7 @@ use Rattle.chain.specs.Rules.{Rules}
 use Rattle.chain.specs.Valid.{branch_connects}
 use Rattle.activate.specs.CoreState.{coins_after}
 use Rattle.activate.specs.inside.Keeping.{undo_at}
-use Rattle.activate.specs.Wants.{IsWantedAt}
+use Rattle.activate.specs.Wants.{AreWantedAt}
 use Rattle.curve.specs.Known.{Known}
 use Rattle.curve.specs.Triple.{Triple}
 use Rattle.rules.specs.declared.params.Params.{Params}
@@ -26,12 +26,12 @@ pub record LeadsUp (t : Blocks Block) (f : ℕ) (up : List ℕ) : Type 0 where
   pub shared : on t (top_of f up) f ≡ true
   pub all : up ≡ above t (top_of f up) f
 
--- a block above the fork f on the branch of p wants it
-pub record IsWantedAbove (params : Params) (t : Blocks Block) (f p : ℕ) (known : Known) (triple : Triple) : Type 0 where
+-- a block above the fork f on the branch of p wants them
+pub record AreWantedAbove (params : Params) (t : Blocks Block) (f p : ℕ) (known : Known) (list : List Triple) : Type 0 where
   pub place : ℕ
   pub above : f < place
   pub there : on t p place ≡ true
-  pub wanted : IsWantedAt params t known place triple
+  pub wanted : AreWantedAt params t known place list
 
 -- each of these blocks, the highest first, connects: what they spend, the lowest first, and which coins they leave
 pub record IsTop (r : Rules Block Id) (t : Blocks Block) (f : ℕ) (up : List ℕ) (undo : List (List (List Coin))) (coins : Coins) : Type 0 where

@@ -19,7 +19,7 @@ use Rattle.chain.specs.Valid.{fault, branch_connects}
 use Rattle.chain.specs.Faults.{IsFirstFault}
 use Rattle.activate.specs.CoreState.{coins_after}
 use Rattle.activate.specs.inside.Keeping.{undo_at}
-use Rattle.activate.specs.Wants.{IsWantedAt}
+use Rattle.activate.specs.Wants.{AreWantedAt}
 use Rattle.curve.specs.Known.{Known}
 use Rattle.curve.specs.Triple.{Triple}
 use Rattle.rules.specs.declared.params.Params.{Params}
@@ -34,12 +34,12 @@ pub record WasConnected (t : Blocks Block) (p : ℕ) : Type 0 where
 abbrev pub AreConnected : Blocks Block → ℕ → Type 0
 AreConnected t p = (x : ℕ) → 0 < x → on t p x ≡ true → WasConnected t x
 
--- a block on the branch of p, but not on that of a, wants it
-pub record IsWantedOnWay (params : Params) (t : Blocks Block) (a p : ℕ) (known : Known) (triple : Triple) : Type 0 where
+-- a block on the branch of p, but not on that of a, wants them
+pub record AreWantedOnWay (params : Params) (t : Blocks Block) (a p : ℕ) (known : Known) (list : List Triple) : Type 0 where
   pub place : ℕ
   pub there : on t p place ≡ true
   pub apart : on t a place ≡ false
-  pub wanted : IsWantedAt params t known place triple
+  pub wanted : AreWantedAt params t known place list
 
 -- from the active block at a to the block at p: down to the last block that their branches share, and up from there
 pub record IsPath (t : Blocks Block) (a p : ℕ) (path : BranchPath) : Type 0 where

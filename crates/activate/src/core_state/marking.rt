@@ -1,14 +1,13 @@
 //! What `invalidate`, `reconsider` and `precious` do.
 
-ghost use Rattle.std.specs.Prelude.{◌≡◌, ◌<◌, ◌≤◌, IfOk, OnErr, OnOk, Some, length, if◌then◌else◌, IfErr, None};
+ghost use Rattle.std.specs.Prelude.{◌≡◌, ◌<◌, ◌≤◌, IfOk, OnErr, OnOk, Some, length, if◌then◌else◌, IfErr, None, IfSome};
 ghost use Rattle.tree.specs.State.{with_call, without_marks, with_mark, has_no_mark};
 ghost use Rattle.chain.specs.Regtest.{regtest};
 ghost use Rattle.chain.specs.Settle.{settle};
 ghost use Rattle.chain.specs.Step.{Invalidate, Reconsider, Precious, mark_says, step};
 ghost use Rattle.chain.specs.declared.reply.MarkReply.TheVariants.{Done};
 ghost use Rattle.activate.specs.CoreState.{CoreState, Follows, coins_of};
-ghost use Rattle.activate.specs.Wants.{IsWantedBy, IsWantedToSettle};
-ghost use Rattle.connect.specs.Stops.{AreWanted};
+ghost use Rattle.activate.specs.Wants.{AreWantedBy, AreWantedToSettle};
 ghost use Rattle.activate.specs.inside.Preparation.{CanTry, FlagsFit, IsPreparationFor, with_flags};
 ghost use Rattle.curve.specs.Known.{Under};
 
@@ -42,8 +41,8 @@ impl Core {
             self.old.state (Invalidate id.now))
             self.new prepared)) }
         ensures err { OnErr result (self.new ≡ self.old) }
-        ensures wants { IfErr result (λ stop. AreWanted
-            (IsWantedBy self.old (Invalidate id.now) (S.known env.now)) (S.told stop)) }
+        ensures wants { IfErr result (λ stop. IfSome (S.told stop)
+            (AreWantedBy self.old (Invalidate id.now) (S.known env.now))) }
     {
         let place = match self.tree.find(id) {
             None => return Ok(still(alloc, Reply::Mark(MarkReply::NotFound))),
@@ -72,8 +71,8 @@ impl Core {
             self.old.state (Reconsider id.now))
             self.new prepared)) }
         ensures err { OnErr result (self.new ≡ self.old) }
-        ensures wants { IfErr result (λ stop. AreWanted
-            (IsWantedBy self.old (Reconsider id.now) (S.known env.now)) (S.told stop)) }
+        ensures wants { IfErr result (λ stop. IfSome (S.told stop)
+            (AreWantedBy self.old (Reconsider id.now) (S.known env.now))) }
     {
         let Some(place) = self.tree.find(id) else {
             return Ok(still(alloc, Reply::Mark(MarkReply::NotFound)));
@@ -136,8 +135,8 @@ impl Core {
         ensures err { OnErr result
             (self.new
             ≡ record self.old { state = with_flags (Some flags) self.old.state }) }
-        ensures wants { IfErr result (λ stop. AreWanted
-            (IsWantedToSettle self.old (S.known env.now)) (S.told stop)) }
+        ensures wants { IfErr result (λ stop. IfSome (S.told stop)
+            (AreWantedToSettle self.old (S.known env.now))) }
     {
         match self.settle_rest(alloc, base, env, gate) {
             Ok((place, found)) => Ok(Prepared {
@@ -174,8 +173,8 @@ impl Core {
             self.old.state (Precious id.now))
             self.new prepared)) }
         ensures err { OnErr result (self.new ≡ self.old) }
-        ensures wants { IfErr result (λ stop. AreWanted
-            (IsWantedBy self.old (Precious id.now) (S.known env.now)) (S.told stop)) }
+        ensures wants { IfErr result (λ stop. IfSome (S.told stop)
+            (AreWantedBy self.old (Precious id.now) (S.known env.now))) }
     {
         let Some(place) = self.tree.find(id) else {
             return Ok(still(alloc, Reply::Mark(MarkReply::NotFound)));

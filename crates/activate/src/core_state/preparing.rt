@@ -1,6 +1,6 @@
 //! What a command does, found out before anything is changed.
 
-ghost use Rattle.std.specs.Prelude.{◌≡◌, ℕ, ◌≤◌, ◌<◌, [], IfOk, None, Some, OnOk, OnErr, suc, length, vec_capacity, IfErr};
+ghost use Rattle.std.specs.Prelude.{◌≡◌, ℕ, ◌≤◌, ◌<◌, [], IfOk, None, Some, OnOk, OnErr, suc, length, vec_capacity, IfErr, IfSome};
 ghost use Rattle.hash.specs.declared.id.Id.{Id};
 ghost use Rattle.block.specs.declared.block.Block.{Block};
 ghost use Rattle.tree.specs.Branches.{place_of};
@@ -16,8 +16,7 @@ ghost use Rattle.chain.specs.Faults.{IsNew};
 ghost use Rattle.chain.specs.Step.{Submit, step};
 ghost use Rattle.chain.specs.Submission.{answer_known};
 ghost use Rattle.activate.specs.CoreState.{Follows, coins_of};
-ghost use Rattle.activate.specs.Wants.{IsWantedBy, IsWantedByStep, IsWantedToSettle};
-ghost use Rattle.connect.specs.Stops.{AreWanted};
+ghost use Rattle.activate.specs.Wants.{AreWantedBy, AreWantedByStep, AreWantedToSettle};
 ghost use Rattle.activate.specs.inside.Preparation.{IsPreparation, IsPreparationFor, ChangesNothing};
 ghost use Rattle.curve.specs.Known.{Under};
 
@@ -75,8 +74,8 @@ impl Core {
             Under (S.known env.now) (λ triples. IsPreparation (regtest self.old.params triples) self.old
             (command_of command.now) self.new prepared)) }
         ensures err { OnErr result (self.new ≡ self.old) }
-        ensures wants { IfErr result (λ stop. AreWanted
-            (IsWantedByStep self.old (command_of command.now) (S.known env.now)) (S.told stop)) }
+        ensures wants { IfErr result (λ stop. IfSome (S.told stop)
+            (AreWantedByStep self.old (command_of command.now) (S.known env.now))) }
     {
         match command {
             PreparedCommand::Submit(submission, now) => match submission.block() {
@@ -115,9 +114,8 @@ impl Core {
             self.old.state (Submit now submitted.now.block))
             self.new prepared)) }
         ensures err { OnErr result (self.new ≡ self.old) }
-        ensures wants { IfErr result (λ stop. AreWanted
-            (IsWantedBy self.old (Submit now submitted.now.block) (S.known env.now))
-            (S.told stop)) }
+        ensures wants { IfErr result (λ stop. IfSome (S.told stop)
+            (AreWantedBy self.old (Submit now submitted.now.block) (S.known env.now))) }
     {
         if let Some(place) = self.tree.find(&submitted.id) {
             return Ok(still(alloc, Reply::Submit(self.known(place))));
@@ -173,9 +171,9 @@ impl Core {
             self.old.state (Submit now submitted.now.block))
             self.new prepared)) }
         ensures err { OnErr result (self.new ≡ self.old) }
-        ensures wants { let c = self.old in IfErr result (λ stop. AreWanted
-            (IsWantedToSettle (record c { state = with_block c.state submitted.now.block c.active })
-            (S.known env.now)) (S.told stop)) }
+        ensures wants { let c = self.old in IfErr result (λ stop. IfSome (S.told stop)
+            (AreWantedToSettle (record c { state = with_block c.state submitted.now.block c.active })
+            (S.known env.now))) }
     {
         let height = self.tree.height(self.active);
         let context = Context {
@@ -242,9 +240,9 @@ impl Core {
             self.old.state (Submit now submitted.now.block))
             self.new prepared)) }
         ensures err { OnErr result (self.new ≡ self.old) }
-        ensures wants { let c = self.old in IfErr result (λ stop. AreWanted
-            (IsWantedToSettle (record c { state = with_block c.state submitted.now.block parent })
-            (S.known env.now)) (S.told stop)) }
+        ensures wants { let c = self.old in IfErr result (λ stop. IfSome (S.told stop)
+            (AreWantedToSettle (record c { state = with_block c.state submitted.now.block parent })
+            (S.known env.now))) }
     {
         let place = self.add(bytes, submitted, parent)?;
         if !self.tree.better(place, self.active) {

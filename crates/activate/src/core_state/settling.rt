@@ -1,6 +1,6 @@
 //! Tries of one block after the other, until the best that is left is valid.
 
-ghost use Rattle.std.specs.Prelude.{ℕ, ◌≡◌, ◌≤◌, ◌<◌, length, IfOk, OnErr, IfErr, None};
+ghost use Rattle.std.specs.Prelude.{ℕ, ◌≡◌, ◌≤◌, ◌<◌, length, IfOk, OnErr, IfErr, None, IfSome};
 ghost use Rattle.tree.specs.Sound.{IsBest};
 ghost use Rattle.tree.specs.State.{has_no_mark};
 ghost use Rattle.hash.specs.declared.id.Id.{Id};
@@ -11,9 +11,8 @@ ghost use Rattle.chain.specs.Try.{state_after_try};
 ghost use Rattle.chain.specs.Submission.{answer_added};
 ghost use Rattle.chain.specs.Regtest.{regtest};
 ghost use Rattle.activate.specs.CoreState.{coins_of};
-ghost use Rattle.activate.specs.Wants.{IsWantedToSettle};
-ghost use Rattle.connect.specs.Stops.{AreWanted};
-ghost use Rattle.activate.specs.inside.Paths.{FailsAt, IsAttempt, IsWantedOnWay};
+ghost use Rattle.activate.specs.Wants.{AreWantedToSettle};
+ghost use Rattle.activate.specs.inside.Paths.{FailsAt, IsAttempt, AreWantedOnWay};
 ghost use Rattle.activate.specs.inside.Preparation.{CanFlag, CanTry, HasOtherFlags, TryLeads, Settles, reply_to_failed_try};
 ghost use Rattle.curve.specs.Known.{Under};
 
@@ -63,8 +62,8 @@ impl Core {
             (settle (regtest self.old.params triples) self.old.state)
             place)) }
         ensures err { OnErr result (self.new ≡ self.old) }
-        ensures wants { IfErr result (λ stop. AreWanted
-            (IsWantedToSettle self.old (S.known env.now)) (S.told stop)) }
+        ensures wants { IfErr result (λ stop. IfSome (S.told stop)
+            (AreWantedToSettle self.old (S.known env.now))) }
     {
         match self.try_block(alloc, base, place, env, gate)? {
             Attempt::Succeeds(found) => Ok(Settled {
@@ -103,8 +102,8 @@ impl Core {
             (settle (regtest self.old.params triples) self.old.state)
             place)) }
         ensures err { OnErr result (self.new ≡ self.old) }
-        ensures wants { IfErr result (λ stop. AreWanted
-            (IsWantedToSettle self.old (S.known env.now)) (S.told stop)) }
+        ensures wants { IfErr result (λ stop. IfSome (S.told stop)
+            (AreWantedToSettle self.old (S.known env.now))) }
     {
         let flags = self.tree.flags(alloc)?;
         self.flag(&failed);
@@ -137,8 +136,8 @@ impl Core {
             Under (S.known env.now) (λ triples. TryLeads (regtest self.old.params triples) self.old self.new
             found.0 found.1)) }
         ensures flags { HasOtherFlags self.old self.new }
-        ensures wants { IfErr result (λ stop. AreWanted
-            (IsWantedToSettle self.old (S.known env.now)) (S.told stop)) }
+        ensures wants { IfErr result (λ stop. IfSome (S.told stop)
+            (AreWantedToSettle self.old (S.known env.now))) }
     {
         'tries: loop {
             let place = self.tree.best_usable();
@@ -173,9 +172,9 @@ impl Core {
         ensures attempt { IfOk result (λ attempt.
             Under (S.known env.now) (λ triples. IsAttempt (regtest self.now.params triples) self.now.state.blocks
             self.now.active place attempt)) }
-        ensures wants { IfErr result (λ stop. AreWanted
-            (IsWantedOnWay self.now.params self.now.state.blocks self.now.active place
-            (S.known env.now)) (S.told stop)) }
+        ensures wants { IfErr result (λ stop. IfSome (S.told stop)
+            (AreWantedOnWay self.now.params self.now.state.blocks self.now.active place
+            (S.known env.now))) }
     {
         let active_branch = ActiveBranch {
             tree: &self.tree,

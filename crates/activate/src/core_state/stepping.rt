@@ -1,13 +1,12 @@
 //! A command over lent coins.
 
-ghost use Rattle.std.specs.Prelude.{OnOk, ◌≡◌, IfErr, IfOk, OnErr};
+ghost use Rattle.std.specs.Prelude.{OnOk, ◌≡◌, IfErr, IfOk, OnErr, IfSome};
 ghost use Rattle.coins.specs.Changes.{AreChanges, after_changes};
 ghost use Rattle.chain.specs.Commands.{outcome};
 ghost use Rattle.chain.specs.Prepared.{command_of};
 ghost use Rattle.chain.specs.Regtest.{regtest};
 ghost use Rattle.activate.specs.CoreState.{Follows, KeepsUndo, coins_of};
-ghost use Rattle.activate.specs.Wants.{IsWantedByStep};
-ghost use Rattle.connect.specs.Stops.{AreWanted};
+ghost use Rattle.activate.specs.Wants.{AreWantedByStep};
 ghost use Rattle.curve.specs.Known.{Under};
 
 use crate::active_branch::MOST_UNDO;
@@ -41,8 +40,8 @@ impl Core {
         ensures laid { IfOk result (λ done.
             after_changes (coins_of self.old) done.1 ≡ coins_of self.new) }
         // There is one at least: no verdict on it is known, and a block that this step tries asks for it.
-        ensures wants { IfErr result (λ stop. AreWanted
-            (IsWantedByStep self.old (command_of command.now) (S.known env.now)) (S.told stop)) }
+        ensures wants { IfErr result (λ stop. IfSome (S.told stop)
+            (AreWantedByStep self.old (command_of command.now) (S.known env.now))) }
         ensures params { self.new.params ≡ self.old.params }
         // Of the blocks that became active undo is kept too, and of none that was taken back.
         ensures undo { OnOk result (KeepsUndo self.old self.new) }

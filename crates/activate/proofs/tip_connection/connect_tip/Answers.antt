@@ -3,7 +3,7 @@ use Rattle.std.specs.Result.{result_err}
 use Rattle.txn.specs.declared.reason.Reason.{Reason}
 use Rattle.coins.specs.Coins.{Coins}
 use Rattle.connect.specs.Setting.{setting}
-use Rattle.connect.specs.Scripts.{IsConnectFault, IsWantedByBlock}
+use Rattle.connect.specs.Scripts.{IsConnectFault, AreWantedByBlock}
 use Rattle.connect.specs.laws.Scripts.{fault-found}
 use Rattle.std.proofs.lemmas.Result.{err_from_is_err_and}
 use Rattle.connect.specs.laws.Stops.{wanted_weaker}
@@ -31,5 +31,5 @@ returns-in_err-reason-clause-wants g c =
     let s = setting c.args.context.now in
     let txs = c.args.block.now.txs in
     let known = g.S.RunsScripts.known c.args.env.now in
-    rw (passed.1, passed.2) (wanted_weaker (IsWantedByBlock s c.over-layer.result.coins txs known) (IsWantedByBlock s (g.B.Base.coins c.args.base.now) txs known)
-    (λ triple w. subst (λ (m : Coins). IsWantedByBlock s m txs known triple) c.over-layer.ensures.coins w) _ c.in_err-reason.ensures.stops)
+    rw (passed.1, passed.2) (wanted_weaker (AreWantedByBlock s c.over-layer.result.coins txs known) (AreWantedByBlock s (g.B.Base.coins c.args.base.now) txs known)
+    (λ triple w. subst (λ (m : Coins). AreWantedByBlock s m txs known triple) c.over-layer.ensures.coins w) _ c.in_err-reason.ensures.stops)

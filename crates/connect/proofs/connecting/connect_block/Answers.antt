@@ -13,7 +13,7 @@ use Rattle.rules.specs.declared.in_force.InForce.{InForce}
 use Rattle.connect.specs.Setting.{Setting, setting}
 use Rattle.connect.specs.Turns.{undo_of}
 use Rattle.connect.specs.Faults.{connect_rules}
-use Rattle.connect.specs.Scripts.{Check, flags_of, IsConnectFault, IsFirstRefused, IsWantedAmong, IsWantedByBlock}
+use Rattle.connect.specs.Scripts.{Check, flags_of, IsConnectFault, IsFirstRefused, AreWantedAmong, AreWantedByBlock}
 use Rattle.connect.specs.inside.Listing.{checks_from}
 use Rattle.connect.specs.inside.Turns.{IsLawful}
 use Rattle.connect.specs.laws.Alone.{lawful_block}
@@ -87,8 +87,8 @@ returns-in_err-reason-in-Ok-clause-stops g c =
     let l = listed s m c.args.block.now _ c.in-Ok.undo (lawful_block c.args.block.now c.requires.alone) c.as_slice-in-Ok.ensures undo in
     let passed = err_from_is_err_and c.from_residual.result c.from_residual.ensures.1 in
     let known = g.S.RunsScripts.known c.args.env.now in
-    let wants : (t : Triple) → IsWantedAmong known (checks_from (flags_of c.at-rules.result) 1 (take (length c.as_slice-in-Ok.result.now - 1) (drop 1 c.as_slice-in-Ok.result.now)) c.in-Ok.undo) t → IsWantedByBlock s m c.args.block.now.txs known t = λ t wanted. record {
+    let wants : (list : List Triple) → AreWantedAmong known (checks_from (flags_of c.at-rules.result) 1 (take (length c.as_slice-in-Ok.result.now - 1) (drop 1 c.as_slice-in-Ok.result.now)) c.in-Ok.undo) list → AreWantedByBlock s m c.args.block.now.txs known list = λ list wanted. record {
       passes = ap (λ (l : List Tx). first_broken (connect_rules s m l)) (sym c.as_slice.ensures) ∙ c.in-Ok.ensures.pass.none;
-      script = subst (λ (k : List Check). IsWantedAmong known k t) (l.checks _ c.at-rules.ensures) wanted;
+      scripts = subst (λ (k : List Check). AreWantedAmong known k list) (l.checks _ c.at-rules.ensures) wanted;
     } in
     rw (passed.1, passed.2) (wanted_weaker _ _ wants _ c.in_err-reason-in-Ok.ensures.stops)

@@ -11,8 +11,7 @@ use Rattle.queue.specs.laws.Failing.{IsFirstFailure}
 use Rattle.queue.specs.Jobs.{verdict_at}
 use Rattle.queue.specs.Telling.{AreTheWants}
 use Rattle.queue.specs.laws.Failing.{first-under}
-use Rattle.connect.specs.Stops.{AreWanted}
-use Rattle.connect.specs.Scripts.{Check, flags_of, IsFirstRefused, IsWantedAmong}
+use Rattle.connect.specs.Scripts.{Check, flags_of, IsFirstRefused, AreWantedAmong}
 use Rattle.connect.specs.inside.Listing.{checks_from, checks_in}
 use Rattle.connect.proofs.Checks.{none_refused, first_refused_is, below_of, told_wanted}
 use Rattle.connect.proofs.Numbers.{numbered}
@@ -71,6 +70,6 @@ returns-in_err-found-clause-stops g c =
     let all : checks_in checks ≡ checks_from (flags_of c.args.rules) 1 c.args.txs.now c.args.undo.now = c.in_ok-checks.ensures.checks_from ∙ ap (λ (f : Flags). checks_from f 1 c.args.txs.now c.args.undo.now) c.flags_of.ensures in
     let passed = err_from_is_err_and c.from_residual-in_err-found.result c.from_residual-in_err-found.ensures.1 in
     let told = g.S.RunsScripts.told c.in_err-found.field-0.0 in
-    rw (passed.1, passed.2) (subst (λ (l : List Check). AreWanted (IsWantedAmong known l) told) all
+    rw (passed.1, passed.2) (subst (λ (l : List Check). IfSome told (AreWantedAmong known l)) all
     (told_wanted known checks.places.items checks.jobs.items c.in_ok-checks.ensures.even told
     (subst (λ (l : List Job). IfSome told (AreTheWants (length l) (verdict_at known l))) c.deref-2.ensures.value c.in_err-found.ensures)))

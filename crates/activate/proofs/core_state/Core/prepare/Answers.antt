@@ -1,3 +1,4 @@
+use Rattle.std.specs.Prelude.{IfSome}
 use Rattle.std.proofs.Common.{◌≡◌, ℕ, List, Option, Some, None, sym, ap, ◌∙◌, subst}
 use Rattle.std.specs.Option.{option_copied}
 use Rattle.block.specs.Decoding.{block_of_bytes}
@@ -15,12 +16,11 @@ use Rattle.chain.specs.laws.Outcomes.{submitted, refused, invalidates, reconside
 use Rattle.activate.proofs.Planned.{if_ok, plan-still}
 use Rattle.curve.specs.Known.{Known}
 use Rattle.curve.specs.Triple.{Triple}
-use Rattle.connect.specs.Stops.{AreWanted}
 use Rattle.connect.specs.laws.Stops.{wanted_weaker}
 use Rattle.chain.specs.declared.command.Command.{Command}
 use Rattle.chain.specs.declared.command.Command.TheVariants as command
 use Rattle.chain.specs.Step.{Submit}
-use Rattle.activate.specs.Wants.{IsWantedBy, IsWantedByStep}
+use Rattle.activate.specs.Wants.{AreWantedBy, AreWantedByStep}
 use Rattle.activate.proofs.Wanted.{if_err}
 use Rattle.activate.proofs.core_state.Core.prepare.Goals as goal
 
@@ -60,8 +60,8 @@ returns-in-Precious-clause-prepared g c =
     if_ok c.prepare_precious.result (λ (prepared : Prepared) x triples agrees. let r = regtest a.params triples in subst (λ t. IsPreparationFor r a t c.prepare_precious.new.self prepared) (prefers r a.state c.in-Precious.id ∙ ap (λ k. outcome r a.state (command_of k)) (sym c.in-Precious.is)) (x triples agrees)) c.prepare_precious.ensures.prepared
 
 -- what a request wants is wanted by the command
-wanted_step : (a : CoreState) (known : Known) (command same : Command) (told : Option (List Triple)) → command ≡ same → AreWanted (IsWantedByStep a command known) told → AreWanted (IsWantedByStep a same known) told
-wanted_step a known command same told e are = subst (λ k. AreWanted (IsWantedByStep a k known) told) e are
+wanted_step : (a : CoreState) (known : Known) (command same : Command) (told : Option (List Triple)) → command ≡ same → IfSome told (AreWantedByStep a command known) → IfSome told (AreWantedByStep a same known)
+wanted_step a known command same told e are = subst (λ k. IfSome told (AreWantedByStep a k known)) e are
 
 pub returns-in-Some-clause-wants : goal.returns-in-Some-clause-wants
 returns-in-Some-clause-wants g c =
@@ -70,7 +70,7 @@ returns-in-Some-clause-wants g c =
     let b = c.in-Some.submitted.now.block in
     let e : block_of_bytes c.in-Submit.submission ≡ Some b = (told c.in-Submit.submission _ _ c.block.ensures (ap option_copied c.in-Some.is)).0 in
     if_err c.prepare_block.result (λ stop are. wanted_step a known _ _ (g.S.RunsScripts.told stop) (ap command_of (sym c.in-Submit.is))
-    (wanted_weaker (IsWantedBy a (Submit c.in-Submit.now b) known) (IsWantedByStep a (command.Submit c.in-Submit.submission c.in-Submit.now) known) (λ t w. (b, e, w)) (g.S.RunsScripts.told stop) are)) c.prepare_block.ensures.wants
+    (wanted_weaker (AreWantedBy a (Submit c.in-Submit.now b) known) (AreWantedByStep a (command.Submit c.in-Submit.submission c.in-Submit.now) known) (λ t w. (b, e, w)) (g.S.RunsScripts.told stop) are)) c.prepare_block.ensures.wants
 
 pub returns-in-Invalidate-clause-wants : goal.returns-in-Invalidate-clause-wants
 returns-in-Invalidate-clause-wants g c =

@@ -1,3 +1,4 @@
+use Rattle.std.specs.Prelude.{IfSome}
 use Rattle.std.proofs.Common.{◌≡◌, ℕ, suc, ◌<◌, ◌≤◌, Bool, true, false, length, Option, None, refl, sym, ap, subst, ◌∙◌, arith}
 use Rattle.std.specs.Option.{unwrap_or}
 use Rattle.curve.specs.Triple.{Triples}
@@ -24,8 +25,7 @@ use Rattle.activate.specs.CoreState.{CoreState, Follows, coins_of}
 use Rattle.chain.specs.laws.Steps.{faultless-alone, faultless-parent, step-added, step-beside}
 use Rattle.activate.proofs.Plans.{can-follows}
 use Rattle.activate.proofs.Planned.{best-added, can-added, coins-added, fresh-back, plan-beside, plan-settled, says-added}
-use Rattle.connect.specs.Stops.{AreWanted}
-use Rattle.activate.specs.Wants.{IsWantedToSettle}
+use Rattle.activate.specs.Wants.{AreWantedToSettle}
 use Rattle.activate.proofs.core_state.Core.prepare_beside.Goals as goal
 
 -- a new block on the block p, in a chainstate that follows its commands
@@ -163,4 +163,4 @@ pub returns-in-Err-clause-wants : goal.returns-in-Err-clause-wants
 returns-in-Err-clause-wants g c =
     let known = g.S.RunsScripts.known c.args.env.now in
     let told = g.S.RunsScripts.told c.in-Err.stop in
-    subst (λ (x : CoreState). AreWanted (IsWantedToSettle x known) told) c.in_ok-place.ensures.ok c.in-Err.ensures.wants
+    subst (λ (x : CoreState). IfSome told (AreWantedToSettle x known)) c.in_ok-place.ensures.ok c.in-Err.ensures.wants

@@ -24,7 +24,7 @@ use Rattle.activate.proofs.Plans.{can-follows}
 use Rattle.chain.specs.laws.Steps.{faultless-alone}
 use Rattle.activate.proofs.Tips.{fault-tip, plan-fails, plan-moves, setting-tip}
 use Rattle.connect.specs.laws.Stops.{wanted_weaker}
-use Rattle.activate.specs.Wants.{IsWantedAt}
+use Rattle.activate.specs.Wants.{AreWantedAt}
 use Rattle.chain.specs.laws.Ordinary.{best-tip}
 use Rattle.activate.proofs.Planned.{can-added}
 use Rattle.activate.proofs.Wanted.{wanted_new, wanted_tip}
@@ -151,6 +151,6 @@ returns-in_err-connected-clause-wants g c =
     let can = can-follows r a follows.sound follows.kept follows.active_is in
     can-added r a follows.sound b a.active can (faultless-alone r a.state c.requires.new.0 b is.faultless) can.kept is.unknown is.parent)
     (best-tip (regtest a.params set) a.state (c.requires.follows set agrees).sound b a.active (c.requires.follows set agrees).active_is) _
-    (wanted_weaker (IsWantedAt c.self.inside.params (with_block c.self.inside.tree b p).blocks known m) (IsWantedAt a.params (with_block a.state b a.active).blocks known n)
-    (λ triple w. subst (λ (x : CoreState). IsWantedAt x.params (with_block x.state b x.active).blocks known (suc (length x.state.blocks)) triple) c.self.view_is w) _
+    (wanted_weaker (AreWantedAt c.self.inside.params (with_block c.self.inside.tree b p).blocks known m) (AreWantedAt a.params (with_block a.state b a.active).blocks known n)
+    (λ triple w. subst (λ (x : CoreState). AreWantedAt x.params (with_block x.state b x.active).blocks known (suc (length x.state.blocks)) triple) c.self.view_is w) _
     (wanted_new c.self.inside.params known c.self.inside.tree b p c.self.invariant.0 _ _ place coins _ c.in_err-connected.ensures.wants)))

@@ -1,5 +1,5 @@
 use Rattle.std.proofs.Common.{◌≡◌, ℕ, ◌<◌, ◌≤◌, Bool, length, Some, None, refl, sym, ap, subst, ◌∙◌, arith}
-use Rattle.std.specs.Prelude.{if◌then◌else◌}
+use Rattle.std.specs.Prelude.{IfSome, if◌then◌else◌}
 use Rattle.tree.specs.Branches.{height, place_of}
 use Rattle.tree.specs.Names.{names}
 use Rattle.tree.specs.State.{with_call, has_no_mark}
@@ -18,8 +18,7 @@ use Rattle.chain.specs.laws.Steps.{step_not-found}
 use Rattle.activate.proofs.Plans.{can-follows}
 use Rattle.activate.proofs.Planned.{best-called, can-called, plan-settled, plan-still}
 use Rattle.chain.specs.laws.Findings.{prefer_done, prefer_lower}
-use Rattle.connect.specs.Stops.{AreWanted}
-use Rattle.activate.specs.Wants.{IsWantedToSettle}
+use Rattle.activate.specs.Wants.{AreWantedToSettle}
 use Rattle.activate.proofs.Wanted.{wanted_by}
 use Rattle.activate.proofs.core_state.Core.prepare_precious.Goals as goal
 
@@ -116,4 +115,4 @@ returns-in-Err-clause-wants g c =
     let high : height a.state.blocks a.active ≤ height a.state.blocks p = subst (λ (x : CoreState). height x.state.blocks x.active ≤ height x.state.blocks p) c.self.view_is inside in
     let known = g.S.RunsScripts.known c.args.env.now in
     let told = g.S.RunsScripts.told c.in-Err.stop in
-    wanted_by a (Precious c.args.id.now) known (with_call a.state p) (p, found, high, refl) told (subst (λ (x : CoreState). AreWanted (IsWantedToSettle x known) told) c.in_ok-call.ensures.ok c.in-Err.ensures.wants)
+    wanted_by a (Precious c.args.id.now) known (with_call a.state p) (p, found, high, refl) told (subst (λ (x : CoreState). IfSome told (AreWantedToSettle x known)) c.in_ok-call.ensures.ok c.in-Err.ensures.wants)

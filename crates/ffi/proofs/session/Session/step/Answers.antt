@@ -1,12 +1,12 @@
-use Rattle.std.proofs.Common.{◌≡◌, List, All, inl, refl, sym, ap, subst, ◌∙◌}
+use Rattle.std.specs.Prelude.{IfSome}
+use Rattle.std.proofs.Common.{◌≡◌, List, inl, refl, sym, ap, subst, ◌∙◌}
 use Rattle.block.specs.declared.block.Block.{Block}
 use Rattle.curve.specs.Known.{Known, Agrees}
 use Rattle.curve.specs.Triple.{Triple}
 use Rattle.queue.specs.declared.undecided.Undecided.TheVariants.{Unknown}
-use Rattle.connect.specs.Stops.{AreWanted}
 use Rattle.queue.specs.Jobs.{told_by}
 use Rattle.activate.specs.CoreState.{CoreState, WithCoins}
-use Rattle.activate.specs.Wants.{IsWantedByStep}
+use Rattle.activate.specs.Wants.{AreWantedByStep}
 use Rattle.chain.specs.Prepared.{command_of}
 use Rattle.chain.specs.Commands.{outcome}
 use Rattle.chain.specs.Submission.{Outcome}
@@ -38,17 +38,16 @@ returns-clause-refused c =
     let signatures = c.self.inside.signatures in
     let items = c.in-Err-Unknown.unknown.items in
     let chain = c.self.inside.chain in
-    let told : AreWanted (IsWantedByStep chain.core c.args.command.now (known_in signatures)) (told_by (Unknown c.in-Err-Unknown.unknown)) =
-    subst (λ k. AreWanted (IsWantedByStep chain.core k (known_in signatures)) (told_by (Unknown c.in-Err-Unknown.unknown))) c.in-Ok.ensures
-    (subst (λ stop. AreWanted (IsWantedByStep chain.core (command_of c.in-Ok.command) (known_in signatures)) (told_by stop)) c.in-Err-Unknown.field-0-is c.in-Err-Unknown.ensures.wants) in
+    let told : AreWantedByStep chain.core c.args.command.now (known_in signatures) items =
+    subst (λ k. AreWantedByStep chain.core k (known_in signatures) items) c.in-Ok.ensures
+    (subst (λ stop. IfSome (told_by stop) (AreWantedByStep chain.core (command_of c.in-Ok.command) (known_in signatures))) c.in-Err-Unknown.field-0-is c.in-Err-Unknown.ensures.wants) in
     let knows : known_in signatures ≡ known_of c.args.self.now = sym (ap known_of (sym c.self.view_is) ∙ known-same signatures c.self.inside.chain c.self.inside.wanted.items) in
     inl (
       refl,
       record {
         wanted = items;
         after_is = ap (wanting signatures items) c.in-Err-Unknown.ensures.err ∙ ap (λ (x : SessionState). record x { wanted = items }) c.self.view_is;
-        some = told.0;
-        unknown = subst (λ (x : CoreState). All (IsWantedByStep x c.args.command.now (known_of c.args.self.now)) items) (ap (λ (x : SessionState). x.chain.core) c.self.view_is)
-            (subst (λ (k : Known). All (IsWantedByStep chain.core c.args.command.now k) items) knows told.1);
+        asked = subst (λ (x : CoreState). AreWantedByStep x c.args.command.now (known_of c.args.self.now) items) (ap (λ (x : SessionState). x.chain.core) c.self.view_is)
+            (subst (λ (k : Known). AreWantedByStep chain.core c.args.command.now k items) knows told);
       },
     )
