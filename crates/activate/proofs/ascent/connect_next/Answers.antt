@@ -10,6 +10,7 @@ use Rattle.connect.specs.Connecting.{IsConnected}
 use Rattle.connect.specs.Scripts.{IsConnectFault}
 use Rattle.connect.specs.Turns.{effect}
 use Rattle.connect.specs.laws.Scripts.{fault-found}
+use Rattle.connect.specs.laws.Stops.{none_wanted}
 use Rattle.tree.specs.Branches.{Blocks, parent_at, height}
 use Rattle.tree.specs.laws.Parents.{height-parent}
 use Rattle.chain.specs.Regtest.{medians_of, regtest}
@@ -18,6 +19,7 @@ use Rattle.activate.specs.laws.Climbing.{length-parent, setting-next, setting_un
 use Rattle.chain.specs.laws.Kept.{alone-at}
 use Rattle.chain.specs.laws.Medians.{length-medians}
 use Rattle.std.proofs.lemmas.Result.{err_from_is_err_and}
+use Rattle.activate.specs.Wants.{AreWantedAt}
 use Rattle.activate.proofs.Wanted.{wanted_at}
 use Rattle.activate.proofs.ascent.connect_next.Goals as goal
 
@@ -123,3 +125,9 @@ returns-in_err-done-clause-wants g c =
     let place = setting-next params blocks c.height_of.result c.as_slice-below.result.now (c.height_of.ensures ∙ sym long) (omega arith) medians in
     let passed = err_from_is_err_and c.from_residual-in_err-done.result c.from_residual-in_err-done.ensures.1 in
     rw (passed.1, passed.2) (wanted_at params (g.S.RunsScripts.known c.args.env.now) t p _ _ _ place c.requires.coins (ap (λ (b : Block). b.txs) (c.in_ok-block.ensures ∙ c.block.ensures)) _ c.in_err-done.ensures.stops)
+
+pub returns-in_err-append-in-Ok-clause-wants : goal.returns-in_err-append-in-Ok-clause-wants
+returns-in_err-append-in-Ok-clause-wants g c =
+    let stopped = err_from_is_err_and c.from_residual-in_err-append-in-Ok.result c.from_residual-in_err-append-in-Ok.ensures.1 in
+    let none = g.met.S.RunsScripts.memory_tells c.in_err-append-in-Ok.field-0.0 stopped.0 stopped.2 in
+    rw stopped.1 (none_wanted (AreWantedAt c.args.params.now c.args.tree.now.blocks (g.S.RunsScripts.known c.args.env.now) c.args.place) (g.S.RunsScripts.told stopped.0) none)
