@@ -41,10 +41,10 @@ where
 
 /// What was done on a node, where that ended.
 fn ended<H: Drop>(
-    history: Result<H, node::Fault>,
+    history: Result<H, node::EndFault>,
     outcome: Result<Outcome, Fault>,
 ) -> Result<Outcome, Fault> {
-    history?;
+    history.map_err(node::Fault::from)?;
     outcome
 }
 

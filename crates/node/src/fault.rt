@@ -3,6 +3,7 @@
 ghost use Rattle.std.specs.Prelude.{◌≡◌, ◌⊎◌};
 
 use crate::published_history::Refusal;
+use chain::Entry;
 use std::error::Error;
 use std::fmt;
 use wire::Memory;
@@ -50,6 +51,31 @@ impl From<Refusal> for Fault {
             Refusal::Memory => Fault::Memory,
             Refusal::Closed => Fault::Closed,
         }
+    }
+}
+
+/// That a seat which was passed at the end doesn't fit the node's history ([`Fault::Closed`]). The history is given back
+/// all the same: it is the only copy.
+#[derive(Debug, Drop)]
+pub struct EndFault {
+    pub history: Vec<Entry>,
+}
+
+impl fmt::Display for EndFault {
+    fn fmt<W: fmt::Write>(&self, f: &mut fmt::Formatter<W>) -> fmt::Result {
+        f.write_str("closed")
+    }
+}
+
+impl Error for EndFault {}
+
+impl From<EndFault> for Fault {
+    ghost use Rattle.node.specs.declared.fault.Fault.TheVariants as variants;
+
+    ghost from_gives = { λ _ fault. fault ≡ variants.Closed };
+
+    fn from(_fault: EndFault) -> Fault {
+        Fault::Closed
     }
 }
 

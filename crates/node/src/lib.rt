@@ -19,7 +19,7 @@ mod writing;
 pub use answer::{Stamped, UnspentOutput};
 pub use chain::{Bytes, Command, Entry, MarkReply, Reply, SubmitReply};
 pub use curve::Table;
-pub use fault::{Fault, OpenFault};
+pub use fault::{EndFault, Fault, OpenFault};
 pub use naming::Opening;
 pub use node::{Node, NodeOf};
 pub use note::Note;

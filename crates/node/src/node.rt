@@ -6,9 +6,8 @@ ghost use Rattle.view.specs.Origin.{origin};
 ghost use Rattle.view.specs.ViewState.{IsLegal};
 ghost use Rattle.node.specs.Pass.{Pass, IsStanding, opening_passes};
 ghost use Rattle.node.specs.Opening.{IsAllowedCount, IsOpenFault};
-ghost use Rattle.node.specs.declared.fault.Fault.TheVariants as faults;
 
-use crate::fault::{Fault, OpenFault};
+use crate::fault::{EndFault, OpenFault};
 use crate::naming::{Opening, SeatTokens};
 use crate::published_history::{Opened, PublishedHistory, open_history};
 use crate::seat::Seat;
@@ -74,43 +73,57 @@ impl<'g, J: Naming> NodeOf<&'g (dyn Gate + Sync), J> {
         Ok((node, list))
     }
 
-    /// The whole history, in which each seat that is passed has just its own entries, the owed ones too.
+    /// The whole history, in which each seat that is passed has just its own entries, the owed ones too; where one doesn't,
+    /// beside the fault.
     ///
     /// The seats are this node's that came back, each once. It waits for nobody and takes no memory; the two
     /// copies of what is published are never given back.
-    pub fn finish(self, seats: &mut [Seat<'_, J>]) -> Result<Vec<Entry>, Fault>
+    pub fn finish(self, seats: &mut [Seat<'_, J>]) -> Result<Vec<Entry>, EndFault>
         ensures legal { IfOk result (λ history. IsLegal J.origin history.items) }
         ensures each { (k : ℕ) (p : Pass) → slice_get seats.old k ≡ Some p →
             IfOk result (λ history. IsStanding history.items p) }
-        ensures closed { IfErr result (λ fault. fault ≡ faults.Closed) }
+        ensures closed { IfErr result (λ fault. IsLegal J.origin fault.history.items) }
         ensures same { seats.new ≡ seats.old }
     {
-        Ok(self.fitting_history(seats)?.into_journal())
+        match self.fitting_history(seats) {
+            Ok(history) => Ok(history.into_journal()),
+            Err(history) => Err(EndFault {
+                history: history.into_journal(),
+            }),
+        }
     }
 
     /// The same. It waits for readers that are inside, and gives all memory back.
-    pub fn close<R: Wait>(self, rt: &R, seats: &mut [Seat<'_, J>]) -> Result<Vec<Entry>, Fault>
+    pub fn close<R: Wait>(self, rt: &R, seats: &mut [Seat<'_, J>]) -> Result<Vec<Entry>, EndFault>
         ensures legal { IfOk result (λ history. IsLegal J.origin history.items) }
         ensures each { (k : ℕ) (p : Pass) → slice_get seats.old k ≡ Some p →
             IfOk result (λ history. IsStanding history.items p) }
-        ensures closed { IfErr result (λ fault. fault ≡ faults.Closed) }
+        ensures closed { IfErr result (λ fault. IsLegal J.origin fault.history.items) }
         ensures same { seats.new ≡ seats.old }
     {
-        Ok(self.fitting_history(seats)?.close(rt))
+        match self.fitting_history(seats) {
+            Ok(history) => Ok(history.close(rt)),
+            Err(history) => Err(EndFault {
+                history: history.close(rt),
+            }),
+        }
     }
 
-    /// The history, if each of these seats fits it.
-    fn fitting_history(self, seats: &mut [Seat<'_, J>]) -> Result<PublishedHistory<J>, Fault>
+    /// The history, and whether each of these seats fits it.
+    fn fitting_history(
+        self,
+        seats: &mut [Seat<'_, J>],
+    ) -> Result<PublishedHistory<J>, PublishedHistory<J>>
         ensures legal { IfOk result (λ history. IsLegal J.origin history.journal) }
         ensures each { (k : ℕ) (p : Pass) → slice_get seats.old k ≡ Some p →
             IfOk result (λ history. IsStanding history.journal p) }
-        ensures closed { IfErr result (λ fault. fault ≡ faults.Closed) }
+        ensures closed { IfErr result (λ history. IsLegal J.origin history.journal) }
         ensures same { seats.new ≡ seats.old }
     {
         let NodeOf { history, .. } = self;
         let history = history.into_inner();
         if !all_fit(seats, history.journal()) {
-            return Err(Fault::Closed);
+            return Err(history);
         }
         Ok(history)
     }

@@ -17,7 +17,7 @@ use crate::writer::Writer;
 use block::SliceSource;
 use curve::Table;
 use journal::{Records, read_heights, read_out};
-use node::{Entry, Gate, Naming, Node, Opening, Params};
+use node::{EndFault, Entry, Gate, Naming, Node, Opening, Params};
 use picture::to_text;
 use scenario::{BLK, Client, Complaint, Definitions, Why, number_after, read_clients};
 use std::alloc::Global;
@@ -291,7 +291,7 @@ struct Played<'d, 't> {
     written: Result<(), Fault<'static>>,
 }
 
-/// Runs the clients on a new node. The output's fault is the only one after which there is a history.
+/// Runs the clients on a new node. After the output's fault, and that of its end, there is a history.
 fn play<'d, 't, R, E, O>(
     rt: &R,
     setting: Setting,
@@ -322,7 +322,7 @@ where
         writer,
     )?;
     match written {
-        Ok(()) | Err(Fault::CannotWrite(..)) => Ok(Played {
+        Ok(()) | Err(Fault::CannotWrite(..) | Fault::Closed) => Ok(Played {
             report: Report::new(alloc, definitions, clients_named(alloc, names), entries)?,
             written,
         }),
@@ -365,8 +365,14 @@ where
         Ok(()) => run_clients(rt, definitions, clients, &node, others, writer),
         Err(fault) => Err(fault),
     };
-    let entries = node.close(rt, seats.as_mut_slice())?;
-    Ok(Ran { entries, written })
+    match node.close(rt, seats.as_mut_slice()) {
+        Ok(entries) => Ok(Ran { entries, written }),
+        // What was played is told and saved, since there is no other copy.
+        Err(EndFault { history }) => Ok(Ran {
+            entries: history,
+            written: Err(Fault::Closed),
+        }),
+    }
 }
 
 /// The clients of a run from genesis on.

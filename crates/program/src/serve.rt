@@ -25,7 +25,7 @@ use crate::serve::service::serve_requests;
 use crate::serve::words::{Facts, SEATS};
 use curve::Table;
 use journal::{read_heights, read_journal, read_records};
-use node::{Entry, Gate, Naming, Node, Opening, Params, Seat};
+use node::{EndFault, Entry, Gate, Naming, Node, Opening, Params, Seat};
 use scenario::Definitions;
 use serving::{Answer, Refusal, RequestId, Stamped, answer_line, refusal_line};
 use std::alloc::{AllocError, Global};
@@ -110,9 +110,11 @@ where
 {
     let mut facts = facts;
     let opening = Opening::new(facts.params, table, facts.seats);
-    let Served { entries, ended } = serve_at_node::<Brand, R, I, O>(
-        rt, opening, gate, earlier, &mut facts, input, out,
-    )?;
+    let Served {
+        entries,
+        fits,
+        ended,
+    } = serve_at_node::<Brand, R, I, O>(rt, opening, gate, earlier, &mut facts, input, out)?;
     let Ended { finish, served } = ended?;
     let Facts {
         params,
@@ -129,6 +131,7 @@ where
         None => Ok(()),
     };
     served?;
+    fits?;
     kept?;
     told
 }
@@ -171,6 +174,8 @@ fn clients<'t>(alloc: Global, earlier: &Earlier<'t>) -> Result<Clients<'t>, Faul
 #[derive(Drop)]
 struct Served<'f> {
     entries: Vec<Entry>,
+    /// That a seat doesn't fit them, if one doesn't.
+    fits: Result<(), Fault<'f>>,
     ended: Result<Ended<'f>, Fault<'f>>,
 }
 
@@ -200,8 +205,15 @@ where
 {
     let (node, mut seats) = Node::<J>::open(rt.alloc(), opening, facts.workers, gate)?;
     let ended = serve_seats(rt, &node, seats.as_mut_slice(), earlier, facts, input, out);
-    let entries = node.close(rt, seats.as_mut_slice())?;
-    Ok(Served { entries, ended })
+    let (entries, fits) = match node.close(rt, seats.as_mut_slice()) {
+        Ok(entries) => (entries, Ok(())),
+        Err(EndFault { history }) => (history, Err(Fault::Closed)),
+    };
+    Ok(Served {
+        entries,
+        fits,
+        ended,
+    })
 }
 
 /// Plays what was earlier, and serves then.

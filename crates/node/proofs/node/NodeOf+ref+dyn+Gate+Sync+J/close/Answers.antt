@@ -3,5 +3,5 @@ use Rattle.chain.specs.declared.entry.Entry.{Entry}
 use Rattle.node.specs.Pass.{IsStanding}
 use Rattle.node.proofs.node.NodeOf+ref+dyn+Gate+Sync+J.close.Goals as goal
 
-pub returns-clause-each : goal.returns-clause-each
-returns-clause-each g c k p at = subst (λ (l : List Entry). IsStanding l p) (sym c.close.ensures) (c.in_ok-fitting_history.ensures.each k p at)
+pub returns-in-Ok-clause-each : goal.returns-in-Ok-clause-each
+returns-in-Ok-clause-each g c k p at = subst (λ (l : List Entry). IsStanding l p) (sym c.close.ensures) (c.in-Ok.ensures.each k p at)
