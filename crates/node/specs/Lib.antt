@@ -1,6 +1,7 @@
 pub mod Calls
 pub mod Opening
 pub mod Pass
+pub mod Runs
 pub mod Told
 pub mod inside
 pub mod laws

@@ -1,2 +1,3 @@
--- Theorems on what a node is opened with.
+-- Theorems on what a node is opened with, and on what its seats are answered.
 pub mod Opening
+pub mod Runs

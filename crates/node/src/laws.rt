@@ -1,8 +1,30 @@
-//! What holds of the node's handles.
+//! What holds of the node's handles, and of what its seats are answered.
 
-use crate::node::NodeOf;
+ghost use Rattle.std.specs.Prelude.{◌≡◌, ℕ, List, [], ◌∷◌};
+ghost use mathlib.Core.List.{IsPrefix};
+ghost use Rattle.chain.specs.declared.command.Command.{Command};
+ghost use Rattle.chain.specs.declared.reply.Reply.{Reply};
+ghost use Rattle.chain.specs.declared.entry.Entry.{Entry};
+ghost use Rattle.chain.specs.History.{own_of};
+ghost use Rattle.view.specs.Origin.{Origin};
+ghost use Rattle.view.specs.ViewState.{IsLegal};
+ghost use Rattle.node.specs.Pass.{Pass, IsStanding, opening_pass};
+ghost use Rattle.chain.specs.declared.command.Command.TheVariants as command;
+ghost use Rattle.node.specs.Runs.{Call, Submit, Mark, GetTxOut, GetBestBlockHash, GetChainTips, Journal, Told};
+ghost use Rattle.node.specs.Runs.{Note as Noted, Makes, IsStep, ExplainsAll, heard, steps_of};
+
+use crate::answer::{Stamped, UnspentOutput};
+use crate::fault::Fault;
+use crate::node::{Node, NodeOf};
 use crate::note::Note;
 use crate::seat::Seat;
+use chain::{Entry, MarkReply, SubmitReply};
+use hash::Id;
+use std::alloc::Global;
+use std::sync::Wait;
+use std::thread::Threads;
+use tree::Tip;
+use txn::OutPoint;
 use view::Naming;
 
 /// Seats and notes may be given to other threads, and notes be shared with them.
@@ -21,3 +43,94 @@ pub fn node_crosses_threads<G: Send + Sync, J: Naming>() {
 fn is_sent<T: Send>() {}
 
 fn is_shared<T: Sync>() {}
+
+/// All calls of all seats are of one run.
+pub fn all_calls_are_of_one_run()
+    ensures places { (o : Origin) (history : List Entry) (seat : ℕ) (calls : List Call) (p : Pass)
+        → IsLegal o history → Makes (opening_pass o seat) calls p → IsPrefix p.seen history
+        → ExplainsAll o history seat 0 calls }
+    ensures steps { (o : Origin) (history : List Entry) (seat : ℕ) (calls : List Call) (p : Pass)
+        → Makes (opening_pass o seat) calls p → IsStanding history p
+        → own_of seat history ≡ steps_of seat calls }
+    ensures apart { (o : Origin) (history : List Entry) (k l at : ℕ) (c d : Command) (r s : Reply)
+        → IsStep o history k c at r → IsStep o history l d at s → k ≡ l }
+{}
+
+/// What a seat's writing calls answer.
+#[derive(Drop)]
+pub struct Writes {
+    pub submit: Result<Stamped<SubmitReply>, Fault>,
+    pub invalidate: Result<Stamped<MarkReply>, Fault>,
+    pub reconsider: Result<Stamped<MarkReply>, Fault>,
+    pub precious: Result<Stamped<MarkReply>, Fault>,
+}
+
+/// What its reading calls answer.
+#[derive(Drop)]
+pub struct Reads {
+    pub gettxout: Result<Stamped<Option<UnspentOutput>>, Fault>,
+    pub getbestblockhash: Result<Stamped<Id>, Fault>,
+    pub getchaintips: Result<Stamped<Vec<Tip>>, Fault>,
+    pub journal: Result<Stamped<Vec<Entry>>, Fault>,
+}
+
+/// Each writing call ensures what the law asks of it.
+pub fn writes_are_calls<J: Naming, R: Threads + Wait + Sync>(
+    rt: &R,
+    node: &Node<'_, J>,
+    seat: &mut Seat<'_, J>,
+    bytes: &[u8],
+    now: u64,
+    id: Id,
+) -> Writes
+    ensures { let submit = Submit bytes.now now result.submit in
+        let invalidate = Mark (command.Invalidate id) result.invalidate in
+        let reconsider = Mark (command.Reconsider id) result.reconsider in
+        let precious = Mark (command.Precious id) result.precious in
+        Makes seat.old (submit ∷ invalidate ∷ reconsider ∷ precious ∷ []) seat.new }
+{
+    Writes {
+        submit: seat.submit(rt, node, bytes, now),
+        invalidate: seat.invalidate(rt, node, id),
+        reconsider: seat.reconsider(rt, node, id),
+        precious: seat.precious(rt, node, id),
+    }
+}
+
+/// So does each reading call.
+pub fn reads_are_calls<J: Naming>(
+    alloc: Global,
+    node: &Node<'_, J>,
+    seat: &mut Seat<'_, J>,
+    outpoint: &OutPoint,
+    from: u64,
+    to: u64,
+) -> Reads
+    ensures { let output = GetTxOut outpoint.now result.gettxout in
+        let best = GetBestBlockHash result.getbestblockhash in
+        let tips = GetChainTips result.getchaintips in
+        let journal = Journal from to result.journal in
+        Makes seat.old (output ∷ best ∷ tips ∷ journal ∷ []) seat.new }
+{
+    Reads {
+        gettxout: seat.gettxout(alloc, node, outpoint),
+        getbestblockhash: seat.getbestblockhash(node),
+        getchaintips: seat.getchaintips(alloc, node),
+        journal: seat.journal(alloc, node, from, to),
+    }
+}
+
+/// So does each call by which seats tell each other what they have seen.
+pub fn notes_are_calls<J: Naming>(
+    seat: &mut Seat<'_, J>,
+    other: &mut Seat<'_, J>,
+    note: &Note<J>,
+) -> Note<J>
+    ensures seat { let met = Told (heard other.old) in
+        Makes seat.old (met ∷ Told note.now ∷ Noted result ∷ []) seat.new }
+    ensures other { Makes other.old (Told (heard seat.old) ∷ []) other.new }
+{
+    seat.meet(other);
+    seat.told(note);
+    seat.note()
+}
