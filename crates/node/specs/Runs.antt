@@ -1,10 +1,11 @@
--- Runs: what a seat called and was answered, and how one history explains it.
+-- Runs: what a seat called and was answered, and how one history explains that.
 use Rattle.std.specs.Prelude.{◌≡◌, ℕ, zero, suc, ◌<◌, ◌≤◌, max, List, [], ◌∷◌, ◌++◌, length, take, drop, slice_get}
 use Rattle.std.specs.Prelude.{Option, Some, None, Result, Ok, Err, IfOk, IfErr}
 use Rattle.std.specs.Global.{Vec}
 use mathlib.Core.List.{IsPrefix}
 use Rattle.hash.specs.declared.id.Id.{Id}
 use Rattle.txn.specs.declared.outpoint.OutPoint.{OutPoint}
+use Rattle.coins.specs.declared.coin.Coin.{Coin}
 use Rattle.block.specs.Decoding.{block_of_bytes}
 use Rattle.tree.specs.declared.tip.Tip.{Tip}
 use Rattle.chain.specs.declared.command.Command.{Command}
@@ -21,60 +22,64 @@ use Rattle.node.specs.declared.answer.Stamped.{Stamped}
 use Rattle.node.specs.declared.answer.UnspentOutput.{UnspentOutput}
 use Rattle.node.specs.declared.fault.Fault.{Fault}
 use Rattle.node.specs.declared.fault.Fault.TheVariants.{Owed}
-use Rattle.node.specs.Pass.{Pass, Heard, IsLater, IsLonger, IsWrite, IsRead, IsListed, owed_entry}
+use Rattle.node.specs.Pass.{Pass, Heard, IsLater, IsLonger, IsWrite, IsRead, AreCoins, IsListed, owed_entry}
 use Rattle.node.specs.Calls.{IsSubmitAnswer, IsWriteFault, IsReadFault, IsClosedFault}
-use Rattle.node.specs.Told.{output_at, shown_tips}
+use Rattle.node.specs.Told.{AreNext, coins_in, output_at, shown_tips}
 
--- a call of a seat, with what it answered
+-- a call of a seat, with what was answered
 pub data Call : Type 0 where
   Submit : List ℕ → ℕ → Result (Stamped SubmitReply) Fault → Call
-  -- `invalidate`, `reconsider` or `precious`
+  -- `invalidate`, `reconsider` and `precious`
   Mark : Command → Result (Stamped MarkReply) Fault → Call
   GetTxOut : OutPoint → Result (Stamped (Option UnspentOutput)) Fault → Call
+  CoinsFrom : Option OutPoint → ℕ → Result (Stamped (Vec (OutPoint × Coin))) Fault → Call
   GetBestBlockHash : Result (Stamped Id) Fault → Call
   GetChainTips : Result (Stamped (Vec Tip)) Fault → Call
   Journal : ℕ → ℕ → Result (Stamped (Vec Entry)) Fault → Call
+  -- what the seat has seen, given to others
   Note : Heard → Call
-  -- `meet` tells each seat what the other had seen
+  -- what another had seen, by its note; `meet` tells it to both
   Told : Heard → Call
 
--- the clauses of a call, by the seat's pass before it and after it
+-- the note of a seat with this pass
+abbrev pub heard : Pass → Heard
+heard p = record { origin = p.origin; seen = p.seen }
+
+-- the clauses of a call that may be refused, by the seat's pass before it and after it
 pub record Contract (p q : Pass) {A : Type 0} (result : Result (Stamped A) Fault)
     (Answer : ℕ → A → Type 0) (Refusal : Fault → Type 0) : Type 0 where
   pub later : IsLater p q
   pub answer : IfOk result (λ r. Answer r.at r.value)
   pub fault : IfErr result Refusal
 
--- what a seat with this pass gives to another
-abbrev pub heard : Pass → Heard
-heard p = record { origin = p.origin; seen = p.seen }
-
--- what each call ensures
+-- the clauses of each call
 abbrev pub Ensures : Pass → Pass → Call → Type 0
 Ensures p q (Submit bytes now r) = Contract p q r (IsSubmitAnswer p q bytes now) (IsWriteFault p q (command.Submit bytes now))
 Ensures p q (Mark c r) = Contract p q r (λ at value. IsWrite p q c at (reply.Mark value)) (IsWriteFault p q c)
 Ensures p q (GetTxOut outpoint r) = Contract p q r (IsRead p q (output_at p.origin outpoint)) (IsReadFault p q)
+Ensures p q (CoinsFrom above most r) = Contract p q r (λ at list. AreCoins p q above most at list.items) (IsReadFault p q)
 Ensures p q (GetBestBlockHash r) = Contract p q r (IsRead p q (machine p.origin).best) (IsClosedFault p q)
 Ensures p q (GetChainTips r) = Contract p q r (λ at tips. IsRead p q (shown_tips p.origin) at tips.items) (IsReadFault p q)
 Ensures p q (Journal first last r) = Contract p q r (λ at list. IsListed p q first last at list.items) (IsReadFault p q)
 Ensures p q (Note x) = (q ≡ p) × (x.seen ≡ p.seen)
 Ensures p q (Told x) = IsLater p q × (q.mine ≡ p.mine) × IsLonger p.seen x.seen q.seen
 
--- a seat's calls, one after the other, from its pass p to its pass z
+-- the seat makes these calls, one after the other, and its pass goes from p to z
 abbrev pub Makes : Pass → List Call → Pass → Type 0
 Makes p [] z = z ≡ p
 Makes p (c ∷ cs) z = (q : Pass) × Ensures p q c × Makes q cs z
 
--- the step that a writing call left in the history, if it took one, by its reply or its fault
+-- the entry of a step, by its reply; DecodeFailed is no step's
 abbrev pub step_of_reply : ℕ → Command → Reply → List Entry
 step_of_reply seat c (reply.Submit DecodeFailed) = []
 step_of_reply seat c r = entry_of seat c (Some r) ∷ []
 
+-- a step that is owed was taken, and a refused one wasn't
 abbrev pub step_of_fault : ℕ → Command → Fault → List Entry
 step_of_fault seat c Owed = owed_entry seat c ∷ []
 step_of_fault seat c f = []
 
--- the step that a call left
+-- the step that a call took, if it took one
 abbrev pub step_of : ℕ → Call → List Entry
 step_of seat (Submit bytes now (Ok r)) = step_of_reply seat (command.Submit bytes now) (reply.Submit r.value)
 step_of seat (Submit bytes now (Err f)) = step_of_fault seat (command.Submit bytes now) f
@@ -82,14 +87,14 @@ step_of seat (Mark c (Ok r)) = step_of_reply seat c (reply.Mark r.value)
 step_of seat (Mark c (Err f)) = step_of_fault seat c f
 step_of seat call = []
 
--- the steps of a seat's calls, in their order
+-- the steps that a seat's calls took, in their order
 abbrev pub steps_of : ℕ → List Call → List Entry
 steps_of seat [] = []
 steps_of seat (c ∷ cs) = step_of seat c ++ steps_of seat cs
 
--- a seat at a history h: before a call it has seen n entries of it, and after the call m
+-- A seat goes along the history h: it has seen n entries of it before a call, and m after it.
 module _ (o : Origin) (h : List Entry) where
-  -- entry m, counted from 1, is the seat's, and the chainstate answers the command so there
+  -- entry m, counted from 1, is the seat's, and so the chainstate answers its command there
   abbrev pub IsStep : ℕ → Command → ℕ → Reply → Type 0
   IsStep seat c zero r = ⊥
   IsStep seat c (suc k) r = let M = machine o in
@@ -100,22 +105,24 @@ module _ (o : Origin) (h : List Entry) where
   IsSubmission seat n m bytes now DecodeFailed = (m ≡ n) × (block_of_bytes bytes ≡ None)
   IsSubmission seat n m bytes now value = (n < m) × IsStep seat (command.Submit bytes now) m (reply.Submit value)
 
-  -- what is answered is answered at m
-  abbrev pub IsAt : {A : Type 0} → ℕ → Result (Stamped A) Fault → (A → Type 0) → Type 0
-  IsAt m result P = IfOk result (λ r. (r.at ≡ m) × P r.value)
+  -- an answer takes the seat to its place, and a fault leaves it where it is
+  abbrev pub IsAt : {A : Type 0} → ℕ → ℕ → Result (Stamped A) Fault → (A → Type 0) → Type 0
+  IsAt n m (Ok r) P = (r.at ≡ m) × P r.value
+  IsAt n m (Err f) P = m ≡ n
 
-  -- the answer is that of the chainstate
+  -- what the call answered is what the chainstate answers there
   abbrev pub Explains : ℕ → ℕ → ℕ → Call → Type 0
-  Explains seat n m (Submit bytes now r) = IsAt m r (IsSubmission seat n m bytes now)
-  Explains seat n m (Mark c r) = IsAt m r (λ value. (n < m) × IsStep seat c m (reply.Mark value))
-  Explains seat n m (GetTxOut outpoint r) = IsAt m r (λ value. value ≡ output_at o outpoint (state_at (machine o) h m))
-  Explains seat n m (GetBestBlockHash r) = IsAt m r (λ value. value ≡ (machine o).best (state_at (machine o) h m))
-  Explains seat n m (GetChainTips r) = IsAt m r (λ tips. tips.items ≡ shown_tips o (state_at (machine o) h m))
-  Explains seat n m (Journal first last r) = IsAt m r (λ list. list.items ≡ drop first (take last (take m h)))
-  Explains seat n m (Note x) = (m ≡ n) × (x.seen ≡ take n h)
+  Explains seat n m (Submit bytes now r) = IsAt n m r (IsSubmission seat n m bytes now)
+  Explains seat n m (Mark c r) = IsAt n m r (λ value. (n < m) × IsStep seat c m (reply.Mark value))
+  Explains seat n m (GetTxOut outpoint r) = IsAt n m r (λ value. value ≡ output_at o outpoint (state_at (machine o) h m))
+  Explains seat n m (CoinsFrom above most r) = IsAt n m r (λ list. AreNext (coins_in o (state_at (machine o) h m)) above most list.items)
+  Explains seat n m (GetBestBlockHash r) = IsAt n m r (λ value. value ≡ (machine o).best (state_at (machine o) h m))
+  Explains seat n m (GetChainTips r) = IsAt n m r (λ tips. tips.items ≡ shown_tips o (state_at (machine o) h m))
+  Explains seat n m (Journal first last r) = IsAt n m r (λ list. list.items ≡ drop first (take last (take m h)))
+  Explains seat n m (Note x) = (m ≡ n) × (length x.seen ≡ n) × IsPrefix x.seen h
   Explains seat n m (Told x) = (m ≡ max n (length x.seen)) × IsPrefix x.seen h
 
-  -- so is each, one after the other, and none is before what the seat had seen
+  -- each call in its turn; the seat never goes back
   abbrev pub ExplainsAll : ℕ → ℕ → List Call → Type 0
   ExplainsAll seat n [] = Unit {0}
   ExplainsAll seat n (c ∷ cs) = (m : ℕ) × (n ≤ m) × (m ≤ length h) × Explains seat n m c × ExplainsAll seat m cs

@@ -1,17 +1,19 @@
 //! What holds of the node's handles, and of what its seats are answered.
 
 ghost use Rattle.std.specs.Prelude.{◌≡◌, ℕ, List, [], ◌∷◌};
+ghost use Rattle.std.specs.Option.{option_copied};
 ghost use mathlib.Core.List.{IsPrefix};
 ghost use Rattle.chain.specs.declared.command.Command.{Command};
+ghost use Rattle.chain.specs.declared.command.Command.TheVariants as command;
 ghost use Rattle.chain.specs.declared.reply.Reply.{Reply};
 ghost use Rattle.chain.specs.declared.entry.Entry.{Entry};
 ghost use Rattle.chain.specs.History.{own_of};
 ghost use Rattle.view.specs.Origin.{Origin};
 ghost use Rattle.view.specs.ViewState.{IsLegal};
 ghost use Rattle.node.specs.Pass.{Pass, IsStanding, opening_pass};
-ghost use Rattle.chain.specs.declared.command.Command.TheVariants as command;
-ghost use Rattle.node.specs.Runs.{Call, Submit, Mark, GetTxOut, GetBestBlockHash, GetChainTips, Journal, Told};
-ghost use Rattle.node.specs.Runs.{Note as Noted, Makes, IsStep, ExplainsAll, heard, steps_of};
+ghost use Rattle.node.specs.Runs.{Call, Submit, Mark, GetTxOut, CoinsFrom, GetBestBlockHash, GetChainTips};
+ghost use Rattle.node.specs.Runs.{Journal, Note as Noted, Told, heard};
+ghost use Rattle.node.specs.Runs.{Makes, IsStep, ExplainsAll, steps_of};
 
 use crate::answer::{Stamped, UnspentOutput};
 use crate::fault::Fault;
@@ -19,6 +21,7 @@ use crate::node::{Node, NodeOf};
 use crate::note::Note;
 use crate::seat::Seat;
 use chain::{Entry, MarkReply, SubmitReply};
+use coins::Coin;
 use hash::Id;
 use std::alloc::Global;
 use std::sync::Wait;
@@ -44,14 +47,18 @@ fn is_sent<T: Send>() {}
 
 fn is_shared<T: Sync>() {}
 
-/// All calls of all seats are of one run.
+/// All calls of all seats are of one run of the chainstate: whatever the seats called, the legal list that `finish` gives
+/// explains what each was answered. So does any other that begins with what a seat has seen.
 pub fn all_calls_are_of_one_run()
+    // Each answer is the chainstate's at its place, and no seat goes back.
     ensures places { (o : Origin) (history : List Entry) (seat : ℕ) (calls : List Call) (p : Pass)
         → IsLegal o history → Makes (opening_pass o seat) calls p → IsPrefix p.seen history
         → ExplainsAll o history seat 0 calls }
+    // Each step stands once, in its caller's order, an owed one too.
     ensures steps { (o : Origin) (history : List Entry) (seat : ℕ) (calls : List Call) (p : Pass)
         → Makes (opening_pass o seat) calls p → IsStanding history p
         → own_of seat history ≡ steps_of seat calls }
+    // And no place has steps of two seats.
     ensures apart { (o : Origin) (history : List Entry) (k l at : ℕ) (c d : Command) (r s : Reply)
         → IsStep o history k c at r → IsStep o history l d at s → k ≡ l }
 {}
@@ -74,7 +81,7 @@ pub struct Reads {
     pub journal: Result<Stamped<Vec<Entry>>, Fault>,
 }
 
-/// Each writing call ensures what the law asks of it.
+/// The law asks of a writing call only what the call ensures.
 pub fn writes_are_calls<J: Naming, R: Threads + Wait + Sync>(
     rt: &R,
     node: &Node<'_, J>,
@@ -97,7 +104,7 @@ pub fn writes_are_calls<J: Naming, R: Threads + Wait + Sync>(
     }
 }
 
-/// So does each reading call.
+/// And so of a reading call.
 pub fn reads_are_calls<J: Naming>(
     alloc: Global,
     node: &Node<'_, J>,
@@ -120,7 +127,21 @@ pub fn reads_are_calls<J: Naming>(
     }
 }
 
-/// So does each call by which seats tell each other what they have seen.
+/// And so of one that lists coins.
+pub fn lists_of_coins_are_calls<J: Naming>(
+    alloc: Global,
+    node: &Node<'_, J>,
+    seat: &mut Seat<'_, J>,
+    above: Option<&OutPoint>,
+    most: usize,
+) -> Result<Stamped<Vec<(OutPoint, Coin)>>, Fault>
+    ensures { let coins = CoinsFrom (option_copied above.entry) most result in
+        Makes seat.old (coins ∷ []) seat.new }
+{
+    seat.coins_from(alloc, node, above, most)
+}
+
+/// And of the calls by which seats tell each other what they have seen.
 pub fn notes_are_calls<J: Naming>(
     seat: &mut Seat<'_, J>,
     other: &mut Seat<'_, J>,

@@ -1,6 +1,9 @@
 -- What a seat was answered is explained by every legal history that begins with what it has seen.
-use Rattle.std.proofs.Common.{◌≡◌, ℕ, zero, suc, ◌+◌, ◌<◌, ◌≤◌, max, List, [], ◌∷◌, ◌++◌, length, take, drop, slice_get, Option, Some, None, Result, Ok, Err, refl, ap, sym, ◌∙◌, subst, append_assoc, append-nil, length-append, arith, ⊎_elim, inl, inr}
+use Rattle.std.proofs.Common.{◌≡◌, ℕ, zero, suc, ◌+◌, ◌<◌, ◌≤◌, max, List, [], ◌∷◌, ◌++◌, length, take, drop, slice_get, Option, Some, None, Ok, Err, refl, ap, sym, ◌∙◌, subst, append_assoc, append-nil, length-append, arith, ⊎_elim, inl, inr}
 use mathlib.Core.List.{IsPrefix}
+use Rattle.txn.specs.declared.outpoint.OutPoint.{OutPoint}
+use Rattle.coins.specs.Coins.{Coins}
+use Rattle.coins.specs.declared.coin.Coin.{Coin}
 use Rattle.chain.specs.declared.command.Command.{Command}
 use Rattle.chain.specs.declared.command.Command.TheVariants as command
 use Rattle.chain.specs.declared.reply.Reply.{Reply}
@@ -8,16 +11,16 @@ use Rattle.chain.specs.declared.reply.Reply.TheVariants as reply
 use Rattle.chain.specs.declared.reply.SubmitReply.{SubmitReply}
 use Rattle.chain.specs.declared.reply.SubmitReply.TheVariants.{Accepted, Inconclusive, Duplicate, DuplicateInvalid, DuplicateInconclusive, Rejected, DecodeFailed, TreeFull}
 use Rattle.chain.specs.declared.entry.Entry.{Entry}
-use Rattle.chain.specs.Machine.{Machine}
 use Rattle.chain.specs.History.{state_left, state_after_entries, state_at, Answers, Stands, own_of, entry_of}
 use Rattle.chain.specs.laws.History.{state_after-append, stands_within}
 use Rattle.view.specs.Origin.{Origin, machine}
 use Rattle.view.specs.ViewState.{IsLegal}
 use Rattle.node.specs.declared.fault.Fault.{Fault}
 use Rattle.node.specs.declared.fault.Fault.TheVariants.{Memory, Owed, Closed}
-use Rattle.node.specs.Pass.{Pass, Heard, opening_pass, IsLater, IsLonger, IsWrite, IsRead, IsListed, IsStanding}
+use Rattle.node.specs.Pass.{Pass, Heard, opening_pass, IsLater, IsLonger, IsWrite, IsRead, AreCoins, IsListed, IsStanding}
 use Rattle.node.specs.Calls.{IsSubmitAnswer, IsWriteFault, IsReadFault, IsClosedFault}
-use Rattle.node.specs.Runs.{Call, Submit, Mark, GetTxOut, GetBestBlockHash, GetChainTips, Journal, Note, Told, Contract, Ensures, Makes, step_of_reply, step_of_fault, step_of, steps_of, IsStep, IsSubmission, Explains, ExplainsAll}
+use Rattle.node.specs.Told.{AreNext, coins_in}
+use Rattle.node.specs.Runs.{Call, Submit, Mark, GetTxOut, CoinsFrom, GetBestBlockHash, GetChainTips, Journal, Note, Told, Ensures, Makes, step_of_reply, step_of_fault, step_of, steps_of, IsStep, IsSubmission, Explains, ExplainsAll}
 
 -- beginnings of a list
 begins_all : {A : Type 0} (xs ys zs : List A) → IsPrefix xs ys → IsPrefix ys zs → IsPrefix xs zs
@@ -88,6 +91,7 @@ moves p q (Submit bytes now r) e = of_later p q e.later
 moves p q (Mark c r) e = of_later p q e.later
 moves p q (GetTxOut outpoint r) e = of_later p q e.later
 moves p q (GetBestBlockHash r) e = of_later p q e.later
+moves p q (CoinsFrom above most r) e = of_later p q e.later
 moves p q (GetChainTips r) e = of_later p q e.later
 moves p q (Journal first last r) e = of_later p q e.later
 moves p q (Note x) e = of_same p q e.0
@@ -100,6 +104,23 @@ all_move p z (c ∷ cs) e =
     let rest = all_move e.0 z cs e.2 in
     record { number = rest.number ∙ one.number; origin = rest.origin ∙ one.origin; grows = begins_all p.seen e.0.seen z.seen one.grows rest.grows }
 
+-- what a refused call leaves
+module _ (p q : Pass) where
+  write_fault : (c : Command) (f : Fault) → IsWriteFault p q c f → q.seen ≡ p.seen
+  write_fault c Memory e = ap (λ (x : Pass). x.seen) e
+  write_fault c Owed e = e.0
+  write_fault c Closed e = ap (λ (x : Pass). x.seen) e
+
+  read_fault : (f : Fault) → IsReadFault p q f → q ≡ p
+  read_fault Memory e = e
+  read_fault Owed e = absurd e
+  read_fault Closed e = e
+
+  closed_fault : (f : Fault) → IsClosedFault p q f → q ≡ p
+  closed_fault Memory e = absurd e
+  closed_fault Owed e = absurd e
+  closed_fault Closed e = e
+
 -- each answer, at its place
 module _ (h : List Entry) (p q : Pass) (legal : IsLegal p.origin h) (begins : IsPrefix q.seen h) where
   written : (c : Command) (at : ℕ) (r : Reply) → IsWrite p q c at r → (at ≡ length q.seen) × (length p.seen < length q.seen) × IsStep p.origin h p.number c (length q.seen) r
@@ -110,8 +131,8 @@ module _ (h : List Entry) (p q : Pass) (legal : IsLegal p.origin h) (begins : Is
       let less = length_begun p.seen before w.last.2 in
       let whole : before ++ e ∷ begins.0 ≡ h = sym (append_assoc before (e ∷ []) begins.0) ∙ ap (λ (l : List Entry). l ++ begins.0) (sym w.last.1) ∙ begins.1 in
       let there : IsStep p.origin h p.number c (suc (length before)) r =
-          subst (λ (l : List Entry). IsStep p.origin l p.number c (suc (length before)) r) whole
-          (step_there p.origin p.number c r before begins.0 (subst (IsLegal p.origin) (sym whole) legal)) in
+      subst (λ (l : List Entry). IsStep p.origin l p.number c (suc (length before)) r) whole
+      (step_there p.origin p.number c r before begins.0 (subst (IsLegal p.origin) (sym whole) legal)) in
       (w.at_is, omega (arith, long, less), subst (λ (n : ℕ). IsStep p.origin h p.number c n r) (sym long) there)
 
   submitted : (bytes : List ℕ) (now at : ℕ) (v : SubmitReply) → IsSubmitAnswer p q bytes now at v → (at ≡ length q.seen) × IsSubmission p.origin h p.number (length p.seen) (length q.seen) bytes now v
@@ -126,20 +147,30 @@ module _ (h : List Entry) (p q : Pass) (legal : IsLegal p.origin h) (begins : Is
   submitted bytes now at (Rejected reason) a = let w = written (command.Submit bytes now) at (reply.Submit (Rejected reason)) a in (w.0, (w.1, w.2))
   submitted bytes now at TreeFull a = let w = written (command.Submit bytes now) at (reply.Submit TreeFull) a in (w.0, (w.1, w.2))
 
+  -- what was seen at the place of an answer
+  seen_there : (at : ℕ) → at ≡ length q.seen → take at q.seen ≡ take (length q.seen) h
+  seen_there at is = ap (λ (n : ℕ). take n q.seen) is ∙ take_begun q.seen q.seen ([], append-nil q.seen) ∙ sym (take_begun q.seen h begins)
+
   read : {V : Type 0} (value : (machine p.origin).State → V) (at : ℕ) (answer : V) → IsRead p q value at answer → (at ≡ length q.seen) × (answer ≡ value (state_at (machine p.origin) h (length q.seen)))
   read value at answer r =
       let m = machine p.origin in
-      let seen : take at q.seen ≡ take (length q.seen) h =
-          ap (λ (n : ℕ). take n q.seen) r.at_is ∙ take_begun q.seen q.seen ([], append-nil q.seen) ∙ sym (take_begun q.seen h begins) in
-      (r.at_is, r.value_is ∙ ap (λ (l : List Entry). value (state_after_entries m m.opening l)) seen)
+      (r.at_is, r.value_is ∙ ap (λ (l : List Entry). value (state_after_entries m m.opening l)) (seen_there at r.at_is))
+
+  coins : (above : Option OutPoint) (most at : ℕ) (answer : List (OutPoint × Coin)) → AreCoins p q above most at answer
+      → (at ≡ length q.seen) × AreNext (coins_in p.origin (state_at (machine p.origin) h (length q.seen))) above most answer
+  coins above most at answer a =
+      let m = machine p.origin in
+      let same : coins_in p.origin (state_at m q.seen at) ≡ coins_in p.origin (state_at m h (length q.seen)) =
+      ap (λ (l : List Entry). coins_in p.origin (state_after_entries m m.opening l)) (seen_there at a.at_is) in
+      (a.at_is, subst (λ (x : Coins). AreNext x above most answer) same a.answer_is)
 
   listed : (first last at : ℕ) (answer : List Entry) → IsListed p q first last at answer → (at ≡ length q.seen) × (answer ≡ drop first (take last (take (length q.seen) h)))
   listed first last at answer l = (l.at_is, l.answer_is ∙ ap (λ (xs : List Entry). drop first (take last xs)) (sym (take_begun q.seen h begins)))
 
-  noted : (x : Heard) → (q ≡ p) × (x.seen ≡ p.seen) → (length q.seen ≡ length p.seen) × (x.seen ≡ take (length p.seen) h)
+  noted : (x : Heard) → (q ≡ p) × (x.seen ≡ p.seen) → (length q.seen ≡ length p.seen) × (length x.seen ≡ length p.seen) × IsPrefix x.seen h
   noted x e =
       let same : q.seen ≡ p.seen = ap (λ (y : Pass). y.seen) e.0 in
-      (ap length same, e.1 ∙ sym (take_begun p.seen h (subst (λ (l : List Entry). IsPrefix l h) same begins)))
+      (ap length same, ap length e.1, subst (λ (l : List Entry). IsPrefix l h) (same ∙ sym e.1) begins)
 
   told : (x : Heard) → IsLonger p.seen x.seen q.seen → (length q.seen ≡ max (length p.seen) (length x.seen)) × IsPrefix x.seen h
   told x l = ⊎_elim (λ a. was a.0 a.1) (λ a. is a.0 a.1) l
@@ -158,17 +189,19 @@ module _ (h : List Entry) (p q : Pass) (legal : IsLegal p.origin h) (begins : Is
 
   explained : (c : Call) → Ensures p q c → Explains p.origin h p.number (length p.seen) (length q.seen) c
   explained (Submit bytes now (Ok r)) e = submitted bytes now r.at r.value e.answer
-  explained (Submit bytes now (Err f)) e = tt
+  explained (Submit bytes now (Err f)) e = ap length (write_fault p q (command.Submit bytes now) f e.fault)
   explained (Mark c (Ok r)) e = let w = written c r.at (reply.Mark r.value) e.answer in (w.0, (w.1, w.2))
-  explained (Mark c (Err f)) e = tt
+  explained (Mark c (Err f)) e = ap length (write_fault p q c f e.fault)
   explained (GetTxOut outpoint (Ok r)) e = read _ r.at r.value e.answer
-  explained (GetTxOut outpoint (Err f)) e = tt
+  explained (GetTxOut outpoint (Err f)) e = ap (λ (x : Pass). length x.seen) (read_fault p q f e.fault)
   explained (GetBestBlockHash (Ok r)) e = read _ r.at r.value e.answer
-  explained (GetBestBlockHash (Err f)) e = tt
+  explained (GetBestBlockHash (Err f)) e = ap (λ (x : Pass). length x.seen) (closed_fault p q f e.fault)
+  explained (CoinsFrom above most (Ok r)) e = coins above most r.at r.value.items e.answer
+  explained (CoinsFrom above most (Err f)) e = ap (λ (x : Pass). length x.seen) (read_fault p q f e.fault)
   explained (GetChainTips (Ok r)) e = read _ r.at r.value.items e.answer
-  explained (GetChainTips (Err f)) e = tt
+  explained (GetChainTips (Err f)) e = ap (λ (x : Pass). length x.seen) (read_fault p q f e.fault)
   explained (Journal first last (Ok r)) e = listed first last r.at r.value.items e.answer
-  explained (Journal first last (Err f)) e = tt
+  explained (Journal first last (Err f)) e = ap (λ (x : Pass). length x.seen) (read_fault p q f e.fault)
   explained (Note x) e = noted x e
   explained (Told x) e = told x e.2
 
@@ -208,29 +241,21 @@ module _ (p q : Pass) where
   left_by_submission bytes now at (Rejected reason) a = a.mine_is
   left_by_submission bytes now at TreeFull a = a.mine_is
 
-  read_fault : (f : Fault) → IsReadFault p q f → q ≡ p
-  read_fault Memory e = e
-  read_fault Owed e = absurd e
-  read_fault Closed e = e
-
-  closed_fault : (f : Fault) → IsClosedFault p q f → q ≡ p
-  closed_fault Memory e = absurd e
-  closed_fault Owed e = absurd e
-  closed_fault Closed e = e
-
   left : (c : Call) → Ensures p q c → q.mine ≡ p.mine ++ step_of p.number c
   left (Submit bytes now (Ok r)) e = left_by_submission bytes now r.at r.value e.answer
   left (Submit bytes now (Err f)) e = left_unanswered (command.Submit bytes now) f e.fault
   left (Mark c (Ok r)) e = e.answer.mine_is
   left (Mark c (Err f)) e = left_unanswered c f e.fault
   left (GetTxOut outpoint (Ok r)) e = kept e.answer.mine_is
-  left (GetTxOut outpoint (Err f)) e = same_mine (read_fault f e.fault)
+  left (GetTxOut outpoint (Err f)) e = same_mine (read_fault p q f e.fault)
   left (GetBestBlockHash (Ok r)) e = kept e.answer.mine_is
-  left (GetBestBlockHash (Err f)) e = same_mine (closed_fault f e.fault)
+  left (GetBestBlockHash (Err f)) e = same_mine (closed_fault p q f e.fault)
+  left (CoinsFrom above most (Ok r)) e = kept e.answer.mine_is
+  left (CoinsFrom above most (Err f)) e = same_mine (read_fault p q f e.fault)
   left (GetChainTips (Ok r)) e = kept e.answer.mine_is
-  left (GetChainTips (Err f)) e = same_mine (read_fault f e.fault)
+  left (GetChainTips (Err f)) e = same_mine (read_fault p q f e.fault)
   left (Journal first last (Ok r)) e = kept e.answer.mine_is
-  left (Journal first last (Err f)) e = same_mine (read_fault f e.fault)
+  left (Journal first last (Err f)) e = same_mine (read_fault p q f e.fault)
   left (Note x) e = same_mine e.0
   left (Told x) e = kept e.1
 

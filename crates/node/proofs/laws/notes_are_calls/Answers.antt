@@ -7,10 +7,15 @@ use Rattle.node.proofs.laws.notes_are_calls.Goals as goal
 pub returns-clause-seat : goal.returns-clause-seat
 returns-clause-seat g c =
     let m = c.meet.ensures in
-    let t = c.told.ensures in
-    (c.meet.new.self, (m.later.0, m.mine.0, m.longer),
-    (c.told.new.self, (t.later, t.mine, t.longer),
-    (c.told.new.self, (refl, c.note.ensures.seen), refl)))
+    let t = c.told.ensures in (
+      c.meet.new.self,
+      (m.later.0, m.mine.0, m.longer),
+      (
+        c.told.new.self,
+        (t.later, t.mine, t.longer),
+        (c.told.new.self, (refl, c.note.ensures.seen), refl),
+      ),
+    )
 
 pub returns-clause-other : goal.returns-clause-other
 returns-clause-other g c =
