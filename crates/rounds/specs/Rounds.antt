@@ -1,0 +1,44 @@
+-- Rounds: what is wanted is found out, and the question is put again.
+use Rattle.std.proofs.Common.{◌≢◌}
+use Rattle.std.specs.Prelude.{◌≡◌, ◌⊎◌, ℕ, ◌*◌, ◌<◌, List, [], ◌∷◌, length, All, None, ⊤}
+use Rattle.curve.specs.Known.{Known}
+use Rattle.curve.specs.Triple.{Triple}
+use Rattle.curve.specs.laws.Growth.{Grows}
+use Rattle.interp.specs.Answer.{Wants}
+use Rattle.interp.specs.Limits.{max_ops}
+use Rattle.interp.specs.Question.{Question}
+use Rattle.interp.specs.computed.Step.{verdict}
+use Rattle.interp.specs.declared.job.Job.{Job}
+use Rattle.queue.specs.Jobs.{verdict_at}
+use Rattle.queue.specs.Telling.{AreTheWants}
+
+-- the next round has the verdict on each of these signatures, and all that was known
+abbrev pub HasFound : Known → List Triple → List Known → Type 0
+HasFound known wanted [] = ⊤
+HasFound known wanted (next ∷ later) = Grows known next × All (λ t. next t ≢ None) wanted
+
+-- each round wants signatures, and the next one has found them out
+abbrev pub AreRounds : (Known → List Triple → Type 0) → List Known → Type 0
+AreRounds Want [] = ⊤
+AreRounds Want (known ∷ later) = ((wanted : List Triple) × Want known wanted × HasFound known wanted later) × AreRounds Want later
+
+-- an input wants one signature at a time
+abbrev pub WantsOne : Question → Known → List Triple → Type 0
+WantsOne q known wanted = (t : Triple) × (verdict known q ≡ Wants t) × (wanted ≡ t ∷ [])
+
+-- one of these inputs wants it
+abbrev pub IsWantedAmong : List Question → Known → Triple → Type 0
+IsWantedAmong [] known t = ⊥
+IsWantedAmong (q ∷ qs) known t = (verdict known q ≡ Wants t) ⊎ IsWantedAmong qs known t
+
+-- each of these signatures is wanted by one of these inputs, and there is one
+abbrev pub WantSome : List Question → Known → List Triple → Type 0
+WantSome qs known wanted = (0 < length wanted) × All (IsWantedAmong qs known) wanted
+
+-- all that the jobs want before the first that is refused
+abbrev pub JobsWant : List Job → Known → List Triple → Type 0
+JobsWant jobs known = AreTheWants (length jobs) (verdict_at known jobs)
+
+-- signature operations of an input: those of its own script and of the spent one, or of the one inside that (BIP 16)
+abbrev pub max_rounds : ℕ
+max_rounds = 2 * max_ops
