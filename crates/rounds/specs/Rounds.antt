@@ -39,6 +39,7 @@ WantSome qs known wanted = (0 < length wanted) × All (IsWantedAmong qs known) w
 abbrev pub JobsWant : List Job → Known → List Triple → Type 0
 JobsWant jobs known = AreTheWants (length jobs) (verdict_at known jobs)
 
--- signature operations of an input: those of its own script and of the spent one, or of the one inside that (BIP 16)
+-- two scripts of an input can ask for signatures, each as often as it may have opcodes and keys that are counted: its own
+-- and the spent one; or the spent one and the inner one (BIP 16), where its own only pushes
 abbrev pub max_rounds : ℕ
 max_rounds = 2 * max_ops

@@ -16,7 +16,7 @@ use Rattle.interp.specs.State.{State, start}
 use Rattle.interp.specs.computed.Step.{step, run, outcome, end_of, has_true_top, ends_true, inner_verdict, verdict_on, verdict_after, verdict_with, verdict_of_input, verdict}
 use Rattle.rounds.specs.laws.Inquiry.{End, AsksWithin, alike, says, follow, follows, maps, left_in, thens, alsos, before, chosen}
 use Rattle.rounds.specs.laws.Table.{room}
-use Rattle.rounds.specs.laws.Asking.{step-within, step-quiet}
+use Rattle.rounds.specs.laws.Asking.{IsQuiet, step-within, step-quiet}
 
 module _ (q : Question) where
   -- ---- a script
@@ -31,7 +31,7 @@ module _ (q : Question) where
   both true false e = cc
   both false b e = cc
 
-  run-quiet : (left : List ℕ) (list : List (List ℕ)) (s : State) → list_all (λ op. nat_le (number_of op) 96) list ≡ true → (o : Option State) × ((known : Known) → run known q left list s ≡ Says o)
+  run-quiet : (left : List ℕ) (list : List (List ℕ)) (s : State) → list_all (λ op. nat_le (number_of op) 96) list ≡ true → IsQuiet (λ known. run known q left list s)
   unfolding run step
   run-quiet left [] s low = (Some s, λ known. refl)
   run-quiet left ([] ∷ others) s low = (None, λ known. refl)
@@ -40,8 +40,8 @@ module _ (q : Question) where
       let told = step-quiet q (concat others ++ left) number bytes s (leb-true number 96 each.0) in
       by told.0 told.1 (λ t. run-quiet left others t each.1)
     where
-      by : (o : Option State) → ((known : Known) → step known q (concat others ++ left) (number ∷ bytes) s ≡ Says o) → ((t : State) → (e : Option State) × ((known : Known) → run known q left others t ≡ Says e))
-          → (e : Option State) × ((known : Known) → run known q left ((number ∷ bytes) ∷ others) s ≡ Says e)
+      by : (o : Option State) → ((known : Known) → step known q (concat others ++ left) (number ∷ bytes) s ≡ Says o) → ((t : State) → IsQuiet (λ known. run known q left others t))
+          → IsQuiet (λ known. run known q left ((number ∷ bytes) ∷ others) s)
       by (Some t) is rest = let end = rest t in (end.0, λ known. ap (and_then (run known q left others)) (is known) ∙ end.1 known)
       by None is rest = (None, λ known. ap (and_then (run known q left others)) (is known))
 
@@ -51,14 +51,14 @@ module _ (q : Question) where
       chosen (λ end. 0) 201 (ltb 10000 (length script)) _ _ (says (λ end. 0) 201 None (omega arith))
       (maps (left_in room) (λ end. 0) 201 (option_and_then (end_of (is_whole script))) _ (λ o. omega arith) (run-within (rest script) (ops script) (start script stack)))
 
-  outcome-quiet : (script : List ℕ) (stack : Stack) → is_push_only script ≡ true → (o : Option Stack) × ((known : Known) → outcome known q script stack ≡ Says o)
+  outcome-quiet : (script : List ℕ) (stack : Stack) → is_push_only script ≡ true → IsQuiet (λ known. outcome known q script stack)
   unfolding outcome is_push_only
   outcome-quiet script stack only =
       let told = run-quiet (rest script) (ops script) (start script stack) (both (list_all (λ op. nat_le (number_of op) 96) (ops script)) (is_whole script) only).0 in
       by (ltb 10000 (length script)) told.0 told.1
     where
       by : (long : Bool) (o : Option State) → ((known : Known) → run known q (rest script) (ops script) (start script stack) ≡ Says o)
-          → (e : Option Stack) × ((known : Known) → (if long then Says None else answer_map (option_and_then (end_of (is_whole script))) (run known q (rest script) (ops script) (start script stack))) ≡ Says e)
+          → IsQuiet (λ known. if long then Says None else answer_map (option_and_then (end_of (is_whole script))) (run known q (rest script) (ops script) (start script stack)))
       by true o is = (None, λ known. refl)
       by false o is = (option_and_then (end_of (is_whole script)) o, λ known. ap (answer_map (option_and_then (end_of (is_whole script)))) (is known))
 

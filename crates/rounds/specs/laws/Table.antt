@@ -1,4 +1,4 @@
--- Opcodes leave the count of opcodes as it is, and those that ask for signatures are counted.
+-- No opcode lowers the count of opcodes, and those that ask for signatures are counted.
 use Rattle.std.specs.Prelude.{⊤, if◌then◌else◌, ◌&&◌, nat_le}
 use Rattle.std.proofs.Common.{◌≡◌, ◌⊎◌, inl, inr, ℕ, ◌+◌, ◌-◌, ◌<◌, ◌≤◌, List, [], ◌∷◌, Bool, true, false, ltb, eqb, Option, Some, None, length, refl, sym, subst, ⊎_elim, arith}
 use Rattle.std.proofs.lemmas.Bool.{cases_lt}
@@ -18,7 +18,7 @@ use Rattle.rounds.specs.laws.Inquiry.{left_in}
 abbrev pub room : State → ℕ
 room s = max_ops - s.count
 
--- what is left may have no more of them
+-- there is no more room after it
 abbrev pub Stays : State → Option State → Type 0
 Stays s o = left_in room o ≤ room s
 
@@ -71,7 +71,7 @@ IsCounted number (Of f) = ⊤
 IsCounted number Sig = 0x60 < number
 IsCounted number Multisig = 0x60 < number
 
--- what the row of this number does keeps the count
+-- what the row of this number does makes no room, and it is counted where it asks for signatures
 abbrev pub IsOrderly : ℕ → Row → Type 0
 IsOrderly number (Does f) = Keeps f
 IsOrderly number (Controls f untaken) = Keeps f × Keeps untaken
@@ -90,8 +90,8 @@ none-keeps s = omega arith
 some-keeps : Keeps (λ s. Some s)
 some-keeps s = omega arith
 
-disabled-orderly : (number : ℕ) → IsOrderly number disabled
-disabled-orderly number = (none-keeps, none-keeps)
+disabled-keeps : Keeps (λ s. None) × Keeps (λ s. None)
+disabled-keeps = (none-keeps, none-keeps)
 
 -- the proof of the first and those of the others
 infixr 20 ◌&◌
@@ -101,16 +101,16 @@ first & others = (first, others)
 rows-orderly : AreOrderly rows
 rows-orderly =
     main-keeps (push (0x81 ∷ [])) & some-keeps & (branch-keeps true, untaken-keeps) & (branch-keeps false, untaken-keeps)
-    & disabled-orderly 0x65 & disabled-orderly 0x66 & (turn-keeps, turn-keeps) & (close-keeps, close-keeps) & main-keeps _ & to_alt-keeps
+    & disabled-keeps & disabled-keeps & (turn-keeps, turn-keeps) & (close-keeps, close-keeps) & main-keeps _ & to_alt-keeps
     & from_alt-keeps & main-keeps _ & main-keeps _ & main-keeps _ & main-keeps _ & main-keeps _ & main-keeps _ & main-keeps _
     & main-keeps depth & main-keeps _ & main-keeps _ & main-keeps _ & main-keeps _ & main-keeps _ & main-keeps _ & main-keeps _
-    & main-keeps _ & main-keeps _ & disabled-orderly 0x7e & disabled-orderly 0x7f & disabled-orderly 0x80 & disabled-orderly 0x81
-    & main-keeps _ & disabled-orderly 0x83 & disabled-orderly 0x84 & disabled-orderly 0x85 & disabled-orderly 0x86 & tt & tt & main-keeps _
-    & main-keeps _ & disabled-orderly 0x8d & disabled-orderly 0x8e & main-keeps _ & main-keeps _ & main-keeps _ & main-keeps _
-    & main-keeps _ & main-keeps _ & disabled-orderly 0x95 & disabled-orderly 0x96 & disabled-orderly 0x97 & disabled-orderly 0x98
-    & disabled-orderly 0x99 & main-keeps _ & main-keeps _ & tt & tt & main-keeps _ & main-keeps _ & main-keeps _ & main-keeps _
-    & main-keeps _ & main-keeps _ & main-keeps _ & main-keeps _ & main-keeps _ & main-keeps _ & main-keeps _ & main-keeps _ & main-keeps _
-    & tt & omega arith & omega arith & omega arith & omega arith & some-keeps & tt & tt & tt
+    & main-keeps _ & main-keeps _ & disabled-keeps & disabled-keeps & disabled-keeps & disabled-keeps & main-keeps _
+    & disabled-keeps & disabled-keeps & disabled-keeps & disabled-keeps & tt & tt & main-keeps _ & main-keeps _ & disabled-keeps
+    & disabled-keeps & main-keeps _ & main-keeps _ & main-keeps _ & main-keeps _ & main-keeps _ & main-keeps _ & disabled-keeps
+    & disabled-keeps & disabled-keeps & disabled-keeps & disabled-keeps & main-keeps _ & main-keeps _ & tt & tt & main-keeps _
+    & main-keeps _ & main-keeps _ & main-keeps _ & main-keeps _ & main-keeps _ & main-keeps _ & main-keeps _ & main-keeps _
+    & main-keeps _ & main-keeps _ & main-keeps _ & main-keeps _ & tt & omega arith & omega arith & omega arith & omega arith
+    & some-keeps & tt & tt & tt
 
 among-orderly : (list : List (ℕ × Row)) (number : ℕ) → AreOrderly list → IsOrderly number (row_among list number)
 among-orderly [] number each = none-keeps
@@ -134,7 +134,7 @@ unfolding push_row
 push-orderly number bytes = by (ltb 520 (length bytes))
   where
     by : (long : Bool) → IsOrderly number (if long then disabled else changes (push bytes))
-    by true = disabled-orderly number
+    by true = disabled-keeps
     by false = main-keeps (push bytes)
 
 pub row-orderly : (number : ℕ) (bytes : List ℕ) → IsOrderly number (row_of (number ∷ bytes))
