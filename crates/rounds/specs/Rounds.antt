@@ -1,6 +1,6 @@
 -- Rounds: what is wanted is found out, and the question is put again.
 use Rattle.std.proofs.Common.{◌≢◌}
-use Rattle.std.specs.Prelude.{◌≡◌, ◌⊎◌, ℕ, ◌*◌, ◌<◌, List, [], ◌∷◌, length, All, None, ⊤}
+use Rattle.std.specs.Prelude.{◌≡◌, ℕ, ◌*◌, List, [], ◌∷◌, length, All, None, ⊤}
 use Rattle.curve.specs.Known.{Known}
 use Rattle.curve.specs.Triple.{Triple}
 use Rattle.curve.specs.laws.Growth.{Grows}
@@ -25,15 +25,6 @@ AreRounds Want (known ∷ later) = ((wanted : List Triple) × Want known wanted 
 -- an input wants one signature at a time
 abbrev pub WantsOne : Question → Known → List Triple → Type 0
 WantsOne q known wanted = (t : Triple) × (verdict known q ≡ Wants t) × (wanted ≡ t ∷ [])
-
--- one of these inputs wants it
-abbrev pub IsWantedAmong : List Question → Known → Triple → Type 0
-IsWantedAmong [] known t = ⊥
-IsWantedAmong (q ∷ qs) known t = (verdict known q ≡ Wants t) ⊎ IsWantedAmong qs known t
-
--- each of these signatures is wanted by one of these inputs, and there is one
-abbrev pub WantSome : List Question → Known → List Triple → Type 0
-WantSome qs known wanted = (0 < length wanted) × All (IsWantedAmong qs known) wanted
 
 -- all that the jobs want before the first that is refused
 abbrev pub JobsWant : List Job → Known → List Triple → Type 0

@@ -5,3 +5,5 @@ pub mod Asking
 pub mod Scripts
 pub mod Rounds
 pub mod Jobs
+pub mod Blocks
+pub mod Commands
