@@ -83,7 +83,8 @@ module _ (q : Question) where
       (says left (suc m) None (omega arith))
 
   -- one for each key
-  pairs : (m : ℕ) (code : List ℕ) (signatures keys : List Bytes) → AsksWithin (left_in (λ answer. m)) (length keys + m) (λ known. pairs_verdict known q code signatures keys)
+  pairs : (m : ℕ) (code : List ℕ) (signatures keys : List Bytes)
+      → AsksWithin (left_in (λ answer. m)) (length keys + m) (λ known. pairs_verdict known q code signatures keys)
   unfolding pairs_verdict
   pairs m code [] keys = says (left_in (λ answer. m)) (length keys + m) (Some true) (omega arith)
   pairs m code (signature ∷ signatures) [] = says (left_in (λ answer. m)) (0 + m) (Some false) (omega arith)
@@ -132,7 +133,8 @@ module _ (q : Question) where
   done : (o : Option State) (s : State) → Stays s o → AsksWithin (left_in room) (0 + room s) (λ known. Says o)
   done o s stays = says (left_in room) (0 + room s) o (omega (arith, stays))
 
-  executing-within : (after : List ℕ) (number : ℕ) (row : Row) (s : State) → IsOrderly number row → AsksWithin (left_in room) (places_in row + room s) (λ known. after_executing known q after row s)
+  executing-within : (after : List ℕ) (number : ℕ) (row : Row) (s : State) → IsOrderly number row
+      → AsksWithin (left_in room) (places_in row + room s) (λ known. after_executing known q after row s)
   executing-within after number (Does f) s orderly = done (f s) s (orderly s)
   executing-within after number (Controls f untaken) s orderly = done (f s) s (orderly.0 s)
   executing-within after number (Tests check) s orderly = test-within check s
@@ -141,13 +143,15 @@ module _ (q : Question) where
   executing-within after number Separates s orderly = done (Some record s { code = after }) s (omega arith)
   executing-within after number (Asks in_force test) s orderly = done _ s (ask-keeps (in_force q.flags) (test q.tx q.input) s)
 
-  acting-within : (after : List ℕ) (number : ℕ) (row : Row) (s : State) → IsOrderly number row → AsksWithin (left_in room) (places_in row + room s) (λ known. after_acting known q after row s)
+  acting-within : (after : List ℕ) (number : ℕ) (row : Row) (s : State) → IsOrderly number row
+      → AsksWithin (left_in room) (places_in row + room s) (λ known. after_acting known q after row s)
   unfolding after_acting
   acting-within after number row s orderly =
       chosen (left_in room) (places_in row + room s) (is_executing s) _ _ (executing-within after number row s orderly)
       (says (left_in room) (places_in row + room s) (skipped row s) (let h = skipped-keeps number row orderly s in omega (arith, h)))
 
-  counting-within : (after : List ℕ) (number : ℕ) (row : Row) (s : State) → IsOrderly number row → AsksWithin (left_in room) (places_in row + room s) (λ known. after_counting known q after row s)
+  counting-within : (after : List ℕ) (number : ℕ) (row : Row) (s : State) → IsOrderly number row
+      → AsksWithin (left_in room) (places_in row + room s) (λ known. after_counting known q after row s)
   counting-within after number row s orderly = maps (left_in room) (left_in room) (places_in row + room s) (option_and_then within_bounds) _ bounds-stay (acting-within after number row s orderly)
 
   pub step-within : (after op : List ℕ) (s : State) → AsksWithin (left_in room) (room s) (λ known. step known q after op s)
@@ -178,7 +182,8 @@ module _ (q : Question) where
   unfolding after_acting
   acting-quiet after number row s orderly low = by (is_executing s) (executing-quiet after number row s orderly low)
     where
-      by : (b : Bool) → IsQuiet (λ known. after_executing known q after row s) → IsQuiet (λ known. if b then after_executing known q after row s else Says (skipped row s))
+      by : (b : Bool) → IsQuiet (λ known. after_executing known q after row s)
+          → IsQuiet (λ known. if b then after_executing known q after row s else Says (skipped row s))
       by true told = told
       by false told = (skipped row s, λ known. refl)
 

@@ -39,12 +39,14 @@ abbrev pub grafted : {A B : Type 0} → (A → Inquiry B) → Inquiry A → Inqu
 grafted f (End x) = f x
 grafted f (Ask t valid invalid) = Ask t (grafted f valid) (grafted f invalid)
 
-asked-follow : {A B : Type 0} (f : A → Answer B) (o : Option Bool) (t : Triple) (valid invalid : Answer A) → follow f (asked o t valid invalid) ≡ asked o t (follow f valid) (follow f invalid)
+asked-follow : {A B : Type 0} (f : A → Answer B) (o : Option Bool) (t : Triple) (valid invalid : Answer A)
+    → follow f (asked o t valid invalid) ≡ asked o t (follow f valid) (follow f invalid)
 asked-follow f (Some true) t valid invalid = refl
 asked-follow f (Some false) t valid invalid = refl
 asked-follow f None t valid invalid = refl
 
-grafted-answers : {A B : Type 0} (known : Known) (f : A → Inquiry B) (tree : Inquiry A) → follow (λ x. answer_by known (f x)) (answer_by known tree) ≡ answer_by known (grafted f tree)
+grafted-answers : {A B : Type 0} (known : Known) (f : A → Inquiry B) (tree : Inquiry A)
+    → follow (λ x. answer_by known (f x)) (answer_by known tree) ≡ answer_by known (grafted f tree)
 grafted-answers known f (End x) = refl
 grafted-answers known f (Ask t valid invalid) =
     asked-follow (λ x. answer_by known (f x)) (known t) t (answer_by known valid) (answer_by known invalid)
@@ -54,7 +56,8 @@ wider : {A : Type 0} (left : A → ℕ) (n m : ℕ) (tree : Inquiry A) → n ≤
 wider left n m (End x) h k = omega (arith, h, k)
 wider left n m (Ask t valid invalid) h k = (k.0, omega (arith, h, k.1), k.2, k.3)
 
-grafted-within : {A B : Type 0} (left : A → ℕ) (remains : B → ℕ) (n : ℕ) (f : A → Inquiry B) (tree : Inquiry A) → IsWithin left n tree → ((x : A) → IsWithin remains (left x) (f x)) → IsWithin remains n (grafted f tree)
+grafted-within : {A B : Type 0} (left : A → ℕ) (remains : B → ℕ) (n : ℕ) (f : A → Inquiry B) (tree : Inquiry A) → IsWithin left n tree
+    → ((x : A) → IsWithin remains (left x) (f x)) → IsWithin remains n (grafted f tree)
 grafted-within left remains n f (End x) h each = wider remains (left x) n (f x) h (each x)
 grafted-within left remains n f (Ask t valid invalid) h each =
     (h.0, h.1, grafted-within left remains h.0 f valid h.2 each, grafted-within left remains h.0 f invalid h.3 each)
@@ -72,7 +75,8 @@ follow-same : {A B : Type 0} (f g : A → Answer B) (a : Answer A) → ((x : A) 
 follow-same f g (Says x) same = same x
 follow-same f g (Wants t) same = refl
 
-pub follows : {A B : Type 0} (left : A → ℕ) (remains : B → ℕ) (n : ℕ) (f : Known → Answer A) (g : A → Known → Answer B) → AsksWithin left n f → ((x : A) → AsksWithin remains (left x) (g x))
+pub follows : {A B : Type 0} (left : A → ℕ) (remains : B → ℕ) (n : ℕ) (f : Known → Answer A) (g : A → Known → Answer B) → AsksWithin left n f
+    → ((x : A) → AsksWithin remains (left x) (g x))
     → AsksWithin remains n (λ known. follow (λ x. g x known) (f known))
 follows left remains n f g a each = (
   grafted (λ x. (each x).0) a.0,
@@ -86,7 +90,8 @@ map-follow : {A B : Type 0} (f : A → B) (a : Answer A) → answer_map f a ≡ 
 map-follow f (Says x) = refl
 map-follow f (Wants t) = refl
 
-pub maps : {A B : Type 0} (left : A → ℕ) (remains : B → ℕ) (n : ℕ) (f : A → B) (g : Known → Answer A) → ((x : A) → remains (f x) ≤ left x) → AsksWithin left n g → AsksWithin remains n (λ known. answer_map f (g known))
+pub maps : {A B : Type 0} (left : A → ℕ) (remains : B → ℕ) (n : ℕ) (f : A → B) (g : Known → Answer A) → ((x : A) → remains (f x) ≤ left x) → AsksWithin left n g
+    → AsksWithin remains n (λ known. answer_map f (g known))
 maps left remains n f g kept a =
     alike remains n (λ known. follow (λ x. Says (f x)) (g known)) (λ known. answer_map f (g known)) (λ known. map-follow f (g known))
     (follows left remains n g (λ x known. Says (f x)) a (λ x. says remains (left x) (f x) (kept x)))
@@ -100,7 +105,8 @@ abbrev pub left_in : {A : Type 0} → (A → ℕ) → Option A → ℕ
 left_in left (Some x) = left x
 left_in left None = 0
 
-pub somes : {A B : Type 0} (remains : Option B → ℕ) (n : ℕ) (o : Option A) (g : A → Known → Answer (Option B)) → remains None ≤ n → ((x : A) → o ≡ Some x → AsksWithin remains n (g x))
+pub somes : {A B : Type 0} (remains : Option B → ℕ) (n : ℕ) (o : Option A) (g : A → Known → Answer (Option B)) → remains None ≤ n
+    → ((x : A) → o ≡ Some x → AsksWithin remains n (g x))
     → AsksWithin remains n (λ known. on_some (λ x. g x known) o)
 somes remains n (Some x) g none each = each x refl
 somes remains n None g none each = says remains n None none
@@ -121,7 +127,8 @@ also-follow (Says false) b = refl
 also-follow (Wants t) b = refl
 
 -- of the first there remain those of the second
-pub alsos : (n m : ℕ) (f g : Known → Answer Bool) → AsksWithin (λ valid. m) n f → AsksWithin (λ valid. 0) m g → AsksWithin (λ valid. 0) n (λ known. also (f known) (g known))
+pub alsos : (n m : ℕ) (f g : Known → Answer Bool) → AsksWithin (λ valid. m) n f → AsksWithin (λ valid. 0) m g
+    → AsksWithin (λ valid. 0) n (λ known. also (f known) (g known))
 alsos n m f g a b =
     alike (λ valid. 0) n (λ known. follow (λ valid. if valid then g known else Says false) (f known)) (λ known. also (f known) (g known)) (λ known. also-follow (f known) (g known))
     (follows (λ valid. m) (λ valid. 0) n f (λ valid known. if valid then g known else Says false) a by)
@@ -138,7 +145,8 @@ before {A} n m f a = (a.0, by n a.0 a.1, a.2)
     by n (End x) h = omega (arith, h)
     by n (Ask t valid invalid) h = (h.0 + m, omega (arith, h.1), by h.0 valid h.2, by h.0 invalid h.3)
 
-pub chosen : {A : Type 0} (left : A → ℕ) (n : ℕ) (b : Bool) (f g : Known → Answer A) → AsksWithin left n f → AsksWithin left n g → AsksWithin left n (λ known. if b then f known else g known)
+pub chosen : {A : Type 0} (left : A → ℕ) (n : ℕ) (b : Bool) (f g : Known → Answer A) → AsksWithin left n f → AsksWithin left n g
+    → AsksWithin left n (λ known. if b then f known else g known)
 chosen left n true f g a b = a
 chosen left n false f g a b = b
 
@@ -182,7 +190,8 @@ module _ (known next : Known) (grows : Grows known next) where
       yet-fewer t (known t) (asks_left known valid) (asks_left known invalid) (asks_left next valid) (asks_left next invalid) refl (fewer-left valid) (fewer-left invalid)
 
   -- where what was wanted is known
-  one-fewer : {A : Type 0} (tree valid invalid : Inquiry A) (t : Triple) (o : Option Bool) → next t ≡ o → o ≢ None → yet o (asks_left next valid) (asks_left next invalid) < suc (max (asks_left known valid) (asks_left known invalid))
+  one-fewer : {A : Type 0} (tree valid invalid : Inquiry A) (t : Triple) (o : Option Bool) → next t ≡ o → o ≢ None
+      → yet o (asks_left next valid) (asks_left next invalid) < suc (max (asks_left known valid) (asks_left known invalid))
   one-fewer tree valid invalid t (Some true) is some =
       let l = le-max_left (asks_left known valid) (asks_left known invalid) in let f = fewer-left valid in omega (arith, l, f)
   one-fewer tree valid invalid t (Some false) is some =
@@ -193,7 +202,8 @@ module _ (known next : Known) (grows : Grows known next) where
   one-found (End x) t e found = cc
   one-found (Ask u valid invalid) t e found = by (known u) refl (λ h. one-found valid t h found) (λ h. one-found invalid t h found) e
     where
-      by : (o : Option Bool) → known u ≡ o → (answer_by known valid ≡ Wants t → asks_left next valid < asks_left known valid) → (answer_by known invalid ≡ Wants t → asks_left next invalid < asks_left known invalid)
+      by : (o : Option Bool) → known u ≡ o → (answer_by known valid ≡ Wants t → asks_left next valid < asks_left known valid)
+          → (answer_by known invalid ≡ Wants t → asks_left next invalid < asks_left known invalid)
           → asked o u (answer_by known valid) (answer_by known invalid) ≡ Wants t → asks_left next (Ask u valid invalid) < yet o (asks_left known valid) (asks_left known invalid)
       by (Some true) is yes_fewer no_fewer e = rw (grows u true is) (yes_fewer e)
       by (Some false) is yes_fewer no_fewer e = rw (grows u false is) (no_fewer e)

@@ -42,7 +42,8 @@ unfolding wants_below
 some-below verdict zero some = absurd (omega (arith, some))
 some-below verdict (suc n) some = by (verdict n) refl (some-below verdict n) some
   where
-    by : (a : Answer Bool) → verdict n ≡ a → (0 < length (wants_below verdict n) → (place : ℕ) × (t : Triple) × (place < n) × (verdict place ≡ Wants t)) → 0 < length (wants_below verdict n ++ want_of a)
+    by : (a : Answer Bool) → verdict n ≡ a → (0 < length (wants_below verdict n) → (place : ℕ) × (t : Triple) × (place < n) × (verdict place ≡ Wants t))
+        → 0 < length (wants_below verdict n ++ want_of a)
         → (place : ℕ) × (t : Triple) × (place < suc n) × (verdict place ≡ Wants t)
     by (Wants t) is before some = (n, t, omega arith, is)
     by (Says answer) is before some =
@@ -64,7 +65,8 @@ missing jobs known place t e = by (slice_get jobs place) refl e
     by None is e = cc
 
 -- the first place that is refused only moves down
-end-kept : (jobs : List Job) (known next : Known) → Grows known next → (end later : ℕ) → IsEnd (length jobs) (verdict_at known jobs) end → IsEnd (length jobs) (verdict_at next jobs) later → later ≤ end
+end-kept : (jobs : List Job) (known next : Known) → Grows known next → (end later : ℕ) → IsEnd (length jobs) (verdict_at known jobs) end
+    → IsEnd (length jobs) (verdict_at next jobs) later → later ≤ end
 end-kept jobs known next grows end later is will =
     ⊎_elim (λ beyond. let inside = will.inside in absurd (will.before end beyond (kept (slice_get jobs end) (is.refused (omega (arith, beyond, inside)))))) (λ low. low) (cases_lt end later)
   where

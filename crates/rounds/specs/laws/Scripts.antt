@@ -40,7 +40,8 @@ module _ (q : Question) where
       let told = step-quiet q (concat others ++ left) number bytes s (leb-true number 96 each.0) in
       by told.0 told.1 (λ t. run-quiet left others t each.1)
     where
-      by : (o : Option State) → ((known : Known) → step known q (concat others ++ left) (number ∷ bytes) s ≡ Says o) → ((t : State) → IsQuiet (λ known. run known q left others t))
+      by : (o : Option State) → ((known : Known) → step known q (concat others ++ left) (number ∷ bytes) s ≡ Says o)
+          → ((t : State) → IsQuiet (λ known. run known q left others t))
           → IsQuiet (λ known. run known q left ((number ∷ bytes) ∷ others) s)
       by (Some t) is rest = let end = rest t in (end.0, λ known. ap (and_then (run known q left others)) (is known) ∙ end.1 known)
       by None is rest = (None, λ known. ap (and_then (run known q left others)) (is known))
@@ -68,7 +69,8 @@ module _ (q : Question) where
   ends-within script stack = maps (λ end. 0) (λ answer. 0) 201 has_true_top _ (λ end. omega arith) (outcome-within script stack)
 
   -- only with an input script that is push only there is an inner one
-  inner-within : (script : List ℕ) (left : Stack) (only : Bool) → is_push_only script ≡ only → AsksWithin (λ answer. 0) (if only then 201 else 0) (λ known. inner_verdict known q script left)
+  inner-within : (script : List ℕ) (left : Stack) (only : Bool) → is_push_only script ≡ only
+      → AsksWithin (λ answer. 0) (if only then 201 else 0) (λ known. inner_verdict known q script left)
   unfolding inner_verdict ends_true
   inner-within script left false only = (End false, omega arith, λ known. rw only refl)
   inner-within script [] true only = (End false, omega arith, λ known. rw only refl)
@@ -78,14 +80,16 @@ module _ (q : Question) where
   abbrev for_inner : Bool → ℕ
   for_inner only = if only then 201 else 0
 
-  on-within : (script : List ℕ) (left : Stack) (only : Bool) → is_push_only script ≡ only → AsksWithin (λ answer. 0) (201 + for_inner only) (λ known. verdict_on known q script left)
+  on-within : (script : List ℕ) (left : Stack) (only : Bool) → is_push_only script ≡ only
+      → AsksWithin (λ answer. 0) (201 + for_inner only) (λ known. verdict_on known q script left)
   unfolding verdict_on
   on-within script left only is =
       alsos (201 + for_inner only) (for_inner only) (λ known. ends_true (outcome known q q.spent left)) (λ known. if is_p2sh q.spent then inner_verdict known q script left else Says true)
       (before 201 (for_inner only) (λ known. ends_true (outcome known q q.spent left)) (ends-within q.spent left))
       (chosen (λ answer. 0) (for_inner only) (is_p2sh q.spent) _ _ (inner-within script left only is) (says (λ answer. 0) (for_inner only) true (omega arith)))
 
-  after-within : (script : List ℕ) (o : Option Stack) (only : Bool) → is_push_only script ≡ only → AsksWithin (λ answer. 0) (201 + for_inner only) (λ known. verdict_after known q script (Says o))
+  after-within : (script : List ℕ) (o : Option Stack) (only : Bool) → is_push_only script ≡ only
+      → AsksWithin (λ answer. 0) (201 + for_inner only) (λ known. verdict_after known q script (Says o))
   after-within script (Some left) only is = on-within script left only is
   after-within script None only is = says (λ answer. 0) (201 + for_inner only) false (omega arith)
 

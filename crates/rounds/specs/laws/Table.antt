@@ -196,7 +196,8 @@ skipped-keeps number Separates orderly = some-keeps
 skipped-keeps number (Asks in_force test) orderly = some-keeps
 
 -- an opcode that asks in its own place is counted
-counted-sound : (number : ℕ) (s counted : State) → with_count number s ≡ Some counted → ((number ≤ 96) × (s ≡ counted)) ⊎ ((96 < number) × (s.count < 201) × (counted.count ≡ s.count + 1))
+counted-sound : (number : ℕ) (s counted : State) → with_count number s ≡ Some counted
+    → ((number ≤ 96) × (s ≡ counted)) ⊎ ((96 < number) × (s.count < 201) × (counted.count ≡ s.count + 1))
 unfolding with_count
 counted-sound number s counted e =
     ⊎_elim
