@@ -1,12 +1,11 @@
 -- An opcode at the front of a script, and what it pushes.
-use Rattle.std.proofs.Common.{◌≡◌, ℕ, suc, ◌-◌, ◌==◌, ◌≤◌, Bool, true, false, List, [], ◌∷◌, ◌++◌, length, take, drop, nat_lt, refl, sym, ap, ◌∙◌, inl, inr, arith, length-drop}
-use Rattle.std.specs.Prelude.{if◌then◌else◌}
+use Rattle.std.proofs.Common.{◌≡◌, ℕ, suc, ◌-◌, ◌≤◌, List, [], ◌∷◌, ◌++◌, length, take, drop, Option, Some, None, refl, sym, ap, ◌∙◌, inl, inr, arith, length-drop}
 use Rattle.std.proofs.lemmas.Bool.{cases_lt}
 use Rattle.std.proofs.lemmas.List.{take_at, drop_at, drop_all}
-use Rattle.script.specs.Op.{number_of, pushed_of, pushed_after}
+use Rattle.std.specs.Option.{option_map_or}
+use Rattle.script.specs.Op.{length_width, number_of, pushed_of, pushed_after}
 use Rattle.script.specs.Ops.{ops}
-use Rattle.ffi.specs.declared.shown.ShownOp.{ShownOp}
-use Rattle.ffi.specs.Scripts.{IsOpShown, ShowsOp}
+use Rattle.ffi.specs.Scripts.{IsOpShown}
 
 -- what is behind some bytes are the last of all
 last_behind : (k : ℕ) (xs : List ℕ) → drop (length xs - length (drop k xs)) xs ≡ drop k xs
@@ -21,14 +20,11 @@ last_behind k xs = elim (cases_lt k (length xs)) [
 
 -- what is pushed stands behind the number and the length
 behind : (number : ℕ) (bytes : List ℕ) → (k : ℕ) × (pushed_after number bytes ≡ drop k (number ∷ bytes))
-behind number bytes = go (nat_lt number 76) (number == 76) (number == 77) (number == 78)
+behind number bytes = by (length_width number)
   where
-    go : (a b c d : Bool) → (k : ℕ) × ((if a then bytes else (if b then drop 1 bytes else (if c then drop 2 bytes else (if d then drop 4 bytes else [])))) ≡ drop k (number ∷ bytes))
-    go true b c d = (1, refl)
-    go false true c d = (2, refl)
-    go false false true d = (3, refl)
-    go false false false true = (5, refl)
-    go false false false false = (suc (length bytes), sym (drop_all (suc (length bytes)) (number ∷ bytes) (omega arith)))
+    by : (width : Option ℕ) → (k : ℕ) × (option_map_or (λ w. drop w bytes) width [] ≡ drop k (number ∷ bytes))
+    by (Some width) = (suc width, refl)
+    by None = (suc (length bytes), sym (drop_all (suc (length bytes)) (number ∷ bytes) (omega arith)))
 
 -- the bytes that an opcode pushes are its last
 pushed_last : (op : List ℕ) → drop (length op - length (pushed_of op)) op ≡ pushed_of op

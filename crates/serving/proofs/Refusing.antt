@@ -1,12 +1,13 @@
 -- Which calls a method doesn't mean.
-use Rattle.std.specs.Prelude.{ℕ, List, codes, true, Option, None, Some, option_map, ⊤}
+use Rattle.std.specs.Prelude.{ℕ, List, codes, true, Option, None, Some, option_map, Result, Ok, Err, IfOk, IfErr, ⊤}
 use Rattle.std.specs.Option.{is_some}
-use Rattle.std.proofs.Common.{◌≡◌, sym, subst}
+use Rattle.std.specs.Result.{result_ok}
+use Rattle.std.proofs.Common.{◌≡◌, sym, subst, inr}
 use Rattle.json.specs.Json.{Json}
 use Rattle.hash.specs.declared.id.Id.{Id}
 use Rattle.txn.specs.declared.outpoint.OutPoint.{OutPoint}
 use Rattle.json.specs.Find.{get}
-use Rattle.serving.specs.Requests.{param, IsNumber, IsSeat, AreBytes, IsId, IsAbove, AreOutPoint, IsCall, IsRequest, IsAsked, method_name}
+use Rattle.serving.specs.Requests.{param, IsNumber, IsSeat, AreBytes, IsId, IsAbove, AreOutPoint, IsCall, IsRequest, IsAsked, IsInTurn, method_name}
 use Rattle.serving.specs.declared.request.Asked.TheVariants as asked
 use Rattle.serving.specs.inside.Given.{IsParam}
 use Rattle.serving.specs.declared.method.Method.{Method}
@@ -81,3 +82,9 @@ asked-refused seats j m seat refusal.Owed is by none = by
 asked-refused seats j m seat refusal.Closed is by none = by
 asked-refused seats j m seat refusal.Unsaved is by none = by
 asked-refused seats j m seat refusal.Busy is by none = by
+
+-- a request of no method is refused in the turn of the seat that it names
+pub refused-in-turn : (seats : ℕ) (j : Json) (p : Option Json) (Other : Refusal → Type 0) → p ≡ get (codes "params") j → (r : Result ℕ Refusal) → IfOk r (λ n. IsSeat seats (codes "seat") p n)
+    → IfErr r (λ why. Other why × ((n : ℕ) → IsSeat seats (codes "seat") p n → ⊥)) → (why : Refusal) → IsInTurn seats j (asked.Refused (result_ok r) why)
+refused-in-turn seats j p Other is (Ok n) ok err why = subst (λ q. IsSeat seats (codes "seat") q n) is ok
+refused-in-turn seats j p Other is (Err e) ok err why = inr (subst (λ q. (n : ℕ) → IsSeat seats (codes "seat") q n → ⊥) is err.1)

@@ -144,12 +144,17 @@ IsAsked seats j (asked.Refused seat refusal.Closed) = ⊥
 IsAsked seats j (asked.Refused seat refusal.Unsaved) = ⊥
 IsAsked seats j (asked.Refused seat refusal.Busy) = ⊥
 
--- a refused line that names a seat of the node is told in that seat's turn
+-- the value names no seat of the node, or is no request
+abbrev pub NamesNoSeat : ℕ → Json → Type 0
+NamesNoSeat seats j = ((name : List ℕ) → ¬ IsRequest j name)
+    ⊎ ((k : ℕ) → ¬ IsSeat seats (codes "seat") (get (codes "params") j) k)
+
+-- a refused line that names a seat of the node is told in that seat's turn, and no other is told in one
 abbrev pub IsInTurn : ℕ → Json → Asked → Type 0
 IsInTurn seats j (asked.Seat k c) = ⊤
 IsInTurn seats j asked.Info = ⊤
 IsInTurn seats j asked.Finish = ⊤
-IsInTurn seats j (asked.Refused None why) = ⊤
+IsInTurn seats j (asked.Refused None why) = NamesNoSeat seats j
 IsInTurn seats j (asked.Refused (Some k) why) = IsSeat seats (codes "seat") (get (codes "params") j) k
 
 -- what a value asks: it has this id and asks that; without an id it is no request

@@ -3,7 +3,6 @@ use Rattle.std.proofs.Common.{◌≡◌, List, inl, refl, sym, ap, subst, ◌∙
 use Rattle.block.specs.declared.block.Block.{Block}
 use Rattle.curve.specs.Known.{Known, Agrees}
 use Rattle.curve.specs.Triple.{Triple}
-use Rattle.queue.specs.declared.undecided.Undecided.TheVariants.{Unknown}
 use Rattle.queue.specs.Jobs.{told_by}
 use Rattle.activate.specs.CoreState.{CoreState, WithCoins}
 use Rattle.activate.specs.Wants.{AreWantedByStep}
