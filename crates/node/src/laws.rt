@@ -1,6 +1,6 @@
 //! What holds of the node's handles, and of what its seats are answered.
 
-ghost use Rattle.std.specs.Prelude.{◌≡◌, ℕ, List, [], ◌∷◌};
+ghost use Rattle.std.specs.Prelude.{◌≡◌, ℕ, ◌<◌, List, [], ◌∷◌, Some, slice_get};
 ghost use Rattle.std.specs.Option.{option_copied};
 ghost use mathlib.Core.List.{IsPrefix};
 ghost use Rattle.chain.specs.declared.command.Command.{Command};
@@ -10,8 +10,9 @@ ghost use Rattle.chain.specs.declared.entry.Entry.{Entry};
 ghost use Rattle.chain.specs.History.{own_of};
 ghost use Rattle.view.specs.Origin.{Origin};
 ghost use Rattle.view.specs.ViewState.{IsLegal};
-ghost use Rattle.node.specs.Pass.{Pass, IsStanding, opening_pass};
-ghost use Rattle.node.specs.Runs.{Call, Submit, Mark, GetTxOut, CoinsFrom, GetBestBlockHash, GetChainTips};
+ghost use Rattle.node.specs.Pass.{Pass, IsStanding, opening_pass, opening_passes};
+ghost use Rattle.node.specs.Runs.{Call, Submit, Mark, GetTxOut, CoinsFrom, GetBestBlockHash};
+ghost use Rattle.node.specs.Runs.{GetChainTips};
 ghost use Rattle.node.specs.Runs.{Journal, Note as Noted, Told, heard};
 ghost use Rattle.node.specs.Runs.{Makes, IsStep, ExplainsAll, steps_of};
 
@@ -61,6 +62,12 @@ pub fn all_calls_are_of_one_run()
     // And no place has steps of two seats.
     ensures apart { (o : Origin) (history : List Entry) (k l at : ℕ) (c d : Command) (r s : Reply)
         → IsStep o history k c at r → IsStep o history l d at s → k ≡ l }
+{}
+
+/// Each seat that `open` gives begins such a run.
+pub fn each_opened_seat_begins_a_run()
+    ensures { (o : Origin) (seats seat : ℕ) → seat < seats
+        → slice_get (opening_passes o seats) seat ≡ Some (opening_pass o seat) }
 {}
 
 /// What a seat's writing calls answer.
