@@ -236,7 +236,8 @@ class Pool(Walks):
     def coins(self) -> List[Tuple[bytes, int, Coin]]:
         """As `Bench.coins`. Other threads wait, so that all parts of the list are of one state."""
         self.settle()
-        seat, found = self.node.seat(self._number()), []
+        found: List[Tuple[bytes, int, Coin]] = []
+        seat = self.node.seat(self._number())
         seat.told(self.node.seat(self._newest))
         while True:
             part = seat.coins(found[-1][:2] if found else None).value
