@@ -1,5 +1,6 @@
 """What the scripts at the top say first, and how they end: without the kit, with another kit, and by a signal."""
 
+import io
 import os
 import re
 import signal
@@ -8,10 +9,12 @@ import sys
 import tempfile
 import time
 import unittest
+from contextlib import redirect_stderr, redirect_stdout
 
 ROOT = os.path.dirname(os.path.dirname(os.path.dirname(os.path.realpath(__file__))))
 sys.path.insert(0, f"{ROOT}/tools")
 import progress
+import style
 
 
 def tell(script: str, path: str) -> "tuple[int, str]":
@@ -107,3 +110,67 @@ class Progress(unittest.TestCase):
 
 if __name__ == "__main__":
     unittest.main()
+
+
+class Style(unittest.TestCase):
+    """A function's measures, and that one above its limit fails."""
+
+    TEXT = """
+impl Core {
+    /// A method.
+    pub(crate) fn step<B: Base, S: Fn(u8, u8) -> u8>(
+        &mut self,
+        alloc: Global,
+        pairs: &[(u8, Vec<u8>)],
+        f: fn(u8) -> u8,
+    ) -> Result<(Reply, Changes), S::Stop>
+        requires coins { B.coins base.now ≡ coins_of self.old }
+        // A comment that is no clause, and longer than the clauses are, which counts for nothing in their width here.
+        ensures outcome { IfOk result (λ done.
+            (done.0 ≡ done.1)) }
+    {
+        one();
+        two(|x| {
+            x
+        });
+    }
+
+    fn short(self) {}
+
+    fn of_trait(&self, n: u8) -> u8
+        ensures { result ≡ n };
+}
+
+pub fn plain(n: u8) -> u8 {
+    n
+}
+"""
+
+    def test_what_is_measured(self) -> None:
+        found = {head[2]: style.measured(self.TEXT, head.start(), head[1]) for head in style.HEAD.finditer(self.TEXT)}
+        self.assertEqual(found, {
+            "step": {"parameters": 3, "clauses": 2, "width": 63, "lines": 4},
+            "short": {"parameters": 0, "clauses": 0, "width": 0, "lines": 0},
+            "of_trait": {"parameters": 1, "clauses": 1, "width": 31, "lines": 0},
+            "plain": {"parameters": 1, "clauses": 0, "width": 0, "lines": 1},
+        })
+
+    def test_what_is_above_fails(self) -> None:
+        room = tempfile.TemporaryDirectory()
+        self.addCleanup(room.cleanup)
+        self.addCleanup(setattr, style, "ROOT", style.ROOT)
+        self.addCleanup(setattr, style, "LIST", style.LIST)
+        style.ROOT, style.LIST = room.name, f"{room.name}/style.txt"
+        os.makedirs(f"{room.name}/crates/a/src")
+        names = ", ".join(f"n{n}: u8" for n in range(7))
+        with open(f"{room.name}/crates/a/src/lib.rt", "w", encoding="utf-8") as file:
+            file.write(f"pub fn many({names}) -> u8 {{\n" + "    n0;\n" * 41 + "}\n")
+        for rows, status in (
+            ("", 1), ("parameters a/src/lib.rt many 7\n", 1), ("parameters a/src/lib.rt many 7\nlines a/src/lib.rt many 41\n", 0),
+            ("parameters a/src/lib.rt many 8\nlines a/src/lib.rt many 41\n", 1),
+        ):
+            with open(style.LIST, "w", encoding="utf-8") as file:
+                file.write(rows)
+            with self.subTest(rows), redirect_stdout(io.StringIO()), redirect_stderr(io.StringIO()):
+                sys.argv = ["style.py"]
+                self.assertEqual(style.main(), status)
