@@ -9,6 +9,7 @@ pub mod Findings
 pub mod History
 pub mod Kept
 pub mod Medians
+pub mod OneTry
 pub mod Ordinary
 pub mod Outcomes
 pub mod Preferring

@@ -161,6 +161,27 @@ pub fn a_block_beside_changes_nothing<B, I>()
         → step r s (Submit now b) ≡ submit_says (with_block s b p) Inconclusive }
 {}
 
+/// A block that is new in a settled state and the best usable one there settles it by its one try, valid or not; if it
+/// isn't valid, the active block stays. So no next best block is looked for.
+pub fn one_try_settles_a_new_block<B, I>()
+    ensures { (r : Rules B I) (s : State B) (b : B) (p : ℕ) → IsSettled r s
+        → let t = with_block s b p in let n = length t.blocks in
+        IsBest t (has_no_mark t) n n
+        → (settle r t ≡ state_after_try r t n)
+        × ((branch_connects r t.blocks n ≡ true → active r t ≡ n)
+        × (branch_connects r t.blocks n ≡ false → active r t ≡ active r s)) }
+{}
+
+/// So does a block that is called precious in a settled state and is the best usable one then.
+pub fn one_try_settles_a_call<B, I>()
+    ensures { (r : Rules B I) (s : State B) (p : ℕ) → IsSettled r s
+        → let t = with_call s p in
+        IsBest t (has_no_mark t) (length t.blocks) p
+        → (settle r t ≡ state_after_try r t p)
+        × ((branch_connects r t.blocks p ≡ true → active r t ≡ p)
+        × (branch_connects r t.blocks p ≡ false → active r t ≡ active r s)) }
+{}
+
 /// A call for the active block changes its rank alone.
 pub fn the_active_block_may_be_called_precious<B, I>()
     ensures { (r : Rules B I) (s : State B) (i : I) → IsSettled r s
