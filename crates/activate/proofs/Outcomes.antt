@@ -8,7 +8,7 @@ use Rattle.tree.specs.State.{State}
 use Rattle.chain.specs.declared.command.Command.{Command}
 use Rattle.activate.specs.declared.prepared.Prepared.{Prepared}
 use Rattle.activate.specs.declared.prepared.Completion.{Completion}
-use Rattle.activate.specs.declared.prepared.Completion.TheVariants.{Nothing, Mark, Activate}
+use Rattle.activate.specs.declared.prepared.Completion.TheVariants.{Nothing, Mark, Flag, Activate}
 use Rattle.chain.specs.Rules.{Rules}
 use Rattle.chain.specs.Submission.{Outcome}
 use Rattle.chain.specs.Settle.{active}
@@ -24,6 +24,7 @@ use Rattle.chain.specs.laws.Kept.{step_kept}
 params-finished : (r : Rules Block Id) (c : CoreState) (rest : Completion) → (core_after_commit r c rest).params ≡ c.params
 params-finished r c Nothing = refl
 params-finished r c (Mark p) = refl
+params-finished r c (Flag p failed) = refl
 params-finished r c (Activate p path undo) = refl
 
 -- what is prepared and put in place follows

@@ -2,7 +2,6 @@
 use Rattle.std.proofs.Common.{◌≡◌, ℕ, suc, ◌<◌, ◌≤◌, Bool, true, false, cond, not, ◌||◌, ◌&&◌, eqb, List, [], ◌∷◌, length, Option, Some, None, Result, Ok, Err, IfOk, sym, refl, ap, ◌∙◌, subst, inl, inr, arith}
 use Rattle.std.specs.Prelude.{if◌then◌else◌}
 use Rattle.std.specs.List.{filter}
-use Rattle.std.specs.List.Sorted.{IsStrictlySortedBy}
 use Rattle.std.proofs.lemmas.Bool.{cases_eq, ne_eqb}
 use Rattle.hash.specs.declared.id.Id.{Id}
 use Rattle.block.specs.declared.block.Block.{Block}
@@ -29,6 +28,7 @@ use Rattle.chain.specs.declared.reply.SubmitReply.{SubmitReply}
 use Rattle.chain.specs.declared.reply.MarkReply.TheVariants.{Done}
 use Rattle.activate.specs.declared.path.Reorganisation.{Reorganisation}
 use Rattle.chain.specs.Rules.{Rules}
+use Rattle.chain.specs.Valid.{branch_connects}
 use Rattle.chain.specs.Settle.{active, settle}
 use Rattle.chain.specs.Submission.{Outcome, submit_says, answer_added, outcome_of_added}
 use Rattle.chain.specs.Step.{mark_says}
@@ -37,18 +37,15 @@ use Rattle.chain.specs.Settled.{IsSettled}
 use Rattle.chain.specs.Replay.{replay}
 use Rattle.chain.specs.Regtest.{ledger}
 use Rattle.activate.specs.CoreState.{CoreState, coins_after, coins_of}
-use Rattle.activate.specs.inside.Preparation.{undo_after, CanTry, CanBeTakenBack, CanRollBack, FlagsFit, HasOtherFlags, IsPreparationFor, IsReady, ChangesNothing, TryLeads, Settles, core_after_commit, state_before_change, with_flags}
-use Rattle.chain.specs.laws.Actives.{active_kept, active_usable}
+use Rattle.activate.specs.inside.Preparation.{undo_after, CanTry, CanBeTakenBack, CanRollBack, FlagsFit, HasOtherFlags, IsOneTry, IsPreparationFor, IsReady, ChangesNothing, TryLeads, Settles, core_after_commit, state_before_change, with_flags}
+use Rattle.chain.specs.laws.Actives.{active_kept, active_usable, active_valid}
 use Rattle.chain.specs.laws.Connected.{valid_there}
 use Rattle.chain.specs.laws.Ordinary.{active-beside}
 use Rattle.chain.specs.laws.Preferring.{usable-called}
 use Rattle.chain.specs.laws.Settled.{active-settle, settle-blocks, best_usable}
-use Rattle.activate.proofs.Plans.{can_go, changes-leads, params-other}
-
--- nothing changes
-pub no_changes : (m : Coins) (cs : Changes) → cs ≡ [] → AreChanges m m cs
-unfolding IsStrictlySortedBy
-no_changes m cs e = subst (λ (x : Changes). AreChanges m m x) (sym e) (record { in_order = tt; differ = λ q w n. absurd (cc); others = λ q n. refl })
+use Rattle.chain.specs.laws.OneTry.{active-added_bad, active-called_bad, settle-added, settle-called}
+use Rattle.chain.specs.laws.Tries.{settle-best}
+use Rattle.activate.proofs.Plans.{can_go, changes-leads, no_changes, params-other}
 
 -- ---- sets of places
 
@@ -92,31 +89,31 @@ module _ (r : Rules Block Id) where
             ∙ ap (λ (f : Option FlagsOf). record a { state = with_flags f a.state }) still.flags_are;
       }
 
-  -- the state is settled after something was first done to the tree: a is before it, b after it, and c has other flags
-  module _ (a b c : CoreState) (flags : Option FlagsOf) (rest : Completion) (changes : Changes) (settled : Settles r b c flags rest changes) (genesis : has_no_mark b.state 0 ≡ true)
-      (prepared : Prepared) (rest_is : prepared.rest ≡ rest) (changes_is : prepared.changes ≡ changes) (flags_is : prepared.rollback.flags ≡ flags) where
+  -- the state is settled after something was first done to the tree: a is before it, and b after it
+  module _ (a b : CoreState) (rest : Completion) (changes : Changes) (settled : Settles r b rest changes) (genesis : has_no_mark b.state 0 ≡ true)
+      (prepared : Prepared) (rest_is : prepared.rest ≡ rest) (changes_is : prepared.changes ≡ changes) (flags_is : prepared.rollback.flags ≡ None) where
     pub plan-settled : (after : Outcome Block) (first : TreeChange) → prepared.rollback.first ≡ first → b.params ≡ a.params → coins_of b ≡ coins_of a → record b { state = state_before_change first b.state } ≡ a
-        → CanBeTakenBack first b.active b.state → (settle r b.state, prepared.reply) ≡ after → IsPreparationFor r a after c prepared
+        → CanBeTakenBack first b.active b.state → (settle r b.state, prepared.reply) ≡ after → IsPreparationFor r a after b prepared
     plan-settled after first first_is params coins rollback can e =
-        let done : core_after_commit r c prepared.rest ≡ core_after_commit r c rest = ap (core_after_commit r c) rest_is in
-        let state : (core_after_commit r c prepared.rest).state ≡ settle r b.state = ap (λ (x : CoreState). x.state) done ∙ settled.state_is in
-        let was : record c { state = with_flags prepared.rollback.flags c.state } ≡ b = ap (λ (f : Option FlagsOf). record c { state = with_flags f c.state }) flags_is ∙ settled.back_is in
+        let done : core_after_commit r b prepared.rest ≡ core_after_commit r b rest = ap (core_after_commit r b) rest_is in
+        let state : (core_after_commit r b prepared.rest).state ≡ settle r b.state = ap (λ (x : CoreState). x.state) done ∙ settled.state_is in
+        let was : ◌≡◌ {A = State Block} (with_flags prepared.rollback.flags b.state) b.state = ap (λ (f : Option FlagsOf). with_flags f b.state) flags_is in
         record {
-          params_are = params-other b c settled.other_flags ∙ params;
+          params_are = params;
           outcome_is = ap (λ (s : State Block). (s, prepared.reply)) state ∙ e;
           active_is =
               ap (λ (x : CoreState). x.active) done ∙ settled.active_is ∙ sym (active-settle r b.state genesis) ∙ sym (ap (active r) state);
           changes_are =
-              subst (λ (l : Changes). AreChanges (coins_of a) (coins_of (core_after_commit r c prepared.rest)) l) (sym changes_is)
+              subst (λ (l : Changes). AreChanges (coins_of a) (coins_of (core_after_commit r b prepared.rest)) l) (sym changes_is)
               (subst (λ (x : CoreState). AreChanges (coins_of a) (coins_of x) changes) (sym done)
-              (subst (λ (m : Coins). AreChanges m (coins_of (core_after_commit r c rest)) changes) coins settled.changes_are));
-          ready = subst (λ (x : Completion). IsReady r c x) (sym rest_is) settled.ready;
+              (subst (λ (m : Coins). AreChanges m (coins_of (core_after_commit r b rest)) changes) coins settled.changes_are));
+          ready = subst (λ (x : Completion). IsReady r b x) (sym rest_is) settled.ready;
           can_go_back = record {
-            flags = subst (λ (f : Option FlagsOf). FlagsFit c.state f) (sym flags_is) settled.fit;
-            first = subst (λ (x : CoreState). CanBeTakenBack prepared.rollback.first x.active x.state) (sym was) (subst (λ (f : TreeChange). CanBeTakenBack f b.active b.state) (sym first_is) can);
+            flags = subst (λ (f : Option FlagsOf). FlagsFit b.state f) (sym flags_is) tt;
+            first = subst (λ (s : State Block). CanBeTakenBack prepared.rollback.first b.active s) (sym was) (subst (λ (f : TreeChange). CanBeTakenBack f b.active b.state) (sym first_is) can);
           };
           back_is =
-              ap (λ (x : CoreState). record x { state = state_before_change prepared.rollback.first x.state }) was
+              ap (λ (s : State Block). record b { state = state_before_change prepared.rollback.first s }) was
               ∙ ap (λ (f : TreeChange). record b { state = state_before_change f b.state }) first_is ∙ rollback;
         }
 
@@ -233,6 +230,11 @@ module _ (r : Rules Block Id) where
           ];
         }
 
+    -- and then its one try settles the state
+    pub one-try-added : a.active ≡ active r a.state → IsBest (with_block a.state b p) (has_no_mark (with_block a.state b p)) (length (with_block a.state b p).blocks) (suc (length a.state.blocks))
+        → IsOneTry r (record a { state = with_block a.state b p }) (suc (length a.state.blocks))
+    one-try-added act best = record { settles = settle-added r a.state sound b p best; stays = λ bad. active-added_bad r a.state sound b p best bad ∙ sym act }
+
     pub coins-added : coins_of (record a { state = with_block a.state b p }) ≡ coins_of a
     coins-added = ap (λ (l : List Block). replay ledger l) (blocks-old names (record { block = b; parent = p }) a.state.blocks a.active can.kept)
 
@@ -345,3 +347,13 @@ module _ (r : Rules Block Id) (a : CoreState) (sound : IsSettled r a.state) (act
       either : (b : Bool) → has_no_mark a.state p ≡ b → IsBest t (has_no_mark t) (length t.blocks) (if b then p else a.active)
       either true u = called-usable u
       either false u = called-other u
+
+  -- whose one try settles the state: the active one is valid
+  pub one-try-called : (first : ℕ) → first ≡ (if has_no_mark a.state p then p else a.active) → IsOneTry r (record a { state = t }) first
+  one-try-called first e = subst (λ (x : ℕ). IsOneTry r (record a { state = t }) x) (sym e) (either (has_no_mark a.state p) refl)
+    where
+      either : (b : Bool) → has_no_mark a.state p ≡ b → IsOneTry r (record a { state = t }) (if b then p else a.active)
+      either true u = record { settles = settle-called r a.state sound p (called-usable u); stays = λ bad. active-called_bad r a.state sound p (called-usable u) bad ∙ sym act }
+      either false u =
+          let valid : branch_connects r a.state.blocks a.active ≡ true = subst (λ (z : ℕ). branch_connects r a.state.blocks z ≡ true) (sym act) (active_valid r a.state sound.genesis) in
+          record { settles = settle-best r t a.active (usable-called r a.state p 0 ∙ sound.genesis) (called-other u) valid; stays = λ bad. absurd (clash _ valid bad) }

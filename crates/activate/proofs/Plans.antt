@@ -1,22 +1,22 @@
 -- What tries do to the state between a command and its settled state.
-use Rattle.std.proofs.Common.{◌≡◌, ℕ, suc, ◌+◌, ◌<◌, ◌≤◌, Bool, true, false, cond, ◌||◌, ◌&&◌, List, [], ◌∷◌, ◌++◌, length, reverse, Some, None, sym, refl, ap, ◌∙◌, subst, inl, inr, ◌⊎◌, arith}
+use Rattle.std.proofs.Common.{◌≡◌, ℕ, ◌+◌, ◌<◌, ◌≤◌, Bool, true, false, cond, ◌||◌, ◌&&◌, List, [], ◌∷◌, ◌++◌, length, reverse, sym, refl, ap, ◌∙◌, subst, inl, inr, ◌⊎◌, arith}
+use Rattle.std.specs.List.Sorted.{IsStrictlySortedBy}
 use Rattle.std.proofs.lemmas.Bool.{or_left, cases_eq, eq-eqb, ne_eqb, false_from_ne_true, and_parts}
 use Rattle.std.proofs.lemmas.List.{append_assoc, reverse-append, reverse-reverse, length-reverse, length-append}
 use Rattle.hash.specs.declared.id.Id.{Id}
 use Rattle.block.specs.declared.block.Block.{Block}
 use Rattle.coins.specs.Coins.{Coins}
-use Rattle.coins.specs.Changes.{AreChanges}
+use Rattle.coins.specs.Changes.{Changes, AreChanges}
 use Rattle.tree.specs.Branches.{Blocks, first_of, rest_of, has, on, parent_at}
 use Rattle.tree.specs.State.{State, has_no_mark}
-use Rattle.tree.specs.Flags.{FlagsOf, flags_of}
 use Rattle.tree.specs.Sound.{IsBest}
-use Rattle.tree.specs.laws.Branches.{on-bounds, on-itself, on-genesis}
+use Rattle.tree.specs.laws.Branches.{on-bounds, on-itself}
 use Rattle.tree.specs.laws.Marks.{bad-flagged, seen-flagged, usable_gives}
 use Rattle.tree.specs.laws.Parents.{parent-below, on-rest}
 use Rattle.tree.specs.laws.Sets.{has_here, has_there, in_order-joined}
 use Rattle.tree.specs.laws.Above.{above, above-end, above-step}
 use Rattle.activate.specs.declared.prepared.Completion.{Completion}
-use Rattle.activate.specs.declared.prepared.Completion.TheVariants.{Activate}
+use Rattle.activate.specs.declared.prepared.Completion.TheVariants.{Flag, Activate}
 use Rattle.chain.specs.declared.reply.SubmitReply.TheVariants.{Accepted, Inconclusive, Rejected}
 use Rattle.activate.specs.declared.path.FailedTry.{FailedTry}
 use Rattle.activate.specs.declared.path.Reorganisation.{Reorganisation}
@@ -28,7 +28,7 @@ use Rattle.chain.specs.Try.{fails_on, passes_on, state_after_try}
 use Rattle.chain.specs.Settled.{IsSettled, AllKept}
 use Rattle.activate.specs.CoreState.{CoreState, coins_after, coins_of}
 use Rattle.activate.specs.inside.Paths.{LeadsTo, FailsAt}
-use Rattle.activate.specs.inside.Preparation.{TriesLead, CanTry, CanActivate, HasOtherFlags, TryLeads, Settles, with_flags, reply_to_failed_try}
+use Rattle.activate.specs.inside.Preparation.{IsOneTry, TriesLead, CanTry, CanActivate, HasOtherFlags, TryLeads, Settles, reply_to_failed_try}
 use Rattle.chain.specs.laws.Actives.{active_kept, active_valid}
 use Rattle.chain.specs.laws.Candidates.{never_fails, same_first, on_candidate_from}
 use Rattle.activate.specs.laws.Noting.{above-on}
@@ -75,32 +75,11 @@ other-tried r a b p is = record {
   precious_is = tried-precious r b.state p ∙ is.precious_is;
 }
 
-pub other_trans : (a b c : CoreState) → HasOtherFlags a b → HasOtherFlags b c → HasOtherFlags a c
-other_trans a b c x y = record {
-  same = ap (λ (z : CoreState). record z { state = c.state }) x.same ∙ y.same;
-  blocks_are = y.blocks_are ∙ x.blocks_are;
-  precious_is = y.precious_is ∙ x.precious_is;
-}
-
 pub active-other : (a b : CoreState) → HasOtherFlags a b → b.active ≡ a.active
 active-other a b is = ap (λ (x : CoreState). x.active) (sym is.same)
 
 pub coins-other : (a b : CoreState) → HasOtherFlags a b → coins_of b ≡ coins_of a
 coins-other a b is = ap (λ (t : Blocks Block). coins_after t b.active) is.blocks_are ∙ ap (coins_after a.state.blocks) (active-other a b is)
-
--- the flags put back
-pub back-other : (a b : CoreState) (f : FlagsOf) → HasOtherFlags a b → f ≡ flags_of a.state → record b { state = with_flags (Some f) b.state } ≡ a
-back-other a b f is e =
-    ap (λ (g : FlagsOf). record b { state = with_flags (Some g) b.state }) e
-    ∙ ap (λ (t : Blocks Block). record b { state = record b.state { blocks = t; bad = a.state.bad; seen = a.state.seen } }) is.blocks_are
-    ∙ ap (λ (l : List ℕ). record b { state = record a.state { precious = l } }) is.precious_is
-    ∙ ap (λ (x : CoreState). record x { state = a.state }) (sym is.same)
-
-pub fit-other : (r : Rules Block Id) (a b : CoreState) (f : FlagsOf) → HasOtherFlags a b → CanTry r a → f ≡ flags_of a.state → (f.len ≡ suc (length b.state.blocks)) × (has f.bad 0 ≡ false)
-fit-other r a b f is can e = (
-  ap (λ (g : FlagsOf). g.len) e ∙ ap (λ (t : Blocks Block). suc (length t)) (sym is.blocks_are),
-  ap (λ (g : FlagsOf). has g.bad 0) e ∙ usable_gives a.state 0 0 can.genesis (on-genesis a.state.blocks 0),
-)
 
 pub params-other : (a b : CoreState) → HasOtherFlags a b → b.params ≡ a.params
 params-other a b is = ap (λ (x : CoreState). x.params) (sym is.same)
@@ -155,43 +134,36 @@ module _ (r : Rules Block Id) (a b : CoreState) (p : ℕ) (move : Reorganisation
       subst (λ (t : Blocks Block). AreChanges (coins_of a) (coins_after t p) move.changes) (sym (tried-blocks r b.state p))
       (subst (λ (m : Coins). AreChanges m (coins_after b.state.blocks p) move.changes) (coins-other a b is) l.moves.changes)
 
-  pub settles-leads : (f : FlagsOf) → CanTry r a → HasOtherFlags a b → f ≡ flags_of a.state → TryLeads r a b p move → (rest : Completion) → rest ≡ Activate p move.path move.undo → Settles r a b (Some f) rest move.changes
-  settles-leads f can is e l rest go = subst (λ (x : Completion). Settles r a b (Some f) x move.changes) (sym go) (record {
-    other_flags = is;
-    state_is = l.settles;
-    active_is = sym l.active_is;
-    changes_are = changes-leads is l;
-    ready = can_go l;
-    fit = fit-other r a b f is can e;
-    back_is = back-other a b f is e;
-  })
+-- nothing changes
+pub no_changes : (m : Coins) (cs : Changes) → cs ≡ [] → AreChanges m m cs
+unfolding IsStrictlySortedBy
+no_changes m cs e = subst (λ (x : Changes). AreChanges m m x) (sym e) (record { in_order = tt; differ = λ q w n. absurd (cc); others = λ q n. refl })
 
--- the first try, where it is the last one too
-pub settles-once : (r : Rules Block Id) (a : CoreState) (p : ℕ) (move : Reorganisation) → CanTry r a → IsBest a.state (has_no_mark a.state) (length a.state.blocks) p → LeadsTo r a.state.blocks a.active p move → (rest : Completion) → rest ≡ Activate p move.path move.undo → Settles r a a None rest move.changes
-settles-once r a p move can best moves rest go =
+-- one try, of a block that is valid
+pub settles_valid : (r : Rules Block Id) (a : CoreState) (p : ℕ) (move : Reorganisation) → CanTry r a → IsBest a.state (has_no_mark a.state) (length a.state.blocks) p → LeadsTo r a.state.blocks a.active p move → (rest : Completion) → rest ≡ Activate p move.path move.undo → Settles r a rest move.changes
+settles_valid r a p move can best moves rest go =
     let l = leads-last r a a p move (between_none r a can) best moves in
-    subst (λ (x : Completion). Settles r a a None x move.changes) (sym go) (record {
-      other_flags = other_none a;
+    subst (λ (x : Completion). Settles r a x move.changes) (sym go) (record {
       state_is = l.settles;
       active_is = sym l.active_is;
       changes_are = changes-leads r a a p move (other_none a) l;
       ready = can_go r a a p move l;
-      fit = tt;
-      back_is = refl;
     })
 
--- after a first try that failed
-pub leads-after : (r : Rules Block Id) (a b : CoreState) (p q : ℕ) (move : Reorganisation) → CanTry r a → IsBest a.state (has_no_mark a.state) (length a.state.blocks) p
-    → TryLeads r (record a { state = state_after_try r a.state p }) b q move → TryLeads r a b q move
-leads-after r a b p q move can best l = record {
-  can = l.can;
-  kept = l.kept;
-  moves = l.moves;
-  settles = l.settles ∙ settle-tried r a.state p can.genesis best.kept (best-candidate r a.state p can.genesis best);
-  active_is = sym (active-tried r a.state p can.genesis) ∙ l.active_is;
-}
+-- and of one that isn't: no coin changes
+pub settles_failed : (r : Rules Block Id) (a : CoreState) (p : ℕ) (failed : FailedTry) → CanTry r a → p ≤ length a.state.blocks → IsOneTry r a p → FailsAt r a.state.blocks a.active p failed
+    → (rest : Completion) → rest ≡ Flag p failed → (changes : Changes) → changes ≡ [] → Settles r a rest changes
+settles_failed r a p failed can kept one fails rest go changes none =
+    subst (λ (x : Completion). Settles r a x changes) (sym go) (record {
+      state_is = sym one.settles;
+      active_is = sym (one.stays (false_from_ne_true (branch_connects r a.state.blocks p) (λ v. never_fails r a.state.blocks p fails.stop.place v fails.stop.first.on fails.stop.first.first)));
+      changes_are =
+          subst (λ (t : Blocks Block). AreChanges (coins_of a) (coins_after t a.active) changes) (sym (tried-blocks r a.state p))
+          (no_changes (coins_of a) changes none);
+      ready = record { can = can; kept = kept; fails = fails };
+    })
 
--- ---- what is said of the block that was tried first
+-- ---- what is said of the block that was tried
 
 module _ (r : Rules Block Id) (a : CoreState) (can : CanTry r a) (p : ℕ) (best : IsBest a.state (has_no_mark a.state) (length a.state.blocks) p) where
   abbrev after : State Block

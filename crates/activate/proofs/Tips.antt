@@ -56,8 +56,8 @@ use Rattle.chain.specs.laws.Ordinary.{best-tip, active-tip, active_tip-fails, se
 use Rattle.chain.specs.laws.Settled.{active-settle}
 use Rattle.chain.specs.laws.Steps.{faultless-alone, step-added, step_tip-fails}
 use Rattle.chain.specs.laws.Tries.{settle-best, tried-blocks}
-use Rattle.activate.proofs.Plans.{said-once}
-use Rattle.activate.proofs.Planned.{can-added, coins-added, no_changes, plan-added, says-added}
+use Rattle.activate.proofs.Plans.{no_changes, said-once}
+use Rattle.activate.proofs.Planned.{can-added, coins-added, plan-added, says-added}
 
 -- where a block on a branch stands, as it is connected
 pub setting-tip : (params : Params) (t : Blocks Block) (p : ℕ) (s : Setting) → p ≤ length t → s.height ≡ height t p + 1 → s.cutoff ≡ median_time_past (branch_blocks t p)

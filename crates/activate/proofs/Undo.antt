@@ -13,11 +13,12 @@ use Rattle.tree.specs.laws.Walks.{shared_here}
 use Rattle.activate.specs.declared.path.BranchPath.{BranchPath}
 use Rattle.activate.specs.declared.prepared.Prepared.{Prepared}
 use Rattle.activate.specs.declared.prepared.Completion.{Completion}
-use Rattle.activate.specs.declared.prepared.Completion.TheVariants.{Nothing, Mark, Activate}
+use Rattle.activate.specs.declared.prepared.Completion.TheVariants.{Nothing, Mark, Flag, Activate}
 use Rattle.curve.specs.Triple.{Triples}
 use Rattle.chain.specs.declared.command.Command.{Command}
 use Rattle.chain.specs.Regtest.{regtest}
 use Rattle.chain.specs.Rules.{Rules}
+use Rattle.chain.specs.Try.{state_after_try}
 use Rattle.chain.specs.Submission.{Outcome}
 use Rattle.chain.specs.laws.Actives.{active_kept}
 use Rattle.chain.specs.laws.Tries.{tried-blocks}
@@ -75,6 +76,8 @@ own_parent t a p e z h = let l = below-itself t p z in omega arith
 after-commit : (r : Rules Block Id) (a b : CoreState) (rest : Completion) → IsReady r b rest → b.active ≡ a.active → b.undo_kept ≡ a.undo_kept → HasOneMore a (core_after_commit r b rest)
 after-commit r a b Nothing ready same kept z h = absurd (own_parent b.state.blocks a.active b.active same z h)
 after-commit r a b (Mark p) ready same kept z h = absurd (own_parent b.state.blocks a.active b.active same z h)
+after-commit r a b (Flag p failed) ready same kept z h =
+    absurd (own_parent b.state.blocks a.active b.active same z (ap (λ (t : Blocks Block). parent_at t b.active) (sym (tried-blocks r b.state p)) ∙ h))
 after-commit r a b (Activate p path undo) ready same kept z h =
     let t = b.state.blocks in
     let parent : parent_at t p ≡ b.active = ap (λ (u : Blocks Block). parent_at u p) (sym (tried-blocks r b.state p)) ∙ h ∙ sym same in
@@ -122,6 +125,13 @@ module _ (a b : CoreState) (same : b.active ≡ a.active) (kept : b.undo_kept �
   left-by r (Mark p) ready high =
       kept ∙ stays b.state.blocks a.active a.undo_kept (omega (arith, high, same)) few
       ∙ ap (λ (p : ℕ). lesser_of most_undo ((a.undo_kept - (height b.state.blocks a.active - height b.state.blocks (last_shared b.state.blocks a.active p))) + (height b.state.blocks p - height b.state.blocks (last_shared b.state.blocks a.active p)))) (sym same)
+  left-by r (Flag p failed) ready high = same_blocks (state_after_try r b.state p).blocks (tried-blocks r b.state p) high
+    where
+      same_blocks : (t : Blocks Block) → ◌≡◌ {A = Blocks Block} t b.state.blocks → b.active ≤ length t
+          → b.undo_kept ≡ lesser_of most_undo ((a.undo_kept - (height t a.active - height t (last_shared t a.active b.active))) + (height t b.active - height t (last_shared t a.active b.active)))
+      same_blocks t e l =
+          kept ∙ stays t a.active a.undo_kept (omega (arith, l, same)) few
+          ∙ ap (λ (x : ℕ). lesser_of most_undo ((a.undo_kept - (height t a.active - height t (last_shared t a.active x))) + (height t x - height t (last_shared t a.active x)))) (sym same)
   left-by r (Activate p path undo) ready high =
       along b.state.blocks b.active p b.undo_kept path ready.can.kept ready.kept ready.is_way
       ∙ ap (λ (x : ℕ). lesser_of most_undo ((b.undo_kept - (height b.state.blocks x - height b.state.blocks (last_shared b.state.blocks x p))) + (height b.state.blocks p - height b.state.blocks (last_shared b.state.blocks x p)))) same

@@ -1,6 +1,6 @@
 //! What a command does, before it is done.
 
-use crate::path::BranchPath;
+use crate::path::{BranchPath, FailedTry};
 use chain::Reply;
 use coins::Changes;
 use tree::Flags;
@@ -20,7 +20,7 @@ pub(crate) struct Prepared {
 #[derive(Drop)]
 pub(crate) struct Rollback {
     pub(crate) first: TreeChange,
-    /// The flags after that first thing, where tries changed them.
+    /// The flags of before, where `invalidate` or `reconsider` changed them.
     pub(crate) flags: Option<Flags>,
 }
 
@@ -41,6 +41,8 @@ pub(crate) enum Completion {
     Nothing,
     /// The block at a place is marked.
     Mark(usize),
+    /// The block at a place was tried and isn't valid: what the try found is flagged.
+    Flag(usize, FailedTry),
     /// The block at a place becomes active, by this path, and its blocks spend this, the lowest first.
     Activate(usize, BranchPath, Vec<BlockUndo>),
 }

@@ -16,7 +16,7 @@ use Rattle.activate.specs.declared.prepared.Rollback.{Rollback}
 use Rattle.activate.specs.declared.prepared.TreeChange.{TreeChange}
 use Rattle.activate.specs.declared.prepared.TreeChange.TheVariants.{Unchanged, BlockAdded, CalledPrecious}
 use Rattle.activate.specs.declared.prepared.Completion.{Completion}
-use Rattle.activate.specs.declared.prepared.Completion.TheVariants.{Nothing, Mark, Activate}
+use Rattle.activate.specs.declared.prepared.Completion.TheVariants.{Nothing, Mark, Flag, Activate}
 use Rattle.chain.specs.declared.reply.Reply.{Reply}
 use Rattle.chain.specs.declared.reply.SubmitReply.{SubmitReply}
 use Rattle.chain.specs.declared.reply.SubmitReply.TheVariants.{Inconclusive, Rejected}
@@ -82,6 +82,7 @@ pub record CanActivate (r : Rules Block Id) (c : CoreState) (p : ℕ) (path : Br
 abbrev pub IsReady : Rules Block Id → CoreState → Completion → Type 0
 IsReady r c Nothing = ⊤
 IsReady r c (Mark p) = (0 < p) × (p ≤ length c.state.blocks)
+IsReady r c (Flag p failed) = CanFlag r c p failed
 IsReady r c (Activate p path undo) = CanActivate r c p path undo.items
 
 -- of so many blocks undo is kept after a path was gone: not of those that were taken back, and at most of the highest
@@ -91,6 +92,7 @@ undo_after t a kept path = lesser_of most_undo ((kept - (height t a - path.heigh
 abbrev pub core_after_commit : Rules Block Id → CoreState → Completion → CoreState
 core_after_commit r c Nothing = c
 core_after_commit r c (Mark p) = record c { state = with_mark c.state p }
+core_after_commit r c (Flag p failed) = record c { state = state_after_try r c.state p }
 core_after_commit r c (Activate p path undo) = record c {
   state = state_after_try r c.state p;
   active = p;
@@ -149,6 +151,11 @@ pub record TryLeads (r : Rules Block Id) (a b : CoreState) (p : ℕ) (move : Reo
   pub settles : state_after_try r b.state p ≡ settle r a.state
   pub active_is : active r a.state ≡ p
 
+-- one try of the block at p settles the state, valid or not; if it isn't valid, the active block stays
+pub record IsOneTry (r : Rules Block Id) (c : CoreState) (p : ℕ) : Type 0 where
+  pub settles : settle r c.state ≡ state_after_try r c.state p
+  pub stays : branch_connects r c.state.blocks p ≡ false → active r c.state ≡ c.active
+
 -- of a try that failed: the last block of the branch is the first that doesn't connect, or isn't
 unfoldable pub reply_to_failed_try : FailedTry → SubmitReply
 reply_to_failed_try failed = if failed.passed + 1 == length failed.path.up.items then Rejected failed.reason else Inconclusive
@@ -178,11 +185,8 @@ pub record ChangesNothing (reply : Reply) (prepared : Prepared) : Type 0 where
   pub changes_are : prepared.changes ≡ []
 
 -- the same of settling the state as it is
-pub record Settles (r : Rules Block Id) (a b : CoreState) (flags : Option FlagsOf) (rest : Completion) (changes : Changes) : Type 0 where
-  pub other_flags : HasOtherFlags a b
-  pub state_is : (core_after_commit r b rest).state ≡ settle r a.state
-  pub active_is : (core_after_commit r b rest).active ≡ active r a.state
-  pub changes_are : AreChanges (coins_of a) (coins_of (core_after_commit r b rest)) changes
-  pub ready : IsReady r b rest
-  pub fit : FlagsFit b.state flags
-  pub back_is : record b { state = with_flags flags b.state } ≡ a
+pub record Settles (r : Rules Block Id) (c : CoreState) (rest : Completion) (changes : Changes) : Type 0 where
+  pub state_is : (core_after_commit r c rest).state ≡ settle r c.state
+  pub active_is : (core_after_commit r c rest).active ≡ active r c.state
+  pub changes_are : AreChanges (coins_of c) (coins_of (core_after_commit r c rest)) changes
+  pub ready : IsReady r c rest

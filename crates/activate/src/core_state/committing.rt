@@ -24,6 +24,7 @@ impl Core {
         match rest {
             Completion::Nothing => {}
             Completion::Mark(place) => self.tree.mark(place),
+            Completion::Flag(_, failed) => self.flag(&failed),
             Completion::Activate(place, path, undo) => {
                 flag_valid_path(&mut self.tree, &path);
                 self.turn(place, &path, undo);

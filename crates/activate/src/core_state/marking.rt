@@ -189,7 +189,7 @@ impl Core {
                 reply: Reply::Mark(MarkReply::Done),
                 rollback: Rollback {
                     first: TreeChange::CalledPrecious,
-                    flags: settled.flags,
+                    flags: None,
                 },
                 rest: settled.rest,
                 changes: settled.changes,

@@ -261,7 +261,7 @@ impl Core {
                 reply: Reply::Submit(settled.said),
                 rollback: Rollback {
                     first: TreeChange::BlockAdded,
-                    flags: settled.flags,
+                    flags: None,
                 },
                 rest: settled.rest,
                 changes: settled.changes,

@@ -1,6 +1,7 @@
-//! Tries of one block after the other, until the best that is left is valid.
+//! Tries of blocks: of one alone, where that settles the state, and of one after the other, until the best that is
+//! left is valid.
 
-ghost use Rattle.std.specs.Prelude.{ℕ, ◌≡◌, ◌≤◌, ◌<◌, length, IfOk, OnErr, IfErr, None, IfSome};
+ghost use Rattle.std.specs.Prelude.{ℕ, ◌≡◌, ◌≤◌, ◌<◌, length, IfOk, IfErr, None, IfSome};
 ghost use Rattle.tree.specs.Sound.{IsBest};
 ghost use Rattle.tree.specs.State.{has_no_mark};
 ghost use Rattle.hash.specs.declared.id.Id.{Id};
@@ -12,8 +13,8 @@ ghost use Rattle.chain.specs.Submission.{answer_added};
 ghost use Rattle.chain.specs.Regtest.{regtest};
 ghost use Rattle.activate.specs.CoreState.{coins_of};
 ghost use Rattle.activate.specs.Wants.{AreWantedToSettle};
-ghost use Rattle.activate.specs.inside.Paths.{FailsAt, IsAttempt, AreWantedOnWay};
-ghost use Rattle.activate.specs.inside.Preparation.{CanFlag, CanTry, HasOtherFlags, TryLeads, Settles, reply_to_failed_try};
+ghost use Rattle.activate.specs.inside.Paths.{IsAttempt, AreWantedOnWay};
+ghost use Rattle.activate.specs.inside.Preparation.{CanFlag, CanTry, HasOtherFlags, IsOneTry, TryLeads, Settles, reply_to_failed_try};
 ghost use Rattle.curve.specs.Known.{Under};
 
 use crate::branch_try::{ActiveBranch, try_branch};
@@ -26,97 +27,57 @@ use coins::{Base, Changes};
 use connect::RunsScripts;
 use queue::Gate;
 use std::alloc::Global;
-use tree::Flags;
 
 /// A settled state, before it is put in place.
 #[derive(Drop)]
 pub(crate) struct Settled {
-    /// The flags before it, where tries changed them.
-    pub(crate) flags: Option<Flags>,
     pub(crate) rest: Completion,
     pub(crate) changes: Changes,
-    /// The reply to the submission of the block that was tried first.
+    /// The reply to the submission of the block that was tried.
     pub(crate) said: SubmitReply,
 }
 
 impl Core {
-    /// Settles the state, where this is the best block whose branch has no mark (Bitcoin Core's `ActivateBestChain`).
+    /// Settles the state by one try of the best block whose branch has no mark, where one is enough (Bitcoin Core's
+    /// `ActivateBestChain`).
     pub(crate) fn settle<B: Base, S: RunsScripts>(
-        &mut self,
+        &self,
         alloc: Global,
         base: &B,
         place: usize,
         env: &S,
         gate: &(dyn Gate + Sync),
     ) -> Result<Settled, S::Stop>
-        requires can { Under (S.known env.now) (λ triples. CanTry (regtest self.old.params triples) self.old) }
-        requires best { let s = self.old.state in
+        requires can { Under (S.known env.now) (λ triples. CanTry (regtest self.now.params triples) self.now) }
+        requires best { let s = self.now.state in
             IsBest s (has_no_mark s) (length s.blocks) place }
-        requires coins { B.coins base.now ≡ coins_of self.old }
+        requires one_try { Under (S.known env.now) (λ triples.
+            IsOneTry (regtest self.now.params triples) self.now place) }
+        requires coins { B.coins base.now ≡ coins_of self.now }
         ensures settled { IfOk result (λ s.
-            Under (S.known env.now) (λ triples. Settles (regtest self.old.params triples) self.old self.new
-            s.flags s.rest s.changes)) }
+            Under (S.known env.now) (λ triples. Settles (regtest self.now.params triples) self.now s.rest
+            s.changes)) }
         ensures said { IfOk result (λ s.
             Under (S.known env.now) (λ triples. s.said
-            ≡ answer_added (regtest self.old.params triples)
-            (settle (regtest self.old.params triples) self.old.state)
+            ≡ answer_added (regtest self.now.params triples)
+            (settle (regtest self.now.params triples) self.now.state)
             place)) }
-        ensures err { OnErr result (self.new ≡ self.old) }
         ensures wants { IfErr result (λ stop. IfSome (S.told stop)
-            (AreWantedToSettle self.old (S.known env.now))) }
+            (AreWantedToSettle self.now (S.known env.now))) }
     {
         match self.try_block(alloc, base, place, env, gate)? {
             Attempt::Succeeds(found) => Ok(Settled {
-                flags: None,
                 rest: Completion::Activate(place, found.path, found.undo),
                 changes: found.changes,
                 said: SubmitReply::Accepted,
             }),
-            Attempt::Fails(failed) => self.settle_after(alloc, base, place, failed, env, gate),
-        }
-    }
-
-    /// The same after a try that failed.
-    fn settle_after<B: Base, S: RunsScripts>(
-        &mut self,
-        alloc: Global,
-        base: &B,
-        place: usize,
-        failed: FailedTry,
-        env: &S,
-        gate: &(dyn Gate + Sync),
-    ) -> Result<Settled, S::Stop>
-        requires can { Under (S.known env.now) (λ triples. CanTry (regtest self.old.params triples) self.old) }
-        requires best { let s = self.old.state in
-            IsBest s (has_no_mark s) (length s.blocks) place }
-        requires fails { Under (S.known env.now) (λ triples.
-            FailsAt (regtest self.old.params triples) self.old.state.blocks
-            self.old.active place failed) }
-        requires coins { B.coins base.now ≡ coins_of self.old }
-        ensures settled { IfOk result (λ s.
-            Under (S.known env.now) (λ triples. Settles (regtest self.old.params triples) self.old self.new
-            s.flags s.rest s.changes)) }
-        ensures said { IfOk result (λ s.
-            Under (S.known env.now) (λ triples. s.said
-            ≡ answer_added (regtest self.old.params triples)
-            (settle (regtest self.old.params triples) self.old.state)
-            place)) }
-        ensures err { OnErr result (self.new ≡ self.old) }
-        ensures wants { IfErr result (λ stop. IfSome (S.told stop)
-            (AreWantedToSettle self.old (S.known env.now))) }
-    {
-        let flags = self.tree.flags(alloc)?;
-        self.flag(&failed);
-        match self.settle_rest(alloc, base, env, gate) {
-            Ok((other, found)) => Ok(Settled {
-                flags: Some(flags),
-                rest: Completion::Activate(other, found.path, found.undo),
-                changes: found.changes,
-                said: refused(&failed),
-            }),
-            Err(stop) => {
-                self.tree.set_flags(flags);
-                Err(stop)
+            Attempt::Fails(failed) => {
+                let said = refused(&failed);
+                Ok(Settled {
+                    rest: Completion::Flag(place, failed),
+                    changes: Changes::new(alloc),
+                    said,
+                })
             }
         }
     }
@@ -149,7 +110,7 @@ impl Core {
     }
 
     /// Notes what a try that failed has found.
-    fn flag(&mut self, failed: &FailedTry)
+    pub(crate) fn flag(&mut self, failed: &FailedTry)
         requires { (r : Rules Block Id) × (p : ℕ) × CanFlag r self.old p failed.now }
         ensures { (r : Rules Block Id) (p : ℕ) → CanFlag r self.old p failed.now
             → self.new ≡ record self.old { state = state_after_try r self.old.state p } }

@@ -11,7 +11,7 @@ use Rattle.activate.specs.CoreState.{HasOneMore, KeepsUndo, UndoFollows, Follows
 use Rattle.activate.proofs.Commits.{committed, params_after}
 use Rattle.activate.proofs.Outcomes.{follows-plan}
 use Rattle.activate.proofs.Undo.{few-of, more-undo, undo-follows}
-use Rattle.activate.proofs.chainstate.Chainstate.step.Goals.{in-Activate-1, in-Nothing-1, in-Some-1, in-None-1}
+use Rattle.activate.proofs.chainstate.Chainstate.step.Goals.{in-Activate-1, in-Flag-1, in-Nothing-1, in-Some-1, in-None-1}
 use Rattle.activate.proofs.chainstate.Chainstate.step.Goals as goal
 
 -- the struct's own fields are a chainstate
@@ -117,6 +117,7 @@ returns-in-Err-clause-params g c =
     let whole = rolled_back (c.roll_back.ensures ∙ (c.in_ok-reply.ensures.prepared triples agrees).back_is) c.in-Err.ensures.err ∙ c.self.view_is in
     elim c.match-rest.branch [
       | in-Activate-1 w ↦ ap (λ (x : WithCoins). x.core.params) (w.self-is ∙ whole)
+      | in-Flag-1 w ↦ ap (λ (x : WithCoins). x.core.params) (w.self-is ∙ whole)
       | in-Nothing-1 w ↦ ap (λ (x : WithCoins). x.core.params) (w.self-is ∙ whole)
     ]
 
@@ -126,6 +127,7 @@ returns-in-Err-clause-is_chainstate g c triples agrees =
     let was = c.requires.is_chainstate triples agrees in
     elim c.match-rest.branch [
       | in-Activate-1 w ↦ subst (λ (x : WithCoins). IsChainstate x triples) (sym (w.self-is ∙ whole)) was
+      | in-Flag-1 w ↦ subst (λ (x : WithCoins). IsChainstate x triples) (sym (w.self-is ∙ whole)) was
       | in-Nothing-1 w ↦ subst (λ (x : WithCoins). IsChainstate x triples) (sym (w.self-is ∙ whole)) was
     ]
 
@@ -136,5 +138,6 @@ returns-in-Err-clause-err g c =
     let whole = rolled_back (c.roll_back.ensures ∙ (c.in_ok-reply.ensures.prepared triples agrees).back_is) c.in-Err.ensures.err ∙ c.self.view_is in
     elim c.match-rest.branch [
       | in-Activate-1 w ↦ w.self-is ∙ whole
+      | in-Flag-1 w ↦ w.self-is ∙ whole
       | in-Nothing-1 w ↦ w.self-is ∙ whole
     ]

@@ -15,7 +15,7 @@ use Rattle.activate.specs.declared.prepared.TreeChange.TheVariants.{BlockAdded}
 use Rattle.activate.specs.declared.prepared.Completion.TheVariants.{Nothing}
 use Rattle.chain.specs.declared.reply.SubmitReply.TheVariants.{Inconclusive}
 use Rattle.chain.specs.declared.reply.Reply.TheVariants as reply
-use Rattle.activate.specs.inside.Preparation.{CanRollBack, CanTry, IsPreparationFor, Settles}
+use Rattle.activate.specs.inside.Preparation.{CanRollBack, CanTry, IsOneTry, IsPreparationFor, Settles}
 use Rattle.chain.specs.Faults.{IsNew}
 use Rattle.chain.specs.Regtest.{regtest}
 use Rattle.chain.specs.Settle.{settle}
@@ -24,7 +24,7 @@ use Rattle.chain.specs.Submission.{answer_added}
 use Rattle.activate.specs.CoreState.{CoreState, Follows, coins_of}
 use Rattle.chain.specs.laws.Steps.{faultless-alone, faultless-parent, step-added, step-beside}
 use Rattle.activate.proofs.Plans.{can-follows}
-use Rattle.activate.proofs.Planned.{best-added, can-added, coins-added, fresh-back, plan-beside, plan-settled, says-added}
+use Rattle.activate.proofs.Planned.{best-added, can-added, coins-added, fresh-back, one-try-added, plan-beside, plan-settled, says-added}
 use Rattle.activate.specs.Wants.{AreWantedToSettle}
 use Rattle.activate.proofs.core_state.Core.prepare_beside.Goals as goal
 
@@ -62,6 +62,11 @@ module _ (triples : Triples) (a : CoreState) (follows : Follows a triples) (now 
       let from = faultless-parent (regtest a.params triples) a.state now b is.faultless in
       let same : from.0 ≡ p = ap (λ (o : Option ℕ). unwrap_or o 0) (sym from.1 ∙ is.parent) in
       best-added (regtest a.params triples) a follows.sound b p can alone below is.unknown is.parent follows.active_is (subst (λ (q : ℕ). has_no_mark a.state q ≡ true) same from.2) better
+
+  -- and its one try settles the state
+  one_new : beats (with_block a.state b p) (suc (length a.state.blocks)) a.active ≡ true → IsOneTry (regtest a.params triples) (record a { state = with_block a.state b p }) (suc (length a.state.blocks))
+  one_new better =
+      one-try-added (regtest a.params triples) a follows.sound b p can alone below is.unknown is.parent follows.active_is (best_new better)
 
   -- what the tree says of which is better, as the block was added
   beats_new : {inside : CoreState} {place : ℕ} {answer : Bool} → inside ≡ record a { state = with_block a.state b p } → place ≡ suc (length a.state.blocks) → beats inside.state place inside.active ≡ answer
@@ -110,6 +115,19 @@ settle-requires-clause-best g c =
     (best_new triples a follows c.requires.new.0 c.args.submitted.now.block c.args.parent is
     (beats_new triples a follows c.requires.new.0 c.args.submitted.now.block c.args.parent is c.in_ok-place.ensures.ok c.in_ok-place.ensures.place inside)))
 
+pub settle-requires-clause-one_try : goal.settle-requires-clause-one_try
+settle-requires-clause-one_try g c triples agrees =
+    let a : CoreState = c.args.self.now in
+    let r = regtest a.params triples in
+    let A : CoreState = record a { state = with_block a.state c.args.submitted.now.block c.args.parent } in
+    let follows = c.requires.follows triples agrees in
+    let is = c.requires.new.1 triples agrees in
+    let inside : beats c.add.new.self.state c.in_ok-place.place c.add.new.self.active ≡ true = subst (λ (x : CoreState). beats x.state c.in_ok-place.place x.active ≡ true) c.self.view_is (sym c.better.ensures ∙ c.if-not-better.false) in
+    subst (λ (x : CoreState). IsOneTry (regtest x.params triples) x c.in_ok-place.place) (sym c.in_ok-place.ensures.ok)
+    (subst (λ (q : ℕ). IsOneTry r A q) (sym c.in_ok-place.ensures.place)
+    (one_new triples a follows c.requires.new.0 c.args.submitted.now.block c.args.parent is
+    (beats_new triples a follows c.requires.new.0 c.args.submitted.now.block c.args.parent is c.in_ok-place.ensures.ok c.in_ok-place.ensures.place inside)))
+
 pub settle-requires-clause-coins : goal.settle-requires-clause-coins
 settle-requires-clause-coins g c =
     let triples = g.S.RunsScripts.agreeing c.args.env.now in
@@ -122,7 +140,7 @@ roll_back-requires g c =
     let triples = g.S.RunsScripts.agreeing c.args.env.now in
     let agrees = g.met.S.RunsScripts.agrees c.args.env.now in
     let fresh = subst (λ (x : CoreState). IsFresh names x.state) c.in_ok-place.ensures.ok c.in_ok-place.ensures.fresh in
-    subst (λ (x : CoreState). CanRollBack x (record { first = BlockAdded; flags = None })) (sym (c.in-Err.ensures.err ∙ c.in_ok-place.ensures.ok))
+    subst (λ (x : CoreState). CanRollBack x (record { first = BlockAdded; flags = None })) (sym c.in_ok-place.ensures.ok)
     (back_new triples c.args.self.now (c.requires.follows triples agrees) c.requires.new.0 c.args.submitted.now.block c.args.parent (c.requires.new.1 triples agrees) fresh)
 
 pub returns-in-Ok-clause-prepared : goal.returns-in-Ok-clause-prepared
@@ -138,14 +156,15 @@ returns-in-Ok-clause-prepared g c now was triples agrees =
     let s = c.in-Ok.settled in
     let next = can_new triples a follows now b p is in
     let fresh : IsFresh names A.state = subst (λ (x : CoreState). IsFresh names x.state) c.in_ok-place.ensures.ok c.in_ok-place.ensures.fresh in
-    let settled : Settles r A c.settle.new.self s.flags s.rest s.changes =
-    subst (λ (x : CoreState). Settles (regtest x.params triples) x c.settle.new.self s.flags s.rest s.changes) c.in_ok-place.ensures.ok (c.in-Ok.ensures.settled triples agrees) in
+    let settled : Settles r A s.rest s.changes = subst (λ (x : CoreState). Settles (regtest x.params triples) x s.rest s.changes) c.in_ok-place.ensures.ok (c.in-Ok.ensures.settled triples agrees) in
+    let prepared : Prepared = record { reply = reply.Submit s.said; rollback = record { first = BlockAdded; flags = None }; rest = s.rest; changes = s.changes } in
     let said : s.said ≡ answer_added r (settle r A.state) n =
     subst (λ (x : CoreState). s.said ≡ answer_added (regtest x.params triples) (settle (regtest x.params triples) x.state) c.in_ok-place.place) c.in_ok-place.ensures.ok (c.in-Ok.ensures.said triples agrees)
     ∙ ap (answer_added r (settle r A.state)) c.in_ok-place.ensures.place in
-    plan-settled r a A c.settle.new.self s.flags s.rest s.changes settled next.genesis _ refl refl refl (step r a.state (Submit now b)) BlockAdded refl refl
+    subst (λ (x : CoreState). IsPreparationFor r a (step r a.state (Submit now b)) x prepared) (sym c.in_ok-place.ensures.ok)
+    (plan-settled r a A s.rest s.changes settled next.genesis prepared refl refl refl (step r a.state (Submit now b)) BlockAdded refl refl
     (coins_new triples a follows now b p is) refl (beside triples a follows now b p is, fresh)
-    (says-added r a follows.sound b p (can triples a follows now b p is) (alone triples a follows now b p is) (below triples a follows now b p is) is.unknown is.parent s.said said ∙ sym (step-added r a.state now b p is))
+    (says-added r a follows.sound b p (can triples a follows now b p is) (alone triples a follows now b p is) (below triples a follows now b p is) is.unknown is.parent s.said said ∙ sym (step-added r a.state now b p is)))
 
 pub add-requires-clause-room : goal.add-requires-clause-room
 add-requires-clause-room g c =

@@ -6,9 +6,10 @@ use Rattle.tree.specs.State.{with_call, has_no_mark}
 use Rattle.tree.specs.Sound.{IsBest}
 use Rattle.tree.specs.laws.Added.{place-bound}
 use Rattle.activate.specs.declared.prepared.TreeChange.TheVariants.{CalledPrecious}
+use Rattle.activate.specs.declared.prepared.Prepared.{Prepared}
 use Rattle.chain.specs.declared.reply.MarkReply.TheVariants.{Done, NotFound}
 use Rattle.chain.specs.declared.reply.Reply.TheVariants as reply
-use Rattle.activate.specs.inside.Preparation.{CanTry, Settles}
+use Rattle.activate.specs.inside.Preparation.{CanTry, IsOneTry, IsPreparationFor, Settles}
 use Rattle.chain.specs.Regtest.{regtest}
 use Rattle.chain.specs.Settle.{settle}
 use Rattle.chain.specs.Step.{Precious, step}
@@ -16,7 +17,7 @@ use Rattle.activate.specs.CoreState.{CoreState}
 use Rattle.chain.specs.laws.Preferring.{usable-called}
 use Rattle.chain.specs.laws.Steps.{step_not-found}
 use Rattle.activate.proofs.Plans.{can-follows}
-use Rattle.activate.proofs.Planned.{best-called, can-called, plan-settled, plan-still}
+use Rattle.activate.proofs.Planned.{best-called, can-called, one-try-called, plan-settled, plan-still}
 use Rattle.chain.specs.laws.Findings.{prefer_done, prefer_lower}
 use Rattle.activate.specs.Wants.{AreWantedToSettle}
 use Rattle.activate.proofs.Wanted.{wanted_by}
@@ -84,6 +85,24 @@ settle-requires-clause-best g c =
     subst (λ (x : CoreState). IsBest x.state (has_no_mark x.state) (length x.state.blocks) c.best_of_two-first.result) (sym c.in_ok-call.ensures.ok)
     (best-called r a (c.requires.follows triples agrees).sound (c.requires.follows triples agrees).active_is p (place-bound names a.state.blocks c.args.id.now p found) high c.best_of_two-first.result first)
 
+pub settle-requires-clause-one_try : goal.settle-requires-clause-one_try
+settle-requires-clause-one_try g c triples agrees =
+    let a : CoreState = c.args.self.now in
+    let r = regtest a.params triples in
+    let p = c.in-Some.place in
+    let found : place_of names a.state.blocks c.args.id.now ≡ Some p = subst (λ (x : CoreState). place_of names x.state.blocks c.args.id.now ≡ Some p) c.self.view_is (sym c.find.ensures ∙ c.in-Some.is) in
+    let one = c.height.ensures.value in
+    let two = c.height-2.ensures in
+    let less = c.if-height.false in
+    let inside : height c.self.inside.tree.blocks c.self.inside.active ≤ height c.self.inside.tree.blocks p = omega arith in
+    let high : height a.state.blocks a.active ≤ height a.state.blocks p = subst (λ (x : CoreState). height x.state.blocks x.active ≤ height x.state.blocks p) c.self.view_is inside in
+    let first : c.best_of_two-first.result ≡ (if has_no_mark a.state p then p else a.active) =
+    c.best_of_two-first.ensures
+    ∙ ap (λ (x : CoreState). if has_no_mark x.state p then p else x.active) c.in_ok-call.ensures.ok
+    ∙ ap (λ (b : Bool). if b then p else a.active) (usable-called r a.state p p) in
+    subst (λ (x : CoreState). IsOneTry (regtest x.params triples) x c.best_of_two-first.result) (sym c.in_ok-call.ensures.ok)
+    (one-try-called r a (c.requires.follows triples agrees).sound (c.requires.follows triples agrees).active_is p (place-bound names a.state.blocks c.args.id.now p found) high c.best_of_two-first.result first)
+
 pub returns-in-Ok-clause-prepared : goal.returns-in-Ok-clause-prepared
 returns-in-Ok-clause-prepared g c triples agrees =
     let a : CoreState = c.args.self.now in
@@ -97,11 +116,12 @@ returns-in-Ok-clause-prepared g c triples agrees =
     let less = c.if-height.false in
     let inside : height c.self.inside.tree.blocks c.self.inside.active ≤ height c.self.inside.tree.blocks p = omega arith in
     let high : height a.state.blocks a.active ≤ height a.state.blocks p = subst (λ (x : CoreState). height x.state.blocks x.active ≤ height x.state.blocks p) c.self.view_is inside in
-    let settled : Settles r b c.settle.new.self s.flags s.rest s.changes =
-    subst (λ (x : CoreState). Settles (regtest x.params triples) x c.settle.new.self s.flags s.rest s.changes) c.in_ok-call.ensures.ok (c.in-Ok.ensures.settled triples agrees) in
+    let settled : Settles r b s.rest s.changes = subst (λ (x : CoreState). Settles (regtest x.params triples) x s.rest s.changes) c.in_ok-call.ensures.ok (c.in-Ok.ensures.settled triples agrees) in
+    let prepared : Prepared = record { reply = reply.Mark Done; rollback = record { first = CalledPrecious; flags = None }; rest = s.rest; changes = s.changes } in
     let can = can-called r a p (can-follows r a (c.requires.follows triples agrees).sound (c.requires.follows triples agrees).kept (c.requires.follows triples agrees).active_is) in
-    plan-settled r a b c.settle.new.self s.flags s.rest s.changes settled can.genesis _ refl refl refl (step r a.state (Precious c.args.id.now)) CalledPrecious refl refl refl refl (omega arith)
-    (prefer_done a.params triples a.state c.args.id.now p found b.state (settle r b.state) (subst (λ (q : ℕ). height a.state.blocks q ≤ height a.state.blocks p) (c.requires.follows triples agrees).active_is high) refl refl)
+    subst (λ (x : CoreState). IsPreparationFor r a (step r a.state (Precious c.args.id.now)) x prepared) (sym c.in_ok-call.ensures.ok)
+    (plan-settled r a b s.rest s.changes settled can.genesis prepared refl refl refl (step r a.state (Precious c.args.id.now)) CalledPrecious refl refl refl refl (omega arith)
+    (prefer_done a.params triples a.state c.args.id.now p found b.state (settle r b.state) (subst (λ (q : ℕ). height a.state.blocks q ≤ height a.state.blocks p) (c.requires.follows triples agrees).active_is high) refl refl))
 
 pub returns-in-Err-clause-wants : goal.returns-in-Err-clause-wants
 returns-in-Err-clause-wants g c =
