@@ -4,12 +4,10 @@ use Rattle.std.specs.Prelude.{◌≡◌, ℕ, ◌*◌, List, [], ◌∷◌, leng
 use Rattle.curve.specs.Known.{Known}
 use Rattle.curve.specs.Triple.{Triple}
 use Rattle.curve.specs.laws.Growth.{Grows}
-use Rattle.interp.specs.Answer.{Wants}
 use Rattle.interp.specs.Limits.{max_ops}
 use Rattle.interp.specs.Question.{Question}
-use Rattle.interp.specs.computed.Step.{verdict}
 use Rattle.interp.specs.declared.job.Job.{Job}
-use Rattle.queue.specs.Jobs.{verdict_at}
+use Rattle.queue.specs.Jobs.{IsWanted, verdict_at}
 use Rattle.queue.specs.Telling.{AreTheWants}
 
 -- the next round has the verdict on each of these signatures, and all that was known
@@ -24,7 +22,7 @@ AreRounds Want (known ∷ later) = ((wanted : List Triple) × Want known wanted 
 
 -- an input wants one signature at a time
 abbrev pub WantsOne : Question → Known → List Triple → Type 0
-WantsOne q known wanted = (t : Triple) × (verdict known q ≡ Wants t) × (wanted ≡ t ∷ [])
+WantsOne q known wanted = (t : Triple) × IsWanted known q t × (wanted ≡ t ∷ [])
 
 -- all that the jobs want before the first that is refused
 abbrev pub JobsWant : List Job → Known → List Triple → Type 0
