@@ -217,9 +217,12 @@ class Scripts(unittest.TestCase):
         return given.clients["a"][-1].split(" = ")[1].partition(" @")[0], int(found[1]) - 1
 
     def test_scripts_above_a_refusal(self) -> None:
-        """One worker under the lock runs none above the first that refuses. One more is that of K."""
+        """One worker under the lock runs none above the first that refuses; before the lock, where the block is on the best one,
+        all three are run. One more is that of K."""
         definitions = COINS + two_of_three((0, 2)) + "block j u5\nblock k u5 K\nblock x k X\n"
-        self.assertEqual(self.begun(definitions, ["j", "k", "x"]), ("blk-bad-inputs 1:0", 1 + 1))
+        for blocks, count in ((["j", "k", "x"], 1), (["k", "x"], 3)):
+            with self.subTest(blocks):
+                self.assertEqual(self.begun(definitions, blocks), ("blk-bad-inputs 1:0", count + 1))
 
     def test_scripts_that_are_run_early(self) -> None:
         """Before the lock those are run whose coin is there, or made by an earlier transaction of the block."""
