@@ -53,6 +53,12 @@ def lines_of(regchain):
     ask("told", seat=1, **{"from": 0})
     ask("note", seat=1)
     ask("journal", seat=1, **{"from": 1, "to": 3})
+    ask("wait", seat=1, after=0)
+    for name in ("b1", "q3"):
+        ask("getblock", seat=1, id=blocks[name][0])
+        ask("getblockheader", seat=1, id=blocks[name][0])
+    ask("getblockhash", seat=1, height=1)
+    ask("coins", seat=1, most=5)
     ask("info")
     lines.append(b"no request\n")
     lines.append(request("x" * 400, "no", seat=0))
@@ -221,7 +227,7 @@ class Sweep:
             told = answer["result"].get("answer")
             number = answer["id"]
             method = json.loads(self.lines[number])["method"] if isinstance(number, int) else ""
-            if method in ("told", "note", "journal"):
+            if method in ("told", "note", "journal", "wait", "getblock", "getblockheader", "getblockhash", "coins"):
                 continue  # seat 1 runs beside seat 0
             if method == "finish":
                 if folder and answer["result"]["at"] != len(journal):
