@@ -103,8 +103,9 @@ fn placed_under<J: Naming, R: Wait>(
     let tip = blocks.get(best)?;
     match blocks.ancestor(best, block.height) {
         Some(active) if active.id == block.id => {
-            let behind = tip.height.saturating_sub(block.height);
-            Some((block, behind.saturating_add(1) as i64))
+            let above = tip.height.saturating_sub(block.height);
+            let above = i64::try_from(above).unwrap_or(i64::MAX);
+            Some((block, above.saturating_add(1)))
         }
         _ => Some((block, -1)),
     }
