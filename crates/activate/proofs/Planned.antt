@@ -1,5 +1,5 @@
 -- What is prepared for commands, put in place.
-use Rattle.std.proofs.Common.{◌≡◌, ℕ, suc, ◌<◌, ◌≤◌, Bool, true, false, cond, not, ◌||◌, ◌&&◌, eqb, List, [], ◌∷◌, length, Option, Some, None, Result, Ok, Err, IfOk, sym, refl, ap, ◌∙◌, subst, inl, inr, arith}
+use Rattle.std.proofs.Common.{◌≡◌, ℕ, suc, ◌<◌, ◌≤◌, Bool, true, false, cond, not, ◌||◌, ◌&&◌, eqb, List, [], ◌∷◌, length, map, reverse, Some, None, Result, Ok, Err, IfOk, sym, refl, ap, ◌∙◌, subst, inl, inr, arith}
 use Rattle.std.specs.Prelude.{if◌then◌else◌}
 use Rattle.std.specs.List.{filter}
 use Rattle.std.proofs.lemmas.Bool.{cases_eq, ne_eqb}
@@ -9,10 +9,11 @@ use Rattle.coins.specs.Coins.{Coins}
 use Rattle.coins.specs.Changes.{Changes, AreChanges}
 use Rattle.tree.specs.Branches.{Kept as KeptBlock, Blocks, has, height, on, place_of, down_from}
 use Rattle.tree.specs.State.{State, has_no_mark, beats, with_block, with_mark, without_marks, with_call, union_where}
-use Rattle.tree.specs.Flags.{FlagsOf, flags_of}
+use Rattle.tree.specs.declared.node.Mark.{Mark as BlockMark}
+use Rattle.tree.specs.Nodes.{AreMarks, IsMark, laid, mark_at}
 use Rattle.tree.specs.Names.{names}
 use Rattle.tree.specs.Sound.{IsBest, IsFresh}
-use Rattle.tree.specs.laws.Branches.{on-bounds, on_there, on-genesis}
+use Rattle.tree.specs.laws.Branches.{on-bounds, on_there}
 use Rattle.tree.specs.laws.Marks.{usable_gives, usable_from, usable-cleared}
 use Rattle.tree.specs.laws.Ranks.{better_trans, better-height, better-called, better-others}
 use Rattle.tree.specs.laws.Sets.{clash, InOrder, none_above, has-filter, in_order-joined, joined_more, filter_agree, has-joined}
@@ -21,7 +22,7 @@ use Rattle.activate.specs.declared.prepared.Prepared.{Prepared}
 use Rattle.activate.specs.declared.prepared.TreeChange.{TreeChange}
 use Rattle.activate.specs.declared.prepared.TreeChange.TheVariants.{Unchanged, BlockAdded}
 use Rattle.activate.specs.declared.prepared.Completion.{Completion}
-use Rattle.activate.specs.declared.prepared.Completion.TheVariants.{Nothing, Activate}
+use Rattle.activate.specs.declared.prepared.Completion.TheVariants.{Nothing, Remark}
 use Rattle.chain.specs.declared.reply.Reply.{Reply}
 use Rattle.chain.specs.declared.reply.Reply.TheVariants as reply
 use Rattle.chain.specs.declared.reply.SubmitReply.{SubmitReply}
@@ -32,20 +33,21 @@ use Rattle.chain.specs.Valid.{branch_connects}
 use Rattle.chain.specs.Settle.{active, settle}
 use Rattle.chain.specs.Submission.{Outcome, submit_says, answer_added, outcome_of_added}
 use Rattle.chain.specs.Step.{mark_says}
-use Rattle.chain.specs.Try.{state_after_try}
 use Rattle.chain.specs.Settled.{IsSettled}
 use Rattle.chain.specs.Replay.{replay}
 use Rattle.chain.specs.Regtest.{ledger}
 use Rattle.activate.specs.CoreState.{CoreState, coins_after, coins_of}
-use Rattle.activate.specs.inside.Preparation.{undo_after, CanTry, CanBeTakenBack, CanRollBack, FlagsFit, HasOtherFlags, IsOneTry, IsPreparationFor, IsReady, ChangesNothing, TryLeads, Settles, core_after_commit, state_before_change, with_flags}
+use Rattle.activate.specs.inside.Preparation.{CanActivate, CanTry, CanBeTakenBack, HasOtherMarks, IsOneTry, IsPreparationFor, IsReady, ChangesNothing, Settles, TriesLead, core_after_activation, core_after_commit, core_after_rollback, state_before_change}
 use Rattle.chain.specs.laws.Actives.{active_kept, active_usable, active_valid}
 use Rattle.chain.specs.laws.Connected.{valid_there}
 use Rattle.chain.specs.laws.Ordinary.{active-beside}
 use Rattle.chain.specs.laws.Preferring.{usable-called}
 use Rattle.chain.specs.laws.Settled.{active-settle, settle-blocks, best_usable}
 use Rattle.chain.specs.laws.OneTry.{active-added_bad, active-called_bad, settle-added, settle-called}
-use Rattle.chain.specs.laws.Tries.{settle-best}
-use Rattle.activate.proofs.Plans.{can_go, changes-leads, no_changes, params-other}
+use Rattle.chain.specs.laws.Tries.{active-best, settle-best, tried-blocks}
+use Rattle.activate.specs.inside.Keeping.{undo_at}
+use Rattle.activate.specs.inside.Paths.{IsPath, LeadsTo}
+use Rattle.activate.proofs.Plans.{no_changes}
 
 -- ---- sets of places
 
@@ -80,24 +82,18 @@ module _ (r : Rules Block Id) where
         active_is = ap (λ (x : CoreState). x.active) rest ∙ act ∙ sym (ap (λ (x : CoreState). active r x.state) rest);
         changes_are = subst (λ (x : CoreState). AreChanges (coins_of a) (coins_of x) prepared.changes) (sym rest) (no_changes (coins_of a) prepared.changes still.changes_are);
         ready = subst (λ (x : Completion). IsReady r a x) (sym still.rest_is) tt;
-        can_go_back = record {
-          flags = subst (λ (f : Option FlagsOf). FlagsFit a.state f) (sym still.flags_are) tt;
-          first = subst (λ (f : TreeChange). CanBeTakenBack f a.active (with_flags prepared.rollback.flags a.state)) (sym still.first_is) tt;
-        };
-        back_is =
-            ap (λ (f : TreeChange). record a { state = state_before_change f (with_flags prepared.rollback.flags a.state) }) still.first_is
-            ∙ ap (λ (f : Option FlagsOf). record a { state = with_flags f a.state }) still.flags_are;
+        can_go_back = subst (λ (f : TreeChange). CanBeTakenBack f a.active a.state) (sym still.first_is) tt;
+        back_is = ap (core_after_rollback a) still.first_is;
       }
 
   -- the state is settled after something was first done to the tree: a is before it, and b after it
   module _ (a b : CoreState) (rest : Completion) (changes : Changes) (settled : Settles r b rest changes) (genesis : has_no_mark b.state 0 ≡ true)
-      (prepared : Prepared) (rest_is : prepared.rest ≡ rest) (changes_is : prepared.changes ≡ changes) (flags_is : prepared.rollback.flags ≡ None) where
-    pub plan-settled : (after : Outcome Block) (first : TreeChange) → prepared.rollback.first ≡ first → b.params ≡ a.params → coins_of b ≡ coins_of a → record b { state = state_before_change first b.state } ≡ a
+      (prepared : Prepared) (rest_is : prepared.rest ≡ rest) (changes_is : prepared.changes ≡ changes) where
+    pub plan-settled : (after : Outcome Block) (first : TreeChange) → prepared.first ≡ first → b.params ≡ a.params → coins_of b ≡ coins_of a → record b { state = state_before_change first b.state } ≡ a
         → CanBeTakenBack first b.active b.state → (settle r b.state, prepared.reply) ≡ after → IsPreparationFor r a after b prepared
     plan-settled after first first_is params coins rollback can e =
         let done : core_after_commit r b prepared.rest ≡ core_after_commit r b rest = ap (core_after_commit r b) rest_is in
         let state : (core_after_commit r b prepared.rest).state ≡ settle r b.state = ap (λ (x : CoreState). x.state) done ∙ settled.state_is in
-        let was : ◌≡◌ {A = State Block} (with_flags prepared.rollback.flags b.state) b.state = ap (λ (f : Option FlagsOf). with_flags f b.state) flags_is in
         record {
           params_are = params;
           outcome_is = ap (λ (s : State Block). (s, prepared.reply)) state ∙ e;
@@ -108,45 +104,64 @@ module _ (r : Rules Block Id) where
               (subst (λ (x : CoreState). AreChanges (coins_of a) (coins_of x) changes) (sym done)
               (subst (λ (m : Coins). AreChanges m (coins_of (core_after_commit r b rest)) changes) coins settled.changes_are));
           ready = subst (λ (x : Completion). IsReady r b x) (sym rest_is) settled.ready;
-          can_go_back = record {
-            flags = subst (λ (f : Option FlagsOf). FlagsFit b.state f) (sym flags_is) tt;
-            first = subst (λ (s : State Block). CanBeTakenBack prepared.rollback.first b.active s) (sym was) (subst (λ (f : TreeChange). CanBeTakenBack f b.active b.state) (sym first_is) can);
-          };
-          back_is =
-              ap (λ (s : State Block). record b { state = state_before_change prepared.rollback.first s }) was
-              ∙ ap (λ (f : TreeChange). record b { state = state_before_change f b.state }) first_is ∙ rollback;
+          can_go_back = subst (λ (f : TreeChange). CanBeTakenBack f b.active b.state) (sym first_is) can;
+          back_is = ap (core_after_rollback b) first_is ∙ rollback;
         }
 
-  -- marks were changed first: m has others than a
-  module _ (a m b : CoreState) (f : FlagsOf) (place : ℕ) (found : Reorganisation) (can : CanTry r m) (fit : FlagsFit m.state (Some f)) (was : a ≡ record m { state = with_flags (Some f) m.state })
-      (flags : HasOtherFlags m b) (leads : TryLeads r m b place found) where
-    back-marks : record b { state = with_flags (Some f) b.state } ≡ a
-    back-marks =
-        ap (λ (t : Blocks Block). record b { state = record b.state { blocks = t; bad = f.bad; seen = f.seen } }) flags.blocks_are
-        ∙ ap (λ (l : List ℕ). record b { state = record m.state { precious = l; bad = f.bad; seen = f.seen } }) flags.precious_is
-        ∙ ap (λ (x : CoreState). record x { state = with_flags (Some f) m.state }) (sym flags.same) ∙ sym was
+  -- marks are to be changed: from s, which has others than a, tries led to t, whose best block is valid
+  module _ (a : CoreState) (s t : State Block) (place : ℕ) (found : Reorganisation) (marks : List BlockMark) (can : CanTry r (record a { state = s })) (other : HasOtherMarks a.state s) (lead : TriesLead r a s t)
+      (best : IsBest t (has_no_mark t) (length t.blocks) place) (moves : LeadsTo r a.state.blocks a.active place found) (are : AreMarks t marks) (laid_is : laid t marks ≡ t) where
+    same_blocks : ◌≡◌ {A = Blocks Block} t.blocks a.state.blocks
+    same_blocks = lead.other.blocks_are ∙ other.blocks_are
 
-    pub plan-marks : (prepared : Prepared) → prepared.rest ≡ Activate place found.path found.undo → prepared.changes ≡ found.changes → prepared.rollback.first ≡ Unchanged → prepared.rollback.flags ≡ Some f → prepared.reply ≡ reply.Mark Done
-        → IsPreparationFor r a (mark_says (settle r m.state) Done) b prepared
-    plan-marks prepared rest_is changes_is first_is flags_is reply_is =
-        let done : core_after_commit r b prepared.rest ≡ record b { state = state_after_try r b.state place; active = place; undo_kept = undo_after b.state.blocks b.active b.undo_kept found.path } = ap (core_after_commit r b) rest_is in
-        let state : (core_after_commit r b prepared.rest).state ≡ settle r m.state = ap (λ (x : CoreState). x.state) done ∙ leads.settles in
+    same_calls : ◌≡◌ {A = List ℕ} t.precious a.state.precious
+    same_calls = lead.other.precious_is ∙ other.precious_is
+
+    -- the marks are laid over a as over t
+    over : laid a.state marks ≡ t
+    over =
+        ap (λ (u : Blocks Block). laid (record a.state { blocks = u }) marks) (sym same_blocks)
+        ∙ ap (λ (l : List ℕ). laid (record t { precious = l }) marks) (sym same_calls) ∙ laid_is
+
+    over_marks : AreMarks a.state marks
+    over_marks =
+        let k = ap (λ (u : Blocks Block). length u) same_blocks in record {
+          count = are.count ∙ ap (λ (n : ℕ). suc n) k;
+          genesis = are.genesis;
+          right = λ p h. subst (λ (u : State Block). IsMark u p (mark_at marks p)) (laid_is ∙ sym over) (are.right p (omega arith));
+        }
+
+    good : branch_connects r t.blocks place ≡ true
+    good = subst (λ (u : Blocks Block). branch_connects r u place ≡ true) (sym same_blocks) moves.good
+
+    pub plan-marks : (prepared : Prepared) → prepared.rest ≡ Remark marks place found.path found.undo → prepared.changes ≡ found.changes → prepared.first ≡ Unchanged → prepared.reply ≡ reply.Mark Done
+        → IsPreparationFor r a (mark_says (settle r s) Done) a prepared
+    plan-marks prepared rest_is changes_is first_is reply_is =
+        let done : core_after_commit r a prepared.rest ≡ core_after_activation r (record a { state = t }) place found.path =
+        ap (core_after_commit r a) rest_is ∙ ap (λ (u : State Block). core_after_activation r (record a { state = u }) place found.path) over in
+        let state : (core_after_commit r a prepared.rest).state ≡ settle r s = ap (λ (x : CoreState). x.state) done ∙ sym (settle-best r t place lead.can.genesis best good) ∙ lead.settles in
         record {
-          params_are = params-other m b flags ∙ sym (ap (λ (x : CoreState). x.params) was);
-          outcome_is = ap (λ (s : State Block). (s, prepared.reply)) state ∙ ap (λ (x : Reply). (settle r m.state, x)) reply_is;
-          active_is = ap (λ (x : CoreState). x.active) done ∙ sym leads.active_is ∙ sym (active-settle r m.state can.genesis) ∙ sym (ap (active r) state);
+          params_are = refl;
+          outcome_is = ap (λ (u : State Block). (u, prepared.reply)) state ∙ ap (λ (x : Reply). (settle r s, x)) reply_is;
+          active_is =
+              ap (λ (x : CoreState). x.active) done ∙ sym (active-best r t place lead.can.genesis best good) ∙ lead.active_is
+              ∙ sym (active-settle r s can.genesis) ∙ sym (ap (active r) state);
           changes_are =
-              subst (λ (l : Changes). AreChanges (coins_of a) (coins_of (core_after_commit r b prepared.rest)) l) (sym changes_is)
+              subst (λ (l : Changes). AreChanges (coins_of a) (coins_of (core_after_commit r a prepared.rest)) l) (sym changes_is)
               (subst (λ (x : CoreState). AreChanges (coins_of a) (coins_of x) found.changes) (sym done)
-              (subst (λ (x : CoreState). AreChanges (coins_of x) (coins_after (state_after_try r b.state place).blocks place) found.changes) (sym was) (changes-leads r m b place found flags leads)));
-          ready = subst (λ (x : Completion). IsReady r b x) (sym rest_is) (can_go r m b place found leads);
-          can_go_back = record {
-            flags = subst (λ (o : Option FlagsOf). FlagsFit b.state o) (sym flags_is) (fit.0 ∙ ap (λ (t : Blocks Block). suc (length t)) (sym flags.blocks_are), fit.1);
-            first = subst (λ (x : TreeChange). CanBeTakenBack x b.active (with_flags prepared.rollback.flags b.state)) (sym first_is) tt;
-          };
-          back_is =
-              ap (λ (x : TreeChange). record b { state = state_before_change x (with_flags prepared.rollback.flags b.state) }) first_is
-              ∙ ap (λ (o : Option FlagsOf). record b { state = with_flags o b.state }) flags_is ∙ back-marks;
+              (subst (λ (u : Blocks Block). AreChanges (coins_of a) (coins_after u place) found.changes) (sym (tried-blocks r t place ∙ same_blocks)) moves.changes));
+          ready = subst (λ (x : Completion). IsReady r a x) (sym rest_is) (
+            over_marks,
+            subst (λ (u : State Block). CanActivate r (record a { state = u }) place found.path found.undo.items) (sym over) (record {
+              can = lead.can;
+              kept = best.kept;
+              is_way = subst (λ (u : Blocks Block). IsPath u a.active place found.path) (sym same_blocks) moves.path;
+              good = good;
+              undo_is = moves.undo ∙ ap (λ (u : Blocks Block). reverse (map (undo_at u) found.path.up.items)) (sym same_blocks);
+            }),
+          );
+          can_go_back = subst (λ (x : TreeChange). CanBeTakenBack x a.active a.state) (sym first_is) tt;
+          back_is = ap (core_after_rollback a) first_is;
         }
 
   -- ---- what is right after something was first done to the tree
@@ -244,17 +259,14 @@ module _ (r : Rules Block Id) where
     says-added said e =
         ap (submit_says (settle r (with_block a.state b p))) (e ∙ ap (λ (t : Blocks Block). answer_added r (settle r (with_block a.state b p)) (length t)) (sym (settle-blocks r (with_block a.state b p))))
 
-    pub fresh-back : (a.active < length (with_block a.state b p).blocks) × IsFresh names (with_block a.state b p) → CanRollBack (record a { state = with_block a.state b p }) (record { first = BlockAdded; flags = None })
-    fresh-back w = record { flags = tt; first = w }
-
     -- it is there, and nothing else is left to do but what is told
-    pub plan-added : (act : a.active ≡ active r a.state) → IsFresh names (with_block a.state b p) → (prepared : Prepared) → prepared.rollback.first ≡ BlockAdded → prepared.rollback.flags ≡ None
+    pub plan-added : (act : a.active ≡ active r a.state) → IsFresh names (with_block a.state b p) → (prepared : Prepared) → prepared.first ≡ BlockAdded
         → (after : Outcome Block) → ((core_after_commit r (record a { state = with_block a.state b p }) prepared.rest).state, prepared.reply) ≡ after
         → (core_after_commit r (record a { state = with_block a.state b p }) prepared.rest).active ≡ active r (core_after_commit r (record a { state = with_block a.state b p }) prepared.rest).state
         → AreChanges (coins_of a) (coins_of (core_after_commit r (record a { state = with_block a.state b p }) prepared.rest)) prepared.changes
         → IsReady r (record a { state = with_block a.state b p }) prepared.rest
         → IsPreparationFor r a after (record a { state = with_block a.state b p }) prepared
-    plan-added act fresh prepared first_is flags_is after out still changes ready =
+    plan-added act fresh prepared first_is after out still changes ready =
         let A : CoreState = record a { state = with_block a.state b p } in
         record {
           params_are = refl;
@@ -262,39 +274,22 @@ module _ (r : Rules Block Id) where
           active_is = still;
           changes_are = changes;
           ready = ready;
-          can_go_back = record {
-            flags = subst (λ (o : Option FlagsOf). FlagsFit A.state o) (sym flags_is) tt;
-            first = subst (λ (f : TreeChange). CanBeTakenBack f a.active (with_flags prepared.rollback.flags A.state)) (sym first_is)
-                (subst (λ (o : Option FlagsOf). (a.active < length (with_flags o A.state).blocks) × IsFresh names (with_flags o A.state)) (sym flags_is) (let k = can.kept in omega arith, fresh));
-          };
-          back_is =
-              ap (λ (f : TreeChange). record A { state = state_before_change f (with_flags prepared.rollback.flags A.state) }) first_is
-              ∙ ap (λ (o : Option FlagsOf). record A { state = state_before_change BlockAdded (with_flags o A.state) }) flags_is;
+          can_go_back = subst (λ (f : TreeChange). CanBeTakenBack f a.active A.state) (sym first_is) (let k = can.kept in omega arith, fresh);
+          back_is = ap (core_after_rollback A) first_is;
         }
 
     pub plan-beside : (act : a.active ≡ active r a.state) → IsFresh names (with_block a.state b p) → beats (with_block a.state b p) (suc (length a.state.blocks)) (active r a.state) ≡ false
-        → (prepared : Prepared) → prepared.rollback.first ≡ BlockAdded → prepared.rollback.flags ≡ None → prepared.rest ≡ Nothing → prepared.changes ≡ []
+        → (prepared : Prepared) → prepared.first ≡ BlockAdded → prepared.rest ≡ Nothing → prepared.changes ≡ []
         → (after : Outcome Block) → (with_block a.state b p, prepared.reply) ≡ after → IsPreparationFor r a after (record a { state = with_block a.state b p }) prepared
-    plan-beside act fresh lower prepared first_is flags_is rest_is changes_is after out =
+    plan-beside act fresh lower prepared first_is rest_is changes_is after out =
         let A : CoreState = record a { state = with_block a.state b p } in
         let done : core_after_commit r A prepared.rest ≡ A = ap (core_after_commit r A) rest_is in
-        plan-added act fresh prepared first_is flags_is after
+        plan-added act fresh prepared first_is after
         (ap (λ (x : CoreState). (x.state, prepared.reply)) done ∙ out)
         (ap (λ (x : CoreState). x.active) done ∙ act ∙ sym (active-beside r a.state sound b p lower) ∙ sym (ap (λ (x : CoreState). active r x.state) done))
         (subst (λ (x : CoreState). AreChanges (coins_of a) (coins_of x) prepared.changes) (sym done)
         (subst (λ (m : Coins). AreChanges (coins_of a) m prepared.changes) (sym coins-added) (no_changes (coins_of a) prepared.changes changes_is)))
         (subst (λ (x : Completion). IsReady r A x) (sym rest_is) tt)
-
--- ---- flags that are kept before marks are changed
-
-pub flags-before : (a m : CoreState) (f : FlagsOf) → f ≡ flags_of a.state → record m { state = with_flags (Some (flags_of a.state)) m.state } ≡ a → a ≡ record m { state = with_flags (Some f) m.state }
-flags-before a m f e same = sym same ∙ sym (ap (λ (g : FlagsOf). record m { state = with_flags (Some g) m.state }) e)
-
-pub fit-before : (r : Rules Block Id) (a m : CoreState) (f : FlagsOf) → CanTry r a → f ≡ flags_of a.state → ◌≡◌ {A = Blocks Block} m.state.blocks a.state.blocks → FlagsFit m.state (Some f)
-fit-before r a m f can e same = (
-  ap (λ (g : FlagsOf). g.len) e ∙ ap (λ (t : Blocks Block). suc (length t)) (sym same),
-  ap (λ (g : FlagsOf). has g.bad 0) e ∙ usable_gives a.state 0 0 can.genesis (on-genesis a.state.blocks 0),
-)
 
 pub if_ok : {V E : Type 0} {P Q : V → Type 0} (o : Result V E) → ((x : V) → P x → Q x) → IfOk o P → IfOk o Q
 if_ok (Ok x) f p = f x p

@@ -28,7 +28,7 @@ use Rattle.chain.specs.Try.{fails_on, passes_on, state_after_try}
 use Rattle.chain.specs.Settled.{IsSettled, AllKept}
 use Rattle.activate.specs.CoreState.{CoreState, coins_after, coins_of}
 use Rattle.activate.specs.inside.Paths.{LeadsTo, FailsAt}
-use Rattle.activate.specs.inside.Preparation.{IsOneTry, TriesLead, CanTry, CanActivate, HasOtherFlags, TryLeads, Settles, reply_to_failed_try}
+use Rattle.activate.specs.inside.Preparation.{IsOneTry, TriesLead, CanTry, Settles, reply_to_failed_try}
 use Rattle.chain.specs.laws.Actives.{active_kept, active_valid}
 use Rattle.chain.specs.laws.Candidates.{never_fails, same_first, on_candidate_from}
 use Rattle.activate.specs.laws.Noting.{above-on}
@@ -63,76 +63,38 @@ module _ (r : Rules Block Id) where
     seen_in_order = in_order-joined (length c.state.blocks) c.state.seen (passes_on r c.state.blocks p);
   }
 
--- ---- other flags
+-- ---- tries under other marks
 
-pub other_none : (a : CoreState) → HasOtherFlags a a
-other_none a = record { same = refl; blocks_are = refl; precious_is = refl }
-
-pub other-tried : (r : Rules Block Id) (a b : CoreState) (p : ℕ) → HasOtherFlags a b → HasOtherFlags a (record b { state = state_after_try r b.state p })
-other-tried r a b p is = record {
-  same = ap (λ (x : CoreState). record x { state = state_after_try r b.state p }) is.same;
-  blocks_are = tried-blocks r b.state p ∙ is.blocks_are;
-  precious_is = tried-precious r b.state p ∙ is.precious_is;
-}
-
-pub active-other : (a b : CoreState) → HasOtherFlags a b → b.active ≡ a.active
-active-other a b is = ap (λ (x : CoreState). x.active) (sym is.same)
-
-pub coins-other : (a b : CoreState) → HasOtherFlags a b → coins_of b ≡ coins_of a
-coins-other a b is = ap (λ (t : Blocks Block). coins_after t b.active) is.blocks_are ∙ ap (coins_after a.state.blocks) (active-other a b is)
-
-pub params-other : (a b : CoreState) → HasOtherFlags a b → b.params ≡ a.params
-params-other a b is = ap (λ (x : CoreState). x.params) (sym is.same)
-
--- ---- settling
-
-module _ (r : Rules Block Id) where
-  pub between_none : (a : CoreState) → CanTry r a → TriesLead r a a
-  between_none a can = record { flags = other_none a; can = can; settles = refl; active_is = refl; candidates = λ x was. was }
+module _ (r : Rules Block Id) (c : CoreState) where
+  pub tries_none : (s : State Block) → CanTry r (record c { state = s }) → TriesLead r c s s
+  tries_none s can = record { other = record { blocks_are = refl; precious_is = refl }; can = can; settles = refl; active_is = refl; candidates = λ x was. was }
 
   -- what is on a candidate's branch after a try was so before
-  pub candidates-tried : (b : CoreState) (p : ℕ) → CanTry r b → (x : ℕ) → on_candidate r (state_after_try r b.state p) x ≡ true → on_candidate r b.state x ≡ true
+  candidates-tried : (t : State Block) (p : ℕ) → has_no_mark t 0 ≡ true → (x : ℕ) → on_candidate r (state_after_try r t p) x ≡ true → on_candidate r t x ≡ true
   unfolding state_after_try fails_on
-  candidates-tried b p can x was =
-      let marks = fails_on r b.state.blocks p in
-      was_on_candidate r b.state marks (passes_on r b.state.blocks p) can.genesis
-      (λ c y v o. false_from_ne_true (marks y) (λ h. never_fails r b.state.blocks c y v o (and_parts (first_to_fail r b.state.blocks y) (on b.state.blocks p y) h).0)) x was
+  candidates-tried t p genesis x was =
+      let marks = fails_on r t.blocks p in
+      was_on_candidate r t marks (passes_on r t.blocks p) genesis
+      (λ d y v o. false_from_ne_true (marks y) (λ h. never_fails r t.blocks d y v o (and_parts (first_to_fail r t.blocks y) (on t.blocks p y) h).0)) x was
 
-  -- a try that failed keeps what settling gives
-  pub between-tried : (a b : CoreState) (p : ℕ) → TriesLead r a b → IsBest b.state (has_no_mark b.state) (length b.state.blocks) p → TriesLead r a (record b { state = state_after_try r b.state p })
-  between-tried a b p is best = record {
-    flags = other-tried r a b p is.flags;
-    can = can-tried r b p is.can;
-    settles = settle-tried r b.state p is.can.genesis best.kept (best-candidate r b.state p is.can.genesis best) ∙ is.settles;
-    active_is = active-tried r b.state p is.can.genesis ∙ is.active_is;
-    candidates = λ x was. is.candidates x (candidates-tried b p is.can x was);
-  }
+  module _ (s t : State Block) (p : ℕ) (best : IsBest t (has_no_mark t) (length t.blocks) p) where
+    -- a try that failed keeps what settling gives
+    pub tries_more : TriesLead r c s t → TriesLead r c s (state_after_try r t p)
+    tries_more lead = record {
+      other = record { blocks_are = tried-blocks r t p ∙ lead.other.blocks_are; precious_is = tried-precious r t p ∙ lead.other.precious_is };
+      can = can-tried r (record c { state = t }) p lead.can;
+      settles = settle-tried r t p lead.can.genesis best.kept (best-candidate r t p lead.can.genesis best) ∙ lead.settles;
+      active_is = active-tried r t p lead.can.genesis ∙ lead.active_is;
+      candidates = λ x was. lead.candidates x (candidates-tried t p lead.can.genesis x was);
+    }
 
-  -- and leaves fewer blocks unmarked
-  pub fewer-unmarked : (b : CoreState) (p : ℕ) (failed : FailedTry) → IsBest b.state (has_no_mark b.state) (length b.state.blocks) p → FailsAt r b.state.blocks b.active p failed → count_without_mark (state_after_try r b.state p) < count_without_mark b.state
-  fewer-unmarked b p failed best fails =
-      unmarked-tried r b.state p best.kept best.can
-      (false_from_ne_true (branch_connects r b.state.blocks p) (λ v. never_fails r b.state.blocks p fails.stop.place v fails.stop.first.on fails.stop.first.first))
+    -- and leaves fewer blocks unmarked
+    pub fewer-unmarked : (failed : FailedTry) → FailsAt r t.blocks c.active p failed → count_without_mark (state_after_try r t p) < count_without_mark t
+    fewer-unmarked failed fails =
+        unmarked-tried r t p best.kept best.can
+        (false_from_ne_true (branch_connects r t.blocks p) (λ v. never_fails r t.blocks p fails.stop.place v fails.stop.first.on fails.stop.first.first))
 
-module _ (r : Rules Block Id) (a b : CoreState) (p : ℕ) (move : Reorganisation) where
-  -- the last try, of the best block that is left
-  pub leads-last : TriesLead r a b → IsBest b.state (has_no_mark b.state) (length b.state.blocks) p → LeadsTo r b.state.blocks b.active p move → TryLeads r a b p move
-  leads-last is best moves = record {
-    can = is.can;
-    kept = best.kept;
-    moves = moves;
-    settles = sym (settle-best r b.state p is.can.genesis best moves.good) ∙ is.settles;
-    active_is = sym is.active_is ∙ active-best r b.state p is.can.genesis best moves.good;
-  }
-
-  pub can_go : TryLeads r a b p move → CanActivate r b p move.path move.undo.items
-  can_go l = record { can = l.can; kept = l.kept; is_way = l.moves.path; good = l.moves.good; undo_is = l.moves.undo }
-
-  -- the coins change as the last try tells
-  pub changes-leads : HasOtherFlags a b → TryLeads r a b p move → AreChanges (coins_of a) (coins_after (state_after_try r b.state p).blocks p) move.changes
-  changes-leads is l =
-      subst (λ (t : Blocks Block). AreChanges (coins_of a) (coins_after t p) move.changes) (sym (tried-blocks r b.state p))
-      (subst (λ (m : Coins). AreChanges m (coins_after b.state.blocks p) move.changes) (coins-other a b is) l.moves.changes)
+-- ---- settling
 
 -- nothing changes
 pub no_changes : (m : Coins) (cs : Changes) → cs ≡ [] → AreChanges m m cs
@@ -142,12 +104,11 @@ no_changes m cs e = subst (λ (x : Changes). AreChanges m m x) (sym e) (record {
 -- one try, of a block that is valid
 pub settles_valid : (r : Rules Block Id) (a : CoreState) (p : ℕ) (move : Reorganisation) → CanTry r a → IsBest a.state (has_no_mark a.state) (length a.state.blocks) p → LeadsTo r a.state.blocks a.active p move → (rest : Completion) → rest ≡ Activate p move.path move.undo → Settles r a rest move.changes
 settles_valid r a p move can best moves rest go =
-    let l = leads-last r a a p move (between_none r a can) best moves in
     subst (λ (x : Completion). Settles r a x move.changes) (sym go) (record {
-      state_is = l.settles;
-      active_is = sym l.active_is;
-      changes_are = changes-leads r a a p move (other_none a) l;
-      ready = can_go r a a p move l;
+      state_is = sym (settle-best r a.state p can.genesis best moves.good);
+      active_is = sym (active-best r a.state p can.genesis best moves.good);
+      changes_are = subst (λ (t : Blocks Block). AreChanges (coins_of a) (coins_after t p) move.changes) (sym (tried-blocks r a.state p)) moves.changes;
+      ready = record { can = can; kept = best.kept; is_way = moves.path; good = moves.good; undo_is = moves.undo };
     })
 
 -- and of one that isn't: no coin changes

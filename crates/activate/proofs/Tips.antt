@@ -122,12 +122,12 @@ module _ (params : Params) (triples : Triples) (a : CoreState) (sound : IsSettle
         act ∙ sym (active_tip-fails r a.state sound b a.active act reason own_bad) ∙ sym (active-settle r t next.genesis)
         ∙ ap (active r) (settle_tip-fails r a.state sound b a.active act reason own_bad ∙ sym marked-is)
 
-    pub plan-fails : (prepared : Prepared) (place : ℕ) → place ≡ n → prepared.rollback.first ≡ BlockAdded → prepared.rollback.flags ≡ None → prepared.rest ≡ Mark place → prepared.changes ≡ [] → prepared.reply ≡ reply.Submit (Rejected reason)
+    pub plan-fails : (prepared : Prepared) (place : ℕ) → place ≡ n → prepared.first ≡ BlockAdded → prepared.rest ≡ Mark place → prepared.changes ≡ [] → prepared.reply ≡ reply.Submit (Rejected reason)
         → IsPreparationFor r a (step r a.state (Submit now b)) A prepared
-    plan-fails prepared place here first_is flags_is rest_is changes_is reply_is =
+    plan-fails prepared place here first_is rest_is changes_is reply_is =
         let rest : prepared.rest ≡ Mark n = rest_is ∙ ap Mark here in
         let done : core_after_commit r A prepared.rest ≡ record A { state = with_mark t n } = ap (core_after_commit r A) rest in
-        plan-added r a sound b a.active can alone can.kept is.unknown is.parent act fresh prepared first_is flags_is (step r a.state (Submit now b))
+        plan-added r a sound b a.active can alone can.kept is.unknown is.parent act fresh prepared first_is (step r a.state (Submit now b))
         (ap (λ (x : CoreState). (x.state, prepared.reply)) done ∙ ap (λ (x : Reply). (with_mark t n, x)) reply_is ∙ ap (λ (s : State Block). submit_says s (Rejected reason)) marked-is
         ∙ sym (step_tip-fails r a.state sound now b a.active is act reason own_bad))
         (ap (λ (x : CoreState). x.active) done ∙ still ∙ sym (ap (λ (x : CoreState). active r x.state) done))
@@ -172,15 +172,15 @@ module _ (params : Params) (triples : Triples) (a : CoreState) (sound : IsSettle
           up = up ∙ sym steps ∙ ap (above t.blocks n) (sym fork);
         }
 
-    pub plan-moves : (prepared : Prepared) (place : ℕ) (path : BranchPath) (undo : Vec BlockUndo Global) (taken : List (List Coin)) → place ≡ n → prepared.rollback.first ≡ BlockAdded → prepared.rollback.flags ≡ None → prepared.rest ≡ Activate place path undo
+    pub plan-moves : (prepared : Prepared) (place : ℕ) (path : BranchPath) (undo : Vec BlockUndo Global) (taken : List (List Coin)) → place ≡ n → prepared.first ≡ BlockAdded → prepared.rest ≡ Activate place path undo
         → path.fork ≡ a.active → path.height ≡ height a.state.blocks a.active → path.up.items ≡ place ∷ [] → undo.items ≡ taken ∷ [] → taken ≡ undo_of (height a.state.blocks a.active + 1) (coins_of a) b.txs
         → AreChanges (coins_of a) (effect (height a.state.blocks a.active + 1) (coins_of a) b.txs) prepared.changes → prepared.reply ≡ reply.Submit Accepted
         → IsPreparationFor r a (step r a.state (Submit now b)) A prepared
-    plan-moves prepared place path undo taken here first_is flags_is rest_is fork high up undo_is taken_is changes reply_is =
+    plan-moves prepared place path undo taken here first_is rest_is fork high up undo_is taken_is changes reply_is =
         let rest : prepared.rest ≡ Activate n path undo = rest_is ∙ ap (λ (q : ℕ). Activate q path undo) here in
         let done : core_after_commit r A prepared.rest ≡ record A { state = state_after_try r t n; active = n; undo_kept = undo_after A.state.blocks A.active A.undo_kept path } = ap (core_after_commit r A) rest in
         let path : IsPath t.blocks a.active n path = is-way path fork high (up ∙ ap (λ (q : ℕ). q ∷ []) here) in
-        plan-added r a sound b a.active can alone can.kept is.unknown is.parent act fresh prepared first_is flags_is (step r a.state (Submit now b))
+        plan-added r a sound b a.active can alone can.kept is.unknown is.parent act fresh prepared first_is (step r a.state (Submit now b))
         (ap (λ (x : CoreState). (x.state, prepared.reply)) done ∙ ap (λ (s : State Block). (s, prepared.reply)) (sym settled) ∙ ap (λ (x : Reply). (settle r t, x)) reply_is
         ∙ says-added r a sound b a.active can alone can.kept is.unknown is.parent Accepted (said-once r A next n (best-tip r a.state sound b a.active act) valid_new)
         ∙ sym (step-added r a.state now b a.active is))

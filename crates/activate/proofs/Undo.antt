@@ -4,7 +4,9 @@ use Rattle.std.proofs.lemmas.Bool.{ne_eqb}
 use Rattle.std.proofs.lemmas.Bool.Decides.{leb_tells}
 use Rattle.hash.specs.declared.id.Id.{Id}
 use Rattle.block.specs.declared.block.Block.{Block}
+use Rattle.coins.specs.declared.coin.Coin.{Coin}
 use Rattle.tree.specs.Branches.{Blocks, first_of, rest_of, branch, before, height, on, parent_at}
+use Rattle.tree.specs.Nodes.{laid}
 use Rattle.tree.specs.Tips.{last_shared}
 use Rattle.tree.specs.laws.Above.{above, above-end, above-step, IsShared, last-shared}
 use Rattle.tree.specs.laws.Branches.{on-bounds, on-itself}
@@ -13,7 +15,7 @@ use Rattle.tree.specs.laws.Walks.{shared_here}
 use Rattle.activate.specs.declared.path.BranchPath.{BranchPath}
 use Rattle.activate.specs.declared.prepared.Prepared.{Prepared}
 use Rattle.activate.specs.declared.prepared.Completion.{Completion}
-use Rattle.activate.specs.declared.prepared.Completion.TheVariants.{Nothing, Mark, Flag, Activate}
+use Rattle.activate.specs.declared.prepared.Completion.TheVariants.{Nothing, Mark, Flag, Activate, Remark}
 use Rattle.curve.specs.Triple.{Triples}
 use Rattle.chain.specs.declared.command.Command.{Command}
 use Rattle.chain.specs.Regtest.{regtest}
@@ -24,7 +26,7 @@ use Rattle.chain.specs.laws.Actives.{active_kept}
 use Rattle.chain.specs.laws.Tries.{tried-blocks}
 use Rattle.activate.specs.CoreState.{CoreState, Follows, HasOneMore, UndoFollows, lesser_of, most_undo}
 use Rattle.activate.specs.inside.Paths.{IsPath}
-use Rattle.activate.specs.inside.Preparation.{IsPreparation, IsPreparationFor, IsReady, core_after_commit, undo_after}
+use Rattle.activate.specs.inside.Preparation.{CanActivate, IsPreparation, IsPreparationFor, IsReady, core_after_activation, core_after_commit, undo_after}
 use Rattle.activate.specs.laws.Turning.{come}
 use Rattle.activate.proofs.Outcomes.{follows-plan}
 
@@ -73,15 +75,19 @@ below-itself t p z =
 own_parent : (t : Blocks Block) (a p : ℕ) → p ≡ a → 0 < p → parent_at t p ≡ a → ⊥
 own_parent t a p e z h = let l = below-itself t p z in omega arith
 
+after-activation : (r : Rules Block Id) (a b : CoreState) (p : ℕ) (path : BranchPath) (undo : List (List (List Coin))) → CanActivate r b p path undo → b.active ≡ a.active → b.undo_kept ≡ a.undo_kept → HasOneMore a (core_after_activation r b p path)
+after-activation r a b p path undo ready same kept z h =
+    let t = b.state.blocks in
+    let parent : parent_at t p ≡ b.active = ap (λ (u : Blocks Block). parent_at u p) (sym (tried-blocks r b.state p)) ∙ h ∙ sym same in
+    one-more t b.active p path ready.is_way ready.kept z parent b.undo_kept ∙ ap (λ (n : ℕ). lesser_of most_undo (suc n)) kept
+
 after-commit : (r : Rules Block Id) (a b : CoreState) (rest : Completion) → IsReady r b rest → b.active ≡ a.active → b.undo_kept ≡ a.undo_kept → HasOneMore a (core_after_commit r b rest)
 after-commit r a b Nothing ready same kept z h = absurd (own_parent b.state.blocks a.active b.active same z h)
 after-commit r a b (Mark p) ready same kept z h = absurd (own_parent b.state.blocks a.active b.active same z h)
 after-commit r a b (Flag p failed) ready same kept z h =
     absurd (own_parent b.state.blocks a.active b.active same z (ap (λ (t : Blocks Block). parent_at t b.active) (sym (tried-blocks r b.state p)) ∙ h))
-after-commit r a b (Activate p path undo) ready same kept z h =
-    let t = b.state.blocks in
-    let parent : parent_at t p ≡ b.active = ap (λ (u : Blocks Block). parent_at u p) (sym (tried-blocks r b.state p)) ∙ h ∙ sym same in
-    one-more t b.active p path ready.is_way ready.kept z parent b.undo_kept ∙ ap (λ (n : ℕ). lesser_of most_undo (suc n)) kept
+after-commit r a b (Activate p path undo) ready same kept z h = after-activation r a b p path undo.items ready same kept z h
+after-commit r a b (Remark marks p path undo) ready same kept z h = after-activation r a (record b { state = laid b.state marks }) p path undo.items ready.1 same kept z h
 
 pub more-undo : (r : Rules Block Id) (a b : CoreState) (after : Outcome Block) (prepared : Prepared) → IsPreparationFor r a after b prepared → HasOneMore a (core_after_commit r b prepared.rest)
 more-undo r a b after prepared is =
@@ -117,26 +123,30 @@ stays t a n h few =
     let e = ap (height t) (shared_here t a a h (on-itself t a h)) in
     sym (lesser-few n few) ∙ ap (lesser_of most_undo) {x = n} {y = (n - (height t a - height t (last_shared t a a))) + (height t a - height t (last_shared t a a))} (omega arith)
 
-module _ (a b : CoreState) (same : b.active ≡ a.active) (kept : b.undo_kept ≡ a.undo_kept) (few : a.undo_kept ≤ most_undo) where
-  left-by : (r : Rules Block Id) (rest : Completion) → IsReady r b rest → (core_after_commit r b rest).active ≤ length (core_after_commit r b rest).state.blocks → UndoFollows a (core_after_commit r b rest)
-  left-by r Nothing ready high =
+module _ (a : CoreState) (few : a.undo_kept ≤ most_undo) where
+  moved : (r : Rules Block Id) (b : CoreState) (p : ℕ) (path : BranchPath) (undo : List (List (List Coin))) → b.active ≡ a.active → b.undo_kept ≡ a.undo_kept → CanActivate r b p path undo → UndoFollows a (core_after_activation r b p path)
+  moved r b p path undo same kept ready =
+      along b.state.blocks b.active p b.undo_kept path ready.can.kept ready.kept ready.is_way
+      ∙ ap (λ (x : ℕ). lesser_of most_undo ((b.undo_kept - (height b.state.blocks x - height b.state.blocks (last_shared b.state.blocks x p))) + (height b.state.blocks p - height b.state.blocks (last_shared b.state.blocks x p)))) same
+      ∙ ap (λ (n : ℕ). lesser_of most_undo ((n - (height b.state.blocks a.active - height b.state.blocks (last_shared b.state.blocks a.active p))) + (height b.state.blocks p - height b.state.blocks (last_shared b.state.blocks a.active p)))) kept
+      ∙ ap (λ (u : Blocks Block). lesser_of most_undo ((a.undo_kept - (height u a.active - height u (last_shared u a.active p))) + (height u p - height u (last_shared u a.active p)))) (sym (tried-blocks r b.state p))
+
+  left-by : (r : Rules Block Id) (b : CoreState) (rest : Completion) → b.active ≡ a.active → b.undo_kept ≡ a.undo_kept → IsReady r b rest → (core_after_commit r b rest).active ≤ length (core_after_commit r b rest).state.blocks → UndoFollows a (core_after_commit r b rest)
+  left-by r b Nothing same kept ready high =
       kept ∙ stays b.state.blocks a.active a.undo_kept (omega (arith, high, same)) few
       ∙ ap (λ (p : ℕ). lesser_of most_undo ((a.undo_kept - (height b.state.blocks a.active - height b.state.blocks (last_shared b.state.blocks a.active p))) + (height b.state.blocks p - height b.state.blocks (last_shared b.state.blocks a.active p)))) (sym same)
-  left-by r (Mark p) ready high =
+  left-by r b (Mark p) same kept ready high =
       kept ∙ stays b.state.blocks a.active a.undo_kept (omega (arith, high, same)) few
       ∙ ap (λ (p : ℕ). lesser_of most_undo ((a.undo_kept - (height b.state.blocks a.active - height b.state.blocks (last_shared b.state.blocks a.active p))) + (height b.state.blocks p - height b.state.blocks (last_shared b.state.blocks a.active p)))) (sym same)
-  left-by r (Flag p failed) ready high = same_blocks (state_after_try r b.state p).blocks (tried-blocks r b.state p) high
+  left-by r b (Flag p failed) same kept ready high = same_blocks (state_after_try r b.state p).blocks (tried-blocks r b.state p) high
     where
       same_blocks : (t : Blocks Block) → ◌≡◌ {A = Blocks Block} t b.state.blocks → b.active ≤ length t
           → b.undo_kept ≡ lesser_of most_undo ((a.undo_kept - (height t a.active - height t (last_shared t a.active b.active))) + (height t b.active - height t (last_shared t a.active b.active)))
       same_blocks t e l =
           kept ∙ stays t a.active a.undo_kept (omega (arith, l, same)) few
           ∙ ap (λ (x : ℕ). lesser_of most_undo ((a.undo_kept - (height t a.active - height t (last_shared t a.active x))) + (height t x - height t (last_shared t a.active x)))) (sym same)
-  left-by r (Activate p path undo) ready high =
-      along b.state.blocks b.active p b.undo_kept path ready.can.kept ready.kept ready.is_way
-      ∙ ap (λ (x : ℕ). lesser_of most_undo ((b.undo_kept - (height b.state.blocks x - height b.state.blocks (last_shared b.state.blocks x p))) + (height b.state.blocks p - height b.state.blocks (last_shared b.state.blocks x p)))) same
-      ∙ ap (λ (n : ℕ). lesser_of most_undo ((n - (height b.state.blocks a.active - height b.state.blocks (last_shared b.state.blocks a.active p))) + (height b.state.blocks p - height b.state.blocks (last_shared b.state.blocks a.active p)))) kept
-      ∙ ap (λ (u : Blocks Block). lesser_of most_undo ((a.undo_kept - (height u a.active - height u (last_shared u a.active p))) + (height u p - height u (last_shared u a.active p)))) (sym (tried-blocks r b.state p))
+  left-by r b (Activate p path undo) same kept ready high = moved r b p path undo.items same kept ready
+  left-by r b (Remark marks p path undo) same kept ready high = moved r (record b { state = laid b.state marks }) p path undo.items same kept ready.1
 
 -- how much undo stands after a command
 pub undo-follows : (a b : CoreState) (triples : Triples) (c : Command) (prepared : Prepared) → Follows a triples → IsPreparation (regtest a.params triples) a c b prepared → a.undo_kept ≤ most_undo
@@ -146,7 +156,7 @@ undo-follows a b triples c prepared follows is few =
     let f : CoreState = core_after_commit r b prepared.rest in
     let after = (follows-plan a b triples c prepared follows is).1 in
     let high : f.active ≤ length f.state.blocks = subst (λ (p : ℕ). p ≤ length f.state.blocks) (sym after.active_is) (active_kept (regtest f.params triples) f.state after.sound.genesis) in
-    left-by a b (ap (λ (x : CoreState). x.active) is.back_is) (ap (λ (x : CoreState). x.undo_kept) is.back_is) few r prepared.rest is.ready high
+    left-by a few r b prepared.rest (ap (λ (x : CoreState). x.active) is.back_is) (ap (λ (x : CoreState). x.undo_kept) is.back_is) is.ready high
 
 -- what is kept is few, as is told
 pub few-of : (told n : ℕ) → told ≡ n → told ≤ most_undo → n ≤ most_undo

@@ -29,8 +29,7 @@ use Rattle.activate.specs.CoreState.{CoreState, branch_blocks, coins_after}
 use Rattle.activate.specs.Wants.{IsToSettle, AreWantedAt, AreWantedBy, AreWantedToSettle}
 use Rattle.activate.specs.inside.Ascents.{AreWantedAbove}
 use Rattle.activate.specs.inside.Paths.{AreWantedOnWay}
-use Rattle.activate.specs.inside.Preparation.{CanTry, HasOtherFlags, TriesLead}
-use Rattle.activate.proofs.Plans.{active-other, params-other}
+use Rattle.activate.specs.inside.Preparation.{CanTry, HasOtherMarks, TriesLead}
 
 -- the best usable block is a candidate, so are those of its branch on one's
 on-best : (c : CoreState) (known : Known) (p : ℕ) → Under known (λ triples. CanTry (regtest c.params triples) c) → IsBest c.state (has_no_mark c.state) (length c.state.blocks) p
@@ -108,18 +107,15 @@ wanted_tip a known b k can best told are =
     }) told are)
 
 -- what is wanted after tries was wanted before
-pub wanted_before : (a b : CoreState) (known : Known) → HasOtherFlags a b → Under known (λ triples. TriesLead (regtest a.params triples) a b)
-    → (told : Option (List Triple)) → IfSome told (AreWantedToSettle b known) → IfSome told (AreWantedToSettle a known)
-wanted_before a b known flags lead told are =
-    wanted_weaker (AreWantedToSettle b known) (AreWantedToSettle a known) (λ list w.
-    let params = params-other a b flags in
-    let act = active-other a b flags in
-    record {
+pub wanted_before : (c : CoreState) (s t : State Block) (known : Known) → HasOtherMarks s t → Under known (λ triples. TriesLead (regtest c.params triples) c s t)
+    → (told : Option (List Triple)) → IfSome told (AreWantedToSettle (record c { state = t }) known) → IfSome told (AreWantedToSettle (record c { state = s }) known)
+wanted_before c s t known other lead told are =
+    wanted_weaker (AreWantedToSettle (record c { state = t }) known) (AreWantedToSettle (record c { state = s }) known) (λ list w. record {
       place = w.place;
-      kept = subst (λ (t : Blocks Block). w.place ≤ length t) flags.blocks_are w.kept;
-      candidate = λ triples agrees. (lead triples agrees).candidates w.place (subst (λ (q : Params). on_candidate (regtest q triples) b.state w.place ≡ true) params (w.candidate triples agrees));
-      inactive = subst (λ (q : ℕ). on a.state.blocks q w.place ≡ false) act (subst (λ (t : Blocks Block). on t b.active w.place ≡ false) flags.blocks_are w.inactive);
-      wanted = subst (λ (q : Params). AreWantedAt q a.state.blocks known w.place list) params (subst (λ (t : Blocks Block). AreWantedAt b.params t known w.place list) flags.blocks_are w.wanted);
+      kept = subst (λ (u : Blocks Block). w.place ≤ length u) other.blocks_are w.kept;
+      candidate = λ triples agrees. (lead triples agrees).candidates w.place (w.candidate triples agrees);
+      inactive = subst (λ (u : Blocks Block). on u c.active w.place ≡ false) other.blocks_are w.inactive;
+      wanted = subst (λ (u : Blocks Block). AreWantedAt c.params u known w.place list) other.blocks_are w.wanted;
     }) told are
 
 pub wanted_by : (c : CoreState) (request : Request Block Id) (known : Known) (s : State Block) → IsToSettle c known request s → (told : Option (List Triple))

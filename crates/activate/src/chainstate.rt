@@ -105,7 +105,7 @@ impl Chainstate {
         prove!(few);
         let Prepared {
             reply,
-            rollback,
+            first,
             rest,
             changes,
         } = self.core.prepare(alloc, &self.coins, command, env, gate)?;
@@ -115,7 +115,7 @@ impl Chainstate {
                 Ok(reply)
             }
             Err(_) => {
-                self.core.roll_back(rollback);
+                self.core.roll_back(first);
                 Err(S::Stop::from(Memory))
             }
         }

@@ -3,25 +3,17 @@
 use crate::path::{BranchPath, FailedTry};
 use chain::Reply;
 use coins::Changes;
-use tree::Flags;
+use tree::Marks;
 use undo::BlockUndo;
 
 /// A command that was looked at whole. Nothing that is left to do takes memory.
 #[derive(Drop)]
 pub(crate) struct Prepared {
     pub(crate) reply: Reply,
-    pub(crate) rollback: Rollback,
+    pub(crate) first: TreeChange,
     pub(crate) rest: Completion,
     /// The coins that change.
     pub(crate) changes: Changes,
-}
-
-/// How the tree becomes what it was before the command.
-#[derive(Drop)]
-pub(crate) struct Rollback {
-    pub(crate) first: TreeChange,
-    /// The flags of before, where `invalidate` or `reconsider` changed them.
-    pub(crate) flags: Option<Flags>,
 }
 
 /// What was first done to the tree.
@@ -45,4 +37,6 @@ pub(crate) enum Completion {
     Flag(usize, FailedTry),
     /// The block at a place becomes active, by this path, and its blocks spend this, the lowest first.
     Activate(usize, BranchPath, Vec<BlockUndo>),
+    /// The same under these marks.
+    Remark(Marks, usize, BranchPath, Vec<BlockUndo>),
 }

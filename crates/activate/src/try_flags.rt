@@ -11,7 +11,7 @@ ghost use Rattle.chain.specs.Try.{state_after_try};
 ghost use Rattle.activate.specs.inside.Preparation.{IsFailedTry, IsValidPath};
 
 use crate::path::{BranchPath, FailedTry};
-use tree::Tree;
+use tree::{Marking, Tree};
 
 /// Sees the blocks above the fork, which all connect. It takes no memory.
 pub(crate) fn flag_valid_path(tree: &mut Tree, path: &BranchPath)
@@ -23,10 +23,11 @@ pub(crate) fn flag_valid_path(tree: &mut Tree, path: &BranchPath)
 }
 
 /// Sees the blocks above the fork that connect, and marks the one that doesn't. It takes no memory.
-pub(crate) fn flag_failed_try(tree: &mut Tree, failed: &FailedTry)
-    requires { (r : Rules Block Id) × (a : ℕ) × (p : ℕ) × IsFailedTry r tree.old a p failed.now }
-    ensures { (r : Rules Block Id) (a p : ℕ) → IsFailedTry r tree.old a p failed.now
-        → tree.new ≡ state_after_try r tree.old p }
+pub(crate) fn flag_failed_try<M: Marking>(tree: &mut M, failed: &FailedTry)
+    requires { (r : Rules Block Id) × (a : ℕ) × (p : ℕ)
+        × IsFailedTry r (M.state tree.old) a p failed.now }
+    ensures { (r : Rules Block Id) (a p : ℕ) → IsFailedTry r (M.state tree.old) a p failed.now
+        → M.state tree.new ≡ state_after_try r (M.state tree.old) p }
 {
     // The highest comes first.
     let lowest = failed.path.up.len() - failed.passed;
@@ -35,14 +36,12 @@ pub(crate) fn flag_failed_try(tree: &mut Tree, failed: &FailedTry)
 }
 
 /// Sees each of these blocks.
-fn see_all(tree: &mut Tree, found: &[usize])
-    requires kept { (x : ℕ) → has found.now x ≡ true → x ≤ length tree.old.blocks }
-    requires order { InOrder (length tree.old.blocks) tree.old.seen }
-    ensures { tree.new
-        ≡ record tree.old {
-          seen = union_where (places tree.old.blocks) tree.old.seen
-              (λ x. has found.now x);
-        } }
+fn see_all<M: Marking>(tree: &mut M, found: &[usize])
+    requires kept { let s = M.state tree.old in
+        (x : ℕ) → has found.now x ≡ true → x ≤ length s.blocks }
+    requires order { let s = M.state tree.old in InOrder (length s.blocks) s.seen }
+    ensures { let s = M.state tree.old in M.state tree.new
+        ≡ record s { seen = union_where (places s.blocks) s.seen (λ x. has found.now x) } }
 {
     for place in found {
         tree.see(*place);

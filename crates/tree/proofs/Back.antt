@@ -21,8 +21,8 @@ use Rattle.tree.specs.State.{State, rank, without_last}
 use Rattle.tree.specs.MedianTime.{median_time_past}
 use Rattle.hash.specs.Id.{id_cmp}
 use Rattle.tree.specs.Names.{names}
-use Rattle.tree.specs.Nodes.{kept_of, blocks_of, blank, mark_at, state_of}
-use Rattle.tree.specs.inside.Nodes.{IsNode, IsMark, IsRight, AreIds}
+use Rattle.tree.specs.Nodes.{IsMark, kept_of, blocks_of, blank, mark_at, state_of}
+use Rattle.tree.specs.inside.Nodes.{IsNode, IsRight, AreIds}
 use Rattle.tree.specs.inside.Slots.{AreInOrder, slot_of, leaves_of}
 use Rattle.tree.specs.laws.Branches.{parent_there, height_there}
 use Rattle.tree.specs.laws.Added.{block_there, id_there, id_here, blocks-old, usable_there}

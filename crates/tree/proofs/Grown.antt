@@ -20,8 +20,8 @@ use Rattle.tree.specs.Limits.{max_blocks}
 use Rattle.tree.specs.MedianTime.{median_time_past}
 use Rattle.hash.specs.Id.{id_cmp}
 use Rattle.tree.specs.Names.{names}
-use Rattle.tree.specs.Nodes.{kept_of, blocks_of, blank, mark_at, places_where, state_of}
-use Rattle.tree.specs.inside.Nodes.{IsNode, IsMark, IsRight, AreNodes, AreIds}
+use Rattle.tree.specs.Nodes.{IsMark, kept_of, blocks_of, blank, mark_at, places_where, state_of}
+use Rattle.tree.specs.inside.Nodes.{IsNode, IsRight, AreNodes, AreIds}
 use Rattle.tree.specs.inside.Slots.{AreInOrder, slot_of, leaves_of}
 use Rattle.tree.specs.laws.Sets.{filter_agree}
 use Rattle.tree.specs.laws.Branches.{parent_there, height_there}

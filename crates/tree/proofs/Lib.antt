@@ -2,8 +2,8 @@ mod Back
 mod Changes
 mod Cleared
 mod Grown
+mod Laid
 mod Marked
 mod Opened
-mod Put
 mod Times
 mod Views

@@ -1,5 +1,5 @@
 -- A tree of which one mark is another now, or of which the marks were lent whole.
-use Rattle.std.proofs.Common.{◌≡◌, ℕ, ◌<◌, ◌≤◌, Bool, true, false, List, ◌++◌, length, reverse, get_or, take, drop, sym, ap, ◌∙◌, arith}
+use Rattle.std.proofs.Common.{◌≡◌, ℕ, ◌<◌, ◌≤◌, Bool, false, List, ◌++◌, length, reverse, get_or, take, drop, sym, ap, ◌∙◌, arith}
 use Rattle.std.proofs.Math.ListN.{set}
 use Rattle.std.proofs.lemmas.List.{length-set}
 use Rattle.hash.specs.declared.id.Id.{Id}
@@ -11,18 +11,12 @@ use Rattle.tree.specs.State.{State, rank_in}
 use Rattle.tree.specs.Nodes.{mark_at, places_where, state_of}
 use Rattle.tree.specs.inside.Nodes.{IsRight}
 use Rattle.tree.proofs.Views.{kept, where_agree}
-use Rattle.tree.proofs.Changes.{set_kept, made, blocks-view, bad-view, seen-view, usable_zero, right_flags, right-usable, whole}
+use Rattle.tree.proofs.Changes.{set_kept, made, blocks-view, bad-view, seen-view, right_flags, whole}
 
 module _ {ns : List Node} {ms : List Mark} {cs : List ℕ} {is : List (Id × ℕ)} {ls : List ℕ} (right : IsRight ns ms cs is ls) where
   -- a kept block has a mark
   pub has_mark : {s : State Block} → state_of ns ms cs ≡ s → (p : ℕ) → p ≤ length s.blocks → p < length ms
   has_mark view p h = let k = kept right view in let l = right.same in omega arith
-
-  -- genesis is usable, also in the marks that are lent
-  pub genesis_usable : {lent : List Mark} → lent ≡ ms → (mark_at lent 0).usable ≡ true
-  genesis_usable lent-is =
-      let l = right.same in let z = right.some in
-      ap (λ (x : List Mark). (mark_at x 0).usable) lent-is ∙ right-usable right 0 z ∙ usable_zero ns ms (omega arith) right.genesis
 
   module _ (p : ℕ) (m n : Mark) (h : p < length ms) (e : m ≡ get_or ms p m) where
     -- a test that is passed at p as before is passed at the same places

@@ -12,8 +12,8 @@ use Rattle.tree.specs.State.{opening, has_no_mark, rank, rank_in}
 use Rattle.tree.specs.MedianTime.{median_time_past}
 use Rattle.hash.specs.Id.{id_cmp}
 use Rattle.tree.specs.Names.{names}
-use Rattle.tree.specs.Nodes.{blocks_of, mark_at, places_where, state_of}
-use Rattle.tree.specs.inside.Nodes.{IsNode, IsMark, IsRight, first_node, first_mark}
+use Rattle.tree.specs.Nodes.{IsMark, blocks_of, mark_at, places_where, state_of}
+use Rattle.tree.specs.inside.Nodes.{IsNode, IsRight, first_node, first_mark}
 use Rattle.tree.specs.inside.Slots.{slot_of, leaves_of}
 
 abbrev nodes : List Node

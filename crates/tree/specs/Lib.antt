@@ -1,5 +1,4 @@
 pub mod Branches
-pub mod Flags
 pub mod Limits
 pub mod MedianTime
 pub mod Names

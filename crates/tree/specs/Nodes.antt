@@ -1,10 +1,10 @@
 -- How the program's tree is seen.
-use Rattle.std.specs.Prelude.{ℕ, ◌-◌, Bool, false, List, [], ◌∷◌, length, map, reverse, filter, slice_index_or}
+use Rattle.std.specs.Prelude.{◌≡◌, ℕ, suc, ◌-◌, ◌≤◌, Bool, false, List, [], ◌∷◌, length, map, reverse, filter, slice_index_or}
 use Rattle.block.specs.declared.block.Block.{Block}
 use Rattle.tree.specs.declared.node.Node.{Node}
 use Rattle.tree.specs.declared.node.Mark.{Mark}
 use Rattle.tree.specs.Branches.{Kept, Blocks, down_from}
-use Rattle.tree.specs.State.{State}
+use Rattle.tree.specs.State.{State, has_no_mark, rank}
 
 -- the block of a node, with its parent's place
 abbrev pub kept_of : Node → Kept Block
@@ -39,3 +39,19 @@ state_of nodes marks calls = record {
   seen = places_where (λ m. m.seen) marks;
   precious = reverse calls;
 }
+
+-- ---- marks laid over a state, whose blocks and calls stay
+
+abbrev pub laid : State Block → List Mark → State Block
+laid s marks = record s { bad = places_where (λ m. m.bad) marks; seen = places_where (λ m. m.seen) marks }
+
+-- what follows from the marks of all blocks
+pub record IsMark (s : State Block) (p : ℕ) (m : Mark) : Type 0 where
+  pub usable : m.usable ≡ has_no_mark s p
+  pub rank : m.rank ≡ rank s p
+
+-- these are marks of all blocks of s, and genesis isn't marked
+pub record AreMarks (s : State Block) (marks : List Mark) : Type 0 where
+  pub count : length marks ≡ suc (length s.blocks)
+  pub genesis : (mark_at marks 0).bad ≡ false
+  pub right : (p : ℕ) → p ≤ length s.blocks → IsMark (laid s marks) p (mark_at marks p)

@@ -3,14 +3,15 @@
 
 mod branch;
 mod fault;
-mod flags;
 mod genesis;
 mod growth;
 pub mod laws;
 mod leaves;
+mod marking;
 mod marks;
 mod median_time;
 mod node;
+mod overlay;
 mod precious;
 mod rank;
 mod tip;
@@ -19,6 +20,7 @@ mod tips;
 mod tree;
 
 pub use fault::AddFault;
-pub use flags::Flags;
+pub use marking::Marking;
+pub use overlay::{Marks, Overlay};
 pub use tip::{Status, Tip};
 pub use tree::{MAX_BLOCKS, Tree};

@@ -3,7 +3,7 @@
 ghost use Rattle.std.specs.Prelude.{◌≡◌, ℕ, ◌<◌, ◌==◌, ◌||◌, ◌&&◌, nat_lt, not, length, [], true, false, slice_index_or, IfOk};
 ghost use Rattle.tree.specs.Branches.{on};
 ghost use Rattle.tree.specs.Nodes.{blocks_of, mark_at, state_of};
-ghost use Rattle.tree.specs.inside.Nodes.{AreNodes, AreUsable, MarksTaken, SameFlags};
+ghost use Rattle.tree.specs.inside.Nodes.{AreNodes, AreRemarked, AreUsable, SameFlags};
 
 use crate::node::{Mark, Node};
 use std::alloc::Global;
@@ -65,19 +65,29 @@ fn add_ancestors(nodes: &[Node], place: usize, related: &mut Vec<bool>)
     }
 }
 
+/// Marks a block, and works out anew which branches are usable.
+pub(crate) fn mark_block(nodes: &[Node], marks: &mut [Mark], place: usize)
+    requires nodes { AreNodes (blocks_of nodes.now) nodes.now }
+    requires count { length marks.old ≡ length nodes.now }
+    requires usable { AreUsable (state_of nodes.now marks.old []) marks.old (length nodes.now) }
+    requires not_genesis { 0 < place }
+    requires kept { place < length nodes.now }
+    ensures { AreRemarked nodes.now marks.old marks.new (λ p bad. bad || (p == place)) }
+{
+    marks[place].bad = true;
+    spoil(nodes, marks, place);
+}
+
 /// Takes the marks from these blocks, and works out anew which branches are usable.
 pub(crate) fn take_marks(nodes: &[Node], marks: &mut [Mark], related: &[bool])
     requires nodes { AreNodes (blocks_of nodes.now) nodes.now }
     requires some { 0 < length nodes.now }
-    requires same { length marks.old ≡ length nodes.now }
-    requires len { length related.now ≡ length nodes.now }
+    requires count { length marks.old ≡ length nodes.now }
+    requires usable { AreUsable (state_of nodes.now marks.old []) marks.old (length nodes.now) }
     requires genesis { (mark_at marks.old 0).bad ≡ false }
-    requires usable { (mark_at marks.old 0).usable ≡ true }
-    ensures same { length marks.new ≡ length nodes.now }
-    ensures taken { (x : ℕ) → x < length nodes.now →
-        MarksTaken (mark_at marks.new x) (mark_at marks.old x)
-        (slice_index_or related.now x false) }
-    ensures usable { AreUsable (state_of nodes.now marks.new []) marks.new (length nodes.now) }
+    requires related { length related.now ≡ length nodes.now }
+    ensures { AreRemarked nodes.now marks.old marks.new
+        (λ p bad. bad && not (slice_index_or related.now p false)) }
 {
     unmark(marks, related);
     spoil(nodes, marks, 1);
@@ -101,7 +111,7 @@ fn unmark(marks: &mut [Mark], related: &[bool])
 
 /// Works out anew, from the place `from` on, which branches have no marked block; those before it are known.
 /// A block comes after its parent, so one pass does.
-pub(crate) fn spoil(nodes: &[Node], marks: &mut [Mark], from: usize)
+fn spoil(nodes: &[Node], marks: &mut [Mark], from: usize)
     requires start { 0 < from }
     requires nodes { AreNodes (blocks_of nodes.now) nodes.now }
     requires same { length marks.old ≡ length nodes.now }

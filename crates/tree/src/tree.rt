@@ -4,23 +4,24 @@ ghost use Rattle.std.specs.Prelude.{◌≡◌, ◌↔◌, ◌≤◌, ◌<◌, su
 ghost use Rattle.block.specs.Identity.{id_of};
 ghost use Rattle.tree.specs.declared.fault.AddFault.TheVariants.{Full};
 ghost use Rattle.tree.specs.Limits.{max_blocks};
-ghost use Rattle.tree.specs.Flags.{flags_of};
+ghost use Rattle.tree.specs.Nodes.{AreMarks, laid};
 ghost use Rattle.tree.specs.Branches.{has, rest_of, height, parent_at, place_of, block_at, id_at, blocks_at, branch};
-ghost use Rattle.tree.specs.State.{opening, has_no_mark, rank, beats, with_block, without_last, with_mark, without_marks, with_seen, with_call};
+ghost use Rattle.tree.specs.State.{opening, has_no_mark, rank, beats, with_block, without_last, with_call};
 ghost use Rattle.tree.specs.inside.Slots.{AreInOrder, is_leaf, leaves_of};
-ghost use Rattle.tree.specs.Sound.{IsBest, IsFresh};
+ghost use Rattle.tree.specs.Sound.{IsFresh};
 ghost use Rattle.tree.specs.Tips.{tip_of_id, tips};
 ghost use Rattle.tree.specs.MedianTime.{median_time_past};
 ghost use Rattle.tree.specs.Names.{names};
 
 use crate::branch::branch_of;
 use crate::fault::AddFault;
-use crate::flags::{Flags, flags_of, put_back};
 use crate::genesis::genesis_node;
 use crate::growth::reserve_one;
 use crate::leaves::{enter, holds, leave, node_on};
-use crate::marks::{related, spoil, take_marks};
+use crate::marking::Marking;
+use crate::marks::mark_block;
 use crate::node::{Mark, Node};
+use crate::overlay::Marks;
 use crate::precious::last_call;
 use crate::rank::Standing;
 use crate::tip::Tip;
@@ -39,8 +40,8 @@ pub const MAX_BLOCKS: usize = 1_000_000;
 /// state that the definitions speak of.
 #[derive(Drop)]
 pub struct Tree {
-    nodes: Vec<Node>,
-    marks: Vec<Mark>,
+    pub(crate) nodes: Vec<Node>,
+    pub(crate) marks: Vec<Mark>,
     /// The places that were called precious, in the order of the calls.
     calls: Vec<usize>,
     ids: BTreeMap<Id, usize>,
@@ -163,19 +164,6 @@ impl Tree {
         self.standing(one).is_above(&self.standing(other))
     }
 
-    /// The best of the blocks whose branch has no mark. It looks at all blocks.
-    pub fn best_usable(&self) -> usize
-        ensures { IsBest self.now (has_no_mark self.now) (length self.now.blocks) result }
-    {
-        let mut best = 0;
-        for place in 1..self.nodes.len() {
-            if self.usable(place) && self.better(place, best) {
-                best = place;
-            }
-        }
-        best
-    }
-
     fn standing(&self, place: usize) -> Standing
         requires { place ≤ length self.now.blocks }
         ensures { result ≡ record {
@@ -240,53 +228,13 @@ impl Tree {
         Ok(list)
     }
 
-    /// Marks a block as invalid. It may walk all that came later.
-    pub fn mark(&mut self, place: usize)
-        requires not_genesis { 0 < place }
-        requires kept { place ≤ length self.old.blocks }
-        ensures { self.new ≡ with_mark self.old place }
+    /// Puts other marks in the place of its own. It takes no memory.
+    pub fn set_marks(&mut self, marks: Marks)
+        requires { AreMarks self.old marks }
+        ensures { self.new ≡ laid self.old marks }
     {
-        self.marks[place].bad = true;
-        spoil(self.nodes.as_slice(), self.marks.as_mut_slice(), place);
-    }
-
-    /// Takes the marks from a block, its ancestors and its descendants. It walks all blocks.
-    pub fn clear(&mut self, alloc: Global, place: usize) -> Result<(), Memory>
-        requires { place ≤ length self.old.blocks }
-        ensures ok { OnOk result (self.new ≡ without_marks self.old place) }
-        ensures err { OnErr result (self.new ≡ self.old) }
-    {
-        let related = related(alloc, self.nodes.as_slice(), place)?;
-        take_marks(
-            self.nodes.as_slice(),
-            self.marks.as_mut_slice(),
-            related.as_slice(),
-        );
-        Ok(())
-    }
-
-    /// Notes that a block was found valid.
-    pub fn see(&mut self, place: usize)
-        requires { place ≤ length self.old.blocks }
-        ensures { self.new ≡ with_seen self.old place }
-    {
-        self.marks[place].seen = true;
-    }
-
-    /// Which blocks are marked, and which were seen. It looks at all blocks.
-    pub fn flags(&self, alloc: Global) -> Result<Flags, Memory>
-        ensures { IfOk result (λ flags. flags ≡ flags_of self.now) }
-    {
-        flags_of(alloc, self.marks.as_slice())
-    }
-
-    /// Puts flags back. It takes no memory.
-    pub fn set_flags(&mut self, flags: Flags)
-        requires same { flags.len ≡ suc (length self.old.blocks) }
-        requires genesis { has flags.bad 0 ≡ false }
-        ensures { self.new ≡ record self.old { bad = flags.bad; seen = flags.seen } }
-    {
-        put_back(self.nodes.as_slice(), self.marks.as_mut_slice(), &flags);
+        let Marks { marks } = marks;
+        self.marks = marks;
     }
 
     /// Calls a block precious: it is better than all that are as high.
@@ -377,5 +325,17 @@ impl Tree {
         self.ids.remove(&node.id);
         let parents_slot = self.nodes[node.parent].slot;
         leave(&mut self.leaves, node.slot, node.parent, parents_slot);
+    }
+}
+
+impl Marking for Tree {
+    ghost state = { λ tree. tree };
+
+    fn mark(&mut self, place: usize) {
+        mark_block(self.nodes.as_slice(), self.marks.as_mut_slice(), place);
+    }
+
+    fn see(&mut self, place: usize) {
+        self.marks[place].seen = true;
     }
 }

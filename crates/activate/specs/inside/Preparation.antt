@@ -1,27 +1,25 @@
 -- Words for what `Core` prepares for a command, before it puts it in place. No public clause needs them.
-use Rattle.std.specs.Prelude.{◌≡◌, ℕ, suc, ◌+◌, ◌-◌, ◌==◌, if◌then◌else◌, ◌<◌, ◌≤◌, true, false, List, [], length, map, reverse, Option, None, Some, ⊤}
+use Rattle.std.specs.Prelude.{◌≡◌, ℕ, ◌+◌, ◌-◌, ◌==◌, if◌then◌else◌, ◌<◌, ◌≤◌, true, false, List, [], length, map, reverse, ⊤}
 use Rattle.hash.specs.declared.id.Id.{Id}
 use Rattle.block.specs.declared.block.Block.{Block}
 use Rattle.coins.specs.declared.coin.Coin.{Coin}
 use Rattle.coins.specs.Changes.{Changes, AreChanges}
 use Rattle.tree.specs.Branches.{Blocks, has, height, rest_of, on}
 use Rattle.tree.specs.State.{State, has_no_mark, without_last, with_mark}
-use Rattle.tree.specs.Flags.{FlagsOf}
+use Rattle.tree.specs.Nodes.{AreMarks, laid}
 use Rattle.tree.specs.Names.{names}
 use Rattle.tree.specs.Sound.{IsFresh}
 use Rattle.tree.specs.laws.Sets.{InOrder}
 use Rattle.chain.specs.declared.command.Command.{Command}
 use Rattle.activate.specs.declared.prepared.Prepared.{Prepared}
-use Rattle.activate.specs.declared.prepared.Rollback.{Rollback}
 use Rattle.activate.specs.declared.prepared.TreeChange.{TreeChange}
 use Rattle.activate.specs.declared.prepared.TreeChange.TheVariants.{Unchanged, BlockAdded, CalledPrecious}
 use Rattle.activate.specs.declared.prepared.Completion.{Completion}
-use Rattle.activate.specs.declared.prepared.Completion.TheVariants.{Nothing, Mark, Flag, Activate}
+use Rattle.activate.specs.declared.prepared.Completion.TheVariants.{Nothing, Mark, Flag, Activate, Remark}
 use Rattle.chain.specs.declared.reply.Reply.{Reply}
 use Rattle.chain.specs.declared.reply.SubmitReply.{SubmitReply}
 use Rattle.chain.specs.declared.reply.SubmitReply.TheVariants.{Inconclusive, Rejected}
 use Rattle.activate.specs.declared.path.FailedTry.{FailedTry}
-use Rattle.activate.specs.declared.path.Reorganisation.{Reorganisation}
 use Rattle.activate.specs.declared.path.BranchPath.{BranchPath}
 use Rattle.chain.specs.Rules.{Rules}
 use Rattle.chain.specs.Valid.{branch_connects}
@@ -32,7 +30,7 @@ use Rattle.chain.specs.Commands.{outcome}
 use Rattle.chain.specs.Submission.{Outcome}
 use Rattle.activate.specs.CoreState.{CoreState, coins_of, lesser_of, most_undo}
 use Rattle.activate.specs.inside.Keeping.{undo_at}
-use Rattle.activate.specs.inside.Paths.{FailsAt, IsPath, LeadsTo}
+use Rattle.activate.specs.inside.Paths.{FailsAt, IsPath}
 
 -- what is always right of the flags between two tries: the active branch is valid and was seen
 pub record CanTry (r : Rules Block Id) (c : CoreState) : Type 0 where
@@ -84,38 +82,36 @@ IsReady r c Nothing = ⊤
 IsReady r c (Mark p) = (0 < p) × (p ≤ length c.state.blocks)
 IsReady r c (Flag p failed) = CanFlag r c p failed
 IsReady r c (Activate p path undo) = CanActivate r c p path undo.items
+IsReady r c (Remark marks p path undo) = AreMarks c.state marks × CanActivate r (record c { state = laid c.state marks }) p path undo.items
 
 -- of so many blocks undo is kept after a path was gone: not of those that were taken back, and at most of the highest
 abbrev pub undo_after : Blocks Block → ℕ → ℕ → BranchPath → ℕ
 undo_after t a kept path = lesser_of most_undo ((kept - (height t a - path.height)) + length path.up.items)
 
-abbrev pub core_after_commit : Rules Block Id → CoreState → Completion → CoreState
-core_after_commit r c Nothing = c
-core_after_commit r c (Mark p) = record c { state = with_mark c.state p }
-core_after_commit r c (Flag p failed) = record c { state = state_after_try r c.state p }
-core_after_commit r c (Activate p path undo) = record c {
+-- the block at p is active, and the path to it was seen
+abbrev pub core_after_activation : Rules Block Id → CoreState → ℕ → BranchPath → CoreState
+core_after_activation r c p path = record c {
   state = state_after_try r c.state p;
   active = p;
   undo_kept = undo_after c.state.blocks c.active c.undo_kept path;
 }
 
--- ---- how the tree becomes what it was
+abbrev pub core_after_commit : Rules Block Id → CoreState → Completion → CoreState
+core_after_commit r c Nothing = c
+core_after_commit r c (Mark p) = record c { state = with_mark c.state p }
+core_after_commit r c (Flag p failed) = record c { state = state_after_try r c.state p }
+core_after_commit r c (Activate p path undo) = core_after_activation r c p path
+core_after_commit r c (Remark marks p path undo) = core_after_activation r (record c { state = laid c.state marks }) p path
 
-abbrev pub with_flags : Option FlagsOf → State Block → State Block
-with_flags None s = s
-with_flags (Some f) s = record s { bad = f.bad; seen = f.seen }
+-- ---- how the tree becomes what it was
 
 abbrev pub state_before_change : TreeChange → State Block → State Block
 state_before_change Unchanged s = s
 state_before_change BlockAdded s = without_last s
 state_before_change CalledPrecious s = record s { precious = rest_of s.precious }
 
-abbrev pub core_after_rollback : CoreState → Rollback → CoreState
-core_after_rollback c rollback = record c { state = state_before_change rollback.first (with_flags rollback.flags c.state) }
-
-abbrev pub FlagsFit : State Block → Option FlagsOf → Type 0
-FlagsFit s None = ⊤
-FlagsFit s (Some f) = (f.len ≡ suc (length s.blocks)) × (has f.bad 0 ≡ false)
+abbrev pub core_after_rollback : CoreState → TreeChange → CoreState
+core_after_rollback c first = record c { state = state_before_change first c.state }
 
 -- the block that was added isn't the active one
 abbrev pub CanBeTakenBack : TreeChange → ℕ → State Block → Type 0
@@ -123,33 +119,20 @@ CanBeTakenBack Unchanged a s = ⊤
 CanBeTakenBack BlockAdded a s = (a < length s.blocks) × IsFresh names s
 CanBeTakenBack CalledPrecious a s = 0 < length s.precious
 
-pub record CanRollBack (c : CoreState) (rollback : Rollback) : Type 0 where
-  pub flags : FlagsFit c.state rollback.flags
-  pub first : CanBeTakenBack rollback.first c.active (with_flags rollback.flags c.state)
-
 -- ---- tries
 
--- b is a with other flags
-pub record HasOtherFlags (a b : CoreState) : Type 0 where
-  pub same : record a { state = b.state } ≡ b
-  pub blocks_are : b.state.blocks ≡ a.state.blocks
-  pub precious_is : b.state.precious ≡ a.state.precious
+-- t is s with other marks
+pub record HasOtherMarks (s t : State Block) : Type 0 where
+  pub blocks_are : t.blocks ≡ s.blocks
+  pub precious_is : t.precious ≡ s.precious
 
--- tries led from a to b
-pub record TriesLead (r : Rules Block Id) (a b : CoreState) : Type 0 where
-  pub flags : HasOtherFlags a b
-  pub can : CanTry r b
-  pub settles : settle r b.state ≡ settle r a.state
-  pub active_is : active r b.state ≡ active r a.state
-  pub candidates : (x : ℕ) → on_candidate r b.state x ≡ true → on_candidate r a.state x ≡ true
-
--- and a try of the block at p settles the state
-pub record TryLeads (r : Rules Block Id) (a b : CoreState) (p : ℕ) (move : Reorganisation) : Type 0 where
-  pub can : CanTry r b
-  pub kept : p ≤ length b.state.blocks
-  pub moves : LeadsTo r b.state.blocks b.active p move
-  pub settles : state_after_try r b.state p ≡ settle r a.state
-  pub active_is : active r a.state ≡ p
+-- over the active block of c tries led from s to t
+pub record TriesLead (r : Rules Block Id) (c : CoreState) (s t : State Block) : Type 0 where
+  pub other : HasOtherMarks s t
+  pub can : CanTry r (record c { state = t })
+  pub settles : settle r t ≡ settle r s
+  pub active_is : active r t ≡ active r s
+  pub candidates : (x : ℕ) → on_candidate r t x ≡ true → on_candidate r s x ≡ true
 
 -- one try of the block at p settles the state, valid or not; if it isn't valid, the active block stays
 pub record IsOneTry (r : Rules Block Id) (c : CoreState) (p : ℕ) : Type 0 where
@@ -170,8 +153,8 @@ pub record IsPreparationFor (r : Rules Block Id) (a : CoreState) (after : Outcom
   pub active_is : (core_after_commit r b prepared.rest).active ≡ active r (core_after_commit r b prepared.rest).state
   pub changes_are : AreChanges (coins_of a) (coins_of (core_after_commit r b prepared.rest)) prepared.changes
   pub ready : IsReady r b prepared.rest
-  pub can_go_back : CanRollBack b prepared.rollback
-  pub back_is : core_after_rollback b prepared.rollback ≡ a
+  pub can_go_back : CanBeTakenBack prepared.first b.active b.state
+  pub back_is : core_after_rollback b prepared.first ≡ a
 
 abbrev pub IsPreparation : Rules Block Id → CoreState → Command → CoreState → Prepared → Type 0
 IsPreparation r a command b prepared = IsPreparationFor r a (outcome r a.state command) b prepared
@@ -179,8 +162,7 @@ IsPreparation r a command b prepared = IsPreparationFor r a (outcome r a.state c
 -- what is prepared for a command that changes nothing
 pub record ChangesNothing (reply : Reply) (prepared : Prepared) : Type 0 where
   pub reply_is : prepared.reply ≡ reply
-  pub first_is : prepared.rollback.first ≡ Unchanged
-  pub flags_are : prepared.rollback.flags ≡ None
+  pub first_is : prepared.first ≡ Unchanged
   pub rest_is : prepared.rest ≡ Nothing
   pub changes_are : prepared.changes ≡ []
 

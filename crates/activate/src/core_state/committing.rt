@@ -1,7 +1,10 @@
 //! What was prepared is put in place, or given up. Neither takes memory.
 
 ghost use Rattle.std.specs.Prelude.{◌≡◌, ◌≤◌, length, map, reverse};
-ghost use Rattle.activate.specs.inside.Preparation.{undo_after, CanRollBack, IsReady, core_after_commit, core_after_rollback};
+ghost use Rattle.hash.specs.declared.id.Id.{Id};
+ghost use Rattle.block.specs.declared.block.Block.{Block};
+ghost use Rattle.chain.specs.Rules.{Rules};
+ghost use Rattle.activate.specs.inside.Preparation.{undo_after, CanActivate, CanBeTakenBack, IsReady, core_after_activation, core_after_commit, core_after_rollback};
 ghost use Rattle.curve.specs.Triple.{Triples};
 ghost use Rattle.chain.specs.Regtest.{regtest};
 ghost use Rattle.activate.specs.inside.Keeping.{undo_at};
@@ -10,8 +13,9 @@ ghost use Rattle.activate.specs.inside.Paths.{IsPath};
 use crate::active_branch::{append_places, keep_undo};
 use crate::core_state::Core;
 use crate::path::BranchPath;
-use crate::prepared::{Completion, Rollback, TreeChange};
+use crate::prepared::{Completion, TreeChange};
 use crate::try_flags::flag_valid_path;
+use tree::Marking;
 use undo::BlockUndo;
 
 impl Core {
@@ -25,11 +29,22 @@ impl Core {
             Completion::Nothing => {}
             Completion::Mark(place) => self.tree.mark(place),
             Completion::Flag(_, failed) => self.flag(&failed),
-            Completion::Activate(place, path, undo) => {
-                flag_valid_path(&mut self.tree, &path);
-                self.turn(place, &path, undo);
+            Completion::Activate(place, path, undo) => self.activate(place, &path, undo),
+            Completion::Remark(marks, place, path, undo) => {
+                self.tree.set_marks(marks);
+                self.activate(place, &path, undo);
             }
         }
+    }
+
+    /// Makes another block the active one.
+    fn activate(&mut self, place: usize, path: &BranchPath, undo: Vec<BlockUndo>)
+        requires { (r : Rules Block Id) × CanActivate r self.old place path.now undo.items }
+        ensures { (r : Rules Block Id) → CanActivate r self.old place path.now undo.items
+            → self.new ≡ core_after_activation r self.old place path.now }
+    {
+        flag_valid_path(&mut self.tree, path);
+        self.turn(place, path, undo);
     }
 
     /// Leads over to another block what is kept of the active branch.
@@ -61,14 +76,10 @@ impl Core {
     }
 
     /// Takes back what preparing a command did to the tree.
-    pub(crate) fn roll_back(&mut self, rollback: Rollback)
-        requires { CanRollBack self.old rollback }
-        ensures { self.new ≡ core_after_rollback self.old rollback }
+    pub(crate) fn roll_back(&mut self, first: TreeChange)
+        requires { CanBeTakenBack first self.old.active self.old.state }
+        ensures { self.new ≡ core_after_rollback self.old first }
     {
-        let Rollback { first, flags } = rollback;
-        if let Some(flags) = flags {
-            self.tree.set_flags(flags);
-        }
         match first {
             TreeChange::Unchanged => {}
             TreeChange::BlockAdded => self.tree.take_back(),

@@ -23,7 +23,7 @@ ghost use Rattle.curve.specs.Known.{Under};
 use crate::block_faults::fault_or_parent;
 use crate::core_state::Core;
 use crate::path::BranchPath;
-use crate::prepared::{Completion, Prepared, Rollback, TreeChange};
+use crate::prepared::{Completion, Prepared, TreeChange};
 use crate::tip_connection::connect_tip;
 use block::{Bytes, StoredBlock};
 use chain::{PreparedCommand, Reply, SubmitReply, SubmittedBlock};
@@ -40,10 +40,7 @@ pub(crate) fn still(alloc: Global, reply: Reply) -> Prepared
 {
     Prepared {
         reply,
-        rollback: Rollback {
-            first: TreeChange::Unchanged,
-            flags: None,
-        },
+        first: TreeChange::Unchanged,
         rest: Completion::Nothing,
         changes: Changes::new(alloc),
     }
@@ -59,7 +56,7 @@ fn room<T: Drop>(alloc: Global) -> Result<Vec<T>, Memory>
 
 impl Core {
     /// Finds out everything that a command does, and gets all memory for it. Where it refuses nothing has changed;
-    /// else the tree is changed, and the rollback says how to take that back.
+    /// else the tree may be changed, and `first` says how.
     pub(crate) fn prepare<B: Base, S: RunsScripts>(
         &mut self,
         alloc: Global,
@@ -189,14 +186,11 @@ impl Core {
         let mut undo = room(alloc)?;
         let fork = self.active;
         let place = self.add(bytes, submitted, fork)?;
-        let rollback = Rollback {
-            first: TreeChange::BlockAdded,
-            flags: None,
-        };
+        let first = TreeChange::BlockAdded;
         match connected {
             Err(reason) => Ok(Prepared {
                 reply: Reply::Submit(SubmitReply::Rejected(reason)),
-                rollback,
+                first,
                 rest: Completion::Mark(place),
                 changes: Changes::new(alloc),
             }),
@@ -206,7 +200,7 @@ impl Core {
                 let path = BranchPath { fork, height, up };
                 Ok(Prepared {
                     reply: Reply::Submit(SubmitReply::Accepted),
-                    rollback,
+                    first,
                     rest: Completion::Activate(place, path, undo),
                     changes: connected.changes,
                 })
@@ -248,10 +242,7 @@ impl Core {
         if !self.tree.better(place, self.active) {
             return Ok(Prepared {
                 reply: Reply::Submit(SubmitReply::Inconclusive),
-                rollback: Rollback {
-                    first: TreeChange::BlockAdded,
-                    flags: None,
-                },
+                first: TreeChange::BlockAdded,
                 rest: Completion::Nothing,
                 changes: Changes::new(alloc),
             });
@@ -259,18 +250,12 @@ impl Core {
         match self.settle(alloc, base, place, env, gate) {
             Ok(settled) => Ok(Prepared {
                 reply: Reply::Submit(settled.said),
-                rollback: Rollback {
-                    first: TreeChange::BlockAdded,
-                    flags: None,
-                },
+                first: TreeChange::BlockAdded,
                 rest: settled.rest,
                 changes: settled.changes,
             }),
             Err(stop) => {
-                self.roll_back(Rollback {
-                    first: TreeChange::BlockAdded,
-                    flags: None,
-                });
+                self.roll_back(TreeChange::BlockAdded);
                 Err(stop)
             }
         }

@@ -1,25 +1,26 @@
-//! Tries of blocks: of one alone, where that settles the state, and of one after the other, until the best that is
-//! left is valid.
+//! The try of a block, and what it comes to where it settles the state.
 
-ghost use Rattle.std.specs.Prelude.{ℕ, ◌≡◌, ◌≤◌, ◌<◌, length, IfOk, IfErr, None, IfSome};
+ghost use Rattle.std.specs.Prelude.{ℕ, ◌≡◌, ◌≤◌, ◌<◌, true, length, IfOk, IfErr, None, IfSome};
 ghost use Rattle.tree.specs.Sound.{IsBest};
 ghost use Rattle.tree.specs.State.{has_no_mark};
 ghost use Rattle.hash.specs.declared.id.Id.{Id};
 ghost use Rattle.block.specs.declared.block.Block.{Block};
 ghost use Rattle.chain.specs.Rules.{Rules};
+ghost use Rattle.chain.specs.Settled.{AllKept};
 ghost use Rattle.chain.specs.Settle.{settle};
 ghost use Rattle.chain.specs.Try.{state_after_try};
+ghost use Rattle.chain.specs.Valid.{branch_connects};
 ghost use Rattle.chain.specs.Submission.{answer_added};
 ghost use Rattle.chain.specs.Regtest.{regtest};
 ghost use Rattle.activate.specs.CoreState.{coins_of};
 ghost use Rattle.activate.specs.Wants.{AreWantedToSettle};
 ghost use Rattle.activate.specs.inside.Paths.{IsAttempt, AreWantedOnWay};
-ghost use Rattle.activate.specs.inside.Preparation.{CanFlag, CanTry, HasOtherFlags, IsOneTry, TryLeads, Settles, reply_to_failed_try};
+ghost use Rattle.activate.specs.inside.Preparation.{CanFlag, CanTry, IsOneTry, Settles, reply_to_failed_try};
 ghost use Rattle.curve.specs.Known.{Under};
 
 use crate::branch_try::{ActiveBranch, try_branch};
 use crate::core_state::Core;
-use crate::path::{Attempt, FailedTry, Reorganisation};
+use crate::path::{Attempt, FailedTry};
 use crate::prepared::Completion;
 use crate::try_flags::flag_failed_try;
 use chain::SubmitReply;
@@ -82,33 +83,6 @@ impl Core {
         }
     }
 
-    /// Tries the best block whose branch has no mark (Bitcoin Core's `FindMostWorkChain`), until one is valid. Each
-    /// other one that is tried is marked, or a block below it is.
-    pub(crate) fn settle_rest<B: Base, S: RunsScripts>(
-        &mut self,
-        alloc: Global,
-        base: &B,
-        env: &S,
-        gate: &(dyn Gate + Sync),
-    ) -> Result<(usize, Reorganisation), S::Stop>
-        requires can { Under (S.known env.now) (λ triples. CanTry (regtest self.old.params triples) self.old) }
-        requires coins { B.coins base.now ≡ coins_of self.old }
-        ensures leads { IfOk result (λ found.
-            Under (S.known env.now) (λ triples. TryLeads (regtest self.old.params triples) self.old self.new
-            found.0 found.1)) }
-        ensures flags { HasOtherFlags self.old self.new }
-        ensures wants { IfErr result (λ stop. IfSome (S.told stop)
-            (AreWantedToSettle self.old (S.known env.now))) }
-    {
-        'tries: loop {
-            let place = self.tree.best_usable();
-            match self.try_block(alloc, base, place, env, gate)? {
-                Attempt::Succeeds(found) => return Ok((place, found)),
-                Attempt::Fails(failed) => self.flag(&failed),
-            }
-        }
-    }
-
     /// Notes what a try that failed has found.
     pub(crate) fn flag(&mut self, failed: &FailedTry)
         requires { (r : Rules Block Id) × (p : ℕ) × CanFlag r self.old p failed.now }
@@ -119,7 +93,7 @@ impl Core {
     }
 
     /// Tries a block over the coins of the active branch.
-    fn try_block<B: Base, S: RunsScripts>(
+    pub(crate) fn try_block<B: Base, S: RunsScripts>(
         &self,
         alloc: Global,
         base: &B,
@@ -127,12 +101,15 @@ impl Core {
         env: &S,
         gate: &(dyn Gate + Sync),
     ) -> Result<Attempt, S::Stop>
-        requires can { Under (S.known env.now) (λ triples. CanTry (regtest self.now.params triples) self.now) }
+        requires kept { Under (S.known env.now) (λ triples.
+            AllKept (regtest self.now.params triples) self.now.state.blocks) }
+        requires good { Under (S.known env.now) (λ triples. let c = self.now in
+            branch_connects (regtest c.params triples) c.state.blocks c.active ≡ true) }
         requires place { place ≤ length self.now.state.blocks }
         requires coins { B.coins base.now ≡ coins_of self.now }
         ensures attempt { IfOk result (λ attempt.
-            Under (S.known env.now) (λ triples. IsAttempt (regtest self.now.params triples) self.now.state.blocks
-            self.now.active place attempt)) }
+            Under (S.known env.now) (λ triples. let c = self.now in
+            IsAttempt (regtest c.params triples) c.state.blocks c.active place attempt)) }
         ensures wants { IfErr result (λ stop. IfSome (S.told stop)
             (AreWantedOnWay self.now.params self.now.state.blocks self.now.active place
             (S.known env.now))) }

@@ -54,7 +54,7 @@ impl Core {
         let prepared = self.prepare(alloc, base, command, env, gate)?;
         let Prepared {
             reply,
-            rollback: _,
+            first: _,
             rest,
             changes,
         } = prepared;

@@ -1,5 +1,5 @@
 -- What is always right in the program's tree, and what its functions do to the nodes and marks.
-use Rattle.std.specs.Prelude.{◌≡◌, ℕ, ◌<◌, ◌≤◌, Bool, true, false, not, ◌&&◌, List, [], length, reverse, slice_index_or}
+use Rattle.std.specs.Prelude.{◌≡◌, ℕ, ◌<◌, ◌≤◌, Bool, true, false, List, [], length, reverse, slice_index_or}
 use Rattle.std.specs.Map.{lookup}
 use Rattle.std.specs.BTreeMap.{is_at}
 use Rattle.hash.specs.declared.id.Id.{Id}
@@ -8,13 +8,12 @@ use Rattle.tree.specs.declared.node.Node.{Node}
 use Rattle.tree.specs.declared.node.Mark.{Mark}
 use Rattle.tree.specs.Branches.{Blocks, has, branch, height, parent_at, block_at, id_at, blocks_at, place_of}
 use Rattle.tree.specs.inside.Slots.{AreInOrder, slot_of, leaves_of}
-use Rattle.tree.specs.State.{State, has_no_mark, rank}
+use Rattle.tree.specs.State.{State, has_no_mark}
 use Rattle.tree.specs.Limits.{max_blocks}
 use Rattle.tree.specs.MedianTime.{median_time_past}
 use Rattle.hash.specs.Id.{id_cmp}
 use Rattle.tree.specs.Names.{names, genesis}
-use Rattle.tree.specs.Flags.{FlagsOf}
-use Rattle.tree.specs.Nodes.{blocks_of, mark_at, places_where, state_of}
+use Rattle.tree.specs.Nodes.{IsMark, blocks_of, mark_at, state_of}
 
 -- of a node, by its place
 pub record IsNode (t : Blocks Block) (p : ℕ) (n : Node) : Type 0 where
@@ -24,11 +23,6 @@ pub record IsNode (t : Blocks Block) (p : ℕ) (n : Node) : Type 0 where
   pub height : n.height ≡ height t p
   pub median : n.median ≡ median_time_past (blocks_at names t (branch t p))
   pub slot : n.slot ≡ slot_of t p
-
--- of what follows from the marks of all blocks
-pub record IsMark (s : State Block) (p : ℕ) (m : Mark) : Type 0 where
-  pub usable : m.usable ≡ has_no_mark s p
-  pub rank : m.rank ≡ rank s p
 
 -- of all nodes, by their places
 abbrev pub AreNodes : Blocks Block → List Node → Type 0
@@ -57,22 +51,16 @@ pub record SameFlags (m n : Mark) : Type 0 where
   pub seen : m.seen ≡ n.seen
   pub rank : m.rank ≡ n.rank
 
--- the mark of an invalid block is taken, if it is told to be
-pub record MarksTaken (m n : Mark) (told : Bool) : Type 0 where
-  pub bad : m.bad ≡ (n.bad && not told)
-  pub seen : m.seen ≡ n.seen
-  pub rank : m.rank ≡ n.rank
-
 abbrev pub AreUsable : State Block → List Mark → ℕ → Type 0
 AreUsable s marks n = (p : ℕ) → p < n → (mark_at marks p).usable ≡ has_no_mark s p
 
--- of marks that have other flags now: the ranks are as before, and which branches are usable is as the flags say
-pub record HasFlags (nodes : List Node) (old new : List Mark) (flags : FlagsOf) : Type 0 where
-  pub same : length new ≡ length nodes
-  pub bad : places_where (λ m. m.bad) new ≡ flags.bad
-  pub seen : places_where (λ m. m.seen) new ≡ flags.seen
-  pub rank : (p : ℕ) → p < length nodes → (mark_at new p).rank ≡ (mark_at old p).rank
-  pub usable : AreUsable (state_of nodes new []) new (length nodes)
+-- of marks of which those of invalid blocks are others now, at each place by what was there; which branches are usable is as they say
+pub record AreRemarked (nodes : List Node) (old new : List Mark) (bad : ℕ → Bool → Bool) : Type 0 where
+  pub count : length new ≡ length nodes
+  pub bad_are : (p : ℕ) → p < length nodes → (mark_at new p).bad ≡ bad p (mark_at old p).bad
+  pub seen_are : (p : ℕ) → p < length nodes → (mark_at new p).seen ≡ (mark_at old p).seen
+  pub ranks_are : (p : ℕ) → p < length nodes → (mark_at new p).rank ≡ (mark_at old p).rank
+  pub usable_are : AreUsable (state_of nodes new []) new (length nodes)
 
 abbrev pub first_node : Node
 first_node = record { block = genesis; id = names.genesis_id; parent = 0; height = 0; median = genesis.header.time; slot = 0 }

@@ -13,7 +13,6 @@ use Rattle.chain.specs.Rules.{Rules}
 use Rattle.activate.specs.inside.Paths.{FailsAt}
 use Rattle.activate.specs.inside.Preparation.{IsFailedTry}
 use Rattle.activate.specs.laws.Noting.{above-on, flaw_noted}
-use Rattle.activate.proofs.try_flags.flag_failed_try.Goals.{After-index}
 use Rattle.activate.proofs.try_flags.flag_failed_try.Goals as goal
 
 -- a list by the parts that it has when it is turned round
@@ -65,59 +64,58 @@ module _ (r : Rules Block Id) (t : Blocks Block) (a p : ℕ) (failed : FailedTry
       (on-bounds t (parent_at t is.stop.place) x
       (above-on t failed.path.fork (parent_at t is.stop.place) x (parent-kept t is.stop.place (omega arith) w.kept) w.on_parent (ap (λ (l : List ℕ). has l x) (sym w.rest_is) ∙ h))).1
 
+-- the same in a state, where k is the first place of those that passed
+module _ (r : Rules Block Id) (s : State Block) (a p : ℕ) (failed : FailedTry) (is : IsFailedTry r s a p failed) (k : ℕ) (after : k ≡ failed.path.up.len - failed.passed) where
+  went : OnWay s.blocks failed.path.fork is.fails.stop.place (reverse is.fails.stop.front)
+  went = on_way r s.blocks a p failed is.kept is.fails k after
+
+  -- the place that is marked
+  marks : (x : ℕ) → x ≡ get_or failed.path.up.items (k - 1) x → x ≡ is.fails.stop.place
+  marks x e = e ∙ fails-is r s.blocks a p failed is.kept is.fails k after x
+
+  -- and those that are seen
+  sees : (t : State Block) (l : List ℕ) → l ≡ failed.path.up.items → t ≡ record s { seen = union_where (places s.blocks) s.seen (λ x. has (take (length l - k) (drop k l)) x) }
+      → t ≡ record s { seen = union_where (places s.blocks) s.seen (λ x. has (reverse is.fails.stop.front) x) }
+  sees t l e f = f ∙ ap (λ (m : List ℕ). record s { seen = union_where (places s.blocks) s.seen (λ x. has m x) }) (passed-are r s.blocks a p failed is.kept is.fails k after l e)
+
 pub see_all-requires-clause-kept : goal.see_all-requires-clause-kept
-see_all-requires-clause-kept c = λ x h.
+see_all-requires-clause-kept g c = λ x h.
     let r = c.requires.0 in
     let a = c.requires.1 in
     let p = c.requires.2 in
     let is = c.requires.3 in
-    let t = c.args.tree.now.blocks in
+    let t = (g.M.Marking.state c.args.tree.now).blocks in
     let k = c.len.result - c.args.failed.now.passed in
     let e : k ≡ c.args.failed.now.path.up.len - c.args.failed.now.passed = ap (λ (n : ℕ). n - c.args.failed.now.passed) c.len.ensures in
     passed-kept r t a p c.args.failed.now is.kept is.fails k e x
     (ap (λ (l : List ℕ). has l x) (sym (passed-are r t a p c.args.failed.now is.kept is.fails k e c.deref.result.now c.deref.ensures.value)) ∙ h)
 
 pub see_all-requires-clause-order : goal.see_all-requires-clause-order
-see_all-requires-clause-order c = c.requires.3.flags.seen_in_order
-
-module _ (c : After-index) (r : Rules Block Id) (a p : ℕ) (is : IsFailedTry r c.args.tree.now a p c.args.failed.now) where
-  abbrev k : ℕ
-  k = c.len.result - c.args.failed.now.passed
-
-  k-is : k ≡ c.args.failed.now.path.up.len - c.args.failed.now.passed
-  k-is = ap (λ (n : ℕ). n - c.args.failed.now.passed) c.len.ensures
-
-  went : OnWay c.args.tree.now.blocks c.args.failed.now.path.fork is.fails.stop.place (reverse is.fails.stop.front)
-  went = on_way r c.args.tree.now.blocks a p c.args.failed.now is.kept is.fails k k-is
-
-  -- the place that is marked
-  marks : c.index.result.now ≡ is.fails.stop.place
-  marks = c.index.ensures ∙ fails-is r c.args.tree.now.blocks a p c.args.failed.now is.kept is.fails k k-is c.index.result.now
-
-  -- and those that are seen
-  sees : c.see_all.new.tree ≡ record c.args.tree.now { seen = union_where (places c.args.tree.now.blocks) c.args.tree.now.seen (λ x. has (reverse is.fails.stop.front) x) }
-  sees =
-      c.see_all.ensures
-      ∙ ap (λ (l : List ℕ). record c.args.tree.now { seen = union_where (places c.args.tree.now.blocks) c.args.tree.now.seen (λ x. has l x) })
-      (passed-are r c.args.tree.now.blocks a p c.args.failed.now is.kept is.fails k k-is c.deref.result.now c.deref.ensures.value)
+see_all-requires-clause-order g c = c.requires.3.flags.seen_in_order
 
 pub mark-requires-clause-not_genesis : goal.mark-requires-clause-not_genesis
-mark-requires-clause-not_genesis c =
-    let a = (goal.at.mark-requires-clause-not_genesis c).After-index in
-    let m = marks a c.requires.0 c.requires.1 c.requires.2 c.requires.3 in
-    let g = (went a c.requires.0 c.requires.1 c.requires.2 c.requires.3).above_f in
+mark-requires-clause-not_genesis g c =
+    let s = g.M.Marking.state c.args.tree.now in
+    let after = ap (λ (n : ℕ). n - c.args.failed.now.passed) c.len.ensures in
+    let m = marks c.requires.0 s c.requires.1 c.requires.2 c.args.failed.now c.requires.3 _ after c.index.result.now c.index.ensures in
+    let w = (went c.requires.0 s c.requires.1 c.requires.2 c.args.failed.now c.requires.3 _ after).above_f in
     omega arith
 
 pub mark-requires-clause-kept : goal.mark-requires-clause-kept
-mark-requires-clause-kept c =
-    let a = (goal.at.mark-requires-clause-kept c).After-index in
-    let m = marks a c.requires.0 c.requires.1 c.requires.2 c.requires.3 in
-    let l = (went a c.requires.0 c.requires.1 c.requires.2 c.requires.3).kept in
-    subst (λ (s : State Block). c.index.result.now ≤ length s.blocks) (sym (sees a c.requires.0 c.requires.1 c.requires.2 c.requires.3)) (omega arith)
+mark-requires-clause-kept g c =
+    let s = g.M.Marking.state c.args.tree.now in
+    let after = ap (λ (n : ℕ). n - c.args.failed.now.passed) c.len.ensures in
+    let m = marks c.requires.0 s c.requires.1 c.requires.2 c.args.failed.now c.requires.3 _ after c.index.result.now c.index.ensures in
+    let l = (went c.requires.0 s c.requires.1 c.requires.2 c.args.failed.now c.requires.3 _ after).kept in
+    subst (λ (t : State Block). c.index.result.now ≤ length t.blocks)
+    (sym (sees c.requires.0 s c.requires.1 c.requires.2 c.args.failed.now c.requires.3 _ after (g.M.Marking.state c.see_all.new.tree) c.deref.result.now c.deref.ensures.value c.see_all.ensures)) (omega arith)
 
 pub returns : goal.returns
-returns c r a p is =
-    let at = (goal.at.returns c).After-index in
-    c.mark.ensures ∙ ap (λ (x : ℕ). with_mark c.see_all.new.tree x) (marks at r a p is) ∙ ap (λ (s : State Block). with_mark s is.fails.stop.place) (sees at r a p is)
-    ∙ flaw_noted r c.args.tree.now a p c.args.failed.now.path.fork is.kept is.fails.path.shared is.flags.seen
-    is.fails.stop.place (reverse is.fails.stop.front) is.fails.stop.first (went at r a p is)
+returns g c r a p is =
+    let s = g.M.Marking.state c.args.tree.now in
+    let failed = c.args.failed.now in
+    let after = ap (λ (n : ℕ). n - failed.passed) c.len.ensures in
+    c.mark.ensures ∙ ap (λ (x : ℕ). with_mark (g.M.Marking.state c.see_all.new.tree) x) (marks r s a p failed is _ after c.index.result.now c.index.ensures)
+    ∙ ap (λ (t : State Block). with_mark t is.fails.stop.place) (sees r s a p failed is _ after (g.M.Marking.state c.see_all.new.tree) c.deref.result.now c.deref.ensures.value c.see_all.ensures)
+    ∙ flaw_noted r s a p failed.path.fork is.kept is.fails.path.shared is.flags.seen
+    is.fails.stop.place (reverse is.fails.stop.front) is.fails.stop.first (went r s a p failed is _ after)

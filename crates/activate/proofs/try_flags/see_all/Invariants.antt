@@ -4,5 +4,6 @@ use Rattle.tree.specs.State.{union_where}
 use Rattle.activate.proofs.try_flags.see_all.Given as goal
 
 abbrev pub invariant-loop-place : goal.invariant-loop-place
-invariant-loop-place l =
-    l.tree ≡ record l.fn.tree { seen = union_where (places l.fn.tree.blocks) l.fn.tree.seen (λ x. has (take l.place-index l.found) x) }
+invariant-loop-place g l =
+    let s = g.M.Marking.state l.fn.tree in
+    g.M.Marking.state l.tree ≡ record s { seen = union_where (places s.blocks) s.seen (λ x. has (take l.place-index l.found) x) }

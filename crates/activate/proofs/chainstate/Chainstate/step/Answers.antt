@@ -11,7 +11,7 @@ use Rattle.activate.specs.CoreState.{HasOneMore, KeepsUndo, UndoFollows, Follows
 use Rattle.activate.proofs.Commits.{committed, params_after}
 use Rattle.activate.proofs.Outcomes.{follows-plan}
 use Rattle.activate.proofs.Undo.{few-of, more-undo, undo-follows}
-use Rattle.activate.proofs.chainstate.Chainstate.step.Goals.{in-Activate-1, in-Flag-1, in-Nothing-1, in-Some-1, in-None-1}
+use Rattle.activate.proofs.chainstate.Chainstate.step.Goals.{in-Activate-1, in-Flag-1, in-Nothing-1, in-Remark-1}
 use Rattle.activate.proofs.chainstate.Chainstate.step.Goals as goal
 
 -- the struct's own fields are a chainstate
@@ -31,11 +31,7 @@ returns-in-Ok-clause-is_chainstate g c triples agrees =
     subst (λ (x : CoreState). Follows x triples) (sym done) (follows-plan a b triples (command_of c.args.command.now) prepared was.follows plan).1 in
     let coins : c.lay_taken.new.self ≡ coins_of c.commit.new.self =
     c.in-Ok.ensures.ok ∙ ap (λ (m : Coins). after_changes m prepared.changes) was.coins_are ∙ laid-changes (coins_of a) (coins_of end) prepared.changes plan.changes_are ∙ sym (ap coins_of done) in
-    let whole : IsChainstate (record { core = c.commit.new.self; coins = c.lay_taken.new.self }) triples = record { follows = follows; coins_are = coins } in
-    elim c.match-rollback.branch [
-      | in-Some-1 w ↦ subst (λ (x : WithCoins). IsChainstate x triples) (sym w.self-is) whole
-      | in-None-1 w ↦ subst (λ (x : WithCoins). IsChainstate x triples) (sym w.self-is) whole
-    ]
+    record { follows = follows; coins_are = coins }
 
 pub returns-in-Ok-clause-undo : goal.returns-in-Ok-clause-undo
 returns-in-Ok-clause-undo g c =
@@ -52,11 +48,7 @@ returns-in-Ok-clause-undo g c =
       one_more = subst (λ (x : CoreState). HasOneMore a x) (sym done) (more-undo (regtest a.params triples) a b _ prepared plan);
       follows = subst (λ (x : CoreState). UndoFollows a x) (sym done) (undo-follows a b triples (command_of c.args.command.now) prepared was.follows plan few);
     } in
-    let left : KeepsUndo c.args.self.now.core c.commit.new.self = subst (λ (x : WithCoins). KeepsUndo x.core c.commit.new.self) c.self.view_is both in
-    elim c.match-rollback.branch [
-      | in-Some-1 w ↦ subst (λ (x : WithCoins). KeepsUndo c.args.self.now.core x.core) (sym w.self-is) left
-      | in-None-1 w ↦ subst (λ (x : WithCoins). KeepsUndo c.args.self.now.core x.core) (sym w.self-is) left
-    ]
+    subst (λ (x : WithCoins). KeepsUndo x.core c.commit.new.self) c.self.view_is both
 
 pub commit-requires : goal.commit-requires
 commit-requires g c =
@@ -104,11 +96,7 @@ returns-in-Ok-clause-params g c =
     let prepared = c.in_ok-reply.field-0 in
     let plan = c.in_ok-reply.ensures.prepared triples agrees in
     let done = committed a b c.commit.new.self prepared.rest triples plan.params_are plan.ready c.commit.ensures in
-    let same : c.commit.new.self.params ≡ c.args.self.now.core.params = ap (λ (x : CoreState). x.params) done ∙ params_after (regtest a.params triples) b prepared.rest ∙ plan.params_are ∙ ap (λ (x : WithCoins). x.core.params) c.self.view_is in
-    elim c.match-rollback.branch [
-      | in-Some-1 w ↦ ap (λ (x : WithCoins). x.core.params) w.self-is ∙ same
-      | in-None-1 w ↦ ap (λ (x : WithCoins). x.core.params) w.self-is ∙ same
-    ]
+    ap (λ (x : CoreState). x.params) done ∙ params_after (regtest a.params triples) b prepared.rest ∙ plan.params_are ∙ ap (λ (x : WithCoins). x.core.params) c.self.view_is
 
 pub returns-in-Err-clause-params : goal.returns-in-Err-clause-params
 returns-in-Err-clause-params g c =
@@ -119,6 +107,7 @@ returns-in-Err-clause-params g c =
       | in-Activate-1 w ↦ ap (λ (x : WithCoins). x.core.params) (w.self-is ∙ whole)
       | in-Flag-1 w ↦ ap (λ (x : WithCoins). x.core.params) (w.self-is ∙ whole)
       | in-Nothing-1 w ↦ ap (λ (x : WithCoins). x.core.params) (w.self-is ∙ whole)
+      | in-Remark-1 w ↦ ap (λ (x : WithCoins). x.core.params) (w.self-is ∙ whole)
     ]
 
 pub returns-in-Err-clause-is_chainstate : goal.returns-in-Err-clause-is_chainstate
@@ -129,6 +118,7 @@ returns-in-Err-clause-is_chainstate g c triples agrees =
       | in-Activate-1 w ↦ subst (λ (x : WithCoins). IsChainstate x triples) (sym (w.self-is ∙ whole)) was
       | in-Flag-1 w ↦ subst (λ (x : WithCoins). IsChainstate x triples) (sym (w.self-is ∙ whole)) was
       | in-Nothing-1 w ↦ subst (λ (x : WithCoins). IsChainstate x triples) (sym (w.self-is ∙ whole)) was
+      | in-Remark-1 w ↦ subst (λ (x : WithCoins). IsChainstate x triples) (sym (w.self-is ∙ whole)) was
     ]
 
 pub returns-in-Err-clause-err : goal.returns-in-Err-clause-err
@@ -140,4 +130,5 @@ returns-in-Err-clause-err g c =
       | in-Activate-1 w ↦ w.self-is ∙ whole
       | in-Flag-1 w ↦ w.self-is ∙ whole
       | in-Nothing-1 w ↦ w.self-is ∙ whole
+      | in-Remark-1 w ↦ w.self-is ∙ whole
     ]

@@ -47,12 +47,12 @@ returns-in-None-clause-prepared g c triples agrees =
 pub returns-in-Invalidate-clause-prepared : goal.returns-in-Invalidate-clause-prepared
 returns-in-Invalidate-clause-prepared g c =
     let a : CoreState = c.args.self.now in
-    if_ok c.prepare_invalidate.result (λ (prepared : Prepared) x triples agrees. let r = regtest a.params triples in subst (λ t. IsPreparationFor r a t c.prepare_invalidate.new.self prepared) (invalidates r a.state c.in-Invalidate.id ∙ ap (λ k. outcome r a.state (command_of k)) (sym c.in-Invalidate.is)) (x triples agrees)) c.prepare_invalidate.ensures.prepared
+    if_ok c.prepare_invalidate.result (λ (prepared : Prepared) x triples agrees. let r = regtest a.params triples in subst (λ t. IsPreparationFor r a t a prepared) (invalidates r a.state c.in-Invalidate.id ∙ ap (λ k. outcome r a.state (command_of k)) (sym c.in-Invalidate.is)) (x triples agrees)) c.prepare_invalidate.ensures.prepared
 
 pub returns-in-Reconsider-clause-prepared : goal.returns-in-Reconsider-clause-prepared
 returns-in-Reconsider-clause-prepared g c =
     let a : CoreState = c.args.self.now in
-    if_ok c.prepare_reconsider.result (λ (prepared : Prepared) x triples agrees. let r = regtest a.params triples in subst (λ t. IsPreparationFor r a t c.prepare_reconsider.new.self prepared) (reconsiders r a.state c.in-Reconsider.id ∙ ap (λ k. outcome r a.state (command_of k)) (sym c.in-Reconsider.is)) (x triples agrees)) c.prepare_reconsider.ensures.prepared
+    if_ok c.prepare_reconsider.result (λ (prepared : Prepared) x triples agrees. let r = regtest a.params triples in subst (λ t. IsPreparationFor r a t a prepared) (reconsiders r a.state c.in-Reconsider.id ∙ ap (λ k. outcome r a.state (command_of k)) (sym c.in-Reconsider.is)) (x triples agrees)) c.prepare_reconsider.ensures.prepared
 
 pub returns-in-Precious-clause-prepared : goal.returns-in-Precious-clause-prepared
 returns-in-Precious-clause-prepared g c =

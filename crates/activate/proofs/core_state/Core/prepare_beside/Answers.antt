@@ -15,7 +15,7 @@ use Rattle.activate.specs.declared.prepared.TreeChange.TheVariants.{BlockAdded}
 use Rattle.activate.specs.declared.prepared.Completion.TheVariants.{Nothing}
 use Rattle.chain.specs.declared.reply.SubmitReply.TheVariants.{Inconclusive}
 use Rattle.chain.specs.declared.reply.Reply.TheVariants as reply
-use Rattle.activate.specs.inside.Preparation.{CanRollBack, CanTry, IsOneTry, IsPreparationFor, Settles}
+use Rattle.activate.specs.inside.Preparation.{CanTry, IsOneTry, IsPreparationFor, Settles}
 use Rattle.chain.specs.Faults.{IsNew}
 use Rattle.chain.specs.Regtest.{regtest}
 use Rattle.chain.specs.Settle.{settle}
@@ -24,7 +24,7 @@ use Rattle.chain.specs.Submission.{answer_added}
 use Rattle.activate.specs.CoreState.{CoreState, Follows, coins_of}
 use Rattle.chain.specs.laws.Steps.{faultless-alone, faultless-parent, step-added, step-beside}
 use Rattle.activate.proofs.Plans.{can-follows}
-use Rattle.activate.proofs.Planned.{best-added, can-added, coins-added, fresh-back, one-try-added, plan-beside, plan-settled, says-added}
+use Rattle.activate.proofs.Planned.{best-added, can-added, coins-added, one-try-added, plan-beside, plan-settled, says-added}
 use Rattle.activate.specs.Wants.{AreWantedToSettle}
 use Rattle.activate.proofs.core_state.Core.prepare_beside.Goals as goal
 
@@ -50,10 +50,6 @@ module _ (triples : Triples) (a : CoreState) (follows : Follows a triples) (now 
   -- it isn't active
   beside : a.active < length (with_block a.state b p).blocks
   beside = let k = can.kept in omega arith
-
-  -- and it can be taken back
-  back_new : IsFresh names (with_block a.state b p) → CanRollBack (record a { state = with_block a.state b p }) (record { first = BlockAdded; flags = None })
-  back_new fresh = fresh-back (regtest a.params triples) a follows.sound b p can alone below is.unknown is.parent (beside, fresh)
 
   -- where it is better than the active one it is the best usable one
   best_new : beats (with_block a.state b p) (suc (length a.state.blocks)) a.active ≡ true
@@ -88,13 +84,13 @@ returns-then-not-better-clause-prepared g c now was triples agrees =
     let r = regtest a.params triples in
     let b = c.args.submitted.now.block in
     let p = c.args.parent in
-    let prepared : Prepared = record { reply = reply.Submit Inconclusive; rollback = record { first = BlockAdded; flags = None }; rest = Nothing; changes = c.new.result } in
+    let prepared : Prepared = record { reply = reply.Submit Inconclusive; first = BlockAdded; rest = Nothing; changes = c.new.result } in
     let inside : beats c.add.new.self.state c.in_ok-place.place c.add.new.self.active ≡ false = subst (λ (x : CoreState). beats x.state c.in_ok-place.place x.active ≡ false) c.self.view_is (sym c.better.ensures ∙ c.if-not-better.true) in
     let lower = subst (λ (q : ℕ). beats (with_block a.state b p) (suc (length a.state.blocks)) q ≡ false) follows.active_is (beats_new triples a follows now b p is c.in_ok-place.ensures.ok c.in_ok-place.ensures.place inside) in
     let fresh : IsFresh names (with_block a.state b p) = subst (λ (x : CoreState). IsFresh names x.state) c.in_ok-place.ensures.ok c.in_ok-place.ensures.fresh in
     subst (λ (x : CoreState). IsPreparationFor r a (step r a.state (Submit now b)) x prepared) (sym c.in_ok-place.ensures.ok)
     (plan-beside r a follows.sound b p (can triples a follows now b p is) (alone triples a follows now b p is) (below triples a follows now b p is) is.unknown is.parent
-    follows.active_is fresh lower prepared refl refl refl c.new.ensures (step r a.state (Submit now b)) (sym (step-beside r a.state follows.sound now b p is lower)))
+    follows.active_is fresh lower prepared refl refl c.new.ensures (step r a.state (Submit now b)) (sym (step-beside r a.state follows.sound now b p is lower)))
 
 pub settle-requires-clause-can : goal.settle-requires-clause-can
 settle-requires-clause-can g c triples agrees =
@@ -139,9 +135,10 @@ pub roll_back-requires : goal.roll_back-requires
 roll_back-requires g c =
     let triples = g.S.RunsScripts.agreeing c.args.env.now in
     let agrees = g.met.S.RunsScripts.agrees c.args.env.now in
-    let fresh = subst (λ (x : CoreState). IsFresh names x.state) c.in_ok-place.ensures.ok c.in_ok-place.ensures.fresh in
-    subst (λ (x : CoreState). CanRollBack x (record { first = BlockAdded; flags = None })) (sym c.in_ok-place.ensures.ok)
-    (back_new triples c.args.self.now (c.requires.follows triples agrees) c.requires.new.0 c.args.submitted.now.block c.args.parent (c.requires.new.1 triples agrees) fresh)
+    subst (λ (x : CoreState). (x.active < length x.state.blocks) × IsFresh names x.state) (sym c.in_ok-place.ensures.ok) (
+      beside triples c.args.self.now (c.requires.follows triples agrees) c.requires.new.0 c.args.submitted.now.block c.args.parent (c.requires.new.1 triples agrees),
+      subst (λ (x : CoreState). IsFresh names x.state) c.in_ok-place.ensures.ok c.in_ok-place.ensures.fresh,
+    )
 
 pub returns-in-Ok-clause-prepared : goal.returns-in-Ok-clause-prepared
 returns-in-Ok-clause-prepared g c now was triples agrees =
@@ -157,12 +154,12 @@ returns-in-Ok-clause-prepared g c now was triples agrees =
     let next = can_new triples a follows now b p is in
     let fresh : IsFresh names A.state = subst (λ (x : CoreState). IsFresh names x.state) c.in_ok-place.ensures.ok c.in_ok-place.ensures.fresh in
     let settled : Settles r A s.rest s.changes = subst (λ (x : CoreState). Settles (regtest x.params triples) x s.rest s.changes) c.in_ok-place.ensures.ok (c.in-Ok.ensures.settled triples agrees) in
-    let prepared : Prepared = record { reply = reply.Submit s.said; rollback = record { first = BlockAdded; flags = None }; rest = s.rest; changes = s.changes } in
+    let prepared : Prepared = record { reply = reply.Submit s.said; first = BlockAdded; rest = s.rest; changes = s.changes } in
     let said : s.said ≡ answer_added r (settle r A.state) n =
     subst (λ (x : CoreState). s.said ≡ answer_added (regtest x.params triples) (settle (regtest x.params triples) x.state) c.in_ok-place.place) c.in_ok-place.ensures.ok (c.in-Ok.ensures.said triples agrees)
     ∙ ap (answer_added r (settle r A.state)) c.in_ok-place.ensures.place in
     subst (λ (x : CoreState). IsPreparationFor r a (step r a.state (Submit now b)) x prepared) (sym c.in_ok-place.ensures.ok)
-    (plan-settled r a A s.rest s.changes settled next.genesis prepared refl refl refl (step r a.state (Submit now b)) BlockAdded refl refl
+    (plan-settled r a A s.rest s.changes settled next.genesis prepared refl refl (step r a.state (Submit now b)) BlockAdded refl refl
     (coins_new triples a follows now b p is) refl (beside triples a follows now b p is, fresh)
     (says-added r a follows.sound b p (can triples a follows now b p is) (alone triples a follows now b p is) (below triples a follows now b p is) is.unknown is.parent s.said said ∙ sym (step-added r a.state now b p is)))
 

@@ -77,8 +77,8 @@ returns-in-Err-clause-prepared g c now was triples agrees =
     let fresh : IsFresh names (with_block a.state c.args.submitted.now.block a.active) = subst (λ (x : CoreState). IsFresh names x.state) ok c.in_ok-place.ensures.fresh in
     let can = can-follows r a (c.requires.follows triples agrees).sound (c.requires.follows triples agrees).kept (c.requires.follows triples agrees).active_is in
     let bad : r.connect_fault (branch_blocks a.state.blocks a.active) c.args.submitted.now.block ≡ Some c.in-Err.reason = own ∙ ap (λ o. result_err o) c.in-Err.is in
-    subst (λ (x : CoreState). IsPreparationFor r a (step r a.state (Submit now c.args.submitted.now.block)) x (record { reply = reply.Submit (Rejected c.in-Err.reason); rollback = record { first = BlockAdded; flags = None }; rest = Mark c.in_ok-place.place; changes = c.new.result })) (sym ok)
-    (plan-fails a.params triples a (c.requires.follows triples agrees).sound (c.requires.follows triples agrees).active_is can c.args.submitted.now.block now is fresh c.in-Err.reason bad _ c.in_ok-place.place c.in_ok-place.ensures.place refl refl refl c.new.ensures refl)
+    subst (λ (x : CoreState). IsPreparationFor r a (step r a.state (Submit now c.args.submitted.now.block)) x (record { reply = reply.Submit (Rejected c.in-Err.reason); first = BlockAdded; rest = Mark c.in_ok-place.place; changes = c.new.result })) (sym ok)
+    (plan-fails a.params triples a (c.requires.follows triples agrees).sound (c.requires.follows triples agrees).active_is can c.args.submitted.now.block now is fresh c.in-Err.reason bad _ c.in_ok-place.place c.in_ok-place.ensures.place refl refl c.new.ensures refl)
 
 pub returns-in-Ok-clause-prepared : goal.returns-in-Ok-clause-prepared
 returns-in-Ok-clause-prepared g c now was triples agrees =
@@ -113,8 +113,8 @@ returns-in-Ok-clause-prepared g c now was triples agrees =
     (subst (λ (n : ℕ). AreChanges (g.B.Base.coins c.args.base.now) (effect n (g.B.Base.coins c.args.base.now) c.args.submitted.now.block.txs) connected.changes) tall listed) in
     let one : path.up.items ≡ c.in_ok-place.place ∷ [] = c.push_reserved.ensures.items ∙ ap (λ (l : List ℕ). l ++ (c.in_ok-place.place ∷ [])) c.in_ok-up.ensures.empty in
     let two : undo.items ≡ connected.undo ∷ [] = c.push_reserved-in-Ok.ensures.items ∙ ap (λ (l : List (List (List Coin))). l ++ (connected.undo ∷ [])) c.in_ok-undo.ensures.empty in
-    subst (λ (x : CoreState). IsPreparationFor r a (step r a.state (Submit now c.args.submitted.now.block)) x (record { reply = reply.Submit Accepted; rollback = record { first = BlockAdded; flags = None }; rest = Activate c.in_ok-place.place path undo; changes = connected.changes })) (sym ok)
-    (plan-moves a.params triples a (c.requires.follows triples agrees).sound (c.requires.follows triples agrees).active_is can c.args.submitted.now.block now is fresh good _ c.in_ok-place.place path undo connected.undo c.in_ok-place.ensures.place refl refl refl
+    subst (λ (x : CoreState). IsPreparationFor r a (step r a.state (Submit now c.args.submitted.now.block)) x (record { reply = reply.Submit Accepted; first = BlockAdded; rest = Activate c.in_ok-place.place path undo; changes = connected.changes })) (sym ok)
+    (plan-moves a.params triples a (c.requires.follows triples agrees).sound (c.requires.follows triples agrees).active_is can c.args.submitted.now.block now is fresh good _ c.in_ok-place.place path undo connected.undo c.in_ok-place.ensures.place refl refl
     fork high one two taken changes refl)
 
 pub add-requires-clause-room : goal.add-requires-clause-room

@@ -117,10 +117,10 @@ returns-in-Ok-clause-prepared g c triples agrees =
     let inside : height c.self.inside.tree.blocks c.self.inside.active ≤ height c.self.inside.tree.blocks p = omega arith in
     let high : height a.state.blocks a.active ≤ height a.state.blocks p = subst (λ (x : CoreState). height x.state.blocks x.active ≤ height x.state.blocks p) c.self.view_is inside in
     let settled : Settles r b s.rest s.changes = subst (λ (x : CoreState). Settles (regtest x.params triples) x s.rest s.changes) c.in_ok-call.ensures.ok (c.in-Ok.ensures.settled triples agrees) in
-    let prepared : Prepared = record { reply = reply.Mark Done; rollback = record { first = CalledPrecious; flags = None }; rest = s.rest; changes = s.changes } in
+    let prepared : Prepared = record { reply = reply.Mark Done; first = CalledPrecious; rest = s.rest; changes = s.changes } in
     let can = can-called r a p (can-follows r a (c.requires.follows triples agrees).sound (c.requires.follows triples agrees).kept (c.requires.follows triples agrees).active_is) in
     subst (λ (x : CoreState). IsPreparationFor r a (step r a.state (Precious c.args.id.now)) x prepared) (sym c.in_ok-call.ensures.ok)
-    (plan-settled r a b s.rest s.changes settled can.genesis prepared refl refl refl (step r a.state (Precious c.args.id.now)) CalledPrecious refl refl refl refl (omega arith)
+    (plan-settled r a b s.rest s.changes settled can.genesis prepared refl refl (step r a.state (Precious c.args.id.now)) CalledPrecious refl refl refl refl (omega arith)
     (prefer_done a.params triples a.state c.args.id.now p found b.state (settle r b.state) (subst (λ (q : ℕ). height a.state.blocks q ≤ height a.state.blocks p) (c.requires.follows triples agrees).active_is high) refl refl))
 
 pub returns-in-Err-clause-wants : goal.returns-in-Err-clause-wants

@@ -1,21 +1,20 @@
-use Rattle.std.proofs.Common.{◌≡◌, ℕ, Some, None, Result, Ok, Err, OnErr, refl, sym, ap, subst, ◌∙◌}
-use Rattle.tree.specs.Branches.{Blocks, place_of}
-use Rattle.tree.specs.Flags.{flags_of}
+use Rattle.std.proofs.Common.{◌≡◌, ℕ, ◌≤◌, length, Some, None, refl, sym, ap, subst, ◌∙◌}
+use Rattle.tree.specs.Branches.{place_of}
 use Rattle.tree.specs.Names.{names}
 use Rattle.tree.specs.State.{State, without_marks}
 use Rattle.tree.specs.laws.Added.{place-bound}
 use Rattle.block.specs.declared.block.Block.{Block}
 use Rattle.activate.specs.declared.prepared.Prepared.{Prepared}
-use Rattle.chain.specs.declared.reply.MarkReply.TheVariants.{Done, NotFound}
+use Rattle.chain.specs.declared.reply.MarkReply.TheVariants.{NotFound}
 use Rattle.chain.specs.declared.reply.Reply.TheVariants as reply
-use Rattle.activate.specs.inside.Preparation.{CanTry, IsPreparationFor, with_flags}
+use Rattle.activate.specs.inside.Preparation.{CanTry, HasOtherMarks, IsPreparationFor}
 use Rattle.chain.specs.Regtest.{regtest}
 use Rattle.chain.specs.Settle.{settle}
-use Rattle.chain.specs.Step.{Reconsider, mark_says, step}
-use Rattle.activate.specs.CoreState.{CoreState, coins_after, coins_of}
+use Rattle.chain.specs.Step.{Reconsider, step}
+use Rattle.activate.specs.CoreState.{CoreState}
 use Rattle.chain.specs.laws.Steps.{step_not-found}
 use Rattle.activate.proofs.Plans.{can-follows}
-use Rattle.activate.proofs.Planned.{can-cleared, fit-before, flags-before, if_ok, plan-still}
+use Rattle.activate.proofs.Planned.{can-cleared, if_ok, plan-still}
 use Rattle.chain.specs.laws.Findings.{reconsider_done}
 use Rattle.activate.proofs.Wanted.{wanted_from}
 use Rattle.activate.proofs.core_state.Core.prepare_reconsider.Goals as goal
@@ -29,68 +28,44 @@ returns-in_default-clause-prepared g c triples agrees =
 
 pub clear-requires : goal.clear-requires
 clear-requires g c =
-    let a : CoreState = c.args.self.now in
-    let found : place_of names a.state.blocks c.args.id.now ≡ Some c.in-Some.place = subst (λ (x : CoreState). place_of names x.state.blocks c.args.id.now ≡ Some c.in-Some.place) c.self.view_is (sym c.find.ensures ∙ c.in-Some.is) in
-    place-bound names a.state.blocks c.args.id.now c.in-Some.place found
+    subst (λ (s : State Block). c.in-Some.place ≤ length s.blocks) (sym c.in_ok-overlay.ensures) (place-bound names c.self.inside.tree.blocks c.args.id.now c.in-Some.place (sym c.find.ensures ∙ c.in-Some.is))
+
+other_cleared : (s t : State Block) (p : ℕ) → t ≡ without_marks s p → HasOtherMarks s t
+unfolding without_marks
+other_cleared s t p e = record { blocks_are = ap (λ (x : State Block). x.blocks) e; precious_is = ap (λ (x : State Block). x.precious) e }
+
+pub settle_marks-requires-clause-other : goal.settle_marks-requires-clause-other
+settle_marks-requires-clause-other g c =
+    other_cleared c.args.self.now.state c.clear.new.self c.in-Some.place
+    (c.in_ok-clear.ensures.ok ∙ ap (λ (s : State Block). without_marks s c.in-Some.place) (c.in_ok-overlay.ensures ∙ ap (λ (x : CoreState). x.state) c.self.view_is))
 
 pub settle_marks-requires-clause-can : goal.settle_marks-requires-clause-can
 settle_marks-requires-clause-can g c triples agrees =
     let a : CoreState = c.args.self.now in
     let r = regtest a.params triples in
-    subst (λ (x : CoreState). CanTry (regtest x.params triples) x) (sym c.in_ok-clear.ensures.ok) (can-cleared r a c.in-Some.place (can-follows r a (c.requires.follows triples agrees).sound (c.requires.follows triples agrees).kept (c.requires.follows triples agrees).active_is))
-
-blocks_same : (s : State Block) (p : ℕ) → ◌≡◌ {A = Blocks Block} (without_marks s p).blocks s.blocks
-unfolding without_marks
-blocks_same s p = refl
-
-pub settle_marks-requires-clause-flags : goal.settle_marks-requires-clause-flags
-settle_marks-requires-clause-flags g c =
-    let triples = g.S.RunsScripts.agreeing c.args.env.now in
-    let agrees = g.met.S.RunsScripts.agrees c.args.env.now in
-    let a : CoreState = c.args.self.now in
-    let r = regtest a.params triples in
-    let kept : c.in_ok-flags.flags ≡ flags_of a.state = c.in_ok-flags.ensures ∙ ap (λ (x : CoreState). flags_of x.state) c.self.view_is in
-    fit-before r a c.clear.new.self c.in_ok-flags.flags (can-follows r a (c.requires.follows triples agrees).sound (c.requires.follows triples agrees).kept (c.requires.follows triples agrees).active_is) kept
-    (ap (λ (x : CoreState). x.state.blocks) c.in_ok-clear.ensures.ok ∙ blocks_same a.state c.in-Some.place)
-
-pub settle_marks-requires-clause-coins : goal.settle_marks-requires-clause-coins
-settle_marks-requires-clause-coins g c =
-    let a : CoreState = c.args.self.now in
-    c.requires.coins ∙ sym (ap coins_of c.in_ok-clear.ensures.ok ∙ ap (λ (t : Blocks Block). coins_after t a.active) (blocks_same a.state c.in-Some.place))
-
-back_same : (a m : CoreState) (p : ℕ) → m ≡ record a { state = without_marks a.state p } → record m { state = with_flags (Some (flags_of a.state)) m.state } ≡ a
-unfolding without_marks
-back_same a m p e = ap (λ (x : CoreState). record x { state = with_flags (Some (flags_of a.state)) x.state }) e
+    let p = c.in-Some.place in
+    let follows = c.requires.follows triples agrees in
+    let state : c.clear.new.self ≡ without_marks a.state p = c.in_ok-clear.ensures.ok ∙ ap (λ (s : State Block). without_marks s p) (c.in_ok-overlay.ensures ∙ ap (λ (x : CoreState). x.state) c.self.view_is) in
+    subst (λ (s : State Block). CanTry r (record a { state = s })) (sym state) (can-cleared r a p (can-follows r a follows.sound follows.kept follows.active_is))
 
 pub returns-clause-prepared : goal.returns-clause-prepared
 returns-clause-prepared g c =
     let a : CoreState = c.args.self.now in
-    let m : CoreState = c.clear.new.self in
+    let m = c.clear.new.self in
     let p = c.in-Some.place in
     let found : place_of names a.state.blocks c.args.id.now ≡ Some p = subst (λ (x : CoreState). place_of names x.state.blocks c.args.id.now ≡ Some p) c.self.view_is (sym c.find.ensures ∙ c.in-Some.is) in
-    let kept : c.in_ok-flags.flags ≡ flags_of a.state = c.in_ok-flags.ensures ∙ ap (λ (x : CoreState). flags_of x.state) c.self.view_is in
-    let state : m.state ≡ without_marks a.state p = ap (λ (x : CoreState). x.state) c.in_ok-clear.ensures.ok in
+    let state : m ≡ without_marks a.state p = c.in_ok-clear.ensures.ok ∙ ap (λ (s : State Block). without_marks s p) (c.in_ok-overlay.ensures ∙ ap (λ (x : CoreState). x.state) c.self.view_is) in
     if_ok c.settle_marks.result
     (λ (prepared : Prepared) x triples agrees.
     let r = regtest a.params triples in
-    let says : mark_says (settle r m.state) Done ≡ step r a.state (Reconsider c.args.id.now) = reconsider_done a.params triples a.state c.args.id.now p found m.state (settle r m.state) state refl in
-    subst (λ t. IsPreparationFor r a t c.settle_marks.new.self prepared) says
-    (subst (λ q. IsPreparationFor (regtest q triples) a (mark_says (settle (regtest q triples) m.state) Done) c.settle_marks.new.self prepared) (ap (λ (x : CoreState). x.params) c.in_ok-clear.ensures.ok) (x triples agrees)))
-    (c.settle_marks.ensures.prepared a (flags-before a m c.in_ok-flags.flags kept (back_same a m p c.in_ok-clear.ensures.ok)))
-
-pub returns-clause-err : goal.returns-clause-err
-returns-clause-err g c =
-    let a : CoreState = c.args.self.now in
-    let kept : c.in_ok-flags.flags ≡ flags_of a.state = c.in_ok-flags.ensures ∙ ap (λ (x : CoreState). flags_of x.state) c.self.view_is in
-    on_err c.settle_marks.result (λ e. e ∙ sym (flags-before a c.clear.new.self c.in_ok-flags.flags kept (back_same a c.clear.new.self c.in-Some.place c.in_ok-clear.ensures.ok))) c.settle_marks.ensures.err
-  where
-    on_err : {V E : Type 0} {P Q : Type 0} (o : Result V E) → (P → Q) → OnErr o P → OnErr o Q
-    on_err (Ok x) f p = p
-    on_err (Err e) f p = f p
+    subst (λ t. IsPreparationFor r a t a prepared) (reconsider_done a.params triples a.state c.args.id.now p found m (settle r m) state refl) (x triples agrees))
+    c.settle_marks.ensures.prepared
 
 pub returns-clause-wants : goal.returns-clause-wants
 returns-clause-wants g c =
     let a : CoreState = c.args.self.now in
     let p = c.in-Some.place in
     let found : place_of names a.state.blocks c.args.id.now ≡ Some p = subst (λ (x : CoreState). place_of names x.state.blocks c.args.id.now ≡ Some p) c.self.view_is (sym c.find.ensures ∙ c.in-Some.is) in
-    wanted_from a c.clear.new.self (Reconsider c.args.id.now) (g.S.RunsScripts.known c.args.env.now) (without_marks a.state p) c.in_ok-clear.ensures.ok (p, found, refl) c.settle_marks.result g.S.RunsScripts.told c.settle_marks.ensures.wants
+    let state : c.clear.new.self ≡ without_marks a.state p = c.in_ok-clear.ensures.ok ∙ ap (λ (s : State Block). without_marks s p) (c.in_ok-overlay.ensures ∙ ap (λ (x : CoreState). x.state) c.self.view_is) in
+    wanted_from a (record a { state = c.clear.new.self }) (Reconsider c.args.id.now) (g.S.RunsScripts.known c.args.env.now) (without_marks a.state p) (ap (λ (s : State Block). record a { state = s }) state) (p, found, refl)
+    c.settle_marks.result g.S.RunsScripts.told c.settle_marks.ensures.wants

@@ -52,3 +52,6 @@ pub returns-in_err-found-clause-wants : goal.returns-in_err-found-clause-wants
 returns-in_err-found-clause-wants g c =
     let passed = err_from_is_err_and c.from_residual.result c.from_residual.ensures.1 in
     rw (passed.1, passed.2) (wanted_best c.args.self.now (g.S.RunsScripts.known c.args.env.now) c.args.place c.requires.can c.requires.best _ c.in_err-found.ensures.wants)
+
+pub try_block-requires-clause-kept : goal.try_block-requires-clause-kept
+try_block-requires-clause-kept g c triples agrees = (c.requires.can triples agrees).all

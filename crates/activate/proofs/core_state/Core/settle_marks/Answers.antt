@@ -1,8 +1,105 @@
-use Rattle.std.proofs.Common.{refl}
+use Rattle.std.specs.Prelude.{IfSome}
+use Rattle.std.proofs.Common.{◌≡◌, ℕ, ◌<◌, ◌≤◌, true, length, refl, sym, subst, ◌∙◌}
+use Rattle.hash.specs.declared.id.Id.{Id}
+use Rattle.block.specs.declared.block.Block.{Block}
+use Rattle.tree.specs.Branches.{Blocks}
+use Rattle.tree.specs.State.{State}
 use Rattle.chain.specs.Regtest.{regtest}
+use Rattle.chain.specs.Rules.{Rules}
+use Rattle.chain.specs.Settled.{AllKept}
+use Rattle.chain.specs.Valid.{branch_connects}
+use Rattle.chain.specs.laws.Tries.{count_without_mark}
+use Rattle.std.proofs.lemmas.Result.{err_from_is_err_and}
+use Rattle.activate.specs.declared.path.Attempt.{Attempt}
+use Rattle.activate.specs.declared.path.Attempt.TheVariants.{Fails}
+use Rattle.activate.specs.declared.path.FailedTry.{FailedTry}
+use Rattle.activate.specs.CoreState.{CoreState}
+use Rattle.activate.specs.inside.Paths.{AreWantedOnWay, FailsAt, IsAttempt, LeadsTo}
+use Rattle.activate.specs.inside.Preparation.{HasOtherMarks, IsFailedTry, TriesLead}
+use Rattle.activate.proofs.Plans.{fewer-unmarked, tries_more, tries_none}
 use Rattle.activate.proofs.Planned.{plan-marks}
+use Rattle.activate.proofs.Wanted.{wanted_before, wanted_best}
 use Rattle.activate.proofs.core_state.Core.settle_marks.Goals as goal
 
-pub returns-in-Ok-clause-prepared : goal.returns-in-Ok-clause-prepared
-returns-in-Ok-clause-prepared g c a e triples agrees =
-    plan-marks (regtest c.args.self.now.params triples) a c.args.self.now c.settle_rest.new.self c.args.flags c.in-Ok.place c.in-Ok.found (c.requires.can triples agrees) c.requires.flags e c.in-Ok.ensures.flags (c.in-Ok.ensures.leads triples agrees) _ refl refl refl refl refl
+-- tries led from s to t, both with the blocks of a
+module _ (r : Rules Block Id) (a : CoreState) (s t : State Block) (other : HasOtherMarks a.state s) (lead : TriesLead r a s t) where
+  same : ◌≡◌ {A = Blocks Block} t.blocks a.state.blocks
+  same = lead.other.blocks_are ∙ other.blocks_are
+
+  -- what fails over the blocks of a is a failed try of t
+  failed_there : (p : ℕ) → p ≤ length t.blocks → {found : Attempt} {failed : FailedTry} → IsAttempt r a.state.blocks a.active p found → found ≡ Fails failed → IsFailedTry r t a.active p failed
+  failed_there p kept {found} {failed} attempt is = record {
+    kept = kept;
+    fails = subst (λ (u : Blocks Block). FailsAt r u a.active p failed) (sym same) (subst (λ (x : Attempt). IsAttempt r a.state.blocks a.active p x) is attempt);
+    flags = record { seen = lead.can.seen; bad_in_order = lead.can.bad_in_order; seen_in_order = lead.can.seen_in_order };
+  }
+
+pub tries-init : goal.tries-init
+tries-init g c triples agrees = tries_none (regtest c.args.self.now.params triples) c.args.self.now c.args.overlay (c.requires.can triples agrees)
+
+pub try_block-requires-clause-kept : goal.try_block-requires-clause-kept
+try_block-requires-clause-kept g c triples agrees =
+    subst (λ (u : Blocks Block). AllKept (regtest c.args.self.now.params triples) u) c.requires.other.blocks_are (c.requires.can triples agrees).all
+
+pub try_block-requires-clause-good : goal.try_block-requires-clause-good
+try_block-requires-clause-good g c triples agrees =
+    subst (λ (u : Blocks Block). branch_connects (regtest c.args.self.now.params triples) u c.args.self.now.active ≡ true) c.requires.other.blocks_are (c.requires.can triples agrees).good
+
+pub try_block-requires-clause-place : goal.try_block-requires-clause-place
+try_block-requires-clause-place g c =
+    let triples = g.S.RunsScripts.agreeing c.args.env.now in
+    let lead = c.tries.invariant triples (g.met.S.RunsScripts.agrees c.args.env.now) in
+    subst (λ (u : Blocks Block). c.best_usable-place.result ≤ length u) (same (regtest c.args.self.now.params triples) c.args.self.now c.args.overlay c.tries.overlay c.requires.other lead) c.best_usable-place.ensures.kept
+
+pub returns-in_err-found-clause-wants : goal.returns-in_err-found-clause-wants
+returns-in_err-found-clause-wants g c =
+    let triples = g.S.RunsScripts.agreeing c.args.env.now in
+    let agrees = g.met.S.RunsScripts.agrees c.args.env.now in
+    let known = g.S.RunsScripts.known c.args.env.now in
+    let a : CoreState = c.args.self.now in
+    let t = c.tries.overlay in
+    let p = c.best_usable-place.result in
+    let lead = c.tries.invariant triples agrees in
+    let passed = err_from_is_err_and c.from_residual.result c.from_residual.ensures.1 in
+    rw (passed.1, passed.2) (wanted_before a c.args.overlay t known lead.other c.tries.invariant _
+    (wanted_best (record a { state = t }) known p (λ triples agrees. (c.tries.invariant triples agrees).can) c.best_usable-place.ensures _
+    (subst (λ (u : Blocks Block). IfSome (g.S.RunsScripts.told c.in_err-found.field-0.0) (AreWantedOnWay a.params u a.active p known)) (sym (same (regtest a.params triples) a c.args.overlay t c.requires.other lead)) c.in_err-found.ensures.wants)))
+
+pub returns-in-Succeeds-clause-prepared : goal.returns-in-Succeeds-clause-prepared
+returns-in-Succeeds-clause-prepared g c triples agrees =
+    let a : CoreState = c.args.self.now in
+    let p = c.best_usable-place.result in
+    let r = regtest a.params triples in
+    let moves : LeadsTo r a.state.blocks a.active p c.in-Succeeds.found = subst (λ (x : Attempt). IsAttempt r a.state.blocks a.active p x) c.in-Succeeds.is (c.in_ok-found.ensures.attempt triples agrees) in
+    plan-marks r a c.args.overlay c.tries.overlay p c.in-Succeeds.found c.into_marks-marks.result (c.requires.can triples agrees) c.requires.other (c.tries.invariant triples agrees)
+    c.best_usable-place.ensures moves c.into_marks-marks.ensures.are c.into_marks-marks.ensures.laid _ refl refl refl refl
+
+pub flag_failed_try-requires : goal.flag_failed_try-requires
+flag_failed_try-requires g c =
+    let triples = g.S.RunsScripts.agreeing c.args.env.now in
+    let agrees = g.met.S.RunsScripts.agrees c.args.env.now in
+    let a : CoreState = c.args.self.now in
+    let p = c.best_usable-place.result in
+    let r = regtest a.params triples in
+    (r, a.active, p, failed_there r a c.args.overlay c.tries.overlay c.requires.other (c.tries.invariant triples agrees) p c.best_usable-place.ensures.kept (c.in_ok-found.ensures.attempt triples agrees) c.in-Fails.is)
+
+pub tries-smaller : goal.tries-smaller
+tries-smaller g c =
+    let triples = g.S.RunsScripts.agreeing c.args.env.now in
+    let agrees = g.met.S.RunsScripts.agrees c.args.env.now in
+    let a : CoreState = c.args.self.now in
+    let t = c.tries.overlay in
+    let p = c.best_usable-place.result in
+    let r = regtest a.params triples in
+    let is = failed_there r a c.args.overlay t c.requires.other (c.tries.invariant triples agrees) p c.best_usable-place.ensures.kept (c.in_ok-found.ensures.attempt triples agrees) c.in-Fails.is in
+    subst (λ (u : State Block). count_without_mark u < count_without_mark t) (sym (c.flag_failed_try.ensures r a.active p is)) (fewer-unmarked r a c.args.overlay t p c.best_usable-place.ensures c.in-Fails.failed is.fails)
+
+pub tries-preserved : goal.tries-preserved
+tries-preserved g c triples agrees =
+    let a : CoreState = c.args.self.now in
+    let t = c.tries.overlay in
+    let p = c.best_usable-place.result in
+    let r = regtest a.params triples in
+    let lead = c.tries.invariant triples agrees in
+    let is = failed_there r a c.args.overlay t c.requires.other lead p c.best_usable-place.ensures.kept (c.in_ok-found.ensures.attempt triples agrees) c.in-Fails.is in
+    subst (λ (u : State Block). TriesLead r a c.args.overlay u) (sym (c.flag_failed_try.ensures r a.active p is)) (tries_more r a c.args.overlay t p c.best_usable-place.ensures lead)

@@ -1,9 +1,0 @@
-use Rattle.std.proofs.Common.{◌≡◌, ℕ, ◌<◌, false, length, get_or}
-use Rattle.tree.specs.Nodes.{mark_at}
-use Rattle.tree.proofs.flags.set_each.Given as goal
-
-abbrev pub invariant-loop-place : goal.invariant-loop-place
-invariant-loop-place l =
-    (length l.marks ≡ length l.fn.marks)
-    × ((x : ℕ) → x < l.place → mark_at l.marks x ≡ record (mark_at l.fn.marks x) { bad = get_or l.flags-inside.bad.items x false; seen = get_or l.flags-inside.seen.items x false })
-    × ((x : ℕ) → (x < l.place → ⊥) → mark_at l.marks x ≡ mark_at l.fn.marks x)
