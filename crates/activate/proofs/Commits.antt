@@ -7,7 +7,7 @@ use Rattle.hash.specs.declared.id.Id.{Id}
 use Rattle.block.specs.declared.block.Block.{Block}
 use Rattle.chain.specs.Rules.{Rules}
 use Rattle.activate.specs.declared.prepared.Completion.{Completion}
-use Rattle.activate.specs.declared.prepared.Completion.TheVariants.{Nothing, Mark, Flag, Activate, Remark}
+use Rattle.activate.specs.declared.prepared.Completion.TheVariants.{Nothing, Flag, Activate, Remark}
 use Rattle.activate.specs.inside.Preparation.{IsReady, core_after_commit}
 use Rattle.activate.specs.CoreState.{CoreState}
 
@@ -19,7 +19,6 @@ committed a b e rest triples same ready commits =
 
 pub params_after : (r : Rules Block Id) (b : CoreState) (rest : Completion) → (core_after_commit r b rest).params ≡ b.params
 params_after r b Nothing = refl
-params_after r b (Mark p) = refl
 params_after r b (Flag p failed) = refl
 params_after r b (Activate p path undo) = refl
 params_after r b (Remark marks p path undo) = refl

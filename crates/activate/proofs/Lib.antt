@@ -1,10 +1,11 @@
 pub mod Commits
 pub mod Cores
+pub mod InHand
+pub mod NewBlock
 pub mod Openings
 pub mod Outcomes
 pub mod Planned
 pub mod Plans
-pub mod Tips
 pub mod Trails
 pub mod Undo
 pub mod Wanted

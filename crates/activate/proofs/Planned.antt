@@ -12,7 +12,7 @@ use Rattle.tree.specs.State.{State, has_no_mark, beats, with_block, with_mark, w
 use Rattle.tree.specs.declared.node.Mark.{Mark as BlockMark}
 use Rattle.tree.specs.Nodes.{AreMarks, IsMark, laid, mark_at}
 use Rattle.tree.specs.Names.{names}
-use Rattle.tree.specs.Sound.{IsBest, IsFresh}
+use Rattle.tree.specs.Sound.{IsBest}
 use Rattle.tree.specs.laws.Branches.{on-bounds, on_there}
 use Rattle.tree.specs.laws.Marks.{usable_gives, usable_from, usable-cleared}
 use Rattle.tree.specs.laws.Ranks.{better_trans, better-height, better-called, better-others}
@@ -20,7 +20,7 @@ use Rattle.tree.specs.laws.Sets.{clash, InOrder, none_above, has-filter, in_orde
 use Rattle.tree.specs.laws.Added.{blocks-old, usable_new, usable_there, better_there}
 use Rattle.activate.specs.declared.prepared.Prepared.{Prepared}
 use Rattle.activate.specs.declared.prepared.TreeChange.{TreeChange}
-use Rattle.activate.specs.declared.prepared.TreeChange.TheVariants.{Unchanged, BlockAdded}
+use Rattle.activate.specs.declared.prepared.TreeChange.TheVariants.{Unchanged}
 use Rattle.activate.specs.declared.prepared.Completion.{Completion}
 use Rattle.activate.specs.declared.prepared.Completion.TheVariants.{Nothing, Remark}
 use Rattle.chain.specs.declared.reply.Reply.{Reply}
@@ -40,7 +40,7 @@ use Rattle.activate.specs.CoreState.{CoreState, coins_after, coins_of}
 use Rattle.activate.specs.inside.Preparation.{CanActivate, CanTry, CanBeTakenBack, HasOtherMarks, IsOneTry, IsPreparationFor, IsReady, ChangesNothing, Settles, TriesLead, core_after_activation, core_after_commit, core_after_rollback, state_before_change}
 use Rattle.chain.specs.laws.Actives.{active_kept, active_usable, active_valid}
 use Rattle.chain.specs.laws.Connected.{valid_there}
-use Rattle.chain.specs.laws.Ordinary.{active-beside}
+use Rattle.chain.specs.laws.Ordinary.{active-beside, settle-beside}
 use Rattle.chain.specs.laws.Preferring.{usable-called}
 use Rattle.chain.specs.laws.Settled.{active-settle, settle-blocks, best_usable}
 use Rattle.chain.specs.laws.OneTry.{active-added_bad, active-called_bad, settle-added, settle-called}
@@ -253,43 +253,21 @@ module _ (r : Rules Block Id) where
     pub coins-added : coins_of (record a { state = with_block a.state b p }) ≡ coins_of a
     coins-added = ap (λ (l : List Block). replay ledger l) (blocks-old names (record { block = b; parent = p }) a.state.blocks a.active can.kept)
 
+    -- where it isn't better than the active one, it settles nothing
+    pub settles-beside : a.active ≡ active r a.state → beats (with_block a.state b p) (suc (length a.state.blocks)) (active r a.state) ≡ false → (changes : Changes) → changes ≡ []
+        → Settles r (record a { state = with_block a.state b p }) Nothing changes
+    settles-beside act lower changes none = record {
+      state_is = sym (settle-beside r a.state sound b p lower);
+      active_is = act ∙ sym (active-beside r a.state sound b p lower);
+      changes_are = no_changes (coins_of (record a { state = with_block a.state b p })) changes none;
+      ready = tt;
+    }
+
     -- the answer to it, as settling leaves it
     pub says-added : (said : SubmitReply) → said ≡ answer_added r (settle r (with_block a.state b p)) (suc (length a.state.blocks))
         → (settle r (with_block a.state b p), reply.Submit said) ≡ outcome_of_added r (settle r (with_block a.state b p))
     says-added said e =
         ap (submit_says (settle r (with_block a.state b p))) (e ∙ ap (λ (t : Blocks Block). answer_added r (settle r (with_block a.state b p)) (length t)) (sym (settle-blocks r (with_block a.state b p))))
-
-    -- it is there, and nothing else is left to do but what is told
-    pub plan-added : (act : a.active ≡ active r a.state) → IsFresh names (with_block a.state b p) → (prepared : Prepared) → prepared.first ≡ BlockAdded
-        → (after : Outcome Block) → ((core_after_commit r (record a { state = with_block a.state b p }) prepared.rest).state, prepared.reply) ≡ after
-        → (core_after_commit r (record a { state = with_block a.state b p }) prepared.rest).active ≡ active r (core_after_commit r (record a { state = with_block a.state b p }) prepared.rest).state
-        → AreChanges (coins_of a) (coins_of (core_after_commit r (record a { state = with_block a.state b p }) prepared.rest)) prepared.changes
-        → IsReady r (record a { state = with_block a.state b p }) prepared.rest
-        → IsPreparationFor r a after (record a { state = with_block a.state b p }) prepared
-    plan-added act fresh prepared first_is after out still changes ready =
-        let A : CoreState = record a { state = with_block a.state b p } in
-        record {
-          params_are = refl;
-          outcome_is = out;
-          active_is = still;
-          changes_are = changes;
-          ready = ready;
-          can_go_back = subst (λ (f : TreeChange). CanBeTakenBack f a.active A.state) (sym first_is) (let k = can.kept in omega arith, fresh);
-          back_is = ap (core_after_rollback A) first_is;
-        }
-
-    pub plan-beside : (act : a.active ≡ active r a.state) → IsFresh names (with_block a.state b p) → beats (with_block a.state b p) (suc (length a.state.blocks)) (active r a.state) ≡ false
-        → (prepared : Prepared) → prepared.first ≡ BlockAdded → prepared.rest ≡ Nothing → prepared.changes ≡ []
-        → (after : Outcome Block) → (with_block a.state b p, prepared.reply) ≡ after → IsPreparationFor r a after (record a { state = with_block a.state b p }) prepared
-    plan-beside act fresh lower prepared first_is rest_is changes_is after out =
-        let A : CoreState = record a { state = with_block a.state b p } in
-        let done : core_after_commit r A prepared.rest ≡ A = ap (core_after_commit r A) rest_is in
-        plan-added act fresh prepared first_is after
-        (ap (λ (x : CoreState). (x.state, prepared.reply)) done ∙ out)
-        (ap (λ (x : CoreState). x.active) done ∙ act ∙ sym (active-beside r a.state sound b p lower) ∙ sym (ap (λ (x : CoreState). active r x.state) done))
-        (subst (λ (x : CoreState). AreChanges (coins_of a) (coins_of x) prepared.changes) (sym done)
-        (subst (λ (m : Coins). AreChanges (coins_of a) m prepared.changes) (sym coins-added) (no_changes (coins_of a) prepared.changes changes_is)))
-        (subst (λ (x : Completion). IsReady r A x) (sym rest_is) tt)
 
 pub if_ok : {V E : Type 0} {P Q : V → Type 0} (o : Result V E) → ((x : V) → P x → Q x) → IfOk o P → IfOk o Q
 if_ok (Ok x) f p = f x p

@@ -15,7 +15,7 @@ use Rattle.tree.specs.laws.Walks.{shared_here}
 use Rattle.activate.specs.declared.path.BranchPath.{BranchPath}
 use Rattle.activate.specs.declared.prepared.Prepared.{Prepared}
 use Rattle.activate.specs.declared.prepared.Completion.{Completion}
-use Rattle.activate.specs.declared.prepared.Completion.TheVariants.{Nothing, Mark, Flag, Activate, Remark}
+use Rattle.activate.specs.declared.prepared.Completion.TheVariants.{Nothing, Flag, Activate, Remark}
 use Rattle.curve.specs.Triple.{Triples}
 use Rattle.chain.specs.declared.command.Command.{Command}
 use Rattle.chain.specs.Regtest.{regtest}
@@ -83,7 +83,6 @@ after-activation r a b p path undo ready same kept z h =
 
 after-commit : (r : Rules Block Id) (a b : CoreState) (rest : Completion) → IsReady r b rest → b.active ≡ a.active → b.undo_kept ≡ a.undo_kept → HasOneMore a (core_after_commit r b rest)
 after-commit r a b Nothing ready same kept z h = absurd (own_parent b.state.blocks a.active b.active same z h)
-after-commit r a b (Mark p) ready same kept z h = absurd (own_parent b.state.blocks a.active b.active same z h)
 after-commit r a b (Flag p failed) ready same kept z h =
     absurd (own_parent b.state.blocks a.active b.active same z (ap (λ (t : Blocks Block). parent_at t b.active) (sym (tried-blocks r b.state p)) ∙ h))
 after-commit r a b (Activate p path undo) ready same kept z h = after-activation r a b p path undo.items ready same kept z h
@@ -133,9 +132,6 @@ module _ (a : CoreState) (few : a.undo_kept ≤ most_undo) where
 
   left-by : (r : Rules Block Id) (b : CoreState) (rest : Completion) → b.active ≡ a.active → b.undo_kept ≡ a.undo_kept → IsReady r b rest → (core_after_commit r b rest).active ≤ length (core_after_commit r b rest).state.blocks → UndoFollows a (core_after_commit r b rest)
   left-by r b Nothing same kept ready high =
-      kept ∙ stays b.state.blocks a.active a.undo_kept (omega (arith, high, same)) few
-      ∙ ap (λ (p : ℕ). lesser_of most_undo ((a.undo_kept - (height b.state.blocks a.active - height b.state.blocks (last_shared b.state.blocks a.active p))) + (height b.state.blocks p - height b.state.blocks (last_shared b.state.blocks a.active p)))) (sym same)
-  left-by r b (Mark p) same kept ready high =
       kept ∙ stays b.state.blocks a.active a.undo_kept (omega (arith, high, same)) few
       ∙ ap (λ (p : ℕ). lesser_of most_undo ((a.undo_kept - (height b.state.blocks a.active - height b.state.blocks (last_shared b.state.blocks a.active p))) + (height b.state.blocks p - height b.state.blocks (last_shared b.state.blocks a.active p)))) (sym same)
   left-by r b (Flag p failed) same kept ready high = same_blocks (state_after_try r b.state p).blocks (tried-blocks r b.state p) high

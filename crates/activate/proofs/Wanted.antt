@@ -18,7 +18,7 @@ use Rattle.tree.specs.Sound.{IsBest}
 use Rattle.tree.specs.State.{State, has_no_mark, with_block}
 use Rattle.tree.specs.laws.Above.{IsShared}
 use Rattle.tree.specs.laws.Added.{block_here, blocks-old}
-use Rattle.tree.specs.laws.Branches.{on-bounds, on-itself, on_there, parent_here}
+use Rattle.tree.specs.laws.Branches.{on-bounds, parent_here}
 use Rattle.chain.specs.Regtest.{ledger, regtest, setting_on}
 use Rattle.chain.specs.Replay.{replay}
 use Rattle.chain.specs.Settle.{on_candidate}
@@ -89,22 +89,6 @@ wanted_best c known p can best told are =
       inactive = w.apart;
       wanted = w.wanted;
     }) told are
-
--- so is a new block on the active one, where it is the best usable one
-pub wanted_tip : (a : CoreState) (known : Known) (b : Block) → a.active ≤ length a.state.blocks → let c : CoreState = record a { state = with_block a.state b a.active } in
-    Under known (λ triples. CanTry (regtest a.params triples) c) → IsBest c.state (has_no_mark c.state) (length c.state.blocks) (suc (length a.state.blocks))
-    → (told : Option (List Triple)) → IfSome told (AreWantedAt a.params c.state.blocks known (suc (length a.state.blocks))) → IfSome told (AreWantedToSettle c known)
-wanted_tip a known b k can best told are =
-    let n = suc (length a.state.blocks) in
-    let c : CoreState = record a { state = with_block a.state b a.active } in
-    let old : on c.state.blocks a.active n ≡ on a.state.blocks a.active n = on_there (record { block = b; parent = a.active }) a.state.blocks a.active n (omega arith) in
-    wanted_best c known n can best told
-    (wanted_weaker (AreWantedAt a.params c.state.blocks known n) (AreWantedOnWay a.params c.state.blocks a.active n known) (λ list w. record {
-      place = n;
-      there = on-itself c.state.blocks n (omega arith);
-      apart = false_from_ne_true (on c.state.blocks a.active n) (λ here. let low = (on-bounds a.state.blocks a.active n (sym old ∙ here)).1 in absurd (omega (arith, low)));
-      wanted = w;
-    }) told are)
 
 -- what is wanted after tries was wanted before
 pub wanted_before : (c : CoreState) (s t : State Block) (known : Known) → HasOtherMarks s t → Under known (λ triples. TriesLead (regtest c.params triples) c s t)

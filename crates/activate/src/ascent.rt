@@ -13,6 +13,7 @@ ghost use Rattle.activate.specs.inside.Ascents.{top_of, IsTop, AreWantedAbove, L
 ghost use Rattle.activate.specs.inside.Paths.{IsStop};
 ghost use Rattle.curve.specs.Known.{Under};
 
+use crate::medians::Medians;
 use crate::path::BranchPath;
 use coins::{Base, Cache};
 use connect::{Context, RunsScripts, connect_in_layer};
@@ -26,11 +27,13 @@ use wire::Memory;
 
 /// What a walk up a path leaves where each block connects.
 #[derive(Drop)]
-pub(crate) struct Ascent<'b, B: Base> {
+pub(crate) struct Ascent<'b, 'm, B: Base> {
     /// The layer that the blocks were applied to.
     pub(crate) layer: Cache<'b, B>,
     /// What they spend, the lowest first.
     pub(crate) undo: Vec<BlockUndo>,
+    /// The medians of their branch.
+    pub(crate) medians: Medians<'m>,
 }
 
 /// What it leaves where one doesn't.
@@ -43,41 +46,38 @@ pub(crate) struct Stop {
 
 /// Connects the blocks of a path to the coins of the fork's branch, from the lowest on, up to the first that
 /// has a fault, where the layer is dropped. The medians are the fork's branch's, by height.
-pub(crate) fn connect_up<'b, B: Base, S: RunsScripts>(
+pub(crate) fn connect_up<'b, 'm, B: Base, S: RunsScripts>(
     alloc: Global,
     mut layer: Cache<'b, B>,
     tree: &Tree,
     params: &Params,
-    medians: Vec<u32>,
+    mut medians: Medians<'m>,
     path: &BranchPath,
     env: &S,
     gate: &(dyn Gate + Sync),
-) -> Result<Result<Ascent<'b, B>, Stop>, S::Stop>
+) -> Result<Result<Ascent<'b, 'm, B>, Stop>, S::Stop>
     requires path { LeadsUp tree.now.blocks path.now.fork path.now.up.items }
     requires kept { Under (S.known env.now) (λ triples.
         AllKept (regtest params.now triples) tree.now.blocks) }
     requires good { Under (S.known env.now) (λ triples.
         branch_connects (regtest params.now triples) tree.now.blocks path.now.fork ≡ true) }
     requires coins { layer.coins ≡ coins_after tree.now.blocks path.now.fork }
-    requires medians { medians.items
+    requires medians { medians
         ≡ reverse (medians_of (branch_blocks tree.now.blocks path.now.fork)) }
     ensures top { IfOk result (λ answer. IfOk answer (λ ascent.
         Under (S.known env.now) (λ triples.
         IsTop (regtest params.now triples) tree.now.blocks path.now.fork path.now.up.items
-        ascent.undo.items ascent.layer.coins))) }
+        layer.entry.base ascent.undo.items ascent.layer ascent.medians))) }
     ensures stops { IfOk result (λ answer. IfErr answer (λ stop.
         Under (S.known env.now) (λ triples.
         IsStop (regtest params.now triples) tree.now.blocks
         (top_of path.now.fork path.now.up.items) path.now.up.items
         stop.passed stop.reason))) }
-    ensures base { IfOk result (λ answer. IfOk answer (λ ascent.
-        ascent.layer.base ≡ layer.entry.base)) }
     ensures wants { IfErr result (λ stop. IfSome (S.told stop)
         (AreWantedAbove params.now tree.now.blocks path.now.fork
         (top_of path.now.fork path.now.up.items) (S.known env.now))) }
 {
     let up = path.up.as_slice();
-    let mut medians = medians;
     let mut undo = Vec::new(alloc);
     for passed in 0..up.len() {
         let place = up[up.len() - 1 - passed];
@@ -89,7 +89,11 @@ pub(crate) fn connect_up<'b, B: Base, S: RunsScripts>(
             Err(reason) => return Ok(Err(Stop { passed, reason })),
         }
     }
-    Ok(Ok(Ascent { layer, undo }))
+    Ok(Ok(Ascent {
+        layer,
+        undo,
+        medians,
+    }))
 }
 
 /// Connects the block at a place to the coins of its parent's branch, and adds its median to that branch's. The
@@ -99,7 +103,7 @@ fn connect_next<'b, B: Base, S: RunsScripts>(
     layer: Cache<'b, B>,
     tree: &Tree,
     params: &Params,
-    medians: &mut Vec<u32>,
+    medians: &mut Medians<'_>,
     place: usize,
     env: &S,
     gate: &(dyn Gate + Sync),
@@ -110,7 +114,7 @@ fn connect_next<'b, B: Base, S: RunsScripts>(
         AllKept (regtest params.now triples) tree.now.blocks) }
     requires coins { layer.coins ≡ coins_after tree.now.blocks
         (parent_at tree.now.blocks place) }
-    requires medians { medians.old.items
+    requires medians { medians.old
         ≡ reverse
         (medians_of
         (branch_blocks tree.now.blocks (parent_at tree.now.blocks place))) }
@@ -123,7 +127,7 @@ fn connect_next<'b, B: Base, S: RunsScripts>(
         IfOk answer (λ done. done.0.coins ≡ coins_after tree.now.blocks place)) }
     ensures medians { IfOk result (λ answer.
         OnOk answer
-        (medians.new.items
+        (medians.new
         ≡ reverse (medians_of (branch_blocks tree.now.blocks place)))) }
     ensures base { IfOk result (λ answer.
         IfOk answer (λ done. done.0.base ≡ layer.entry.base)) }
@@ -141,7 +145,7 @@ fn connect_next<'b, B: Base, S: RunsScripts>(
     };
     match connect_in_layer(alloc, layer, &context, &block, &ids, env, gate)? {
         Ok(done) => {
-            append(medians, tree.median(place))?;
+            medians.push(alloc, tree.median(place))?;
             Ok(Ok(done))
         }
         Err(reason) => Ok(Err(reason)),
@@ -149,7 +153,7 @@ fn connect_next<'b, B: Base, S: RunsScripts>(
 }
 
 /// Adds an item at the end of a list.
-fn append<T: Drop>(list: &mut Vec<T>, item: T) -> Result<(), Memory>
+pub(crate) fn append<T: Drop>(list: &mut Vec<T>, item: T) -> Result<(), Memory>
     ensures { OnOk result (list.new.items ≡ list.old.items ++ item ∷ []) }
 {
     Ok(list.push(item)?)

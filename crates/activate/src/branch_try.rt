@@ -1,109 +1,180 @@
 //! A try of a block: whether its branch connects.
 
-ghost use Rattle.std.specs.Prelude.{◌≡◌, ◌+◌, ◌<◌, ◌≤◌, true, length, take, IfOk, IfErr, None, IfSome};
-ghost use Rattle.chain.specs.Valid.{branch_connects};
+ghost use Rattle.std.specs.Prelude.{◌≡◌, ◌<◌, ◌≤◌, ◌∷◌, suc, length, IfOk, IfErr, None, OnOk, IfSome};
 ghost use Rattle.chain.specs.Regtest.{regtest};
-ghost use Rattle.chain.specs.Settled.{AllKept};
-ghost use Rattle.activate.specs.CoreState.{coins_after};
-ghost use Rattle.activate.specs.inside.Keeping.{IsBranch};
-ghost use Rattle.activate.specs.inside.Paths.{IsAttempt, AreWantedOnWay};
+ghost use Rattle.chain.specs.Submitted.{IsJudged};
+ghost use Rattle.activate.specs.inside.Ascents.{IsTop};
+ghost use Rattle.activate.specs.inside.Paths.{AreWantedOnWay, IsActiveBranch, IsAttempt, IsPath, IsStop, IsValid};
 ghost use Rattle.curve.specs.Known.{Under};
 
-use crate::ascent::connect_up;
+use crate::ascent::{Ascent, Stop, append, connect_up};
 use crate::disconnection::disconnect_to_fork;
 use crate::fork_search::path_to;
-use crate::path::{Attempt, FailedTry, Reorganisation};
+use crate::medians::Medians;
+use crate::path::{ActiveBranch, Attempt, BranchPath, FailedTry, Reorganisation};
+use chain::SubmittedBlock;
 use coins::{Base, Cache};
-use connect::RunsScripts;
+use connect::{Context, RunsScripts, connect_in_layer};
 use queue::Gate;
-use rules::Params;
 use std::alloc::Global;
-use std::collections::VecDeque;
-use tree::Tree;
-use undo::BlockUndo;
 use wire::Memory;
 
-/// The active branch, as a try looks at it.
-#[derive(Clone, Copy)]
-pub(crate) struct ActiveBranch<'a> {
-    pub(crate) tree: &'a Tree,
-    pub(crate) params: &'a Params,
-    pub(crate) active: usize,
-    /// The places of the active branch, by height.
-    pub(crate) branch: &'a [usize],
-    /// Their medians time past, by height.
-    pub(crate) medians: &'a [u32],
-    /// What the highest of its blocks spent, the lowest first.
-    pub(crate) undo: &'a VecDeque<BlockUndo>,
-}
-
-/// Tries a block over the coins of the active branch, on a layer that is dropped: the active branch is taken back down
-/// to the fork, and the block's branch is connected up from there.
-pub(crate) fn try_branch<B: Base, S: RunsScripts>(
-    alloc: Global,
-    active_branch: &ActiveBranch,
-    base: &B,
-    place: usize,
-    env: &S,
-    gate: &(dyn Gate + Sync),
-) -> Result<Attempt, S::Stop>
-    requires branch { let b = active_branch.now in
-        IsBranch b.tree.now.blocks b.active b.branch.now b.medians.now b.undo.now.items }
-    requires active { active_branch.now.active ≤ length active_branch.now.tree.now.blocks }
-    requires place { place ≤ length active_branch.now.tree.now.blocks }
-    requires kept { Under (S.known env.now) (λ triples. AllKept (regtest active_branch.now.params.now triples)
-        active_branch.now.tree.now.blocks) }
-    requires good { Under (S.known env.now) (λ triples. let b = active_branch.now in
-        branch_connects (regtest b.params.now triples) b.tree.now.blocks b.active ≡ true) }
-    requires coins { B.coins base.now
-        ≡ coins_after active_branch.now.tree.now.blocks active_branch.now.active }
-    ensures attempt { let b = active_branch.now in
-        IfOk result (λ attempt. Under (S.known env.now) (λ triples.
-        IsAttempt (regtest b.params.now triples) b.tree.now.blocks b.active place attempt)) }
-    ensures wants { let b = active_branch.now in IfErr result (λ stop. IfSome (S.told stop)
-        (AreWantedOnWay b.params.now b.tree.now.blocks b.active place (S.known env.now))) }
-{
-    let path = path_to(alloc, active_branch, place)?;
-    let layer = disconnect_to_fork(
-        alloc,
-        Cache::over(alloc, base),
-        active_branch.tree,
-        active_branch.active,
-        active_branch.branch,
-        active_branch.undo,
-        path.fork,
-    )?;
-    let shared = medians_up_to(alloc, active_branch.medians, path.height)?;
-    match connect_up(
-        alloc,
-        layer,
-        active_branch.tree,
-        active_branch.params,
-        shared,
-        &path,
-        env,
-        gate,
-    )? {
-        Ok(ascent) => {
-            let changes = ascent.layer.into_changes();
-            Ok(Attempt::Succeeds(Reorganisation {
+impl<'a> ActiveBranch<'a> {
+    /// Tries a kept block over the coins of the active branch, on a layer that is dropped.
+    pub(crate) fn try_block<B: Base, S: RunsScripts>(
+        &self,
+        alloc: Global,
+        base: &B,
+        place: usize,
+        env: &S,
+        gate: &(dyn Gate + Sync),
+    ) -> Result<Attempt, S::Stop>
+        requires active { IsActiveBranch self.now (B.coins base.now) }
+        requires valid { Under (S.known env.now) (λ triples. let b = self.now in
+            IsValid (regtest b.params.now triples) b.tree.now.blocks b.active) }
+        requires place { place ≤ length self.now.tree.now.blocks }
+        ensures attempt { IfOk result (λ attempt. Under (S.known env.now) (λ triples.
+            let b = self.now in
+            IsAttempt (regtest b.params.now triples) b.tree.now.blocks b.active place attempt)) }
+        ensures wants { let b = self.now in IfErr result (λ stop. IfSome (S.told stop)
+            (AreWantedOnWay b.params.now b.tree.now.blocks b.active place (S.known env.now))) }
+    {
+        let (path, answer) = self.climb(alloc, base, place, env, gate)?;
+        match answer {
+            Ok(ascent) => {
+                let changes = ascent.layer.into_changes();
+                Ok(Attempt::Succeeds(Reorganisation {
+                    path,
+                    undo: ascent.undo,
+                    changes,
+                }))
+            }
+            Err(stop) => Ok(Attempt::Fails(FailedTry {
                 path,
-                undo: ascent.undo,
-                changes,
-            }))
+                passed: stop.passed,
+                reason: stop.reason,
+            })),
         }
-        Err(stop) => Ok(Attempt::Fails(FailedTry {
-            path,
-            passed: stop.passed,
-            reason: stop.reason,
-        })),
+    }
+
+    /// The same of a block that isn't kept yet, as the next one, on this parent. It is used as it was read.
+    pub(crate) fn try_new_block<B: Base, S: RunsScripts>(
+        &self,
+        alloc: Global,
+        base: &B,
+        submitted: &SubmittedBlock,
+        parent: usize,
+        env: &S,
+        gate: &(dyn Gate + Sync),
+    ) -> Result<Attempt, S::Stop>
+        requires active { IsActiveBranch self.now (B.coins base.now) }
+        requires valid { Under (S.known env.now) (λ triples. let b = self.now in
+            IsValid (regtest b.params.now triples) b.tree.now.blocks b.active) }
+        requires parent { parent ≤ length self.now.tree.now.blocks }
+        requires judged { IsJudged submitted.now }
+        requires alone { submitted.now.fault ≡ None }
+        ensures attempt { IfOk result (λ attempt. Under (S.known env.now) (λ triples.
+            let b = self.now in
+            let t = b.tree.now.blocks in
+            IsAttempt (regtest b.params.now triples)
+            (record { block = submitted.now.block; parent = parent } ∷ t) b.active (suc (length t))
+            attempt)) }
+        ensures wants { IfErr result (λ stop. IfSome (S.told stop) (
+            let b = self.now in
+            let t = b.tree.now.blocks in
+            AreWantedOnWay b.params.now
+            (record { block = submitted.now.block; parent = parent } ∷ t) b.active (suc (length t))
+            (S.known env.now))) }
+    {
+        let (mut path, answer) = self.climb(alloc, base, parent, env, gate)?;
+        let below = path.up.len();
+        put_first(&mut path.up, self.tree.len())?;
+        let Ascent {
+            layer,
+            mut undo,
+            medians,
+        } = match answer {
+            Ok(ascent) => ascent,
+            Err(stop) => {
+                return Ok(Attempt::Fails(FailedTry {
+                    path,
+                    passed: stop.passed,
+                    reason: stop.reason,
+                }));
+            }
+        };
+        let context = Context {
+            height: (self.tree.height(parent) + 1) as u32,
+            cutoff: self.tree.median(parent),
+            medians: medians.as_slice(),
+            params: self.params,
+        };
+        let ids = submitted.ids.as_slice();
+        match connect_in_layer(alloc, layer, &context, &submitted.block, ids, env, gate)? {
+            Ok((layer, spent)) => {
+                append(&mut undo, spent)?;
+                let changes = layer.into_changes();
+                Ok(Attempt::Succeeds(Reorganisation {
+                    path,
+                    undo,
+                    changes,
+                }))
+            }
+            Err(reason) => Ok(Attempt::Fails(FailedTry {
+                path,
+                passed: below,
+                reason,
+            })),
+        }
+    }
+
+    /// The walk from the active block to another one: the active branch is taken back down to the fork, on a layer, and
+    /// the other one's branch is connected up from there.
+    fn climb<'b, B: Base, S: RunsScripts>(
+        &self,
+        alloc: Global,
+        base: &'b B,
+        place: usize,
+        env: &S,
+        gate: &(dyn Gate + Sync),
+    ) -> Result<(BranchPath, Result<Ascent<'b, 'a, B>, Stop>), S::Stop>
+        requires active { IsActiveBranch self.now (B.coins base.now) }
+        requires valid { Under (S.known env.now) (λ triples. let b = self.now in
+            IsValid (regtest b.params.now triples) b.tree.now.blocks b.active) }
+        requires place { place ≤ length self.now.tree.now.blocks }
+        ensures path { IfOk result (λ walk. let b = self.now in
+            IsPath b.tree.now.blocks b.active place walk.0) }
+        ensures top { IfOk result (λ walk. IfOk walk.1 (λ ascent.
+            Under (S.known env.now) (λ triples. let b = self.now in
+            IsTop (regtest b.params.now triples) b.tree.now.blocks walk.0.fork walk.0.up.items
+            (B.coins base.now) ascent.undo.items ascent.layer ascent.medians))) }
+        ensures stops { IfOk result (λ walk. IfErr walk.1 (λ stop.
+            Under (S.known env.now) (λ triples. let b = self.now in
+            IsStop (regtest b.params.now triples) b.tree.now.blocks place walk.0.up.items
+            stop.passed stop.reason))) }
+        ensures wants { let b = self.now in IfErr result (λ stop. IfSome (S.told stop)
+            (AreWantedOnWay b.params.now b.tree.now.blocks b.active place (S.known env.now))) }
+    {
+        let path = path_to(alloc, self, place)?;
+        let layer = disconnect_to_fork(
+            alloc,
+            Cache::over(alloc, base),
+            self.tree,
+            self.active,
+            self.branch,
+            self.undo,
+            path.fork,
+        )?;
+        let medians = Medians::lent(alloc, &self.medians[..=path.height]);
+        let (tree, params) = (self.tree, self.params);
+        let answer = connect_up(alloc, layer, tree, params, medians, &path, env, gate)?;
+        Ok((path, answer))
     }
 }
 
-/// The medians time past of the lowest blocks of a branch, up to a height.
-fn medians_up_to(alloc: Global, medians: &[u32], height: usize) -> Result<Vec<u32>, Memory>
-    requires { height < length medians.now }
-    ensures { IfOk result (λ list. list.items ≡ take (height + 1) medians.now) }
+/// Puts a place before those of a list.
+fn put_first(list: &mut Vec<usize>, place: usize) -> Result<(), Memory>
+    ensures { OnOk result (list.new.items ≡ place ∷ list.old.items) }
 {
-    Ok(Vec::from_slice(alloc, &medians[..=height])?)
+    Ok(list.insert(0, place)?)
 }

@@ -5,8 +5,7 @@ ghost use Rattle.tree.specs.Branches as branches;
 ghost use Rattle.tree.specs.Limits.{max_blocks};
 ghost use Rattle.activate.specs.inside.Paths.{IsPath};
 
-use crate::branch_try::ActiveBranch;
-use crate::path::BranchPath;
+use crate::path::{ActiveBranch, BranchPath};
 use std::alloc::Global;
 use wire::Memory;
 

@@ -10,9 +10,9 @@ mod core_state;
 mod disconnection;
 mod fork_search;
 pub mod laws;
+mod medians;
 mod path;
 mod prepared;
-mod tip_connection;
 mod try_flags;
 
 pub use active_branch::MOST_UNDO;

@@ -1,8 +1,25 @@
-//! The path from the active block to another one, and the outcome of a try of it.
+//! The active branch, the path from it to another block, and the outcome of a try of that.
 
 use coins::Changes;
+use rules::Params;
+use std::collections::VecDeque;
+use tree::Tree;
 use txn::Reason;
 use undo::BlockUndo;
+
+/// The active branch, as a try looks at it.
+#[derive(Clone, Copy)]
+pub(crate) struct ActiveBranch<'a> {
+    pub(crate) tree: &'a Tree,
+    pub(crate) params: &'a Params,
+    pub(crate) active: usize,
+    /// The places of the active branch, by height.
+    pub(crate) branch: &'a [usize],
+    /// Their medians time past, by height.
+    pub(crate) medians: &'a [u32],
+    /// What the highest of its blocks spent, the lowest first.
+    pub(crate) undo: &'a VecDeque<BlockUndo>,
+}
 
 /// From the active branch up to a block.
 #[derive(Drop)]

@@ -1,7 +1,7 @@
 //! What a command does, before it is done.
 
 use crate::path::{BranchPath, FailedTry};
-use chain::Reply;
+use chain::{Reply, SubmitReply};
 use coins::Changes;
 use tree::Marks;
 use undo::BlockUndo;
@@ -31,12 +31,19 @@ pub(crate) enum TreeChange {
 #[derive(Drop)]
 pub(crate) enum Completion {
     Nothing,
-    /// The block at a place is marked.
-    Mark(usize),
     /// The block at a place was tried and isn't valid: what the try found is flagged.
     Flag(usize, FailedTry),
     /// The block at a place becomes active, by this path, and its blocks spend this, the lowest first.
     Activate(usize, BranchPath, Vec<BlockUndo>),
     /// The same under these marks.
     Remark(Marks, usize, BranchPath, Vec<BlockUndo>),
+}
+
+/// What settles the state, before it is put in place.
+#[derive(Drop)]
+pub(crate) struct Settled {
+    pub(crate) rest: Completion,
+    pub(crate) changes: Changes,
+    /// The reply to the submission of the block that was tried.
+    pub(crate) said: SubmitReply,
 }

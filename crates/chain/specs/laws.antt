@@ -7,6 +7,7 @@ pub mod Commands
 pub mod Connected
 pub mod Findings
 pub mod History
+pub mod InHand
 pub mod Kept
 pub mod Medians
 pub mod OneTry

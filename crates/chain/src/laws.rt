@@ -182,6 +182,21 @@ pub fn one_try_settles_a_call<B, I>()
         × (branch_connects r t.blocks p ≡ false → active r t ≡ active r s)) }
 {}
 
+/// A block can be tried before it is kept: where its parent's branch is valid, its own fault over that decides; else the
+/// first fault of that branch is the first of its own.
+pub fn a_block_is_tried_in_hand<B, I>()
+    ensures own { (r : Rules B I) (s : State B) (b : B) (p : ℕ) → p ≤ length s.blocks
+        → branch_connects r s.blocks p ≡ true
+        → let t = (with_block s b p).blocks in
+        let own = r.connect_fault (blocks_at r.names s.blocks (branch s.blocks p)) b in
+        (own ≡ None → branch_connects r t (suc (length s.blocks)) ≡ true)
+        × ((reason : Reason) → own ≡ Some reason
+        → IsFirstFault r t (suc (length s.blocks)) (suc (length s.blocks))) }
+    ensures below { (r : Rules B I) (s : State B) (b : B) (p : ℕ) → p ≤ length s.blocks
+        → (x : ℕ) → IsFirstFault r s.blocks p x
+        → IsFirstFault r (with_block s b p).blocks (suc (length s.blocks)) x }
+{}
+
 /// A call for the active block changes its rank alone.
 pub fn the_active_block_may_be_called_precious<B, I>()
     ensures { (r : Rules B I) (s : State B) (i : I) → IsSettled r s

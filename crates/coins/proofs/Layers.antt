@@ -1,5 +1,5 @@
 -- Entries over coins, changed at one outpoint.
-use Rattle.std.proofs.Common.{◌≡◌, Bool, true, false, cond, [], ◌∷◌, Option, Some, None, Result, Ok, Err, OnOk, OnErr, IfOk, refl, sym, ap, subst, ◌∙◌}
+use Rattle.std.proofs.Common.{◌≡◌, Bool, true, false, cond, [], ◌∷◌, length, Option, Some, None, Result, Ok, Err, OnOk, OnErr, IfOk, refl, sym, ap, subst, ◌∙◌, arith}
 use Rattle.std.specs.FinMap as map
 use Rattle.std.specs.Result.{is_err}
 use Rattle.std.specs.FinMap.{get}
@@ -23,6 +23,12 @@ get-over m (e ∷ es) q =
     get-put (over m es) e.0 (stands e.1 (map.get m e.0)) q
     ∙ ap (cond (same q e.0) (stands e.1 (map.get m e.0))) (get-over m es q)
     ∙ over_here (same q e.0) e.0 q m e.1 (entry_at es q) refl
+
+-- no entries change nothing
+pub over_none : (m : Coins) (es : Entries) → length es ≡ 0 → over m es ≡ m
+unfolding over
+over_none m [] h = refl
+over_none m (e ∷ es) h = absurd (omega arith)
 
 write_here : (b : Bool) (k q : OutPoint) (m : Coins) (e o : Option CacheEntry) → same k q ≡ b → stands_at (cond b e o) (get m q) ≡ cond b (stands_at e (get m k)) (stands_at o (get m q))
 write_here true k q m e o h = ap (λ x. stands_at e (get m x)) (sym (same-true k q h))

@@ -1,6 +1,6 @@
 //! A layer of changes over a base, which can be the base of further layers.
 
-ghost use Rattle.std.specs.Prelude.{◌≡◌, IfOk, OnOk, OnErr, None, Some, IsSome, is_some};
+ghost use Rattle.std.specs.Prelude.{◌≡◌, true, IfOk, OnOk, OnErr, None, Some, IsSome, is_some};
 ghost use Rattle.std.specs.Option.{option_copied};
 ghost use Rattle.std.specs.FinMap as map;
 ghost use Rattle.coins.specs.Changes.{AreChanges, after_changes};
@@ -72,6 +72,13 @@ impl<'a, B: Base> Cache<'a, B> {
         ensures { result ≡ is_some (map.get self.now.coins at.now) }
     {
         holds_coin(self.entries.get(at))
+    }
+
+    /// Whether nothing was written on it, nor made ready. Then its coins are the base's.
+    pub fn is_untouched(&self) -> bool
+        ensures { result ≡ true → self.now.coins ≡ self.now.base }
+    {
+        self.entries.is_empty()
     }
 
     /// Puts a coin where there is none.

@@ -130,7 +130,12 @@ pub fn connect_in_layer<'b, B: Base, S: RunsScripts>(
     ensures connected { IfOk result (λ answer. IfOk answer (λ done.
         IsConnected (setting context.now) layer.entry.coins block.now done.0.coins done.1)) }
 {
-    connect_block(alloc, layer, context, block, ids, env, gate, Lookup::Whole)
+    let lookup = if layer.is_untouched() {
+        Lookup::Above
+    } else {
+        Lookup::Whole
+    };
+    connect_block(alloc, layer, context, block, ids, env, gate, lookup)
 }
 
 /// Connects a block in a layer, and looks for the outputs of its transactions there.

@@ -2,6 +2,7 @@
 
 ghost use Rattle.std.specs.Prelude.{◌≡◌, ◌↔◌, ◌≤◌, ◌<◌, suc, false, length, map, reverse, IfOk, OnOk, OnErr, Err, None};
 ghost use Rattle.block.specs.Identity.{id_of};
+ghost use Rattle.block.specs.declared.block.Block.{Block};
 ghost use Rattle.tree.specs.declared.fault.AddFault.TheVariants.{Full};
 ghost use Rattle.tree.specs.Limits.{max_blocks};
 ghost use Rattle.tree.specs.Nodes.{AreMarks, laid};
@@ -162,6 +163,16 @@ impl Tree {
         ensures { result ≡ beats self.now one other }
     {
         self.standing(one).is_above(&self.standing(other))
+    }
+
+    /// Whether a new block on this parent would be better than another one.
+    pub fn would_be_better(&self, parent: usize, other: usize) -> bool
+        requires parent { parent ≤ length self.now.blocks }
+        requires other { other ≤ length self.now.blocks }
+        ensures { (b : Block) → result
+            ≡ beats (with_block self.now b parent) (suc (length self.now.blocks)) other }
+    {
+        self.nodes[other].height <= self.nodes[parent].height
     }
 
     fn standing(&self, place: usize) -> Standing

@@ -3,12 +3,13 @@ use Rattle.std.specs.Prelude.{◌≡◌, ℕ, ◌<◌, ◌≤◌, true, List, []
 use Rattle.hash.specs.declared.id.Id.{Id}
 use Rattle.block.specs.declared.block.Block.{Block}
 use Rattle.coins.specs.declared.coin.Coin.{Coin}
-use Rattle.coins.specs.Coins.{Coins}
+use Rattle.coins.specs.Coins.{Coins, Layer}
 use Rattle.tree.specs.Branches.{Blocks, on}
 use Rattle.tree.specs.laws.Above.{above}
 use Rattle.chain.specs.Rules.{Rules}
 use Rattle.chain.specs.Valid.{branch_connects}
-use Rattle.activate.specs.CoreState.{coins_after}
+use Rattle.chain.specs.Regtest.{medians_of}
+use Rattle.activate.specs.CoreState.{branch_blocks, coins_after}
 use Rattle.activate.specs.inside.Keeping.{undo_at}
 use Rattle.activate.specs.Wants.{AreWantedAt}
 use Rattle.curve.specs.Known.{Known}
@@ -33,8 +34,11 @@ pub record AreWantedAbove (params : Params) (t : Blocks Block) (f p : ℕ) (know
   pub there : on t p place ≡ true
   pub wanted : AreWantedAt params t known place list
 
--- each of these blocks, the highest first, connects: what they spend, the lowest first, and which coins they leave
-pub record IsTop (r : Rules Block Id) (t : Blocks Block) (f : ℕ) (up : List ℕ) (undo : List (List (List Coin))) (coins : Coins) : Type 0 where
+-- each of these blocks, the highest first, connects: what they spend, the lowest first, the layer over these coins to which they
+-- were applied, and the medians of their branch
+pub record IsTop (r : Rules Block Id) (t : Blocks Block) (f : ℕ) (up : List ℕ) (base : Coins) (undo : List (List (List Coin))) (layer : Layer) (medians : List ℕ) : Type 0 where
   pub good : branch_connects r t (top_of f up) ≡ true
   pub spent : undo ≡ reverse (map (undo_at t) up)
-  pub left : coins ≡ coins_after t (top_of f up)
+  pub left : layer.coins ≡ coins_after t (top_of f up)
+  pub base_is : layer.base ≡ base
+  pub medians_are : medians ≡ reverse (medians_of (branch_blocks t (top_of f up)))

@@ -1,5 +1,5 @@
 -- What the core keeps beside the tree. No public clause needs these words.
-use Rattle.std.specs.Prelude.{◌≡◌, ℕ, suc, List, length, map, reverse, take, ◌≤◌}
+use Rattle.std.specs.Prelude.{◌≡◌, ℕ, suc, List, [], ◌∷◌, length, map, reverse, take, ◌≤◌}
 use Rattle.block.specs.declared.block.Block.{Block}
 use Rattle.coins.specs.declared.coin.Coin.{Coin}
 use Rattle.connect.specs.Turns.{undo_of}
@@ -29,3 +29,8 @@ pub record HasRoom (t : Blocks Block) (places medians undo : ℕ) : Type 0 where
   pub for_places : suc (length t) ≤ places
   pub for_medians : suc (length t) ≤ medians
   pub for_undo : most_undo ≤ undo
+
+-- medians that were lent, or all of them, where there are any of one's own
+abbrev pub medians_seen : List ℕ → List ℕ → List ℕ
+medians_seen lent [] = lent
+medians_seen lent (m ∷ own) = m ∷ own

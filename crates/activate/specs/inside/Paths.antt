@@ -1,9 +1,10 @@
 -- Words for what `Core` does inside when another block becomes the active one. No public clause needs them.
-use Rattle.std.specs.Prelude.{◌≡◌, ℕ, ◌<◌, true, false, List, ◌∷◌, ◌++◌, length, map, reverse, Some}
+use Rattle.std.specs.Prelude.{◌≡◌, ℕ, ◌<◌, ◌≤◌, true, false, List, ◌∷◌, ◌++◌, length, map, reverse, Some}
 use Rattle.txn.specs.declared.reason.Reason.{Reason}
 use Rattle.hash.specs.declared.id.Id.{Id}
 use Rattle.block.specs.declared.block.Block.{Block}
 use Rattle.coins.specs.Changes.{AreChanges, after_changes}
+use Rattle.coins.specs.Coins.{Coins}
 use Rattle.connect.specs.Setting.{Setting}
 use Rattle.connect.specs.Connecting.{IsConnected}
 use Rattle.tree.specs.Branches.{Blocks, on, height, parent_at, block_at}
@@ -18,7 +19,9 @@ use Rattle.chain.specs.Rules.{Rules}
 use Rattle.chain.specs.Valid.{fault, branch_connects}
 use Rattle.chain.specs.Faults.{IsFirstFault}
 use Rattle.activate.specs.CoreState.{coins_after}
-use Rattle.activate.specs.inside.Keeping.{undo_at}
+use Rattle.chain.specs.Settled.{AllKept}
+use Rattle.activate.specs.declared.path.ActiveBranch.{ActiveBranch}
+use Rattle.activate.specs.inside.Keeping.{IsBranch, undo_at}
 use Rattle.activate.specs.Wants.{AreWantedAt}
 use Rattle.curve.specs.Known.{Known}
 use Rattle.curve.specs.Triple.{Triple}
@@ -46,6 +49,17 @@ pub record IsPath (t : Blocks Block) (a p : ℕ) (path : BranchPath) : Type 0 wh
   pub shared : IsShared t a p path.fork
   pub high : path.height ≡ height t path.fork
   pub up : path.up.items ≡ above t p path.fork
+
+-- the active branch with what is kept of it, over its coins
+pub record IsActiveBranch (b : ActiveBranch) (coins : Coins) : Type 0 where
+  pub kept : b.active ≤ length b.tree.now.blocks
+  pub branch : IsBranch b.tree.now.blocks b.active b.branch.now b.medians.now b.undo.now.items
+  pub coins_are : coins ≡ coins_after b.tree.now.blocks b.active
+
+-- each block was kept by the rules, and the branch of a is valid
+pub record IsValid (r : Rules Block Id) (t : Blocks Block) (a : ℕ) : Type 0 where
+  pub all : AllKept r t
+  pub good : branch_connects r t a ≡ true
 
 -- each block of the branch of p connects: what its blocks above the fork spend, the lowest first, and how the coins
 -- of its branch differ from the active ones

@@ -5,17 +5,20 @@ use Rattle.block.specs.declared.block.Block.{Block}
 use Rattle.coins.specs.declared.coin.Coin.{Coin}
 use Rattle.coins.specs.Changes.{Changes, AreChanges}
 use Rattle.tree.specs.Branches.{Blocks, has, height, rest_of, on}
-use Rattle.tree.specs.State.{State, has_no_mark, without_last, with_mark}
+use Rattle.tree.specs.State.{State, has_no_mark, with_block, without_last}
 use Rattle.tree.specs.Nodes.{AreMarks, laid}
 use Rattle.tree.specs.Names.{names}
-use Rattle.tree.specs.Sound.{IsFresh}
+use Rattle.tree.specs.Sound.{IsBest, IsFresh}
 use Rattle.tree.specs.laws.Sets.{InOrder}
 use Rattle.chain.specs.declared.command.Command.{Command}
+use Rattle.activate.specs.declared.path.ActiveBranch.{ActiveBranch}
+use Rattle.activate.specs.declared.path.Attempt.{Attempt}
 use Rattle.activate.specs.declared.prepared.Prepared.{Prepared}
+use Rattle.activate.specs.declared.prepared.Settled.{Settled}
 use Rattle.activate.specs.declared.prepared.TreeChange.{TreeChange}
 use Rattle.activate.specs.declared.prepared.TreeChange.TheVariants.{Unchanged, BlockAdded, CalledPrecious}
 use Rattle.activate.specs.declared.prepared.Completion.{Completion}
-use Rattle.activate.specs.declared.prepared.Completion.TheVariants.{Nothing, Mark, Flag, Activate, Remark}
+use Rattle.activate.specs.declared.prepared.Completion.TheVariants.{Nothing, Flag, Activate, Remark}
 use Rattle.chain.specs.declared.reply.Reply.{Reply}
 use Rattle.chain.specs.declared.reply.SubmitReply.{SubmitReply}
 use Rattle.chain.specs.declared.reply.SubmitReply.TheVariants.{Inconclusive, Rejected}
@@ -27,10 +30,10 @@ use Rattle.chain.specs.Settle.{active, on_candidate, settle}
 use Rattle.chain.specs.Try.{state_after_try}
 use Rattle.chain.specs.Settled.{AllKept}
 use Rattle.chain.specs.Commands.{outcome}
-use Rattle.chain.specs.Submission.{Outcome}
+use Rattle.chain.specs.Submission.{Outcome, answer_added}
 use Rattle.activate.specs.CoreState.{CoreState, coins_of, lesser_of, most_undo}
 use Rattle.activate.specs.inside.Keeping.{undo_at}
-use Rattle.activate.specs.inside.Paths.{FailsAt, IsPath}
+use Rattle.activate.specs.inside.Paths.{FailsAt, IsAttempt, IsPath}
 
 -- what is always right of the flags between two tries: the active branch is valid and was seen
 pub record CanTry (r : Rules Block Id) (c : CoreState) : Type 0 where
@@ -79,7 +82,6 @@ pub record CanActivate (r : Rules Block Id) (c : CoreState) (p : ℕ) (path : Br
 
 abbrev pub IsReady : Rules Block Id → CoreState → Completion → Type 0
 IsReady r c Nothing = ⊤
-IsReady r c (Mark p) = (0 < p) × (p ≤ length c.state.blocks)
 IsReady r c (Flag p failed) = CanFlag r c p failed
 IsReady r c (Activate p path undo) = CanActivate r c p path undo.items
 IsReady r c (Remark marks p path undo) = AreMarks c.state marks × CanActivate r (record c { state = laid c.state marks }) p path undo.items
@@ -98,7 +100,6 @@ core_after_activation r c p path = record c {
 
 abbrev pub core_after_commit : Rules Block Id → CoreState → Completion → CoreState
 core_after_commit r c Nothing = c
-core_after_commit r c (Mark p) = record c { state = with_mark c.state p }
 core_after_commit r c (Flag p failed) = record c { state = state_after_try r c.state p }
 core_after_commit r c (Activate p path undo) = core_after_activation r c p path
 core_after_commit r c (Remark marks p path undo) = core_after_activation r (record c { state = laid c.state marks }) p path
@@ -172,3 +173,23 @@ pub record Settles (r : Rules Block Id) (c : CoreState) (rest : Completion) (cha
   pub active_is : (core_after_commit r c rest).active ≡ active r c.state
   pub changes_are : AreChanges (coins_of c) (coins_of (core_after_commit r c rest)) changes
   pub ready : IsReady r c rest
+
+-- a try of the block at p settles the state of c, and this came of it
+pub record IsTried (r : Rules Block Id) (c : CoreState) (p : ℕ) (attempt : Attempt) : Type 0 where
+  pub can : CanTry r c
+  pub best : IsBest c.state (has_no_mark c.state) (length c.state.blocks) p
+  pub one_try : IsOneTry r c p
+  pub came : IsAttempt r c.state.blocks c.active p attempt
+
+-- this settles the state of c, and this is the answer to the block at p
+pub record IsSettledBy (r : Rules Block Id) (c : CoreState) (p : ℕ) (settled : Settled) : Type 0 where
+  pub settles : Settles r c settled.rest settled.changes
+  pub said : settled.said ≡ answer_added r (settle r c.state) p
+
+-- with one block more, on p
+abbrev pub core_with_block : CoreState → Block → ℕ → CoreState
+core_with_block c b p = record c { state = with_block c.state b p }
+
+-- of the active branch, as a try looks at it
+abbrev pub core_of : ActiveBranch → CoreState
+core_of b = record { params = b.params.now; state = b.tree.now; active = b.active; undo_kept = length b.undo.now.items }

@@ -19,7 +19,7 @@ use Rattle.activate.specs.CoreState.{branch_blocks}
 use Rattle.activate.specs.inside.Keeping.{undo_at, highest_undo, IsBranch}
 
 -- maps that agree on a list of places
-map_agree : {A : Type 0} (f g : ℕ → A) (l : List ℕ) → ((x : ℕ) → has l x ≡ true → f x ≡ g x) → map f l ≡ map g l
+pub map_agree : {A : Type 0} (f g : ℕ → A) (l : List ℕ) → ((x : ℕ) → has l x ≡ true → f x ≡ g x) → map f l ≡ map g l
 map_agree f g [] h = refl
 map_agree f g (x ∷ l) h = ap (λ y. y ∷ map f l) (h x (has_here x l)) ∙ ap (λ r. g x ∷ r) (map_agree f g l (λ y o. h y (has_there x y l o)))
 
@@ -35,7 +35,7 @@ module _ (k : Kept Block) (older : Blocks Block) where
   abbrev new : ℕ
   new = suc (length older)
 
-  kept-parent : (p : ℕ) → p ≤ length older → parent_at older p ≤ length older
+  pub kept-parent : (p : ℕ) → p ≤ length older → parent_at older p ≤ length older
   kept-parent zero h = let e = parent-genesis older in omega arith
   kept-parent (suc p) h = parent-kept older (suc p) (omega arith) h
 

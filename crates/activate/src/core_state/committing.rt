@@ -27,7 +27,6 @@ impl Core {
     {
         match rest {
             Completion::Nothing => {}
-            Completion::Mark(place) => self.tree.mark(place),
             Completion::Flag(_, failed) => self.flag(&failed),
             Completion::Activate(place, path, undo) => self.activate(place, &path, undo),
             Completion::Remark(marks, place, path, undo) => {

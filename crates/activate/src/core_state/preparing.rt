@@ -1,34 +1,30 @@
 //! What a command does, found out before anything is changed.
 
-ghost use Rattle.std.specs.Prelude.{◌≡◌, ℕ, ◌≤◌, ◌<◌, [], IfOk, None, Some, OnOk, OnErr, suc, length, vec_capacity, IfErr, IfSome};
+ghost use Rattle.std.specs.Prelude.{◌≡◌, ◌≤◌, ◌<◌, IfOk, None, Some, OnOk, OnErr, suc, length, IfErr, IfSome};
 ghost use Rattle.hash.specs.declared.id.Id.{Id};
 ghost use Rattle.block.specs.declared.block.Block.{Block};
 ghost use Rattle.tree.specs.Branches.{place_of};
 ghost use Rattle.tree.specs.Limits.{max_blocks};
 ghost use Rattle.tree.specs.Names.{names};
 ghost use Rattle.tree.specs.Sound.{IsFresh};
-ghost use Rattle.tree.specs.State.{with_block};
 ghost use Rattle.chain.specs.Prepared.{command_of};
 ghost use Rattle.chain.specs.Submitted.{IsSubmission};
 ghost use Rattle.chain.specs.Regtest.{regtest};
 ghost use Rattle.chain.specs.Rules.{Rules};
-ghost use Rattle.chain.specs.Faults.{IsNew};
 ghost use Rattle.chain.specs.Step.{Submit, step};
 ghost use Rattle.chain.specs.Submission.{answer_known};
 ghost use Rattle.activate.specs.CoreState.{Follows, coins_of};
-ghost use Rattle.activate.specs.Wants.{AreWantedBy, AreWantedByStep, AreWantedToSettle};
-ghost use Rattle.activate.specs.inside.Preparation.{IsPreparation, IsPreparationFor, ChangesNothing};
+ghost use Rattle.activate.specs.Wants.{AreWantedBy, AreWantedByStep};
+ghost use Rattle.activate.specs.inside.Preparation.{IsPreparation, IsPreparationFor, ChangesNothing, core_with_block};
 ghost use Rattle.curve.specs.Known.{Under};
 
 use crate::block_faults::fault_or_parent;
 use crate::core_state::Core;
-use crate::path::BranchPath;
 use crate::prepared::{Completion, Prepared, TreeChange};
-use crate::tip_connection::connect_tip;
 use block::{Bytes, StoredBlock};
 use chain::{PreparedCommand, Reply, SubmitReply, SubmittedBlock};
 use coins::{Base, Changes};
-use connect::{Context, RunsScripts};
+use connect::RunsScripts;
 use queue::Gate;
 use std::alloc::Global;
 use tree::{AddFault, MAX_BLOCKS};
@@ -44,14 +40,6 @@ pub(crate) fn still(alloc: Global, reply: Reply) -> Prepared
         rest: Completion::Nothing,
         changes: Changes::new(alloc),
     }
-}
-
-/// A list with room for one item.
-fn room<T: Drop>(alloc: Global) -> Result<Vec<T>, Memory>
-    ensures empty { IfOk result (λ list. list.items ≡ []) }
-    ensures room { IfOk result (λ list. 1 ≤ vec_capacity list) }
-{
-    Ok(Vec::with_capacity(alloc, 1)?)
 }
 
 impl Core {
@@ -122,10 +110,16 @@ impl Core {
         }
         match fault_or_parent(&self.tree, &self.params, submitted, now) {
             Err(reason) => Ok(still(alloc, Reply::Submit(SubmitReply::Rejected(reason)))),
-            Ok(parent) if parent == self.active => {
-                self.prepare_on_tip(alloc, base, bytes, submitted, env, gate)
+            Ok(parent) => {
+                let settled = self.settle_new(alloc, base, submitted, parent, env, gate)?;
+                self.add(bytes, submitted, parent)?;
+                Ok(Prepared {
+                    reply: Reply::Submit(settled.said),
+                    first: TreeChange::BlockAdded,
+                    rest: settled.rest,
+                    changes: settled.changes,
+                })
             }
-            Ok(parent) => self.prepare_beside(alloc, base, bytes, submitted, parent, env, gate),
         }
     }
 
@@ -143,124 +137,6 @@ impl Core {
         }
     }
 
-    /// A new block on the active one. It is connected before it is added, and nothing else is looked at.
-    fn prepare_on_tip<B: Base, S: RunsScripts>(
-        &mut self,
-        alloc: Global,
-        base: &B,
-        bytes: &Bytes,
-        submitted: &SubmittedBlock,
-        env: &S,
-        gate: &(dyn Gate + Sync),
-    ) -> Result<Prepared, S::Stop>
-        requires follows { Under (S.known env.now) (λ triples. Follows self.old triples) }
-        requires new { (now : ℕ) × Under (S.known env.now) (λ triples.
-            IsNew (regtest self.old.params triples) self.old.state now
-            submitted.now.block self.old.active) }
-        requires submission { IsSubmission bytes.now (Some submitted.now) }
-        requires coins { B.coins base.now ≡ coins_of self.old }
-        ensures prepared { (now : ℕ) → Under (S.known env.now) (λ triples.
-            IsNew (regtest self.old.params triples) self.old.state now
-            submitted.now.block self.old.active)
-            → IfOk result (λ prepared.
-            Under (S.known env.now) (λ triples. IsPreparationFor (regtest self.old.params triples) self.old
-            (step (regtest self.old.params triples)
-            self.old.state (Submit now submitted.now.block))
-            self.new prepared)) }
-        ensures err { OnErr result (self.new ≡ self.old) }
-        ensures wants { let c = self.old in IfErr result (λ stop. IfSome (S.told stop)
-            (AreWantedToSettle (record c { state = with_block c.state submitted.now.block c.active })
-            (S.known env.now))) }
-    {
-        let height = self.tree.height(self.active);
-        let context = Context {
-            height: (height + 1) as u32,
-            cutoff: self.tree.median(self.active),
-            medians: self.medians.as_slice(),
-            params: &self.params,
-        };
-        let block = &submitted.block;
-        let ids = submitted.ids.as_slice();
-        let connected = connect_tip(alloc, base, &context, block, ids, env, gate)?;
-        let mut up = room(alloc)?;
-        let mut undo = room(alloc)?;
-        let fork = self.active;
-        let place = self.add(bytes, submitted, fork)?;
-        let first = TreeChange::BlockAdded;
-        match connected {
-            Err(reason) => Ok(Prepared {
-                reply: Reply::Submit(SubmitReply::Rejected(reason)),
-                first,
-                rest: Completion::Mark(place),
-                changes: Changes::new(alloc),
-            }),
-            Ok(connected) => {
-                up.push_reserved(place);
-                undo.push_reserved(connected.undo);
-                let path = BranchPath { fork, height, up };
-                Ok(Prepared {
-                    reply: Reply::Submit(SubmitReply::Accepted),
-                    first,
-                    rest: Completion::Activate(place, path, undo),
-                    changes: connected.changes,
-                })
-            }
-        }
-    }
-
-    /// A new block on another one.
-    fn prepare_beside<B: Base, S: RunsScripts>(
-        &mut self,
-        alloc: Global,
-        base: &B,
-        bytes: &Bytes,
-        submitted: &SubmittedBlock,
-        parent: usize,
-        env: &S,
-        gate: &(dyn Gate + Sync),
-    ) -> Result<Prepared, S::Stop>
-        requires follows { Under (S.known env.now) (λ triples. Follows self.old triples) }
-        requires new { (now : ℕ) × Under (S.known env.now) (λ triples.
-            IsNew (regtest self.old.params triples) self.old.state now
-            submitted.now.block parent) }
-        requires submission { IsSubmission bytes.now (Some submitted.now) }
-        requires coins { B.coins base.now ≡ coins_of self.old }
-        ensures prepared { (now : ℕ) → Under (S.known env.now) (λ triples.
-            IsNew (regtest self.old.params triples) self.old.state now
-            submitted.now.block parent)
-            → IfOk result (λ prepared.
-            Under (S.known env.now) (λ triples. IsPreparationFor (regtest self.old.params triples) self.old
-            (step (regtest self.old.params triples)
-            self.old.state (Submit now submitted.now.block))
-            self.new prepared)) }
-        ensures err { OnErr result (self.new ≡ self.old) }
-        ensures wants { let c = self.old in IfErr result (λ stop. IfSome (S.told stop)
-            (AreWantedToSettle (record c { state = with_block c.state submitted.now.block parent })
-            (S.known env.now))) }
-    {
-        let place = self.add(bytes, submitted, parent)?;
-        if !self.tree.better(place, self.active) {
-            return Ok(Prepared {
-                reply: Reply::Submit(SubmitReply::Inconclusive),
-                first: TreeChange::BlockAdded,
-                rest: Completion::Nothing,
-                changes: Changes::new(alloc),
-            });
-        }
-        match self.settle(alloc, base, place, env, gate) {
-            Ok(settled) => Ok(Prepared {
-                reply: Reply::Submit(settled.said),
-                first: TreeChange::BlockAdded,
-                rest: settled.rest,
-                changes: settled.changes,
-            }),
-            Err(stop) => {
-                self.roll_back(TreeChange::BlockAdded);
-                Err(stop)
-            }
-        }
-    }
-
     /// Keeps a new block, with room for it on the active branch.
     fn add(
         &mut self,
@@ -274,8 +150,7 @@ impl Core {
         requires new { place_of names self.old.state.blocks submitted.now.id ≡ None }
         ensures place { IfOk result (λ place. place ≡ suc (length self.old.state.blocks)) }
         ensures ok { OnOk result
-            (self.new
-            ≡ record self.old { state = with_block self.old.state submitted.now.block parent }) }
+            (self.new ≡ core_with_block self.old submitted.now.block parent) }
         ensures fresh { OnOk result (IsFresh names self.new.state) }
         ensures err { OnErr result (self.new ≡ self.old) }
     {

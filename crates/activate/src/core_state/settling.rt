@@ -1,42 +1,31 @@
 //! The try of a block, and what it comes to where it settles the state.
 
-ghost use Rattle.std.specs.Prelude.{ℕ, ◌≡◌, ◌≤◌, ◌<◌, true, length, IfOk, IfErr, None, IfSome};
+ghost use Rattle.std.specs.Prelude.{ℕ, ◌≡◌, ◌≤◌, ◌<◌, suc, length, IfOk, IfErr, None, IfSome};
 ghost use Rattle.tree.specs.Sound.{IsBest};
 ghost use Rattle.tree.specs.State.{has_no_mark};
 ghost use Rattle.hash.specs.declared.id.Id.{Id};
 ghost use Rattle.block.specs.declared.block.Block.{Block};
+ghost use Rattle.coins.specs.Coins.{Coins};
+ghost use Rattle.chain.specs.Faults.{IsNew};
 ghost use Rattle.chain.specs.Rules.{Rules};
-ghost use Rattle.chain.specs.Settled.{AllKept};
-ghost use Rattle.chain.specs.Settle.{settle};
+ghost use Rattle.chain.specs.Submitted.{IsJudged};
 ghost use Rattle.chain.specs.Try.{state_after_try};
-ghost use Rattle.chain.specs.Valid.{branch_connects};
-ghost use Rattle.chain.specs.Submission.{answer_added};
 ghost use Rattle.chain.specs.Regtest.{regtest};
-ghost use Rattle.activate.specs.CoreState.{coins_of};
+ghost use Rattle.activate.specs.CoreState.{CoreState, Follows, coins_of};
 ghost use Rattle.activate.specs.Wants.{AreWantedToSettle};
-ghost use Rattle.activate.specs.inside.Paths.{IsAttempt, AreWantedOnWay};
-ghost use Rattle.activate.specs.inside.Preparation.{CanFlag, CanTry, IsOneTry, Settles, reply_to_failed_try};
+ghost use Rattle.activate.specs.inside.Paths.{IsActiveBranch, IsAttempt, IsValid, AreWantedOnWay};
+ghost use Rattle.activate.specs.inside.Preparation.{CanFlag, CanTry, IsOneTry, IsSettledBy, IsTried, core_of, core_with_block, reply_to_failed_try};
 ghost use Rattle.curve.specs.Known.{Under};
 
-use crate::branch_try::{ActiveBranch, try_branch};
 use crate::core_state::Core;
-use crate::path::{Attempt, FailedTry};
-use crate::prepared::Completion;
+use crate::path::{ActiveBranch, Attempt, FailedTry};
+use crate::prepared::{Completion, Settled};
 use crate::try_flags::flag_failed_try;
-use chain::SubmitReply;
+use chain::{SubmitReply, SubmittedBlock};
 use coins::{Base, Changes};
 use connect::RunsScripts;
 use queue::Gate;
 use std::alloc::Global;
-
-/// A settled state, before it is put in place.
-#[derive(Drop)]
-pub(crate) struct Settled {
-    pub(crate) rest: Completion,
-    pub(crate) changes: Changes,
-    /// The reply to the submission of the block that was tried.
-    pub(crate) said: SubmitReply,
-}
 
 impl Core {
     /// Settles the state by one try of the best block whose branch has no mark, where one is enough (Bitcoin Core's
@@ -49,38 +38,57 @@ impl Core {
         env: &S,
         gate: &(dyn Gate + Sync),
     ) -> Result<Settled, S::Stop>
-        requires can { Under (S.known env.now) (λ triples. CanTry (regtest self.now.params triples) self.now) }
+        requires can { Under (S.known env.now) (λ triples.
+            CanTry (regtest self.now.params triples) self.now) }
         requires best { let s = self.now.state in
             IsBest s (has_no_mark s) (length s.blocks) place }
         requires one_try { Under (S.known env.now) (λ triples.
             IsOneTry (regtest self.now.params triples) self.now place) }
         requires coins { B.coins base.now ≡ coins_of self.now }
-        ensures settled { IfOk result (λ s.
-            Under (S.known env.now) (λ triples. Settles (regtest self.now.params triples) self.now s.rest
-            s.changes)) }
-        ensures said { IfOk result (λ s.
-            Under (S.known env.now) (λ triples. s.said
-            ≡ answer_added (regtest self.now.params triples)
-            (settle (regtest self.now.params triples) self.now.state)
-            place)) }
+        ensures settled { IfOk result (λ settled. Under (S.known env.now) (λ triples.
+            IsSettledBy (regtest self.now.params triples) self.now place settled)) }
         ensures wants { IfErr result (λ stop. IfSome (S.told stop)
             (AreWantedToSettle self.now (S.known env.now))) }
     {
-        match self.try_block(alloc, base, place, env, gate)? {
-            Attempt::Succeeds(found) => Ok(Settled {
-                rest: Completion::Activate(place, found.path, found.undo),
-                changes: found.changes,
-                said: SubmitReply::Accepted,
-            }),
-            Attempt::Fails(failed) => {
-                let said = refused(&failed);
-                Ok(Settled {
-                    rest: Completion::Flag(place, failed),
-                    changes: Changes::new(alloc),
-                    said,
-                })
-            }
+        let attempt = self.try_block(alloc, base, place, env, gate)?;
+        Ok(settled_by(alloc, place, attempt))
+    }
+
+    /// The same of the state with a new block on this parent, which isn't kept yet. Where it isn't better than the
+    /// active one nothing is tried.
+    pub(crate) fn settle_new<B: Base, S: RunsScripts>(
+        &self,
+        alloc: Global,
+        base: &B,
+        submitted: &SubmittedBlock,
+        parent: usize,
+        env: &S,
+        gate: &(dyn Gate + Sync),
+    ) -> Result<Settled, S::Stop>
+        requires follows { Under (S.known env.now) (λ triples. Follows self.now triples) }
+        requires new { (now : ℕ) × Under (S.known env.now) (λ triples.
+            IsNew (regtest self.now.params triples) self.now.state now
+            submitted.now.block parent) }
+        requires judged { IsJudged submitted.now }
+        requires coins { B.coins base.now ≡ coins_of self.now }
+        ensures settled { IfOk result (λ settled. Under (S.known env.now) (λ triples.
+            IsSettledBy (regtest self.now.params triples)
+            (core_with_block self.now submitted.now.block parent)
+            (suc (length self.now.state.blocks)) settled)) }
+        ensures wants { IfErr result (λ stop. IfSome (S.told stop)
+            (AreWantedToSettle (core_with_block self.now submitted.now.block parent)
+            (S.known env.now))) }
+    {
+        if !self.tree.would_be_better(parent, self.active) {
+            return Ok(Settled {
+                rest: Completion::Nothing,
+                changes: Changes::new(alloc),
+                said: SubmitReply::Inconclusive,
+            });
         }
+        let active_branch = self.active_branch();
+        let attempt = active_branch.try_new_block(alloc, base, submitted, parent, env, gate)?;
+        Ok(settled_by(alloc, self.tree.len(), attempt))
     }
 
     /// Notes what a try that failed has found.
@@ -101,10 +109,8 @@ impl Core {
         env: &S,
         gate: &(dyn Gate + Sync),
     ) -> Result<Attempt, S::Stop>
-        requires kept { Under (S.known env.now) (λ triples.
-            AllKept (regtest self.now.params triples) self.now.state.blocks) }
-        requires good { Under (S.known env.now) (λ triples. let c = self.now in
-            branch_connects (regtest c.params triples) c.state.blocks c.active ≡ true) }
+        requires valid { Under (S.known env.now) (λ triples. let c = self.now in
+            IsValid (regtest c.params triples) c.state.blocks c.active) }
         requires place { place ≤ length self.now.state.blocks }
         requires coins { B.coins base.now ≡ coins_of self.now }
         ensures attempt { IfOk result (λ attempt.
@@ -114,15 +120,45 @@ impl Core {
             (AreWantedOnWay self.now.params self.now.state.blocks self.now.active place
             (S.known env.now))) }
     {
-        let active_branch = ActiveBranch {
+        self.active_branch().try_block(alloc, base, place, env, gate)
+    }
+
+    /// The active branch, with what is kept of it.
+    fn active_branch(&self) -> ActiveBranch<'_>
+        ensures is { (coins : Coins) → coins ≡ coins_of self.now → IsActiveBranch result coins }
+        ensures core { core_of result ≡ self.now }
+    {
+        ActiveBranch {
             tree: &self.tree,
             params: &self.params,
             active: self.active,
             branch: self.branch.as_slice(),
             medians: self.medians.as_slice(),
             undo: &self.undo,
-        };
-        try_branch(alloc, &active_branch, base, place, env, gate)
+        }
+    }
+}
+
+/// What the try of a block comes to, which settles the state.
+fn settled_by(alloc: Global, place: usize, attempt: Attempt) -> Settled
+    requires { (r : Rules Block Id) × (c : CoreState) × IsTried r c place attempt }
+    ensures { (r : Rules Block Id) (c : CoreState) → IsTried r c place attempt
+        → IsSettledBy r c place result }
+{
+    match attempt {
+        Attempt::Succeeds(found) => Settled {
+            rest: Completion::Activate(place, found.path, found.undo),
+            changes: found.changes,
+            said: SubmitReply::Accepted,
+        },
+        Attempt::Fails(failed) => {
+            let said = refused(&failed);
+            Settled {
+                rest: Completion::Flag(place, failed),
+                changes: Changes::new(alloc),
+                said,
+            }
+        }
     }
 }
 

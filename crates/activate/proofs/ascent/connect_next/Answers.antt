@@ -37,7 +37,7 @@ overflow_sub-context g c =
     let t = c.args.tree.now.blocks in
     let p = c.args.place in
     let up = height-parent t p c.requires.above c.requires.place in
-    some t p c.as_slice-below.result.now (length-parent c.args.params.now triples t p c.requires.above c.requires.place) (omega arith) (c.as_slice-below.ensures.value ∙ c.requires.medians)
+    some t p c.as_slice-below.result.now (length-parent c.args.params.now triples t p c.requires.above c.requires.place) (omega arith) (c.as_slice-below.ensures ∙ c.requires.medians)
 
 pub bounds-below-below : goal.bounds-below-below
 bounds-below-below g c =
@@ -45,7 +45,7 @@ bounds-below-below g c =
     let t = c.args.tree.now.blocks in
     let p = c.args.place in
     let up = height-parent t p c.requires.above c.requires.place in
-    let s = some t p c.as_slice-below.result.now (length-parent c.args.params.now triples t p c.requires.above c.requires.place) (omega arith) (c.as_slice-below.ensures.value ∙ c.requires.medians) in
+    let s = some t p c.as_slice-below.result.now (length-parent c.args.params.now triples t p c.requires.above c.requires.place) (omega arith) (c.as_slice-below.ensures ∙ c.requires.medians) in
     omega arith
 
 pub connect_in_layer-requires-clause-alone : goal.connect_in_layer-requires-clause-alone
@@ -63,7 +63,7 @@ returns-in-Ok-clause-fault g c triples agrees =
     let txs = c.in_ok-block.block.txs in
     (fault-found s m txs triples None).0 (subst (λ a. IsConnectFault s m txs triples (result_err a)) c.in-Ok.is (c.in_ok-done.ensures.fault triples agrees))
     ∙ fault-next params triples c.args.tree.now.blocks c.args.place c.requires.above c.requires.place c.height_of.result m c.in_ok-block.block c.height_of.ensures c.requires.coins (c.in_ok-block.ensures ∙ c.block.ensures)
-    c.as_slice-below.result.now (c.as_slice-below.ensures.value ∙ c.requires.medians)
+    c.as_slice-below.result.now (c.as_slice-below.ensures ∙ c.requires.medians)
 
 pub returns-in-Ok-clause-undo : goal.returns-in-Ok-clause-undo
 returns-in-Ok-clause-undo g c =
@@ -89,7 +89,7 @@ pub returns-in-Ok-clause-medians : goal.returns-in-Ok-clause-medians
 returns-in-Ok-clause-medians g c =
     let params = c.args.params.now in
     let t = c.args.tree.now.blocks in
-    c.in_ok-append-in-Ok.ensures
+    c.in_ok-push-in-Ok.ensures
     ∙ ap (λ (l : List ℕ). l ++ c.median.result ∷ []) c.requires.medians
     ∙ ap (λ (x : ℕ). reverse (medians_of (branch_blocks t (parent_at t c.args.place))) ++ x ∷ []) c.median.ensures
     ∙ sym (medians-next t c.args.place c.requires.above c.requires.place)
@@ -102,7 +102,7 @@ returns-clause-fault g c triples agrees =
     let txs = c.in_ok-block.block.txs in
     (fault-found s m txs triples (Some c.in-Err.reason)).0 (subst (λ a. IsConnectFault s m txs triples (result_err a)) c.in-Err.is (c.in_ok-done.ensures.fault triples agrees))
     ∙ fault-next params triples c.args.tree.now.blocks c.args.place c.requires.above c.requires.place c.height_of.result m c.in_ok-block.block c.height_of.ensures c.requires.coins (c.in_ok-block.ensures ∙ c.block.ensures)
-    c.as_slice-below.result.now (c.as_slice-below.ensures.value ∙ c.requires.medians)
+    c.as_slice-below.result.now (c.as_slice-below.ensures ∙ c.requires.medians)
 
 pub returns-in-Ok-clause-base : goal.returns-in-Ok-clause-base
 returns-in-Ok-clause-base g c =
@@ -119,15 +119,15 @@ returns-in_err-done-clause-wants g c =
     let t = c.args.tree.now.blocks in
     let p = c.args.place in
     let blocks = branch_blocks t (parent_at t p) in
-    let medians = c.as_slice-below.ensures.value ∙ c.requires.medians in
+    let medians = c.as_slice-below.ensures ∙ c.requires.medians in
     let long = length-parent params triples t p c.requires.above c.requires.place in
     let up = height-parent t p c.requires.above c.requires.place in
     let place = setting-next params blocks c.height_of.result c.as_slice-below.result.now (c.height_of.ensures ∙ sym long) (omega arith) medians in
     let passed = err_from_is_err_and c.from_residual-in_err-done.result c.from_residual-in_err-done.ensures.1 in
     rw (passed.1, passed.2) (wanted_at params (g.S.RunsScripts.known c.args.env.now) t p _ _ _ place c.requires.coins (ap (λ (b : Block). b.txs) (c.in_ok-block.ensures ∙ c.block.ensures)) _ c.in_err-done.ensures.stops)
 
-pub returns-in_err-append-in-Ok-clause-wants : goal.returns-in_err-append-in-Ok-clause-wants
-returns-in_err-append-in-Ok-clause-wants g c =
-    let stopped = err_from_is_err_and c.from_residual-in_err-append-in-Ok.result c.from_residual-in_err-append-in-Ok.ensures.1 in
-    let none = g.met.S.RunsScripts.memory_tells c.in_err-append-in-Ok.field-0.0 stopped.0 stopped.2 in
+pub returns-in_err-push-in-Ok-clause-wants : goal.returns-in_err-push-in-Ok-clause-wants
+returns-in_err-push-in-Ok-clause-wants g c =
+    let stopped = err_from_is_err_and c.from_residual-in_err-push-in-Ok.result c.from_residual-in_err-push-in-Ok.ensures.1 in
+    let none = g.met.S.RunsScripts.memory_tells c.in_err-push-in-Ok.field-0.0 stopped.0 stopped.2 in
     rw stopped.1 (none_wanted (AreWantedAt c.args.params.now c.args.tree.now.blocks (g.S.RunsScripts.known c.args.env.now) c.args.place) (g.S.RunsScripts.told stopped.0) none)

@@ -84,7 +84,7 @@ loop-passed-preserved g c =
     let spent = subst (λ a. IfOk a (λ (d : Layer × List (List Coin)). d.1 ≡ undo_at t x)) c.in-Ok.is c.in_ok-left.ensures.undo in
     let coins = subst (λ a. IfOk a (λ (d : Layer × List (List Coin)). d.0.coins ≡ coins_after t x)) c.in-Ok.is c.in_ok-left.ensures.coins in
     let base = subst (λ a. IfOk a (λ (d : Layer × List (List Coin)). d.0.base ≡ c.loop-passed.layer.base)) c.in-Ok.is c.in_ok-left.ensures.base in
-    let medians = subst (λ a. OnOk a (c.connect_next.new.medians.items ≡ reverse (medians_of (branch_blocks t x)))) c.in-Ok.is c.in_ok-left.ensures.medians in
+    let medians = subst (λ a. OnOk a (c.connect_next.new.medians ≡ reverse (medians_of (branch_blocks t x)))) c.in-Ok.is c.in_ok-left.ensures.medians in
     record {
       spent = c.in_ok-append-in-Ok.ensures
           ∙ ap (λ (l : List (List (List Coin))). l ++ c.in-Ok.spent ∷ []) i.spent

@@ -14,6 +14,6 @@ invariant-loop-passed g l =
       spent : l.undo.items ≡ reverse (map (undo_at t) rest);
       good : Under (g.S.RunsScripts.known l.env) (λ triples. branch_connects (regtest l.params triples) t (top_of l.path.fork rest) ≡ true);
       coins : l.layer.coins ≡ coins_after t (top_of l.path.fork rest);
-      medians : l.medians.items ≡ reverse (medians_of (branch_blocks t (top_of l.path.fork rest)));
+      medians : l.medians ≡ reverse (medians_of (branch_blocks t (top_of l.path.fork rest)));
       base : l.layer.base ≡ l.initial.layer.base;
     }

@@ -1,4 +1,4 @@
-use Rattle.std.proofs.Common.{◌≡◌, ℕ, suc, ◌<◌, ◌≤◌, length, Option, Some, None, refl, sym, ap, subst, ◌∙◌, arith}
+use Rattle.std.proofs.Common.{◌≡◌, ℕ, suc, ◌<◌, ◌≤◌, length, Option, Some, None, sym, ap, subst, ◌∙◌, arith}
 use Rattle.std.specs.Result.{result_err}
 use Rattle.hash.specs.declared.id.Id.{Id}
 use Rattle.block.specs.declared.block.Block.{Block}
@@ -17,10 +17,11 @@ use Rattle.chain.specs.Step.{Submit, step}
 use Rattle.chain.specs.Regtest.{regtest}
 use Rattle.activate.specs.CoreState.{CoreState}
 use Rattle.chain.specs.laws.Steps.{step-known, step-full, step-faulty}
+use Rattle.tree.specs.Sound.{IsFresh}
+use Rattle.activate.specs.declared.prepared.TreeChange.TheVariants.{BlockAdded}
+use Rattle.activate.specs.inside.Preparation.{IsPreparationFor}
+use Rattle.activate.proofs.NewBlock.{plan_new}
 use Rattle.activate.proofs.Planned.{plan-still}
-use Rattle.tree.specs.State.{with_block}
-use Rattle.activate.specs.Wants.{IsToSettle}
-use Rattle.activate.proofs.Wanted.{if_err, wanted_by}
 use Rattle.activate.proofs.core_state.Core.prepare_block.Goals as goal
 
 -- what was looked up inside, of a block's id, is so of the chainstate as it is seen
@@ -41,10 +42,6 @@ module _ {inside outside : CoreState} (e : inside ≡ outside) (b : Block) {id :
         faultless = subst (λ (x : CoreState). first_fault (regtest x.params triples) x.state now b ≡ None) e (sym faultless);
         parent = subst (λ (x : CoreState). place_of names x.state.blocks b.header.prev ≡ Some p) e parent;
       }
-
-      -- and on the tip, if its parent is active
-      new_on_tip : p ≡ inside.active → IsNew (regtest outside.params triples) outside.state now b outside.active
-      new_on_tip tip = subst (λ (q : ℕ). IsNew (regtest outside.params triples) outside.state now b q) (tip ∙ ap (λ (x : CoreState). x.active) e) new_there
 
 pub known-requires : goal.known-requires
 known-requires g c =
@@ -83,45 +80,31 @@ returns-in-Err-clause-prepared g c triples agrees =
     plan-still r a (reply.Submit (Rejected c.in-Err.reason)) c.still-in-Err.result (step r a.state (Submit c.args.now c.args.submitted.now.block)) (c.requires.follows triples agrees).active_is c.still-in-Err.ensures
     (sym (step-faulty r a.state c.args.now c.args.submitted.now.block c.in-Err.reason none room fault))
 
-pub prepare_beside-requires-clause-new : goal.prepare_beside-requires-clause-new
-prepare_beside-requires-clause-new g c = (
+pub settle_new-requires-clause-new : goal.settle_new-requires-clause-new
+settle_new-requires-clause-new g c = (
   c.args.now,
   λ triples agrees. new_there c.self.view_is c.args.submitted.now.block c.requires.submission.1.id c.find.ensures c.in_default.is c.len.ensures.count (let t = c.if-len-ge-MAX_BLOCKS.false in omega arith)
       triples c.args.now c.in-Ok.parent (c.in-Ok.ensures.fault triples) c.in-Ok.ensures.parent,
 )
 
-pub prepare_on_tip-requires-clause-new : goal.prepare_on_tip-requires-clause-new
-prepare_on_tip-requires-clause-new g c = (
-  c.args.now,
-  λ triples agrees. new_on_tip c.self.view_is c.args.submitted.now.block c.requires.submission.1.id c.find.ensures c.in_default.is c.len.ensures.count (let t = c.if-len-ge-MAX_BLOCKS.false in omega arith)
-      triples c.args.now c.in-Ok.parent (c.in-Ok.ensures.fault triples) c.in-Ok.ensures.parent c.if-parent-self.true,
-)
-
-pub returns-in-Ok-clause-prepared : goal.returns-in-Ok-clause-prepared
-returns-in-Ok-clause-prepared g c =
-    c.prepare_on_tip.ensures.prepared c.args.now
-    (λ triples agrees. new_on_tip c.self.view_is c.args.submitted.now.block c.requires.submission.1.id c.find.ensures c.in_default.is c.len.ensures.count (let t = c.if-len-ge-MAX_BLOCKS.false in omega arith)
-    triples c.args.now c.in-Ok.parent (c.in-Ok.ensures.fault triples) c.in-Ok.ensures.parent c.if-parent-self.true)
-
-pub returns-in-Ok-2-clause-prepared : goal.returns-in-Ok-2-clause-prepared
-returns-in-Ok-2-clause-prepared g c =
-    c.prepare_beside.ensures.prepared c.args.now
-    (λ triples agrees. new_there c.self.view_is c.args.submitted.now.block c.requires.submission.1.id c.find.ensures c.in_default.is c.len.ensures.count (let t = c.if-len-ge-MAX_BLOCKS.false in omega arith)
-    triples c.args.now c.in-Ok.parent (c.in-Ok.ensures.fault triples) c.in-Ok.ensures.parent)
-
-pub returns-in-Ok-clause-wants : goal.returns-in-Ok-clause-wants
-returns-in-Ok-clause-wants g c =
+pub add-requires-clause-parent : goal.add-requires-clause-parent
+add-requires-clause-parent g c =
+    let triples = g.S.RunsScripts.agreeing c.args.env.now in
     let a : CoreState = c.args.self.now in
-    let known = g.S.RunsScripts.known c.args.env.now in
     let b = c.args.submitted.now.block in
-    let is : IsToSettle a known (Submit c.args.now b) (with_block a.state b a.active) = (a.active, λ triples agrees. new_on_tip c.self.view_is b c.requires.submission.1.id c.find.ensures c.in_default.is c.len.ensures.count (let t = c.if-len-ge-MAX_BLOCKS.false in omega arith) triples c.args.now c.in-Ok.parent (c.in-Ok.ensures.fault triples) c.in-Ok.ensures.parent c.if-parent-self.true, refl) in
-    if_err c.prepare_on_tip.result (λ stop are. wanted_by a (Submit c.args.now b) known (with_block a.state b a.active) is (g.S.RunsScripts.told stop) are) c.prepare_on_tip.ensures.wants
+    let is = new_there c.self.view_is b c.requires.submission.1.id c.find.ensures c.in_default.is c.len.ensures.count (let t = c.if-len-ge-MAX_BLOCKS.false in omega arith)
+    triples c.args.now c.in-Ok.parent (c.in-Ok.ensures.fault triples) c.in-Ok.ensures.parent in
+    place-bound names a.state.blocks b.header.prev c.in-Ok.parent is.parent
 
-pub returns-in-Ok-2-clause-wants : goal.returns-in-Ok-2-clause-wants
-returns-in-Ok-2-clause-wants g c =
+pub returns-in_ok-add-in-Ok-clause-prepared : goal.returns-in_ok-add-in-Ok-clause-prepared
+returns-in_ok-add-in-Ok-clause-prepared g c triples agrees =
     let a : CoreState = c.args.self.now in
-    let known = g.S.RunsScripts.known c.args.env.now in
+    let r = regtest a.params triples in
     let b = c.args.submitted.now.block in
-    let p = c.in-Ok.parent in
-    let is : IsToSettle a known (Submit c.args.now b) (with_block a.state b p) = (p, λ triples agrees. new_there c.self.view_is b c.requires.submission.1.id c.find.ensures c.in_default.is c.len.ensures.count (let t = c.if-len-ge-MAX_BLOCKS.false in omega arith) triples c.args.now p (c.in-Ok.ensures.fault triples) c.in-Ok.ensures.parent, refl) in
-    if_err c.prepare_beside.result (λ stop are. wanted_by a (Submit c.args.now b) known (with_block a.state b p) is (g.S.RunsScripts.told stop) are) c.prepare_beside.ensures.wants
+    let s = c.in_ok-settled-in-Ok.settled in
+    let is = new_there c.self.view_is b c.requires.submission.1.id c.find.ensures c.in_default.is c.len.ensures.count (let t = c.if-len-ge-MAX_BLOCKS.false in omega arith)
+    triples c.args.now c.in-Ok.parent (c.in-Ok.ensures.fault triples) c.in-Ok.ensures.parent in
+    let kept = c.in_ok-add-in-Ok.ensures.ok in
+    subst (λ (x : CoreState). IsPreparationFor r a (step r a.state (Submit c.args.now b)) x (record { reply = reply.Submit s.said; first = BlockAdded; rest = s.rest; changes = s.changes })) (sym kept)
+    (plan_new triples a (c.requires.follows triples agrees) c.args.now b c.in-Ok.parent is s (c.in_ok-settled-in-Ok.ensures.settled triples agrees)
+    (subst (λ (x : CoreState). IsFresh names x.state) kept c.in_ok-add-in-Ok.ensures.fresh))

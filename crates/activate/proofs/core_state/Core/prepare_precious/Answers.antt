@@ -116,7 +116,7 @@ returns-in-Ok-clause-prepared g c triples agrees =
     let less = c.if-height.false in
     let inside : height c.self.inside.tree.blocks c.self.inside.active ≤ height c.self.inside.tree.blocks p = omega arith in
     let high : height a.state.blocks a.active ≤ height a.state.blocks p = subst (λ (x : CoreState). height x.state.blocks x.active ≤ height x.state.blocks p) c.self.view_is inside in
-    let settled : Settles r b s.rest s.changes = subst (λ (x : CoreState). Settles (regtest x.params triples) x s.rest s.changes) c.in_ok-call.ensures.ok (c.in-Ok.ensures.settled triples agrees) in
+    let settled : Settles r b s.rest s.changes = subst (λ (x : CoreState). Settles (regtest x.params triples) x s.rest s.changes) c.in_ok-call.ensures.ok (c.in-Ok.ensures.settled triples agrees).settles in
     let prepared : Prepared = record { reply = reply.Mark Done; first = CalledPrecious; rest = s.rest; changes = s.changes } in
     let can = can-called r a p (can-follows r a (c.requires.follows triples agrees).sound (c.requires.follows triples agrees).kept (c.requires.follows triples agrees).active_is) in
     subst (λ (x : CoreState). IsPreparationFor r a (step r a.state (Precious c.args.id.now)) x prepared) (sym c.in_ok-call.ensures.ok)

@@ -1,20 +1,18 @@
 use Rattle.std.specs.Prelude.{IfSome}
-use Rattle.std.proofs.Common.{◌≡◌, ℕ, ◌<◌, ◌≤◌, true, length, refl, sym, subst, ◌∙◌}
+use Rattle.std.proofs.Common.{◌≡◌, ℕ, ◌<◌, ◌≤◌, length, refl, sym, subst, ◌∙◌}
 use Rattle.hash.specs.declared.id.Id.{Id}
 use Rattle.block.specs.declared.block.Block.{Block}
 use Rattle.tree.specs.Branches.{Blocks}
 use Rattle.tree.specs.State.{State}
 use Rattle.chain.specs.Regtest.{regtest}
 use Rattle.chain.specs.Rules.{Rules}
-use Rattle.chain.specs.Settled.{AllKept}
-use Rattle.chain.specs.Valid.{branch_connects}
 use Rattle.chain.specs.laws.Tries.{count_without_mark}
 use Rattle.std.proofs.lemmas.Result.{err_from_is_err_and}
 use Rattle.activate.specs.declared.path.Attempt.{Attempt}
 use Rattle.activate.specs.declared.path.Attempt.TheVariants.{Fails}
 use Rattle.activate.specs.declared.path.FailedTry.{FailedTry}
 use Rattle.activate.specs.CoreState.{CoreState}
-use Rattle.activate.specs.inside.Paths.{AreWantedOnWay, FailsAt, IsAttempt, LeadsTo}
+use Rattle.activate.specs.inside.Paths.{AreWantedOnWay, FailsAt, IsAttempt, IsValid, LeadsTo}
 use Rattle.activate.specs.inside.Preparation.{HasOtherMarks, IsFailedTry, TriesLead}
 use Rattle.activate.proofs.Plans.{fewer-unmarked, tries_more, tries_none}
 use Rattle.activate.proofs.Planned.{plan-marks}
@@ -37,13 +35,10 @@ module _ (r : Rules Block Id) (a : CoreState) (s t : State Block) (other : HasOt
 pub tries-init : goal.tries-init
 tries-init g c triples agrees = tries_none (regtest c.args.self.now.params triples) c.args.self.now c.args.overlay (c.requires.can triples agrees)
 
-pub try_block-requires-clause-kept : goal.try_block-requires-clause-kept
-try_block-requires-clause-kept g c triples agrees =
-    subst (λ (u : Blocks Block). AllKept (regtest c.args.self.now.params triples) u) c.requires.other.blocks_are (c.requires.can triples agrees).all
-
-pub try_block-requires-clause-good : goal.try_block-requires-clause-good
-try_block-requires-clause-good g c triples agrees =
-    subst (λ (u : Blocks Block). branch_connects (regtest c.args.self.now.params triples) u c.args.self.now.active ≡ true) c.requires.other.blocks_are (c.requires.can triples agrees).good
+pub try_block-requires-clause-valid : goal.try_block-requires-clause-valid
+try_block-requires-clause-valid g c triples agrees =
+    let can = c.requires.can triples agrees in
+    subst (λ (u : Blocks Block). IsValid (regtest c.args.self.now.params triples) u c.args.self.now.active) c.requires.other.blocks_are (record { all = can.all; good = can.good })
 
 pub try_block-requires-clause-place : goal.try_block-requires-clause-place
 try_block-requires-clause-place g c =

@@ -1,14 +1,9 @@
 use Rattle.std.proofs.Common.{rules, ◌≡◌, length, [], ◌∷◌, refl, ap, sym, subst, ◌∙◌, arith}
 use Rattle.coins.specs.Coins.{Coins, Layer}
 use Rattle.coins.specs.Entries.{Entries, over, IsSound}
-use Rattle.coins.proofs.Layers.{always_err}
+use Rattle.coins.proofs.Layers.{always_err, over_none}
 use Rattle.coins.proofs.Merging.{padded_sound, padded_over, merged_over, merged_sound}
 use Rattle.coins.proofs.cache.Cache.absorb.Goals as goal
-
-over_none : (m : Coins) (es : Entries) → length es ≡ 0 → over m es ≡ m
-unfolding over
-over_none m [] h = refl
-over_none m (e ∷ es) h = absurd (omega arith)
 
 pub invariant_of-self : goal.invariant_of-self
 invariant_of-self g c =
