@@ -68,6 +68,17 @@ READABLE = [
     ("1 a submit ", " 5 = bad-version"),
 ]
 
+# Every reply to a submission by its text: each is read back.
+REPLIES = """\
+accepted inconclusive duplicate duplicate-invalid duplicate-inconclusive decode-failed tree-full high-hash bad-txnmrklroot
+bad-txns-duplicate bad-blk-length bad-cb-missing bad-cb-multiple bad-txns-vin-empty bad-txns-vout-empty
+bad-txns-vout-negative bad-txns-vout-toolarge bad-txns-txouttotal-toolarge bad-txns-inputs-duplicate bad-cb-length
+bad-txns-prevout-null bad-blk-sigops prev-blk-not-found bad-prevblk bad-diffbits time-too-old time-too-new bad-version
+bad-txns-nonfinal bad-cb-height bad-txns-BIP30 bad-txns-inputs-missingorspent bad-txns-premature-spend-of-coinbase
+bad-txns-in-belowout bad-cb-amount owed""".split()
+READABLE += [("1 a submit ", f" 5 = {reply}") for reply in REPLIES]
+READABLE += [("1 a submit ", f" 5 = blk-bad-inputs {place}") for place in ("0:0", "2:7", "18446744073709551615:1000")]
+
 # Files that hold nothing that can be read.
 GARBAGE = [
     ("order_journal.txt", "garbage\n"),
@@ -145,6 +156,14 @@ class AuditFaults(SavedTest):
         self.expect_finding(f"{first}2 y precious {FIRST_ID} = not-found", b"", "agrees\n")
         self.expect_finding(f"{first}2 y precious {FIRST_ID} = genesis\n", b"", "line 2\n")
         self.expect_audit_fault(f"{first}\n", b"", "regchain: journal line 2\n")
+
+    def test_a_line_at_each_place(self) -> None:
+        """A line that can't be read is told by its place."""
+        self.save(NAMED["FAILING_BRANCH"])
+        lines = self.journal.splitlines()
+        for place, line in enumerate(lines):
+            garbled = [*lines[:place], line.upper(), *lines[place + 1 :]]
+            self.expect_audit_fault("\n".join(garbled), self.blocks, f"regchain: journal line {place + 1}\n")
 
     def test_a_step_of_no_block(self) -> None:
         """A journal in which bytes that are no block took a step differs, for no replay answers so."""
