@@ -8,7 +8,7 @@ from alone import Laid
 from edits import Batch, asked, lines_of
 
 # A proof that names what an edit took away is refused whatever the contract says.
-NAMES = re.compile(r"(has no field|is not in scope|has no `|was not admitted)")
+NAMES = re.compile(r"(has no field|is not in scope|has no `|was not admitted|: record `[^`]*` \(nearest: )")
 UNCOVERED = "does not cover"
 # What is said of a function without a proof by hand, one of whose goals isn't found.
 SEARCHED = "`search` did not prove"
