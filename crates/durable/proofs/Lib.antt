@@ -1,0 +1,6 @@
+mod Keeping
+mod Lives
+mod Opening
+mod Sound
+mod Torn
+mod Whole

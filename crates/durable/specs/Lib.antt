@@ -1,0 +1,4 @@
+pub mod Crash
+pub mod Keeping
+pub mod Lines
+pub mod Log
