@@ -1,11 +1,13 @@
 -- What is left of a file while its end is cut off.
 use Rattle.std.proofs.Common.{◌≡◌, ℕ, Bool, true, false, List, [], ◌∷◌, ◌++◌, length, take, drop, refl, sym, ◌∙◌, ap, subst, arith}
+use Rattle.std.proofs.lemmas.List.{append-nil}
 use mathlib.Core.List.{IsPrefix}
 use Rattle.durable.specs.declared.host.Asked.TheVariants.{Cut, Sync}
 use Rattle.durable.specs.Crash.{Event, File, Synced, Shortened, Leaves, cut, sync, file_after}
 use Rattle.durable.specs.Lines.{lines, AreWhole}
 use Rattle.durable.specs.Keeping.{Told, told, AreUpTo, Keeps, KeepsNow, KeepsBetween}
 use Rattle.durable.proofs.Whole.{lines_cut}
+use Rattle.durable.specs.Log.{opened}
 use Rattle.durable.proofs.Sound.{call}
 use Rattle.durable.proofs.Keeping.{file_next, told_same, started, goes_on}
 
@@ -49,3 +51,10 @@ module _ (bytes : List ℕ) (n : ℕ) (w : AreWhole false (take n bytes)) (none 
       pub synced_between : (history : List (List ℕ)) → KeepsNow history old → KeepsBetween history old new
       synced_between history now = goes_on history old mid new (call Sync ok []) (cut_between history now) second
           (λ left l. subst (Keeps history left) (sym sync_told) (keeps_synced_cut history (told old) done ok left (keeps_opened history now) (subst (λ (x : File). Leaves x left) sync_file l)))
+
+-- a file that has only been opened
+pub opened_now : (bytes : List ℕ) → KeepsNow (lines bytes) (opened bytes)
+opened_now bytes left is = record {
+  beginning = ([], append-nil (lines left) ∙ ap lines is);
+  has = (omega (arith, ap (λ (l : List ℕ). length (lines l)) is), tt);
+}

@@ -1,5 +1,6 @@
 -- What a log stands for.
-use Rattle.std.specs.Prelude.{◌≡◌, ℕ, ◌+◌, ◌<◌, false, List, [], ◌∷◌, ◌++◌, length, map}
+use Rattle.std.specs.Prelude.{◌≡◌, ℕ, ◌+◌, ◌<◌, true, false, List, [], ◌∷◌, ◌++◌, length, map}
+use Rattle.durable.specs.declared.host.Asked.TheVariants.{Open}
 use Rattle.durable.specs.Crash.{Event, File, Synced, Appended, Shortened, Unsaid, file_after}
 use Rattle.durable.specs.Lines.{lines, AreWhole}
 use Rattle.durable.specs.Keeping.{Told, told, AreUpTo, KeepsBetween}
@@ -25,6 +26,10 @@ pub record IsSound {H F : Type 0} (calls : H → List Event) (log : Log H F) : T
   pub durable_is : log.durable ≡ length (lines (on_disk (file_after (calls log.host))))
   pub count_is : log.count ≡ log.durable + length (lines log.pending.items)
   pub no_more : AreUpTo log.durable (told (calls log.host))
+
+-- the calls of a host that has only opened a file of these bytes
+abbrev pub opened : List ℕ → List Event
+opened bytes = (record { asked = Open; is_done = true }, bytes) ∷ []
 
 -- the answers, as they are told
 abbrev pub as_told : List Answer → List Told

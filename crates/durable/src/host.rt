@@ -30,7 +30,7 @@ pub struct Call {
 /// A file and those who are told of answers. A clause sees the calls so far, and `specs/Crash` says what they leave.
 pub trait Host {
     /// Why a call failed.
-    type Fault;
+    type Fault: Drop;
 
     /// The calls so far, each with the bytes that it was given.
     ghost calls: { Self → List Event };

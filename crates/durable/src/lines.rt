@@ -20,6 +20,7 @@ pub fn recover<H: Host>(host: &mut H, bytes: &[u8]) -> Result<Found, H::Fault>
     requires { file_after (H.calls host.old) ≡ Synced bytes.now }
 
     ensures count { IfOk result (λ found. found.count ≡ length (lines bytes.now)) }
+    ensures end { IfOk result (λ found. found.end ≤ length bytes.now) }
     ensures file { IfOk result (λ found.
         file_after (H.calls host.new) ≡ Synced (take found.end bytes.now)) }
     ensures whole { IfOk result (λ found. AreWhole false (take found.end bytes.now)) }

@@ -4,11 +4,12 @@ ghost use Rattle.std.specs.Prelude.{◌≡◌, ◌≤◌, ◌^◌, ◌-◌, ◌�
 ghost use Rattle.std.specs.Prelude.{if◌then◌else◌, false, length, take, drop, IfOk, OnOk, OnErr, IsErrOf};
 ghost use Rattle.durable.specs.Crash.{Synced, file_after};
 ghost use Rattle.durable.specs.Lines.{lines, AreWhole, IsLine};
-ghost use Rattle.durable.specs.Keeping.{told, AreUpTo, HasFailed};
-ghost use Rattle.durable.specs.Log.{on_disk, history, IsSound, KeepsThrough, as_told, heard, FirstWaits};
+ghost use Rattle.durable.specs.Keeping.{told, AreUpTo, KeepsBetween, HasFailed};
+ghost use Rattle.durable.specs.Log.{on_disk, history, IsSound, KeepsThrough, opened, as_told, heard, FirstWaits};
 ghost use Rattle.durable.specs.declared.log.AppendFault.TheVariants as faults;
 
 use crate::host::Host;
+use crate::lines::{Found, recover};
 use std::alloc::{AllocError, AllocFailed, Global};
 
 /// A log over a host: what is on the disk, and the lines that wait.
@@ -57,8 +58,26 @@ impl<T: Drop> From<AllocFailed<T>> for AppendFault {
 }
 
 impl<H: Host> Log<H> {
+    /// The log of a file that was opened with these bytes, and where its whole lines end. What follows them is cut off.
+    pub fn open(alloc: Global, host: H, bytes: &[u8]) -> Result<(Log<H>, u64), H::Fault>
+    where
+        H: Drop,
+        requires { H.calls host ≡ opened bytes.now }
+
+        ensures sound { IfOk result (λ r. IsSound H.calls r.0) }
+        ensures history { IfOk result (λ r. history H.calls r.0 ≡ lines bytes.now) }
+        ensures end { IfOk result (λ r. r.1 ≤ length bytes.now) }
+        ensures same { IfOk result (λ r. lines (take r.1 bytes.now) ≡ lines bytes.now) }
+        ensures any_moment { IfOk result (λ r.
+            KeepsBetween (lines bytes.now) (H.calls host) (H.calls r.0.host)) }
+    {
+        let mut host = host;
+        let Found { count, end } = recover(&mut host, bytes)?;
+        Ok((Log::new(alloc, host, count), end))
+    }
+
     /// The log of a file with whole lines alone, all of it on the disk: so many.
-    pub fn new(alloc: Global, host: H, count: u64) -> Log<H>
+    fn new(alloc: Global, host: H, count: u64) -> Log<H>
         requires synced { file_after (H.calls host) ≡ Synced (on_disk (file_after (H.calls host))) }
         requires whole { AreWhole false (on_disk (file_after (H.calls host))) }
         requires count { count ≡ length (lines (on_disk (file_after (H.calls host)))) }
