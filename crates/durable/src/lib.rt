@@ -2,11 +2,13 @@
 #![tactic(auto)]
 
 mod host;
+mod kept_log;
 mod laws;
 mod lines;
 mod log;
 
 pub use host::{Asked, Call, Host};
+pub use kept_log::{KeptLog, Lost};
 pub use laws::nothing_told_is_lost;
-pub use lines::{Found, first_line, recover};
+pub use lines::{Found, first_line, recover, whole_lines};
 pub use log::{Answer, AppendFault, Log};

@@ -3,7 +3,7 @@
 ghost use Rattle.std.specs.Prelude.{◌≡◌, ◌≤◌, ◌<◌, ◌+◌, ◌∷◌, [], ◌++◌, false, List, ℕ, length};
 ghost use Rattle.std.specs.Prelude.{take, drop, IfOk, OnErr, MatchOption};
 ghost use Rattle.durable.specs.Crash.{Synced, file_after};
-ghost use Rattle.durable.specs.Lines.{lines, AreWhole, IsLine};
+ghost use Rattle.durable.specs.Lines.{lines, AreWhole, IsEnd, IsLine};
 ghost use Rattle.durable.specs.Keeping.{told, KeepsNow, KeepsBetween, HasFailed};
 
 use crate::host::Host;
@@ -20,11 +20,9 @@ pub fn recover<H: Host>(host: &mut H, bytes: &[u8]) -> Result<Found, H::Fault>
     requires { file_after (H.calls host.old) ≡ Synced bytes.now }
 
     ensures count { IfOk result (λ found. found.count ≡ length (lines bytes.now)) }
-    ensures end { IfOk result (λ found. found.end ≤ length bytes.now) }
+    ensures end { IfOk result (λ found. IsEnd bytes.now found.end) }
     ensures file { IfOk result (λ found.
         file_after (H.calls host.new) ≡ Synced (take found.end bytes.now)) }
-    ensures whole { IfOk result (λ found. AreWhole false (take found.end bytes.now)) }
-    ensures same { IfOk result (λ found. lines (take found.end bytes.now) ≡ lines bytes.now) }
     ensures told { told (H.calls host.new) ≡ told (H.calls host.old) }
 
     // Whatever history the file keeps, a crash at any moment leaves what keeps it.
@@ -42,7 +40,7 @@ pub fn recover<H: Host>(host: &mut H, bytes: &[u8]) -> Result<Found, H::Fault>
 }
 
 /// The whole lines at the front of these bytes.
-pub(crate) fn whole_lines(bytes: &[u8]) -> Found
+pub fn whole_lines(bytes: &[u8]) -> Found
     ensures count { result.count ≡ length (lines bytes.now) }
     ensures end { result.end ≤ length bytes.now }
     ensures whole { AreWhole false (take result.end bytes.now) }

@@ -3,7 +3,7 @@
 ghost use Rattle.std.specs.Prelude.{◌≡◌, ◌≤◌, ◌^◌, ◌-◌, ◌↔◌, ◌++◌, ◌∷◌, [], IsTrue, Decides};
 ghost use Rattle.std.specs.Prelude.{if◌then◌else◌, false, length, take, drop, IfOk, OnOk, OnErr, IsErrOf};
 ghost use Rattle.durable.specs.Crash.{Synced, file_after};
-ghost use Rattle.durable.specs.Lines.{lines, AreWhole, IsLine};
+ghost use Rattle.durable.specs.Lines.{lines, AreWhole, IsEnd, IsLine};
 ghost use Rattle.durable.specs.Keeping.{told, AreUpTo, KeepsBetween, HasFailed};
 ghost use Rattle.durable.specs.Log.{on_disk, history, IsSound, KeepsThrough, opened, as_told, heard, FirstWaits};
 ghost use Rattle.durable.specs.declared.log.AppendFault.TheVariants as faults;
@@ -66,8 +66,7 @@ impl<H: Host> Log<H> {
 
         ensures sound { IfOk result (λ r. IsSound H.calls r.0) }
         ensures history { IfOk result (λ r. history H.calls r.0 ≡ lines bytes.now) }
-        ensures end { IfOk result (λ r. r.1 ≤ length bytes.now) }
-        ensures same { IfOk result (λ r. lines (take r.1 bytes.now) ≡ lines bytes.now) }
+        ensures end { IfOk result (λ r. IsEnd bytes.now r.1) }
         ensures any_moment { IfOk result (λ r.
             KeepsBetween (lines bytes.now) (H.calls host) (H.calls r.0.host)) }
     {

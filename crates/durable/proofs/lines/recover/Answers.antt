@@ -26,10 +26,10 @@ returns-in_err-sync-clause-any_moment g c =
     let f = c.whole_lines-found.ensures in
     synced_between c.args.bytes.now c.whole_lines-found.result.end f.whole f.rest (g.H.Host.calls c.args.host.now) (g.H.Host.calls c.cut.new.self) _ c.requires c.cut.ensures (g.H.Host.calls c.sync.new.self) _ c.sync.ensures
 
-pub returns-clause-same : goal.returns-clause-same
-returns-clause-same g c =
+pub returns-clause-end : goal.returns-clause-end
+returns-clause-end g c =
     let f = c.whole_lines-found.ensures in
-    lines_rest c.whole_lines-found.result.end c.args.bytes.now f.whole f.rest
+    (f.end, f.whole, lines_rest c.whole_lines-found.result.end c.args.bytes.now f.whole f.rest)
 
 pub returns-clause-told : goal.returns-clause-told
 returns-clause-told g c =

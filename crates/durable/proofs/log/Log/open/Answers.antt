@@ -1,4 +1,4 @@
-use Rattle.std.proofs.Common.{sym, subst, List, ℕ, ap}
+use Rattle.std.proofs.Common.{sym, subst, List, ap}
 use Rattle.durable.specs.Lines.{lines}
 use Rattle.durable.specs.Crash.{Event}
 use Rattle.durable.specs.Keeping.{KeepsNow, KeepsBetween}
