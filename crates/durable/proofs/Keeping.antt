@@ -51,9 +51,11 @@ module _ (history : List (List ℕ)) where
 
   -- two runs, one behind the other
   pub joined : (before mid now : List Event) → KeepsBetween history before mid → KeepsBetween history mid now → KeepsBetween history before now
-  joined before mid now one two =
-      (one.0 ++ two.0, two.1 ∙ ap (λ (l : List Event). l ++ two.0) one.1 ∙ append_assoc before one.0 two.0,
-       on_joined before one.0 two.0 one.2 (subst (λ (l : List Event). KeepsOn history l two.0) one.1 two.2))
+  joined before mid now one two = (
+    one.0 ++ two.0,
+    two.1 ∙ ap (λ (l : List Event). l ++ two.0) one.1 ∙ append_assoc before one.0 two.0,
+    on_joined before one.0 two.0 one.2 (subst (λ (l : List Event). KeepsOn history l two.0) one.1 two.2),
+  )
 
 module _ (history longer : List (List ℕ)) (begins : IsPrefix history longer) where
   now_longer : (events : List Event) → KeepsNow history events → KeepsNow longer events

@@ -48,7 +48,8 @@ grows file (life ∷ lives) are = longer (lines file) (lines life.left) (lines (
 
 pub has : (file : List ℕ) (lives : List Life) → AreLives file lives → AllAreUpTo (length (lines (left_by file lives))) lives
 has file [] are = tt
-has file (life ∷ lives) are =
-    (up_to_more (length (lines life.left)) (length (lines (left_by life.left lives))) (told life.calls)
-       (size (lines life.left) (lines (left_by life.left lives)) (grows life.left lives are.1)) (kept file life are.0).has,
-     has life.left lives are.1)
+has file (life ∷ lives) are = (
+  up_to_more (length (lines life.left)) (length (lines (left_by life.left lives))) (told life.calls)
+      (size (lines life.left) (lines (left_by life.left lives)) (grows life.left lives are.1)) (kept file life are.0).has,
+  has life.left lives are.1,
+)

@@ -22,7 +22,7 @@ after_sync : (f p : List ℕ) (stamps : List Told) (was ok : Bool) (left : List 
 after_sync f p stamps true true left w up is =
     let whole : lines (f ++ p) ≡ lines f ++ lines p = lines-append f p w in
     keeps_synced (lines f ++ lines p) [] (f ++ p) stamps left (sym whole ∙ sym (append-nil (lines (f ++ p))))
-      (up_to_more (length (lines f)) (length (lines (f ++ p))) stamps (omega (arith, ap length whole, length-append (lines f) (lines p))) up) is
+    (up_to_more (length (lines f)) (length (lines (f ++ p))) stamps (omega (arith, ap length whole, length-append (lines f) (lines p))) up) is
 after_sync f p stamps true false left w up is = keeps_torn f p stamps false left w up is
 after_sync f p stamps false true left w up is = keeps_torn f p stamps false left w up is
 after_sync f p stamps false false left w up is = keeps_torn f p stamps false left w up is
@@ -50,7 +50,7 @@ module _ {H F : Type 0} (calls : H → List Event) (log : Log H F) (s : IsSound 
   pub append_between : (now : List Event) (done : Bool) → now ≡ calls log.host ++ call Append done log.pending.items ∷ [] → KeepsBetween (history calls log) (calls log.host) now
   append_between now done is = goes_on (history calls log) (calls log.host) (calls log.host) now (call Append done log.pending.items) at_start is
       (λ left l. keeps_torn f log.pending.items (told now) done left s.whole (subst (AreUpTo (length (lines f))) (sym (appended_told now done is)) up)
-        (subst (λ (x : File). Leaves x left) (appended now done is) l))
+      (subst (λ (x : File). Leaves x left) (appended now done is) l))
 
   module _ (mid now : List Event) (done ok : Bool) (first : mid ≡ calls log.host ++ call Append done log.pending.items ∷ []) (second : now ≡ mid ++ call Sync ok [] ∷ []) where
     pub synced_file : file_after now ≡ sync (Appended f log.pending.items done) ok
@@ -62,7 +62,7 @@ module _ {H F : Type 0} (calls : H → List Event) (log : Log H F) (s : IsSound 
     pub sync_between : KeepsBetween (history calls log) (calls log.host) now
     sync_between = goes_on (history calls log) (calls log.host) mid now (call Sync ok []) (append_between mid done first) second
         (λ left l. after_sync f log.pending.items (told now) done ok left s.whole (subst (AreUpTo (length (lines f))) (sym synced_told) up)
-          (subst (λ (x : File). Leaves x left) synced_file l))
+        (subst (λ (x : File). Leaves x left) synced_file l))
 
   -- all that waited is on the disk
   module _ (new : Log H F) (mid : List Event) (first : mid ≡ calls log.host ++ call Append true log.pending.items ∷ []) (second : calls new.host ≡ mid ++ call Sync true [] ∷ [])
@@ -128,8 +128,8 @@ module _ {H F : Type 0} (calls : H → List Event) (log : Log H F) (s : IsSound 
     pub tell_between : KeepsBetween (history calls log) (calls log.host) (calls new.host)
     tell_between = goes_on (history calls log) (calls log.host) (calls log.host) (calls new.host) (call (Tell stamp) done line) at_start is
         (λ left l. keeps_synced (history calls log) (lines log.pending.items) f (told (calls new.host)) left refl
-          (subst (λ (n : ℕ). AreUpTo n (told (calls new.host))) s.durable_is up_now)
-          (subst (λ (x : File). Leaves x left) (same_file ∙ s.synced) l))
+        (subst (λ (n : ℕ). AreUpTo n (told (calls new.host))) s.durable_is up_now)
+        (subst (λ (x : File). Leaves x left) (same_file ∙ s.synced) l))
 
   -- a line more waits
   module _ (new : Log H F) (line : List ℕ) (is_line : IsLine line) (host : new.host ≡ log.host) (durable : new.durable ≡ log.durable) (count : new.count ≡ log.count + 1)

@@ -23,7 +23,7 @@ torn_begins line (b ∷ bytes) (n ∷ part) t = elim t.0 [
     | inl is ↦ none_begins (lines_on line (n ∷ part)) (lines_on line (b ∷ bytes)) (on_zero line n part (kept ∙ is))
     | inr some ↦ elim (cases_eq b 10) [
       | inl is ↦ (let p = torn_begins [] bytes part t.1 in
-        same_begins (line ∷ lines_on [] part) (lines_on line (n ∷ part)) (line ∷ lines_on [] bytes) (lines_on line (b ∷ bytes))
+          same_begins (line ∷ lines_on [] part) (lines_on line (n ∷ part)) (line ∷ lines_on [] bytes) (lines_on line (b ∷ bytes))
           (on_end line n part (kept ∙ is)) (on_end line b bytes is) (p.0, ap (λ (l : List (List ℕ)). line ∷ l) p.1))
       | inr open_still ↦ same_begins (lines_on (line ++ b ∷ []) part) (lines_on line (n ∷ part)) (lines_on (line ++ b ∷ []) bytes) (lines_on line (b ∷ bytes))
           (ap (λ (x : ℕ). lines_on line (x ∷ part)) kept ∙ on_other line b part some open_still) (on_other line b bytes some open_still)

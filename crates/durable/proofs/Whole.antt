@@ -21,11 +21,11 @@ on_whole : (begun : Bool) (line text more : List ℕ) → AreWhole begun text �
 on_whole begun line [] more w empty = ap (λ (l : List ℕ). lines_on l more) (empty w)
 on_whole begun line (b ∷ text) more w empty = elim (cases_eq b 10) [
   | inl is ↦ on_end line b (text ++ more) is
-    ∙ ap (λ (l : List (List ℕ)). line ∷ l) (on_whole (not (b == 10)) [] text more w.1 (λ n. refl))
-    ∙ ap (λ (l : List (List ℕ)). l ++ lines more) (sym (on_end line b text is))
+      ∙ ap (λ (l : List (List ℕ)). line ∷ l) (on_whole (not (b == 10)) [] text more w.1 (λ n. refl))
+      ∙ ap (λ (l : List (List ℕ)). l ++ lines more) (sym (on_end line b text is))
   | inr open_still ↦ on_other line b (text ++ more) w.0 open_still
-    ∙ on_whole (not (b == 10)) (line ++ b ∷ []) text more w.1 (λ n. absurd (begun_still b open_still n))
-    ∙ ap (λ (l : List (List ℕ)). l ++ lines more) (sym (on_other line b text w.0 open_still))
+      ∙ on_whole (not (b == 10)) (line ++ b ∷ []) text more w.1 (λ n. absurd (begun_still b open_still n))
+      ∙ ap (λ (l : List (List ℕ)). l ++ lines more) (sym (on_other line b text w.0 open_still))
 ]
 
 -- the lines of whole lines and of what follows them

@@ -35,16 +35,16 @@ pub returns-clause-told : goal.returns-clause-told
 returns-clause-told g c =
     let f = c.whole_lines-found.ensures in
     elim c.if-found-bytes.branch [
-    | then-found-bytes+in_ok-cut+in_ok-sync w ↦ ap (λ (h : _). told (g.H.Host.calls h)) w.host-is
-      ∙ sync_told c.args.bytes.now c.whole_lines-found.result.end f.whole f.rest (g.H.Host.calls c.args.host.now) (g.H.Host.calls w.cut.new.self) _ c.requires w.cut.ensures (g.H.Host.calls w.sync.new.self) _ w.sync.ensures
-    | else-found-bytes w ↦ ap (λ (h : _). told (g.H.Host.calls h)) w.host-is
+      | then-found-bytes+in_ok-cut+in_ok-sync w ↦ ap (λ (h : _). told (g.H.Host.calls h)) w.host-is
+          ∙ sync_told c.args.bytes.now c.whole_lines-found.result.end f.whole f.rest (g.H.Host.calls c.args.host.now) (g.H.Host.calls w.cut.new.self) _ c.requires w.cut.ensures (g.H.Host.calls w.sync.new.self) _ w.sync.ensures
+      | else-found-bytes w ↦ ap (λ (h : _). told (g.H.Host.calls h)) w.host-is
     ]
 
 pub returns-clause-any_moment : goal.returns-clause-any_moment
 returns-clause-any_moment g c history now =
     let f = c.whole_lines-found.ensures in
     elim c.if-found-bytes.branch [
-    | then-found-bytes+in_ok-cut+in_ok-sync w ↦ subst (λ (h : _). KeepsBetween history (g.H.Host.calls c.args.host.now) (g.H.Host.calls h)) (sym w.host-is)
-      (synced_between c.args.bytes.now c.whole_lines-found.result.end f.whole f.rest (g.H.Host.calls c.args.host.now) (g.H.Host.calls w.cut.new.self) _ c.requires w.cut.ensures (g.H.Host.calls w.sync.new.self) _ w.sync.ensures history now)
-    | else-found-bytes w ↦ subst (λ (h : _). KeepsBetween history (g.H.Host.calls c.args.host.now) (g.H.Host.calls h)) (sym w.host-is) (started history (g.H.Host.calls c.args.host.now) now)
+      | then-found-bytes+in_ok-cut+in_ok-sync w ↦ subst (λ (h : _). KeepsBetween history (g.H.Host.calls c.args.host.now) (g.H.Host.calls h)) (sym w.host-is)
+          (synced_between c.args.bytes.now c.whole_lines-found.result.end f.whole f.rest (g.H.Host.calls c.args.host.now) (g.H.Host.calls w.cut.new.self) _ c.requires w.cut.ensures (g.H.Host.calls w.sync.new.self) _ w.sync.ensures history now)
+      | else-found-bytes w ↦ subst (λ (h : _). KeepsBetween history (g.H.Host.calls c.args.host.now) (g.H.Host.calls h)) (sym w.host-is) (started history (g.H.Host.calls c.args.host.now) now)
     ]
