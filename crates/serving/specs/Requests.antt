@@ -12,6 +12,7 @@ use Rattle.txn.specs.declared.outpoint.OutPoint.{OutPoint}
 use Rattle.serving.specs.Answers.{id_json}
 use Rattle.serving.specs.declared.method.Method.{Method}
 use Rattle.serving.specs.declared.method.Method.TheVariants as method
+use Rattle.serving.specs.declared.refusal.Refusal.{Refusal}
 use Rattle.serving.specs.declared.refusal.Refusal.TheVariants as refusal
 use Rattle.serving.specs.declared.request.Call.{Call}
 use Rattle.serving.specs.declared.request.Call.TheVariants as call
@@ -19,6 +20,7 @@ use Rattle.serving.specs.declared.request.Asked.{Asked}
 use Rattle.serving.specs.declared.request.Asked.TheVariants as asked
 use Rattle.serving.specs.declared.request.Request.{Request}
 use Rattle.serving.specs.declared.request_id.RequestId.{RequestId}
+use Rattle.serving.specs.declared.request_id.RequestId.TheVariants as id
 
 -- the line is this value: RFC 8259
 abbrev pub IsJson : List ℕ → Json → Type 0
@@ -157,12 +159,16 @@ IsInTurn seats j asked.Finish = ⊤
 IsInTurn seats j (asked.Refused None why) = NamesNoSeat seats j
 IsInTurn seats j (asked.Refused (Some k) why) = IsSeat seats (codes "seat") (get (codes "params") j) k
 
+-- it is refused at once, under the id null
+abbrev pub IsRefused : Request → Refusal → Type 0
+IsRefused r why = (r.id ≡ id.Null) × (r.asked ≡ asked.Refused None why)
+
 -- what a value asks: it has this id and asks that; without an id it is no request
 abbrev pub IsReadOf : ℕ → Json → Request → Type 0
 IsReadOf seats j r = (HasId j r.id × IsAsked seats j r.asked × IsInTurn seats j r.asked)
-    ⊎ (((id : RequestId) → ¬ HasId j id) × (r.asked ≡ asked.Refused None refusal.Request))
+    ⊎ (((i : RequestId) → ¬ HasId j i) × IsRefused r refusal.Request)
 
 -- what a line asks, of a node with so many seats
 abbrev pub IsRead : ℕ → List ℕ → Request → Type 0
 IsRead seats line r = ((j : Json) × IsJson line j × IsReadOf seats j r)
-    ⊎ (((j : Json) → ¬ IsJson line j) × (r.asked ≡ asked.Refused None refusal.Parse))
+    ⊎ (((j : Json) → ¬ IsJson line j) × IsRefused r refusal.Parse)
