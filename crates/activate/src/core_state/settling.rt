@@ -120,7 +120,8 @@ impl Core {
             (AreWantedOnWay self.now.params self.now.state.blocks self.now.active place
             (S.known env.now))) }
     {
-        self.active_branch().try_block(alloc, base, place, env, gate)
+        self.active_branch()
+            .try_block(alloc, base, place, env, gate)
     }
 
     /// The active branch, with what is kept of it.

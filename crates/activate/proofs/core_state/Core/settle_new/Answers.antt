@@ -69,10 +69,13 @@ settled_by-requires g c =
     let b = c.args.submitted.now.block in
     let p = c.args.parent in
     let better : beats (with_block a.state b p) (suc (length a.state.blocks)) a.active ≡ true =
-    subst (λ (x : CoreState). beats (with_block x.state b p) (suc (length x.state.blocks)) x.active ≡ true) c.self.view_is (sym (c.would_be_better.ensures b) ∙ c.if-not-would_be_better.false) in
-    (regtest a.params triples, core_with_block a b p, subst (λ (q : ℕ). Rattle.activate.specs.inside.Preparation.IsTried (regtest a.params triples) (core_with_block a b p) q c.in_ok-attempt.attempt) (sym (c.len.ensures.count ∙ Rattle.std.proofs.Common.ap (λ (x : CoreState). suc (length x.state.blocks)) c.self.view_is))
-    (tried_new triples a (c.requires.follows triples agrees) c.requires.new.0 b p (c.requires.new.1 triples agrees) better c.in_ok-attempt.attempt
-    (subst (λ (x : CoreState). IsAttempt (regtest x.params triples) (record { block = b; parent = p } ∷ x.state.blocks) x.active (suc (length x.state.blocks)) c.in_ok-attempt.attempt) c.active_branch-active_branch.ensures.core (c.in_ok-attempt.ensures.attempt triples agrees))))
+    subst (λ (x : CoreState). beats (with_block x.state b p) (suc (length x.state.blocks)) x.active ≡ true) c.self.view_is (sym (c.would_be_better.ensures b) ∙ c.if-not-would_be_better.false) in (
+      regtest a.params triples,
+      core_with_block a b p,
+      subst (λ (q : ℕ). Rattle.activate.specs.inside.Preparation.IsTried (regtest a.params triples) (core_with_block a b p) q c.in_ok-attempt.attempt) (sym (c.len.ensures.count ∙ Rattle.std.proofs.Common.ap (λ (x : CoreState). suc (length x.state.blocks)) c.self.view_is))
+          (tried_new triples a (c.requires.follows triples agrees) c.requires.new.0 b p (c.requires.new.1 triples agrees) better c.in_ok-attempt.attempt
+          (subst (λ (x : CoreState). IsAttempt (regtest x.params triples) (record { block = b; parent = p } ∷ x.state.blocks) x.active (suc (length x.state.blocks)) c.in_ok-attempt.attempt) c.active_branch-active_branch.ensures.core (c.in_ok-attempt.ensures.attempt triples agrees))),
+    )
 
 pub returns-clause-settled : goal.returns-clause-settled
 returns-clause-settled g c triples agrees =

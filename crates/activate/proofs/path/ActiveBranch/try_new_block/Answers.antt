@@ -114,7 +114,7 @@ returns-in_ok-append-in-Ok-2-clause-attempt g c triples agrees =
     leads_new k t c.requires.parent b.active c.requires.active.kept b.params.now triples path w move refl refl up
     (valid_new r k t c.requires.parent (ap (branch_connects r t) (sym e) ∙ top.good) own)
     (c.in_ok-append-in-Ok-2.ensures ∙ undo_grown k t c.requires.parent b.active c.requires.active.kept path w ascent.undo.items c.in-Ok-2.spent top.spent
-      (done.spent ∙ ap (λ (h : ℕ). at_new h ascent.layer.coins) tall ∙ ap (at_new (height t p + 1)) coins))
+    (done.spent ∙ ap (λ (h : ℕ). at_new h ascent.layer.coins) tall ∙ ap (at_new (height t p + 1)) coins))
     c.in-Ok-2.layer.base c.in-Ok-2.layer.coins
     (ap (λ (l : Layer). l.base) left ∙ top.base_is ∙ c.requires.active.coins_are)
     (done.after ∙ ap (λ (h : ℕ). effect h ascent.layer.coins k.block.txs) tall ∙ ap (λ (m : Coins). effect (height t p + 1) m k.block.txs) coins)
