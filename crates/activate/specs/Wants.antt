@@ -54,4 +54,3 @@ AreWantedByStep c (command.Submit bytes now) known list =
 AreWantedByStep c (command.Invalidate id) known list = AreWantedBy c (Invalidate id) known list
 AreWantedByStep c (command.Reconsider id) known list = AreWantedBy c (Reconsider id) known list
 AreWantedByStep c (command.Precious id) known list = AreWantedBy c (Precious id) known list
-AreWantedByStep c (command.Learn triple valid) known list = ⊥

@@ -14,7 +14,6 @@ record_asked (command.Submit bytes now) = record_bytes bytes
 record_asked (command.Invalidate id) = []
 record_asked (command.Reconsider id) = []
 record_asked (command.Precious id) = []
-record_asked (command.Learn triple valid) = []
 
 -- the blk record of an entry
 abbrev pub record_of : Entry → List ℕ
@@ -26,7 +25,6 @@ is_long (command.Submit bytes now) = nat_lt limit (length bytes)
 is_long (command.Invalidate id) = false
 is_long (command.Reconsider id) = false
 is_long (command.Precious id) = false
-is_long (command.Learn triple valid) = false
 
 -- these blocks come in their records, from the front on, and then the file ends
 abbrev pub AreAll : List ℕ → List (List ℕ) → Type 0

@@ -67,8 +67,6 @@ fn read_step<'t>(number: usize, words: &[&'t str], reply: &str) -> Option<Step<'
         [_, client, "invalidate", id] => (*client, Asked::Invalidate, id),
         [_, client, "reconsider", id] => (*client, Asked::Reconsider, id),
         [_, client, "precious", id] => (*client, Asked::Precious, id),
-        [_, client, "valid", id] => (*client, Asked::Learn(true), id),
-        [_, client, "invalid", id] => (*client, Asked::Learn(false), id),
         _ => return None,
     };
     if !is_name(client) {

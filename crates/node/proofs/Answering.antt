@@ -26,5 +26,3 @@ answer_step p q (command.Reconsider id) at (reply.Submit value) s k w = absurd k
 answer_step p q (command.Reconsider id) at (reply.Mark value) s k w = w
 answer_step p q (command.Precious id) at (reply.Submit value) s k w = absurd k
 answer_step p q (command.Precious id) at (reply.Mark value) s k w = w
-answer_step p q (command.Learn triple valid) at (reply.Submit value) s k w = absurd k
-answer_step p q (command.Learn triple valid) at (reply.Mark value) s k w = w

@@ -3,9 +3,7 @@ pub mod Brought
 pub mod EarlyScripts
 pub mod Following
 pub mod Keeping
-pub mod Knowledge
 pub mod PublishedState
-pub mod Refused
 pub mod Seats
 pub mod SeenStep
 pub mod Writing

@@ -1,8 +1,6 @@
 //! Scripts that are run before the lock is taken.
 
-ghost use Rattle.std.specs.Prelude.{◌≡◌, IfOk, IfSome, Some};
-ghost use Rattle.std.specs.Arc.{arc_value};
-ghost use Rattle.std.specs.Option.{option_map};
+ghost use Rattle.std.specs.Prelude.{◌≡◌, IfOk, IfSome};
 ghost use Rattle.view.specs.ViewState.{IsExact};
 ghost use Rattle.txn.specs.Identity.{ids_of};
 ghost use Rattle.node.specs.inside.EarlyScripts.{AreEarly};
@@ -15,7 +13,6 @@ use curve::Table;
 use queue::{EarlyJobs, Gate, Verdicts, check_early};
 use rules::Params;
 use std::alloc::Global;
-use std::sync::Arc;
 use std::thread::Threads;
 use view::{Naming, View};
 use wire::Memory;
@@ -74,24 +71,21 @@ impl<'t, J: Naming> Seat<'t, J> {
         jobs
     }
 
-    /// The verdicts of those scripts under a table, if there is one. They are run when the view was left: a reader that stays inside
+    /// The verdicts of those scripts under a table. They are run when the view was left: a reader that stays inside
     /// holds up all publications.
     pub(crate) fn early_verdicts<'c, R: Threads + Sync>(
         &mut self,
         rt: &R,
         node: &Node<'_, J>,
         command: &'c PreparedCommand,
-        table: Option<&'c Arc<Table>>,
+        table: &'c Table,
     ) -> Result<Option<Verdicts<'c>>, Memory>
         ensures same { self.new ≡ self.old }
         ensures later { IsLater self.old self.new }
         ensures own { IsOwn self.new }
-        ensures table { let triples = option_map (λ t. arc_value t.now) table.entry in
-            IfOk result (λ early. IfSome early (λ verdicts. triples ≡ Some verdicts.triples)) }
+        ensures table { IfOk result (λ early.
+            IfSome early (λ verdicts. verdicts.triples ≡ table.entry.now)) }
     {
-        let Some(table) = table else {
-            return Ok(None);
-        };
         let Some(jobs) = self.early_jobs(node.alloc, command)? else {
             return Ok(None);
         };

@@ -8,9 +8,7 @@ ghost use Rattle.chain.specs.declared.command.Command.TheVariants as command;
 ghost use Rattle.chain.specs.declared.reply.Reply.{Reply};
 ghost use Rattle.chain.specs.declared.entry.Entry.{Entry};
 ghost use Rattle.chain.specs.History.{own_of};
-ghost use Rattle.curve.specs.Known.{Under};
-ghost use Rattle.curve.specs.Triple.{Triples};
-ghost use Rattle.view.specs.Origin.{Origin, known_in};
+ghost use Rattle.view.specs.Origin.{Origin};
 ghost use Rattle.view.specs.ViewState.{IsLegal};
 ghost use Rattle.node.specs.Pass.{Pass, IsStanding, opening_pass, opening_passes};
 ghost use Rattle.node.specs.Runs.{Call, Submit, Mark, GetTxOut, CoinsFrom, GetBestBlockHash};
@@ -51,21 +49,19 @@ fn is_sent<T: Send>() {}
 fn is_shared<T: Sync>() {}
 
 /// All calls of all seats are of one run of the chainstate: whatever the seats called, the legal list that `finish` gives
-/// explains what each was answered, under every set of valid signatures that agrees with it. So does any other legal list
-/// that begins with what a seat has seen.
+/// explains what each was answered. So does any other that begins with what a seat has seen.
 pub fn all_calls_are_of_one_run()
     // Each answer is the chainstate's at its place, and no seat goes back.
     ensures places { (o : Origin) (history : List Entry) (seat : ℕ) (calls : List Call) (p : Pass)
         → IsLegal o history → Makes (opening_pass o seat) calls p → IsPrefix p.seen history
-        → Under (known_in o history) (λ valid. ExplainsAll o history valid seat 0 calls) }
+        → ExplainsAll o history seat 0 calls }
     // Each step stands once, in its caller's order, an owed one too.
     ensures steps { (o : Origin) (history : List Entry) (seat : ℕ) (calls : List Call) (p : Pass)
         → Makes (opening_pass o seat) calls p → IsStanding history p
         → own_of seat history ≡ steps_of seat calls }
     // And no place has steps of two seats.
-    ensures apart { (o : Origin) (history : List Entry) (valid : Triples) (k l at : ℕ)
-        (c d : Command) (r s : Reply)
-        → IsStep o history valid k c at r → IsStep o history valid l d at s → k ≡ l }
+    ensures apart { (o : Origin) (history : List Entry) (k l at : ℕ) (c d : Command) (r s : Reply)
+        → IsStep o history k c at r → IsStep o history l d at s → k ≡ l }
 {}
 
 /// Each seat that `open` gives begins such a run.

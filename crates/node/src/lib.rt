@@ -16,9 +16,9 @@ mod seat;
 mod view_reads;
 mod writing;
 
-pub use answer::{Learning, Stamped, UnspentOutput};
+pub use answer::{Stamped, UnspentOutput};
 pub use chain::{Bytes, Command, Entry, MarkReply, Reply, SubmitReply};
-pub use curve::{KeptTriple, Table};
+pub use curve::Table;
 pub use fault::{EndFault, Fault, OpenFault};
 pub use naming::Opening;
 pub use node::{Node, NodeOf};

@@ -2,9 +2,7 @@
 
 ghost use Rattle.std.specs.Prelude.{◌≡◌, ℕ, ◌≤◌, [], true, Some, length, slice_get};
 ghost use Rattle.std.specs.Prelude.{IfOk, IfErr, OnOk};
-ghost use Rattle.std.specs.Arc.{arc_value};
-ghost use Rattle.std.specs.Option.{option_map};
-ghost use Rattle.view.specs.Origin.{origin_of};
+ghost use Rattle.view.specs.Origin.{origin};
 ghost use Rattle.view.specs.ViewState.{IsLegal};
 ghost use Rattle.node.specs.Pass.{Pass, IsStanding, opening_passes};
 ghost use Rattle.node.specs.Opening.{IsAllowedCount, IsOpenFault};
@@ -148,10 +146,7 @@ fn history_and_seats<'g, J: Naming>(
         counter,
         note,
     } = opening;
-    let shared = match table {
-        Some(table) => Some(Arc::try_clone(table)?),
-        None => None,
-    };
+    let shared = Arc::try_clone(table)?;
     let seen = note.copy();
     let Opened { history, readers } = open_history(alloc, params, shared, seats, counter, note)?;
     let list = seat_list(alloc, params, table, seats, tokens, &seen, readers)?;
@@ -162,7 +157,7 @@ fn history_and_seats<'g, J: Naming>(
 fn seat_list<'t, J: Naming>(
     alloc: Global,
     params: Params,
-    table: Option<&'t Arc<Table>>,
+    table: &'t Table,
     seats: usize,
     tokens: SeatTokens,
     note: &view::Note,
@@ -172,8 +167,7 @@ fn seat_list<'t, J: Naming>(
     requires first { tokens ≡ 0 }
     requires few { seats ≤ 16 }
     requires enough { length readers.items ≡ seats }
-    requires of { let triples = option_map (λ t. arc_value t.now) table in
-        origin_of note.now.book params triples seats ≡ J.origin }
+    requires of { origin note.now.book params table.now seats ≡ J.origin }
     ensures { IfOk result (λ list. list.items ≡ opening_passes J.origin seats) }
 {
     let mut readers = readers;

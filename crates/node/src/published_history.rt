@@ -1,53 +1,52 @@
 //! The history of a node of many seats, as it lies under the lock: the journal, the chainstate after it, and the
 //! writer that publishes both. The coins lie in what is published alone.
 
-ghost use Rattle.std.specs.Prelude.{◌≡◌, ◌≤◌, ◌∷◌, ◌++◌, [], true, false, IfOk, IfErr, OnErr, List, drop, length};
+ghost use Rattle.std.specs.Prelude.{◌≡◌, ◌<◌, ◌≤◌, ◌∷◌, ◌++◌, [], true, false, All, Some, None, IfOk, OnErr, List, drop, length};
 ghost use Rattle.std.specs.Arc.{arc_value};
 ghost use Rattle.chain.specs.declared.entry.Entry.{Entry as EntryValue};
 ghost use Rattle.chain.specs.Prepared.{command_of};
-ghost use Rattle.chain.specs.Learnt.{IsNews};
+ghost use Rattle.activate.specs.CoreState.{Follows, opened_core};
 ghost use Rattle.view.specs.Beginning.{count_of};
-ghost use Rattle.view.specs.Origin.{known_in};
 ghost use Rattle.view.specs.ViewState.{IsLegal};
 ghost use Rattle.node.specs.inside.Keeping.{is_step};
-ghost use Rattle.node.specs.inside.Knowledge.{AreByTable};
-ghost use Rattle.node.specs.inside.PublishedState.{IsLockedAt, IsStepAnswer, IsTaken, Shows, opening_state, entry_with_reply};
-ghost use Rattle.node.specs.inside.Refused.{IsWantAfter};
+ghost use Rattle.node.specs.inside.PublishedState.{IsStepAnswer, IsTaken, Shows, opening_state, entry_with_reply};
 
 mod attempt;
 mod bringing;
-mod core_info;
-mod knowledge;
-mod locked_chain;
 mod opening;
-mod refusal;
+mod view_step;
 mod writer_home;
 
 use crate::naming::SeatToken;
 use crate::published_history::attempt::{Attempt, attempt_to_publish};
 use crate::published_history::bringing::{Brought, what_is_brought};
-use crate::published_history::locked_chain::LockedChain;
-pub(crate) use crate::published_history::locked_chain::Crews;
 pub(crate) use crate::published_history::opening::{Opened, open_history};
-pub(crate) use crate::published_history::refusal::Refusal;
+pub(crate) use crate::published_history::view_step::Refusal;
+use crate::published_history::view_step::step_by_reader;
 use crate::published_history::writer_home::WriterHome;
+use crate::reader_home::ReaderHome;
+use activate::Core;
 use chain::{Entry, PreparedCommand, Reply, SubmitReply};
 use coins::Changes;
-use curve::{KeptTriple, KnownSignatures, Table};
-use queue::{Crew, Gate};
+use connect::Env;
+use curve::Table;
+use queue::{Crew, Gate, Verdicts};
 use std::alloc::Global;
 use std::marker::{Model, PhantomData};
 use std::mem::replace;
 use std::sync::atomic::Ordering;
 use std::sync::{Arc, Wait};
-use view::{Hub, Naming, Note, Publication, reserve_one};
+use view::{Hub, Naming, Note, Publication, ViewReader, reserve_one};
 
 /// The history, with the chainstate after it but its coins. A step is owed that is taken and not yet published.
 #[derive(Drop)]
 pub(crate) struct PublishedHistory<J: Naming> {
     alloc: Global,
-    chain: LockedChain<J>,
+    table: Arc<Table>,
+    core: Core,
     hub: Arc<Hub>,
+    /// The history that is published.
+    note: Note,
     /// The whole history: a step that is owed is its last entry, without its reply.
     journal: Vec<Entry>,
     owed: bool,
@@ -56,6 +55,7 @@ pub(crate) struct PublishedHistory<J: Naming> {
     changes: Changes,
     /// None once what is published has no note: nothing more is published then.
     home: Option<WriterHome<J>>,
+    reader: ReaderHome<J>,
     of: PhantomData<J>,
 }
 
@@ -66,7 +66,6 @@ impl<J: Naming> Model for PublishedHistory<J> {
     ghost use Rattle.std.specs.Prelude.{◌≡◌, true, IfSome, drop};
     ghost use Rattle.std.specs.Arc.{arc_value};
     ghost use Rattle.view.specs.Beginning.{count_of};
-    ghost use Rattle.node.specs.inside.Knowledge.{IsKnowledge};
     ghost use Rattle.node.specs.inside.PublishedState.{PublishedState, IsCoreOf, IsJournal, Shows, AreDue};
 
     ghost Value = { PublishedState };
@@ -76,16 +75,16 @@ impl<J: Naming> Model for PublishedHistory<J> {
     ghost view = { λ s. record { origin = J.origin; journal = s.journal.items; owed = s.owed } };
 
     ghost invariant = { λ s. let o = J.origin in
-        IsCoreOf o s.chain.core s.journal.items
+        IsCoreOf o s.core s.journal.items
         × ((arc_value s.hub).counter ≡ count_of o.book)
-        × IsJournal s.owed s.chain.note.entries s.journal.items
-        × (s.chain.reader ≡ true)
+        × IsJournal s.owed s.note.entries s.journal.items
+        × (s.reader ≡ true)
         × IfSome s.home (λ h. let x = h.writer.desk.shown.value in
         let pending = drop h.writer.behind h.writer.log.items in
-        Shows x o s.chain.note.entries
+        Shows x o s.note.entries
         × AreDue s.owed s.is_new x pending s.journal.items s.changes)
-        × (s.chain.note.book ≡ o.book)
-        × IsKnowledge o s.chain.known s.journal.items };
+        × (s.note.book ≡ o.book)
+        × (arc_value s.table ≡ o.triples) };
 }
 
 /// Whether it is the reply to what takes a step.
@@ -113,26 +112,34 @@ impl<J: Naming> PublishedHistory<J> {
     /// No step was taken yet.
     pub(crate) fn new(
         alloc: Global,
-        chain: LockedChain<J>,
+        table: Arc<Table>,
+        core: Core,
         hub: Arc<Hub>,
+        note: Note,
         home: WriterHome<J>,
+        reader: ViewReader<J>,
     ) -> PublishedHistory<J>
-        requires chain { IsLockedAt J.origin chain.core chain.known chain.note × (chain.reader ≡ true) }
+        requires core { (core ≡ opened_core J.origin.params) × Follows core J.origin.triples }
         requires hub { (arc_value hub).counter ≡ count_of J.origin.book }
-        requires empty { chain.note.entries ≡ [] }
+        requires empty { note.entries ≡ [] }
+        requires book { note.book ≡ J.origin.book }
+        requires table { arc_value table ≡ J.origin.triples }
         requires shown { Shows home.writer.desk.shown.value J.origin [] }
         requires pending { drop home.writer.behind home.writer.log.items ≡ [] }
         ensures { result ≡ opening_state J.origin }
     {
         PublishedHistory {
             alloc,
-            chain,
+            table,
+            core,
             hub,
+            note,
             journal: Vec::new(alloc),
             owed: false,
             is_new: false,
             changes: Changes::new(alloc),
             home: Some(home),
+            reader: ReaderHome::of(reader),
             of: PhantomData,
         }
     }
@@ -171,40 +178,24 @@ impl<J: Naming> PublishedHistory<J> {
         self.journal.as_slice()
     }
 
-    /// The history that is published.
-    pub(crate) fn note(&self) -> Note
-        ensures entries { self.now.owed ≡ false → result.entries ≡ self.now.journal }
-        ensures book { result.book ≡ J.origin.book }
-        ensures legal { self.now.owed ≡ false → IsLegal J.origin result.entries }
-    {
-        self.chain.note.copy()
-    }
-
-    /// Whether a signature is valid, where that is known.
-    pub(crate) fn find(&self, triple: &KeptTriple) -> Option<bool>
-        ensures { result ≡ known_in J.origin self.now.journal triple.now }
-    {
-        self.chain.known.find(triple)
-    }
-
     /// Takes a step, which is owed then. Bytes that are no block take none.
-    fn take_step<A: Crew<Table>, B: Crew<KnownSignatures>>(
+    #[tactic(auto, using(connect::specs::laws::AtTable::tables_early))]
+    fn take_step<C: Crew<Table>>(
         &mut self,
         token: &SeatToken<J>,
         command: &PreparedCommand,
-        crews: &Crews<'_, A, B>,
+        workers: usize,
+        early: &[Verdicts<'_>],
+        crew: &C,
         gate: &(dyn Gate + Sync),
     ) -> Result<Reply, Refusal>
         requires shown { self.old.owed ≡ false }
-        requires ready { A.is_ready crews.now.by_table.now × B.is_ready crews.now.by_need.now }
-        requires workers { (1 ≤ crews.now.workers) × (crews.now.workers ≤ 16) }
-        requires early { AreByTable J.origin crews.now.early.now }
-        requires news { IsNews (known_in J.origin self.old.journal) (command_of command.now) }
+        requires ready { C.is_ready crew.now }
+        requires workers { (1 ≤ workers) × (workers ≤ 16) }
+        requires same_table { All (λ v. v.triples ≡ J.origin.triples) early.now }
         ensures takes { let c = command_of command.now in
             IfOk result (λ reply. IsTaken self.old self.new token.now c reply) }
         ensures err { OnErr result (self.new ≡ self.old) }
-        ensures wants { let c = command_of command.now in
-            IfErr result (IsWantAfter J.origin self.old.journal c) }
     {
         if reserve_one(&mut self.journal).is_err() {
             return Err(Refusal::Memory);
@@ -212,7 +203,21 @@ impl<J: Naming> PublishedHistory<J> {
         let Ok(asked) = command.command() else {
             return Err(Refusal::Memory);
         };
-        let (reply, changes) = self.chain.step(self.alloc, command, crews, gate)?;
+        let env = Env {
+            signatures: &*self.table,
+            workers,
+            early,
+            crew,
+        };
+        let (reply, changes) = step_by_reader(
+            self.alloc,
+            &mut self.reader,
+            &self.note,
+            &mut self.core,
+            command,
+            &env,
+            gate,
+        )?;
         if !is_step(&reply) {
             return Ok(reply);
         }
@@ -242,7 +247,7 @@ impl<J: Naming> PublishedHistory<J> {
         let entries = self.journal.as_slice();
         let Some(brought) = what_is_brought(
             self.alloc,
-            &self.chain.core,
+            &self.core,
             &self.hub,
             entries,
             self.is_new,
@@ -257,7 +262,7 @@ impl<J: Naming> PublishedHistory<J> {
         let writer = found.into_writer();
         let publication = Publication {
             hub,
-            before: self.chain.note.copy(),
+            before: self.note.copy(),
             entry,
             is_new: self.is_new,
             changes: replace(&mut self.changes, Changes::new(self.alloc)),
@@ -276,7 +281,7 @@ impl<J: Naming> PublishedHistory<J> {
             changes: rest,
         } = attempt_to_publish(rt, self.alloc, writer, publication);
         self.home = left;
-        self.chain.note = seen;
+        self.note = seen;
         self.owed = still;
         self.is_new = new;
         self.changes = rest;
@@ -300,26 +305,25 @@ impl<J: Naming> PublishedHistory<J> {
 
     /// Takes a step over the coins that are published, and publishes it. Without an answer it is owed. Bytes that are
     /// no block take none.
-    pub(crate) fn step<R: Wait, A: Crew<Table>, B: Crew<KnownSignatures>>(
+    pub(crate) fn step<R: Wait, C: Crew<Table>>(
         &mut self,
         rt: &R,
         token: &SeatToken<J>,
         command: &PreparedCommand,
-        crews: &Crews<'_, A, B>,
+        workers: usize,
+        early: &[Verdicts<'_>],
+        crew: &C,
         gate: &(dyn Gate + Sync),
     ) -> Result<Option<Reply>, Refusal>
         requires shown { self.old.owed ≡ false }
-        requires ready { A.is_ready crews.now.by_table.now × B.is_ready crews.now.by_need.now }
-        requires workers { (1 ≤ crews.now.workers) × (crews.now.workers ≤ 16) }
-        requires early { AreByTable J.origin crews.now.early.now }
-        requires news { IsNews (known_in J.origin self.old.journal) (command_of command.now) }
+        requires ready { C.is_ready crew.now }
+        requires workers { (1 ≤ workers) × (workers ≤ 16) }
+        requires same_table { All (λ v. v.triples ≡ J.origin.triples) early.now }
         ensures step { let c = command_of command.now in
             IfOk result (λ answer. IsStepAnswer self.old self.new token.now c answer) }
         ensures err { OnErr result (self.new ≡ self.old) }
-        ensures wants { let c = command_of command.now in
-            IfErr result (IsWantAfter J.origin self.old.journal c) }
     {
-        let reply = self.take_step(token, command, crews, gate)?;
+        let reply = self.take_step(token, command, workers, early, crew, gate)?;
         if !is_step(&reply) || self.publish_owed(rt, Some(reply)) {
             return Ok(Some(reply));
         }

@@ -2,10 +2,9 @@
 
 ghost use Rattle.std.specs.Prelude.{◌≡◌, IfOk, IfErr, take, drop};
 ghost use Rattle.std.specs.Option.{option_copied};
-ghost use Rattle.curve.specs.Known.{Under};
-ghost use Rattle.view.specs.Origin.{known_in};
+ghost use Rattle.view.specs.Origin.{machine};
 ghost use Rattle.view.specs.ViewState.{IsExact, state_after};
-ghost use Rattle.node.specs.Told.{AreNext, best_in, coins_in, output_at, shown_tips};
+ghost use Rattle.node.specs.Told.{AreNext, coins_in, output_at, shown_tips};
 
 use crate::answer::{Stamped, UnspentOutput};
 use crate::fault::Fault;
@@ -23,9 +22,8 @@ use wire::Memory;
 /// The output at an outpoint of a view, if it isn't spent.
 fn output(alloc: Global, view: &View, outpoint: &OutPoint) -> Result<Option<UnspentOutput>, Memory>
     requires { IsExact view.now }
-    ensures { let o = view.now.origin in let es = view.now.journal in
-        IfOk result (λ found. Under (known_in o es) (λ valid.
-        found ≡ output_at o outpoint.now valid (state_after o valid es))) }
+    ensures { let o = view.now.origin in let s = state_after o view.now.journal in
+        IfOk result (λ found. found ≡ output_at o outpoint.now s) }
 {
     match view.unspent(outpoint) {
         Some((coin, confirmations)) => Ok(Some(UnspentOutput::of(alloc, coin, confirmations)?)),
@@ -62,9 +60,8 @@ fn coins_above(
     most: usize,
 ) -> Result<Vec<(OutPoint, Coin)>, Memory>
     requires { IsExact view.now }
-    ensures { let o = view.now.origin in let es = view.now.journal in
-        IfOk result (λ list. Under (known_in o es) (λ valid.
-        AreNext (coins_in o valid (state_after o valid es)) (option_copied above.entry) most list.items)) }
+    ensures { let o = view.now.origin in let coins = coins_in o (state_after o view.now.journal) in
+        IfOk result (λ list. AreNext coins (option_copied above.entry) most list.items) }
 {
     next_coins(alloc, view.coins(), above, most)
 }
@@ -72,9 +69,8 @@ fn coins_above(
 /// The tips of a view.
 fn tips(alloc: Global, view: &View) -> Result<Vec<Tip>, Memory>
     requires { IsExact view.now }
-    ensures { let o = view.now.origin in let es = view.now.journal in
-        IfOk result (λ list. Under (known_in o es) (λ valid.
-        list.items ≡ shown_tips o valid (state_after o valid es))) }
+    ensures { let o = view.now.origin in let s = state_after o view.now.journal in
+        IfOk result (λ list. list.items ≡ shown_tips o s) }
 {
     Ok(Vec::from_slice(alloc, view.tips())?)
 }
@@ -161,8 +157,8 @@ impl<'t, J: Naming> Seat<'t, J> {
     /// Seat and node are of one [`Node::open`](crate::Node::open).
     pub fn getbestblockhash(&mut self, _node: &Node<'_, J>) -> Result<Stamped<Id>, Fault>
         ensures later { IsLater self.old self.new }
-        ensures answer { let best = best_in self.old.origin in
-            IfOk result (λ r. IsRead self.old self.new best r.at r.value) }
+        ensures answer { let m = machine self.old.origin in
+            IfOk result (λ r. IsRead self.old self.new m.best r.at r.value) }
         ensures own { IsOwn self.new }
         ensures fault { IfErr result (λ fault. IsClosedFault self.old self.new fault) }
     {

@@ -1,32 +1,23 @@
 //! A seat's writing calls. Each takes its step under the lock, and sees it published.
 
-ghost use Rattle.std.specs.Prelude.{◌≡◌, ◌<◌, true, false, length, IfOk, IfErr, IfSome, OnOk, OnErr};
-ghost use Rattle.std.specs.Prelude.{Some, vec_capacity, vec_len};
-ghost use Rattle.curve.specs.Known.{Known};
-ghost use Rattle.chain.specs.Learnt.{IsNews};
+ghost use Rattle.std.specs.Prelude.{◌≡◌, ◌<◌, true, false, IfOk, IfErr, IfSome, OnOk, OnErr};
+ghost use Rattle.std.specs.Prelude.{vec_capacity, vec_len};
 ghost use Rattle.chain.specs.Prepared.{command_of};
-ghost use Rattle.chain.specs.declared.command.Command.{Command as CommandValue};
 ghost use Rattle.chain.specs.declared.command.Command.TheVariants as command;
-ghost use Rattle.view.specs.Origin.{known_in};
 ghost use Rattle.chain.specs.declared.reply.Reply.TheVariants as reply;
 ghost use Rattle.node.specs.inside.Keeping.{IsUndecodable};
 ghost use Rattle.node.specs.inside.PublishedState.{IsStepAnswer};
-ghost use Rattle.node.specs.inside.Refused.{IsWantAfter};
 ghost use Rattle.node.specs.inside.SeenStep.{IsStepSeen};
-ghost use Rattle.node.specs.declared.fault.Fault.TheVariants as faults;
 
-use crate::answer::{Learning, Stamped};
+use crate::answer::Stamped;
 use crate::fault::Fault;
 use crate::naming::SeatToken;
 use crate::node::Node;
-use crate::published_history::{Crews, PublishedHistory, Refusal};
+use crate::published_history::{PublishedHistory, Refusal};
 use crate::reader_home::ReaderHome;
 use crate::seat::Seat;
 use crate::view_reads::{look_after, look_before};
-use chain::{
-    Bytes, Command, MarkReply, PreparedCommand, Reply, SharedTriple, Submission, SubmitReply,
-};
-use curve::KeptTriple;
+use chain::{Bytes, Command, MarkReply, PreparedCommand, Reply, Submission, SubmitReply};
 use hash::Id;
 use queue::{Threaded, Verdicts};
 use std::sync::Wait;
@@ -55,36 +46,16 @@ fn step_under_lock<J: Naming, R: Threads + Wait + Sync>(
     early: Option<Verdicts<'_>>,
 ) -> Result<Option<Reply>, Refusal>
     requires shown { history.old.owed ≡ false }
-    requires table { IfSome early (λ v. J.origin.table ≡ Some v.triples) }
-    requires news { IsNews (known_in J.origin history.old.journal) (command_of command.now) }
+    requires table { IfSome early (λ v. v.triples ≡ J.origin.triples) }
     ensures step { let c = command_of command.now in
         IfOk result (λ answer. IsStepAnswer history.old history.new token.now c answer) }
     ensures err { OnErr result (history.new ≡ history.old) }
-    ensures wants { let c = command_of command.now in
-        IfErr result (IsWantAfter J.origin history.old.journal c) }
 {
-    let (by_table, by_need) = (&Threaded { rt }, &Threaded { rt });
+    let crew = Threaded { rt };
     let (workers, gate) = (node.workers, node.gate);
     match early {
-        Some(verdicts) => {
-            let early = &[verdicts];
-            let crews = Crews {
-                workers,
-                early,
-                by_table,
-                by_need,
-            };
-            history.step(rt, token, command, &crews, gate)
-        }
-        None => {
-            let crews = Crews {
-                workers,
-                early: &[],
-                by_table,
-                by_need,
-            };
-            history.step(rt, token, command, &crews, gate)
-        }
+        Some(verdicts) => history.step(rt, token, command, workers, &[verdicts], &crew, gate),
+        None => history.step(rt, token, command, workers, &[], &crew, gate),
     }
 }
 
@@ -129,14 +100,11 @@ fn step_and_look<J: Naming, R: Threads + Wait + Sync>(
     requires book { IfSome before (λ b. b.book ≡ J.origin.book) }
     requires asked { asked.now ≡ command_of command.now }
     requires decodable { IsUndecodable (command_of command.now) → ⊥ }
-    requires table { IfSome early (λ v. J.origin.table ≡ Some v.triples) }
-    requires news { IsNews (known_in J.origin history.old.journal) (command_of command.now) }
+    requires table { IfSome early (λ v. v.triples ≡ J.origin.triples) }
     ensures home { home.new ≡ home.old }
     ensures seen { let c = command_of command.now in
         IfOk result (IsStepSeen J.origin before history.old history.new token.now c) }
     ensures err { OnErr result (history.new ≡ history.old) }
-    ensures wants { let c = command_of command.now in
-        IfErr result (IsWantAfter J.origin history.old.journal c) }
 {
     let Some(before) = before else {
         return Err(Refusal::Closed);
@@ -151,7 +119,7 @@ fn step_and_look<J: Naming, R: Threads + Wait + Sync>(
 }
 
 impl<'t, J: Naming> Seat<'t, J> {
-    ghost use Rattle.node.specs.Calls.{IsLearnAnswer, IsSubmitAnswer, IsWriteFault};
+    ghost use Rattle.node.specs.Calls.{IsSubmitAnswer, IsWriteFault};
     ghost use Rattle.node.specs.Pass.{IsLater, IsOwn, IsWrite};
     ghost use Rattle.node.specs.inside.Writing.{IsWriteAnswer, IsLeftBy, IsMark};
 
@@ -238,109 +206,6 @@ impl<'t, J: Naming> Seat<'t, J> {
         self.mark(rt, node, &PreparedCommand::Precious(id))
     }
 
-    /// Takes down whether a signature is valid: its key, the signature without its hash type, and the digest. So scripts that
-    /// want it find it known, in calls of any seat. A verdict that was known already, and one that contradicts what is known,
-    /// takes no step.
-    ///
-    /// Nobody checks it: the history is legal under every set of valid signatures that has it. Seat and node are of one
-    /// [`Node::open`](crate::Node::open).
-    pub fn learn<R: Threads + Wait + Sync>(
-        &mut self,
-        rt: &R,
-        node: &Node<'_, J>,
-        triple: &KeptTriple,
-        valid: bool,
-    ) -> Result<Stamped<Learning>, Fault>
-        ensures later { IsLater self.old self.new }
-        ensures answer { let IsAnswer = IsLearnAnswer self.old self.new triple.now valid in
-            IfOk result (λ r. IsAnswer r.at r.value) }
-        ensures own { IsOwn self.new }
-        ensures fault { let asked = command.Learn triple.now valid in
-            IfErr result (IsWriteFault self.old self.new asked) }
-    {
-        let triple = SharedTriple::of(node.alloc, triple)?;
-        let mut history = node.history.lock(rt);
-        self.learn_under_lock(rt, node, &mut history, &triple, valid)
-    }
-
-    /// The same, under the lock.
-    #[tactic(auto, using(crate::proofs::Owning::own_begins))]
-    fn learn_under_lock<R: Threads + Wait + Sync>(
-        &mut self,
-        rt: &R,
-        node: &Node<'_, J>,
-        history: &mut PublishedHistory<J>,
-        triple: &SharedTriple,
-        valid: bool,
-    ) -> Result<Stamped<Learning>, Fault>
-        ensures later { IsLater self.old self.new }
-        ensures answer { let IsAnswer = IsLearnAnswer self.old self.new triple.now valid in
-            IfOk result (λ r. IsAnswer r.at r.value) }
-        ensures own { IsOwn self.new }
-        ensures fault { let asked = command.Learn triple.now valid in
-            IfErr result (IsWriteFault self.old self.new asked) }
-    {
-        if !history.settle(rt) {
-            return Err(Fault::Memory);
-        }
-        if let Some(known) = history.find(triple.triple()) {
-            let at = self.see_all(history)?;
-            let value = if known == valid {
-                Learning::Known
-            } else {
-                Learning::Contradicted
-            };
-            return Ok(Stamped { at, value });
-        }
-        let command = PreparedCommand::Learn(triple.copy()?, valid);
-        let Stamped { at, .. } = self.write_under_lock(rt, node, history, &command, None)?;
-        Ok(Stamped {
-            at,
-            value: Learning::New,
-        })
-    }
-
-    /// Has seen all that there is: how many entries that is.
-    #[tactic(auto, using(crate::proofs::Owning::own_begins))]
-    fn see_all(&mut self, history: &PublishedHistory<J>) -> Result<u64, Fault>
-        requires shown { history.now.owed ≡ false }
-        ensures later { IsLater self.old self.new }
-        ensures mine { self.new.mine ≡ self.old.mine }
-        ensures own { IsOwn self.new }
-        ensures seen { IfOk result (λ at.
-            (self.new.seen ≡ history.now.journal) × (at ≡ length self.new.seen)) }
-        ensures fault { let asked = self.old in
-            IfErr result (λ fault. (fault ≡ faults.Closed) × (self.new ≡ asked)) }
-    {
-        let all = history.note();
-        if !self.seen.begins(&all) {
-            return Err(Fault::Closed);
-        }
-        Ok(self.see(all))
-    }
-
-    /// Why a write has no answer. Where signatures are wanted the seat has then seen all that there is.
-    #[tactic(auto, using(crate::proofs::Owning::own_begins))]
-    fn refused(&mut self, history: &PublishedHistory<J>, refusal: Refusal) -> Fault
-        requires shown { history.now.owed ≡ false }
-        ensures later { IsLater self.old self.new }
-        ensures own { IsOwn self.new }
-        ensures fault { (c : CommandValue) → IsWantAfter J.origin history.now.journal c refusal
-            → IsWriteFault self.old self.new c result }
-    {
-        match refusal {
-            Refusal::Memory => Fault::Memory,
-            Refusal::Closed => Fault::Closed,
-            Refusal::Unknown(wants) => match self.see_all(history) {
-                Ok(_) => {
-                    self.wants = wants;
-                    Fault::Unknown
-                }
-                Err(fault) => fault,
-            },
-        }
-    }
-
     /// Takes the step of a mark or a preference, and sees it.
     fn mark<R: Threads + Wait + Sync>(
         &mut self,
@@ -371,8 +236,7 @@ impl<'t, J: Naming> Seat<'t, J> {
         command: &PreparedCommand,
         early: Option<Verdicts<'_>>,
     ) -> Result<Stamped<Reply>, Fault>
-        requires table { IfSome early (λ v. J.origin.table ≡ Some v.triples) }
-        requires ordinary { (known : Known) → IsNews known (command_of command.now) }
+        requires table { IfSome early (λ v. v.triples ≡ J.origin.triples) }
         ensures later { IsLater self.old self.new }
         ensures answer { let IsAnswer = IsWriteAnswer self.old self.new (command_of command.now) in
             IfOk result (λ r. IsAnswer r.at r.value) }
@@ -394,8 +258,7 @@ impl<'t, J: Naming> Seat<'t, J> {
         command: &PreparedCommand,
         early: Option<Verdicts<'_>>,
     ) -> Result<Stamped<Reply>, Fault>
-        requires table { IfSome early (λ v. J.origin.table ≡ Some v.triples) }
-        requires news { IsNews (known_in J.origin history.old.journal) (command_of command.now) }
+        requires table { IfSome early (λ v. v.triples ≡ J.origin.triples) }
         ensures later { IsLater self.old self.new }
         ensures answer { let IsAnswer = IsWriteAnswer self.old self.new (command_of command.now) in
             IfOk result (λ r. IsAnswer r.at r.value) }
@@ -417,21 +280,17 @@ impl<'t, J: Naming> Seat<'t, J> {
         let (seen, place, owed) = (&self.seen, self.answered, self.owed.as_slice());
         let before = look_before(&mut self.reader, seen, len, number, place, owed);
         let (token, home) = (&self.token, &mut self.reader);
-        match step_and_look(
+        let Some((seen, reply)) = step_and_look(
             rt, node, history, token, home, before, command, &asked, early,
-        ) {
-            Ok(Some((seen, reply))) => {
-                let at = seen.len();
-                self.seen = seen;
-                self.answered = at;
-                self.owed.clear();
-                Ok(Stamped { at, value: reply })
-            }
-            Ok(None) => {
-                self.owed.push_reserved(asked);
-                Err(Fault::Owed)
-            }
-            Err(refusal) => Err(self.refused(history, refusal)),
-        }
+        )?
+        else {
+            self.owed.push_reserved(asked);
+            return Err(Fault::Owed);
+        };
+        let at = seen.len();
+        self.seen = seen;
+        self.answered = at;
+        self.owed.clear();
+        Ok(Stamped { at, value: reply })
     }
 }

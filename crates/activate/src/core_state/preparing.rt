@@ -22,7 +22,7 @@ use crate::block_faults::fault_or_parent;
 use crate::core_state::Core;
 use crate::prepared::{Completion, Prepared, TreeChange};
 use block::{Bytes, StoredBlock};
-use chain::{MarkReply, PreparedCommand, Reply, SubmitReply, SubmittedBlock};
+use chain::{PreparedCommand, Reply, SubmitReply, SubmittedBlock};
 use coins::{Base, Changes};
 use connect::RunsScripts;
 use queue::Gate;
@@ -76,7 +76,6 @@ impl Core {
                 self.prepare_reconsider(alloc, base, id, env, gate)
             }
             PreparedCommand::Precious(id) => self.prepare_precious(alloc, base, id, env, gate),
-            PreparedCommand::Learn(_, _) => Ok(still(alloc, Reply::Mark(MarkReply::Done))),
         }
     }
 

@@ -1,6 +1,5 @@
 -- The history of a node of many seats, as it lies under the lock, and what is published of it.
 use Rattle.std.specs.Prelude.{◌≡◌, ◌⊎◌, ℕ, Bool, true, false, List, [], ◌∷◌, ◌++◌, Option, Some, None}
-use Rattle.curve.specs.Known.{Known, Under}
 use Rattle.curve.specs.Triple.{Triples}
 use Rattle.coins.specs.Changes.{Changes, AreChanges}
 use Rattle.chain.specs.declared.command.Command.{Command}
@@ -13,14 +12,11 @@ use Rattle.chain.specs.History.{entry_of}
 use Rattle.chain.specs.Regtest.{regtest}
 use Rattle.activate.specs.CoreState.{CoreState, WithCoins}
 use Rattle.activate.specs.CoreState as core_state
-use Rattle.view.specs.Beginning.{Beginning}
-use Rattle.view.specs.Origin.{Origin, known_in}
+use Rattle.view.specs.Origin.{Origin}
 use Rattle.view.specs.ViewState.{ViewState, IsExact, IsLegal, coins_after}
 use Rattle.view.specs.Following.{AllFollow}
 use Rattle.view.specs.declared.publication.Publication.{Publication}
-use Rattle.node.specs.declared.published_history.knowledge.Knowledge.{Knowledge}
 use Rattle.node.specs.inside.Keeping.{KeepsHistory, IsReplyTo, IsUndecodable, is_step}
-use Rattle.node.specs.inside.Knowledge.{IsKnowledge}
 
 -- what the history is of, its entries, and whether the last of them is owed to readers, who don't see it yet
 pub record PublishedState : Type 0 where
@@ -43,16 +39,6 @@ pub record IsCoreStep (triples : Triples) (old new : CoreState) (c : Command) (r
   pub params_are : new.params ≡ old.params
   pub follows : core_state.Follows new triples
 
--- so it is under every set that agrees with what is known
-abbrev pub AreCoreSteps : Known → CoreState → CoreState → Command → Reply → Changes → Type 0
-AreCoreSteps known old new c r changes = Under known (λ valid. IsCoreStep valid old new c r changes)
-
--- a core, what is known of signatures, and the history that both are after
-pub record IsLockedAt (o : Origin) (core : CoreState) (known : Knowledge) (note : Beginning) : Type 0 where
-  pub core_is : IsCoreOf o core note.entries
-  pub known_is : IsKnowledge o known note.entries
-  pub book_is : note.book ≡ o.book
-
 -- the entry, with this reply
 abbrev pub entry_with_reply : Entry → Option Reply → Entry
 entry_with_reply e r = entry_of e.seat e.command r
@@ -72,7 +58,7 @@ pub record Shows (x : ViewState) (o : Origin) (seen : List Entry) : Type 0 where
 -- owed entry changes; or publications of that entry
 abbrev pub AreDue : Bool → Bool → ViewState → List Publication → List Entry → Changes → Type 0
 AreDue false is_new x pending journal changes = pending ≡ []
-AreDue true true x pending journal changes = (pending ≡ []) × Under (known_in x.origin journal) (λ valid. AreChanges x.coins (coins_after x.origin valid journal) changes)
+AreDue true true x pending journal changes = (pending ≡ []) × AreChanges x.coins (coins_after x.origin journal) changes
 AreDue true false x pending journal changes =
     (p : Publication) × (ps : List Publication) × (pending ≡ p ∷ ps) × AllFollow x (p ∷ ps)
     × (journal ≡ x.journal ++ entry_with_reply p.entry None ∷ [])

@@ -6,7 +6,7 @@ use Rattle.chain.specs.declared.reply.Reply.{Reply}
 use Rattle.chain.specs.declared.reply.Reply.TheVariants as reply
 use Rattle.chain.specs.History.{entry_of}
 use Rattle.node.specs.declared.fault.Fault.{Fault}
-use Rattle.node.specs.declared.fault.Fault.TheVariants.{Memory, Owed, Closed, Unknown}
+use Rattle.node.specs.declared.fault.Fault.TheVariants.{Memory, Owed, Closed}
 use Rattle.node.specs.Pass.{Pass, IsWrite}
 use Rattle.node.specs.Calls.{IsSubmitAnswer}
 use Rattle.node.specs.inside.PublishedState.{PublishedState}
@@ -32,4 +32,3 @@ abbrev pub IsLeftBy : PublishedState → PublishedState → ℕ → Command → 
 IsLeftBy h k number c Memory = IsSettledAtMost h k
 IsLeftBy h k number c Owed = (r : Option Reply) × (k.journal ≡ h.journal ++ entry_of number c r ∷ [])
 IsLeftBy h k number c Closed = IsSettledAtMost h k
-IsLeftBy h k number c Unknown = IsSettledAtMost h k

@@ -4,7 +4,6 @@ use Rattle.std.specs.Option.{option_copied}
 use Rattle.block.specs.Decoding.{block_of_bytes}
 use Rattle.activate.specs.declared.prepared.Prepared.{Prepared}
 use Rattle.chain.specs.declared.reply.Reply.TheVariants as reply
-use Rattle.chain.specs.declared.reply.MarkReply.TheVariants.{Done}
 use Rattle.chain.specs.declared.reply.SubmitReply.TheVariants.{DecodeFailed}
 use Rattle.chain.specs.declared.submission.SubmittedBlock.{SubmittedBlock}
 use Rattle.chain.specs.Commands.{outcome}
@@ -13,7 +12,7 @@ use Rattle.chain.specs.Submitted.{IsSubmission}
 use Rattle.activate.specs.inside.Preparation.{IsPreparationFor}
 use Rattle.chain.specs.Regtest.{regtest}
 use Rattle.activate.specs.CoreState.{CoreState}
-use Rattle.chain.specs.laws.Outcomes.{submitted, refused, invalidates, reconsiders, prefers, learns}
+use Rattle.chain.specs.laws.Outcomes.{submitted, refused, invalidates, reconsiders, prefers}
 use Rattle.activate.proofs.Planned.{if_ok, plan-still}
 use Rattle.curve.specs.Known.{Known}
 use Rattle.curve.specs.Triple.{Triple}
@@ -59,13 +58,6 @@ pub returns-in-Precious-clause-prepared : goal.returns-in-Precious-clause-prepar
 returns-in-Precious-clause-prepared g c =
     let a : CoreState = c.args.self.now in
     if_ok c.prepare_precious.result (λ (prepared : Prepared) x triples agrees. let r = regtest a.params triples in subst (λ t. IsPreparationFor r a t c.prepare_precious.new.self prepared) (prefers r a.state c.in-Precious.id ∙ ap (λ k. outcome r a.state (command_of k)) (sym c.in-Precious.is)) (x triples agrees)) c.prepare_precious.ensures.prepared
-
-pub returns-in-Learn-clause-prepared : goal.returns-in-Learn-clause-prepared
-returns-in-Learn-clause-prepared g c triples agrees =
-    let a : CoreState = c.args.self.now in
-    let r = regtest a.params triples in
-    plan-still r a (reply.Mark Done) c.still-in-Learn.result (outcome r a.state (command_of c.args.command.now)) (c.requires.follows triples agrees).active_is c.still-in-Learn.ensures
-    (learns r a.state c.in-Learn.field-0 c.in-Learn.field-1 ∙ ap (λ k. outcome r a.state (command_of k)) (sym c.in-Learn.is))
 
 -- what a request wants is wanted by the command
 wanted_step : (a : CoreState) (known : Known) (command same : Command) (told : Option (List Triple)) → command ≡ same → IfSome told (AreWantedByStep a command known) → IfSome told (AreWantedByStep a same known)
