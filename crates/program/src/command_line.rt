@@ -31,8 +31,6 @@ enum Needed {
     Always,
     /// Unless a folder is named.
     UnlessSaved,
-    /// Unless a folder of either kind is named.
-    UnlessKept,
 }
 
 /// An option of a subcommand.
@@ -48,7 +46,7 @@ struct Opt {
     not_beside: &'static [&'static str],
 }
 
-const SUBCOMMANDS: [Subcommand; 7] = [
+const SUBCOMMANDS: [Subcommand; 6] = [
     Subcommand {
         name: "run",
         about: "Runs a scenario, and prints what its clients are answered",
@@ -73,11 +71,6 @@ const SUBCOMMANDS: [Subcommand; 7] = [
         name: "serve",
         about: "Answers requests, a JSON object a line, from the standard input",
         options: &SERVE,
-    },
-    Subcommand {
-        name: "export",
-        about: "Saves what the log of a served node says",
-        options: &EXPORT,
     },
     Subcommand {
         name: "version",
@@ -108,24 +101,20 @@ const RUN: [Opt; 10] = [
     SVG,
 ];
 
-const AUDIT: [Opt; 10] = [
-    Opt {
-        not_beside: &["blk", "table", "heights", "journal", "datadir"],
-        ..SAVED
-    },
+const AUDIT: [Opt; 9] = [
     Opt {
         not_beside: &["blk", "table", "heights", "journal"],
-        ..DATADIR
+        ..SAVED
     },
     Opt {
         name: "journal",
         help: "The journal.txt of a run",
-        needed: Needed::UnlessKept,
+        needed: Needed::UnlessSaved,
         ..FILE
     },
     Opt {
         help: "Its blocks.blk",
-        needed: Needed::UnlessKept,
+        needed: Needed::UnlessSaved,
         ..BLK
     },
     TABLE,
@@ -174,7 +163,7 @@ const SHOW: [Opt; 2] = [
     },
 ];
 
-const SERVE: [Opt; 10] = [
+const SERVE: [Opt; 8] = [
     Opt {
         name: "seats",
         help: "How many callers the node has places for, 1 to 16 [default: 4]",
@@ -192,16 +181,6 @@ const SERVE: [Opt; 10] = [
         ..FILE
     },
     SAVE,
-    Opt {
-        help: "The folder in which the history is kept: an answer goes out when its steps are on the disk there",
-        not_beside: &["load", "save"],
-        ..DATADIR
-    },
-    Opt {
-        name: "no-sync",
-        help: "Of --datadir: waits for no disk, so that a failure of the machine may take what was answered",
-        ..FLAG
-    },
     Opt {
         name: "busy",
         help: "Refuses a request where 64 wait for its seat, and reads on",
@@ -266,24 +245,6 @@ const SAVE: Opt = Opt {
     ..FILE
 };
 
-const EXPORT: [Opt; 2] = [
-    Opt {
-        needed: Needed::Always,
-        ..DATADIR
-    },
-    Opt {
-        needed: Needed::Always,
-        ..SAVE
-    },
-];
-
-const DATADIR: Opt = Opt {
-    name: "datadir",
-    value: "D",
-    help: "The folder of a served node's --datadir",
-    ..FILE
-};
-
 /// The folder of a run, beside which there is no other file of one.
 const SAVED: Opt = Opt {
     name: "saved",
@@ -333,7 +294,6 @@ fn arg<'w>(alloc: Global, option: &Opt) -> Result<Arg<'w>, AllocError> {
         Needed::Never => arg,
         Needed::Always => arg.required(true),
         Needed::UnlessSaved => arg.required_unless_present("saved")?,
-        Needed::UnlessKept => arg.required_unless_present_any(&["saved", "datadir"])?,
     };
     for other in option.not_beside {
         arg = arg.conflicts_with(*other)?;

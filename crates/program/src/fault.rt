@@ -3,7 +3,6 @@
 use crate::clients::Ended;
 use crate::options::STANDARD;
 use arrayvec::ArrayString;
-use durable::AppendFault;
 use journal::JournalFault;
 use node::Reply;
 use scenario::{ScenarioFault, Why};
@@ -229,15 +228,6 @@ impl From<Ended> for Fault<'_> {
             Ended::CannotWrite(error) => Fault::CannotWrite(STANDARD, error),
             Ended::BlkStopped(offset, stop) => Fault::BlkStopped(offset, stop),
             Ended::Closed => Fault::Closed,
-        }
-    }
-}
-
-impl From<AppendFault> for Fault<'_> {
-    fn from(fault: AppendFault) -> Self {
-        match fault {
-            AppendFault::Memory => Fault::Memory,
-            AppendFault::NoLine | AppendFault::Full => Fault::Closed,
         }
     }
 }

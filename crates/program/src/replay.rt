@@ -1,6 +1,5 @@
 //! What was saved of a run, read to be replayed.
 
-use crate::datadir::{LOG, Unpacked, read_bytes, read_lines, read_setting};
 use crate::fault::Fault;
 use crate::files::{read_file, read_table, read_table_file};
 use crate::options::Saved;
@@ -101,7 +100,6 @@ where
 {
     match saved {
         Saved::Folder(folder) => read_folder(rt, folder),
-        Saved::Datadir(folder) => read_datadir(rt, folder),
         Saved::Files {
             journal,
             blk,
@@ -142,24 +140,8 @@ where
     })
 }
 
-/// What the whole lines of a node's log say. The node may go on.
-fn read_datadir<'w, R>(rt: &R, folder: &'w str) -> Result<Inputs, Fault<'w>>
-where
-    R: Files<File = File> + AllocGlobal,
-{
-    let (params, table) = read_setting(rt, folder)?;
-    let log = read_bytes(rt, folder, LOG)?;
-    let Unpacked { journal, blk } = read_lines(rt.alloc(), log.as_slice())?;
-    Ok(Inputs {
-        params,
-        journal,
-        blk,
-        table,
-    })
-}
-
 /// The heights of a file's only line.
-pub fn read_heights_line(line: &[u8]) -> Option<Params> {
+fn read_heights_line(line: &[u8]) -> Option<Params> {
     let word = str::from_utf8(line).unwrap_or("");
     read_heights(word.strip_suffix('\n').unwrap_or(word))
 }

@@ -2,7 +2,6 @@
 
 import asyncio
 import os
-import shutil
 import subprocess
 import tempfile
 import threading
@@ -35,31 +34,6 @@ class NodeTest(unittest.TestCase):
 
     def fake(self, body):
         return fake(self.room, body)
-
-    # ---- a folder of its own
-
-    def test_a_data_directory(self):
-        """What was answered is there, however the process ended; heights and table are the folder's."""
-        folder = os.path.join(self.room, "data")
-        b1, b2 = self.maker.chain(2)
-        node = self.node(seats=2, heights=(5, 6, 7, 8), datadir=folder)
-        self.assertEqual(node.seat(0).submit(b1, NOW), Stamped(1, "accepted"))
-        self.assertRaises(errors.NodeDied, Node, program=PROGRAM, datadir=folder)
-        node.kill()
-        with Node(seats=1, program=PROGRAM, datadir=folder, sync=False) as node:
-            self.assertEqual(node.info[4:], ((5, 6, 7, 8), 1))
-            self.assertEqual(node.seat(0).getbestblockhash(), Stamped(1, block_id(b1)))
-            self.assertEqual(node.seat(0).submit(b2, NOW), Stamped(2, "accepted"))
-        self.assertRaises(errors.NodeDied, Node, program=PROGRAM, datadir=folder, heights=(1, 1, 1, 1))
-
-        async def again():
-            async with AsyncNode(seats=1, program=PROGRAM, datadir=folder) as node:
-                return await node.seat(0).getbestblockhash()
-
-        self.assertEqual(asyncio.run(again()), Stamped(2, block_id(b2)))
-        for words in ({"load": folder}, {"save": folder}):
-            self.assertRaises(ValueError, Node, program=PROGRAM, datadir=folder, **words)
-        self.assertRaises(ValueError, Node, program=PROGRAM, sync=False)
 
     # ---- calls
 
@@ -267,7 +241,7 @@ class NodeTest(unittest.TestCase):
         folder = os.path.join(self.room, "saved")
         os.mkdir(folder)
         node = self.node(save=folder)
-        shutil.rmtree(folder)
+        os.rmdir(folder)
         with self.assertRaises(errors.BadRequest) as caught:
             node.close()
         self.assertEqual(caught.exception.code, -32004)

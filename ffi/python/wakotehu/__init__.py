@@ -9,7 +9,7 @@ from .bench import Bench
 from .chainstate import REGTEST, Chainstate, Coin, Reply, Tip, read_id, show
 from .errors import (
     BadRequest, BadTable, Busy, Closed, Contradiction, DecodeFailed, Error, Genesis, LibraryMissing, Memory, NodeDied,
-    NotFound, NotSaved, OtherLoop, OtherProcess, Owed, ProgramMissing, Rejected, TimedOut, TooMany, TreeFull, Wants,
+    NotFound, OtherLoop, OtherProcess, Owed, ProgramMissing, Rejected, TimedOut, TooMany, TreeFull, Wants,
 )  # fmt: skip
 from .node import AsyncNode, AsyncSeat, BlockHeader, Entry, Info, Node, Seat, Stamped, UnspentOutput
 from .version import __version__
@@ -17,6 +17,6 @@ from .version import __version__
 __all__ = [
     "REGTEST", "AsyncNode", "AsyncSeat", "BadRequest", "BadTable", "Bench", "BlockHeader", "Busy", "Chainstate", "Closed",
     "Coin", "Contradiction", "DecodeFailed", "Entry", "Error", "Genesis", "Info", "LibraryMissing", "Memory", "Node",
-    "NodeDied", "NotFound", "NotSaved", "OtherLoop", "OtherProcess", "Owed", "ProgramMissing", "Rejected", "Reply", "Seat", "Stamped",
+    "NodeDied", "NotFound", "OtherLoop", "OtherProcess", "Owed", "ProgramMissing", "Rejected", "Reply", "Seat", "Stamped",
     "TimedOut", "Tip", "TooMany", "TreeFull", "UnspentOutput", "Wants", "__version__", "read_id", "show",
 ]  # fmt: skip

@@ -364,9 +364,9 @@ class AsyncNode:
         self, seats: int = 4, workers: int = 2, heights: Optional[Sequence[int]] = None,
         table: Optional[Union[str, bytes]] = None, program: Optional[Path] = None, *,
         blk: Optional[Path] = None, load: Optional[Path] = None, save: Optional[Path] = None,
-        datadir: Optional[Path] = None, sync: bool = True, timeout: Optional[float] = TIMEOUT,
+        timeout: Optional[float] = TIMEOUT,
     ) -> None:  # fmt: skip
-        self._opening = Opening(seats, workers, heights, table, program, blk, load, save, datadir, sync, timeout)
+        self._opening = Opening(seats, workers, heights, table, program, blk, load, save, timeout)
         self._pipe: Optional[_Pipe] = None
         self._kept: Dict[int, "ref[AsyncSeat]"] = {}
 

@@ -41,11 +41,6 @@ class BadRequest(Error):
         self.data = data
 
 
-class NotSaved(BadRequest):
-    """The history couldn't be saved, or kept in the folder of `datadir`: then nothing is answered any more. Whether a call
-    that was under way is a step is open until the folder is opened again."""
-
-
 class NodeDied(Error):
     """A node's process has ended. `status` is its status, `stderr` the end of what it wrote on the standard error."""
 

@@ -150,27 +150,23 @@ class Node:
     blk: a file of blocks that are submitted first.
     load: the folder of an earlier run, which is played again first, under its own heights and table.
     save: the folder into which the history is saved at the end; it may be the same. It is made where it isn't there.
-    datadir: the folder in which the history is kept, of this node alone. It is made where it isn't there, under these heights
-        and this table; else the node goes on from it, and None of them stands for what it has. An answer comes when its
-        steps are on the disk: however the process or the machine ends, nothing that was answered is lost.
-    sync: False waits for no disk, so that a failure of the machine may take what was answered.
-    timeout: how many seconds a call waits for its answer, `close` and the opening with `blk`, `load` or `datadir` included; None is
+    timeout: how many seconds a call waits for its answer, `close` and the opening with `blk` or `load` included; None is
         for ever. Then it raises `TimedOut`.
 
         with Node(seats=2) as node:
             node.seat(0).submit(block)
 
     Any thread may call, of the process that opened it. Where the node's process ends, calls raise `NodeDied`; after
-    `close`, `Closed`. A node that is dropped without `close` ends its process, and nothing is saved but what `datadir` has.
+    `close`, `Closed`. A node that is dropped without `close` ends its process, and nothing is saved.
     """
 
     def __init__(
         self, seats: int = 4, workers: int = 2, heights: Optional[Sequence[int]] = None,
         table: Optional[Union[str, bytes]] = None, program: Optional[Path] = None, *,
         blk: Optional[Path] = None, load: Optional[Path] = None, save: Optional[Path] = None,
-        datadir: Optional[Path] = None, sync: bool = True, timeout: Optional[float] = TIMEOUT,
+        timeout: Optional[float] = TIMEOUT,
     ) -> None:  # fmt: skip
-        opening = Opening(seats, workers, heights, table, program, blk, load, save, datadir, sync, timeout)
+        opening = Opening(seats, workers, heights, table, program, blk, load, save, timeout)
         self._count = opening.seats
         # Seats keep their node, not the other way round: so it is seen at once that nobody has it any more.
         self._kept: Dict[int, "ref[Seat]"] = {}

@@ -270,8 +270,6 @@ def checked(answered: Stamped[Reply]) -> Stamped[str]:
 
 
 _FAULTS: Dict[int, Type[errors.Error]] = {-32001: errors.Memory, -32002: errors.Owed, -32003: errors.Closed}
-#: The history couldn't be saved.
-_UNSAVED = -32004
 
 
 def outcome(answer: Dict[str, Any], call: Call) -> Any:
@@ -281,8 +279,7 @@ def outcome(answer: Dict[str, Any], call: Call) -> Any:
     error = answer["error"]
     if error["code"] in _FAULTS:
         raise _FAULTS[error["code"]](error["message"])
-    kind = errors.NotSaved if error["code"] == _UNSAVED else errors.BadRequest
-    raise kind(error["code"], error["message"], error.get("data"))
+    raise errors.BadRequest(error["code"], error["message"], error.get("data"))
 
 
 # ---- the process
@@ -315,23 +312,17 @@ class Opening:
     def __init__(
         self, seats: int, workers: int, heights: Optional[Sequence[int]], table: Optional[Union[str, bytes]],
         program: Optional[Path], blk: Optional[Path], load: Optional[Path], save: Optional[Path],
-        datadir: Optional[Path], sync: bool, timeout: Optional[float],
+        timeout: Optional[float],
     ) -> None:  # fmt: skip
         self.seats, workers = _count(seats, "seats"), _count(workers, "workers")
         self.timeout = arguments.seconds(timeout, "timeout")
         self.words = ["serve", "--seats", str(self.seats), "--workers", str(workers)]
-        if load is not None and (heights is not None or table is not None):
-            raise ValueError("load must be None where heights or table are given: the folder has its own")
-        if datadir is not None and (load is not None or save is not None):
-            raise ValueError("datadir must be None where load or save are given: it is both")
-        if datadir is None and not sync:
-            raise ValueError("sync is of datadir")
-        if heights is not None or (load is None and datadir is None):
+        if load is None:
             chosen = read_heights(REGTEST if heights is None else heights)
             self.words += ["--heights", ",".join(map(str, chosen))]
-        if not sync:
-            self.words += ["--no-sync"]
-        for name, value in (("blk", blk), ("load", load), ("save", save), ("datadir", datadir)):
+        elif heights is not None or table is not None:
+            raise ValueError("load must be None where heights or table are given: the folder has its own")
+        for name, value in (("blk", blk), ("load", load), ("save", save)):
             if value is not None:
                 self.words += [f"--{name}", arguments.path(value, name)]
         self.table = b"" if table is None else arguments.lines(table, "table")

@@ -111,8 +111,7 @@ def _parser() -> _Parser:
     add("--table", metavar="F", help="a file of the signatures that are valid, a key, signature and digest a line; no other is."
         f" Calls then run beside one another, at the {SEATS} seats of a node (the program regchain)")  # fmt: skip
     add("--workers", metavar="N", help="how many threads check a block's scripts with --table, 1 to 16; 2 by default")
-    add("--fsync", action="store_true", default=True, help="has the disk asked to keep each command; it is the default")
-    add("--no-fsync", dest="fsync", action="store_false", help="waits for no disk: a failure of the machine may take commands")
+    add("--fsync", action="store_true", help="has the disk asked to keep each command")
     add("--rpcport", "--port", dest="rpcport", metavar="N", help="18443 by default; 0 is any that is free")
     add("--rpcbind", action="append", default=[], metavar="HOST", help="127.0.0.1, ::1 or localhost; given again for more")
     add("--testactivationheight", action="append", default=[], metavar="FORK@N", help="bip34, cltv, dersig or csv")

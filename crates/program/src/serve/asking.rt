@@ -16,7 +16,7 @@ use std::fmt;
 use std::fmt::Write as _;
 use std::sync::Wait;
 use std::thread::Threads;
-use wire::{LIMIT, Memory};
+use wire::Memory;
 
 /// How long a reply's text is at most.
 const MAX_REPLY: usize = 128;
@@ -27,7 +27,7 @@ pub struct Desk {
     /// The seat's.
     pub number: usize,
     pub turns: Receiver<Turn>,
-    pub to: Sender<durable::Answer>,
+    pub to: Sender<Vec<u8>>,
 }
 
 /// Answers what comes in, one after the other, until nothing more can come or nobody takes the answers.
@@ -44,34 +44,32 @@ where
 {
     for turn in desk.turns.iter(rt) {
         let line = answered(rt, node, board, facts, turn, seat);
-        let stamp = board.stamp(rt, node, seat);
         let note = seat.note();
         board.growth.tell(rt, note.len());
         board.lay(rt, desk.number, note);
-        if !send(rt, desk, board, line, stamp) {
+        if !send(rt, desk, board, line) {
             return;
         }
     }
 }
 
-/// Sends a line that tells of so many steps. Whether it was taken.
+/// Sends a line. Whether it was taken.
 fn send<J: Naming, R: Wait>(
     rt: &R,
     desk: &Desk,
     board: &Board<J>,
     line: Result<Vec<u8>, AllocError>,
-    stamp: Result<u64, node::Fault>,
 ) -> bool {
-    match (line, stamp) {
-        (Ok(line), Ok(stamp)) => desk.to.send(rt, durable::Answer { stamp, line }).is_ok(),
-        _ => {
+    match line {
+        Ok(line) => desk.to.send(rt, line).is_ok(),
+        Err(AllocError) => {
             board.set_short();
             false
         }
     }
 }
 
-/// The line that answers a request, or that says why none does. A block that no record can hold is no step. In the turn's room it takes no memory, so that each
+/// The line that answers a request, or that says why none does. In the turn's room it takes no memory, so that each
 /// request has one, and a step that was taken is told.
 fn answered<J: Naming, R>(
     rt: &R,
@@ -87,9 +85,6 @@ where
     let alloc = rt.alloc();
     let Turn { id, call, room } = turn;
     match call {
-        Ok(Call::Submit(block, _)) if block.len() as u64 > LIMIT => {
-            refusal_line(room, &id, Refusal::Param("block"))
-        }
         Ok(Call::Submit(block, now)) => {
             let reply = seat.submit(rt, node, block.as_slice(), now);
             replied(alloc, room, &id, reply)

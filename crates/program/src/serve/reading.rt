@@ -2,14 +2,11 @@
 
 use crate::fault::Fault;
 use crate::options::STANDARD;
-use crate::serve::board::Board;
 use crate::serve::tally::Tally;
 use crate::serve::turn::Turn;
 use crate::serve::words::Facts;
 use crossbeam_channel::{Sender, TrySendError};
-use durable::Answer;
 use memchr::memchr;
-use node::Naming;
 use serving::{Asked, Refusal, Request, RequestId, info_line, read_request, refusal_line};
 use std::alloc::{AllocError, Global};
 use std::io;
@@ -55,15 +52,14 @@ enum Next {
 #[derive(Drop)]
 pub struct Doors {
     pub seats: Vec<Sender<Turn>>,
-    pub to: Sender<Answer>,
+    pub to: Sender<Vec<u8>>,
     /// Whether a request is refused for whose seat as many wait as may. Else it is waited for room.
     pub is_busy: bool,
 }
 
 /// Reads requests to the end of the input, and has each wait for its seat. The request that asked for the end, if one did.
-pub fn read_requests<J: Naming, R, I>(
+pub fn read_requests<R, I>(
     rt: &R,
-    board: &Board<J>,
     facts: &Facts<'_>,
     doors: &Doors,
     input: &mut I,
@@ -74,7 +70,7 @@ where
 {
     let mut input = BufReader::with_capacity(rt.alloc(), READ_AHEAD, input).map_err(unread)?;
     for _ in 0..u64::MAX {
-        match read_next(rt, board, facts, doors, &mut input)? {
+        match read_next(rt, facts, doors, &mut input)? {
             Next::Line => {}
             Next::Finish(id) => return Ok(Some(id)),
             Next::Left => return Ok(None),
@@ -84,9 +80,8 @@ where
 }
 
 /// Reads a line, and has it wait for its seat or answers it.
-fn read_next<J: Naming, R, I>(
+fn read_next<R, I>(
     rt: &R,
-    board: &Board<J>,
     facts: &Facts<'_>,
     doors: &Doors,
     input: &mut I,
@@ -96,7 +91,6 @@ where
     I: BufRead,
 {
     match read_line(rt.alloc(), input) {
-        Ok(Some(_)) if board.is_over() => Ok(Next::Left),
         Ok(Some(line)) => pass_on(rt, facts, doors, line),
         Ok(None) => Ok(Next::Left),
         Err(error) => Err(unread(error)),
@@ -205,9 +199,9 @@ impl Doors {
         }
     }
 
-    /// Has a line wait for being written that tells of no step.
+    /// Has a line wait for being written.
     fn tell<R: Wait>(&self, rt: &R, line: Vec<u8>) -> Next {
-        passed(self.to.send(rt, Answer { stamp: 0, line }).is_ok())
+        passed(self.to.send(rt, line).is_ok())
     }
 }
 

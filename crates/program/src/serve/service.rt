@@ -1,19 +1,17 @@
 //! The threads of a served node: one for each seat, one that reads, and this one, which writes.
 
-use crate::datadir::HostFault;
 use crate::fault::Fault;
+use crate::files::print_bytes;
 use crate::serve::Ended;
 use crate::serve::asking::{Desk, answer_turns};
 use crate::serve::board::Board;
 use crate::serve::reading::{Doors, read_requests};
-use crate::serve::telling::{tell_all, tell_unsaved};
 use crate::serve::words::Facts;
 use crossbeam_channel::Receiver;
-use durable::{Answer, Host, KeptLog};
 use node::{Naming, Node, Seat};
-use serving::{Refusal, RequestId, refusal_line};
+use serving::RequestId;
 use std::alloc::Global;
-use std::io::Read;
+use std::io::{Read, Write};
 use std::sync::{Mutex, Wait};
 use std::thread;
 use std::thread::Threads;
@@ -37,38 +35,23 @@ struct Place<'s, 't, J: Naming> {
 /// What each thread takes when it begins.
 type Places<'s, 't, J> = Vec<Mutex<Option<Place<'s, 't, J>>>>;
 
-/// What the thread that writes takes, with the memory for all that it does where the history isn't kept: so each answer that
-/// was made goes out.
-#[derive(Drop)]
-struct Lines {
-    waiting: Receiver<Answer>,
-    at_hand: Vec<Answer>,
-    /// The last line, where no answer goes out any more.
-    unsaved: Vec<u8>,
-}
-
 /// Answers the requests of an input on an output until it ends or one asks for the end.
-pub fn serve_requests<'t, J: Naming, R, I, H>(
+pub fn serve_requests<'t, J: Naming, R, I, O>(
     rt: &R,
     node: &Node<'_, J>,
     seats: &mut [Seat<'t, J>],
     facts: &Facts<'_>,
     input: &mut I,
-    log: &Mutex<Option<KeptLog<H>>>,
+    out: &mut O,
 ) -> Result<Ended<'static>, Fault<'static>>
 where
     R: AllocGlobal + Threads + Wait + Sync,
     I: Read + Send,
-    H: Host<Fault = HostFault> + Drop,
+    O: Write,
 {
     let alloc = rt.alloc();
-    let board = Board::new(alloc, seats, facts)?;
-    let (to, waiting) = crossbeam_channel::bounded(alloc, WAITING)?;
-    let lines = Lines {
-        waiting,
-        at_hand: Vec::with_capacity(alloc, WAITING)?,
-        unsaved: refusal_line(Vec::new(alloc), &RequestId::Null, Refusal::Unsaved)?,
-    };
+    let board = Board::new(alloc, seats)?;
+    let (to, lines) = crossbeam_channel::bounded(alloc, WAITING)?;
     let mut doors = Doors {
         seats: Vec::new(alloc),
         to,
@@ -79,7 +62,7 @@ where
     for seat in all {
         add_place(alloc, seat, &mut doors, &mut places)?;
     }
-    serve_places(rt, node, &board, facts, &places, doors, lines, input, log)
+    serve_places(rt, node, &board, facts, &places, doors, lines, input, out)
 }
 
 /// Adds a seat's place, and the door behind which its requests wait.
@@ -101,34 +84,34 @@ fn add_place<'s, 't, J: Naming>(
 }
 
 /// Answers requests at these places.
-fn serve_places<'t, J: Naming, R, I, H>(
+fn serve_places<'t, J: Naming, R, I, O>(
     rt: &R,
     node: &Node<'_, J>,
     board: &Board<J>,
     facts: &Facts<'_>,
     places: &Places<'_, 't, J>,
     doors: Doors,
-    lines: Lines,
+    lines: Receiver<Vec<u8>>,
     input: &mut I,
-    log: &Mutex<Option<KeptLog<H>>>,
+    out: &mut O,
 ) -> Result<Ended<'static>, Fault<'static>>
 where
     R: AllocGlobal + Threads + Wait + Sync,
     I: Read + Send,
-    H: Host<Fault = HostFault> + Drop,
+    O: Write,
 {
     let doors = Mutex::new(Some(doors));
     let lines = Mutex::new(Some(lines));
     let input = Mutex::new(&mut *input);
     let read: Mutex<Asked> = Mutex::new(Ok(None));
     let written = run_threads(
-        rt, node, board, facts, places, &doors, &input, &read, &lines, log,
+        rt, node, board, facts, places, &doors, &input, &read, &lines, out,
     )?;
     Ok(ended(read.into_inner(), written, board.is_short()))
 }
 
 /// Runs the threads until all have ended. Within, whether all lines were written.
-fn run_threads<'t, J: Naming, R, I, H>(
+fn run_threads<'t, J: Naming, R, I, O>(
     rt: &R,
     node: &Node<'_, J>,
     board: &Board<J>,
@@ -137,13 +120,13 @@ fn run_threads<'t, J: Naming, R, I, H>(
     doors: &Mutex<Option<Doors>>,
     input: &Mutex<&mut I>,
     read: &Mutex<Asked>,
-    lines: &Mutex<Option<Lines>>,
-    log: &Mutex<Option<KeptLog<H>>>,
+    lines: &Mutex<Option<Receiver<Vec<u8>>>>,
+    out: &mut O,
 ) -> Written
 where
     R: AllocGlobal + Threads + Wait + Sync,
     I: Read + Send,
-    H: Host<Fault = HostFault> + Drop,
+    O: Write,
 {
     thread::scope(thread::scope_env(), rt, move |scope| -> Written {
         let mut is_whole = true;
@@ -162,12 +145,12 @@ where
             drop(taken(rt, doors));
             return Err(Fault::NoThread);
         }
-        Ok(write_lines(rt, board, facts, lines, log))
+        Ok(write_lines(rt, lines, out))
     })
 }
 
 /// Takes what is in a place, which is empty then.
-pub fn taken<T: Drop, R: Wait>(rt: &R, place: &Mutex<Option<T>>) -> Option<T> {
+fn taken<T: Drop, R: Wait>(rt: &R, place: &Mutex<Option<T>>) -> Option<T> {
     let mut guard = place.lock(rt);
     guard.take()
 }
@@ -208,66 +191,23 @@ where
         return;
     };
     let mut input = input.lock(rt);
-    let asked = read_requests(rt, board, facts, &doors, &mut **input);
+    let asked = read_requests(rt, facts, &doors, &mut **input);
     board.growth.end(rt);
     let mut guard = read.lock(rt);
     *guard = asked;
 }
 
-/// Writes each line whole, until all who answer have left, those that come at once by one sync. Where the disk or the output
-/// takes no more, they leave as they answer.
-fn write_lines<J: Naming, R, H>(
+/// Writes each line whole, until all who answer have left. Where the output takes no more, they leave as they answer.
+fn write_lines<R: Wait, O: Write>(
     rt: &R,
-    board: &Board<J>,
-    facts: &Facts<'_>,
-    lines: &Mutex<Option<Lines>>,
-    log: &Mutex<Option<KeptLog<H>>>,
-) -> Result<(), Fault<'static>>
-where
-    R: AllocGlobal + Wait,
-    H: Host<Fault = HostFault> + Drop,
-{
-    let Some(Lines {
-        waiting,
-        mut at_hand,
-        unsaved,
-    }) = taken(rt, lines)
-    else {
-        return Ok(());
-    };
-    let Some(mut kept) = taken(rt, log) else {
-        return Ok(());
-    };
-    for first in waiting.iter(rt) {
-        take_at_hand(rt, first, &waiting, &mut at_hand)?;
-        let entries = board.take_lacking(rt);
-        kept = match tell_all(rt.alloc(), facts, entries.as_slice(), &at_hand, kept) {
-            Ok(kept) => kept,
-            Err(lost) => {
-                board.set_over();
-                return Err(tell_unsaved(&unsaved, lost));
-            }
-        };
-        at_hand.clear();
-    }
-    let mut guard = log.lock(rt);
-    *guard = Some(kept);
-    Ok(())
-}
-
-/// Takes an answer, and those that wait behind it, into the room that there is.
-fn take_at_hand<R: Wait>(
-    rt: &R,
-    first: Answer,
-    waiting: &Receiver<Answer>,
-    at_hand: &mut Vec<Answer>,
+    lines: &Mutex<Option<Receiver<Vec<u8>>>>,
+    out: &mut O,
 ) -> Result<(), Fault<'static>> {
-    at_hand.push(first)?;
-    for _ in 1..WAITING {
-        let Ok(answer) = waiting.try_recv(rt) else {
-            return Ok(());
-        };
-        at_hand.push(answer)?;
+    let Some(lines) = taken(rt, lines) else {
+        return Ok(());
+    };
+    for line in lines.iter(rt) {
+        print_bytes(out, line.as_slice())?;
     }
     Ok(())
 }

@@ -19,8 +19,6 @@ pub struct Facts<'t> {
     pub workers: usize,
     /// How many steps were loaded.
     pub loaded: usize,
-    /// Whether answers wait for their steps to be on the disk.
-    pub is_kept: bool,
     /// Whether a request is refused for whose seat as many wait as may.
     pub is_busy: bool,
     pub clients: Clients<'t>,
