@@ -158,7 +158,7 @@ class AuditFaults(SavedTest):
         self.expect_audit_fault(f"{first}\n", b"", "regchain: journal line 2\n")
 
     def test_a_line_at_each_place(self) -> None:
-        """A line that can't be read is told by its place."""
+        """The place of a line that can't be read is reported."""
         self.save(NAMED["FAILING_BRANCH"])
         lines = self.journal.splitlines()
         for place, line in enumerate(lines):
