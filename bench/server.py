@@ -1,10 +1,10 @@
 #!/usr/bin/env python3
 """Times the server of ffi/python over HTTP, one client on one connection: submitblock of empty blocks, and getblock.
 
-    ffi/build && bench/server.py [BLOCKS]      20,000 blocks by default
+    ./build && ffi/build && bench/server.py [BLOCKS]      20,000 blocks by default
 
 Goals: 2,000 submitblock a second; 1,000 getblock at 20,000 blocks in less than a second. What the client takes counts
-too. It takes the library of ffi/out, and prints a line for each goal; the status is 1 where one is missed.
+too. It takes the library of ffi/out and the program of ./build, and prints a line for each goal; the status is 1 where one is missed.
 """
 
 import base64
@@ -18,6 +18,7 @@ import time
 
 ROOT = os.path.dirname(os.path.dirname(os.path.realpath(__file__)))
 os.environ.setdefault("WAKOTEHU_LIBRARY", f"{ROOT}/ffi/out/libwakotehu.so")
+os.environ.setdefault("WAKOTEHU_PROGRAM", f"{ROOT}/crates/regchain/out/regchain")
 os.environ["PYTHONPATH"] = f"{ROOT}/ffi/python"
 sys.path.insert(0, os.environ["PYTHONPATH"])
 

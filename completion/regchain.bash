@@ -2,21 +2,22 @@
 _regchain() {
     local word=${COMP_WORDS[COMP_CWORD]} before=${COMP_WORDS[COMP_CWORD - 1]} options
     if ((COMP_CWORD == 1)); then
-        mapfile -t COMPREPLY < <(compgen -W "run audit tree show serve help version --help --version" -- "$word")
+        mapfile -t COMPREPLY < <(compgen -W "run audit tree show serve export help version --help --version" -- "$word")
         return
     fi
     case $before in
     --blk | --expect | --journal | --scenario | --svg | --table) mapfile -t COMPREPLY < <(compgen -f -- "$word") && return ;;
-    --load | --save | --saved) mapfile -t COMPREPLY < <(compgen -d -- "$word") && return ;;
+    --datadir | --load | --save | --saved) mapfile -t COMPREPLY < <(compgen -d -- "$word") && return ;;
     --heights | --seats | --to | --workers) return ;;
     esac
     case ${COMP_WORDS[1]} in
     run) options="--scenario --blk --table --workers --heights --save --expect --json --tree --svg --help" ;;
-    audit) options="--saved --journal --blk --table --heights --quick --explain --to --json --help" ;;
+    audit) options="--saved --datadir --journal --blk --table --heights --quick --explain --to --json --help" ;;
     tree) options="--scenario --saved --blk --table --heights --svg --help" ;;
     show) options="--scenario --help" ;;
-    serve) options="--seats --workers --heights --table --blk --load --save --busy --help" ;;
-    help) options="run audit tree show serve version" ;;
+    serve) options="--seats --workers --heights --table --blk --load --save --datadir --no-sync --by-need --busy --help" ;;
+    export) options="--datadir --save --help" ;;
+    help) options="run audit tree show serve export version" ;;
     *) return ;;
     esac
     mapfile -t COMPREPLY < <(compgen -W "$options" -- "$word")

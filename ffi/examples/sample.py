@@ -1,14 +1,36 @@
-"""A block on genesis, of a coinbase alone, as another program built and mined it."""
+"""A chain whose coinbases pay to a key, and two payments on it: one with the key's signature, and one with another's."""
+
+from typing import List
+
+from wakotehu.encoding import GENESIS, Input, Output, Transaction, coinbase, double_sha, mine, push, signature_digest, subsidy
+from wakotehu.signatures import Secp256k1
 
 #: A moment in seconds since 1970. A block may be two hours ahead of it.
-NOW = 1_296_688_602
+NOW = GENESIS.time + 10_000_000
+_SECP = Secp256k1()
+_KEY, _OTHER = bytes([7]) * 32, bytes([8]) * 32
+_SCRIPT = push(_SECP.public_key(_KEY)) + b"\xac"  # the key, and OP_CHECKSIG
 
-#: Its bytes.
-BLOCK = bytes.fromhex(
-    "0400000006226e46111a0b59caaf126043eb5bbf28c34f3a5e332a1fc7b2b73cf188910f4bc9060e5f2e3eb82947c1432592111003cf8eb7"
-    "506783ed65a8ccb92502f996dbe5494dffff7f20010000000101000000010000000000000000000000000000000000000000000000000000"
-    "000000000000ffffffff0451026231ffffffff0100f2052a01000000015100000000"
-)
 
-#: The id of its coinbase.
-COIN = bytes.fromhex("4bc9060e5f2e3eb82947c1432592111003cf8eb7506783ed65a8ccb92502f996")
+def _block(parent: bytes, height: int, transactions: List[Transaction]) -> bytes:
+    return mine(parent, GENESIS.time + 600 * height, [coinbase(height, subsidy(height), _SCRIPT), *transactions])
+
+
+def _payment(height: int, secret: bytes) -> Transaction:
+    """Spends the coinbase of a height, with a signature by this secret."""
+    coin = coinbase(height, subsidy(height), _SCRIPT).id
+    unsigned = Transaction(1, [Input(coin, 0, b"", 0xFFFFFFFF)], [Output(5_000_000_000, b"\x51")], 0)
+    signature = _SECP.sign(secret, signature_digest(unsigned, 0, _SCRIPT, 1)) + b"\x01"
+    return unsigned._replace(inputs=[unsigned.inputs[0]._replace(script=push(signature))])
+
+
+#: Blocks one on the other, so many that the coinbases of the first ones can be spent.
+CHAIN = [_block(GENESIS.id, 1, [])]
+while len(CHAIN) < 101:
+    CHAIN.append(_block(double_sha(CHAIN[-1][:80]), len(CHAIN) + 1, []))
+
+_PAID = _payment(1, _KEY)
+#: A block on them with a payment that the key signed, and the id of this payment.
+PAYMENT, COIN = _block(double_sha(CHAIN[-1][:80]), 102, [_PAID]), _PAID.id
+#: A block on that one with a payment that another key signed.
+FORGED = _block(double_sha(PAYMENT[:80]), 103, [_payment(2, _OTHER)])

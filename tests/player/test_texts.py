@@ -47,8 +47,6 @@ bytes stand after the block
 a count is spelled in more bytes than it needs
 line 3 of the table can't be read
 out of memory
-the tree is full
-out of memory
 workers
 seats
 readers
@@ -56,6 +54,7 @@ memory
 memory
 owed
 closed
+unknown
 """
 
 

@@ -63,6 +63,7 @@ Commands:
   tree     Shows the block tree that a scenario or a saved journal leads to
   show     Shows the id and the bytes of each block and transaction that a scenario defines
   serve    Answers requests, a JSON object a line, from the standard input
+  export   Writes the files of a run from the log of a served node
   version  Prints the version
   help     Print this message or the help of the given subcommand(s)
 
@@ -102,6 +103,7 @@ Usage: regchain audit [OPTIONS]
 
 Options:
       --saved <D>          The folder of a run's --save
+      --datadir <D>        The folder of a served node's --datadir
       --journal <F>        The journal.txt of a run
       --blk <F>            Its blocks.blk
       --table <F>          The signatures that are valid
@@ -163,6 +165,9 @@ Options:
       --blk <F>            Blocks that are submitted first, as a blk file of Bitcoin Core has them
       --load <D>           The folder of an earlier --save, which is played again first, with its table and heights
       --save <D>           The folder for journal.txt, blocks.blk, table.txt and heights.txt
+      --datadir <D>        The folder in which the history is kept: an answer goes out when its steps are on the disk there
+      --no-sync            With --datadir: answers without waiting for the disk; a crash of the machine may lose what was answered
+      --by-need            Has callers tell which signatures are valid, as blocks ask for them
       --busy               Refuses a request where 64 wait for its seat, and reads on
   -h, --help               Print help
 """,

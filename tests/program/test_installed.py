@@ -12,7 +12,7 @@ import running
 from running import ProgramTest
 
 ROOT = os.path.dirname(os.path.dirname(os.path.dirname(os.path.realpath(__file__))))
-SUBCOMMANDS = ("run", "audit", "tree", "show", "serve")
+SUBCOMMANDS = ("run", "audit", "tree", "show", "serve", "export")
 
 
 def read(path: str) -> str:
@@ -29,28 +29,29 @@ class Installed(ProgramTest):
     def options(self, subcommand: str) -> set[str]:
         """The options of a subcommand's own help, but for --help."""
         told = self.play([subcommand, "--help"]).err
-        return set(re.findall(r"^ +(?:-\w, )?--([a-z]+)", told, re.M)) - {"help"}
+        return set(re.findall(r"^ +(?:-\w, )?--([a-z-]+)", told, re.M)) - {"help"}
 
     def test_the_man_page_has_each_option(self) -> None:
         page = read("docs/regchain.1")
         for name in SUBCOMMANDS:
             section = between(page, f".SH {name.upper()}\n", ".SH ")
-            self.assertEqual(set(re.findall(r"^\.B \\-\\-([a-z]+)", section, re.M)), self.options(name), name)
+            found = re.findall(r"^\.B --([a-z-]+)", section.replace("\\-", "-"), re.M)
+            self.assertEqual(set(found), self.options(name), name)
 
     def test_completions_have_each_option(self) -> None:
         bash, zsh, fish = read("completion/regchain.bash"), read("completion/_regchain"), read("completion/regchain.fish")
         for name in SUBCOMMANDS:
             wanted = self.options(name)
             line = between(bash, f"\n    {name}) options=\"", "\"")
-            self.assertEqual(set(re.findall(r"--([a-z]+)", line)) - {"help"}, wanted, name)
+            self.assertEqual(set(re.findall(r"--([a-z-]+)", line)) - {"help"}, wanted, name)
             case = between(zsh, f"\n{name})\n", ";;")
-            self.assertEqual(set(re.findall(r"'--([a-z]+)\[", case)) - {"help"}, wanted, name)
-            found = re.findall(rf"__fish_seen_subcommand_from {name}' -l ([a-z]+)", fish)
+            self.assertEqual(set(re.findall(r"'--([a-z-]+)\[", case)) - {"help"}, wanted, name)
+            found = re.findall(rf"__fish_seen_subcommand_from {name}' -l ([a-z-]+)", fish)
             self.assertEqual(set(found), wanted, name)
 
     def test_help_and_version_are_completed(self) -> None:
         for path, wanted in [
-            ("completion/regchain.bash", '"run audit tree show serve help version --help --version"'),
+            ("completion/regchain.bash", '"run audit tree show serve export help version --help --version"'),
             ("completion/_regchain", "    'help:"),
             ("completion/_regchain", "    'version:"),
             ("completion/regchain.fish", "-n __fish_use_subcommand -a help "),

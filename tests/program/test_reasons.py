@@ -76,6 +76,11 @@ COMMANDS = [
     ("audit --journal bad --blk empty", "journal line 1", "it isn't what is printed for a step of this number"),
     ("audit --journal one --blk empty", "blk records", "there isn't one for each submit line"),
     ("audit --journal one --blk other", "journal line 1", "its record isn't the block of its id"),
+    (
+        "audit --journal verdict --blk empty",
+        "journal line 1",
+        "it is a verdict, and has neither the key nor the signature",
+    ),
     ("audit --journal one --blk bad", "blk stopped at 0", "there is neither a record nor a rest of zero bytes"),
     ("audit --journal one --blk cut", "blk stopped at 0", "the record ends early"),
     ("audit --journal one --blk long", "blk stopped at 0", "the record is longer than 33554432 bytes"),
@@ -95,6 +100,7 @@ class Reasons(ProgramTest):
         self.write("bad", "garbage\n")
         self.write("empty", "")
         self.write("one", f"1 a submit {FIRST_ID} 5 = accepted\n")
+        self.write("verdict", f"1 a valid {FIRST_ID} = done\n")
         self.write_bytes("other", RECORD[:84] + b"\x07" + RECORD[85:])
         self.write_bytes("cut", RECORD[:-1])
         self.write_bytes("long", RECORD[:7] + b"\x7f" + RECORD[8:])

@@ -7,6 +7,9 @@ step. What is saved is whole or absent, and the audit agrees with it.
 
 A node that submits a blk file first, or plays a saved folder again, does so before the first request, or ends with a
 fault line.
+
+A node by need is asked the commands of a scenario with signatures, told verdicts, one of which contradicts another, and
+asked the commands again: no verdict and no step is lost that was answered.
 """
 import collections
 import json
@@ -15,12 +18,25 @@ import re
 import select
 import shutil
 import subprocess
+import sys
 import threading
 from typing import Callable, NamedTuple
+
+TESTS = os.path.dirname(os.path.dirname(os.path.realpath(__file__)))
+sys.path[:0] = [f"{TESTS}/program", f"{TESTS}/serve"]
+
+import running  # noqa: E402
+import serving  # noqa: E402
+from scenarios import SPENDS  # noqa: E402
 
 SECONDS = 20
 BLOCKS = "block b1 genesis\nblock p2 b1\nblock q2 b1\nblock q3 q2\n"
 FILES = ["blocks.blk", "heights.txt", "journal.txt", "table.txt"]
+BY_NEED = "--by-need"
+#: A key, a signature without its hash type, and a digest that no block has.
+STRAY = f"02{'ab' * 32} 3006020101020101 {'cd' * 32}"
+#: So many commands of a scenario with spends make the chain below these.
+CHAIN = 100
 TELLS = {-32001: "memory", -32002: "owed"}
 
 
@@ -65,6 +81,28 @@ def lines_of(regchain):
     lines.append(request('\0"\\\n' * 100, "no", seat=1))
     ask("finish")
     return lines
+
+
+def by_need(regchain, room):
+    """What a node by need is asked: the commands of a scenario with signatures, of which it wants some; verdicts; and what wanted
+    them again. Refused is what comes behind the chain below."""
+    running.PROGRAM = regchain
+    scenario = max(SPENDS, key=lambda it: it.definitions.count("verdict"))
+    saved = f"{room}/signed"
+    os.mkdir(saved)
+    words = [regchain, "run", "--scenario", "-", "--heights", scenario.heights, "--save", saved]
+    subprocess.run(words, input=scenario.text().encode(), stdout=subprocess.DEVNULL, check=True)
+    with open(f"{saved}/table.txt") as file:
+        table = file.read()
+    names = serving.Names(room, scenario.definitions)
+    commands = [names.request(command.words, command.now) for command in serving.commands_of(scenario)]
+    asked = [
+        *commands, ("wants", {}), ("learn", {"valid": table, "invalid": STRAY}), ("learn", {"valid": STRAY, "invalid": ""}),
+        *commands[CHAIN:], ("journal", {"from": CHAIN, "to": 999}),
+    ]  # fmt: skip
+    lines = [request(number, method, seat=0, **params) for number, (method, params) in enumerate(asked)]
+    lines.append(request(len(lines), "finish"))
+    return [Kind("by need", one_by_one, lines, [BY_NEED, "--heights", scenario.heights], count, CHAIN) for count in (1, 4)]
 
 
 # What is asked where the steps were taken before the first request.
@@ -127,6 +165,8 @@ class Kind(NamedTuple):
     lines: list
     more: list
     count: int
+    #: So many lines come before the first refusal.
+    head: int = 0
 
     def __str__(self):
         return f"regchain serve, {self.name}, {self.count} refused"
@@ -154,12 +194,24 @@ class Sweep:
         if len(self.whole) != len(self.lines):
             self.faults.add(f"{self.kind}: not an answer a line with nothing refused")
         # Threads begin in another order each time, so some more are tried than counted.
-        list(pool.map(lambda at: self.once(room, at), range(1, counted + 6)))
+        list(pool.map(lambda at: self.once(room, at), range(self.first(room), counted + 6)))
         refused = self.places.refused()
         list(pool.map(lambda stack: self.once(room, 0, stack), [it.hash for it in stacks if it.hash not in refused]))
         if not self.met["refused"]:
             self.faults.add(f"{self.kind}: nothing was refused")
         return counted
+
+    def first(self, room):
+        """The allocation that is refused first."""
+        if not self.kind.head:
+            return 1
+        folder = f"{room}/head"
+        os.mkdir(folder)
+        lines = [*self.lines[: self.kind.head], self.lines[-1]]
+        ran, counted, _ = serve(self.regchain, self.kind.how, lines, folder, self.kind.more, self.places.shim)
+        if ran is None or ran.returncode:
+            self.faults.add(f"{self.kind}: fails with nothing refused: {ran}")
+        return max(counted - 40, 1)
 
     @staticmethod
     def key(answer):
@@ -189,8 +241,9 @@ class Sweep:
         if ran.stderr.startswith(b"regchain: closed"):
             return "told as closed"
         answers = [json.loads(line) for line in ran.stdout.splitlines()]
-        files = sorted(os.listdir(folder))
-        if files not in ([], FILES):
+        # The lock says nothing: another node may take it.
+        files = sorted(set(os.listdir(folder)) - {"lock"})
+        if files not in ([], FILES) and (BY_NEED not in self.kind.more or files != sorted([*FILES, "invalid.txt"])):
             return f"leaves {files}"
         if files:
             audit = [self.regchain, "audit", "--quick", "--saved", folder]
@@ -230,14 +283,24 @@ class Sweep:
             if method in ("told", "note", "journal", "wait", "getblock", "getblockheader", "getblockhash", "coins"):
                 continue  # seat 1 runs beside seat 0
             if method == "finish":
-                if folder and answer["result"]["at"] != len(journal):
+                if folder and BY_NEED not in self.kind.more and answer["result"]["at"] != len(journal):
                     return f"answers {answer}, and the journal has {len(journal)} lines"
                 continue
             if not is_told:
                 return f"answers {answer} where none was refused"
             if method in ("submit", "invalidate", "reconsider", "precious") and journal and told != "decode-failed":
-                if not journal[answer["result"]["at"] - 1].endswith(f" = {told}"):
+                if BY_NEED not in self.kind.more and not journal[answer["result"]["at"] - 1].endswith(f" = {told}"):
                     return f"answers {answer}, and the journal has another reply"
+        return self.lost_step(answers, journal) if folder and BY_NEED in self.kind.more else None
+
+    def lost_step(self, answers, journal):
+        """A reply of a node by need that its saved journal, which has no verdicts, doesn't have in its turn."""
+        replies = iter([line.split(" = ")[1] for line in journal])
+        for answer in answers:
+            told = answer.get("result", {}).get("answer")
+            is_step = json.loads(self.lines[answer["id"]])["method"] in ("submit", "invalidate", "reconsider", "precious")
+            if is_step and isinstance(told, str) and told != "decode-failed" and told not in replies:
+                return f"answers {answer}, and the journal lacks it"
         return None
 
 
@@ -250,7 +313,7 @@ def kinds(regchain, room):
     found += [Kind("each line after an answer", one_by_one, lines, [], count) for count in (1, 6)]
     for name in (f"--blk {saved}/blocks.blk", f"--load {saved}"):
         found.append(Kind(name.split()[0], one_by_one, READS, name.split(), 1))
-    return found
+    return [*found, *by_need(regchain, room)]
 
 
 def play(regchain, room, places, faults, pool):

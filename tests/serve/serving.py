@@ -72,8 +72,11 @@ class Served:
             self.process.stdin.close()
         except BrokenPipeError:
             pass
+        late = threading.Timer(running.SECONDS, self.process.kill)
+        late.start()
         err = self.process.stderr.read().decode("latin-1")
         status = self.process.wait(running.SECONDS)
+        late.cancel()
         self.reader.join(running.SECONDS)
         self.process.stdout.close()
         self.process.stderr.close()

@@ -48,6 +48,22 @@ class Limits(ProgramTest):
         self.assertEqual(served.wait(running.SECONDS), 0)
         served.stdout.close()
 
+    def allocations(self, id: str) -> int:
+        """How many allocations a node makes which answers 100 steps and 100 refusals to requests of this id."""
+        mark = request(id, "precious", seat=0, id=GENESIS)
+        env = {"LD_PRELOAD": self.path("shim.so"), "REFUSE_AT": "0", "REFUSE_REPORT": self.path("report")}
+        ended = play(self.folder, (mark + request(id, "none", seat=0)) * 100, "--seats", "1", env=env)
+        self.assertEqual([it["id"] for it in ended.answers], [id] * 200)
+        return int(self.read("report").split()[0])
+
+    def test_room_for_an_answer(self) -> None:
+        """Room for the line that answers a request is asked for at once, before its turn: an id that is written with many escapes, each
+        of six bytes, takes no allocation more than one of as many letters."""
+        source = os.path.join(running.ROOT, "tests", "refusals", "shim.c")
+        subprocess.run(["cc", "-O2", "-shared", "-fPIC", "-o", self.path("shim.so"), source], check=True)
+        plain, escaped = self.allocations("x" * 400), self.allocations("\1" * 400)
+        self.assertLess(escaped, plain + 100)
+
     def test_memory_does_not_grow_with_answers(self) -> None:
         served = Served(self.folder, "--seats", "4")
         self.addCleanup(served.kill)

@@ -2,6 +2,7 @@
 from __future__ import annotations
 
 import os
+import shutil
 import subprocess
 import sys
 import time
@@ -76,7 +77,7 @@ class Folders(ProgramTest):
         served = Served(self.folder, "--load", "saved", "--save", "saved")
         self.assertEqual(self.submit(served, "q2", 0), "inconclusive")
         served.kill()
-        self.assertEqual((self.files("saved"), sorted(os.listdir(self.path("saved")))), (before, sorted(FILES)))
+        self.assertEqual((self.files("saved"), sorted(os.listdir(self.path("saved")))), (before, sorted([*FILES, "lock"])))
         served = Served(self.folder, "--load", "saved", "--save", "saved")
         self.addCleanup(served.kill)
         self.assertEqual(served.ask("note", seat=1), {"at": 0})
@@ -134,7 +135,7 @@ class Folders(ProgramTest):
         served = Served(self.folder, "--save", "saved")
         self.addCleanup(served.kill)
         self.assertEqual(self.submit(served, "b1", 0), "accepted")
-        os.rmdir(self.path("saved"))
+        shutil.rmtree(self.path("saved"))
         error = {"code": -32004, "message": "not saved"}
         self.assertEqual(served.answer("finish")["error"], error)
         why = "cannot write saved/journal.txt"
@@ -166,7 +167,7 @@ class Folders(ProgramTest):
         ended = subprocess.run([sys.executable, "-c", client, running.PROGRAM], cwd=self.folder, stdout=PIPE, stderr=PIPE, timeout=60)
         self.assertEqual(ended.returncode, -9)
         wait_for_end(int(ended.stdout))
-        self.assertEqual(sorted(os.listdir(self.path("saved"))), sorted(FILES))
+        self.assertEqual(sorted(os.listdir(self.path("saved"))), sorted([*FILES, "lock"]))
         self.assertTrue(self.read("saved/journal.txt").startswith(self.line(1, "seat0", "b1", "accepted")))
         self.expect_agrees("saved")
 

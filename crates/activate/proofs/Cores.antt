@@ -1,16 +1,12 @@
 -- What is kept beside the tree, when the tree changes.
-use Rattle.std.proofs.Common.{◌≡◌, ℕ, suc, ◌<◌, ◌≤◌, List, [], ◌∷◌, length, map, reverse, sym, ap, ◌∙◌, subst, arith}
+use Rattle.std.proofs.Common.{◌≡◌, ℕ, suc, ◌≤◌, List, length, map, reverse, sym, ap, ◌∙◌, subst}
 use Rattle.std.proofs.lemmas.List.{length-map, length-reverse}
 use Rattle.block.specs.declared.block.Block.{Block}
 use Rattle.coins.specs.declared.coin.Coin.{Coin}
-use Rattle.tree.specs.Branches.{Blocks, branch, height, older_of}
-use Rattle.tree.specs.Names.{names}
-use Rattle.tree.specs.laws.Branches.{branch_head, branch_there, height_there}
-use Rattle.tree.specs.laws.Added.{blocks-old}
-use Rattle.chain.specs.Regtest.{medians_of}
+use Rattle.tree.specs.Branches.{Blocks, branch, height}
+use Rattle.tree.specs.laws.Branches.{branch_head}
 use Rattle.activate.specs.inside.Keeping.{HasRoom, IsBranch}
 use Rattle.activate.specs.inside.ActiveBranch.{median_at}
-use Rattle.activate.specs.laws.Growing.{highest-old}
 use Rattle.activate.specs.laws.Turning.{medians-branch}
 
 -- of other blocks that are the same
@@ -19,25 +15,6 @@ branch_of_same t u p places medians undo e is = subst (λ (w : Blocks Block). Is
 
 pub room_of_same : (t u : Blocks Block) (a b c : ℕ) → ◌≡◌ {A = Blocks Block} u t → HasRoom t a b c → HasRoom u a b c
 room_of_same t u a b c e is = subst (λ (w : Blocks Block). HasRoom w a b c) (sym e) is
-
--- without the block that came last
-pub branch-before : (t : Blocks Block) (p : ℕ) (places medians : List ℕ) (undo : List (List (List Coin))) → p < length t → IsBranch t p places medians undo → IsBranch (older_of t) p places medians undo
-branch-before [] p places medians undo l is = absurd (omega arith)
-branch-before (k ∷ older) p places medians undo l is = record {
-  places_are = is.places_are ∙ ap (λ (q : List ℕ). reverse q) (branch_there k older p (omega arith));
-  medians_are = is.medians_are ∙ ap (λ (q : List Block). reverse (medians_of q)) (blocks-old names k older p (omega arith));
-  undo_is = is.undo_is ∙ highest-old k older p (length undo) (omega arith);
-  undo_few = is.undo_few;
-  undo_above = (let tall = height_there k older p (omega arith) in let a = is.undo_above in omega arith);
-}
-
-pub room-before : (t : Blocks Block) (a b c : ℕ) → HasRoom t a b c → HasRoom (older_of t) a b c
-room-before [] a b c is = is
-room-before (k ∷ older) a b c is = record { for_places = (let w = is.for_places in omega arith); for_medians = (let w = is.for_medians in omega arith); for_undo = is.for_undo }
-
-pub older-long : (t : Blocks Block) (p : ℕ) → p < length t → p ≤ length (older_of t)
-older-long [] p l = omega arith
-older-long (k ∷ older) p l = omega arith
 
 module _ (t : Blocks Block) (p : ℕ) (h : p ≤ length t) (places medians : List ℕ) (undo : List (List (List Coin))) (is : IsBranch t p places medians undo) where
   branch-long : length (branch t p) ≡ suc (height t p)

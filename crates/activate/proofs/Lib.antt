@@ -1,4 +1,3 @@
-pub mod Commits
 pub mod Cores
 pub mod InHand
 pub mod NewBlock

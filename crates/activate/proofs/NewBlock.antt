@@ -1,5 +1,5 @@
 -- A new block on a kept one, in a chainstate that follows its commands.
-use Rattle.std.proofs.Common.{◌≡◌, ℕ, suc, ◌≤◌, true, false, [], length, Option, None, refl, sym, ap, subst, ◌∙◌, arith}
+use Rattle.std.proofs.Common.{◌≡◌, ℕ, suc, ◌≤◌, true, false, [], length, Option, None, sym, ap, subst, ◌∙◌}
 use Rattle.std.specs.Option.{unwrap_or}
 use Rattle.hash.specs.declared.id.Id.{Id}
 use Rattle.block.specs.declared.block.Block.{Block}
@@ -7,13 +7,15 @@ use Rattle.curve.specs.Triple.{Triples}
 use Rattle.txn.specs.First.{first_broken}
 use Rattle.rules.specs.Alone.{alone_rules}
 use Rattle.tree.specs.Names.{names}
-use Rattle.tree.specs.Sound.{IsBest, IsFresh}
+use Rattle.tree.specs.Nodes.{CanKeep}
+use Rattle.tree.specs.Sound.{IsBest}
 use Rattle.tree.specs.State.{beats, has_no_mark}
 use Rattle.tree.specs.laws.Added.{place-bound}
 use Rattle.activate.specs.declared.path.Attempt.{Attempt}
 use Rattle.activate.specs.declared.prepared.Prepared.{Prepared}
 use Rattle.activate.specs.declared.prepared.Settled.{Settled}
-use Rattle.activate.specs.declared.prepared.TreeChange.TheVariants.{BlockAdded}
+use Rattle.activate.specs.declared.prepared.Edit.TheVariants.{Keep}
+use Rattle.tree.specs.declared.new_block.NewBlock.{NewBlock}
 use Rattle.activate.specs.declared.prepared.Completion.{Completion}
 use Rattle.activate.specs.declared.prepared.Completion.TheVariants.{Nothing}
 use Rattle.chain.specs.declared.reply.SubmitReply.{SubmitReply}
@@ -30,7 +32,7 @@ use Rattle.chain.specs.laws.Settled.{settle-blocks}
 use Rattle.chain.specs.laws.Steps.{faultless-alone, faultless-parent, step-added, step-beside}
 use Rattle.activate.specs.CoreState.{CoreState, Follows, coins_of}
 use Rattle.activate.specs.inside.Paths.{IsAttempt}
-use Rattle.activate.specs.inside.Preparation.{CanTry, IsPreparationFor, IsSettledBy, IsTried, Settles, core_with_block}
+use Rattle.activate.specs.inside.Preparation.{CanTry, IsPreparationFor, IsSettledBy, IsTried, Settles, core_with_block, edited}
 use Rattle.activate.proofs.Plans.{can-follows}
 use Rattle.activate.proofs.Planned.{best-added, can-added, coins-added, one-try-added, plan-settled, says-added, settles-beside}
 
@@ -93,10 +95,11 @@ module _ (triples : Triples) (a : CoreState) (follows : Follows a triples) (now 
   }
 
   -- what is prepared for it
-  pub plan_new : (s : Settled) → IsSettledBy r grown n s → IsFresh names grown.state
-      → IsPreparationFor r a (step r a.state (Submit now b)) grown (record { reply = reply.Submit s.said; first = BlockAdded; rest = s.rest; changes = s.changes })
-  plan_new s by fresh =
-      let prepared : Prepared = record { reply = reply.Submit s.said; first = BlockAdded; rest = s.rest; changes = s.changes } in
-      let active = can.kept in
-      plan-settled r a grown s.rest s.changes by.settles can_new.genesis prepared refl refl (step r a.state (Submit now b)) BlockAdded refl refl coins_new refl (omega arith, fresh)
-      (says-added r a follows.sound b p can alone_new below_new is.unknown is.parent s.said by.said ∙ sym (step-added r a.state now b p is))
+  pub plan_new : (s : Settled) → IsSettledBy r grown n s → (new : NewBlock) → CanKeep a.state new → new.block ≡ b → new.parent ≡ p
+      → IsPreparationFor r a (step r a.state (Submit now b)) (record { reply = reply.Submit s.said; edit = Keep new; rest = s.rest; changes = s.changes })
+  plan_new s by new can_keep block_is parent_is =
+      let prepared : Prepared = record { reply = reply.Submit s.said; edit = Keep new; rest = s.rest; changes = s.changes } in
+      let same : edited a prepared.edit ≡ grown = ap (λ (x : Block). core_with_block a x new.parent) block_is ∙ ap (core_with_block a b) parent_is in
+      plan-settled r a prepared can_keep (subst (λ (x : CoreState). Settles r x s.rest s.changes) (sym same) by.settles) (ap (λ (x : CoreState). has_no_mark x.state 0) same ∙ can_new.genesis)
+      (step r a.state (Submit now b)) (ap coins_of same ∙ coins_new)
+      (ap (λ (x : CoreState). (settle r x.state, prepared.reply)) same ∙ says-added r a follows.sound b p can alone_new below_new is.unknown is.parent s.said by.said ∙ sym (step-added r a.state now b p is))

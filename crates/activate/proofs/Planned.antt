@@ -19,10 +19,10 @@ use Rattle.tree.specs.laws.Ranks.{better_trans, better-height, better-called, be
 use Rattle.tree.specs.laws.Sets.{clash, InOrder, none_above, has-filter, in_order-joined, joined_more, filter_agree, has-joined}
 use Rattle.tree.specs.laws.Added.{blocks-old, usable_new, usable_there, better_there}
 use Rattle.activate.specs.declared.prepared.Prepared.{Prepared}
-use Rattle.activate.specs.declared.prepared.TreeChange.{TreeChange}
-use Rattle.activate.specs.declared.prepared.TreeChange.TheVariants.{Unchanged}
+use Rattle.activate.specs.declared.prepared.Edit.{Edit}
+use Rattle.activate.specs.declared.prepared.Edit.TheVariants.{Remark}
 use Rattle.activate.specs.declared.prepared.Completion.{Completion}
-use Rattle.activate.specs.declared.prepared.Completion.TheVariants.{Nothing, Remark}
+use Rattle.activate.specs.declared.prepared.Completion.TheVariants.{Nothing, Activate}
 use Rattle.chain.specs.declared.reply.Reply.{Reply}
 use Rattle.chain.specs.declared.reply.Reply.TheVariants as reply
 use Rattle.chain.specs.declared.reply.SubmitReply.{SubmitReply}
@@ -37,7 +37,7 @@ use Rattle.chain.specs.Settled.{IsSettled}
 use Rattle.chain.specs.Replay.{replay}
 use Rattle.chain.specs.Regtest.{ledger}
 use Rattle.activate.specs.CoreState.{CoreState, coins_after, coins_of}
-use Rattle.activate.specs.inside.Preparation.{CanActivate, CanTry, CanBeTakenBack, HasOtherMarks, IsOneTry, IsPreparationFor, IsReady, ChangesNothing, Settles, TriesLead, core_after_activation, core_after_commit, core_after_rollback, state_before_change}
+use Rattle.activate.specs.inside.Preparation.{CanActivate, CanEdit, CanFinish, CanTry, HasOtherMarks, IsOneTry, IsPreparationFor, ChangesNothing, Settles, TriesLead, core_after_activation, core_after_commit, core_after_finish, edited}
 use Rattle.chain.specs.laws.Actives.{active_kept, active_usable, active_valid}
 use Rattle.chain.specs.laws.Connected.{valid_there}
 use Rattle.chain.specs.laws.Ordinary.{active-beside, settle-beside}
@@ -73,40 +73,28 @@ in_order-filter n set f order =
 
 module _ (r : Rules Block Id) where
   -- what is prepared for a command that changes nothing
-  pub plan-still : (a : CoreState) (reply : Reply) (prepared : Prepared) (after : Outcome Block) → a.active ≡ active r a.state → ChangesNothing reply prepared → (a.state, reply) ≡ after → IsPreparationFor r a after a prepared
+  pub plan-still : (a : CoreState) (reply : Reply) (prepared : Prepared) (after : Outcome Block) → a.active ≡ active r a.state → ChangesNothing reply prepared → (a.state, reply) ≡ after → IsPreparationFor r a after prepared
   plan-still a reply prepared after act still e =
-      let rest : core_after_commit r a prepared.rest ≡ a = ap (core_after_commit r a) still.rest_is in
+      let done : core_after_commit r a prepared ≡ a = ap (λ (x : Edit). core_after_finish r (edited a x) prepared.rest) still.edit_is ∙ ap (core_after_finish r a) still.rest_is in
       record {
-        params_are = refl;
-        outcome_is = ap (λ (x : CoreState). (x.state, prepared.reply)) rest ∙ ap (λ (x : Reply). (a.state, x)) still.reply_is ∙ e;
-        active_is = ap (λ (x : CoreState). x.active) rest ∙ act ∙ sym (ap (λ (x : CoreState). active r x.state) rest);
-        changes_are = subst (λ (x : CoreState). AreChanges (coins_of a) (coins_of x) prepared.changes) (sym rest) (no_changes (coins_of a) prepared.changes still.changes_are);
-        ready = subst (λ (x : Completion). IsReady r a x) (sym still.rest_is) tt;
-        can_go_back = subst (λ (f : TreeChange). CanBeTakenBack f a.active a.state) (sym still.first_is) tt;
-        back_is = ap (core_after_rollback a) still.first_is;
+        outcome_is = ap (λ (x : CoreState). (x.state, prepared.reply)) done ∙ ap (λ (x : Reply). (a.state, x)) still.reply_is ∙ e;
+        active_is = ap (λ (x : CoreState). x.active) done ∙ act ∙ sym (ap (λ (x : CoreState). active r x.state) done);
+        changes_are = subst (λ (x : CoreState). AreChanges (coins_of a) (coins_of x) prepared.changes) (sym done) (no_changes (coins_of a) prepared.changes still.changes_are);
+        ready = record {
+          edit = subst (λ (x : Edit). CanEdit a.state x) (sym still.edit_is) tt;
+          rest = subst (λ (x : Completion). CanFinish r (edited a prepared.edit) x) (sym still.rest_is) tt;
+        };
       }
 
-  -- the state is settled after something was first done to the tree: a is before it, and b after it
-  module _ (a b : CoreState) (rest : Completion) (changes : Changes) (settled : Settles r b rest changes) (genesis : has_no_mark b.state 0 ≡ true)
-      (prepared : Prepared) (rest_is : prepared.rest ≡ rest) (changes_is : prepared.changes ≡ changes) where
-    pub plan-settled : (after : Outcome Block) (first : TreeChange) → prepared.first ≡ first → b.params ≡ a.params → coins_of b ≡ coins_of a → record b { state = state_before_change first b.state } ≡ a
-        → CanBeTakenBack first b.active b.state → (settle r b.state, prepared.reply) ≡ after → IsPreparationFor r a after b prepared
-    plan-settled after first first_is params coins rollback can e =
-        let done : core_after_commit r b prepared.rest ≡ core_after_commit r b rest = ap (core_after_commit r b) rest_is in
-        let state : (core_after_commit r b prepared.rest).state ≡ settle r b.state = ap (λ (x : CoreState). x.state) done ∙ settled.state_is in
-        record {
-          params_are = params;
-          outcome_is = ap (λ (s : State Block). (s, prepared.reply)) state ∙ e;
-          active_is =
-              ap (λ (x : CoreState). x.active) done ∙ settled.active_is ∙ sym (active-settle r b.state genesis) ∙ sym (ap (active r) state);
-          changes_are =
-              subst (λ (l : Changes). AreChanges (coins_of a) (coins_of (core_after_commit r b prepared.rest)) l) (sym changes_is)
-              (subst (λ (x : CoreState). AreChanges (coins_of a) (coins_of x) changes) (sym done)
-              (subst (λ (m : Coins). AreChanges m (coins_of (core_after_commit r b rest)) changes) coins settled.changes_are));
-          ready = subst (λ (x : Completion). IsReady r b x) (sym rest_is) settled.ready;
-          can_go_back = subst (λ (f : TreeChange). CanBeTakenBack f b.active b.state) (sym first_is) can;
-          back_is = ap (core_after_rollback b) first_is ∙ rollback;
-        }
+  -- the tree changes, and then the state is settled
+  module _ (a : CoreState) (prepared : Prepared) (can : CanEdit a.state prepared.edit) (settled : Settles r (edited a prepared.edit) prepared.rest prepared.changes) (genesis : has_no_mark (edited a prepared.edit).state 0 ≡ true) where
+    pub plan-settled : (after : Outcome Block) → coins_of (edited a prepared.edit) ≡ coins_of a → (settle r (edited a prepared.edit).state, prepared.reply) ≡ after → IsPreparationFor r a after prepared
+    plan-settled after coins e = record {
+      outcome_is = ap (λ (s : State Block). (s, prepared.reply)) settled.state_is ∙ e;
+      active_is = settled.active_is ∙ sym (active-settle r (edited a prepared.edit).state genesis) ∙ sym (ap (active r) settled.state_is);
+      changes_are = subst (λ (m : Coins). AreChanges m (coins_of (core_after_commit r a prepared)) prepared.changes) coins settled.changes_are;
+      ready = record { edit = can; rest = settled.ready };
+    }
 
   -- marks are to be changed: from s, which has others than a, tries led to t, whose best block is valid
   module _ (a : CoreState) (s t : State Block) (place : ℕ) (found : Reorganisation) (marks : List BlockMark) (can : CanTry r (record a { state = s })) (other : HasOtherMarks a.state s) (lead : TriesLead r a s t)
@@ -134,34 +122,29 @@ module _ (r : Rules Block Id) where
     good : branch_connects r t.blocks place ≡ true
     good = subst (λ (u : Blocks Block). branch_connects r u place ≡ true) (sym same_blocks) moves.good
 
-    pub plan-marks : (prepared : Prepared) → prepared.rest ≡ Remark marks place found.path found.undo → prepared.changes ≡ found.changes → prepared.first ≡ Unchanged → prepared.reply ≡ reply.Mark Done
-        → IsPreparationFor r a (mark_says (settle r s) Done) a prepared
-    plan-marks prepared rest_is changes_is first_is reply_is =
-        let done : core_after_commit r a prepared.rest ≡ core_after_activation r (record a { state = t }) place found.path =
-        ap (core_after_commit r a) rest_is ∙ ap (λ (u : State Block). core_after_activation r (record a { state = u }) place found.path) over in
-        let state : (core_after_commit r a prepared.rest).state ≡ settle r s = ap (λ (x : CoreState). x.state) done ∙ sym (settle-best r t place lead.can.genesis best good) ∙ lead.settles in
+    pub plan-marks : IsPreparationFor r a (mark_says (settle r s) Done) (record { reply = reply.Mark Done; edit = Remark marks; rest = Activate place found.path found.undo; changes = found.changes })
+    plan-marks =
+        let end : CoreState = core_after_activation r (record a { state = laid a.state marks }) place found.path in
+        let done : end ≡ core_after_activation r (record a { state = t }) place found.path = ap (λ (u : State Block). core_after_activation r (record a { state = u }) place found.path) over in
+        let state : end.state ≡ settle r s = ap (λ (x : CoreState). x.state) done ∙ sym (settle-best r t place lead.can.genesis best good) ∙ lead.settles in
         record {
-          params_are = refl;
-          outcome_is = ap (λ (u : State Block). (u, prepared.reply)) state ∙ ap (λ (x : Reply). (settle r s, x)) reply_is;
+          outcome_is = ap (λ (u : State Block). (u, reply.Mark Done)) state;
           active_is =
               ap (λ (x : CoreState). x.active) done ∙ sym (active-best r t place lead.can.genesis best good) ∙ lead.active_is
               ∙ sym (active-settle r s can.genesis) ∙ sym (ap (active r) state);
           changes_are =
-              subst (λ (l : Changes). AreChanges (coins_of a) (coins_of (core_after_commit r a prepared.rest)) l) (sym changes_is)
-              (subst (λ (x : CoreState). AreChanges (coins_of a) (coins_of x) found.changes) (sym done)
-              (subst (λ (u : Blocks Block). AreChanges (coins_of a) (coins_after u place) found.changes) (sym (tried-blocks r t place ∙ same_blocks)) moves.changes));
-          ready = subst (λ (x : Completion). IsReady r a x) (sym rest_is) (
-            over_marks,
-            subst (λ (u : State Block). CanActivate r (record a { state = u }) place found.path found.undo.items) (sym over) (record {
+              subst (λ (x : CoreState). AreChanges (coins_of a) (coins_of x) found.changes) (sym done)
+              (subst (λ (u : Blocks Block). AreChanges (coins_of a) (coins_after u place) found.changes) (sym (tried-blocks r t place ∙ same_blocks)) moves.changes);
+          ready = record {
+            edit = over_marks;
+            rest = subst (λ (u : State Block). CanActivate r (record a { state = u }) place found.path found.undo.items) (sym over) (record {
               can = lead.can;
               kept = best.kept;
               is_way = subst (λ (u : Blocks Block). IsPath u a.active place found.path) (sym same_blocks) moves.path;
               good = good;
               undo_is = moves.undo ∙ ap (λ (u : Blocks Block). reverse (map (undo_at u) found.path.up.items)) (sym same_blocks);
-            }),
-          );
-          can_go_back = subst (λ (x : TreeChange). CanBeTakenBack x a.active a.state) (sym first_is) tt;
-          back_is = ap (core_after_rollback a) first_is;
+            });
+          };
         }
 
   -- ---- what is right after something was first done to the tree

@@ -6,7 +6,6 @@ use Rattle.hash.specs.declared.id.Id.{Id}
 use Rattle.block.specs.declared.block.Block.{Block}
 use Rattle.coins.specs.declared.coin.Coin.{Coin}
 use Rattle.tree.specs.Branches.{Blocks, first_of, rest_of, branch, before, height, on, parent_at}
-use Rattle.tree.specs.Nodes.{laid}
 use Rattle.tree.specs.Tips.{last_shared}
 use Rattle.tree.specs.laws.Above.{above, above-end, above-step, IsShared, last-shared}
 use Rattle.tree.specs.laws.Branches.{on-bounds, on-itself}
@@ -15,7 +14,7 @@ use Rattle.tree.specs.laws.Walks.{shared_here}
 use Rattle.activate.specs.declared.path.BranchPath.{BranchPath}
 use Rattle.activate.specs.declared.prepared.Prepared.{Prepared}
 use Rattle.activate.specs.declared.prepared.Completion.{Completion}
-use Rattle.activate.specs.declared.prepared.Completion.TheVariants.{Nothing, Flag, Activate, Remark}
+use Rattle.activate.specs.declared.prepared.Completion.TheVariants.{Nothing, Flag, Activate}
 use Rattle.curve.specs.Triple.{Triples}
 use Rattle.chain.specs.declared.command.Command.{Command}
 use Rattle.chain.specs.Regtest.{regtest}
@@ -26,7 +25,7 @@ use Rattle.chain.specs.laws.Actives.{active_kept}
 use Rattle.chain.specs.laws.Tries.{tried-blocks}
 use Rattle.activate.specs.CoreState.{CoreState, Follows, HasOneMore, UndoFollows, lesser_of, most_undo}
 use Rattle.activate.specs.inside.Paths.{IsPath}
-use Rattle.activate.specs.inside.Preparation.{CanActivate, IsPreparation, IsPreparationFor, IsReady, core_after_activation, core_after_commit, undo_after}
+use Rattle.activate.specs.inside.Preparation.{CanActivate, CanFinish, IsPreparation, IsPreparationFor, core_after_activation, core_after_commit, core_after_finish, edited, undo_after}
 use Rattle.activate.specs.laws.Turning.{come}
 use Rattle.activate.proofs.Outcomes.{follows-plan}
 
@@ -81,16 +80,14 @@ after-activation r a b p path undo ready same kept z h =
     let parent : parent_at t p ≡ b.active = ap (λ (u : Blocks Block). parent_at u p) (sym (tried-blocks r b.state p)) ∙ h ∙ sym same in
     one-more t b.active p path ready.is_way ready.kept z parent b.undo_kept ∙ ap (λ (n : ℕ). lesser_of most_undo (suc n)) kept
 
-after-commit : (r : Rules Block Id) (a b : CoreState) (rest : Completion) → IsReady r b rest → b.active ≡ a.active → b.undo_kept ≡ a.undo_kept → HasOneMore a (core_after_commit r b rest)
-after-commit r a b Nothing ready same kept z h = absurd (own_parent b.state.blocks a.active b.active same z h)
-after-commit r a b (Flag p failed) ready same kept z h =
+after-finish : (r : Rules Block Id) (a b : CoreState) (rest : Completion) → CanFinish r b rest → b.active ≡ a.active → b.undo_kept ≡ a.undo_kept → HasOneMore a (core_after_finish r b rest)
+after-finish r a b Nothing ready same kept z h = absurd (own_parent b.state.blocks a.active b.active same z h)
+after-finish r a b (Flag p failed) ready same kept z h =
     absurd (own_parent b.state.blocks a.active b.active same z (ap (λ (t : Blocks Block). parent_at t b.active) (sym (tried-blocks r b.state p)) ∙ h))
-after-commit r a b (Activate p path undo) ready same kept z h = after-activation r a b p path undo.items ready same kept z h
-after-commit r a b (Remark marks p path undo) ready same kept z h = after-activation r a (record b { state = laid b.state marks }) p path undo.items ready.1 same kept z h
+after-finish r a b (Activate p path undo) ready same kept z h = after-activation r a b p path undo.items ready same kept z h
 
-pub more-undo : (r : Rules Block Id) (a b : CoreState) (after : Outcome Block) (prepared : Prepared) → IsPreparationFor r a after b prepared → HasOneMore a (core_after_commit r b prepared.rest)
-more-undo r a b after prepared is =
-    after-commit r a b prepared.rest is.ready (ap (λ (x : CoreState). x.active) is.back_is) (ap (λ (x : CoreState). x.undo_kept) is.back_is)
+pub more-undo : (r : Rules Block Id) (a : CoreState) (after : Outcome Block) (prepared : Prepared) → IsPreparationFor r a after prepared → HasOneMore a (core_after_commit r a prepared)
+more-undo r a after prepared is = after-finish r a (edited a prepared.edit) prepared.rest is.ready.rest refl refl
 
 -- ---- where any block becomes active
 
@@ -130,7 +127,7 @@ module _ (a : CoreState) (few : a.undo_kept ≤ most_undo) where
       ∙ ap (λ (n : ℕ). lesser_of most_undo ((n - (height b.state.blocks a.active - height b.state.blocks (last_shared b.state.blocks a.active p))) + (height b.state.blocks p - height b.state.blocks (last_shared b.state.blocks a.active p)))) kept
       ∙ ap (λ (u : Blocks Block). lesser_of most_undo ((a.undo_kept - (height u a.active - height u (last_shared u a.active p))) + (height u p - height u (last_shared u a.active p)))) (sym (tried-blocks r b.state p))
 
-  left-by : (r : Rules Block Id) (b : CoreState) (rest : Completion) → b.active ≡ a.active → b.undo_kept ≡ a.undo_kept → IsReady r b rest → (core_after_commit r b rest).active ≤ length (core_after_commit r b rest).state.blocks → UndoFollows a (core_after_commit r b rest)
+  left-by : (r : Rules Block Id) (b : CoreState) (rest : Completion) → b.active ≡ a.active → b.undo_kept ≡ a.undo_kept → CanFinish r b rest → (core_after_finish r b rest).active ≤ length (core_after_finish r b rest).state.blocks → UndoFollows a (core_after_finish r b rest)
   left-by r b Nothing same kept ready high =
       kept ∙ stays b.state.blocks a.active a.undo_kept (omega (arith, high, same)) few
       ∙ ap (λ (p : ℕ). lesser_of most_undo ((a.undo_kept - (height b.state.blocks a.active - height b.state.blocks (last_shared b.state.blocks a.active p))) + (height b.state.blocks p - height b.state.blocks (last_shared b.state.blocks a.active p)))) (sym same)
@@ -142,17 +139,16 @@ module _ (a : CoreState) (few : a.undo_kept ≤ most_undo) where
           kept ∙ stays t a.active a.undo_kept (omega (arith, l, same)) few
           ∙ ap (λ (x : ℕ). lesser_of most_undo ((a.undo_kept - (height t a.active - height t (last_shared t a.active x))) + (height t x - height t (last_shared t a.active x)))) (sym same)
   left-by r b (Activate p path undo) same kept ready high = moved r b p path undo.items same kept ready
-  left-by r b (Remark marks p path undo) same kept ready high = moved r (record b { state = laid b.state marks }) p path undo.items same kept ready.1
 
 -- how much undo stands after a command
-pub undo-follows : (a b : CoreState) (triples : Triples) (c : Command) (prepared : Prepared) → Follows a triples → IsPreparation (regtest a.params triples) a c b prepared → a.undo_kept ≤ most_undo
-    → UndoFollows a (core_after_commit (regtest a.params triples) b prepared.rest)
-undo-follows a b triples c prepared follows is few =
+pub undo-follows : (a : CoreState) (triples : Triples) (c : Command) (prepared : Prepared) → Follows a triples → IsPreparation (regtest a.params triples) a c prepared → a.undo_kept ≤ most_undo
+    → UndoFollows a (core_after_commit (regtest a.params triples) a prepared)
+undo-follows a triples c prepared follows is few =
     let r = regtest a.params triples in
-    let f : CoreState = core_after_commit r b prepared.rest in
-    let after = (follows-plan a b triples c prepared follows is).1 in
+    let f : CoreState = core_after_commit r a prepared in
+    let after = (follows-plan a triples c prepared follows is).1 in
     let high : f.active ≤ length f.state.blocks = subst (λ (p : ℕ). p ≤ length f.state.blocks) (sym after.active_is) (active_kept (regtest f.params triples) f.state after.sound.genesis) in
-    left-by a few r b prepared.rest (ap (λ (x : CoreState). x.active) is.back_is) (ap (λ (x : CoreState). x.undo_kept) is.back_is) is.ready high
+    left-by a few r (edited a prepared.edit) prepared.rest refl refl is.ready.rest high
 
 -- what is kept is few, as is told
 pub few-of : (told n : ℕ) → told ≡ n → told ≤ most_undo → n ≤ most_undo

@@ -35,7 +35,7 @@ branch_blocks t p = blocks_at names t (branch t p)
 abbrev pub coins_after : Blocks Block → ℕ → Coins
 coins_after t p = replay ledger (branch_blocks t p)
 
--- those of the active branch
+-- the coins that the active branch leaves
 abbrev pub coins_of : CoreState → Coins
 coins_of c = coins_after c.state.blocks c.active
 
@@ -77,8 +77,8 @@ abbrev pub HasOneMore : CoreState → CoreState → Type 0
 HasOneMore a b =
     0 < b.active → parent_at b.state.blocks b.active ≡ a.active → b.undo_kept ≡ lesser_of most_undo (suc a.undo_kept)
 
--- after the active block of b took the place of that of a: what was kept of the blocks that both branches share, and that
--- of each block above them, up to that many
+-- after the active block of b took the place of a's: the undo that was kept of the blocks that both branches share, and the
+-- undo of each block above them, up to that many
 abbrev pub UndoFollows : CoreState → CoreState → Type 0
 UndoFollows a b =
     let t = b.state.blocks in

@@ -47,10 +47,11 @@ pub record AreWantedBy (c : CoreState) (request : Request Block Id) (known : Kno
   pub to_settle : IsToSettle c known request state
   pub wanted : AreWantedToSettle (record c { state = state }) known list
 
--- the same of a command: bytes that spell no block want nothing
+-- a command's step wants what its request does; bytes that spell no block want nothing
 abbrev pub AreWantedByStep : CoreState → Command → Known → List Triple → Type 0
 AreWantedByStep c (command.Submit bytes now) known list =
     (b : Block) × (block_of_bytes bytes ≡ Some b) × AreWantedBy c (Submit now b) known list
 AreWantedByStep c (command.Invalidate id) known list = AreWantedBy c (Invalidate id) known list
 AreWantedByStep c (command.Reconsider id) known list = AreWantedBy c (Reconsider id) known list
 AreWantedByStep c (command.Precious id) known list = AreWantedBy c (Precious id) known list
+AreWantedByStep c (command.Learn triple valid) known list = ⊥

@@ -1,42 +1,40 @@
 //! The walk up a branch, block by block.
 
-ghost use Rattle.std.specs.Prelude.{◌≡◌, ◌≤◌, ◌<◌, ◌++◌, ◌∷◌, [], true, length, reverse, IfOk, IfErr, OnOk, None, IfSome};
+ghost use Rattle.std.specs.Prelude.{◌≡◌, ◌≤◌, ◌<◌, ◌++◌, ◌∷◌, [], length, IfOk, IfErr, OnOk, IfSome};
 ghost use Rattle.std.specs.Result.{result_err};
 ghost use Rattle.tree.specs.Branches.{parent_at, height};
-ghost use Rattle.chain.specs.Valid.{fault, branch_connects};
-ghost use Rattle.chain.specs.Regtest.{medians_of, regtest};
+ghost use Rattle.chain.specs.Valid.{fault};
+ghost use Rattle.chain.specs.Regtest.{regtest};
 ghost use Rattle.chain.specs.Settled.{AllKept};
-ghost use Rattle.activate.specs.CoreState.{branch_blocks, coins_after};
 ghost use Rattle.activate.specs.Wants.{AreWantedAt};
 ghost use Rattle.activate.specs.inside.Keeping.{undo_at};
-ghost use Rattle.activate.specs.inside.Ascents.{top_of, IsTop, AreWantedAbove, LeadsUp};
+ghost use Rattle.activate.specs.inside.Ascents.{top_of, IsApplied, IsTop, AreWantedAbove, LeadsUp};
 ghost use Rattle.activate.specs.inside.Paths.{IsStop};
 ghost use Rattle.curve.specs.Known.{Under};
 
 use crate::medians::Medians;
-use crate::path::BranchPath;
+use crate::path::{ActiveBranch, BranchPath};
 use coins::{Base, Cache};
-use connect::{Context, RunsScripts, connect_in_layer};
+use connect::{BlockWithIds, Context, RunsScripts, connect_in_layer};
 use queue::Gate;
-use rules::Params;
 use std::alloc::Global;
 use tree::Tree;
 use txn::{Reason, ids};
 use undo::BlockUndo;
 use wire::Memory;
 
-/// What a walk up a path leaves where each block connects.
+/// Blocks of a branch that were connected, the lowest first.
 #[derive(Drop)]
 pub(crate) struct Ascent<'b, 'm, B: Base> {
-    /// The layer that the blocks were applied to.
+    /// The layer that they were applied to.
     pub(crate) layer: Cache<'b, B>,
     /// What they spend, the lowest first.
     pub(crate) undo: Vec<BlockUndo>,
-    /// The medians of their branch.
+    /// The medians of the branch up to the last of them.
     pub(crate) medians: Medians<'m>,
 }
 
-/// What it leaves where one doesn't.
+/// What a walk up a path leaves where a block doesn't connect.
 #[derive(Drop)]
 pub(crate) struct Stop {
     /// How many blocks connect before that one.
@@ -45,95 +43,78 @@ pub(crate) struct Stop {
 }
 
 /// Connects the blocks of a path to the coins of the fork's branch, from the lowest on, up to the first that
-/// has a fault, where the layer is dropped. The medians are the fork's branch's, by height.
+/// has a fault, where the layer is dropped. It starts at the fork.
 pub(crate) fn connect_up<'b, 'm, B: Base, S: RunsScripts>(
     alloc: Global,
-    mut layer: Cache<'b, B>,
-    tree: &Tree,
-    params: &Params,
-    mut medians: Medians<'m>,
+    active_branch: &ActiveBranch<'_>,
+    start: Ascent<'b, 'm, B>,
     path: &BranchPath,
     env: &S,
     gate: &(dyn Gate + Sync),
 ) -> Result<Result<Ascent<'b, 'm, B>, Stop>, S::Stop>
-    requires path { LeadsUp tree.now.blocks path.now.fork path.now.up.items }
-    requires kept { Under (S.known env.now) (λ triples.
-        AllKept (regtest params.now triples) tree.now.blocks) }
-    requires good { Under (S.known env.now) (λ triples.
-        branch_connects (regtest params.now triples) tree.now.blocks path.now.fork ≡ true) }
-    requires coins { layer.coins ≡ coins_after tree.now.blocks path.now.fork }
-    requires medians { medians
-        ≡ reverse (medians_of (branch_blocks tree.now.blocks path.now.fork)) }
-    ensures top { IfOk result (λ answer. IfOk answer (λ ascent.
-        Under (S.known env.now) (λ triples.
-        IsTop (regtest params.now triples) tree.now.blocks path.now.fork path.now.up.items
-        layer.entry.base ascent.undo.items ascent.layer ascent.medians))) }
-    ensures stops { IfOk result (λ answer. IfErr answer (λ stop.
-        Under (S.known env.now) (λ triples.
-        IsStop (regtest params.now triples) tree.now.blocks
-        (top_of path.now.fork path.now.up.items) path.now.up.items
+    requires path { LeadsUp active_branch.now.tree.now.blocks path.now.fork path.now.up.items }
+    requires kept { let b = active_branch.now in Under (S.known env.now) (λ triples.
+        AllKept (regtest b.params.now triples) b.tree.now.blocks) }
+    requires start { let b = active_branch.now in Under (S.known env.now) (λ triples.
+        IsTop (regtest b.params.now triples) b.tree.now.blocks path.now.fork []
+        start.layer.base start.undo.items start.layer start.medians) }
+    ensures top { let b = active_branch.now in let base = start.entry.layer.base in
+        IfOk result (λ answer. IfOk answer (λ ascent. Under (S.known env.now) (λ triples.
+        IsTop (regtest b.params.now triples) b.tree.now.blocks path.now.fork path.now.up.items
+        base ascent.undo.items ascent.layer ascent.medians))) }
+    ensures stops { let b = active_branch.now in let up = path.now.up.items in
+        IfOk result (λ answer. IfErr answer (λ stop. Under (S.known env.now) (λ triples.
+        IsStop (regtest b.params.now triples) b.tree.now.blocks (top_of path.now.fork up) up
         stop.passed stop.reason))) }
-    ensures wants { IfErr result (λ stop. IfSome (S.told stop)
-        (AreWantedAbove params.now tree.now.blocks path.now.fork
+    ensures wants { let b = active_branch.now in IfErr result (λ stop. IfSome (S.told stop)
+        (AreWantedAbove b.params.now b.tree.now.blocks path.now.fork
         (top_of path.now.fork path.now.up.items) (S.known env.now))) }
 {
     let up = path.up.as_slice();
-    let mut undo = Vec::new(alloc);
+    let mut ascent = start;
     for passed in 0..up.len() {
         let place = up[up.len() - 1 - passed];
-        match connect_next(alloc, layer, tree, params, &mut medians, place, env, gate)? {
-            Ok((left, spent)) => {
-                layer = left;
-                append(&mut undo, spent)?;
-            }
+        match connect_next(alloc, active_branch, ascent, place, env, gate)? {
+            Ok(next) => ascent = next,
             Err(reason) => return Ok(Err(Stop { passed, reason })),
         }
     }
-    Ok(Ok(Ascent {
-        layer,
-        undo,
-        medians,
-    }))
+    Ok(Ok(ascent))
 }
 
-/// Connects the block at a place to the coins of its parent's branch, and adds its median to that branch's. The
-/// first rule that it breaks leaves the medians.
-fn connect_next<'b, B: Base, S: RunsScripts>(
+/// Connects the block at a place to the coins of its parent's branch.
+fn connect_next<'b, 'm, B: Base, S: RunsScripts>(
     alloc: Global,
-    layer: Cache<'b, B>,
-    tree: &Tree,
-    params: &Params,
-    medians: &mut Medians<'_>,
+    active_branch: &ActiveBranch<'_>,
+    start: Ascent<'b, 'm, B>,
     place: usize,
     env: &S,
     gate: &(dyn Gate + Sync),
-) -> Result<Result<(Cache<'b, B>, BlockUndo), Reason>, S::Stop>
+) -> Result<Result<Ascent<'b, 'm, B>, Reason>, S::Stop>
     requires above { 0 < place }
-    requires place { place ≤ length tree.now.blocks }
-    requires kept { Under (S.known env.now) (λ triples.
-        AllKept (regtest params.now triples) tree.now.blocks) }
-    requires coins { layer.coins ≡ coins_after tree.now.blocks
-        (parent_at tree.now.blocks place) }
-    requires medians { medians.old
-        ≡ reverse
-        (medians_of
-        (branch_blocks tree.now.blocks (parent_at tree.now.blocks place))) }
-    ensures fault { IfOk result (λ answer.
-        Under (S.known env.now) (λ triples. result_err answer
-        ≡ fault (regtest params.now triples) tree.now.blocks place)) }
-    ensures undo { IfOk result (λ answer.
-        IfOk answer (λ done. done.1 ≡ undo_at tree.now.blocks place)) }
-    ensures coins { IfOk result (λ answer.
-        IfOk answer (λ done. done.0.coins ≡ coins_after tree.now.blocks place)) }
-    ensures medians { IfOk result (λ answer.
-        OnOk answer
-        (medians.new
-        ≡ reverse (medians_of (branch_blocks tree.now.blocks place)))) }
-    ensures base { IfOk result (λ answer.
-        IfOk answer (λ done. done.0.base ≡ layer.entry.base)) }
-    ensures wants { IfErr result (λ stop. IfSome (S.told stop)
-        (AreWantedAt params.now tree.now.blocks (S.known env.now) place)) }
+    requires place { place ≤ length active_branch.now.tree.now.blocks }
+    requires kept { let b = active_branch.now in Under (S.known env.now) (λ triples.
+        AllKept (regtest b.params.now triples) b.tree.now.blocks) }
+    requires start { let t = active_branch.now.tree.now.blocks in
+        IsApplied t (parent_at t place) start.layer.base start.layer start.medians }
+    ensures fault { let b = active_branch.now in
+        IfOk result (λ answer. Under (S.known env.now) (λ triples.
+        result_err answer ≡ fault (regtest b.params.now triples) b.tree.now.blocks place)) }
+    ensures undo { let t = active_branch.now.tree.now.blocks in
+        IfOk result (λ answer. IfOk answer (λ next.
+        next.undo.items ≡ start.entry.undo.items ++ undo_at t place ∷ [])) }
+    ensures next { let t = active_branch.now.tree.now.blocks in
+        IfOk result (λ answer. IfOk answer (λ next.
+        IsApplied t place start.entry.layer.base next.layer next.medians)) }
+    ensures wants { let b = active_branch.now in IfErr result (λ stop. IfSome (S.told stop)
+        (AreWantedAt b.params.now b.tree.now.blocks (S.known env.now) place)) }
 {
+    let Ascent {
+        layer,
+        mut undo,
+        mut medians,
+    } = start;
+    let tree = active_branch.tree;
     let block = tree.block(place).read(alloc)?;
     let ids = ids(alloc, block.txs.as_slice())?;
     let below = medians.as_slice();
@@ -141,12 +122,21 @@ fn connect_next<'b, B: Base, S: RunsScripts>(
         height: height_of(tree, place),
         cutoff: below[below.len() - 1],
         medians: below,
-        params,
+        params: active_branch.params,
     };
-    match connect_in_layer(alloc, layer, &context, &block, &ids, env, gate)? {
-        Ok(done) => {
+    let of = BlockWithIds {
+        block: &block,
+        ids: ids.as_slice(),
+    };
+    match connect_in_layer(alloc, layer, &context, &of, env, gate)? {
+        Ok((layer, spent)) => {
             medians.push(alloc, tree.median(place))?;
-            Ok(Ok(done))
+            append(&mut undo, spent)?;
+            Ok(Ok(Ascent {
+                layer,
+                undo,
+                medians,
+            }))
         }
         Err(reason) => Ok(Err(reason)),
     }

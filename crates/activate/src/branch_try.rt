@@ -4,7 +4,7 @@ ghost use Rattle.std.specs.Prelude.{◌≡◌, ◌<◌, ◌≤◌, ◌∷◌, su
 ghost use Rattle.chain.specs.Regtest.{regtest};
 ghost use Rattle.chain.specs.Submitted.{IsJudged};
 ghost use Rattle.activate.specs.inside.Ascents.{IsTop};
-ghost use Rattle.activate.specs.inside.Paths.{AreWantedOnWay, IsActiveBranch, IsAttempt, IsPath, IsStop, IsValid};
+ghost use Rattle.activate.specs.inside.Paths.{AreWantedOnWay, IsActiveBranch, IsAttempt, IsPath, IsStop, IsValid, one_more};
 ghost use Rattle.curve.specs.Known.{Under};
 
 use crate::ascent::{Ascent, Stop, append, connect_up};
@@ -14,7 +14,7 @@ use crate::medians::Medians;
 use crate::path::{ActiveBranch, Attempt, BranchPath, FailedTry, Reorganisation};
 use chain::SubmittedBlock;
 use coins::{Base, Cache};
-use connect::{Context, RunsScripts, connect_in_layer};
+use connect::{BlockWithIds, Context, RunsScripts, connect_in_layer};
 use queue::Gate;
 use std::alloc::Global;
 use wire::Memory;
@@ -57,7 +57,7 @@ impl<'a> ActiveBranch<'a> {
         }
     }
 
-    /// The same of a block that isn't kept yet, as the next one, on this parent. It is used as it was read.
+    /// Tries a block that isn't kept yet, as the next one, on this parent. It is used as it was read.
     pub(crate) fn try_new_block<B: Base, S: RunsScripts>(
         &self,
         alloc: Global,
@@ -77,23 +77,19 @@ impl<'a> ActiveBranch<'a> {
             let b = self.now in
             let t = b.tree.now.blocks in
             IsAttempt (regtest b.params.now triples)
-            (record { block = submitted.now.block; parent = parent } ∷ t) b.active (suc (length t))
+            (one_more t submitted.now.block parent) b.active (suc (length t))
             attempt)) }
         ensures wants { IfErr result (λ stop. IfSome (S.told stop) (
             let b = self.now in
             let t = b.tree.now.blocks in
             AreWantedOnWay b.params.now
-            (record { block = submitted.now.block; parent = parent } ∷ t) b.active (suc (length t))
+            (one_more t submitted.now.block parent) b.active (suc (length t))
             (S.known env.now))) }
     {
         let (mut path, answer) = self.climb(alloc, base, parent, env, gate)?;
         let below = path.up.len();
         put_first(&mut path.up, self.tree.len())?;
-        let Ascent {
-            layer,
-            mut undo,
-            medians,
-        } = match answer {
+        let ascent = match answer {
             Ok(ascent) => ascent,
             Err(stop) => {
                 return Ok(Attempt::Fails(FailedTry {
@@ -103,14 +99,16 @@ impl<'a> ActiveBranch<'a> {
                 }));
             }
         };
+        let (layer, mut undo, medians) = (ascent.layer, ascent.undo, ascent.medians);
         let context = Context {
             height: (self.tree.height(parent) + 1) as u32,
             cutoff: self.tree.median(parent),
             medians: medians.as_slice(),
             params: self.params,
         };
-        let ids = submitted.ids.as_slice();
-        match connect_in_layer(alloc, layer, &context, &submitted.block, ids, env, gate)? {
+        let (block, ids) = (&submitted.block, submitted.ids.as_slice());
+        let of = BlockWithIds { block, ids };
+        match connect_in_layer(alloc, layer, &context, &of, env, gate)? {
             Ok((layer, spent)) => {
                 append(&mut undo, spent)?;
                 let changes = layer.into_changes();
@@ -156,18 +154,14 @@ impl<'a> ActiveBranch<'a> {
             (AreWantedOnWay b.params.now b.tree.now.blocks b.active place (S.known env.now))) }
     {
         let path = path_to(alloc, self, place)?;
-        let layer = disconnect_to_fork(
-            alloc,
-            Cache::over(alloc, base),
-            self.tree,
-            self.active,
-            self.branch,
-            self.undo,
-            path.fork,
-        )?;
+        let layer = disconnect_to_fork(alloc, self, Cache::over(alloc, base), path.fork)?;
         let medians = Medians::lent(alloc, &self.medians[..=path.height]);
-        let (tree, params) = (self.tree, self.params);
-        let answer = connect_up(alloc, layer, tree, params, medians, &path, env, gate)?;
+        let start = Ascent {
+            layer,
+            undo: Vec::new(alloc),
+            medians,
+        };
+        let answer = connect_up(alloc, self, start, &path, env, gate)?;
         Ok((path, answer))
     }
 }

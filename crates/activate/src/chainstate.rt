@@ -19,7 +19,7 @@ ghost use Rattle.activate.specs.Wants.{AreWantedByStep};
 
 use crate::active_branch::MOST_UNDO;
 use crate::core_state::Core;
-use crate::prepared::Prepared;
+use crate::laying::OwnCoins;
 use block::Bytes;
 use chain::{Command, PreparedCommand, Reply};
 use coins::CoinMap;
@@ -37,7 +37,7 @@ use wire::Memory;
 #[derive(Drop)]
 pub struct Chainstate {
     core: Core,
-    coins: CoinMap,
+    coins: OwnCoins,
 }
 
 impl Model for Chainstate {
@@ -73,7 +73,7 @@ impl Chainstate {
     {
         Ok(Chainstate {
             core: Core::with(alloc, params)?,
-            coins: CoinMap::new(alloc),
+            coins: OwnCoins::new(alloc),
         })
     }
 
@@ -87,7 +87,8 @@ impl Chainstate {
         env: &S,
         gate: &(dyn Gate + Sync),
     ) -> Result<Reply, S::Stop>
-        requires is_chainstate { Under (S.known env.now) (λ triples. IsChainstate self.old triples) }
+        requires is_chainstate { Under (S.known env.now) (λ triples.
+            IsChainstate self.old triples) }
         ensures outcome { IfOk result (λ reply. Under (S.known env.now) (λ triples.
             (self.new.core.state, reply)
             ≡ outcome (regtest self.old.core.params triples) self.old.core.state
@@ -103,22 +104,10 @@ impl Chainstate {
         // The clause on undo rests on it.
         let few = self.core.undo_kept() <= MOST_UNDO;
         prove!(few);
-        let Prepared {
-            reply,
-            first,
-            rest,
-            changes,
-        } = self.core.prepare(alloc, &self.coins, command, env, gate)?;
-        match self.coins.lay_taken(alloc, changes) {
-            Ok(()) => {
-                self.core.commit(rest);
-                Ok(reply)
-            }
-            Err(_) => {
-                self.core.roll_back(first);
-                Err(S::Stop::from(Memory))
-            }
-        }
+        let prepared = self
+            .core
+            .prepare(alloc, self.coins.map(), command, env, gate)?;
+        Ok(self.core.commit(alloc, prepared, &mut self.coins)?)
     }
 
     /// Takes commands one after the other. Out of memory leaves it behind the last command that was taken.
@@ -198,7 +187,7 @@ impl Chainstate {
             → result.now ≡ coins (regtest self.now.core.params triples) ledger
             self.now.core.state }
     {
-        &self.coins
+        self.coins.map()
     }
 
     /// Of how many of the highest active blocks undo is kept.

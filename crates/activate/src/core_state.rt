@@ -15,7 +15,7 @@ ghost use Rattle.activate.specs.CoreState.{Follows, IsBlockOf, coins_of, opened_
 mod committing;
 mod marking;
 pub(crate) mod preparing;
-mod settling;
+pub(crate) mod settling;
 mod stepping;
 
 use crate::active_branch::MOST_UNDO;

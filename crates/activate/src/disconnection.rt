@@ -1,15 +1,15 @@
 //! The blocks of the active branch, taken back from the coins.
 
-ghost use Rattle.std.specs.Prelude.{◌≡◌, ◌≤◌, ◌<◌, ◌+◌, [], true, length, reverse, IfOk};
+ghost use Rattle.std.specs.Prelude.{◌≡◌, ◌≤◌, ◌<◌, ◌+◌, [], true, length, IfOk};
 ghost use Rattle.std.proofs.Common.{get_or};
 ghost use Rattle.txn.specs.Identity.{ids_of};
-ghost use Rattle.tree.specs.Branches.{branch, on, height};
+ghost use Rattle.tree.specs.Branches.{on};
 ghost use Rattle.tree.specs.Limits.{max_blocks};
 ghost use Rattle.activate.specs.CoreState.{coins_after};
-ghost use Rattle.activate.specs.inside.Keeping.{highest_undo};
-ghost use Rattle.activate.specs.inside.Paths.{AreConnected};
-ghost use Rattle.activate.specs.inside.Disconnection.{place_at, AreIdsAbove, IsConnectedBranch, IsUndoAbove};
+ghost use Rattle.activate.specs.inside.Paths.{AreConnected, IsActiveBranch};
+ghost use Rattle.activate.specs.inside.Disconnection.{place_at, AreIdsAbove, AreOfBlocksAbove, IsConnectedBranch, IsUndoAbove};
 
+use crate::path::ActiveBranch;
 use block::Block;
 use coins::{Base, Cache, CoinMap};
 use connect::{apply_in_layer, disconnect_in_layer};
@@ -29,69 +29,79 @@ struct Replayed {
     ids: Vec<Parts<Id>>,
 }
 
-/// Takes the active blocks above the fork back from the coins (Bitcoin Core's `DisconnectTip`). The places are
-/// the active branch's by height, and the undo is of its highest blocks; where it ends above the fork, the undo of the
-/// blocks between is made anew. Out of memory, it drops the layer.
-pub(crate) fn disconnect_to_fork<'b, B: Base>(
-    alloc: Global,
-    layer: Cache<'b, B>,
-    tree: &Tree,
-    active: usize,
-    places: &[usize],
-    undo: &VecDeque<BlockUndo>,
-    fork: usize,
-) -> Result<Cache<'b, B>, Memory>
-    requires kept { active ≤ length tree.now.blocks }
-    requires on { on tree.now.blocks active fork ≡ true }
-    requires branch { places.now ≡ reverse (branch tree.now.blocks active) }
-    requires undo { undo.now.items ≡ highest_undo tree.now.blocks active (length undo.now.items) }
-    requires above { length undo.now.items ≤ height tree.now.blocks active }
-    requires connected { AreConnected tree.now.blocks active }
-    requires coins { layer.coins ≡ coins_after tree.now.blocks active }
-    ensures coins { IfOk result (λ left. left.coins ≡ coins_after tree.now.blocks fork) }
-    ensures base { IfOk result (λ left. left.base ≡ layer.entry.base) }
-{
-    let low = tree.height(fork);
-    // Undo is kept of the blocks above this height.
-    let kept = tree.height(active) - undo.len();
-    if kept <= low {
-        return disconnect_blocks(alloc, layer, tree, places, kept, undo, &[], low);
-    }
-    let layer = disconnect_blocks(alloc, layer, tree, places, kept, undo, &[], kept)?;
-    let made = replay_blocks(alloc, tree, places, low, kept)?;
-    disconnect_blocks(alloc, layer, tree, places, low, &made.undo, &made.ids, low)
+/// What blocks of a branch spend, from above a height on, the lowest first.
+#[derive(Clone, Copy)]
+struct UndoAbove<'a> {
+    low: usize,
+    undo: &'a VecDeque<BlockUndo>,
+    /// The ids of their transactions, as far as they are known.
+    ids: &'a [Parts<Id>],
 }
 
-/// Takes blocks of a branch back down to a height, with the undo of its blocks above the height `low`, and the ids of
-/// their transactions as far as they are known.
+/// Takes the active blocks above the fork back from the coins (Bitcoin Core's `DisconnectTip`). Where undo isn't kept of
+/// all of them, that of those below is made anew. Out of memory, it drops the layer.
+pub(crate) fn disconnect_to_fork<'b, B: Base>(
+    alloc: Global,
+    active_branch: &ActiveBranch<'_>,
+    layer: Cache<'b, B>,
+    fork: usize,
+) -> Result<Cache<'b, B>, Memory>
+    requires active { IsActiveBranch active_branch.now layer.coins }
+    requires on { let b = active_branch.now in on b.tree.now.blocks b.active fork ≡ true }
+    requires connected { let b = active_branch.now in AreConnected b.tree.now.blocks b.active }
+    ensures coins { IfOk result (λ left.
+        left.coins ≡ coins_after active_branch.now.tree.now.blocks fork) }
+    ensures base { IfOk result (λ left. left.base ≡ layer.entry.base) }
+{
+    let (tree, places) = (active_branch.tree, active_branch.branch);
+    let undo = active_branch.undo;
+    let low = tree.height(fork);
+    // Undo is kept of the blocks above this height.
+    let kept = tree.height(active_branch.active) - undo.len();
+    let above = UndoAbove {
+        low: kept,
+        undo,
+        ids: &[],
+    };
+    if kept <= low {
+        return disconnect_blocks(alloc, layer, tree, places, &above, low);
+    }
+    let layer = disconnect_blocks(alloc, layer, tree, places, &above, kept)?;
+    let made = replay_blocks(alloc, tree, places, low, kept)?;
+    let above = UndoAbove {
+        low,
+        undo: &made.undo,
+        ids: made.ids.as_slice(),
+    };
+    disconnect_blocks(alloc, layer, tree, places, &above, low)
+}
+
+/// Takes blocks of a branch back down to a height.
 fn disconnect_blocks<'b, B: Base>(
     alloc: Global,
     mut layer: Cache<'b, B>,
     tree: &Tree,
     places: &[usize],
-    low: usize,
-    undo: &VecDeque<BlockUndo>,
-    known: &[Parts<Id>],
+    above: &UndoAbove<'_>,
     down_to: usize,
 ) -> Result<Cache<'b, B>, Memory>
     requires branch { IsConnectedBranch tree.now.blocks places.now }
-    requires undo { IsUndoAbove tree.now.blocks places.now low undo.now.items }
-    requires known { AreIdsAbove tree.now.blocks places.now low known.now }
-    requires inside { low + length undo.now.items < length places.now }
-    requires from { low ≤ down_to }
-    requires to { down_to ≤ low + length undo.now.items }
-    requires coins { layer.coins
-        ≡ coins_after tree.now.blocks
-        (place_at places.now (low + length undo.now.items)) }
+    requires above { let a = above.now in
+        AreOfBlocksAbove tree.now.blocks places.now a.low a.undo.now.items a.ids.now }
+    requires from { above.now.low ≤ down_to }
+    requires to { down_to ≤ above.now.low + length above.now.undo.now.items }
+    requires coins { let top = above.now.low + length above.now.undo.now.items in
+        layer.coins ≡ coins_after tree.now.blocks (place_at places.now top) }
     ensures coins { IfOk result (λ left.
         left.coins
         ≡ coins_after tree.now.blocks (place_at places.now down_to)) }
     ensures base { IfOk result (λ left. left.base ≡ layer.entry.base) }
 {
+    let (low, undo) = (above.low, above.undo);
     for done in 0..low + undo.len() - down_to {
         let index = undo.len() - 1 - done;
         let block = tree.block(places[low + 1 + index]).read(alloc)?;
-        let ids = ids_at(alloc, known, index, &block)?;
+        let ids = ids_at(alloc, above.ids, index, &block)?;
         layer = disconnect_in_layer(alloc, layer, &block, &ids, &undo[index])?;
     }
     Ok(layer)

@@ -10,6 +10,7 @@ mod core_state;
 mod disconnection;
 mod fork_search;
 pub mod laws;
+mod laying;
 mod medians;
 mod path;
 mod prepared;

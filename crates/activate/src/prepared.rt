@@ -3,40 +3,43 @@
 use crate::path::{BranchPath, FailedTry};
 use chain::{Reply, SubmitReply};
 use coins::Changes;
-use tree::Marks;
+use tree::{Marks, NewBlock};
 use undo::BlockUndo;
 
-/// A command that was looked at whole. Nothing that is left to do takes memory.
+/// A command that was looked at whole, over a core that was only read. What is left to do takes room alone, and what
+/// the coins take.
 #[derive(Drop)]
 pub(crate) struct Prepared {
     pub(crate) reply: Reply,
-    pub(crate) first: TreeChange,
+    /// What changes in the tree, beside what a try found.
+    pub(crate) edit: Edit,
     pub(crate) rest: Completion,
     /// The coins that change.
     pub(crate) changes: Changes,
 }
 
-/// What was first done to the tree.
-#[derive(Clone, Copy, Debug, PartialEq, Eq)]
-pub(crate) enum TreeChange {
-    /// It was kept as it was.
-    Unchanged,
-    /// A block was added.
-    BlockAdded,
-    /// A block was called precious.
-    CalledPrecious,
+/// What changes in the tree before what a try found is put in place.
+#[derive(Drop)]
+pub(crate) enum Edit {
+    /// Nothing.
+    Leave,
+    /// A block is kept.
+    Keep(NewBlock),
+    /// The block at a place is called precious.
+    Call(usize),
+    /// Other marks come in the place of all that there are.
+    Remark(Marks),
 }
 
-/// What is still to be put in place.
+/// What was found by a try, to be put in place.
 #[derive(Drop)]
 pub(crate) enum Completion {
+    /// Nothing was tried.
     Nothing,
     /// The block at a place was tried and isn't valid: what the try found is flagged.
     Flag(usize, FailedTry),
     /// The block at a place becomes active, by this path, and its blocks spend this, the lowest first.
     Activate(usize, BranchPath, Vec<BlockUndo>),
-    /// The same under these marks.
-    Remark(Marks, usize, BranchPath, Vec<BlockUndo>),
 }
 
 /// What settles the state, before it is put in place.

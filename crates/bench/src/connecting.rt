@@ -4,13 +4,15 @@ ghost use Rattle.std.specs.Prelude.{◌≡◌, ◌≤◌, All, IfOk, None};
 ghost use Rattle.txn.specs.First.{first_broken};
 ghost use Rattle.txn.specs.Identity.{ids_of};
 ghost use Rattle.rules.specs.Alone.{alone_rules};
+ghost use Rattle.curve.specs.Known.{all_known};
+ghost use Rattle.queue.specs.Jobs.{known_then};
 
 use crate::check::Check;
 use crate::fault::{Fault, read_again};
 use crate::timing::{Outcome, Timer};
 use block::Block;
 use coins::{Cache, CoinMap};
-use connect::{Context, Env, connect};
+use connect::{BlockWithIds, Context, Env, connect};
 use curve::Table;
 use hash::Id;
 use queue::{Crew, Open, Threaded, Verdicts};
@@ -68,7 +70,7 @@ where
     R: AllocGlobal + Clock,
     requires ready { C.is_ready crew.now }
     requires workers { (1 ≤ workers) × (workers ≤ 16) }
-    requires same_table { All (λ v. v.triples ≡ table.now) early.now }
+    requires same_table { All (λ v. known_then v ≡ all_known table.now) early.now }
 {
     let env = Env {
         signatures: table,
@@ -115,7 +117,8 @@ fn undo_of<C: Crew<Table>>(
         medians: &[],
         params: &Params::regtest(),
     };
-    read_again(connect(alloc, cache, &context, block, ids, env, &Open)?)
+    let of = BlockWithIds { block, ids };
+    read_again(connect(alloc, cache, &context, &of, env, &Open)?)
 }
 
 /// The result of a block that was connected until now. What it spent is freed behind the time.

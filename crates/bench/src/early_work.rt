@@ -7,7 +7,7 @@ use block::Block;
 use coins::CoinMap;
 use connect::early_jobs;
 use curve::Table;
-use queue::{Alone, EarlyJobs, Open, check_early};
+use queue::{Alone, EarlyJobs, Open, Source, check_early};
 use rules::Params;
 use scenarios::inputs::blocks::wide_block;
 use std::alloc::Global;
@@ -41,7 +41,7 @@ where
 {
     let table = Table::new(rt.alloc());
     let jobs = jobs(rt.alloc(), map, block)?;
-    let verdicts = check_early(rt, rt.alloc(), jobs, &table, 4, &Open)?;
+    let verdicts = check_early(rt, rt.alloc(), jobs, Source::Listed(&table), 4, &Open)?;
     timed(
         rt,
         map,

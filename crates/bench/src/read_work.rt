@@ -33,11 +33,10 @@ pub enum Look {
 /// What a coin is worth that is read.
 fn read_coin<J: Naming, R: AllocGlobal>(
     rt: &R,
-    node: &Node<'_, J>,
     seat: &mut Seat<'_, J>,
     at: &OutPoint,
 ) -> Result<u64, Fault> {
-    Ok(match seat.gettxout(rt.alloc(), node, at)?.value {
+    Ok(match seat.gettxout(rt.alloc(), at)?.value {
         Some(output) => output.value.unsigned_abs(),
         None => 0,
     })
@@ -46,7 +45,6 @@ fn read_coin<J: Naming, R: AllocGlobal>(
 /// What a seat reads at each place.
 pub fn read_each<J: Naming, R: AllocGlobal>(
     rt: &R,
-    node: &Node<'_, J>,
     seat: &mut Seat<'_, J>,
     places: &[OutPoint],
     look: Look,
@@ -54,8 +52,8 @@ pub fn read_each<J: Naming, R: AllocGlobal>(
     let mut sum = 0u64;
     for at in places {
         let one = match look {
-            Look::Coin | Look::Slowest => read_coin(rt, node, seat, at)?,
-            Look::Best => u64::from(seat.getbestblockhash(node)?.at > 0),
+            Look::Coin | Look::Slowest => read_coin(rt, seat, at)?,
+            Look::Best => u64::from(seat.getbestblockhash()?.at > 0),
         };
         sum = sum.wrapping_add(one);
     }
@@ -65,7 +63,6 @@ pub fn read_each<J: Naming, R: AllocGlobal>(
 /// The slowest of so many rounds of reads by the first seat, and what was read.
 fn slowest_of<J: Naming, R>(
     rt: &R,
-    node: &Node<'_, J>,
     places: &[OutPoint],
     seats: &mut [Seat<'_, J>],
 ) -> Result<Outcome, Fault>
@@ -78,7 +75,7 @@ where
     };
     if let Some(seat) = seats.first_mut() {
         for _ in 0..ROUNDS {
-            slowest.read_each(rt, node, places, seat)?;
+            slowest.read_each(rt, places, seat)?;
         }
     }
     Ok(Outcome {
@@ -98,7 +95,6 @@ impl Slowest {
     fn read_each<J: Naming, R>(
         &mut self,
         rt: &R,
-        node: &Node<'_, J>,
         places: &[OutPoint],
         seat: &mut Seat<'_, J>,
     ) -> Result<(), Fault>
@@ -107,7 +103,7 @@ impl Slowest {
     {
         for at in places {
             let timer = Timer::start(rt);
-            let worth = read_coin(rt, node, seat, at)?;
+            let worth = read_coin(rt, seat, at)?;
             self.spent = self.spent.max(timer.spent(rt)?);
             self.sum = self.sum.wrapping_add(worth);
         }
@@ -182,7 +178,7 @@ where
     R: AllocGlobal + Clock + Threads + Wait + Sync,
 {
     let outcome = match work {
-        Work::Beside(places, Look::Slowest, _) => slowest_of(rt, node, places.as_slice(), seats),
+        Work::Beside(places, Look::Slowest, _) => slowest_of(rt, places.as_slice(), seats),
         _ => at_once(rt, node, work, seats),
     };
     is_over.store(true, SeqCst);

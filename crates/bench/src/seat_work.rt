@@ -120,7 +120,7 @@ where
 {
     match work {
         Work::Reads(places, look) | Work::Beside(places, look, _) => {
-            read_each(rt, node, seat, places.as_slice(), *look)
+            read_each(rt, seat, places.as_slice(), *look)
         }
         Work::Branches(branches) => {
             submit_shared(rt, node, seat, branches.as_slice(), place, seats)

@@ -7,10 +7,11 @@ use Rattle.tree.specs.State.{State}
 use Rattle.chain.specs.declared.command.Command.{Command}
 use Rattle.chain.specs.declared.command.Command.TheVariants as command
 use Rattle.chain.specs.declared.reply.Reply.{Reply}
+use Rattle.chain.specs.declared.reply.MarkReply.TheVariants.{Done}
 use Rattle.chain.specs.declared.reply.SubmitReply.TheVariants.{DecodeFailed}
 use Rattle.chain.specs.Rules.{Rules}
 use Rattle.chain.specs.Submission.{Outcome, submit_says}
-use Rattle.chain.specs.Step.{Submit, Invalidate, Reconsider, Precious, step}
+use Rattle.chain.specs.Step.{Submit, Invalidate, Reconsider, Precious, mark_says, step}
 
 module _ (r : Rules Block Id) where
   -- the step of a submission: bytes that spell no block take none
@@ -24,6 +25,8 @@ module _ (r : Rules Block Id) where
   command_step s (command.Invalidate id) = Some (step r s (Invalidate id))
   command_step s (command.Reconsider id) = Some (step r s (Reconsider id))
   command_step s (command.Precious id) = Some (step r s (Precious id))
+  -- a verdict on a signature is for the history to keep, and changes no block
+  command_step s (command.Learn triple valid) = Some (mark_says s Done)
 
   -- the same where each command is answered: one that takes no step leaves the state
   abbrev pub outcome : State Block → Command → Outcome Block

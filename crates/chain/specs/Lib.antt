@@ -3,6 +3,7 @@ pub mod Commands
 pub mod Context
 pub mod Faults
 pub mod History
+pub mod Learnt
 pub mod Machine
 pub mod Prepared
 pub mod Regtest

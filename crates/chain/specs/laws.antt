@@ -9,6 +9,7 @@ pub mod Findings
 pub mod History
 pub mod InHand
 pub mod Kept
+pub mod Learnt
 pub mod Medians
 pub mod OneTry
 pub mod Ordinary

@@ -2,6 +2,7 @@
 
 ghost use Rattle.std.specs.Prelude.{◌≡◌, IfOk};
 
+use crate::shared_triple::SharedTriple;
 use block::Bytes;
 use hash::Id;
 use std::alloc::AllocError;
@@ -18,6 +19,8 @@ pub enum Command {
     Reconsider(Id),
     /// To prefer the block of this id to all that are as high.
     Precious(Id),
+    /// To take down whether this signature is valid. No block changes by it.
+    Learn(SharedTriple, bool),
 }
 
 // A clone is the same value, which a type that contains commands can build on.
@@ -30,12 +33,13 @@ impl Clone for Command {
             Command::Invalidate(id) => Ok(Command::Invalidate(*id)),
             Command::Reconsider(id) => Ok(Command::Reconsider(*id)),
             Command::Precious(id) => Ok(Command::Precious(*id)),
+            Command::Learn(triple, valid) => Ok(Command::Learn(triple.clone()?, *valid)),
         }
     }
 }
 
 impl Command {
-    /// An equal command, which shares the bytes.
+    /// An equal command, which shares the bytes, or the triple.
     pub fn copy(&self) -> Result<Command, Memory>
         ensures { IfOk result (λ command. command ≡ self.now) }
     {

@@ -44,7 +44,7 @@ impl fmt::Display for SubmitReply {
     }
 }
 
-/// The reply to `invalidate`, `reconsider` or `precious`.
+/// The reply to `invalidate`, `reconsider` or `precious`; a verdict on a signature is taken down as `Done`.
 #[derive(Clone, Copy, Debug, PartialEq, Eq)]
 pub enum MarkReply {
     Done,

@@ -6,6 +6,7 @@ ghost use Rattle.chain.specs.Prepared.{command_of};
 ghost use Rattle.chain.specs.Submitted.{IsJudged, IsSubmission};
 
 use crate::command::Command;
+use crate::shared_triple::SharedTriple;
 use block::{Block, Bytes, ReadFault};
 use hash::Id;
 use rules::block_alone_with;
@@ -100,6 +101,8 @@ pub enum PreparedCommand {
     Reconsider(Id),
     /// To prefer the block of this id to all that are as high.
     Precious(Id),
+    /// To take down whether this signature is valid.
+    Learn(SharedTriple, bool),
 }
 
 impl PreparedCommand {
@@ -115,6 +118,7 @@ impl PreparedCommand {
             Command::Invalidate(id) => Ok(PreparedCommand::Invalidate(*id)),
             Command::Reconsider(id) => Ok(PreparedCommand::Reconsider(*id)),
             Command::Precious(id) => Ok(PreparedCommand::Precious(*id)),
+            Command::Learn(triple, valid) => Ok(PreparedCommand::Learn(triple.clone()?, *valid)),
         }
     }
 
@@ -129,6 +133,7 @@ impl PreparedCommand {
             PreparedCommand::Invalidate(id) => Ok(Command::Invalidate(*id)),
             PreparedCommand::Reconsider(id) => Ok(Command::Reconsider(*id)),
             PreparedCommand::Precious(id) => Ok(Command::Precious(*id)),
+            PreparedCommand::Learn(triple, valid) => Ok(Command::Learn(triple.clone()?, *valid)),
         }
     }
 }

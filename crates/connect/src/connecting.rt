@@ -19,13 +19,13 @@ ghost use Rattle.curve.specs.Known.{Under};
 ghost use Rattle.connect.specs.declared.lookups.Lookup.TheVariants.{Above};
 
 use crate::amounts::paid;
-use crate::context::Context;
+use crate::context::{BlockWithIds, Context};
 use crate::lookups::{Lookup, overwrites};
 use crate::runs_scripts::RunsScripts;
 use crate::scripts::first_refused;
 use crate::stop::Stop;
-use crate::turn::connect_tx;
-use block::{Block, subsidy};
+use crate::turn::{Place, connect_tx};
+use block::subsidy;
 use coins::{Base, Cache, Writes};
 use hash::Id;
 use queue::Gate;
@@ -38,34 +38,34 @@ use wire::Memory;
 /// last, or else the coins after it with what it spent (Bitcoin Core's `ConnectBlock`). Where signatures aren't all
 /// known, it may instead list those that have to be verified first.
 ///
-/// The ids are its transactions', from `txn::ids`. The answer depends on neither the crew, the
-/// number of workers, the gate nor the early verdicts.
+/// The answer depends on neither the crew, the number of workers, the gate nor the early verdicts.
 pub fn connect<B: Base, S: RunsScripts>(
     alloc: Global,
     cache: &mut Cache<'_, B>,
     context: &Context,
-    block: &Block,
-    ids: &[Id],
+    of: &BlockWithIds<'_>,
     env: &S,
     gate: &(dyn Gate + Sync),
 ) -> Result<Result<BlockUndo, Reason>, S::Stop>
     // It breaks no rule by itself.
-    requires alone { first_broken (alone_rules block.now) ≡ None }
-    requires ids { ids.now ≡ ids_of block.now.txs }
-    ensures fault { IfOk result (λ answer. Under (S.known env.now) (λ triples.
-        IsConnectFault (setting context.now) cache.old.coins block.now.txs triples (result_err answer))) }
-    ensures stops { IfErr result (λ stop. IfSome (S.told stop)
-        (AreWantedByBlock (setting context.now) cache.old.coins block.now.txs (S.known env.now))) }
-    ensures coins { IfOk result (λ answer. OnOk answer (cache.new ≡
-        record cache.old { coins = effect context.now.height cache.old.coins block.now.txs })) }
+    requires alone { first_broken (alone_rules of.now.block.now) ≡ None }
+    requires ids { of.now.ids.now ≡ ids_of of.now.block.now.txs }
+    ensures fault { let s = setting context.now in let m = cache.old.coins in
+        IfOk result (λ answer. Under (S.known env.now) (λ triples.
+        IsConnectFault s m of.now.block.now.txs triples (result_err answer))) }
+    ensures stops { IfErr result (λ stop. IfSome (S.told stop) (AreWantedByBlock
+        (setting context.now) cache.old.coins of.now.block.now.txs (S.known env.now))) }
+    ensures coins { IfOk result (λ answer. OnOk answer (cache.new ≡ record cache.old {
+      coins = effect context.now.height cache.old.coins of.now.block.now.txs;
+    })) }
     // With its undo it can be taken back by `disconnect`.
     ensures connected { IfOk result (λ answer. IfOk answer (λ undo.
-        IsConnected (setting context.now) cache.old.coins block.now cache.new.coins undo)) }
+        IsConnected (setting context.now) cache.old.coins of.now.block.now cache.new.coins undo)) }
     // A reason leaves the coins as they were, and so does what ends without an answer.
     ensures kept { IfOk result (λ answer. OnErr answer (cache.new ≡ cache.old)) }
     ensures err { OnErr result (cache.new ≡ cache.old) }
 {
-    match attempt(alloc, &*cache, context, block, ids, env, gate)? {
+    match attempt(alloc, &*cache, context, of, env, gate)? {
         Err(reason) => Ok(Err(reason)),
         Ok((undo, writes)) => {
             cache.absorb(writes)?;
@@ -79,27 +79,27 @@ fn attempt<B: Base, S: RunsScripts>(
     alloc: Global,
     base: &B,
     context: &Context,
-    block: &Block,
-    ids: &[Id],
+    of: &BlockWithIds<'_>,
     env: &S,
     gate: &(dyn Gate + Sync),
 ) -> Result<Result<(BlockUndo, Writes), Reason>, S::Stop>
-    requires alone { first_broken (alone_rules block.now) ≡ None }
-    requires ids { ids.now ≡ ids_of block.now.txs }
-    ensures fault { IfOk result (λ answer. Under (S.known env.now) (λ triples.
-        IsConnectFault (setting context.now) (B.coins base.now) block.now.txs triples (result_err answer))) }
-    ensures stops { IfErr result (λ stop. IfSome (S.told stop)
-        (AreWantedByBlock (setting context.now) (B.coins base.now) block.now.txs (S.known env.now))) }
+    requires alone { first_broken (alone_rules of.now.block.now) ≡ None }
+    requires ids { of.now.ids.now ≡ ids_of of.now.block.now.txs }
+    ensures fault { let s = setting context.now in let m = B.coins base.now in
+        IfOk result (λ answer. Under (S.known env.now) (λ triples.
+        IsConnectFault s m of.now.block.now.txs triples (result_err answer))) }
+    ensures stops { IfErr result (λ stop. IfSome (S.told stop) (AreWantedByBlock
+        (setting context.now) (B.coins base.now) of.now.block.now.txs (S.known env.now))) }
     ensures sound { IfOk result (λ answer. IfOk answer (λ done.
         IsSound (B.coins base.now) done.1)) }
     ensures over { IfOk result (λ answer. IfOk answer (λ done. over (B.coins base.now) done.1 ≡
-        effect context.now.height (B.coins base.now) block.now.txs)) }
+        effect context.now.height (B.coins base.now) of.now.block.now.txs)) }
     ensures connected { IfOk result (λ answer. IfOk answer (λ done.
-        IsConnected (setting context.now) (B.coins base.now) block.now
+        IsConnected (setting context.now) (B.coins base.now) of.now.block.now
         (over (B.coins base.now) done.1) done.0)) }
 {
     let layer = Cache::over(alloc, base);
-    match connect_block(alloc, layer, context, block, ids, env, gate, Lookup::Above)? {
+    match connect_in_layer(alloc, layer, context, of, env, gate)? {
         Err(reason) => Ok(Err(reason)),
         Ok((layer, undo)) => Ok(Ok((undo, layer.into_writes()))),
     }
@@ -111,62 +111,32 @@ pub fn connect_in_layer<'b, B: Base, S: RunsScripts>(
     alloc: Global,
     layer: Cache<'b, B>,
     context: &Context,
-    block: &Block,
-    ids: &[Id],
+    of: &BlockWithIds<'_>,
     env: &S,
     gate: &(dyn Gate + Sync),
 ) -> Result<Result<(Cache<'b, B>, BlockUndo), Reason>, S::Stop>
     // It breaks no rule by itself.
-    requires alone { first_broken (alone_rules block.now) ≡ None }
-    requires ids { ids.now ≡ ids_of block.now.txs }
-    ensures fault { IfOk result (λ answer. Under (S.known env.now) (λ triples.
-        IsConnectFault (setting context.now) layer.entry.coins block.now.txs triples (result_err answer))) }
-    ensures stops { IfErr result (λ stop. IfSome (S.told stop)
-        (AreWantedByBlock (setting context.now) layer.entry.coins block.now.txs (S.known env.now))) }
+    requires alone { first_broken (alone_rules of.now.block.now) ≡ None }
+    requires ids { of.now.ids.now ≡ ids_of of.now.block.now.txs }
+    ensures fault { let s = setting context.now in let m = layer.entry.coins in
+        IfOk result (λ answer. Under (S.known env.now) (λ triples.
+        IsConnectFault s m of.now.block.now.txs triples (result_err answer))) }
+    ensures stops { IfErr result (λ stop. IfSome (S.told stop) (AreWantedByBlock
+        (setting context.now) layer.entry.coins of.now.block.now.txs (S.known env.now))) }
     ensures coins { let m = layer.entry.coins in
         IfOk result (λ answer. IfOk answer (λ done. done.0 ≡
-        record layer.entry { coins = effect context.now.height m block.now.txs })) }
+        record layer.entry { coins = effect context.now.height m of.now.block.now.txs })) }
     // With its undo it can be taken back by `disconnect_in_layer`.
     ensures connected { IfOk result (λ answer. IfOk answer (λ done.
-        IsConnected (setting context.now) layer.entry.coins block.now done.0.coins done.1)) }
+        IsConnected (setting context.now) layer.entry.coins of.now.block.now done.0.coins done.1)) }
 {
-    let lookup = if layer.is_untouched() {
-        Lookup::Above
-    } else {
-        Lookup::Whole
-    };
-    connect_block(alloc, layer, context, block, ids, env, gate, lookup)
-}
-
-/// Connects a block in a layer, and looks for the outputs of its transactions there.
-fn connect_block<'b, B: Base, S: RunsScripts>(
-    alloc: Global,
-    layer: Cache<'b, B>,
-    context: &Context,
-    block: &Block,
-    ids: &[Id],
-    env: &S,
-    gate: &(dyn Gate + Sync),
-    lookup: Lookup,
-) -> Result<Result<(Cache<'b, B>, BlockUndo), Reason>, S::Stop>
-    requires alone { first_broken (alone_rules block.now) ≡ None }
-    requires ids { ids.now ≡ ids_of block.now.txs }
-    requires fresh { lookup ≡ Above → layer.coins ≡ layer.base }
-    ensures fault { IfOk result (λ answer. Under (S.known env.now) (λ triples.
-        IsConnectFault (setting context.now) layer.entry.coins block.now.txs triples (result_err answer))) }
-    ensures stops { IfErr result (λ stop. IfSome (S.told stop)
-        (AreWantedByBlock (setting context.now) layer.entry.coins block.now.txs (S.known env.now))) }
-    ensures coins { let m = layer.entry.coins in
-        IfOk result (λ answer. IfOk answer (λ done. done.0 ≡
-        record layer.entry { coins = effect context.now.height m block.now.txs })) }
-    ensures connected { IfOk result (λ answer. IfOk answer (λ done.
-        IsConnected (setting context.now) layer.entry.coins block.now done.0.coins done.1)) }
-{
-    match connect_txs(alloc, layer, context, block.txs.as_slice(), ids, lookup) {
+    let lookup = lookup_in(&layer);
+    let place = Place { context, lookup };
+    match connect_txs(alloc, layer, &place, of.block.txs.as_slice(), of.ids) {
         Err(Stop::Broken(reason)) => Ok(Err(reason)),
         Err(Stop::Memory) => Err(S::Stop::from(Memory)),
         Ok((layer, undo)) => {
-            let others = &block.txs.as_slice()[1..];
+            let others = &of.block.txs.as_slice()[1..];
             let rules = context.params.at(context.height);
             if let Some(reason) = first_refused(alloc, others, &undo, rules, env, gate)? {
                 return Ok(Err(reason));
@@ -176,40 +146,49 @@ fn connect_block<'b, B: Base, S: RunsScripts>(
     }
 }
 
+/// Where the outputs of a block's transactions are looked for in its layer.
+fn lookup_in<B: Base>(layer: &Cache<'_, B>) -> Lookup
+    ensures { result ≡ Above → layer.now.coins ≡ layer.now.base }
+{
+    if layer.is_untouched() {
+        Lookup::Above
+    } else {
+        Lookup::Whole
+    }
+}
+
 /// Tests and applies the transactions of a block. Where outputs are looked for above the layer's base alone, it wrote
 /// nothing yet.
 fn connect_txs<'b, B: Base>(
     alloc: Global,
     layer: Cache<'b, B>,
-    context: &Context,
+    place: &Place<'_>,
     txs: &[Tx],
     ids: &[Id],
-    lookup: Lookup,
 ) -> Result<(Cache<'b, B>, BlockUndo), Stop>
-    requires fresh { lookup ≡ Above → layer.coins ≡ layer.base }
+    requires fresh { place.now.lookup ≡ Above → layer.coins ≡ layer.base }
     requires some { 1 ≤ length txs.now }
     requires few { length txs.now ≤ 1000000 }
     requires lawful { AllByRecursion IsLawful txs.now }
     requires ids { ids.now ≡ ids_of txs.now }
-    ensures fault { let m = layer.entry.coins in
-        IfErr result (IsReason (first_broken (connect_rules (setting context.now) m txs.now))) }
+    ensures fault { let s = setting place.now.context.now in let m = layer.entry.coins in
+        IfErr result (IsReason (first_broken (connect_rules s m txs.now))) }
     ensures pass { IfOk result (λ done.
-        PassTogether (setting context.now) layer.entry txs.now done.0 done.1) }
+        PassTogether (setting place.now.context.now) layer.entry txs.now done.0 done.1) }
 {
     if is_overwriting(&layer, txs, ids) {
         return Err(Stop::Broken(Reason::OverwritesCoin));
     }
-    let coinbase = connect_tx(alloc, layer, context, &txs[0], ids[0], 0, lookup)?;
+    let coinbase = connect_tx(alloc, layer, place, &txs[0], ids[0], 0)?;
     let others = connect_others(
         alloc,
         coinbase.layer,
-        context,
+        place,
         &txs[1..],
         &ids[1..],
         coinbase.passed.counted,
-        lookup,
     )?;
-    if is_overpaid(context.height, others.fees, txs[0].outputs.as_slice()) {
+    if is_overpaid(place.context.height, others.fees, txs[0].outputs.as_slice()) {
         return Err(Stop::Broken(Reason::CoinbaseAmount));
     }
     Ok((others.layer, others.undo))
@@ -242,35 +221,27 @@ struct Others<'b, B: Base> {
 fn connect_others<'b, B: Base>(
     alloc: Global,
     mut layer: Cache<'b, B>,
-    context: &Context,
+    place: &Place<'_>,
     txs: &[Tx],
     ids: &[Id],
     counted: u128,
-    lookup: Lookup,
 ) -> Result<Others<'b, B>, Stop>
     requires few { length txs.now ≤ 1000000 }
     requires lawful { AllByRecursion IsLawful txs.now }
     requires ids { ids.now ≡ ids_of txs.now }
     requires counted { counted ≤ max_block_sigops }
-    requires below { lookup ≡ Above → list_any (overwrites layer.base) txs.now ≡ false }
-    ensures fault { let ts = turns context.now.height layer.entry.coins counted txs.now in
-        IfErr result (IsReason (first_broken (flat_map (turn_rules (setting context.now)) ts))) }
-    ensures pass { IfOk result (λ done. PassInTurn (setting context.now) layer.entry txs.now counted
-        done.layer done.undo done.fees) }
+    requires below { place.now.lookup ≡ Above → list_any (overwrites layer.base) txs.now ≡ false }
+    ensures fault { let s = setting place.now.context.now in
+        let ts = turns place.now.context.now.height layer.entry.coins counted txs.now in
+        IfErr result (IsReason (first_broken (flat_map (turn_rules s) ts))) }
+    ensures pass { let s = setting place.now.context.now in IfOk result (λ done.
+        PassInTurn s layer.entry txs.now counted done.layer done.undo done.fees) }
 {
     let mut undo = BlockUndo::new(alloc);
     let mut fees = 0;
     let mut so_far = counted;
     for index in 0..txs.len() {
-        let turned = connect_tx(
-            alloc,
-            layer,
-            context,
-            &txs[index],
-            ids[index],
-            so_far,
-            lookup,
-        )?;
+        let turned = connect_tx(alloc, layer, place, &txs[index], ids[index], so_far)?;
         layer = turned.layer;
         undo.push(turned.spent)?;
         fees += turned.passed.fee;

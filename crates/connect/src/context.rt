@@ -4,6 +4,8 @@ ghost use Rattle.std.specs.Prelude.{◌≤◌, All};
 ghost use Rattle.queue.specs.Jobs.{IsEarly};
 ghost use Rattle.std.proofs.Props.{props};
 
+use block::Block;
+use hash::Id;
 use queue::{Crew, Judges, Verdicts};
 use rules::Params;
 
@@ -16,6 +18,13 @@ pub struct Context<'a> {
     /// The medians time past of its parent's branch by height, genesis first.
     pub medians: &'a [u32],
     pub params: &'a Params,
+}
+
+/// A block with the ids of its transactions, in their order, from `txn::ids`. They are hashed once, and handed on.
+#[derive(Clone, Copy)]
+pub struct BlockWithIds<'a> {
+    pub block: &'a Block,
+    pub ids: &'a [Id],
 }
 
 /// How scripts are run. The gate that is called round each is handed beside it, as a `&dyn`.

@@ -17,7 +17,7 @@ mod turn;
 
 pub use applying::apply_in_layer;
 pub use connecting::{connect, connect_in_layer};
-pub use context::{Context, Env};
+pub use context::{BlockWithIds, Context, Env};
 pub use disconnecting::{disconnect, disconnect_in_layer};
 pub use early::{early_jobs, script_flags};
 pub use runs_scripts::RunsScripts;

@@ -59,28 +59,36 @@ pub(crate) struct Turned<'b, B: Base> {
     pub passed: Passed,
 }
 
+/// Where a transaction is connected: its block's place, and where its outputs are looked for.
+#[derive(Clone, Copy)]
+pub(crate) struct Place<'a> {
+    pub context: &'a Context<'a>,
+    pub lookup: Lookup,
+}
+
 /// Tests and applies a transaction, after others that counted so many signature operations.
 pub(crate) fn connect_tx<'b, B: Base>(
     alloc: Global,
     layer: Cache<'b, B>,
-    context: &Context,
+    place: &Place<'_>,
     tx: &Tx,
     id: Id,
     counted: u128,
-    lookup: Lookup,
 ) -> Result<Turned<'b, B>, Stop>
     requires lawful { IsLawful tx.now }
     requires id { id ≡ id_of tx.now }
     requires counted { counted ≤ max_block_sigops }
-    requires below { lookup ≡ Above → overwrites layer.base tx.now ≡ false }
+    requires below { place.now.lookup ≡ Above → overwrites layer.base tx.now ≡ false }
     ensures fault { let t = turn tx.now layer.entry.coins counted in
-        IfErr result (IsReason (first_broken (turn_rules (setting context.now) t))) }
-    ensures passes { let t = turn tx.now layer.entry.coins counted in
-        IfOk result (λ done. Passes (setting context.now) layer.entry t done.layer done.spent
+        IfErr result (IsReason (first_broken (turn_rules (setting place.now.context.now) t))) }
+    ensures passes { let s = setting place.now.context.now in
+        let t = turn tx.now layer.entry.coins counted in
+        IfOk result (λ done. Passes s layer.entry t done.layer done.spent
         done.passed.fee done.passed.counted) }
 {
+    let context = place.context;
     // Asked before its inputs are taken: one may spend the coin at an outpoint of its own.
-    let overwriting = overwrites_in_turn(&layer, tx, id, lookup);
+    let overwriting = overwrites_in_turn(&layer, tx, id, place.lookup);
     let Taken {
         layer,
         spent,

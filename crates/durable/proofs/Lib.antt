@@ -1,6 +1,6 @@
-mod Keeping
+pub mod Keeping
 mod Lives
 mod Opening
-mod Sound
+pub mod Sound
 mod Torn
 mod Whole

@@ -8,12 +8,13 @@ use Rattle.chain.specs.declared.command.Command.{Command}
 use Rattle.chain.specs.declared.command.Command.TheVariants as command
 use Rattle.chain.specs.declared.entry.Entry.{Entry}
 
--- the blk record of what a command submits; marks have none
+-- the blk record of what a command submits; marks and verdicts have none
 abbrev pub record_asked : Command → List ℕ
 record_asked (command.Submit bytes now) = record_bytes bytes
 record_asked (command.Invalidate id) = []
 record_asked (command.Reconsider id) = []
 record_asked (command.Precious id) = []
+record_asked (command.Learn triple valid) = []
 
 -- the blk record of an entry
 abbrev pub record_of : Entry → List ℕ
@@ -25,6 +26,7 @@ is_long (command.Submit bytes now) = nat_lt limit (length bytes)
 is_long (command.Invalidate id) = false
 is_long (command.Reconsider id) = false
 is_long (command.Precious id) = false
+is_long (command.Learn triple valid) = false
 
 -- these blocks come in their records, from the front on, and then the file ends
 abbrev pub AreAll : List ℕ → List (List ℕ) → Type 0

@@ -20,6 +20,6 @@ pub use finding::Finding;
 pub use heights::read_heights;
 pub use reading::{Records, read_out, read_records};
 pub use recorded::read_journal;
-pub use records::{RecordFault, blk_file};
+pub use records::{RecordFault, blk_file, put_record};
 pub use state_replay::{ReplayedState, replayed_state};
 pub use step::{Asked, Step, block_of};

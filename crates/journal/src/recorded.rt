@@ -13,8 +13,8 @@ use scenario::is_name;
 use std::alloc::{AllocError, Global};
 use std::str;
 
-/// The steps of a journal's text. A line can be read where a step is printed so, with its block's id in digits.
-/// The last line may lack its end.
+/// The steps of a journal's text. A line can be read where a step is printed so, with the id of its block, or the
+/// digest of its verdict, in digits. The last line may lack its end.
 pub fn read_journal<'t>(alloc: Global, text: &'t [u8]) -> Result<Vec<Step<'t, Id>>, JournalFault>
     ensures lines { IfOk result (λ steps. IsJournal steps.items text.now) }
     ensures numbers { IfOk result (λ steps. AreNumbered steps.items) }
@@ -67,6 +67,8 @@ fn read_step<'t>(number: usize, words: &[&'t str], reply: &str) -> Option<Step<'
         [_, client, "invalidate", id] => (*client, Asked::Invalidate, id),
         [_, client, "reconsider", id] => (*client, Asked::Reconsider, id),
         [_, client, "precious", id] => (*client, Asked::Precious, id),
+        [_, client, "valid", id] => (*client, Asked::Learn(true), id),
+        [_, client, "invalid", id] => (*client, Asked::Learn(false), id),
         _ => return None,
     };
     if !is_name(client) {

@@ -56,7 +56,8 @@ fn put_submission(out: &mut Vec<u8>, entry: &Entry) -> Result<(), RecordFault>
     }
 }
 
-fn put_record(out: &mut Vec<u8>, block: &[u8]) -> Result<(), RecordFault>
+/// Writes a block's record at the end. After a fault the file is of no use.
+pub fn put_record(out: &mut Vec<u8>, block: &[u8]) -> Result<(), RecordFault>
     ensures file { OnOk result (out.new.items ≡ out.old.items ++ record_bytes block.now) }
     ensures fits { OnOk result (length block.now ≤ limit) }
     ensures long { IfErr result (λ fault. fault ≡ faults.TooLong → limit < length block.now) }

@@ -18,9 +18,11 @@ pub enum Asked {
     Invalidate,
     Reconsider,
     Precious,
+    /// To take down that a signature is valid, or that it isn't.
+    Learn(bool),
 }
 
-/// A line of the journal: a step, and how the block that it is about is told.
+/// A line of the journal: a step, and how the block, or the digest, that it is about is told.
 #[derive(Clone, Copy)]
 pub struct Step<'t, B> {
     /// Its place, from 1.
@@ -42,6 +44,7 @@ impl Asked {
             Command::Invalidate(_) => Asked::Invalidate,
             Command::Reconsider(_) => Asked::Reconsider,
             Command::Precious(_) => Asked::Precious,
+            Command::Learn(_, valid) => Asked::Learn(*valid),
         }
     }
 
@@ -54,6 +57,8 @@ impl Asked {
             Asked::Invalidate => "invalidate",
             Asked::Reconsider => "reconsider",
             Asked::Precious => "precious",
+            Asked::Learn(true) => "valid",
+            Asked::Learn(false) => "invalid",
         }
     }
 
@@ -68,7 +73,7 @@ impl Asked {
     }
 }
 
-/// The id of the block that an entry is about.
+/// The id of the block that an entry is about; of a verdict, the digest that is signed.
 pub fn block_of(alloc: Global, entry: &Entry) -> Result<Id, ReadFault>
     ensures named { IfOk result (λ id. named_by entry.now.command ≡ Some id) }
     // Only bytes that are no block name none, unless memory runs out.
@@ -80,6 +85,7 @@ pub fn block_of(alloc: Global, entry: &Entry) -> Result<Id, ReadFault>
         Command::Invalidate(id) => Ok(*id),
         Command::Reconsider(id) => Ok(*id),
         Command::Precious(id) => Ok(*id),
+        Command::Learn(triple, _) => Ok(Id(*triple.triple().digest())),
     }
 }
 

@@ -129,4 +129,5 @@ module _ (r : Rules Block Id) (s : State Block) where
   comes (command.Submit bytes now) = of_decoded bytes now (block_of_bytes bytes) refl
   comes (command.Invalidate id) = let w = marking-steps (command.Invalidate id) (step r s (Invalidate id)).1 (λ v. tt) (of_invalidated r s (place_of r.names s.blocks id)) in inl (refl, w.0, w.1)
   comes (command.Reconsider id) = let w = marking-steps (command.Reconsider id) (step r s (Reconsider id)).1 (λ v. tt) (of_reconsidered r s (place_of r.names s.blocks id)) in inl (refl, w.0, w.1)
+  comes (command.Learn triple valid) = inl (refl, refl, tt)
   comes (command.Precious id) = let w = marking-steps (command.Precious id) (step r s (Precious id)).1 (λ v. tt) (of_preferred r s (place_of r.names s.blocks id)) in inl (refl, w.0, w.1)

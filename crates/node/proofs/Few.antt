@@ -73,6 +73,7 @@ module _ (r : Rules Block Id) (s : State Block) (few : AreFew s) where
   few-outcome (command.Invalidate id) = few-invalidated (place_of r.names s.blocks id)
   few-outcome (command.Reconsider id) = few-reconsidered (place_of r.names s.blocks id)
   few-outcome (command.Precious id) = few-preferred (place_of r.names s.blocks id)
+  few-outcome (command.Learn triple valid) = few
 
   -- the active block's height is below the limit
   pub height-few : IsSettled r s → height s.blocks (active r s) < max_blocks

@@ -1,18 +1,17 @@
 -- A publication of the entry that is owed.
-use Rattle.std.proofs.Common.{◌≡◌, Bool, false, List, [], ◌∷◌, ◌++◌, map, Option, None, ap, sym, ◌∙◌, subst}
+use Rattle.std.proofs.Common.{◌≡◌, Bool, false, List, [], ◌∷◌, ◌++◌, Option, None, ap, sym, ◌∙◌, subst}
+use Rattle.curve.specs.Known.{Agrees}
+use Rattle.curve.specs.Triple.{Triples}
 use Rattle.coins.specs.Changes.{Changes}
-use Rattle.tree.specs.Branches.{height}
-use Rattle.tree.specs.Tips.{tip_of_id}
 use Rattle.chain.specs.declared.reply.Reply.{Reply}
 use Rattle.chain.specs.declared.entry.Entry.{Entry}
-use Rattle.chain.specs.Regtest.{regtest}
-use Rattle.chain.specs.Settle.{active, best, tips}
-use Rattle.activate.specs.CoreState.{CoreState}
-use Rattle.view.specs.Origin.{Origin}
+use Rattle.activate.specs.CoreState.{CoreState, Follows}
+use Rattle.view.specs.Origin.{Origin, known_in}
 use Rattle.view.specs.ViewState.{IsInfo, IsLegal}
 use Rattle.view.specs.declared.publication.Publication.{Publication}
+use Rattle.node.specs.inside.Brought.{IsInfoOfCore}
 use Rattle.node.specs.inside.PublishedState.{IsCoreOf, entry_with_reply}
-use Rattle.node.proofs.Cores.{tells, with_reply}
+use Rattle.node.proofs.Cores.{height_told, tells, with_reply}
 use Rattle.node.proofs.Publications.{IsOfOwed}
 
 module _ (o : Origin) (core : CoreState) (seen journal : List Entry) (e : Entry) (reply : Option Reply) (kept : IsCoreOf o core journal) (is : journal ≡ seen ++ entry_with_reply e None ∷ [])
@@ -22,9 +21,8 @@ module _ (o : Origin) (core : CoreState) (seen journal : List Entry) (e : Entry)
   replied_core = with_reply o core seen (entry_with_reply e None) reply legal (subst (λ (l : List Entry). IsCoreOf o core l) is kept)
 
   pub of_owed : (is_new : Bool) (changes : Changes) (p : Publication) → p.is_new ≡ is_new → p.before.book ≡ o.book → p.before.entries ≡ seen → p.entry ≡ entry_with_reply e reply → (is_new ≡ false → reply ≡ None) → p.changes ≡ changes
-      → p.info.best ≡ best (regtest core.params o.triples) core.state → p.info.height ≡ height core.state.blocks (active (regtest core.params o.triples) core.state)
-      → p.info.tips ≡ map tip_of_id (tips (regtest core.params o.triples) core.state) → IsOfOwed is_new o seen e changes p
-  of_owed is_new changes p new_is book before entry none changes_are b h t = record {
+      → ((valid : Triples) → Follows core valid → IsInfoOfCore valid core p.info) → IsOfOwed is_new o seen e changes p
+  of_owed is_new changes p new_is book before entry none changes_are told = record {
     new_is = new_is;
     book_is = book;
     before_is = before;
@@ -32,5 +30,9 @@ module _ (o : Origin) (core : CoreState) (seen journal : List Entry) (e : Entry)
     none = λ n. ap (λ (f : Entry). f.reply) entry ∙ none n;
     changes_are = changes_are;
     legal = subst (λ (f : Entry). IsLegal o (seen ++ f ∷ [])) (sym entry) legal;
-    info_is = subst (λ (f : Entry). IsInfo o (seen ++ f ∷ []) p.info) (sym entry) (tells o core (seen ++ entry_with_reply e reply ∷ []) p.info replied_core b h t);
+    info_is = λ valid agrees.
+        let there : Agrees (known_in o (seen ++ entry_with_reply e reply ∷ [])) valid = subst (λ (f : Entry). Agrees (known_in o (seen ++ f ∷ [])) valid) entry agrees in
+        let follows = (replied_core.theirs valid there).is_chainstate.follows in
+        subst (λ (f : Entry). IsInfo o valid (seen ++ f ∷ []) p.info) (sym entry) (tells o valid core (seen ++ entry_with_reply e reply ∷ []) p.info replied_core there (told valid follows));
+    height_fits = height_told o core (seen ++ entry_with_reply e reply ∷ []) p.info replied_core told;
   }

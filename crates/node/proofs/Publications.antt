@@ -1,11 +1,14 @@
 -- What waits to be published follows what readers see, and what they see once it is published.
-use Rattle.std.proofs.Common.{◌≡◌, ◌-◌, Bool, true, false, List, [], ◌∷◌, ◌++◌, length, length-append, Option, Some, None, refl, ap, sym, ◌∙◌, subst, arith}
+use Rattle.std.proofs.Common.{◌≡◌, ◌-◌, ◌<◌, Bool, true, false, List, [], ◌∷◌, ◌++◌, length, length-append, Option, Some, None, refl, ap, sym, ◌∙◌, subst, arith}
 use Rattle.std.proofs.lemmas.List.{same_from_push}
 use Rattle.std.specs.Option.{option_to_list}
 use Rattle.std.specs.Prelude.{slice_get, map, IfSome}
 use Rattle.block.specs.declared.block.Block.{Block}
+use Rattle.curve.specs.Known.{Agrees, Under, Verdicts}
+use Rattle.curve.specs.Triple.{Triples}
 use Rattle.coins.specs.Changes.{Changes, AreChanges}
 use Rattle.tree.specs.Branches.{height}
+use Rattle.tree.specs.Limits.{max_blocks}
 use Rattle.tree.specs.State.{State}
 use Rattle.tree.specs.Tips.{tip_of_id}
 use Rattle.chain.specs.declared.command.Command.{Command}
@@ -16,41 +19,53 @@ use Rattle.chain.specs.Regtest.{ledger, regtest}
 use Rattle.chain.specs.Replay.{coins}
 use Rattle.chain.specs.Settle.{active}
 use Rattle.chain.specs.laws.History.{state_after-append, legal_push, legal_front, stands_within}
-use Rattle.view.specs.Origin.{Origin, machine}
-use Rattle.view.specs.ViewState.{ViewState, IsExact, IsInfo, IsLegal, state_after, coins_after, after_publication, after_publications}
-use Rattle.view.specs.Following.{IsNext, IsOwed, AllOwed, AllFollow}
+use Rattle.chain.specs.Learnt.{AreNews, found_in, known_by}
+use Rattle.chain.specs.laws.Learnt.{agreed_with_front, one_agrees}
+use Rattle.view.specs.Origin.{Origin, known_in, machine}
+use Rattle.view.specs.ViewState.{ViewState, IsExact, IsInfo, IsLegal, IsLegalWith, state_after, coins_after, after_publication, after_publications}
+use Rattle.view.specs.Following.{BringsWith, IsNext, IsOwed, AllOwed, AllFollow}
 use Rattle.view.specs.declared.chain_info.ChainInfo.{ChainInfo}
 use Rattle.view.specs.declared.publication.Publication.{Publication}
-use Rattle.view.specs.laws.Exact.{all_exact, same_origin}
+use Rattle.view.specs.laws.Exact.{all_exact, found-push, news-push, same_origin}
 use Rattle.node.specs.inside.PublishedState.{Shows, AreDue, entry_with_reply}
 
 -- the state after an entry is that after its command
-pub state_of-push : (o : Origin) (xs : List Entry) (e d : Entry) → e.command ≡ d.command → state_after o (xs ++ e ∷ []) ≡ state_after o (xs ++ d ∷ [])
-state_of-push o xs e d same =
-    let m = machine o in
+pub state_of-push : (o : Origin) (valid : Triples) (xs : List Entry) (e d : Entry) → e.command ≡ d.command → state_after o valid (xs ++ e ∷ []) ≡ state_after o valid (xs ++ d ∷ [])
+state_of-push o valid xs e d same =
+    let m = machine o valid in
     let s : State Block = state_after_entries m m.opening xs in
     state_after-append m m.opening xs (e ∷ []) ∙ ap (λ (c : Command). state_after_entries m s (record e { command = c } ∷ [])) same ∙ sym (state_after-append m m.opening xs (d ∷ []))
+
+-- and so are the sets that agree with what is known then
+pub agrees-push : (o : Origin) (xs : List Entry) (e d : Entry) → e.command ≡ d.command → (valid : Triples) → Agrees (known_in o (xs ++ e ∷ [])) valid → Agrees (known_in o (xs ++ d ∷ [])) valid
+agrees-push o xs e d same valid h = subst (λ (found : Verdicts). Agrees (known_by o.table found) valid) (found-push xs e d same) h
 
 owed_answers : {S : Type 0} (r : Option Reply) (o : Option (S × Reply)) → Answers r o → Answers None o
 owed_answers r None h = h
 owed_answers r (Some x) h = tt
 
--- an entry whose reply is owed may stand where it stands
-pub owed_legal : (o : Origin) (xs : List Entry) (e : Entry) → IsLegal o (xs ++ e ∷ []) → IsLegal o (xs ++ entry_with_reply e None ∷ [])
-owed_legal o xs e h =
-    let m = machine o in
+owed_legal-with : (o : Origin) (valid : Triples) (xs : List Entry) (e : Entry) → IsLegalWith o valid (xs ++ e ∷ []) → IsLegalWith o valid (xs ++ entry_with_reply e None ∷ [])
+owed_legal-with o valid xs e h =
+    let m = machine o valid in
     let stands : Stands m o.seats (state_after_entries m m.opening xs) e = stands_within m o.seats m.opening xs [] e h in
     legal_push m o.seats m.opening xs (entry_with_reply e None) (legal_front m o.seats m.opening xs (e ∷ []) h) (record {
       seat_is = stands.seat_is;
       reply_is = owed_answers e.reply (m.step (state_after_entries m m.opening xs) e.command) stands.reply_is;
     })
 
+-- an entry whose reply is owed may stand where it stands
+pub owed_legal : (o : Origin) (xs : List Entry) (e : Entry) → IsLegal o (xs ++ e ∷ []) → IsLegal o (xs ++ entry_with_reply e None ∷ [])
+owed_legal o xs e h = record {
+  news = news-push o xs e (entry_with_reply e None) refl h.news;
+  legal = λ valid agrees. owed_legal-with o valid xs e (h.legal valid (agrees-push o xs (entry_with_reply e None) e refl valid agrees));
+}
+
 -- what stands after a state is one
-one_info : (o : Origin) (xs ys : List Entry) (a b : ChainInfo) → state_after o xs ≡ state_after o ys → IsInfo o xs a → IsInfo o ys b → a ≡ b
-one_info o xs ys a b same h k =
-    let m = machine o in
+one_info : (o : Origin) (valid : Triples) (xs ys : List Entry) (a b : ChainInfo) → state_after o valid xs ≡ state_after o valid ys → IsInfo o valid xs a → IsInfo o valid ys b → a ≡ b
+one_info o valid xs ys a b same h k =
+    let m = machine o valid in
     let best : a.best ≡ b.best = h.best_is ∙ ap (λ (s : State Block). m.best s) same ∙ sym k.best_is in
-    let high : a.height ≡ b.height = h.height_is ∙ ap (λ (s : State Block). height s.blocks (active (regtest o.params o.triples) s)) same ∙ sym k.height_is in
+    let high : a.height ≡ b.height = h.height_is ∙ ap (λ (s : State Block). height s.blocks (active (regtest o.params valid) s)) same ∙ sym k.height_is in
     let tips : a.tips ≡ b.tips = h.tips_are ∙ ap (λ (s : State Block). map tip_of_id (m.tips s)) same ∙ sym k.tips_are in
     λ i. record { best = best i; height = high i; tips = tips i }
 
@@ -89,7 +104,8 @@ pub record IsOfOwed (is_new : Bool) (o : Origin) (seen : List Entry) (e : Entry)
   pub none : is_new ≡ false → p.entry.reply ≡ None
   pub changes_are : p.changes ≡ changes
   pub legal : IsLegal o (seen ++ p.entry ∷ [])
-  pub info_is : IsInfo o (seen ++ p.entry ∷ []) p.info
+  pub info_is : Under (known_in o (seen ++ p.entry ∷ [])) (λ valid. IsInfo o valid (seen ++ p.entry ∷ []) p.info)
+  pub height_fits : p.info.height < max_blocks
 
 -- the entry of the last of them
 again_owed : (x : ViewState) (o : Origin) (seen : List Entry) (e : Entry) (changes : Changes) (p q : Publication) (qs : List Publication) → Shows x o seen → IsOfOwed false o seen e changes p → AllFollow x (q ∷ qs)
@@ -102,27 +118,40 @@ again_owed x o seen e changes p q qs shows of follow same =
     let exact : IsExact z = all_exact x (q ∷ qs) shows.exact follow in
     let journal : z.journal ≡ seen ++ t.0 ∷ [] = exact.whole ∙ ap (λ (es : List Entry). es ++ option_to_list z.last) before ∙ ap (λ (l : Option Entry). seen ++ option_to_list l) t.1 in
     let entry : entry_with_reply p.entry None ≡ entry_with_reply t.0 None = of.entry_is ∙ sym same ∙ sym t.2 in
-    let info : IsInfo o (seen ++ t.0 ∷ []) z.info = subst (λ (es : List Entry). IsInfo o es z.info) journal (subst (λ (k : Origin). IsInfo k z.journal z.info) origin exact.info_is) in
+    let some = one_agrees o.table (found_in (seen ++ p.entry ∷ [])) in
+    let valid : Triples = some.0 in
+    let same_command : p.entry.command ≡ t.0.command = ap (λ (f : Entry). f.command) entry in
+    let there : Agrees (known_in z.origin z.journal) valid =
+    subst (λ (k : Origin). Agrees (known_in k z.journal) valid) (sym origin) (subst (λ (es : List Entry). Agrees (known_in o es) valid) (sym journal) (agrees-push o seen p.entry t.0 same_command valid some.1)) in
+    let info : IsInfo o valid (seen ++ t.0 ∷ []) z.info =
+    subst (λ (es : List Entry). IsInfo o valid es z.info) journal (subst (λ (k : Origin). IsInfo k valid z.journal z.info) origin (exact.state_is valid there).info_is) in
     let none : p.entry ≡ entry_with_reply p.entry None = ap (λ (r : Option Reply). entry_of p.entry.seat p.entry.command r) (of.none refl) in
     record {
       is_new = of.new_is;
       book_is = of.book_is ∙ ap (λ (k : Origin). k.book) (sym origin);
       before_is = of.before_is ∙ sym before;
       entry_is = (t.0, t.1, none ∙ entry);
-      info_is = one_info o (seen ++ p.entry ∷ []) (seen ++ t.0 ∷ []) p.info z.info (state_of-push o seen p.entry t.0 (ap (λ (f : Entry). f.command) entry)) of.info_is info;
+      info_is = one_info o valid (seen ++ p.entry ∷ []) (seen ++ t.0 ∷ []) p.info z.info (state_of-push o valid seen p.entry t.0 same_command) (of.info_is valid some.1) info;
     }
 
 -- the coins that stand after an entry stand after it with another reply
 changes_of : (x : ViewState) (o : Origin) (seen journal : List Entry) (e : Entry) (changes : Changes) (p : Publication) → Shows x o seen → journal ≡ seen ++ entry_with_reply e None ∷ [] → entry_with_reply p.entry None ≡ entry_with_reply e None → p.changes ≡ changes
-    → AreChanges x.coins (coins_after x.origin journal) changes → AreChanges x.coins (coins_after x.origin (x.journal ++ p.entry ∷ [])) p.changes
-changes_of x o seen journal e changes p shows is same eq h =
-    let state : state_after x.origin journal ≡ state_after x.origin (x.journal ++ p.entry ∷ []) =
-    ap (state_after x.origin) is ∙ state_of-push x.origin seen (entry_with_reply e None) p.entry (ap (λ (f : Entry). f.command) (sym same)) ∙ ap (λ (es : List Entry). state_after x.origin (es ++ p.entry ∷ [])) (sym shows.journal_is) in
-    let coins : coins_after x.origin journal ≡ coins_after x.origin (x.journal ++ p.entry ∷ []) = coins_same x.origin journal (x.journal ++ p.entry ∷ []) state in
-    subst (λ (cs : Changes). AreChanges x.coins (coins_after x.origin (x.journal ++ p.entry ∷ [])) cs) (sym eq) (subst (λ m. AreChanges x.coins m changes) coins h)
+    → Under (known_in x.origin journal) (λ valid. AreChanges x.coins (coins_after x.origin valid journal) changes)
+    → Under (known_in x.origin (x.journal ++ p.entry ∷ [])) (λ valid. AreChanges x.coins (coins_after x.origin valid (x.journal ++ p.entry ∷ [])) p.changes)
+changes_of x o seen journal e changes p shows is same eq h valid agrees =
+    let k : Origin = x.origin in
+    let command : e.command ≡ p.entry.command = ap (λ (f : Entry). f.command) (sym same) in
+    let here : seen ++ p.entry ∷ [] ≡ x.journal ++ p.entry ∷ [] = ap (λ (es : List Entry). es ++ p.entry ∷ []) (sym shows.journal_is) in
+    let state : state_after k valid journal ≡ state_after k valid (x.journal ++ p.entry ∷ []) =
+    ap (state_after k valid) is ∙ state_of-push k valid seen (entry_with_reply e None) p.entry command ∙ ap (state_after k valid) here in
+    let coins : coins_after k valid journal ≡ coins_after k valid (x.journal ++ p.entry ∷ []) = coins_same journal (x.journal ++ p.entry ∷ []) state in
+    let there : Agrees (known_in k journal) valid =
+    subst (λ (es : List Entry). Agrees (known_in k es) valid) (sym is)
+    (agrees-push k seen p.entry (entry_with_reply e None) (sym command) valid (subst (λ (es : List Entry). Agrees (known_in k es) valid) (sym here) agrees)) in
+    subst (λ (cs : Changes). AreChanges x.coins (coins_after k valid (x.journal ++ p.entry ∷ [])) cs) (sym eq) (subst (λ m. AreChanges x.coins m changes) coins (h valid there))
   where
-    coins_same : (k : Origin) (xs ys : List Entry) → state_after k xs ≡ state_after k ys → coins_after k xs ≡ coins_after k ys
-    coins_same k xs ys h = ap (λ (s : State Block). coins (regtest k.params k.triples) ledger s) h
+    coins_same : (xs ys : List Entry) → state_after x.origin valid xs ≡ state_after x.origin valid ys → coins_after x.origin valid xs ≡ coins_after x.origin valid ys
+    coins_same xs ys h = ap (λ (s : State Block). coins (regtest x.origin.params valid) ledger s) h
 
 -- it follows what is pending
 pub follows : (is_new : Bool) (x : ViewState) (pending : List Publication) (o : Origin) (seen journal : List Entry) (e : Entry) (changes : Changes) (p : Publication) → Shows x o seen → AreDue true is_new x pending journal changes
@@ -135,8 +164,14 @@ follows true x pending o seen journal e changes p shows due is of =
       book_is = of.book_is ∙ ap (λ (k : Origin). k.book) at;
       before_is = of.before_is ∙ sym shows.journal_is;
       legal = subst (λ (l : List Entry). IsLegal x.origin l) es (subst (λ (k : Origin). IsLegal k (seen ++ p.entry ∷ [])) at of.legal);
-      changes_are = changes_of x o seen journal e changes p shows is of.entry_is of.changes_are due.1;
-      info_is = subst (λ (l : List Entry). IsInfo x.origin l p.info) es (subst (λ (k : Origin). IsInfo k (seen ++ p.entry ∷ []) p.info) at of.info_is);
+      brings = λ valid agrees. record {
+        changes_are = changes_of x o seen journal e changes p shows is of.entry_is of.changes_are due.1 valid agrees;
+        info_is =
+            let there : Agrees (known_in o (seen ++ p.entry ∷ [])) valid =
+            subst (λ (k : Origin). Agrees (known_in k (seen ++ p.entry ∷ [])) valid) (sym at) (subst (λ (l : List Entry). Agrees (known_in x.origin l) valid) (sym es) agrees) in
+            subst (λ (l : List Entry). IsInfo x.origin valid l p.info) es (subst (λ (k : Origin). IsInfo k valid (seen ++ p.entry ∷ []) p.info) at (of.info_is valid there));
+      };
+      height_fits = of.height_fits;
     } in
     let follow : AllFollow x (p ∷ []) = (next, tt) in
     subst (λ (ps : List Publication). AllFollow x (ps ++ p ∷ [])) (sym due.0) follow
@@ -202,9 +237,17 @@ both_some P Q R (Some x) f h k = f x h k
 both_some P Q R None f h k = h
 
 -- what is due once a step is taken
-pub due_taken : (is_new : Bool) (x : ViewState) (pending : List Publication) (o : Origin) (seen journal more : List Entry) (before changes : Changes) → Shows x o seen → AreDue false is_new x pending journal before → journal ≡ seen
-    → AreChanges (coins_after o journal) (coins_after o more) changes → AreDue true true x pending more changes
-due_taken is_new x pending o seen journal more before changes shows none same h =
-    let here : coins_after o journal ≡ x.coins = sym (shows.exact.coins_are ∙ (λ i. coins_after (shows.origin_is i) ((shows.journal_is ∙ sym same) i))) in
-    let after : coins_after o more ≡ coins_after x.origin more = ap (λ (k : Origin). coins_after k more) (sym shows.origin_is) in
-    (none, subst (λ m. AreChanges m (coins_after x.origin more) changes) here (subst (λ m. AreChanges (coins_after o journal) m changes) after h))
+pub due_taken : (is_new : Bool) (x : ViewState) (pending : List Publication) (o : Origin) (seen journal more : List Entry) (e : Entry) (before changes : Changes) → Shows x o seen → AreDue false is_new x pending journal before → journal ≡ seen
+    → AreNews o.table (journal ++ e ∷ []) → more ≡ journal ++ e ∷ []
+    → Under (known_in o more) (λ valid. AreChanges (coins_after o valid journal) (coins_after o valid more) changes) → AreDue true true x pending more changes
+due_taken is_new x pending o seen journal more e before changes shows none same news grown h = (
+  none,
+  λ valid agrees.
+      let wide : Agrees (known_in o more) valid = subst (λ (k : Origin). Agrees (known_in k more) valid) shows.origin_is agrees in
+      let front : Agrees (known_in o journal) valid = agreed_with_front o.table journal (e ∷ []) valid news (subst (λ (l : List Entry). Agrees (known_in o l) valid) grown wide) in
+      let seen_there : Agrees (known_in x.origin x.journal) valid =
+      subst (λ (k : Origin). Agrees (known_in k x.journal) valid) (sym shows.origin_is) (subst (λ (l : List Entry). Agrees (known_in o l) valid) (same ∙ sym shows.journal_is) front) in
+      let here : coins_after o valid journal ≡ x.coins = sym ((shows.exact.state_is valid seen_there).coins_are ∙ (λ i. coins_after (shows.origin_is i) valid ((shows.journal_is ∙ sym same) i))) in
+      let after : coins_after o valid more ≡ coins_after x.origin valid more = ap (λ (k : Origin). coins_after k valid more) (sym shows.origin_is) in
+      subst (λ m. AreChanges m (coins_after x.origin valid more) changes) here (subst (λ m. AreChanges (coins_after o valid journal) m changes) after (h valid wide)),
+)

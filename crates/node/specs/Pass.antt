@@ -3,22 +3,25 @@ use Rattle.std.specs.Prelude.{◌≡◌, ◌⊎◌, ◌&&◌, ℕ, zero, suc, Bo
 use Rattle.std.specs.Prelude.{List, [], ◌∷◌, ◌++◌, length, take, drop, Option, Some, None}
 use mathlib.Core.List.{IsPrefix}
 use Rattle.txn.specs.declared.outpoint.OutPoint.{OutPoint}
+use Rattle.curve.specs.Known.{Under}
+use Rattle.curve.specs.Triple.{Triple, Triples}
 use Rattle.coins.specs.declared.coin.Coin.{Coin}
 use Rattle.chain.specs.declared.command.Command.{Command}
 use Rattle.chain.specs.declared.reply.Reply.{Reply}
 use Rattle.chain.specs.declared.entry.Entry.{Entry}
 use Rattle.chain.specs.History.{state_at, own_of, entry_of}
-use Rattle.view.specs.Origin.{Origin, machine}
+use Rattle.view.specs.Origin.{Origin, known_in, machine}
 use Rattle.view.specs.ViewState.{IsLegal}
 use Rattle.node.specs.Told.{AreNext, coins_in}
 
--- the seat's number, which history it sits at and what that is of, the beginning of it that the seat has seen, and
--- the seat's own entries in order
+-- the seat's number, which history it sits at and what that is of, the beginning of it that the seat has seen, the seat's
+-- own entries in order, and the signatures that its last call without an answer wants
 pub record Pass : Type 0 where
   pub number : ℕ
   pub origin : Origin
   pub seen : List Entry
   pub mine : List Entry
+  pub wants : List Triple
 
 -- a beginning of a history, as one seat gives it to another
 pub record Heard : Type 0 where
@@ -27,7 +30,7 @@ pub record Heard : Type 0 where
 
 -- a seat that has seen and done nothing
 abbrev pub opening_pass : Origin → ℕ → Pass
-opening_pass o number = record { number = number; origin = o; seen = []; mine = [] }
+opening_pass o number = record { number = number; origin = o; seen = []; mine = []; wants = [] }
 
 -- so many seats, numbered from 0
 abbrev pub opening_passes : Origin → ℕ → List Pass
@@ -76,11 +79,12 @@ pub record IsNoStep (p q : Pass) (at : ℕ) : Type 0 where
   pub same : q ≡ p
   pub at_is : at ≡ length p.seen
 
--- the value is what the history's state gives after all that the seat has then seen
-pub record IsRead (p q : Pass) {V : Type 0} (value : (machine p.origin).State → V)
+-- the value is what the history's state gives after all that the seat has then seen, under every set of valid signatures
+-- that agrees with what is then known
+pub record IsRead (p q : Pass) {V : Type 0} (value : (valid : Triples) → (machine p.origin valid).State → V)
     (at : ℕ) (answer : V) : Type 0 where
   pub at_is : at ≡ length q.seen
-  pub value_is : answer ≡ value (state_at (machine p.origin) q.seen at)
+  pub value_is : Under (known_in p.origin q.seen) (λ valid. answer ≡ value valid (state_at (machine p.origin valid) q.seen at))
   pub mine_is : q.mine ≡ p.mine
 
 -- the answer is the entries after the first `first`, up to the one of number `last`, of all that the seat has then seen
@@ -92,7 +96,8 @@ pub record IsListed (p q : Pass) (first last at : ℕ) (answer : List Entry) : T
 -- the answer is the coins above an outpoint, of the state after all that the seat has then seen
 pub record AreCoins (p q : Pass) (above : Option OutPoint) (most at : ℕ) (answer : List (OutPoint × Coin)) : Type 0 where
   pub at_is : at ≡ length q.seen
-  pub answer_is : AreNext (coins_in p.origin (state_at (machine p.origin) q.seen at)) above most answer
+  pub answer_is : Under (known_in p.origin q.seen) (λ valid.
+      AreNext (coins_in p.origin valid (state_at (machine p.origin valid) q.seen at)) above most answer)
   pub mine_is : q.mine ≡ p.mine
 
 -- of a whole history: what the seat has seen begins it, and the seat's entries in it are its own

@@ -1,10 +1,11 @@
 -- Runs: what a seat called and was answered, and how one history explains that.
-use Rattle.std.specs.Prelude.{◌≡◌, ℕ, zero, suc, ◌<◌, ◌≤◌, max, List, [], ◌∷◌, ◌++◌, length, take, drop, slice_get}
+use Rattle.std.specs.Prelude.{◌≡◌, ℕ, zero, suc, ◌<◌, ◌≤◌, max, Bool, not, List, [], ◌∷◌, ◌++◌, length, take, drop, slice_get}
 use Rattle.std.specs.Prelude.{Option, Some, None, Result, Ok, Err, IfOk, IfErr}
 use Rattle.std.specs.Global.{Vec}
 use mathlib.Core.List.{IsPrefix}
 use Rattle.hash.specs.declared.id.Id.{Id}
 use Rattle.txn.specs.declared.outpoint.OutPoint.{OutPoint}
+use Rattle.curve.specs.Triple.{Triple, Triples}
 use Rattle.coins.specs.declared.coin.Coin.{Coin}
 use Rattle.block.specs.Decoding.{block_of_bytes}
 use Rattle.tree.specs.declared.tip.Tip.{Tip}
@@ -15,22 +16,26 @@ use Rattle.chain.specs.declared.reply.Reply.TheVariants as reply
 use Rattle.chain.specs.declared.reply.SubmitReply.{SubmitReply}
 use Rattle.chain.specs.declared.reply.SubmitReply.TheVariants.{DecodeFailed}
 use Rattle.chain.specs.declared.reply.MarkReply.{MarkReply}
+use Rattle.chain.specs.declared.reply.MarkReply.TheVariants.{Done}
 use Rattle.chain.specs.declared.entry.Entry.{Entry}
 use Rattle.chain.specs.History.{state_at, entry_of}
-use Rattle.view.specs.Origin.{Origin, machine}
+use Rattle.view.specs.Origin.{Origin, known_in, machine}
+use Rattle.node.specs.declared.answer.Learning.{Learning}
+use Rattle.node.specs.declared.answer.Learning.TheVariants as learning
 use Rattle.node.specs.declared.answer.Stamped.{Stamped}
 use Rattle.node.specs.declared.answer.UnspentOutput.{UnspentOutput}
 use Rattle.node.specs.declared.fault.Fault.{Fault}
-use Rattle.node.specs.declared.fault.Fault.TheVariants.{Owed}
+use Rattle.node.specs.declared.fault.Fault.TheVariants.{Owed, Unknown}
 use Rattle.node.specs.Pass.{Pass, Heard, IsLater, IsLonger, IsWrite, IsRead, AreCoins, IsListed, owed_entry}
-use Rattle.node.specs.Calls.{IsSubmitAnswer, IsWriteFault, IsReadFault, IsClosedFault}
-use Rattle.node.specs.Told.{AreNext, coins_in, output_at, shown_tips}
+use Rattle.node.specs.Calls.{IsSubmitAnswer, IsLearnAnswer, IsWriteFault, IsReadFault, IsClosedFault}
+use Rattle.node.specs.Told.{AreNext, best_in, coins_in, output_at, shown_tips}
 
 -- a call of a seat, with what was answered
 pub data Call : Type 0 where
   Submit : List ℕ → ℕ → Result (Stamped SubmitReply) Fault → Call
   -- `invalidate`, `reconsider` and `precious`
   Mark : Command → Result (Stamped MarkReply) Fault → Call
+  Learn : Triple → Bool → Result (Stamped Learning) Fault → Call
   GetTxOut : OutPoint → Result (Stamped (Option UnspentOutput)) Fault → Call
   CoinsFrom : Option OutPoint → ℕ → Result (Stamped (Vec (OutPoint × Coin))) Fault → Call
   GetBestBlockHash : Result (Stamped Id) Fault → Call
@@ -56,9 +61,10 @@ pub record Contract (p q : Pass) {A : Type 0} (result : Result (Stamped A) Fault
 abbrev pub Ensures : Pass → Pass → Call → Type 0
 Ensures p q (Submit bytes now r) = Contract p q r (IsSubmitAnswer p q bytes now) (IsWriteFault p q (command.Submit bytes now))
 Ensures p q (Mark c r) = Contract p q r (λ at value. IsWrite p q c at (reply.Mark value)) (IsWriteFault p q c)
+Ensures p q (Learn t valid r) = Contract p q r (IsLearnAnswer p q t valid) (IsWriteFault p q (command.Learn t valid))
 Ensures p q (GetTxOut outpoint r) = Contract p q r (IsRead p q (output_at p.origin outpoint)) (IsReadFault p q)
 Ensures p q (CoinsFrom above most r) = Contract p q r (λ at list. AreCoins p q above most at list.items) (IsReadFault p q)
-Ensures p q (GetBestBlockHash r) = Contract p q r (IsRead p q (machine p.origin).best) (IsClosedFault p q)
+Ensures p q (GetBestBlockHash r) = Contract p q r (IsRead p q (best_in p.origin)) (IsClosedFault p q)
 Ensures p q (GetChainTips r) = Contract p q r (λ at tips. IsRead p q (shown_tips p.origin) at tips.items) (IsReadFault p q)
 Ensures p q (Journal first last r) = Contract p q r (λ at list. IsListed p q first last at list.items) (IsReadFault p q)
 Ensures p q (Note x) = (q ≡ p) × (x.seen ≡ p.seen)
@@ -79,12 +85,19 @@ abbrev pub step_of_fault : ℕ → Command → Fault → List Entry
 step_of_fault seat c Owed = owed_entry seat c ∷ []
 step_of_fault seat c f = []
 
+-- a verdict that was known already is no step
+abbrev pub step_of_learning : ℕ → Command → Learning → List Entry
+step_of_learning seat c learning.New = entry_of seat c (Some (reply.Mark Done)) ∷ []
+step_of_learning seat c value = []
+
 -- the step that a call took, if it took one
 abbrev pub step_of : ℕ → Call → List Entry
 step_of seat (Submit bytes now (Ok r)) = step_of_reply seat (command.Submit bytes now) (reply.Submit r.value)
 step_of seat (Submit bytes now (Err f)) = step_of_fault seat (command.Submit bytes now) f
 step_of seat (Mark c (Ok r)) = step_of_reply seat c (reply.Mark r.value)
 step_of seat (Mark c (Err f)) = step_of_fault seat c f
+step_of seat (Learn t valid (Ok r)) = step_of_learning seat (command.Learn t valid) r.value
+step_of seat (Learn t valid (Err f)) = step_of_fault seat (command.Learn t valid) f
 step_of seat call = []
 
 -- the steps that a seat's calls took, in their order
@@ -92,12 +105,17 @@ abbrev pub steps_of : ℕ → List Call → List Entry
 steps_of seat [] = []
 steps_of seat (c ∷ cs) = step_of seat c ++ steps_of seat cs
 
--- A seat goes along the history h: it has seen n entries of it before a call, and m after it.
-module _ (o : Origin) (h : List Entry) where
+-- a fault leaves the seat where it is, but where signatures are wanted
+abbrev pub IsLeft : ℕ → ℕ → Fault → Type 0
+IsLeft n m Unknown = n ≤ m
+IsLeft n m f = m ≡ n
+
+-- A seat goes along the history h, where these signatures are valid: it has seen n entries of it before a call, and m after it.
+module _ (o : Origin) (h : List Entry) (valid : Triples) where
   -- entry m, counted from 1, is the seat's, and so the chainstate answers its command there
   abbrev pub IsStep : ℕ → Command → ℕ → Reply → Type 0
   IsStep seat c zero r = ⊥
-  IsStep seat c (suc k) r = let M = machine o in
+  IsStep seat c (suc k) r = let M = machine o valid in
       (slice_get h k ≡ Some (entry_of seat c (Some r))) × (M.step (state_at M h k) c ≡ Some (state_at M h (suc k), r))
 
   -- a step is behind all that the seat had seen; bytes that are no block take none
@@ -105,19 +123,26 @@ module _ (o : Origin) (h : List Entry) where
   IsSubmission seat n m bytes now DecodeFailed = (m ≡ n) × (block_of_bytes bytes ≡ None)
   IsSubmission seat n m bytes now value = (n < m) × IsStep seat (command.Submit bytes now) m (reply.Submit value)
 
-  -- an answer takes the seat to its place, and a fault leaves it where it is
+  -- a verdict is a step, or it or the other one is known there
+  abbrev pub IsLearnt : ℕ → ℕ → ℕ → Triple → Bool → Learning → Type 0
+  IsLearnt seat n m t v learning.New = (n < m) × IsStep seat (command.Learn t v) m (reply.Mark Done)
+  IsLearnt seat n m t v learning.Known = known_in o (take m h) t ≡ Some v
+  IsLearnt seat n m t v learning.Contradicted = known_in o (take m h) t ≡ Some (not v)
+
+  -- an answer takes the seat to its place
   abbrev pub IsAt : {A : Type 0} → ℕ → ℕ → Result (Stamped A) Fault → (A → Type 0) → Type 0
   IsAt n m (Ok r) P = (r.at ≡ m) × P r.value
-  IsAt n m (Err f) P = m ≡ n
+  IsAt n m (Err f) P = IsLeft n m f
 
   -- what the call answered is what the chainstate answers there
   abbrev pub Explains : ℕ → ℕ → ℕ → Call → Type 0
   Explains seat n m (Submit bytes now r) = IsAt n m r (IsSubmission seat n m bytes now)
   Explains seat n m (Mark c r) = IsAt n m r (λ value. (n < m) × IsStep seat c m (reply.Mark value))
-  Explains seat n m (GetTxOut outpoint r) = IsAt n m r (λ value. value ≡ output_at o outpoint (state_at (machine o) h m))
-  Explains seat n m (CoinsFrom above most r) = IsAt n m r (λ list. AreNext (coins_in o (state_at (machine o) h m)) above most list.items)
-  Explains seat n m (GetBestBlockHash r) = IsAt n m r (λ value. value ≡ (machine o).best (state_at (machine o) h m))
-  Explains seat n m (GetChainTips r) = IsAt n m r (λ tips. tips.items ≡ shown_tips o (state_at (machine o) h m))
+  Explains seat n m (Learn t v r) = IsAt n m r (IsLearnt seat n m t v)
+  Explains seat n m (GetTxOut outpoint r) = IsAt n m r (λ value. value ≡ output_at o outpoint valid (state_at (machine o valid) h m))
+  Explains seat n m (CoinsFrom above most r) = IsAt n m r (λ list. AreNext (coins_in o valid (state_at (machine o valid) h m)) above most list.items)
+  Explains seat n m (GetBestBlockHash r) = IsAt n m r (λ value. value ≡ best_in o valid (state_at (machine o valid) h m))
+  Explains seat n m (GetChainTips r) = IsAt n m r (λ tips. tips.items ≡ shown_tips o valid (state_at (machine o valid) h m))
   Explains seat n m (Journal first last r) = IsAt n m r (λ list. list.items ≡ drop first (take last (take m h)))
   Explains seat n m (Note x) = (m ≡ n) × (length x.seen ≡ n) × IsPrefix x.seen h
   Explains seat n m (Told x) = (m ≡ max n (length x.seen)) × IsPrefix x.seen h

@@ -1,6 +1,8 @@
 -- What a seat is told of a state.
 use Rattle.std.specs.Prelude.{◌≡◌, ◌⊎◌, ℕ, zero, suc, List, [], ◌∷◌, map, Option, None, Some, option_map}
+use Rattle.hash.specs.declared.id.Id.{Id}
 use Rattle.txn.specs.declared.outpoint.OutPoint.{OutPoint}
+use Rattle.curve.specs.Triple.{Triples}
 use Rattle.coins.specs.Coins.{Coins}
 use Rattle.coins.specs.declared.coin.Coin.{Coin}
 use Rattle.coins.specs.Next.{IsNext}
@@ -22,16 +24,20 @@ unspent_output (coin, confirmations) = record {
 }
 
 -- the output at an outpoint, as a seat reads it, where it isn't spent
-abbrev pub output_at : (o : Origin) → OutPoint → (machine o).State → Option UnspentOutput
-output_at o at s = option_map unspent_output ((machine o).coin s at)
+abbrev pub output_at : (o : Origin) → OutPoint → (valid : Triples) → (machine o valid).State → Option UnspentOutput
+output_at o at valid s = option_map unspent_output ((machine o valid).coin s at)
 
 -- the tips, as a seat reads them
-abbrev pub shown_tips : (o : Origin) → (machine o).State → List Tip
-shown_tips o s = map tip_of_id ((machine o).tips s)
+abbrev pub shown_tips : (o : Origin) → (valid : Triples) → (machine o valid).State → List Tip
+shown_tips o valid s = map tip_of_id ((machine o valid).tips s)
 
 -- all coins of a state
-abbrev pub coins_in : (o : Origin) → (machine o).State → Coins
-coins_in o s = coins (regtest o.params o.triples) ledger s
+abbrev pub coins_in : (o : Origin) → (valid : Triples) → (machine o valid).State → Coins
+coins_in o valid s = coins (regtest o.params valid) ledger s
+
+-- the id of the best block
+abbrev pub best_in : (o : Origin) → (valid : Triples) → (machine o valid).State → Id
+best_in o valid s = (machine o valid).best s
 
 -- the coins above an outpoint by rising outpoints, so many of them: fewer only where there are no more
 abbrev pub AreNext : Coins → Option OutPoint → ℕ → List (OutPoint × Coin) → Type 0

@@ -3,7 +3,10 @@ pub mod Brought
 pub mod EarlyScripts
 pub mod Following
 pub mod Keeping
+pub mod Knowledge
+pub mod Learnt
 pub mod PublishedState
+pub mod Refused
 pub mod Seats
 pub mod SeenStep
 pub mod Writing

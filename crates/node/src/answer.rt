@@ -15,6 +15,17 @@ pub struct Stamped<T> {
     pub value: T,
 }
 
+/// What became of a verdict on a signature ([`Seat::learn`](crate::Seat::learn)).
+#[derive(Clone, Copy, Debug, PartialEq, Eq)]
+pub enum Learning {
+    /// None was known: it is a step of its own.
+    New,
+    /// It was known already. No step was taken.
+    Known,
+    /// The other verdict is known. No step was taken.
+    Contradicted,
+}
+
 /// An output that isn't spent (Bitcoin Core's `gettxout`): its value in satoshis, its script, the height of
 /// its block, whether a coinbase made it, and how many blocks of the active branch there are from its own on.
 #[derive(Debug, Drop)]

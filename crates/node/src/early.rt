@@ -1,18 +1,24 @@
 //! Scripts that are run before the lock is taken.
 
 ghost use Rattle.std.specs.Prelude.{◌≡◌, IfOk, IfSome};
+ghost use Rattle.std.specs.Arc.{arc_value};
+ghost use Rattle.std.specs.Option.{option_map};
+ghost use Rattle.queue.specs.Jobs.{IsEarly};
+ghost use Rattle.view.specs.Origin.{known_in};
 ghost use Rattle.view.specs.ViewState.{IsExact};
 ghost use Rattle.txn.specs.Identity.{ids_of};
 ghost use Rattle.node.specs.inside.EarlyScripts.{AreEarly};
 
+use crate::learnt::{Early, Learnt};
 use crate::node::Node;
 use crate::seat::Seat;
 use chain::{PreparedCommand, SubmittedBlock};
 use connect::early_jobs;
 use curve::Table;
-use queue::{EarlyJobs, Gate, Verdicts, check_early};
+use queue::{EarlyJobs, Gate, Source, check_early};
 use rules::Params;
 use std::alloc::Global;
+use std::sync::Arc;
 use std::thread::Threads;
 use view::{Naming, View};
 use wire::Memory;
@@ -71,26 +77,53 @@ impl<'t, J: Naming> Seat<'t, J> {
         jobs
     }
 
-    /// The verdicts of those scripts under a table. They are run when the view was left: a reader that stays inside
-    /// holds up all publications.
+    /// The verdicts of those scripts by a table, if there is one, or else by what the seat told of signatures. They are run
+    /// when the view was left: a reader that stays inside holds up all publications.
+    #[tactic(auto, using(crate::proofs::Owning::own_begins))]
     pub(crate) fn early_verdicts<'c, R: Threads + Sync>(
         &mut self,
         rt: &R,
         node: &Node<'_, J>,
         command: &'c PreparedCommand,
-        table: &'c Table,
-    ) -> Result<Option<Verdicts<'c>>, Memory>
+        table: Option<&'c Arc<Table>>,
+        learnt: &'c Learnt<J>,
+    ) -> Result<Option<Early<'c>>, Memory>
+        requires table { option_map (λ t. arc_value t.now) table ≡ J.origin.table }
         ensures same { self.new ≡ self.old }
         ensures later { IsLater self.old self.new }
         ensures own { IsOwn self.new }
-        ensures table { IfOk result (λ early.
-            IfSome early (λ verdicts. verdicts.triples ≡ table.entry.now)) }
+        ensures book { IfOk result (λ early. IfSome early (λ e. e.seen.book ≡ J.origin.book)) }
+        ensures early { IfOk result (λ early. IfSome early (λ e.
+            IsEarly (known_in J.origin e.seen.entries) e.verdicts)) }
     {
+        let _ = &self.params;
         let Some(jobs) = self.early_jobs(node.alloc, command)? else {
             return Ok(None);
         };
-        let gate: &(dyn Gate + Sync) = node.gate;
-        let verdicts = check_early(rt, node.alloc, jobs, table, node.workers, &gate)?;
-        Ok(Some(verdicts))
+        Ok(Some(verdicts_of(rt, node, jobs, table, learnt)?))
     }
+}
+
+/// The verdicts of jobs by a table, if there is one, or else by what a seat told.
+fn verdicts_of<'c, J: Naming, R: Threads + Sync>(
+    rt: &R,
+    node: &Node<'_, J>,
+    jobs: EarlyJobs<'c>,
+    table: Option<&'c Arc<Table>>,
+    learnt: &'c Learnt<J>,
+) -> Result<Early<'c>, Memory>
+    requires table { option_map (λ t. arc_value t.now) table ≡ J.origin.table }
+    ensures book { IfOk result (λ e. e.seen.book ≡ J.origin.book) }
+    ensures early { IfOk result (λ e. IsEarly (known_in J.origin e.seen.entries) e.verdicts) }
+{
+    let source = match table {
+        Some(table) => Source::Listed(table),
+        None => Source::Found(learnt.found()),
+    };
+    let gate: &(dyn Gate + Sync) = node.gate;
+    let verdicts = check_early(rt, node.alloc, jobs, source, node.workers, &gate)?;
+    Ok(Early {
+        verdicts,
+        seen: learnt.seen(),
+    })
 }

@@ -115,6 +115,9 @@ fn is_same_command(command: &Command, other: &Command) -> bool
         (Command::Invalidate(id), Command::Invalidate(other)) => id == other,
         (Command::Reconsider(id), Command::Reconsider(other)) => id == other,
         (Command::Precious(id), Command::Precious(other)) => id == other,
+        (Command::Learn(triple, valid), Command::Learn(other, value)) => {
+            triple.is(other) && valid == value
+        }
         _ => false,
     }
 }

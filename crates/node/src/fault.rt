@@ -1,8 +1,7 @@
 //! Why a call has no answer, and why a node can't be opened.
 
-ghost use Rattle.std.specs.Prelude.{◌≡◌, ◌⊎◌};
+ghost use Rattle.std.specs.Prelude.{◌≡◌};
 
-use crate::published_history::Refusal;
 use chain::Entry;
 use std::error::Error;
 use std::fmt;
@@ -17,6 +16,9 @@ pub enum Fault {
     Owed,
     /// Seat and node don't fit each other, or nothing is published any more. No step was taken.
     Closed,
+    /// Scripts want signatures of which the node doesn't know whether they are valid: [`Seat::wants`](crate::Seat::wants). No
+    /// step was taken. A node with a table never answers it.
+    Unknown,
 }
 
 impl fmt::Display for Fault {
@@ -25,6 +27,7 @@ impl fmt::Display for Fault {
             Fault::Memory => "memory",
             Fault::Owed => "owed",
             Fault::Closed => "closed",
+            Fault::Unknown => "unknown",
         })
     }
 }
@@ -38,19 +41,6 @@ impl From<Memory> for Fault {
 
     fn from(_fault: Memory) -> Fault {
         Fault::Memory
-    }
-}
-
-impl From<Refusal> for Fault {
-    ghost use Rattle.node.specs.declared.fault.Fault.TheVariants.{Memory, Closed};
-
-    ghost from_gives = { λ _ fault. (fault ≡ Memory) ⊎ (fault ≡ Closed) };
-
-    fn from(refusal: Refusal) -> Fault {
-        match refusal {
-            Refusal::Memory => Fault::Memory,
-            Refusal::Closed => Fault::Closed,
-        }
     }
 }
 

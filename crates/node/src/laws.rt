@@ -8,7 +8,9 @@ ghost use Rattle.chain.specs.declared.command.Command.TheVariants as command;
 ghost use Rattle.chain.specs.declared.reply.Reply.{Reply};
 ghost use Rattle.chain.specs.declared.entry.Entry.{Entry};
 ghost use Rattle.chain.specs.History.{own_of};
-ghost use Rattle.view.specs.Origin.{Origin};
+ghost use Rattle.curve.specs.Known.{Under};
+ghost use Rattle.curve.specs.Triple.{Triples};
+ghost use Rattle.view.specs.Origin.{Origin, known_in};
 ghost use Rattle.view.specs.ViewState.{IsLegal};
 ghost use Rattle.node.specs.Pass.{Pass, IsStanding, opening_pass, opening_passes};
 ghost use Rattle.node.specs.Runs.{Call, Submit, Mark, GetTxOut, CoinsFrom, GetBestBlockHash};
@@ -49,19 +51,21 @@ fn is_sent<T: Send>() {}
 fn is_shared<T: Sync>() {}
 
 /// All calls of all seats are of one run of the chainstate: whatever the seats called, the legal list that `finish` gives
-/// explains what each was answered. So does any other that begins with what a seat has seen.
+/// explains what each was answered, under every set of valid signatures that agrees with it. So does any other legal list
+/// that begins with what a seat has seen.
 pub fn all_calls_are_of_one_run()
     // Each answer is the chainstate's at its place, and no seat goes back.
     ensures places { (o : Origin) (history : List Entry) (seat : ℕ) (calls : List Call) (p : Pass)
         → IsLegal o history → Makes (opening_pass o seat) calls p → IsPrefix p.seen history
-        → ExplainsAll o history seat 0 calls }
+        → Under (known_in o history) (λ valid. ExplainsAll o history valid seat 0 calls) }
     // Each step stands once, in its caller's order, an owed one too.
     ensures steps { (o : Origin) (history : List Entry) (seat : ℕ) (calls : List Call) (p : Pass)
         → Makes (opening_pass o seat) calls p → IsStanding history p
         → own_of seat history ≡ steps_of seat calls }
     // And no place has steps of two seats.
-    ensures apart { (o : Origin) (history : List Entry) (k l at : ℕ) (c d : Command) (r s : Reply)
-        → IsStep o history k c at r → IsStep o history l d at s → k ≡ l }
+    ensures apart { (o : Origin) (history : List Entry) (valid : Triples) (k l at : ℕ)
+        (c d : Command) (r s : Reply)
+        → IsStep o history valid k c at r → IsStep o history valid l d at s → k ≡ l }
 {}
 
 /// Each seat that `open` gives begins such a run.
@@ -114,7 +118,6 @@ pub fn writes_are_calls<J: Naming, R: Threads + Wait + Sync>(
 /// And so of a reading call.
 pub fn reads_are_calls<J: Naming>(
     alloc: Global,
-    node: &Node<'_, J>,
     seat: &mut Seat<'_, J>,
     outpoint: &OutPoint,
     from: u64,
@@ -127,17 +130,16 @@ pub fn reads_are_calls<J: Naming>(
         Makes seat.old (output ∷ best ∷ tips ∷ journal ∷ []) seat.new }
 {
     Reads {
-        gettxout: seat.gettxout(alloc, node, outpoint),
-        getbestblockhash: seat.getbestblockhash(node),
-        getchaintips: seat.getchaintips(alloc, node),
-        journal: seat.journal(alloc, node, from, to),
+        gettxout: seat.gettxout(alloc, outpoint),
+        getbestblockhash: seat.getbestblockhash(),
+        getchaintips: seat.getchaintips(alloc),
+        journal: seat.journal(alloc, from, to),
     }
 }
 
 /// And so of one that lists coins.
 pub fn lists_of_coins_are_calls<J: Naming>(
     alloc: Global,
-    node: &Node<'_, J>,
     seat: &mut Seat<'_, J>,
     above: Option<&OutPoint>,
     most: usize,
@@ -145,7 +147,7 @@ pub fn lists_of_coins_are_calls<J: Naming>(
     ensures { let coins = CoinsFrom (option_copied above.entry) most result in
         Makes seat.old (coins ∷ []) seat.new }
 {
-    seat.coins_from(alloc, node, above, most)
+    seat.coins_from(alloc, above, most)
 }
 
 /// And of the calls by which seats tell each other what they have seen.

@@ -2,7 +2,9 @@
 
 ghost use Rattle.std.specs.Prelude.{◌≡◌, ℕ, ◌≤◌, [], true, Some, length, slice_get};
 ghost use Rattle.std.specs.Prelude.{IfOk, IfErr, OnOk};
-ghost use Rattle.view.specs.Origin.{origin};
+ghost use Rattle.std.specs.Arc.{arc_value};
+ghost use Rattle.std.specs.Option.{option_map};
+ghost use Rattle.view.specs.Origin.{origin_of};
 ghost use Rattle.view.specs.ViewState.{IsLegal};
 ghost use Rattle.node.specs.Pass.{Pass, IsStanding, opening_passes};
 ghost use Rattle.node.specs.Opening.{IsAllowedCount, IsOpenFault};
@@ -146,34 +148,37 @@ fn history_and_seats<'g, J: Naming>(
         counter,
         note,
     } = opening;
-    let shared = Arc::try_clone(table)?;
+    let shared = match table {
+        Some(table) => Some(Arc::try_clone(table)?),
+        None => None,
+    };
     let seen = note.copy();
     let Opened { history, readers } = open_history(alloc, params, shared, seats, counter, note)?;
-    let list = seat_list(alloc, params, table, seats, tokens, &seen, readers)?;
+    let list = seat_list(alloc, params, table, tokens, &seen, readers)?;
     Ok((history, list))
 }
 
-/// The seats, numbered from 0, each with one of these readers.
+/// The seats, numbered from 0, one for each of these readers.
 fn seat_list<'t, J: Naming>(
     alloc: Global,
     params: Params,
-    table: &'t Table,
-    seats: usize,
+    table: Option<&'t Arc<Table>>,
     tokens: SeatTokens,
     note: &view::Note,
     readers: Vec<ViewReader<J>>,
 ) -> Result<Vec<Seat<'t, J>>, Memory>
     requires empty { note.now.entries ≡ [] }
     requires first { tokens ≡ 0 }
-    requires few { seats ≤ 16 }
-    requires enough { length readers.items ≡ seats }
-    requires of { origin note.now.book params table.now seats ≡ J.origin }
-    ensures { IfOk result (λ list. list.items ≡ opening_passes J.origin seats) }
+    requires few { length readers.items ≤ 16 }
+    requires of { let triples = option_map (λ t. arc_value t.now) table in
+        origin_of note.now.book params triples (length readers.items) ≡ J.origin }
+    ensures { let seats = length readers.items in
+        IfOk result (λ list. list.items ≡ opening_passes J.origin seats) }
 {
     let mut readers = readers;
     let mut tokens = tokens;
     let mut list = Vec::new(alloc);
-    for _ in 0..seats {
+    for _ in 0..readers.len() {
         let Some(reader) = readers.pop() else {
             unreachable!()
         };

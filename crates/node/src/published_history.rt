@@ -1,52 +1,53 @@
 //! The history of a node of many seats, as it lies under the lock: the journal, the chainstate after it, and the
 //! writer that publishes both. The coins lie in what is published alone.
 
-ghost use Rattle.std.specs.Prelude.{◌≡◌, ◌<◌, ◌≤◌, ◌∷◌, ◌++◌, [], true, false, All, Some, None, IfOk, OnErr, List, drop, length};
+ghost use Rattle.std.specs.Prelude.{◌≡◌, ◌≤◌, ◌∷◌, ◌++◌, [], true, false, All, IfOk, IfErr, IfSome, OnErr, List, Some, drop, length};
+ghost use mathlib.Core.List.{IsPrefix};
 ghost use Rattle.std.specs.Arc.{arc_value};
 ghost use Rattle.chain.specs.declared.entry.Entry.{Entry as EntryValue};
+ghost use Rattle.queue.specs.Jobs.{IsEarly};
 ghost use Rattle.chain.specs.Prepared.{command_of};
-ghost use Rattle.activate.specs.CoreState.{Follows, opened_core};
 ghost use Rattle.view.specs.Beginning.{count_of};
+ghost use Rattle.view.specs.Origin.{known_in};
 ghost use Rattle.view.specs.ViewState.{IsLegal};
 ghost use Rattle.node.specs.inside.Keeping.{is_step};
-ghost use Rattle.node.specs.inside.PublishedState.{IsStepAnswer, IsTaken, Shows, opening_state, entry_with_reply};
+ghost use Rattle.node.specs.inside.PublishedState.{IsLockedAt, IsReady, IsStepAnswer, IsTaken, Shows, opening_state, entry_with_reply};
+ghost use Rattle.node.specs.inside.Refused.{IsWantAfter};
 
 mod attempt;
 mod bringing;
+mod core_info;
+mod knowledge;
+mod locked_chain;
 mod opening;
-mod view_step;
+mod refusal;
 mod writer_home;
 
 use crate::naming::SeatToken;
 use crate::published_history::attempt::{Attempt, attempt_to_publish};
 use crate::published_history::bringing::{Brought, what_is_brought};
+pub(crate) use crate::published_history::locked_chain::Crews;
+use crate::published_history::locked_chain::LockedChain;
 pub(crate) use crate::published_history::opening::{Opened, open_history};
-pub(crate) use crate::published_history::view_step::Refusal;
-use crate::published_history::view_step::step_by_reader;
+pub(crate) use crate::published_history::refusal::Refusal;
 use crate::published_history::writer_home::WriterHome;
-use crate::reader_home::ReaderHome;
-use activate::Core;
 use chain::{Entry, PreparedCommand, Reply, SubmitReply};
 use coins::Changes;
-use connect::Env;
-use curve::Table;
-use queue::{Crew, Gate, Verdicts};
+use curve::{KeptTriple, KnownSignatures, Table};
+use queue::{Crew, Gate};
 use std::alloc::Global;
 use std::marker::{Model, PhantomData};
 use std::mem::replace;
 use std::sync::atomic::Ordering;
 use std::sync::{Arc, Wait};
-use view::{Hub, Naming, Note, Publication, ViewReader, reserve_one};
+use view::{Hub, Naming, Note, Publication, reserve_one};
 
 /// The history, with the chainstate after it but its coins. A step is owed that is taken and not yet published.
 #[derive(Drop)]
 pub(crate) struct PublishedHistory<J: Naming> {
     alloc: Global,
-    table: Arc<Table>,
-    core: Core,
+    chain: LockedChain<J>,
     hub: Arc<Hub>,
-    /// The history that is published.
-    note: Note,
     /// The whole history: a step that is owed is its last entry, without its reply.
     journal: Vec<Entry>,
     owed: bool,
@@ -55,7 +56,6 @@ pub(crate) struct PublishedHistory<J: Naming> {
     changes: Changes,
     /// None once what is published has no note: nothing more is published then.
     home: Option<WriterHome<J>>,
-    reader: ReaderHome<J>,
     of: PhantomData<J>,
 }
 
@@ -66,6 +66,7 @@ impl<J: Naming> Model for PublishedHistory<J> {
     ghost use Rattle.std.specs.Prelude.{◌≡◌, true, IfSome, drop};
     ghost use Rattle.std.specs.Arc.{arc_value};
     ghost use Rattle.view.specs.Beginning.{count_of};
+    ghost use Rattle.node.specs.inside.Knowledge.{IsKnowledge};
     ghost use Rattle.node.specs.inside.PublishedState.{PublishedState, IsCoreOf, IsJournal, Shows, AreDue};
 
     ghost Value = { PublishedState };
@@ -75,16 +76,16 @@ impl<J: Naming> Model for PublishedHistory<J> {
     ghost view = { λ s. record { origin = J.origin; journal = s.journal.items; owed = s.owed } };
 
     ghost invariant = { λ s. let o = J.origin in
-        IsCoreOf o s.core s.journal.items
+        IsCoreOf o s.chain.core s.journal.items
         × ((arc_value s.hub).counter ≡ count_of o.book)
-        × IsJournal s.owed s.note.entries s.journal.items
-        × (s.reader ≡ true)
+        × IsJournal s.owed s.chain.note.entries s.journal.items
+        × (s.chain.reader ≡ true)
         × IfSome s.home (λ h. let x = h.writer.desk.shown.value in
         let pending = drop h.writer.behind h.writer.log.items in
-        Shows x o s.note.entries
+        Shows x o s.chain.note.entries
         × AreDue s.owed s.is_new x pending s.journal.items s.changes)
-        × (s.note.book ≡ o.book)
-        × (arc_value s.table ≡ o.triples) };
+        × (s.chain.note.book ≡ o.book)
+        × IsKnowledge o s.chain.known s.journal.items };
 }
 
 /// Whether it is the reply to what takes a step.
@@ -112,34 +113,27 @@ impl<J: Naming> PublishedHistory<J> {
     /// No step was taken yet.
     pub(crate) fn new(
         alloc: Global,
-        table: Arc<Table>,
-        core: Core,
+        chain: LockedChain<J>,
         hub: Arc<Hub>,
-        note: Note,
         home: WriterHome<J>,
-        reader: ViewReader<J>,
     ) -> PublishedHistory<J>
-        requires core { (core ≡ opened_core J.origin.params) × Follows core J.origin.triples }
+        requires chain { IsLockedAt J.origin chain.core chain.known chain.note }
+        requires reader { chain.reader ≡ true }
         requires hub { (arc_value hub).counter ≡ count_of J.origin.book }
-        requires empty { note.entries ≡ [] }
-        requires book { note.book ≡ J.origin.book }
-        requires table { arc_value table ≡ J.origin.triples }
+        requires empty { chain.note.entries ≡ [] }
         requires shown { Shows home.writer.desk.shown.value J.origin [] }
         requires pending { drop home.writer.behind home.writer.log.items ≡ [] }
         ensures { result ≡ opening_state J.origin }
     {
         PublishedHistory {
             alloc,
-            table,
-            core,
+            chain,
             hub,
-            note,
             journal: Vec::new(alloc),
             owed: false,
             is_new: false,
             changes: Changes::new(alloc),
             home: Some(home),
-            reader: ReaderHome::of(reader),
             of: PhantomData,
         }
     }
@@ -178,24 +172,55 @@ impl<J: Naming> PublishedHistory<J> {
         self.journal.as_slice()
     }
 
+    /// The history that is published.
+    pub(crate) fn note(&self) -> Note
+        ensures entries { self.now.owed ≡ false → result.entries ≡ self.now.journal }
+        ensures book { result.book ≡ J.origin.book }
+        ensures legal { self.now.owed ≡ false → IsLegal J.origin result.entries }
+        ensures begins { IsPrefix result.entries self.now.journal }
+        ensures whole { IsLegal J.origin self.now.journal }
+    {
+        self.chain.note.copy()
+    }
+
+    /// The history, if it has this verdict and all of it is published.
+    pub(crate) fn that_knows(&self, triple: &KeptTriple, valid: bool) -> Option<Note>
+        ensures book { IfSome result (λ note. note.book ≡ J.origin.book) }
+        ensures legal { IfSome result (λ note. IsLegal J.origin note.entries) }
+        ensures known { IfSome result (λ note.
+            known_in J.origin note.entries triple.now ≡ Some valid) }
+    {
+        if self.owed || self.find(triple) != Some(valid) {
+            return None;
+        }
+        Some(self.note())
+    }
+
+    /// Whether a signature is valid, where that is known.
+    pub(crate) fn find(&self, triple: &KeptTriple) -> Option<bool>
+        ensures { result ≡ known_in J.origin self.now.journal triple.now }
+    {
+        self.chain.known.find(triple)
+    }
+
     /// Takes a step, which is owed then. Bytes that are no block take none.
-    #[tactic(auto, using(connect::specs::laws::AtTable::tables_early))]
-    fn take_step<C: Crew<Table>>(
+    fn take_step<A: Crew<Table>, B: Crew<KnownSignatures>>(
         &mut self,
         token: &SeatToken<J>,
         command: &PreparedCommand,
-        workers: usize,
-        early: &[Verdicts<'_>],
-        crew: &C,
+        crews: &Crews<'_, A, B>,
         gate: &(dyn Gate + Sync),
     ) -> Result<Reply, Refusal>
-        requires shown { self.old.owed ≡ false }
-        requires ready { C.is_ready crew.now }
-        requires workers { (1 ≤ workers) × (workers ≤ 16) }
-        requires same_table { All (λ v. v.triples ≡ J.origin.triples) early.now }
+        requires ready { IsReady J.origin self.old (command_of command.now) }
+        requires crews { A.is_ready crews.now.by_table.now × B.is_ready crews.now.by_need.now
+            × (1 ≤ crews.now.workers) × (crews.now.workers ≤ 16) }
+        requires early { let known = known_in J.origin self.old.journal in
+            All (IsEarly known) crews.now.early.now }
         ensures takes { let c = command_of command.now in
             IfOk result (λ reply. IsTaken self.old self.new token.now c reply) }
         ensures err { OnErr result (self.new ≡ self.old) }
+        ensures wants { let c = command_of command.now in
+            IfErr result (IsWantAfter J.origin self.old.journal c) }
     {
         if reserve_one(&mut self.journal).is_err() {
             return Err(Refusal::Memory);
@@ -203,21 +228,7 @@ impl<J: Naming> PublishedHistory<J> {
         let Ok(asked) = command.command() else {
             return Err(Refusal::Memory);
         };
-        let env = Env {
-            signatures: &*self.table,
-            workers,
-            early,
-            crew,
-        };
-        let (reply, changes) = step_by_reader(
-            self.alloc,
-            &mut self.reader,
-            &self.note,
-            &mut self.core,
-            command,
-            &env,
-            gate,
-        )?;
+        let (reply, changes) = self.chain.step(self.alloc, command, crews, gate)?;
         if !is_step(&reply) {
             return Ok(reply);
         }
@@ -247,7 +258,7 @@ impl<J: Naming> PublishedHistory<J> {
         let entries = self.journal.as_slice();
         let Some(brought) = what_is_brought(
             self.alloc,
-            &self.core,
+            &self.chain.core,
             &self.hub,
             entries,
             self.is_new,
@@ -262,7 +273,7 @@ impl<J: Naming> PublishedHistory<J> {
         let writer = found.into_writer();
         let publication = Publication {
             hub,
-            before: self.note.copy(),
+            before: self.chain.note.copy(),
             entry,
             is_new: self.is_new,
             changes: replace(&mut self.changes, Changes::new(self.alloc)),
@@ -281,7 +292,7 @@ impl<J: Naming> PublishedHistory<J> {
             changes: rest,
         } = attempt_to_publish(rt, self.alloc, writer, publication);
         self.home = left;
-        self.note = seen;
+        self.chain.note = seen;
         self.owed = still;
         self.is_new = new;
         self.changes = rest;
@@ -305,25 +316,26 @@ impl<J: Naming> PublishedHistory<J> {
 
     /// Takes a step over the coins that are published, and publishes it. Without an answer it is owed. Bytes that are
     /// no block take none.
-    pub(crate) fn step<R: Wait, C: Crew<Table>>(
+    pub(crate) fn step<R: Wait, A: Crew<Table>, B: Crew<KnownSignatures>>(
         &mut self,
         rt: &R,
         token: &SeatToken<J>,
         command: &PreparedCommand,
-        workers: usize,
-        early: &[Verdicts<'_>],
-        crew: &C,
+        crews: &Crews<'_, A, B>,
         gate: &(dyn Gate + Sync),
     ) -> Result<Option<Reply>, Refusal>
-        requires shown { self.old.owed ≡ false }
-        requires ready { C.is_ready crew.now }
-        requires workers { (1 ≤ workers) × (workers ≤ 16) }
-        requires same_table { All (λ v. v.triples ≡ J.origin.triples) early.now }
+        requires ready { IsReady J.origin self.old (command_of command.now) }
+        requires crews { A.is_ready crews.now.by_table.now × B.is_ready crews.now.by_need.now
+            × (1 ≤ crews.now.workers) × (crews.now.workers ≤ 16) }
+        requires early { let known = known_in J.origin self.old.journal in
+            All (IsEarly known) crews.now.early.now }
         ensures step { let c = command_of command.now in
             IfOk result (λ answer. IsStepAnswer self.old self.new token.now c answer) }
         ensures err { OnErr result (self.new ≡ self.old) }
+        ensures wants { let c = command_of command.now in
+            IfErr result (IsWantAfter J.origin self.old.journal c) }
     {
-        let reply = self.take_step(token, command, workers, early, crew, gate)?;
+        let reply = self.take_step(token, command, crews, gate)?;
         if !is_step(&reply) || self.publish_owed(rt, Some(reply)) {
             return Ok(Some(reply));
         }

@@ -2,13 +2,13 @@
 
 ghost use Rattle.std.specs.Prelude.{◌≡◌, IfOk, IfErr, take, drop};
 ghost use Rattle.std.specs.Option.{option_copied};
-ghost use Rattle.view.specs.Origin.{machine};
+ghost use Rattle.curve.specs.Known.{Under};
+ghost use Rattle.view.specs.Origin.{known_in};
 ghost use Rattle.view.specs.ViewState.{IsExact, state_after};
-ghost use Rattle.node.specs.Told.{AreNext, coins_in, output_at, shown_tips};
+ghost use Rattle.node.specs.Told.{AreNext, best_in, coins_in, output_at, shown_tips};
 
 use crate::answer::{Stamped, UnspentOutput};
 use crate::fault::Fault;
-use crate::node::Node;
 use crate::seat::Seat;
 use chain::Entry;
 use coins::{Coin, CoinMap};
@@ -22,8 +22,9 @@ use wire::Memory;
 /// The output at an outpoint of a view, if it isn't spent.
 fn output(alloc: Global, view: &View, outpoint: &OutPoint) -> Result<Option<UnspentOutput>, Memory>
     requires { IsExact view.now }
-    ensures { let o = view.now.origin in let s = state_after o view.now.journal in
-        IfOk result (λ found. found ≡ output_at o outpoint.now s) }
+    ensures { let o = view.now.origin in let es = view.now.journal in
+        IfOk result (λ found. Under (known_in o es) (λ valid.
+        found ≡ output_at o outpoint.now valid (state_after o valid es))) }
 {
     match view.unspent(outpoint) {
         Some((coin, confirmations)) => Ok(Some(UnspentOutput::of(alloc, coin, confirmations)?)),
@@ -60,8 +61,10 @@ fn coins_above(
     most: usize,
 ) -> Result<Vec<(OutPoint, Coin)>, Memory>
     requires { IsExact view.now }
-    ensures { let o = view.now.origin in let coins = coins_in o (state_after o view.now.journal) in
-        IfOk result (λ list. AreNext coins (option_copied above.entry) most list.items) }
+    ensures { let o = view.now.origin in let es = view.now.journal in
+        IfOk result (λ list. Under (known_in o es) (λ valid.
+        let coins = coins_in o valid (state_after o valid es) in
+        AreNext coins (option_copied above.entry) most list.items)) }
 {
     next_coins(alloc, view.coins(), above, most)
 }
@@ -69,8 +72,9 @@ fn coins_above(
 /// The tips of a view.
 fn tips(alloc: Global, view: &View) -> Result<Vec<Tip>, Memory>
     requires { IsExact view.now }
-    ensures { let o = view.now.origin in let s = state_after o view.now.journal in
-        IfOk result (λ list. list.items ≡ shown_tips o s) }
+    ensures { let o = view.now.origin in let es = view.now.journal in
+        IfOk result (λ list. Under (known_in o es) (λ valid.
+        list.items ≡ shown_tips o valid (state_after o valid es))) }
 {
     Ok(Vec::from_slice(alloc, view.tips())?)
 }
@@ -101,12 +105,9 @@ impl<'t, J: Naming> Seat<'t, J> {
 
     /// The output at an outpoint, if it isn't spent, after all that the seat has then seen (Bitcoin Core's
     /// `gettxout`).
-    ///
-    /// Seat and node are of one [`Node::open`](crate::Node::open).
     pub fn gettxout(
         &mut self,
         alloc: Global,
-        _node: &Node<'_, J>,
         outpoint: &OutPoint,
     ) -> Result<Stamped<Option<UnspentOutput>>, Fault>
         ensures later { IsLater self.old self.new }
@@ -127,12 +128,9 @@ impl<'t, J: Naming> Seat<'t, J> {
 
     /// The coins at the outpoints above one, or from the least on, by rising outpoints, after all that the seat has then
     /// seen: at most so many, and fewer only where there are no more. Lists with the same stamp are of one state.
-    ///
-    /// Seat and node are of one [`Node::open`](crate::Node::open).
     pub fn coins_from(
         &mut self,
         alloc: Global,
-        _node: &Node<'_, J>,
         above: Option<&OutPoint>,
         most: usize,
     ) -> Result<Stamped<Vec<(OutPoint, Coin)>>, Fault>
@@ -153,12 +151,10 @@ impl<'t, J: Naming> Seat<'t, J> {
     }
 
     /// The id of the best block, after all that the seat has then seen. It takes no memory.
-    ///
-    /// Seat and node are of one [`Node::open`](crate::Node::open).
-    pub fn getbestblockhash(&mut self, _node: &Node<'_, J>) -> Result<Stamped<Id>, Fault>
+    pub fn getbestblockhash(&mut self) -> Result<Stamped<Id>, Fault>
         ensures later { IsLater self.old self.new }
-        ensures answer { let m = machine self.old.origin in
-            IfOk result (λ r. IsRead self.old self.new m.best r.at r.value) }
+        ensures answer { let best = best_in self.old.origin in
+            IfOk result (λ r. IsRead self.old self.new best r.at r.value) }
         ensures own { IsOwn self.new }
         ensures fault { IfErr result (λ fault. IsClosedFault self.old self.new fault) }
     {
@@ -172,13 +168,7 @@ impl<'t, J: Naming> Seat<'t, J> {
     }
 
     /// The tips of the tree, by height downwards, then by arrival, after all that the seat has then seen.
-    ///
-    /// Seat and node are of one [`Node::open`](crate::Node::open).
-    pub fn getchaintips(
-        &mut self,
-        alloc: Global,
-        _node: &Node<'_, J>,
-    ) -> Result<Stamped<Vec<Tip>>, Fault>
+    pub fn getchaintips(&mut self, alloc: Global) -> Result<Stamped<Vec<Tip>>, Fault>
         ensures later { IsLater self.old self.new }
         ensures answer { let tips = shown_tips self.old.origin in
             IfOk result (λ r. IsRead self.old self.new tips r.at r.value.items) }
@@ -197,12 +187,9 @@ impl<'t, J: Naming> Seat<'t, J> {
 
     /// The entries of the history after the first `from`, up to the one of number `to`, of all that the seat has then
     /// seen. Blocks' bytes are shared, not copied.
-    ///
-    /// Seat and node are of one [`Node::open`](crate::Node::open).
     pub fn journal(
         &mut self,
         alloc: Global,
-        _node: &Node<'_, J>,
         from: u64,
         to: u64,
     ) -> Result<Stamped<Vec<Entry>>, Fault>

@@ -5,14 +5,16 @@ ghost use mathlib.Core.List.{IsPrefix};
 ghost use Rattle.view.specs.ViewState.{IsLegal};
 
 use crate::entries::{begins, own_are};
+use crate::learnt::Learnt;
 use crate::naming::SeatToken;
 use crate::note::Note;
 use crate::reader_home::ReaderHome;
 use chain::{Command, Entry};
-use curve::Table;
+use curve::{KeptTriple, Table};
 use rules::Params;
 use std::alloc::Global;
 use std::marker::{Model, PhantomData};
+use std::sync::Arc;
 use view::{Naming, ViewReader};
 
 /// A caller's place at the history. A clause sees its pass: what the seat has seen, and what of it is its
@@ -20,7 +22,8 @@ use view::{Naming, ViewReader};
 #[derive(Drop)]
 pub struct Seat<'t, J: Naming> {
     pub(crate) params: Params,
-    pub(crate) table: &'t Table,
+    /// All valid signatures, if they are known from the first.
+    pub(crate) table: Option<&'t Arc<Table>>,
     pub(crate) token: SeatToken<J>,
     /// What it has seen.
     pub(crate) seen: view::Note,
@@ -28,6 +31,10 @@ pub struct Seat<'t, J: Naming> {
     pub(crate) answered: u64,
     /// The commands of its own steps since then, whose replies are owed.
     pub(crate) owed: Vec<Command>,
+    /// The signatures that its last call wants which was answered [`Fault::Unknown`](crate::Fault::Unknown).
+    pub(crate) wants: Vec<KeptTriple>,
+    /// What it told of signatures since its last step of another kind.
+    pub(crate) learnt: Learnt<J>,
     pub(crate) reader: ReaderHome<J>,
 }
 
@@ -36,6 +43,8 @@ impl<'t, J: Naming> Model for Seat<'t, J> {
     ghost use Rattle.std.specs.FinSet as set;
     ghost use Rattle.curve.specs.Triple.{triple_cmp, coded_triple};
     ghost use Rattle.std.specs.Prelude.{◌≡◌, ◌≤◌, ◌++◌, true, take, length, map};
+    ghost use Rattle.std.specs.Arc.{arc_value};
+    ghost use Rattle.std.specs.Option.{option_map};
     ghost use Rattle.chain.specs.History.{own_of};
     ghost use Rattle.view.specs.ViewState.{IsLegal};
     ghost use Rattle.node.specs.Pass.{Pass, owed_entry};
@@ -43,23 +52,34 @@ impl<'t, J: Naming> Model for Seat<'t, J> {
 
     ghost Value = { Pass };
 
-    ghost coded = { Prim.hlevel (codes, set.code {R = triple_cmp} coded_triple) };
+    ghost coded = { Prim.hlevel (codes, coded_triple, set.code {R = triple_cmp} coded_triple) };
 
     ghost view = { λ s. let before = take s.answered s.seen.entries in record {
       number = s.token;
       origin = J.origin;
       seen = s.seen.entries;
       mine = own_of s.token before ++ map (owed_entry s.token) s.owed.items;
+      wants = s.wants.items;
     } };
 
-    ghost invariant = { λ s. IsAt J.origin s.params s.table.now s.seen
+    ghost invariant = { λ s. IsAt J.origin s.params (option_map (λ t. arc_value t.now) s.table) s.seen
         × (s.answered ≤ length s.seen.entries)
         × (s.reader ≡ true) };
 }
 
 impl<'t, J: Naming> Seat<'t, J> {
+    ghost use Rattle.std.specs.Arc.{arc_value};
+    ghost use Rattle.std.specs.Option.{option_map};
     ghost use Rattle.node.specs.Pass.{IsLater, IsLonger, IsOwn, IsStanding, opening_pass};
     ghost use Rattle.node.specs.inside.Seats.{IsAt};
+
+    /// The signatures that scripts want which its last call ran that was answered [`Fault::Unknown`](crate::Fault::Unknown):
+    /// whoever tells the seat, by [`learn`](Seat::learn), which of them are valid, may make that call again.
+    pub fn wants(&self) -> &[KeptTriple]
+        ensures { result.now ≡ self.now.wants }
+    {
+        self.wants.as_slice()
+    }
 
     /// What this seat has seen. It takes no memory, and waits for nobody.
     #[tactic(auto, using(crate::proofs::Owning::own_begins))]
@@ -103,15 +123,16 @@ impl<'t, J: Naming> Seat<'t, J> {
     pub(crate) fn new(
         alloc: Global,
         params: Params,
-        table: &'t Table,
+        table: Option<&'t Arc<Table>>,
         token: SeatToken<J>,
         seen: view::Note,
         reader: ViewReader<J>,
     ) -> Seat<'t, J>
         requires empty { seen.entries ≡ [] }
-        requires at { IsAt J.origin params table.now seen }
+        requires at { IsAt J.origin params (option_map (λ t. arc_value t.now) table) seen }
         ensures { result ≡ opening_pass J.origin token }
     {
+        let learnt = Learnt::new(alloc, seen.copy());
         Seat {
             params,
             table,
@@ -119,6 +140,8 @@ impl<'t, J: Naming> Seat<'t, J> {
             seen,
             answered: 0,
             owed: Vec::new(alloc),
+            wants: Vec::new(alloc),
+            learnt,
             reader: ReaderHome::of(reader),
         }
     }

@@ -1,25 +1,37 @@
 //! A seat's writing calls. Each takes its step under the lock, and sees it published.
 
-ghost use Rattle.std.specs.Prelude.{◌≡◌, ◌<◌, true, false, IfOk, IfErr, IfSome, OnOk, OnErr};
+ghost use Rattle.std.specs.Prelude.{◌≡◌, ◌<◌, ℕ, true, false, length, IfOk, IfErr, IfSome, OnOk, OnErr};
 ghost use Rattle.std.specs.Prelude.{vec_capacity, vec_len};
+ghost use Rattle.curve.specs.Known.{Known};
+ghost use Rattle.queue.specs.Jobs.{IsEarly};
+ghost use Rattle.chain.specs.Learnt.{IsNews};
 ghost use Rattle.chain.specs.Prepared.{command_of};
+ghost use Rattle.chain.specs.declared.command.Command.{Command as CommandValue};
 ghost use Rattle.chain.specs.declared.command.Command.TheVariants as command;
+ghost use Rattle.view.specs.Origin.{known_in};
 ghost use Rattle.chain.specs.declared.reply.Reply.TheVariants as reply;
 ghost use Rattle.node.specs.inside.Keeping.{IsUndecodable};
-ghost use Rattle.node.specs.inside.PublishedState.{IsStepAnswer};
+ghost use Rattle.node.specs.inside.PublishedState.{IsReady, IsStepAnswer};
+ghost use Rattle.node.specs.inside.Refused.{IsWantAfter};
 ghost use Rattle.node.specs.inside.SeenStep.{IsStepSeen};
+ghost use Rattle.node.specs.declared.fault.Fault.TheVariants as faults;
 
-use crate::answer::Stamped;
+use crate::answer::{Learning, Stamped};
 use crate::fault::Fault;
+use crate::learnt::{Learnt, still_early};
 use crate::naming::SeatToken;
 use crate::node::Node;
-use crate::published_history::{PublishedHistory, Refusal};
+use crate::published_history::{Crews, PublishedHistory, Refusal};
 use crate::reader_home::ReaderHome;
 use crate::seat::Seat;
 use crate::view_reads::{look_after, look_before};
-use chain::{Bytes, Command, MarkReply, PreparedCommand, Reply, Submission, SubmitReply};
+use chain::{
+    Bytes, Command, MarkReply, PreparedCommand, Reply, SharedTriple, Submission, SubmitReply,
+};
+use curve::KeptTriple;
 use hash::Id;
 use queue::{Threaded, Verdicts};
+use std::mem::replace;
 use std::sync::Wait;
 use std::thread::Threads;
 use view::{Naming, Note};
@@ -45,17 +57,37 @@ fn step_under_lock<J: Naming, R: Threads + Wait + Sync>(
     command: &PreparedCommand,
     early: Option<Verdicts<'_>>,
 ) -> Result<Option<Reply>, Refusal>
-    requires shown { history.old.owed ≡ false }
-    requires table { IfSome early (λ v. v.triples ≡ J.origin.triples) }
+    requires ready { IsReady J.origin history.old (command_of command.now) }
+    requires early { let known = known_in J.origin history.old.journal in
+        IfSome early (IsEarly known) }
     ensures step { let c = command_of command.now in
         IfOk result (λ answer. IsStepAnswer history.old history.new token.now c answer) }
     ensures err { OnErr result (history.new ≡ history.old) }
+    ensures wants { let c = command_of command.now in
+        IfErr result (IsWantAfter J.origin history.old.journal c) }
 {
-    let crew = Threaded { rt };
+    let (by_table, by_need) = (&Threaded { rt }, &Threaded { rt });
     let (workers, gate) = (node.workers, node.gate);
     match early {
-        Some(verdicts) => history.step(rt, token, command, workers, &[verdicts], &crew, gate),
-        None => history.step(rt, token, command, workers, &[], &crew, gate),
+        Some(verdicts) => {
+            let early = &[verdicts];
+            let crews = Crews {
+                workers,
+                early,
+                by_table,
+                by_need,
+            };
+            history.step(rt, token, command, &crews, gate)
+        }
+        None => {
+            let crews = Crews {
+                workers,
+                early: &[],
+                by_table,
+                by_need,
+            };
+            history.step(rt, token, command, &crews, gate)
+        }
     }
 }
 
@@ -83,6 +115,18 @@ fn ready_command<J: Naming, R: Wait>(
     Ok(asked)
 }
 
+/// A write before its step.
+#[derive(Drop)]
+struct Write<'a> {
+    /// What its seat found before.
+    before: Option<Note>,
+    command: &'a PreparedCommand,
+    /// The same command, as it is entered.
+    asked: &'a Command,
+    /// Verdicts of scripts that were run before the lock.
+    early: Option<Verdicts<'a>>,
+}
+
 /// Takes the step of a seat's command, if the seat found what it has to before, and looks at it: what the seat then sees,
 /// and the reply. None where it is owed. It owns what it was given at its own early returns, and the caller nothing of it.
 fn step_and_look<J: Naming, R: Threads + Wait + Sync>(
@@ -91,21 +135,27 @@ fn step_and_look<J: Naming, R: Threads + Wait + Sync>(
     history: &mut PublishedHistory<J>,
     token: &SeatToken<J>,
     home: &mut ReaderHome<J>,
-    before: Option<Note>,
-    command: &PreparedCommand,
-    asked: &Command,
-    early: Option<Verdicts<'_>>,
+    write: Write<'_>,
 ) -> Result<Option<(Note, Reply)>, Refusal>
-    requires shown { history.old.owed ≡ false }
-    requires book { IfSome before (λ b. b.book ≡ J.origin.book) }
-    requires asked { asked.now ≡ command_of command.now }
-    requires decodable { IsUndecodable (command_of command.now) → ⊥ }
-    requires table { IfSome early (λ v. v.triples ≡ J.origin.triples) }
+    requires ready { IsReady J.origin history.old (command_of write.command.now) }
+    requires book { IfSome write.before (λ b. b.book ≡ J.origin.book) }
+    requires asked { write.asked.now ≡ command_of write.command.now }
+    requires decodable { IsUndecodable (command_of write.command.now) → ⊥ }
+    requires early { let known = known_in J.origin history.old.journal in
+        IfSome write.early (IsEarly known) }
     ensures home { home.new ≡ home.old }
-    ensures seen { let c = command_of command.now in
+    ensures seen { let c = command_of write.entry.command.now in let before = write.entry.before in
         IfOk result (IsStepSeen J.origin before history.old history.new token.now c) }
-    ensures err { OnErr result (history.new ≡ history.old) }
+    ensures refused { let c = command_of write.entry.command.now in
+        let before = history.old in
+        IfErr result (λ why. (history.new ≡ before) × IsWantAfter J.origin before.journal c why) }
 {
+    let Write {
+        before,
+        command,
+        asked,
+        early,
+    } = write;
     let Some(before) = before else {
         return Err(Refusal::Closed);
     };
@@ -119,9 +169,10 @@ fn step_and_look<J: Naming, R: Threads + Wait + Sync>(
 }
 
 impl<'t, J: Naming> Seat<'t, J> {
-    ghost use Rattle.node.specs.Calls.{IsSubmitAnswer, IsWriteFault};
+    ghost use Rattle.node.specs.Calls.{AreWanted, IsLearnAnswer, IsSubmitAnswer, IsWriteFault};
     ghost use Rattle.node.specs.Pass.{IsLater, IsOwn, IsWrite};
-    ghost use Rattle.node.specs.inside.Writing.{IsWriteAnswer, IsLeftBy, IsMark};
+    ghost use Rattle.node.specs.inside.PublishedState.{PublishedState};
+    ghost use Rattle.node.specs.inside.Writing.{IsWriteAnswer, IsLeftBy, IsMark, IsSettledAtMost};
 
     /// Submits the bytes of a block, at a moment in seconds since 1970 (Bitcoin Core's `submitblock`).
     ///
@@ -141,11 +192,31 @@ impl<'t, J: Naming> Seat<'t, J> {
         ensures fault { let asked = command.Submit bytes.now now in
             IfErr result (IsWriteFault self.old self.new asked) }
     {
-        let (alloc, table) = (node.alloc, self.table);
-        let submission = Submission::read(alloc, Bytes::from_slice(alloc, bytes)?)?;
+        let (_, alloc) = (&self.params, node.alloc);
+        self.submit_bytes(rt, node, Bytes::from_slice(alloc, bytes)?, now)
+    }
+
+    /// The same for shared bytes: the history keeps them, and no copy is made.
+    ///
+    /// Seat and node are of one [`Node::open`](crate::Node::open).
+    pub fn submit_bytes<R: Threads + Wait + Sync>(
+        &mut self,
+        rt: &R,
+        node: &Node<'_, J>,
+        bytes: Bytes,
+        now: u64,
+    ) -> Result<Stamped<SubmitReply>, Fault>
+        ensures later { IsLater self.old self.new }
+        ensures answer { let IsAnswer = IsSubmitAnswer self.old self.new bytes now in
+            IfOk result (λ r. IsAnswer r.at r.value) }
+        ensures own { IsOwn self.new }
+        ensures fault { let asked = command.Submit bytes now in
+            IfErr result (IsWriteFault self.old self.new asked) }
+    {
+        let (_, alloc) = (&self.params, node.alloc);
+        let submission = Submission::read(alloc, bytes)?;
         let command = PreparedCommand::Submit(submission, now);
-        let early = self.early_verdicts(rt, node, &command, table)?;
-        let Stamped { at, value } = self.write(rt, node, &command, early)?;
+        let Stamped { at, value } = self.write(rt, node, &command)?;
         match value {
             Reply::Submit(value) => Ok(Stamped { at, value }),
             Reply::Mark(_) => unreachable!(),
@@ -206,6 +277,111 @@ impl<'t, J: Naming> Seat<'t, J> {
         self.mark(rt, node, &PreparedCommand::Precious(id))
     }
 
+    /// Takes down whether a signature is valid: its key, the signature without its hash type, and the digest. So scripts that
+    /// want it find it known, in calls of any seat. A verdict that was known already, and one that contradicts what is known,
+    /// takes no step.
+    ///
+    /// Nobody checks it: the history is legal under every set of valid signatures that has it. Seat and node are of one
+    /// [`Node::open`](crate::Node::open).
+    pub fn learn<R: Threads + Wait + Sync>(
+        &mut self,
+        rt: &R,
+        node: &Node<'_, J>,
+        triple: &KeptTriple,
+        valid: bool,
+    ) -> Result<Stamped<Learning>, Fault>
+        ensures later { IsLater self.old self.new }
+        ensures answer { let IsAnswer = IsLearnAnswer self.old self.new triple.now valid in
+            IfOk result (λ r. IsAnswer r.at r.value) }
+        ensures own { IsOwn self.new }
+        ensures fault { let asked = command.Learn triple.now valid in
+            IfErr result (IsWriteFault self.old self.new asked) }
+    {
+        let mut history = node.history.lock(rt);
+        let answer = self.learn_under_lock(rt, node, &mut history, triple, valid)?;
+        if let Some(note) = history.that_knows(triple, valid) {
+            self.learnt.add(triple, valid, note);
+        }
+        Ok(answer)
+    }
+
+    /// The same, under the lock.
+    #[tactic(auto, using(crate::proofs::Owning::own_begins))]
+    fn learn_under_lock<R: Threads + Wait + Sync>(
+        &mut self,
+        rt: &R,
+        node: &Node<'_, J>,
+        history: &mut PublishedHistory<J>,
+        triple: &KeptTriple,
+        valid: bool,
+    ) -> Result<Stamped<Learning>, Fault>
+        ensures later { IsLater self.old self.new }
+        ensures answer { let IsAnswer = IsLearnAnswer self.old self.new triple.now valid in
+            IfOk result (λ r. IsAnswer r.at r.value) }
+        ensures own { IsOwn self.new }
+        ensures fault { let asked = command.Learn triple.now valid in
+            IfErr result (IsWriteFault self.old self.new asked) }
+    {
+        // Room for a step that may be owed, as each step asks for it first.
+        if self.owed.reserve(1).is_err() || !history.settle(rt) {
+            return Err(Fault::Memory);
+        }
+        if let Some(known) = history.find(triple) {
+            let at = self.see_all(history)?;
+            let value = if known == valid {
+                Learning::Known
+            } else {
+                Learning::Contradicted
+            };
+            return Ok(Stamped { at, value });
+        }
+        let command = PreparedCommand::Learn(SharedTriple::of(node.alloc, triple)?, valid);
+        let Stamped { at, .. } = self.write_under_lock(rt, node, history, &command, None)?;
+        Ok(Stamped {
+            at,
+            value: Learning::New,
+        })
+    }
+
+    /// Has seen all that there is: how many entries that is.
+    #[tactic(auto, using(crate::proofs::Owning::own_begins))]
+    fn see_all(&mut self, history: &PublishedHistory<J>) -> Result<u64, Fault>
+        requires shown { history.now.owed ≡ false }
+        ensures later { IsLater self.old self.new }
+        ensures mine { self.new.mine ≡ self.old.mine }
+        ensures own { IsOwn self.new }
+        ensures seen { IfOk result (λ at.
+            (self.new.seen ≡ history.now.journal) × (at ≡ length self.new.seen)) }
+        ensures fault { let asked = self.old in
+            IfErr result (λ fault. (fault ≡ faults.Closed) × (self.new ≡ asked)) }
+    {
+        let all = history.note();
+        if !self.seen.begins(&all) {
+            return Err(Fault::Closed);
+        }
+        Ok(self.see(all))
+    }
+
+    /// Wants these signatures after all that there is, which it has then seen.
+    #[tactic(auto, using(crate::proofs::Owning::own_begins))]
+    fn want(&mut self, history: &PublishedHistory<J>, wants: Vec<KeptTriple>) -> Fault
+        requires shown { history.now.owed ≡ false }
+        ensures later { IsLater self.old self.new }
+        ensures own { IsOwn self.new }
+        ensures fault { (c : CommandValue) → AreWanted J.origin history.now.journal c wants.items
+            → IsWriteFault self.old self.new c result }
+        ensures left { (h k : PublishedState) (number : ℕ) (c : CommandValue) →
+            IsSettledAtMost h k → IsLeftBy h k number c result }
+    {
+        match self.see_all(history) {
+            Ok(_) => {
+                self.wants = wants;
+                Fault::Unknown
+            }
+            Err(fault) => fault,
+        }
+    }
+
     /// Takes the step of a mark or a preference, and sees it.
     fn mark<R: Threads + Wait + Sync>(
         &mut self,
@@ -221,22 +397,22 @@ impl<'t, J: Naming> Seat<'t, J> {
         ensures fault { let c = command_of command.now in
             IfErr result (λ fault. IsWriteFault self.old self.new c fault) }
     {
-        let Stamped { at, value } = self.write(rt, node, command, None)?;
+        let Stamped { at, value } = self.write(rt, node, command)?;
         match value {
             Reply::Mark(value) => Ok(Stamped { at, value }),
             Reply::Submit(_) => unreachable!(),
         }
     }
 
-    /// Takes the lock, and there the step of a command.
+    /// Takes the step of a command. What the seat told of signatures is for one step, and kept where none is taken.
+    #[tactic(auto, using(crate::proofs::Owning::own_begins))]
     fn write<R: Threads + Wait + Sync>(
         &mut self,
         rt: &R,
         node: &Node<'_, J>,
         command: &PreparedCommand,
-        early: Option<Verdicts<'_>>,
     ) -> Result<Stamped<Reply>, Fault>
-        requires table { IfSome early (λ v. v.triples ≡ J.origin.triples) }
+        requires ordinary { (known : Known) → IsNews known (command_of command.now) }
         ensures later { IsLater self.old self.new }
         ensures answer { let IsAnswer = IsWriteAnswer self.old self.new (command_of command.now) in
             IfOk result (λ r. IsAnswer r.at r.value) }
@@ -244,7 +420,33 @@ impl<'t, J: Naming> Seat<'t, J> {
         ensures fault { let c = command_of command.now in
             IfErr result (λ fault. IsWriteFault self.old self.new c fault) }
     {
+        let none = Learnt::new(node.alloc, self.seen.copy());
+        let learnt = replace(&mut self.learnt, none);
+        let answer = self.write_with(rt, node, command, &learnt);
+        self.learnt = learnt.unless(node.alloc, answer.is_ok());
+        answer
+    }
+
+    /// Runs a submission's scripts, takes the lock, and there the step of a command.
+    fn write_with<R: Threads + Wait + Sync>(
+        &mut self,
+        rt: &R,
+        node: &Node<'_, J>,
+        command: &PreparedCommand,
+        learnt: &Learnt<J>,
+    ) -> Result<Stamped<Reply>, Fault>
+        requires ordinary { (known : Known) → IsNews known (command_of command.now) }
+        ensures later { IsLater self.old self.new }
+        ensures answer { let IsAnswer = IsWriteAnswer self.old self.new (command_of command.now) in
+            IfOk result (λ r. IsAnswer r.at r.value) }
+        ensures own { IsOwn self.new }
+        ensures fault { let c = command_of command.now in
+            IfErr result (λ fault. IsWriteFault self.old self.new c fault) }
+    {
+        let table = self.table;
+        let early = self.early_verdicts(rt, node, command, table, learnt)?;
         let mut history = node.history.lock(rt);
+        let early = still_early(&history, early);
         self.write_under_lock(rt, node, &mut history, command, early)
     }
 
@@ -258,7 +460,9 @@ impl<'t, J: Naming> Seat<'t, J> {
         command: &PreparedCommand,
         early: Option<Verdicts<'_>>,
     ) -> Result<Stamped<Reply>, Fault>
-        requires table { IfSome early (λ v. v.triples ≡ J.origin.triples) }
+        requires early { let known = known_in J.origin history.old.journal in
+            IfSome early (IsEarly known) }
+        requires news { IsNews (known_in J.origin history.old.journal) (command_of command.now) }
         ensures later { IsLater self.old self.new }
         ensures answer { let IsAnswer = IsWriteAnswer self.old self.new (command_of command.now) in
             IfOk result (λ r. IsAnswer r.at r.value) }
@@ -279,18 +483,28 @@ impl<'t, J: Naming> Seat<'t, J> {
         let (len, number) = (history.len(), self.token.number());
         let (seen, place, owed) = (&self.seen, self.answered, self.owed.as_slice());
         let before = look_before(&mut self.reader, seen, len, number, place, owed);
-        let (token, home) = (&self.token, &mut self.reader);
-        let Some((seen, reply)) = step_and_look(
-            rt, node, history, token, home, before, command, &asked, early,
-        )?
-        else {
-            self.owed.push_reserved(asked);
-            return Err(Fault::Owed);
+        let write = Write {
+            before,
+            command,
+            asked: &asked,
+            early,
         };
-        let at = seen.len();
-        self.seen = seen;
-        self.answered = at;
-        self.owed.clear();
-        Ok(Stamped { at, value: reply })
+        let (token, home) = (&self.token, &mut self.reader);
+        match step_and_look(rt, node, history, token, home, write) {
+            Ok(Some((seen, reply))) => {
+                let at = seen.len();
+                self.seen = seen;
+                self.answered = at;
+                self.owed.clear();
+                Ok(Stamped { at, value: reply })
+            }
+            Ok(None) => {
+                self.owed.push_reserved(asked);
+                Err(Fault::Owed)
+            }
+            Err(Refusal::Memory) => Err(Fault::Memory),
+            Err(Refusal::Closed) => Err(Fault::Closed),
+            Err(Refusal::Unknown(wants)) => Err(self.want(history, wants)),
+        }
     }
 }

@@ -100,12 +100,22 @@ pub fn ask_at_once<'x, J: Naming, R>(
 where
     R: AllocGlobal + Env + Threads + Wait + Sync,
 {
-    let is_ring = board.seats() > 0;
+    let clients = asked.clients.len().saturating_sub(1);
+    let threads = asked
+        .options
+        .count("threads", board.seats().max(clients))
+        .max(1);
+    // Two closures, each with less than both ask for, are shown to cross threads.
+    if board.seats() > 0 {
+        let ask_one = |number: usize, place: &mut Place<'_, J>| {
+            place.written = place.ask_in_ring(rt, asked, node, asked.calls(1), board, number);
+        };
+        thread::for_each_mut(rt, places, threads, &ask_one);
+        return;
+    }
     let ask_one = |number: usize, place: &mut Place<'_, J>| {
         let client = number.wrapping_add(1);
-        if is_ring {
-            place.written = place.ask_in_ring(rt, asked, node, asked.calls(1), board, number);
-        } else if client < asked.clients.len() {
+        if client < asked.clients.len() {
             if number == 0 {
                 gate.wait_for_a_script();
             }
@@ -115,7 +125,5 @@ where
             }
         }
     };
-    let clients = asked.clients.len().saturating_sub(1);
-    let threads = asked.options.count("threads", board.seats().max(clients));
-    thread::for_each_mut(rt, places, threads.max(1), &ask_one);
+    thread::for_each_mut(rt, places, threads, &ask_one);
 }

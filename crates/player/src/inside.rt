@@ -101,8 +101,8 @@ fn open_views<J: Naming>(
     let info = opening_info(alloc, &core)?;
     let same = info.clone()?;
     let other = Arc::try_clone(&table)?;
-    let first = View::new(alloc, params, table, 1, note.copy(), info);
-    let second = View::new(alloc, params, other, 1, note, same);
+    let first = View::new(alloc, params, Some(table), 1, note.copy(), info);
+    let second = View::new(alloc, params, Some(other), 1, note, same);
     let writer = open_writer(alloc, first, second, 2)?;
     Ok(writer)
 }

@@ -27,7 +27,12 @@ where
 {
     let table = Arc::new(rt.alloc(), asked.definitions.table().copy()?)?;
     for _ in 0..MOST_TRIES {
-        let opening = Opening::new(asked.params, &table, asked.options.count("seats", 1));
+        let seats = asked.options.count("seats", 1);
+        let opening = if asked.options.is("need") {
+            Opening::by_need(asked.params, seats)
+        } else {
+            Opening::new(asked.params, &table, seats)
+        };
         if play_opening::<Brand, R>(rt, asked, opening, gate, log)? {
             return Ok(());
         }

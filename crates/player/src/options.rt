@@ -16,10 +16,10 @@ pub struct Options<'w> {
 pub const HEIGHTS: &str = "heights";
 
 /// What a word `NAME=NUMBER` may set beside them.
-const NAMES: [&str; 21] = [
-    "seed", "below", "count", "seats", "workers", "in-a-row", "threads", "moved", "untold", "ring",
-    "meet", "passed", "close", "each", "wanted", "looks", "writes", "errors", "skipped", "first",
-    "refused",
+const NAMES: [&str; 22] = [
+    "seed", "below", "count", "seats", "workers", "need", "in-a-row", "threads", "moved", "untold",
+    "ring", "meet", "passed", "close", "each", "wanted", "looks", "writes", "errors", "skipped",
+    "first", "refused",
 ];
 
 impl<'w> Options<'w> {

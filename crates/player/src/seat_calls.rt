@@ -3,7 +3,7 @@
 use crate::allocations::{begin, end};
 use crate::answer::Answer;
 use crate::log::Log;
-use node::{Fault, MarkReply, Naming, Node, Reply, Seat, Stamped};
+use node::{Fault, KeptTriple, MarkReply, Naming, Node, Reply, Seat, Stamped};
 use scenario::{Call, Definitions, Request};
 use std::rt::Env;
 use std::sync::Wait;
@@ -34,15 +34,15 @@ where
         Request::Reconsider(id) => marked(seat.reconsider(rt, node, *id)?),
         Request::Precious(id) => marked(seat.precious(rt, node, *id)?),
         Request::Best => {
-            let best = seat.getbestblockhash(node)?;
+            let best = seat.getbestblockhash()?;
             stamped(best.at, Answer::Best(definitions.label(best.value)))
         }
         Request::Tips => {
-            let Stamped { at, value } = seat.getchaintips(alloc, node)?;
+            let Stamped { at, value } = seat.getchaintips(alloc)?;
             stamped(at, Answer::Tips(definitions, value))
         }
         Request::Output(outpoint) => {
-            let Stamped { at, value } = seat.gettxout(alloc, node, outpoint)?;
+            let Stamped { at, value } = seat.gettxout(alloc, outpoint)?;
             stamped(at, Answer::Output(value))
         }
     })
@@ -125,7 +125,34 @@ fn write_answer(
     })
 }
 
-/// Makes a call until it isn't refused memory, and writes its answer with its stamp: the stamp, if it has one.
+/// Tells a seat of each signature that it wants whether the list's table has it.
+fn learn_wants<J: Naming, R>(
+    rt: &R,
+    definitions: &Definitions,
+    node: &Node<'_, J>,
+    seat: &mut Seat<'_, J>,
+) -> Result<(), Memory>
+where
+    R: AllocGlobal + Threads + Wait + Sync,
+{
+    let alloc = rt.alloc();
+    let mut wants = Vec::new(alloc);
+    for triple in seat.wants() {
+        let (key, signature) = (triple.key(), triple.signature());
+        wants.push(KeptTriple::from_parts(alloc, key, signature, triple.digest())?)?;
+    }
+    for triple in wants.as_slice() {
+        let (key, signature, digest) = (triple.key(), triple.signature(), triple.digest());
+        let valid = definitions.table().has(key, signature, digest);
+        if seat.learn(rt, node, triple, valid).is_err() {
+            return Err(Memory);
+        }
+    }
+    Ok(())
+}
+
+/// Makes a call until it isn't refused memory and wants no signature, and writes its answer with its stamp: the stamp, if it
+/// has one.
 pub fn ask_again<J: Naming, R>(
     rt: &R,
     definitions: &Definitions,
@@ -140,6 +167,11 @@ where
 {
     for _ in 0..MOST_TRIES {
         let answered = ask_counted(rt, definitions, node, seat, &call.request, is_counted);
+        if let (Err(Fault::Unknown), _) = &answered {
+            if learn_wants(rt, definitions, node, seat).is_ok() {
+                continue;
+            }
+        }
         match write_answer(call, answered, log)? {
             Ended::At(at) => return Ok(Some(at)),
             Ended::Fault => break,

@@ -3,7 +3,6 @@
 use block::{BlkFault, ReadFault};
 use curve::TableFault;
 use node::{Fault, OpenFault};
-use tree::AddFault;
 use txn::Reason;
 use wire::{Memory, WireFault};
 
@@ -68,13 +67,13 @@ fn print_faults<R: Print>(rt: &R) -> anyhow::Result<()> {
     println!(rt; "{script}\n{Memory}\n{}", WireFault::Short)?;
     println!(rt; "{}\n{}", ReadFault::Extra, ReadFault::LongForm)?;
     println!(rt; "{}\n{}", TableFault::BadLine(3), TableFault::Memory)?;
-    println!(rt; "{}\n{}", AddFault::Full, AddFault::Memory)?;
     Ok(())
 }
 
 fn print_node_faults<R: Print>(rt: &R) -> anyhow::Result<()> {
     println!(rt; "{}\n{}", OpenFault::Workers, OpenFault::Seats)?;
     println!(rt; "{}\n{}", OpenFault::Readers, OpenFault::Memory)?;
-    println!(rt; "{}\n{}\n{}", Fault::Memory, Fault::Owed, Fault::Closed)?;
+    println!(rt; "{}\n{}", Fault::Memory, Fault::Owed)?;
+    println!(rt; "{}\n{}", Fault::Closed, Fault::Unknown)?;
     Ok(())
 }

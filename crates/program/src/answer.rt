@@ -34,9 +34,9 @@ where
         Request::Invalidate(id) => marked(seat.invalidate(rt, node, *id)),
         Request::Reconsider(id) => marked(seat.reconsider(rt, node, *id)),
         Request::Precious(id) => marked(seat.precious(rt, node, *id)),
-        Request::Best => best(definitions, seat.getbestblockhash(node)),
-        Request::Tips => tips(definitions, seat.getchaintips(alloc, node)),
-        Request::Output(outpoint) => output(seat.gettxout(alloc, node, outpoint)),
+        Request::Best => best(definitions, seat.getbestblockhash()),
+        Request::Tips => tips(definitions, seat.getchaintips(alloc)),
+        Request::Output(outpoint) => output(seat.gettxout(alloc, outpoint)),
     }
 }
 

@@ -31,6 +31,8 @@ enum Needed {
     Always,
     /// Unless a folder is named.
     UnlessSaved,
+    /// Unless a folder of either kind is named.
+    UnlessKept,
 }
 
 /// An option of a subcommand.
@@ -46,7 +48,7 @@ struct Opt {
     not_beside: &'static [&'static str],
 }
 
-const SUBCOMMANDS: [Subcommand; 6] = [
+const SUBCOMMANDS: [Subcommand; 7] = [
     Subcommand {
         name: "run",
         about: "Runs a scenario, and prints what its clients are answered",
@@ -71,6 +73,11 @@ const SUBCOMMANDS: [Subcommand; 6] = [
         name: "serve",
         about: "Answers requests, a JSON object a line, from the standard input",
         options: &SERVE,
+    },
+    Subcommand {
+        name: "export",
+        about: "Writes the files of a run from the log of a served node",
+        options: &EXPORT,
     },
     Subcommand {
         name: "version",
@@ -101,20 +108,24 @@ const RUN: [Opt; 10] = [
     SVG,
 ];
 
-const AUDIT: [Opt; 9] = [
+const AUDIT: [Opt; 10] = [
+    Opt {
+        not_beside: &["blk", "table", "heights", "journal", "datadir"],
+        ..SAVED
+    },
     Opt {
         not_beside: &["blk", "table", "heights", "journal"],
-        ..SAVED
+        ..DATADIR
     },
     Opt {
         name: "journal",
         help: "The journal.txt of a run",
-        needed: Needed::UnlessSaved,
+        needed: Needed::UnlessKept,
         ..FILE
     },
     Opt {
         help: "Its blocks.blk",
-        needed: Needed::UnlessSaved,
+        needed: Needed::UnlessKept,
         ..BLK
     },
     TABLE,
@@ -163,7 +174,7 @@ const SHOW: [Opt; 2] = [
     },
 ];
 
-const SERVE: [Opt; 8] = [
+const SERVE: [Opt; 11] = [
     Opt {
         name: "seats",
         help: "How many callers the node has places for, 1 to 16 [default: 4]",
@@ -181,6 +192,22 @@ const SERVE: [Opt; 8] = [
         ..FILE
     },
     SAVE,
+    Opt {
+        help: "The folder in which the history is kept: an answer goes out when its steps are on the disk there",
+        not_beside: &["load", "save"],
+        ..DATADIR
+    },
+    Opt {
+        name: "no-sync",
+        help: "With --datadir: answers without waiting for the disk; a crash of the machine may lose what was answered",
+        ..FLAG
+    },
+    Opt {
+        name: "by-need",
+        help: "Has callers tell which signatures are valid, as blocks ask for them",
+        not_beside: &["table", "blk"],
+        ..FLAG
+    },
     Opt {
         name: "busy",
         help: "Refuses a request where 64 wait for its seat, and reads on",
@@ -245,6 +272,24 @@ const SAVE: Opt = Opt {
     ..FILE
 };
 
+const EXPORT: [Opt; 2] = [
+    Opt {
+        needed: Needed::Always,
+        ..DATADIR
+    },
+    Opt {
+        needed: Needed::Always,
+        ..SAVE
+    },
+];
+
+const DATADIR: Opt = Opt {
+    name: "datadir",
+    value: "D",
+    help: "The folder of a served node's --datadir",
+    ..FILE
+};
+
 /// The folder of a run, beside which there is no other file of one.
 const SAVED: Opt = Opt {
     name: "saved",
@@ -294,6 +339,9 @@ fn arg<'w>(alloc: Global, option: &Opt) -> Result<Arg<'w>, AllocError> {
         Needed::Never => arg,
         Needed::Always => arg.required(true),
         Needed::UnlessSaved => arg.required_unless_present("saved")?,
+        Needed::UnlessKept => arg
+            .required_unless_present("saved")?
+            .required_unless_present("datadir")?,
     };
     for other in option.not_beside {
         arg = arg.conflicts_with(*other)?;

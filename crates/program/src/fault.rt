@@ -3,6 +3,7 @@
 use crate::clients::Ended;
 use crate::options::STANDARD;
 use arrayvec::ArrayString;
+use durable::AppendFault;
 use journal::JournalFault;
 use node::Reply;
 use scenario::{ScenarioFault, Why};
@@ -30,6 +31,10 @@ pub enum Fault<'w> {
     JournalLine(usize),
     /// The record of this line of the journal, counted from 1, isn't the block of its id.
     OtherRecord(usize),
+    /// This line of the journal, counted from 1, is a verdict on a signature, which can't be told again from it.
+    VerdictLine(usize),
+    /// This line of a log, counted from 1, is no step behind those before it.
+    NoStep(usize),
     /// The blk file isn't read on from this offset.
     BlkStopped(u64, Stop),
     /// The blk file has too few records, or too many.
@@ -143,6 +148,8 @@ impl fmt::Display for Line<'_, '_> {
             Fault::TableLine(number) => write!(f, "table line {number}"),
             Fault::JournalLine(number) => write!(f, "journal line {number}"),
             Fault::OtherRecord(number) => write!(f, "journal line {number}"),
+            Fault::VerdictLine(number) => write!(f, "journal line {number}"),
+            Fault::NoStep(number) => write!(f, "journal line {number}"),
             Fault::OtherReply(number, _) => write!(f, "journal line {number}"),
             Fault::BlkStopped(offset, _) => write!(f, "blk stopped at {offset}"),
             Fault::BlkRecords => f.write_str("blk records"),
@@ -178,6 +185,10 @@ impl fmt::Display for Reason<'_, '_> {
                 f.write_str("it isn't what is printed for a step of this number")
             }
             Fault::OtherRecord(_) => f.write_str("its record isn't the block of its id"),
+            Fault::VerdictLine(_) => {
+                f.write_str("it is a verdict, and has neither the key nor the signature")
+            }
+            Fault::NoStep(_) => f.write_str("it is no step behind those before it"),
             Fault::OtherReply(_, reply) => write!(f, "the node replies {reply}"),
             Fault::BlkStopped(_, stop) => f.write_str(stop.text()),
             Fault::BlkRecords => f.write_str("there isn't one for each submit line"),
@@ -232,6 +243,15 @@ impl From<Ended> for Fault<'_> {
     }
 }
 
+impl From<AppendFault> for Fault<'_> {
+    fn from(fault: AppendFault) -> Self {
+        match fault {
+            AppendFault::Memory => Fault::Memory,
+            AppendFault::NoLine | AppendFault::Full => Fault::Closed,
+        }
+    }
+}
+
 impl From<Memory> for Fault<'_> {
     fn from(_fault: Memory) -> Self {
         Fault::Memory
@@ -265,6 +285,8 @@ impl From<node::Fault> for Fault<'_> {
             node::Fault::Memory => Fault::Memory,
             node::Fault::Owed => Fault::Owed,
             node::Fault::Closed => Fault::Closed,
+            // The node has a table, so it knows each signature.
+            node::Fault::Unknown => Fault::Closed,
         }
     }
 }

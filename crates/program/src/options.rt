@@ -22,7 +22,7 @@ const WORKERS: usize = 2;
 const SEATS: usize = 4;
 
 /// The heights of soft forks by default, regtest's.
-const HEIGHTS: &str = "1,1,1,1";
+pub const HEIGHTS: &str = "1,1,1,1";
 
 /// What the command line asks for.
 #[derive(Drop)]
@@ -32,6 +32,7 @@ pub enum Options<'w> {
     Tree(TreeOptions<'w>),
     Show(ShowOptions<'w>),
     Serve(ServeOptions<'w>),
+    Export(ExportOptions<'w>),
 }
 
 /// To run the scenario of a file.
@@ -62,6 +63,8 @@ pub struct RunOptions<'w> {
 pub enum Saved<'w> {
     /// In the files of a folder.
     Folder(&'w str),
+    /// In the log of a node.
+    Datadir(&'w str),
     Files {
         journal: &'w str,
         blk: &'w str,
@@ -104,7 +107,7 @@ pub struct ServeOptions<'w> {
     /// From 1 to 16.
     pub workers: usize,
     /// The heights of soft forks, not yet read.
-    pub heights: &'w str,
+    pub heights: Option<&'w str>,
     /// The file of the valid signatures.
     pub table: Option<&'w str>,
     /// The file of blocks that are submitted before the first request.
@@ -113,8 +116,23 @@ pub struct ServeOptions<'w> {
     pub load: Option<&'w str>,
     /// The folder for the journal, the blocks, the table and the heights.
     pub save: Option<&'w str>,
+    /// The folder in which the history is kept.
+    pub datadir: Option<&'w str>,
+    /// Whether an answer goes out before its steps are on the disk.
+    pub is_unsynced: bool,
+    /// Whether seats tell which signatures are valid, as calls want them, in place of a table.
+    pub is_by_need: bool,
     /// Whether a request is refused for whose seat as many wait as may.
     pub is_busy: bool,
+}
+
+/// To save what a node's log says.
+#[derive(Clone, Copy)]
+pub struct ExportOptions<'w> {
+    /// The folder of the node.
+    pub datadir: &'w str,
+    /// The folder for the journal, the blocks, the table and the heights.
+    pub save: &'w str,
 }
 
 /// To show what a scenario defines.
@@ -203,6 +221,7 @@ fn options_of<'w>(
         Some(("tree", tree)) => Ok(read_tree(tree)),
         Some(("show", show)) => read_show(alloc, show),
         Some(("serve", serve)) => Ok(Some(read_serve(serve))),
+        Some(("export", export)) => Ok(read_export(export)),
         _ => Ok(None),
     }
 }
@@ -260,6 +279,9 @@ fn read_saved<'w>(audit: &ArgMatches<'w>) -> Option<Saved<'w>> {
     if let Some(folder) = audit.get_str("saved") {
         return Some(Saved::Folder(folder));
     }
+    if let Some(folder) = audit.get_str("datadir") {
+        return Some(Saved::Datadir(folder));
+    }
     Some(Saved::Files {
         journal: audit.get_str("journal")?,
         blk: audit.get_str("blk")?,
@@ -280,13 +302,23 @@ fn read_serve<'w>(serve: &ArgMatches<'w>) -> Options<'w> {
     Options::Serve(ServeOptions {
         seats: serve.get_one("seats").unwrap_or(SEATS),
         workers: serve.get_one("workers").unwrap_or(WORKERS),
-        heights: serve.get_str("heights").unwrap_or(HEIGHTS),
+        heights: serve.get_str("heights"),
         table: serve.get_str("table"),
         blk: serve.get_str("blk"),
         load: serve.get_str("load"),
         save: serve.get_str("save"),
+        datadir: serve.get_str("datadir"),
+        is_unsynced: serve.get_flag("no-sync"),
+        is_by_need: serve.get_flag("by-need"),
         is_busy: serve.get_flag("busy"),
     })
+}
+
+fn read_export<'w>(export: &ArgMatches<'w>) -> Option<Options<'w>> {
+    Some(Options::Export(ExportOptions {
+        datadir: export.get_str("datadir")?,
+        save: export.get_str("save")?,
+    }))
 }
 
 fn form(matches: &ArgMatches<'_>) -> Form {

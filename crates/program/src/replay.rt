@@ -1,10 +1,14 @@
 //! What was saved of a run, read to be replayed.
 
+use crate::datadir::{
+    LOG, Setting, Unpacked, Verdict, read_bytes, read_lines, read_setting, table_of,
+};
 use crate::fault::Fault;
 use crate::files::{read_file, read_table, read_table_file};
 use crate::options::Saved;
 use crate::saving::{SavedFiles, read_saved};
 use block::{ReadFault, SliceSource};
+use chain::SharedTriple;
 use curve::Table;
 use hash::Id;
 use journal::{Asked, Records, Step, read_heights, read_journal, read_records};
@@ -31,6 +35,8 @@ pub struct Inputs {
     pub params: Params,
     pub journal: Vec<u8>,
     pub blk: Vec<u8>,
+    /// Those of the journal's lines, where they are told again.
+    pub verdicts: Vec<Verdict>,
     pub table: Table,
 }
 
@@ -43,9 +49,17 @@ where
         params,
         journal,
         blk,
+        verdicts,
         table,
     } = read_inputs(rt, saved)?;
-    let steps = read_steps(rt.alloc(), journal.as_slice(), blk.as_slice(), limit)?;
+    let steps = read_steps(
+        rt.alloc(),
+        journal.as_slice(),
+        blk.as_slice(),
+        verdicts,
+        limit,
+    )?;
+    check_verdicts(steps.commands.as_slice(), &table)?;
     Ok(Replay {
         params,
         table,
@@ -53,6 +67,19 @@ where
         commands: steps.commands,
         recorded: steps.recorded,
     })
+}
+
+/// Refuses a verdict that a signature isn't valid which another says is.
+fn check_verdicts(commands: &[Command], table: &Table) -> Result<(), Fault<'static>> {
+    for (place, command) in commands.iter().enumerate() {
+        if let Command::Learn(triple, false) = command {
+            let triple = triple.triple();
+            if table.has(triple.key(), triple.signature(), triple.digest()) {
+                return Err(Fault::NoStep(place.saturating_add(1)));
+            }
+        }
+    }
+    Ok(())
 }
 
 /// What the lines of a journal ask, and the replies that were recorded.
@@ -67,6 +94,7 @@ fn read_steps(
     alloc: Global,
     journal: &[u8],
     blk: &[u8],
+    verdicts: Vec<Verdict>,
     limit: usize,
 ) -> Result<Steps, Fault<'static>> {
     let front = first_lines(journal, limit);
@@ -78,7 +106,7 @@ fn read_steps(
     };
     let blocks = records.len();
     Ok(Steps {
-        commands: commands(alloc, steps.as_slice(), records)?,
+        commands: commands(alloc, steps.as_slice(), records, verdicts)?,
         recorded: replies(alloc, steps.as_slice())?,
         blocks,
     })
@@ -100,6 +128,7 @@ where
 {
     match saved {
         Saved::Folder(folder) => read_folder(rt, folder),
+        Saved::Datadir(folder) => read_datadir(rt, folder),
         Saved::Files {
             journal,
             blk,
@@ -114,6 +143,7 @@ where
                 params,
                 journal,
                 blk,
+                verdicts: Vec::new(rt.alloc()),
                 table,
             })
         }
@@ -136,12 +166,38 @@ where
         params,
         journal,
         blk: blocks,
+        verdicts: Vec::new(rt.alloc()),
         table: read_table(rt.alloc(), Some(table.as_slice()))?,
     })
 }
 
+/// What the whole lines of a node's log say. The node may go on.
+fn read_datadir<'w, R>(rt: &R, folder: &'w str) -> Result<Inputs, Fault<'w>>
+where
+    R: Files<File = File> + AllocGlobal,
+{
+    let Setting { params, table } = read_setting(rt, folder)?;
+    let log = read_bytes(rt, folder, LOG)?;
+    let Unpacked {
+        journal,
+        blk,
+        verdicts,
+    } = read_lines(rt.alloc(), log.as_slice())?;
+    let table = match table {
+        Some(table) => table,
+        None => table_of(rt.alloc(), verdicts.as_slice())?,
+    };
+    Ok(Inputs {
+        params,
+        journal,
+        blk,
+        verdicts,
+        table,
+    })
+}
+
 /// The heights of a file's only line.
-fn read_heights_line(line: &[u8]) -> Option<Params> {
+pub fn read_heights_line(line: &[u8]) -> Option<Params> {
     let word = str::from_utf8(line).unwrap_or("");
     read_heights(word.strip_suffix('\n').unwrap_or(word))
 }
@@ -179,33 +235,44 @@ fn submissions(steps: &[Step<'_, Id>]) -> usize {
     steps.iter().filter(is_submission).count()
 }
 
-/// What a journal's steps ask, each submission of its record.
+/// What a journal's steps ask, each submission of its record, and each verdict on its signature.
 pub fn commands(
     alloc: Global,
     steps: &[Step<'_, Id>],
     records: Vec<Vec<u8>>,
+    verdicts: Vec<Verdict>,
 ) -> Result<Vec<Command>, Fault<'static>> {
     if submissions(steps) != records.len() {
         return Err(Fault::BlkRecords);
     }
     let mut records = records.into_iter();
+    let mut verdicts = verdicts.into_iter();
     let mut commands = Vec::new(alloc);
     for step in steps {
-        commands.push(command_of(alloc, step, &mut records)?)?;
+        commands.push(command_of(alloc, step, &mut records, &mut verdicts)?)?;
     }
     Ok(commands)
 }
 
-/// The command of a step. A submission takes the next of the records, whose id must be the step's.
+/// The command of a step. A submission takes the next of the records, whose id must be the step's, and a verdict the next
+/// of the verdicts, whose digest must be. Where there is none the line has the digest alone.
 fn command_of(
     alloc: Global,
     step: &Step<'_, Id>,
     records: &mut vec::IntoIter<Vec<u8>>,
+    verdicts: &mut vec::IntoIter<Verdict>,
 ) -> Result<Command, Fault<'static>> {
     Ok(match step.asked {
         Asked::Invalidate => Command::Invalidate(step.block),
         Asked::Reconsider => Command::Reconsider(step.block),
         Asked::Precious => Command::Precious(step.block),
+        Asked::Learn(valid) => {
+            let verdict = verdicts.next().ok_or(Fault::VerdictLine(step.number))?;
+            if verdict.valid != valid || *verdict.triple.digest() != step.block.0 {
+                return Err(Fault::JournalLine(step.number));
+            }
+            Command::Learn(SharedTriple::of(alloc, &verdict.triple)?, valid)
+        }
         Asked::Submit(now) => {
             let record = records.next().ok_or(Fault::BlkRecords)?;
             check_record(alloc, step, record.as_slice())?;

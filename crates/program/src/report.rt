@@ -26,6 +26,15 @@ impl<'t> Clients<'t> {
             None => self.seats.get(seat).copied().unwrap_or(""),
         }
     }
+
+    /// So many entries are a client's that stand at this place of the history, from 0, before those that had it.
+    pub fn put_in(&mut self, place: u64, count: u64, name: &'t str) -> Result<(), AllocError> {
+        for _ in 0..count {
+            let at = self.earlier.len().min(place as usize);
+            self.earlier.insert(at, name)?;
+        }
+        Ok(())
+    }
 }
 
 /// The history of a run, with the names of its clients.

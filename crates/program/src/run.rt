@@ -4,6 +4,7 @@ ghost use Rattle.std.specs.Prelude.{◌≡◌, ◌≤◌, IfOk, OnErr};
 
 use crate::audit::{Audited, audit};
 use crate::drawing::draw_saved;
+use crate::export::export;
 use crate::fault::Fault;
 use crate::files::print;
 use crate::objects;
@@ -196,7 +197,8 @@ where
         Options::Audit(options) => tell_audit(rt, &options, out, err),
         Options::Tree(options) => done(draw_saved(rt, &options, input, out)),
         Options::Show(options) => done(show(rt, &options, input, out)),
-        Options::Serve(options) => done(serve(rt, &options, gate, input, out)),
+        Options::Serve(options) => done(serve(rt, &options, gate, input, out, err)),
+        Options::Export(options) => done(export(rt, &options)),
     }
 }
 

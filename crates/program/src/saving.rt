@@ -8,6 +8,7 @@ use crate::fault::Fault;
 use crate::report::Report;
 use curve::Table;
 use journal::{RecordFault, blk_file};
+use node::Params;
 use std::alloc::{AllocError, Global};
 use std::fs::{File, OpenOptions, TryLockError};
 use std::io::{Error, ErrorKind, Write};
@@ -21,6 +22,8 @@ const BLOCKS: &str = "blocks.blk";
 const TABLE: &str = "table.txt";
 
 const HEIGHTS: &str = "heights.txt";
+
+const INVALID: &str = "invalid.txt";
 
 /// A file of the folder.
 #[derive(Drop)]
@@ -89,10 +92,19 @@ pub fn save<'w, R>(
 where
     R: Files<File = File> + AllocGlobal,
 {
+    let files = files_of(rt.alloc(), folder, report, table, heights)?;
+    save_files(rt, folder, &files)
+}
+
+/// Writes these files, as `save` does. None without steps takes the place of one that has some.
+pub fn save_files<'w, R>(rt: &R, folder: &'w str, files: &SavedFiles) -> Result<(), Fault<'w>>
+where
+    R: Files<File = File> + AllocGlobal,
+{
     // All names are made before anything changes.
     let places = Places::new(rt.alloc(), folder)?;
     match lock(rt, folder) {
-        Ok(_lock) => save_at(rt, folder, &places, report, table, heights),
+        Ok(_lock) => save_at(rt, folder, &places, files),
         Err(error) => Err(unsaved(error, folder, JOURNAL)),
     }
 }
@@ -102,15 +114,16 @@ fn save_at<'w, R>(
     rt: &R,
     folder: &'w str,
     places: &Places,
-    report: &Report<'_, '_>,
-    table: &Table,
-    heights: &str,
+    files: &SavedFiles,
 ) -> Result<(), Fault<'w>>
 where
     R: Files + AllocGlobal,
 {
     finish_last(rt, folder, places)?;
-    let made = match make_all(rt, folder, places, report, table, heights) {
+    if files.journal.is_empty() {
+        check_no_steps(rt, folder, &places.journal)?;
+    }
+    let made = match make_all(rt, folder, places, files) {
         Ok(()) => put_in_place(rt, folder, &places.journal),
         Err(fault) => Err(fault),
     };
@@ -157,45 +170,71 @@ fn finish<'w, R: Files>(rt: &R, folder: &'w str, place: &Place) -> Result<(), Fa
     Ok(())
 }
 
+/// Refuses a folder that has steps.
+fn check_no_steps<'w, R: Files>(rt: &R, folder: &'w str, place: &Place) -> Result<(), Fault<'w>> {
+    match fs::metadata(rt, place.path.as_str()) {
+        Ok(found) if found.len() > 0 => {
+            let steps = "there is a history, and it would be lost for one without steps";
+            let error = Error::new(ErrorKind::AlreadyExists, steps);
+            Err(Fault::CannotSave(folder, place.name, error))
+        }
+        _ => Ok(()),
+    }
+}
+
 /// Makes all files, none of them in its place.
-fn make_all<'w, R>(
+fn make_all<'w, R: Files>(
     rt: &R,
     folder: &'w str,
     places: &Places,
+    files: &SavedFiles,
+) -> Result<(), Fault<'w>> {
+    make(rt, folder, &places.journal, files.journal.as_slice())?;
+    make(rt, folder, &places.blocks, files.blocks.as_slice())?;
+    make(rt, folder, &places.table, files.table.as_slice())?;
+    make(rt, folder, &places.heights, files.heights.as_slice())
+}
+
+/// What is saved of a run.
+fn files_of<'w>(
+    alloc: Global,
+    folder: &'w str,
     report: &Report<'_, '_>,
     table: &Table,
     heights: &str,
-) -> Result<(), Fault<'w>>
-where
-    R: Files + AllocGlobal,
-{
-    let alloc = rt.alloc();
-    let journal = report.journal_in_digits(alloc)?;
-    make(rt, folder, &places.journal, journal.as_bytes())?;
-    make_blocks(rt, folder, &places.blocks, report)?;
-    let table = table.to_string(alloc)?;
-    make(rt, folder, &places.table, table.as_bytes())?;
-    let heights = format!(in alloc; "{heights}\n")?;
-    make(rt, folder, &places.heights, heights.as_bytes())
+) -> Result<SavedFiles, Fault<'w>> {
+    Ok(SavedFiles {
+        journal: report.journal_in_digits(alloc)?.into_bytes(),
+        blocks: blocks_of(alloc, folder, report)?,
+        table: table.to_string(alloc)?.into_bytes(),
+        heights: format!(in alloc; "{heights}\n")?.into_bytes(),
+    })
 }
 
-/// Makes the file of the blocks that were submitted.
-fn make_blocks<'w, R>(
-    rt: &R,
+/// The heights of soft forks, as a line that is read.
+pub fn heights_line(alloc: Global, params: &Params) -> Result<String, AllocError> {
+    let Params {
+        bip34,
+        bip65,
+        bip66,
+        csv,
+    } = params;
+    format!(in alloc; "{bip34},{bip65},{bip66},{csv}\n")
+}
+
+/// The blk file of the blocks that were submitted.
+fn blocks_of<'w>(
+    alloc: Global,
     folder: &'w str,
-    place: &Place,
     report: &Report<'_, '_>,
-) -> Result<(), Fault<'w>>
-where
-    R: Files + AllocGlobal,
-{
-    match blk_file(rt.alloc(), report.entries()) {
-        Ok(blocks) => make(rt, folder, place, blocks.as_slice()),
+) -> Result<Vec<u8>, Fault<'w>> {
+    match blk_file(alloc, report.entries()) {
+        Ok(blocks) => Ok(blocks),
         Err(RecordFault::Memory) => Err(Fault::Memory),
         Err(RecordFault::TooLong) => {
             let long = "a block is longer than a record may be";
             let error = Error::new(ErrorKind::FileTooLarge, long);
-            Err(Fault::CannotSave(folder, place.name, error))
+            Err(Fault::CannotSave(folder, BLOCKS, error))
         }
     }
 }
@@ -330,4 +369,37 @@ where
         Err(error) if error.kind() == ErrorKind::OutOfMemory => Err(Fault::Memory),
         Err(error) => Err(Fault::CannotOpen(folder, place.name, error)),
     }
+}
+
+/// Writes the lines of the signatures that were found not to be valid, beside a table of those that were. Where there are
+/// none there is no such file.
+pub fn save_invalid<'w, R>(rt: &R, folder: &'w str, lines: &str) -> Result<(), Fault<'w>>
+where
+    R: Files + AllocGlobal,
+{
+    let place = Place::new(rt.alloc(), folder, INVALID)?;
+    if !lines.is_empty() {
+        remove(rt, folder, &place)?;
+        make(rt, folder, &place, lines.as_bytes())?;
+        return put_in_place(rt, folder, &place);
+    }
+    if !stands(rt, place.path.as_str()) {
+        return Ok(());
+    }
+    match fs::remove_file(rt, place.path.as_str()) {
+        Ok(()) => Ok(()),
+        Err(error) => Err(unsaved(error, folder, INVALID)),
+    }
+}
+
+/// The lines of the signatures that an earlier run found not to be valid; none where there is no such file.
+pub fn read_invalid<'w, R>(rt: &R, folder: &'w str) -> Result<Vec<u8>, Fault<'w>>
+where
+    R: Files + AllocGlobal,
+{
+    let place = Place::new(rt.alloc(), folder, INVALID)?;
+    if !stands(rt, place.path.as_str()) {
+        return Ok(Vec::new(rt.alloc()));
+    }
+    read_place(rt, folder, &place, false)
 }

@@ -1,61 +1,52 @@
--- Answers, by what is known and by the relation.
-use Rattle.std.proofs.Common.{◌≡◌, Bool, true, false, List, map, Some, refl, sym, ap, ◌∙◌}
-use Rattle.std.specs.Prelude.{◌↔◌, IsTrue, Option, None, slice_get}
-use Rattle.std.specs.Option.{option_map}
+-- Answers by what is known.
+use Rattle.std.proofs.Common.{◌≡◌, ℕ, suc, Bool, List, [], ◌∷◌, length, map, Some, refl, sym, ap, ap₂, subst, ◌∙◌, arith}
+use Rattle.std.specs.Prelude.{IsSome, Option, None, slice_get}
+use Rattle.std.specs.Option.{option_map, option_and_then}
 use Rattle.std.proofs.lemmas.Option.{slice_get-map}
-use Rattle.curve.specs.Known.{Known, Under, all_known}
-use Rattle.curve.specs.Triple.{Triples}
-use Rattle.curve.specs.laws.Growth.{Grows}
-use Rattle.curve.specs.laws.Agreeing.{table_agrees}
+use Rattle.std.proofs.lemmas.List.{length-map}
+use Rattle.curve.specs.Known.{Known}
 use Rattle.interp.specs.Answer.{Answer, Says, Wants}
 use Rattle.interp.specs.Question.{Question, question_of}
 use Rattle.interp.specs.computed.Step.{verdict}
 use Rattle.interp.specs.declared.job.Job.{Job}
-use Rattle.interp.specs.laws.Keeping.{verdict-kept}
-use Rattle.interp.specs.laws.Verifying.{said-right, table-says}
-use Rattle.queue.specs.Jobs.{IsAccepted, IsAnswer, AreAnswers, verdict_of, verdict_at}
-use Rattle.queue.specs.Early.{AreKnown}
+use Rattle.queue.specs.Jobs.{answers_to, said, verdict_at}
+use Rattle.queue.specs.Early.{answer_at}
+use Rattle.queue.specs.inside.Pairing.{AreFound}
 
--- a test that is true exactly where the question is answered yes is its answer
-answer-is : (triples : Triples) (q : Question) (answer : Bool) → (IsTrue answer ↔ IsAccepted q triples) → IsAnswer q triples answer
-answer-is triples q true h = h.0 refl
-answer-is triples q false h = λ accepted. let both : false ≡ true = h.1 accepted in absurd cc
+-- what is found at all places is what is answered to their questions
+pub answers-of : (known : Known) (jobs : List Job) (answers : List (Option Bool)) → AreFound (verdict_at known jobs) (map (λ answer. Some answer) answers) → length answers ≡ length jobs
+    → answers ≡ answers_to known (map question_of jobs)
+answers-of known [] [] each even = refl
+answers-of known [] (a ∷ answers) each even = absurd (omega (arith, even))
+answers-of known (job ∷ jobs) [] each even = absurd (omega (arith, even))
+answers-of known (job ∷ jobs) (a ∷ answers) each even =
+    ap₂ (λ (x : Option Bool) (l : List (Option Bool)). x ∷ l) (each 0 a refl) (answers-of known jobs answers (λ place answer is. each (suc place) answer is) (omega (arith, even)))
 
--- what is said is right under every set that agrees
-pub said-answers : (known : Known) (q : Question) (answer : Bool) → verdict known q ≡ Says answer → Under known (λ triples. IsAnswer q triples answer)
-said-answers known q answer e triples agrees = answer-is triples q answer (said-right known q answer e triples agrees)
+-- of the jobs that a batch asks
+pub found-answers : (known : Known) (jobs : List Job) (asked : List Question) (answers : List (Option Bool)) (found : List (Option (Option Bool))) → map question_of jobs ≡ asked
+    → AreFound (verdict_at known jobs) found → length found ≡ length jobs → map (λ answer. Some answer) answers ≡ found → answers ≡ answers_to known asked
+found-answers known jobs asked answers found same each even all =
+    answers-of known jobs answers (subst (AreFound (verdict_at known jobs)) (sym all) each) (sym (length-map answers (λ answer. Some answer)) ∙ ap length all ∙ even)
+    ∙ ap (answers_to known) same
 
--- an answer under a table is said with it
-pub answer-says : (table : Triples) (q : Question) (answer : Bool) → IsAnswer q table answer → verdict (all_known table) q ≡ Says answer
-answer-says table q answer right = by (verdict (all_known table) q) refl
-  where
-    same : (said answer : Bool) → IsAnswer q table said → IsAnswer q table answer → said ≡ answer
-    same true true h k = refl
-    same true false h k = absurd (k h)
-    same false true h k = absurd (h k)
-    same false false h k = refl
+said-is : (a : Answer Bool) (answer : Bool) → said a ≡ Some answer → a ≡ Says answer
+said-is (Says b) answer e = cc
+said-is (Wants t) answer e = cc
 
-    by : (a : Answer Bool) → verdict (all_known table) q ≡ a → verdict (all_known table) q ≡ Says answer
-    by (Says said) e = e ∙ ap Says (same said answer (said-answers (all_known table) q said e table (table_agrees table)) right)
-    by (Wants t) e = absurd (table-says table q t e)
+-- the answer at a place is that to the question there
+pub answer-there : (known : Known) (asked : List Question) (place : ℕ) (q : Question) → slice_get asked place ≡ Some q → answer_at (answers_to known asked) place ≡ said (verdict known q)
+answer-there known asked place q is =
+    ap (option_and_then (λ answer. answer)) (slice_get-map (λ q. said (verdict known q)) asked place ∙ ap (option_map (λ q. said (verdict known q))) is)
 
--- and by all that grew out of it
-pub early-says : (table : Triples) (known : Known) → Grows (all_known table) known → (q : Question) (answer : Bool) → IsAnswer q table answer → verdict known q ≡ Says answer
-early-says table known grows q answer right = verdict-kept (all_known table) known grows q answer (answer-says table q answer right)
+-- an answer is the verdict, also by all that grew out of what was known
+pub some-says : (a : Option Bool) → IsSome a → (answer : Bool) × (a ≡ Some answer)
+some-says None none = cc
+some-says (Some answer) some = (answer, refl)
 
--- answers of all places are answers of the questions
-pub answers-of : (table : Triples) (jobs : List Job) (found : List (Option Bool)) (answers : List Bool)
-    → AreKnown (verdict_at (all_known table) jobs) found
-    → map (λ said. Some said) answers ≡ found → AreAnswers (map question_of jobs) table answers
-answers-of table jobs found answers each all place q said at_q at_yes = by (slice_get jobs place) refl
-  where
-    there : slice_get found place ≡ Some (Some said)
-    there = ap (λ (l : List (Option Bool)). slice_get l place) (sym all) ∙ slice_get-map (λ (b : Bool). Some b) answers place ∙ ap (option_map (λ (b : Bool). Some b)) at_yes
+pub answered-says : (known : Known) (asked : List Question) (place : ℕ) (q : Question) → slice_get asked place ≡ Some q → IsSome (answer_at (answers_to known asked) place) → (answer : Bool) × (verdict known q ≡ Says answer)
+answered-says known asked place q is some =
+    let answer = some-says (answer_at (answers_to known asked) place) some in
+    (answer.0, said-is (verdict known q) answer.0 (sym (answer-there known asked place q is) ∙ answer.1))
 
-    by : (job : Option Job) → slice_get jobs place ≡ job → IsAnswer q table said
-    by (Some job) is =
-        let same : ◌≡◌ {A = Option Question} (Some (question_of job)) (Some q) = sym (slice_get-map question_of jobs place ∙ ap (option_map question_of) is) ∙ at_q in
-        let q_is : question_of job ≡ q = cc in
-        said-answers (all_known table) q said (ap (verdict (all_known table)) (sym q_is) ∙ ap (verdict_of (all_known table)) (sym is) ∙ each place said there) table (table_agrees table)
-    by None is =
-        let both : ◌≡◌ {A = Option Question} None (Some q) = sym (slice_get-map question_of jobs place ∙ ap (option_map question_of) is) ∙ at_q in absurd cc
+pub says-answered : (known : Known) (asked : List Question) (place : ℕ) (q : Question) (answer : Bool) → slice_get asked place ≡ Some q → verdict known q ≡ Says answer → answer_at (answers_to known asked) place ≡ Some answer
+says-answered known asked place q answer is says = answer-there known asked place q is ∙ ap said says

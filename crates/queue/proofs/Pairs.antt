@@ -3,13 +3,13 @@ use Rattle.std.proofs.Common.{◌≡◌, inl, inr, ℕ, zero, suc, ◌-◌, ◌+
 use Rattle.std.specs.Prelude.{◌⊎◌, All, IfSome, IfNone, IsSome, is_some, slice_get, slice_index_or}
 use Rattle.std.specs.Option.{option_map, option_and_then}
 use Rattle.std.proofs.lemmas.Option.{slice_get-map, slice_get_past, slice_get_read, slice_get_within, get_or_from_slice_get}
-use Rattle.std.proofs.lemmas.List.{length-map}
 use Rattle.std.proofs.lemmas.Bool.{cases_eq}
 use Rattle.txn.specs.declared.input.TxIn.{TxIn}
 use Rattle.txn.specs.declared.tx.Tx.{Tx}
 use Rattle.curve.specs.Known.{Known}
 use Rattle.interp.specs.computed.Step.{verdict}
-use Rattle.queue.proofs.Answering.{early-says}
+use Rattle.queue.proofs.Answering.{answered-says, says-answered}
+use Rattle.interp.specs.laws.Keeping.{verdict-kept}
 use Rattle.interp.specs.declared.flags.Flags.{Flags}
 use Rattle.interp.specs.Answer.{Answer, Says}
 use Rattle.interp.specs.declared.job.Job.{Job}
@@ -17,7 +17,7 @@ use Rattle.queue.specs.declared.early_jobs.Listed.{Listed}
 use Rattle.queue.specs.declared.verdict_index.Key.{Key}
 use Rattle.queue.specs.declared.verdict_index.Slot.{Slot}
 use Rattle.interp.specs.Question.{Question, question, question_of}
-use Rattle.queue.specs.Jobs.{Answered, AreAnswers, AreNumbered, Batch, IsEarly, Spending, questions, tx_at}
+use Rattle.queue.specs.Jobs.{Answered, AreNumbered, Batch, IsEarly, Spending, answers_to, known_then, questions, tx_at}
 use Rattle.queue.specs.inside.Pairing.{spending_of, IsOfSame, Covers, first_outpoint, key_of, slot_for}
 use Rattle.queue.specs.Early.{Fits, AreKnown, AreAllKnown, answer_at}
 
@@ -95,6 +95,13 @@ fits_like batch one at q job there tx same h =
     let a = asked_at batch one q there in
     fits_from batch at job h (h.0, h.1, ap (tx_at batch.txs) (sym (same a.0 h.0 a.1 h.1)) ∙ ap (λ (x : Question). x.tx) a.2 ∙ tx)
 
+-- a verdict that is asked and has an answer fits
+pub fits_by : (verdicts : List Answered) (slot : Slot) (q : Question) (own : Answered) → slice_get verdicts slot.verdicts ≡ Some own → slice_get (questions own.batch) slot.place ≡ Some q
+    → IsSome (answer_at (answers_to (known_then own) (questions own.batch)) slot.place) → Fits verdicts slot q
+fits_by verdicts slot q own there asked some =
+    let says = answered-says (known_then own) (questions own.batch) slot.place q asked some in
+    record { own = own; there = there; asked = asked; answer = says.0; says = says.1 }
+
 -- ---- the slots of all verdicts
 
 -- of the verdicts of the first so many lists
@@ -102,14 +109,14 @@ abbrev pub CoversBelow : List Answered → ℕ → List (Key × Slot) → Type 0
 CoversBelow verdicts n entries = (slot : Slot) (q : Question) → slot.verdicts < n → Fits verdicts slot q → IsSome (slot_for entries (key_of q))
 
 pub covers_next : (verdicts : List Answered) (old new : List (Key × Slot)) (n : ℕ) (own : Answered) → slice_get verdicts n ≡ Some own
-    → ((place : ℕ) (q : Question) → slice_get (questions own.batch) place ≡ Some q → IsSome (slot_for new (key_of q)))
+    → ((place : ℕ) (q : Question) (answer : Bool) → slice_get (questions own.batch) place ≡ Some q → verdict (known_then own) q ≡ Says answer → IsSome (slot_for new (key_of q)))
     → ((key : Key) → IsSome (slot_for old key) → IsSome (slot_for new key))
     → CoversBelow verdicts n old → CoversBelow verdicts (n + 1) new
 covers_next verdicts old new n own there its others before slot q low fits =
     ⊎_elim
     (λ (e : slot.verdicts ≡ n).
     let same : fits.own ≡ own = some_is fits.own own (sym fits.there ∙ ap (slice_get verdicts) e ∙ there) in
-    its slot.place q (subst (λ (a : Answered). slice_get (questions a.batch) slot.place ≡ Some q) same fits.asked))
+    its slot.place q fits.answer (subst (λ (a : Answered). slice_get (questions a.batch) slot.place ≡ Some q) same fits.asked) (subst (λ (a : Answered). verdict (known_then a) q ≡ Says fits.answer) same fits.says))
     (λ (other : slot.verdicts ≡ n → ⊥). others (key_of q) (before slot q (omega (arith, low, other)) fits))
     (cases_eq slot.verdicts n)
 
@@ -214,13 +221,15 @@ if_none None P p = p
 if_none (Some x) P p = tt
 
 -- of the first so many lists and one more
-pub none_next : (verdicts : List Answered) (n : ℕ) (own : Answered) (q : Question) → slice_get verdicts n ≡ Some own → ((at : ℕ) → ¬ (slice_get (questions own.batch) at ≡ Some q))
+pub none_next : (verdicts : List Answered) (n : ℕ) (own : Answered) (q : Question) → slice_get verdicts n ≡ Some own
+    → ((at : ℕ) → slice_get (questions own.batch) at ≡ Some q → ¬ IsSome (answer_at (answers_to (known_then own) (questions own.batch)) at))
     → ((slot : Slot) → slot.verdicts < n → ¬ Fits verdicts slot q) → (slot : Slot) → slot.verdicts < n + 1 → ¬ Fits verdicts slot q
 none_next verdicts n own q there none before slot low fits =
     ⊎_elim
     (λ (e : slot.verdicts ≡ n).
     let same : fits.own ≡ own = some_is fits.own own (sym fits.there ∙ ap (slice_get verdicts) e ∙ there) in
-    none slot.place (subst (λ (a : Answered). slice_get (questions a.batch) slot.place ≡ Some q) same fits.asked))
+    let there_asked = subst (λ (a : Answered). slice_get (questions a.batch) slot.place ≡ Some q) same fits.asked in
+    none slot.place there_asked (ap is_some (says-answered (known_then own) (questions own.batch) slot.place q fits.answer there_asked (subst (λ (a : Answered). verdict (known_then a) q ≡ Says fits.answer) same fits.says))))
     (λ (other : slot.verdicts ≡ n → ⊥). before slot (omega (arith, low, other)) fits)
     (cases_eq slot.verdicts n)
 
@@ -232,41 +241,54 @@ none_all verdicts n q all before slot fits =
     (below_or slot.verdicts n)
 
 -- of the first so many places and one more
-pub own_next : (batch : Batch) (n : ℕ) (key : Key) (new : List (Key × Slot)) → ((q : Question) → slice_get (questions batch) n ≡ Some q → ◌≡◌ {A = Key} key (key_of q)) → IsSome (slot_for new key)
-    → ((at : ℕ) (q : Question) → at < n → slice_get (questions batch) at ≡ Some q → IsSome (slot_for new (key_of q)))
-    → (at : ℕ) (q : Question) → at < n + 1 → slice_get (questions batch) at ≡ Some q → IsSome (slot_for new (key_of q))
-own_next batch n key new is some before at q low asked =
-    ⊎_elim
-    (λ (e : at ≡ n). subst (λ (k : Key). IsSome (slot_for new k)) (is q (sym (ap (slice_get (questions batch)) e) ∙ asked)) some)
-    (λ (other : at ≡ n → ⊥). before at q (omega (arith, low, other)) asked)
-    (cases_eq at n)
+module _ (own : Answered) (new : List (Key × Slot)) where
+  -- each answered question below a place has a slot
+  abbrev pub OwnBelow : ℕ → Type 0
+  OwnBelow n = (at : ℕ) (q : Question) (answer : Bool) → at < n → slice_get (questions own.batch) at ≡ Some q → verdict (known_then own) q ≡ Says answer → IsSome (slot_for new (key_of q))
 
-pub own_all : (batch : Batch) (n : ℕ) (new : List (Key × Slot)) → length batch.spendings ≤ n
-    → ((at : ℕ) (q : Question) → at < n → slice_get (questions batch) at ≡ Some q → IsSome (slot_for new (key_of q)))
-    → (at : ℕ) (q : Question) → slice_get (questions batch) at ≡ Some q → IsSome (slot_for new (key_of q))
-own_all batch n new all before at q asked =
-    ⊎_elim
-    (λ (h : at < n). before at q h asked)
-    (λ (h : n ≤ at).
-    let a = asked_at batch at q asked in
-    let none : ◌≡◌ {A = Option Spending} None (Some a.0) = sym (slice_get_past batch.spendings at (omega (arith, h, all))) ∙ a.1 in absurd cc)
-    (below_or at n)
+  pub own_next : (n : ℕ) (key : Key) → ((q : Question) → slice_get (questions own.batch) n ≡ Some q → ◌≡◌ {A = Key} key (key_of q)) → IsSome (slot_for new key) → OwnBelow n → OwnBelow (n + 1)
+  own_next n key is some before at q answer low asked says =
+      ⊎_elim
+      (λ (e : at ≡ n). subst (λ (k : Key). IsSome (slot_for new k)) (is q (sym (ap (slice_get (questions own.batch)) e) ∙ asked)) some)
+      (λ (other : at ≡ n → ⊥). before at q answer (omega (arith, low, other)) asked says)
+      (cases_eq at n)
+
+  -- a place without an answer needs none
+  pub own_past : (n : ℕ) → ¬ IsSome (answer_at (answers_to (known_then own) (questions own.batch)) n) → OwnBelow n → OwnBelow (n + 1)
+  own_past n none before at q answer low asked says =
+      ⊎_elim
+      (λ (e : at ≡ n). absurd (none (subst (λ k. IsSome (answer_at (answers_to (known_then own) (questions own.batch)) k)) e (ap is_some (says-answered (known_then own) (questions own.batch) at q answer asked says)))))
+      (λ (other : at ≡ n → ⊥). before at q answer (omega (arith, low, other)) asked says)
+      (cases_eq at n)
+
+  pub own_all : (n : ℕ) → length own.batch.spendings ≤ n → OwnBelow n
+      → (at : ℕ) (q : Question) (answer : Bool) → slice_get (questions own.batch) at ≡ Some q → verdict (known_then own) q ≡ Says answer → IsSome (slot_for new (key_of q))
+  own_all n all before at q answer asked says =
+      ⊎_elim
+      (λ (h : at < n). before at q answer h asked says)
+      (λ (h : n ≤ at).
+      let a = asked_at own.batch at q asked in
+      let none : ◌≡◌ {A = Option Spending} None (Some a.0) = sym (slice_get_past own.batch.spendings at (omega (arith, h, all))) ∙ a.1 in absurd cc)
+      (below_or at n)
 
 -- ---- the answer of a verdict
 
 pub list-there : (verdicts : List Answered) (slot : Slot) (q : Question) → Fits verdicts slot q → slot.verdicts < length verdicts
 list-there verdicts slot q fits = slice_get_within verdicts slot.verdicts fits.own fits.there
 
-module _ (verdicts : List Answered) (slot : Slot) (q : Question) (own : Answered) (fits : Fits verdicts slot q) (is : own ≡ get_or verdicts slot.verdicts own) where
+module _ (verdicts : List Answered) (slot : Slot) (q : Question) (own : Answered) (fits : Fits verdicts slot q) (there : slice_get verdicts slot.verdicts ≡ Some own) where
   its : fits.own ≡ own
-  its = sym (is ∙ get_or_from_slice_get verdicts slot.verdicts fits.own own fits.there)
+  its = some_is fits.own own (sym fits.there ∙ there)
 
-  asked : slice_get (questions own.batch) slot.place ≡ Some q
-  asked = ap (λ (a : Answered). slice_get (questions a.batch) slot.place) (sym its) ∙ fits.asked
-
-  pub answer-there : length own.answers ≡ length own.batch.spendings → slot.place < length own.answers
-  answer-there each = omega (arith, each, slice_get_within (questions own.batch) slot.place q asked, length-map own.batch.spendings (λ s. question (tx_at own.batch.txs s.place) s.input s.spent own.batch.flags))
-
-  pub answer-right : (known : Known) → All (IsEarly known) verdicts → AreAnswers (questions own.batch) own.triples own.answers → (answer : Bool) → slice_get own.answers slot.place ≡ Some answer → verdict known q ≡ Says answer
-  answer-right known early right answer there =
-      early-says own.triples known (subst (IsEarly known) (sym is) (early slot.verdicts own (list-there verdicts slot q fits))) q answer (right slot.place q answer asked there)
+  -- there is one, and it is the verdict by all that is known since
+  pub answer-is : (known : Known) → All (IsEarly known) verdicts → (answer : Option Bool) → answer ≡ answer_at (answers_to (known_then own) (questions own.batch)) slot.place
+      → IsSome answer × IfSome answer (λ said. verdict known q ≡ Says said)
+  answer-is known early answer is =
+      let asked = subst (λ (a : Answered). slice_get (questions a.batch) slot.place ≡ Some q) its fits.asked in
+      let says = subst (λ (a : Answered). verdict (known_then a) q ≡ Says fits.answer) its fits.says in
+      let some : answer ≡ Some fits.answer = is ∙ says-answered (known_then own) (questions own.batch) slot.place q fits.answer asked says in
+      let own_early = subst (IsEarly known) (get_or_from_slice_get verdicts slot.verdicts own own there) (early slot.verdicts own (list-there verdicts slot q fits)) in
+      let right : verdict known q ≡ Says fits.answer = verdict-kept (known_then own) known own_early q fits.answer says in (
+        ap is_some some,
+        subst (λ (o : Option Bool). IfSome o (λ said. verdict known q ≡ Says said)) (sym some) right,
+      )

@@ -4,14 +4,17 @@ use Rattle.std.specs.Option.{option_and_then}
 use Rattle.interp.specs.Answer.{Answer, Says}
 use Rattle.interp.specs.Question.{Question, question_of}
 use Rattle.interp.specs.declared.job.Job.{Job}
+use Rattle.interp.specs.computed.Step.{verdict}
 use Rattle.queue.specs.declared.verdict_index.Slot.{Slot}
-use Rattle.queue.specs.Jobs.{Answered, questions}
+use Rattle.queue.specs.Jobs.{Answered, known_then, questions}
 
 -- a verdict of some lists, in a slot, answers this question
 pub record Fits (verdicts : List Answered) (slot : Slot) (q : Question) : Type 0 where
   pub own : Answered
   pub there : slice_get verdicts slot.verdicts ≡ Some own
   pub asked : slice_get (questions own.batch) slot.place ≡ Some q
+  pub answer : Bool
+  pub says : verdict (known_then own) q ≡ Says answer
 
 -- the answer at a place, if it is known
 abbrev pub answer_at : List (Option Bool) → ℕ → Option Bool

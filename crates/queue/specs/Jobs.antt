@@ -1,7 +1,7 @@
 -- Which jobs of a list are accepted, and the first one that isn't.
-use Rattle.std.specs.Prelude.{◌≡◌, ℕ, ◌<◌, pos, Bool, true, false, List, [], length, map, get_or, Option, Some, None, slice_get}
+use Rattle.std.specs.Prelude.{◌≡◌, ℕ, ◌<◌, pos, Bool, true, List, [], length, map, get_or, Option, Some, None, slice_get}
 use Rattle.txn.specs.declared.tx.Tx.{Tx}
-use Rattle.curve.specs.Known.{Known, all_known}
+use Rattle.curve.specs.Known.{Known, all_known, verdict_in}
 use Rattle.curve.specs.laws.Growth.{Grows}
 use Rattle.curve.specs.Triple.{Triple, Triples}
 use Rattle.interp.specs.declared.flags.Flags.{Flags}
@@ -10,6 +10,8 @@ use Rattle.interp.specs.Answer.{Answer, Says, Wants}
 use Rattle.interp.specs.Question.{Question, question, question_of}
 use Rattle.interp.specs.Rules.{Accepts}
 use Rattle.interp.specs.computed.Step.{verdict}
+use Rattle.queue.specs.declared.source.Source.{Source}
+use Rattle.queue.specs.declared.source.Source.TheVariants.{Listed, Found}
 use Rattle.queue.specs.declared.undecided.Undecided.{Undecided}
 use Rattle.queue.specs.declared.undecided.Undecided.TheVariants.{Memory, Unknown}
 
@@ -20,11 +22,6 @@ HasInput job = job.input < length job.tx.now.inputs
 -- the input may spend it, where these signatures are valid
 abbrev pub IsAccepted : Question → Triples → Type 0
 IsAccepted q triples = Accepts q.tx q.input q.spent q.flags triples
-
--- the answer is right
-abbrev pub IsAnswer : Question → Triples → Bool → Type 0
-IsAnswer q triples true = IsAccepted q triples
-IsAnswer q triples false = ¬ IsAccepted q triples
 
 -- jobs of one number are of one transaction; those beyond the numbers may be of any
 abbrev pub AreNumbered : List ℕ → List Job → Type 0
@@ -59,16 +56,28 @@ IsThere txs s = (s.place < length txs) × (s.input < length (tx_at txs s.place).
 abbrev pub questions : Batch → List Question
 questions batch = map (λ s. question (tx_at batch.txs s.place) s.input s.spent batch.flags) batch.spendings
 
--- a batch with an answer to each of its questions, in order, under a table
+-- what is known by a table, or by what was found out
+abbrev pub known_of : Source → Known
+known_of (Listed table) = all_known table.now
+known_of (Found found) = verdict_in found.now
+
+-- a batch, and by what its scripts were run
 pub record Answered : Type 0 where
   pub batch : Batch
-  pub triples : Triples
-  pub answers : List Bool
+  pub by : Source
 
--- each answer is right
-abbrev pub AreAnswers : List Question → Triples → List Bool → Type 0
-AreAnswers asked triples answers =
-    (place : ℕ) (q : Question) (yes : Bool) → slice_get asked place ≡ Some q → slice_get answers place ≡ Some yes → IsAnswer q triples yes
+-- what was known then
+abbrev pub known_then : Answered → Known
+known_then answered = known_of answered.by
+
+-- the answer of a verdict; none where a signature is wanted
+abbrev pub said : Answer Bool → Option Bool
+said (Says answer) = Some answer
+said (Wants t) = None
+
+-- the answer to each question, by what is known
+abbrev pub answers_to : Known → List Question → List (Option Bool)
+answers_to known asked = map (λ q. said (verdict known q)) asked
 
 -- ---- where there is no answer
 
@@ -89,6 +98,6 @@ abbrev pub told_by : Undecided → Option (List Triple)
 told_by Memory = None
 told_by (Unknown unknown) = Some unknown.items
 
--- what verdicts of these signatures said is known
+-- what was known then is known
 abbrev pub IsEarly : Known → Answered → Type 0
-IsEarly known answered = Grows (all_known answered.triples) known
+IsEarly known answered = Grows (known_then answered) known

@@ -3,14 +3,14 @@
 ghost use Rattle.std.specs.Prelude.{◌≡◌, ◌≤◌, All, IfOk};
 ghost use denote.Param.Send.{IsSync};
 ghost use Rattle.queue.specs.Jobs.{verdict_at};
-ghost use Rattle.queue.specs.Ahead.{AreOf};
+ghost use Rattle.queue.specs.Ahead.{IsRight};
 ghost use Rattle.queue.specs.laws.Sharing.{IsSync-prop};
 
 use crate::checks::Places;
+use crate::found::{Found, both};
 use crate::gate::Gate;
 use crate::jobs::JobList;
 use crate::judges::Judges;
-use crate::verdict::Seen;
 use crate::workers::{Words, work};
 use curve::{KnownSignatures, Table};
 use std::alloc::Global;
@@ -27,17 +27,17 @@ pub trait Crew<S: Judges> {
     /// There is one proof of it, so that a struct can keep it beside a crew.
     ghost ready_once: { (crew : Self) → IsProp (is_ready crew) };
 
-    /// Verdicts on jobs of a list, as many as were found.
+    /// What was found of the jobs of a list, be it little or nothing.
     fn run_ahead(
         &self,
         alloc: Global,
         list: &JobList<S>,
         workers: usize,
         gate: &(dyn Gate + Sync),
-    ) -> Result<Vec<Seen>, Memory>
+    ) -> Result<Found, Memory>
         requires { is_ready self.now }
-        ensures { IfOk result (λ seen.
-            AreOf (verdict_at (S.known list.now.by.now) list.now.jobs.now) seen.items) };
+        ensures { IfOk result (IsRight
+            (verdict_at (S.known list.now.by.now) list.now.jobs.now)) };
 }
 
 /// Threads, as many as there are workers.
@@ -57,7 +57,7 @@ impl<'r, R: Threads + Sync> Crew<Table> for Threaded<'r, R> {
         list: &JobList<Table>,
         workers: usize,
         gate: &(dyn Gate + Sync),
-    ) -> Result<Vec<Seen>, Memory> {
+    ) -> Result<Found, Memory> {
         in_threads(self.rt, alloc, list, workers, &gate)
     }
 }
@@ -73,7 +73,7 @@ impl<'r, R: Threads + Sync> Crew<KnownSignatures> for Threaded<'r, R> {
         list: &JobList<KnownSignatures>,
         workers: usize,
         gate: &(dyn Gate + Sync),
-    ) -> Result<Vec<Seen>, Memory> {
+    ) -> Result<Found, Memory> {
         in_threads(self.rt, alloc, list, workers, &gate)
     }
 }
@@ -95,8 +95,8 @@ impl<S: Judges> Crew<S> for Alone {
         _list: &JobList<S>,
         _workers: usize,
         _gate: &(dyn Gate + Sync),
-    ) -> Result<Vec<Seen>, Memory> {
-        Ok(Vec::new(alloc))
+    ) -> Result<Found, Memory> {
+        Ok(Found::nothing(alloc))
     }
 }
 
@@ -107,12 +107,12 @@ pub(crate) fn in_threads<R: Threads + Sync, G: Gate + Sync, C: Places + Sync>(
     list: &C,
     workers: usize,
     gate: &G,
-) -> Result<Vec<Seen>, Memory>
-    ensures { IfOk result (λ seen. AreOf (C.verdict list.now) seen.items) }
+) -> Result<Found, Memory>
+    ensures { IfOk result (IsRight (C.verdict list.now)) }
 {
     let workers = busy_workers(list, workers);
     if workers <= 1 {
-        return Ok(Vec::new(alloc));
+        return Ok(Found::nothing(alloc));
     }
     let words = Words {
         claimed: AtomicU64::new(0),
@@ -122,8 +122,8 @@ pub(crate) fn in_threads<R: Threads + Sync, G: Gate + Sync, C: Places + Sync>(
         rt,
         alloc,
         workers,
-        &|_worker: usize| -> Result<Vec<Seen>, Memory>
-            ensures { IfOk result (λ seen. AreOf (C.verdict list.entry.now) seen.items) }
+        &|_worker: usize| -> Result<Found, Memory>
+            ensures { IfOk result (IsRight (C.verdict list.entry.now)) }
         { work(alloc, list, &words, gate) },
     )?;
     gather(alloc, list, reports)
@@ -133,16 +133,14 @@ pub(crate) fn in_threads<R: Threads + Sync, G: Gate + Sync, C: Places + Sync>(
 fn gather<C: Places>(
     alloc: Global,
     _list: &C,
-    reports: Vec<Result<Vec<Seen>, Memory>>,
-) -> Result<Vec<Seen>, Memory>
-    requires { All (λ report. IfOk report (λ seen.
-        AreOf (C.verdict _list.now) seen.items)) reports.items }
-    ensures { IfOk result (λ seen. AreOf (C.verdict _list.now) seen.items) }
+    reports: Vec<Result<Found, Memory>>,
+) -> Result<Found, Memory>
+    requires { All (λ report. IfOk report (IsRight (C.verdict _list.now))) reports.items }
+    ensures { IfOk result (IsRight (C.verdict _list.now)) }
 {
-    let mut all = Vec::new(alloc);
+    let mut all = Found::nothing(alloc);
     for report in reports {
-        let mut seen = report?;
-        all.append(&mut seen)?;
+        all = both(_list, all, report?)?;
     }
     Ok(all)
 }

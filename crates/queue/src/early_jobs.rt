@@ -194,21 +194,6 @@ impl<'t> EarlyJobs<'t> {
             _ => false,
         }
     }
-
-    /// The place of an input that asks what the job asks, looked for among all.
-    pub(crate) fn find(&self, job: &Job) -> Option<usize>
-        ensures found { IfSome result (λ at.
-            slice_get (questions self.now) at ≡ Some (question_of job.now)) }
-        ensures none { IfNone result ((at : ℕ) →
-            ¬ (slice_get (questions self.now) at ≡ Some (question_of job.now))) }
-    {
-        for at in 0..self.list.len() {
-            if self.fits(at, job) {
-                return Some(at);
-            }
-        }
-        None
-    }
 }
 
 // They are pushed in order of their places and inputs, mostly; one that isn't may not be found, and costs time alone.

@@ -6,6 +6,7 @@ ghost use Rattle.queue.specs.Telling.{Told};
 ghost use Rattle.queue.specs.inside.Walking.{Walked};
 
 use crate::crew::Crew;
+use crate::found::Found;
 use crate::gate::Gate;
 use crate::jobs::JobList;
 use crate::judges::Judges;
@@ -75,9 +76,9 @@ fn walked<S: Judges, C: Crew<S>>(
         early: runs.early,
         known: &known,
     };
-    let seen = runs.crew.run_ahead(alloc, &list, runs.workers, gate)?;
-    let slots = slots_of(alloc, &list, seen, list.count)?;
-    go_through(alloc, &list, slots, &gate)
+    let Found { accepted, others } = runs.crew.run_ahead(alloc, &list, runs.workers, gate)?;
+    let slots = slots_of(alloc, &list, others, list.count)?;
+    go_through(alloc, &list, &accepted, slots, &gate)
 }
 
 /// The first place whose known answer is no, or the end of so many: none behind it is looked at.

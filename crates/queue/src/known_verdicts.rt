@@ -99,7 +99,7 @@ fn answer_in<S: Judges>(index: &Index, slot: Option<Slot>, job: &Job, by: &S) ->
         verdict (S.known by.now) (question_of job.now) ≡ Says answer) }
     ensures some { IsSome slot → IsSome result }
 {
-    Some(index.answer(slot?, job, by))
+    index.answer(slot?, job, by)
 }
 
 /// Whether the number at a place equals the one before it.

@@ -12,10 +12,3 @@ pub enum Verdict {
     /// Whether this signature is valid has to be found out first.
     Wants(Box<KeptTriple>),
 }
-
-/// The verdict that was found of the job at a place.
-#[derive(Drop)]
-pub struct Seen {
-    pub place: usize,
-    pub verdict: Verdict,
-}

@@ -1,11 +1,11 @@
 //! Verdicts, found by what they answer.
 
-ghost use Rattle.std.specs.Prelude.{◌≡◌, ℕ, All, IfOk, IfSome, IsSome, IsTrue, OnOk, Some, slice_get};
+ghost use Rattle.std.specs.Prelude.{◌≡◌, ℕ, Bool, All, IfOk, IfSome, IsSome, IsTrue, OnOk, Some, slice_get};
 ghost use Rattle.std.specs.Option.{IfNone};
 ghost use Rattle.queue.specs.declared.verdict_index.Key.{Key};
 ghost use Rattle.queue.specs.declared.verdict_index.Slot.{Slot};
 ghost use Rattle.interp.specs.Question.{Question, question_of};
-ghost use Rattle.queue.specs.Jobs.{HasInput, IsEarly, questions};
+ghost use Rattle.queue.specs.Jobs.{HasInput, IsEarly, known_then, questions};
 ghost use Rattle.interp.specs.Answer.{Says};
 ghost use Rattle.interp.specs.computed.Step.{verdict};
 ghost use Rattle.queue.specs.inside.Pairing.{Covers, IsOfSame, key_of, slot_for};
@@ -86,6 +86,9 @@ impl<'a, 't> Index<'a, 't> {
         let Some(own) = self.verdicts.get(slot.verdicts) else {
             return false;
         };
+        if own.answer(slot.place).is_none() {
+            return false;
+        }
         match before {
             Some(other)
                 if other.verdicts == slot.verdicts
@@ -115,13 +118,15 @@ impl<'a, 't> Index<'a, 't> {
     }
 
     /// The answer of the verdict in a slot, which is right by all that this judge knows.
-    pub fn answer<S: Judges>(&self, slot: Slot, job: &Job, _by: &S) -> bool
+    pub fn answer<S: Judges>(&self, slot: Slot, job: &Job, _by: &S) -> Option<bool>
         requires fits { Fits self.now.verdicts.now slot (question_of job.now) }
         requires early { All (IsEarly (S.known _by.now)) self.now.verdicts.now }
-        ensures { verdict (S.known _by.now) (question_of job.now) ≡ Says result }
+        ensures some { IsSome result }
+        ensures right { IfSome result (λ answer.
+            verdict (S.known _by.now) (question_of job.now) ≡ Says answer) }
     {
         let own = &self.verdicts[slot.verdicts];
-        own.answers()[slot.place]
+        own.answer(slot.place)
     }
 }
 
@@ -136,15 +141,19 @@ fn key_of(job: &Job) -> Key
     }
 }
 
-/// Puts the verdicts of one list into their slots. Of two with the same key the later one is kept.
+/// Puts the answers of one list into their slots. Of two with the same key the later one is kept.
 fn add_slots(slots: &mut BTreeMap<Key, Slot>, list: usize, own: &Verdicts) -> Result<(), Memory>
-    ensures own { OnOk result ((place : ℕ) (q : Question) →
+    ensures own { OnOk result ((place : ℕ) (q : Question) (answer : Bool) →
         slice_get (questions own.now.batch) place ≡ Some q →
+        verdict (known_then own.now) q ≡ Says answer →
         IsSome (slot_for slots.new.entries (key_of q))) }
     ensures others { OnOk result ((key : Key) →
         IsSome (slot_for slots.old.entries key) → IsSome (slot_for slots.new.entries key)) }
 {
     for place in 0..own.jobs().len() {
+        if own.answer(place).is_none() {
+            continue;
+        }
         let key = own.jobs().key(place);
         slots.insert(
             key,

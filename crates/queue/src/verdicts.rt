@@ -1,78 +1,76 @@
 //! Answers that were got before they are asked for.
 
-ghost use Rattle.std.specs.Prelude.{◌≡◌, ◌↔◌, ℕ, IfSome, IsTrue, Some, length, slice_get};
+ghost use Rattle.std.specs.Prelude.{◌≡◌, ◌↔◌, ℕ, IfSome, IsSome, IsTrue, Some, slice_get};
 ghost use Rattle.std.specs.Option.{IfNone};
 
 use crate::early_jobs::EarlyJobs;
-use curve::Table;
+use crate::source::Source;
 use interp::Job;
 use std::marker::Model;
 
-/// The answers to early jobs under a table. A clause sees what they ask, the table's triples, and the answers.
+/// The answers to early jobs by a table, or by what was found out. A clause sees what they ask, and by what they were got.
 ///
-/// It has the scripts that the jobs spend, and borrows the transactions and the table.
+/// It has the scripts that the jobs spend, and borrows the transactions and the signatures.
 #[derive(Drop)]
 pub struct Verdicts<'t> {
     jobs: EarlyJobs<'t>,
-    table: &'t Table,
-    answers: Vec<bool>,
+    by: Source<'t>,
+    answers: Vec<Option<bool>>,
 }
 
 impl<'t> Model for Verdicts<'t> {
     ghost use Rattle.std.specs.Coded.{codes};
     ghost use Rattle.std.specs.FinSet as set;
-    ghost use Rattle.std.specs.Prelude.{◌≡◌, length};
+    ghost use Rattle.std.specs.Prelude.{◌≡◌};
+    ghost use Rattle.curve.specs.Known.{coded_verdicts};
     ghost use Rattle.curve.specs.Triple.{triple_cmp, coded_triple};
-    ghost use Rattle.queue.specs.Jobs.{Answered, AreAnswers, questions};
+    ghost use Rattle.queue.specs.Jobs.{Answered, answers_to, known_of, questions};
 
     ghost Value = { Answered };
 
-    ghost coded = { Prim.hlevel (codes, set.code {R = triple_cmp} coded_triple) };
+    ghost coded = { Prim.hlevel (codes, set.code {R = triple_cmp} coded_triple, coded_verdicts) };
 
-    ghost view = { λ v. record {
-      batch = v.jobs;
-      triples = v.table.now;
-      answers = v.answers.items;
-    } };
+    ghost view = { λ v. record { batch = v.jobs; by = v.by } };
 
-    ghost invariant = { λ v. (length v.answers.items ≡ length v.jobs.spendings) ×
-        AreAnswers (questions v.jobs) v.table.now v.answers.items };
+    ghost invariant = { λ v. v.answers.items ≡ answers_to (known_of v.by) (questions v.jobs) };
 }
 
 impl<'t> Verdicts<'t> {
     ghost use Rattle.interp.specs.Question.{question_of};
-    ghost use Rattle.queue.specs.Jobs.{AreAnswers, questions};
+    ghost use Rattle.queue.specs.Early.{answer_at};
+    ghost use Rattle.queue.specs.Jobs.{answers_to, known_of, known_then, questions};
 
     /// The verdicts with these answers.
-    pub(crate) fn of(jobs: EarlyJobs<'t>, table: &'t Table, answers: Vec<bool>) -> Verdicts<'t>
-        requires each { length answers.items ≡ length jobs.spendings }
-        requires right { AreAnswers (questions jobs) table.now answers.items }
-        ensures { result ≡ record {
-          batch = jobs.entry;
-          triples = table.entry.now;
-          answers = answers.items;
-        } }
+    pub(crate) fn of(
+        jobs: EarlyJobs<'t>,
+        by: Source<'t>,
+        answers: Vec<Option<bool>>,
+    ) -> Verdicts<'t>
+        requires { answers.items ≡ answers_to (known_of by) (questions jobs) }
+        ensures { result ≡ record { batch = jobs.entry; by = by.entry } }
     {
-        Verdicts {
-            jobs,
-            table,
-            answers,
-        }
+        Verdicts { jobs, by, answers }
     }
 
-    /// Whether each job is accepted, in order.
-    pub fn answers(&self) -> &[bool]
-        ensures answers { result.now ≡ self.now.answers }
-        ensures each { length result.now ≡ length self.now.batch.spendings }
-        ensures right { AreAnswers (questions self.now.batch) self.now.triples result.now }
+    /// Whether each job is accepted, in order; none where a signature was unknown.
+    pub fn answers(&self) -> &[Option<bool>]
+        ensures { result.now ≡ answers_to (known_then self.now) (questions self.now.batch) }
     {
         self.answers.as_slice()
+    }
+
+    /// The answer at a place, if there is one.
+    pub(crate) fn answer(&self, place: usize) -> Option<bool>
+        ensures { let asked = questions self.now.batch in
+            result ≡ answer_at (answers_to (known_then self.now) asked) place }
+    {
+        *self.answers.get(place)?
     }
 
     /// Whether the verdict at a place fits a job: whether it was asked of an equal transaction, for the same input, which
     /// spends the same script, under the same rules. At a place without a verdict none fits.
     ///
-    /// Such a job isn't run again where these verdicts are passed ([`crate::first_failure_with`]).
+    /// Such a job isn't run again where these verdicts are passed ([`crate::first_failure`]), if it was answered.
     pub fn fits(&self, place: usize, job: &Job) -> bool
         ensures { IsTrue result ↔
             (slice_get (questions self.now.batch) place ≡ Some (question_of job.now)) }
@@ -80,14 +78,21 @@ impl<'t> Verdicts<'t> {
         self.jobs.fits(place, job)
     }
 
-    /// The place of a verdict that fits a job, looked for among all.
+    /// The place of an answer that fits a job, looked for among all.
     pub(crate) fn find(&self, job: &Job) -> Option<usize>
-        ensures found { IfSome result (λ at.
-            slice_get (questions self.now.batch) at ≡ Some (question_of job.now)) }
-        ensures none { IfNone result ((at : ℕ) →
-            ¬ (slice_get (questions self.now.batch) at ≡ Some (question_of job.now))) }
+        ensures found { IfSome result (λ at. let asked = questions self.now.batch in
+            (slice_get asked at ≡ Some (question_of job.now)) ×
+            IsSome (answer_at (answers_to (known_then self.now) asked) at)) }
+        ensures none { IfNone result ((at : ℕ) → let asked = questions self.now.batch in
+            slice_get asked at ≡ Some (question_of job.now) →
+            ¬ IsSome (answer_at (answers_to (known_then self.now) asked) at)) }
     {
-        self.jobs.find(job)
+        for at in 0..self.jobs.len() {
+            if self.answer(at).is_some() && self.jobs.fits(at, job) {
+                return Some(at);
+            }
+        }
+        None
     }
 
     /// What they answer.

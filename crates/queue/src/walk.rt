@@ -2,12 +2,13 @@
 
 ghost use Rattle.std.specs.Prelude.{◌≡◌, ◌<◌, IfOk, IfSome};
 ghost use Rattle.queue.specs.Telling.{NoneRefused};
-ghost use Rattle.queue.specs.Ahead.{AreOf, answer_of};
+ghost use Rattle.queue.specs.Ahead.{AreAccepted, AreOf, answer_of};
 ghost use Rattle.queue.specs.inside.Walking.{AreRight, Walked};
 
 use crate::checks::Places;
+use crate::found::Seen;
 use crate::gate::Gate;
-use crate::verdict::{Seen, Verdict};
+use crate::verdict::Verdict;
 use crate::workers::run;
 use curve::KeptTriple;
 use std::alloc::Global;
@@ -26,17 +27,19 @@ pub struct Walk {
 pub fn go_through<G: Gate, C: Places>(
     alloc: Global,
     list: &C,
+    accepted: &[bool],
     slots: Vec<Option<Verdict>>,
     gate: &G,
 ) -> Result<Walk, Memory>
-    requires { AreRight (C.verdict list.now) slots.items }
+    requires accepted { AreAccepted (C.verdict list.now) accepted.now }
+    requires slots { AreRight (C.verdict list.now) slots.items }
     ensures { IfOk result (λ walk.
         Walked (C.count list.now) (C.verdict list.now) walk.end walk.wants.items) }
 {
     let mut slots = slots;
     let mut wants = Vec::new(alloc);
     for place in 0..list.count_places() {
-        match verdict(alloc, list, &mut slots, place, gate)? {
+        match verdict(alloc, list, accepted, &mut slots, place, gate)? {
             Verdict::Yes => {}
             Verdict::No => return Ok(Walk { end: place, wants }),
             Verdict::Wants(triple) => wants.push(Box::into_inner(triple))?,
@@ -52,6 +55,7 @@ pub fn go_through<G: Gate, C: Places>(
 fn verdict<G: Gate, C: Places>(
     alloc: Global,
     list: &C,
+    accepted: &[bool],
     slots: &mut Vec<Option<Verdict>>,
     place: usize,
     gate: &G,
@@ -59,12 +63,16 @@ fn verdict<G: Gate, C: Places>(
     requires place { place < C.count list.now }
     // Behind a refused place none is run.
     requires before { NoneRefused (C.count list.now) (C.verdict list.now) place }
+    requires accepted { AreAccepted (C.verdict list.now) accepted.now }
     requires slots { AreRight (C.verdict list.now) slots.old.items }
     ensures verdict { IfOk result (λ v. C.verdict list.now place ≡ answer_of v) }
     ensures slots { AreRight (C.verdict list.now) slots.new.items }
 {
     if let Some(answer) = list.known(place) {
         return Ok(if answer { Verdict::Yes } else { Verdict::No });
+    }
+    if let Some(true) = accepted.get(place) {
+        return Ok(Verdict::Yes);
     }
     if let Some(verdict) = take(list, slots, place) {
         return Ok(verdict);

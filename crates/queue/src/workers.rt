@@ -2,12 +2,13 @@
 //! above a refused one.
 
 ghost use Rattle.std.specs.Prelude.{◌≡◌, ◌<◌, ◌≤◌, IfOk, None, OnOk};
-ghost use Rattle.queue.specs.Ahead.{AreOf, answer_of};
+ghost use Rattle.queue.specs.Ahead.{IsRight, answer_of};
 
 use crate::checks::Places;
 use crate::claimed_places::{begin_of, claims_in};
+use crate::found::{Found, add, no_marks};
 use crate::gate::Gate;
-use crate::verdict::{Seen, Verdict};
+use crate::verdict::Verdict;
 use std::alloc::Global;
 use std::sync::atomic::AtomicU64;
 use std::sync::atomic::Ordering::SeqCst;
@@ -27,11 +28,11 @@ pub fn work<G: Gate, C: Places>(
     list: &C,
     words: &Words,
     gate: &G,
-) -> Result<Vec<Seen>, Memory>
-    ensures { IfOk result (λ seen. AreOf (C.verdict list.now) seen.items) }
+) -> Result<Found, Memory>
+    ensures { IfOk result (IsRight (C.verdict list.now)) }
 {
-    let mut seen = Vec::new(alloc);
     let count = list.count_places();
+    let mut found = no_marks(alloc, list)?;
     for _ in 0..claims_in(count) {
         let claim = words.claimed.fetch_add(1, SeqCst) as usize;
         // Its later claims are above it too.
@@ -40,9 +41,9 @@ pub fn work<G: Gate, C: Places>(
         }
         let begin = begin_of(count, claim);
         let end = begin_of(count, claim + 1);
-        work_between(alloc, list, words, &mut seen, begin, end, gate)?;
+        work_between(alloc, list, words, &mut found, begin, end, gate)?;
     }
-    Ok(seen)
+    Ok(found)
 }
 
 /// Adds the verdicts on the places between two, the second not among them, that aren't known and don't lie above a
@@ -51,14 +52,14 @@ fn work_between<G: Gate, C: Places>(
     alloc: Global,
     list: &C,
     words: &Words,
-    seen: &mut Vec<Seen>,
+    found: &mut Found,
     begin: usize,
     end: usize,
     gate: &G,
 ) -> Result<(), Memory>
-    requires found { AreOf (C.verdict list.now) seen.old.items }
+    requires found { IsRight (C.verdict list.now) found.old }
     requires places { end ≤ C.count list.now }
-    ensures { OnOk result (AreOf (C.verdict list.now) seen.new.items) }
+    ensures { OnOk result (IsRight (C.verdict list.now) found.new) }
 {
     for place in begin..end {
         let noted = words.noted.load(SeqCst) as usize;
@@ -67,7 +68,7 @@ fn work_between<G: Gate, C: Places>(
             if let Verdict::No = verdict {
                 words.noted.fetch_min(place as u64, SeqCst);
             }
-            seen.push(Seen { place, verdict })?;
+            add(list, found, place, verdict)?;
         }
     }
     Ok(())

@@ -17,7 +17,7 @@ ghost use Rattle.reference.specs.inside.Replayed.{AreAlone, blocks_in, chain_rul
 use crate::kept_block::KeptBlock;
 use block::Block;
 use coins::{Cache, CoinMap};
-use connect::{Context, Env, connect};
+use connect::{BlockWithIds, Context, Env, connect};
 use curve::Table;
 use locks::{MEDIAN_TIME_SPAN, median};
 use queue::{Alone, Open};
@@ -189,7 +189,11 @@ fn connect_next(
         early: &[],
         crew: &Alone,
     };
-    match connect(alloc, coins, context, block, &ids, &env, &Open)? {
+    let of = BlockWithIds {
+        block,
+        ids: ids.as_slice(),
+    };
+    match connect(alloc, coins, context, &of, &env, &Open)? {
         Ok(_) => Ok(None),
         Err(reason) => Ok(Some(reason)),
     }

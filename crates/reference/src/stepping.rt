@@ -54,6 +54,7 @@ pub(crate) fn step(
         Command::Invalidate(id) => Ok(Reply::Mark(invalidate(alloc, chain, old, id)?)),
         Command::Reconsider(id) => Ok(Reply::Mark(reconsider(alloc, chain, old, id)?)),
         Command::Precious(id) => Ok(Reply::Mark(prefer(alloc, chain, old, id)?)),
+        Command::Learn(_, _) => Ok(Reply::Mark(MarkReply::Done)),
     }
 }
 

@@ -28,6 +28,7 @@ request_of (command.Submit bytes now) = option_map (Submit now) (block_of_bytes 
 request_of (command.Invalidate id) = Some (Invalidate id)
 request_of (command.Reconsider id) = Some (Reconsider id)
 request_of (command.Precious id) = Some (Precious id)
+request_of (command.Learn triple valid) = None
 
 module _ (c : CoreState) (triples : Triples) where
   -- on the branch of a candidate, and not on the active one

@@ -7,11 +7,12 @@ use Rattle.json.specs.Json.{Members, no_members}
 use Rattle.json.specs.Token.{Token}
 use Rattle.json.specs.Tree.{items_tokens}
 use Rattle.json.specs.Written.{Written}
+use Rattle.curve.specs.Triple.{Triple}
 use Rattle.tree.specs.declared.tip.Tip.{Tip}
-use Rattle.serving.specs.Answers.{Adds, members, now_of, coin_items, tip_items, step_items}
+use Rattle.serving.specs.Answers.{Adds, members, now_of, coin_items, line_items, tip_items, step_items}
 use Rattle.serving.specs.declared.answer.CoinAt.{CoinAt}
 use Rattle.serving.specs.declared.answer.Step.{Step}
-use Rattle.serving.specs.inside.Front.{coin_tokens, tip_tokens, step_tokens}
+use Rattle.serving.specs.inside.Front.{coin_tokens, line_tokens, tip_tokens, step_tokens}
 
 pub then : {E : Type 0} {u : Unit {0}} {r : Result (Unit {0}) E} {a b c : Written} {ts us : List Token}
     → Adds {E = E} (Ok u) a b ts → Adds r b c us → Adds r a c (ts ++ us)
@@ -50,3 +51,13 @@ all_coins (c ∷ cs) =
 
 pub coins_closed : (coins : List CoinAt) → flat_map coin_tokens coins ++ Token.end_array ∷ [] ≡ items_tokens (coin_items coins) ++ []
 coins_closed coins = all_coins coins ∙ sym (append-nil (items_tokens (coin_items coins)))
+
+all_lines : (ts : List Triple) → flat_map line_tokens ts ++ Token.end_array ∷ [] ≡ items_tokens (line_items ts)
+all_lines [] = refl
+all_lines (t ∷ ts) =
+    append_assoc (line_tokens t) (flat_map line_tokens ts) (Token.end_array ∷ []) ∙ ap (λ rest. line_tokens t ++ rest) (all_lines ts)
+
+pub wants_closed : (ts : List Triple) → (flat_map line_tokens ts ++ Token.end_array ∷ []) ++ Token.end_object ∷ []
+    ≡ (items_tokens (line_items ts) ++ Token.end_object ∷ []) ++ []
+wants_closed ts =
+    ap (λ lines. lines ++ Token.end_object ∷ []) (all_lines ts) ∙ sym (append-nil (items_tokens (line_items ts) ++ Token.end_object ∷ []))

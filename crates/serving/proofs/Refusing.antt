@@ -1,13 +1,17 @@
 -- Which calls a method doesn't mean.
-use Rattle.std.specs.Prelude.{ℕ, List, codes, true, Option, None, Some, option_map, Result, Ok, Err, IfOk, IfErr, ⊤}
+use Rattle.std.specs.Prelude.{ℕ, List, ◌∷◌, ◌++◌, ◌<◌, length, codes, true, Option, None, Some, option_map, option_and_then, Result, Ok, Err, IfOk, IfErr, ⊤}
 use Rattle.std.specs.Option.{is_some}
 use Rattle.std.specs.Result.{result_ok}
-use Rattle.std.proofs.Common.{◌≡◌, sym, subst, inr}
+use Rattle.std.specs.List.{All}
+use Rattle.std.proofs.Common.{◌≡◌, sym, subst, inr, arith}
+use Rattle.std.proofs.Math.Seq.{get_or-append_seam}
+use Rattle.std.proofs.lemmas.List.{length-append}
 use Rattle.json.specs.Json.{Json}
 use Rattle.hash.specs.declared.id.Id.{Id}
 use Rattle.txn.specs.declared.outpoint.OutPoint.{OutPoint}
-use Rattle.json.specs.Find.{get}
-use Rattle.serving.specs.Requests.{param, IsNumber, IsSeat, AreBytes, IsId, IsAbove, AreOutPoint, IsCall, IsRequest, IsAsked, IsInTurn, method_name}
+use Rattle.curve.specs.Lines.{IsReadable, IsFirstBad}
+use Rattle.json.specs.Find.{get, as_str}
+use Rattle.serving.specs.Requests.{param, IsNumber, IsSeat, AreBytes, AreLines, IsId, IsAbove, AreOutPoint, IsCall, IsRequest, IsAsked, IsInTurn, method_name}
 use Rattle.serving.specs.declared.request.Asked.TheVariants as asked
 use Rattle.serving.specs.inside.Given.{IsParam}
 use Rattle.serving.specs.declared.method.Method.{Method}
@@ -38,6 +42,8 @@ Takes seats method.Wait p = (n : ℕ) × IsNumber (codes "after") p n
 Takes seats method.Note p = ⊤
 Takes seats method.Told p = (n : ℕ) × IsSeat seats (codes "from") p n
 Takes seats method.Journal p = ((n : ℕ) × IsNumber (codes "from") p n) × ((n : ℕ) × IsNumber (codes "to") p n)
+Takes seats method.Wants p = ⊤
+Takes seats method.Learn p = ((text : List ℕ) × AreLines (codes "valid") p text) × ((text : List ℕ) × AreLines (codes "invalid") p text)
 Takes seats method.Info p = ⊤
 Takes seats method.Finish p = ⊤
 
@@ -57,6 +63,8 @@ takes seats m p (call.Wait steps) h = subst (λ n. Takes seats n p) (sym h.0) (s
 takes seats m p call.Note h = subst (λ n. Takes seats n p) (sym h) tt
 takes seats m p (call.Told from) h = subst (λ n. Takes seats n p) (sym h.0) (from, h.1)
 takes seats m p (call.Journal from to) h = subst (λ n. Takes seats n p) (sym h.0) ((from, h.1), (to, h.3))
+takes seats m p call.Wants h = subst (λ n. Takes seats n p) (sym h) tt
+takes seats m p (call.Learn valid invalid) h = subst (λ n. Takes seats n p) (sym h.0) ((valid.items, h.1), (invalid.items, h.2))
 
 pub some-is-not-none : {A B : Type 0} (o : Option A) (f : A → B) → is_some o ≡ true → option_map f o ≡ None → ⊥
 some-is-not-none None f some none = cc
@@ -88,3 +96,20 @@ pub refused-in-turn : (seats : ℕ) (j : Json) (p : Option Json) (Other : Refusa
     → IfErr r (λ why. Other why × ((n : ℕ) → IsSeat seats (codes "seat") p n → ⊥)) → (why : Refusal) → IsInTurn seats j (asked.Refused (result_ok r) why)
 refused-in-turn seats j p Other is (Ok n) ok err why = subst (λ q. IsSeat seats (codes "seat") q n) is ok
 refused-in-turn seats j p Other is (Err e) ok err why = inr (subst (λ q. (n : ℕ) → IsSeat seats (codes "seat") q n → ⊥) is err.1)
+
+-- where a line can't be read, not all can
+pub not_all : {ls : List (List ℕ)} {n : ℕ} → IsFirstBad ls n → All IsReadable ls → ⊥
+not_all bad all =
+    let whole = bad.before ++ bad.line ∷ bad.after in
+    let within : length bad.before < length whole = omega (arith, length-append bad.before (bad.line ∷ bad.after)) in
+    bad.bad (subst IsReadable (get_or-append_seam bad.before bad.line bad.after bad.line)
+    (subst (All IsReadable) bad.place all (length bad.before) bad.line within))
+
+-- a parameter that is a text is no other text
+pub one_text : {V B : Type 0} {o : Option V} {v : V} {p : Option Json} {r : Option B} {b : B} {text : List ℕ} (view : V → Json) (now : B → List ℕ)
+    → o ≡ Some v → option_map view o ≡ p → r ≡ Some b → option_map now r ≡ as_str (view v) → option_and_then as_str p ≡ Some text → text ≡ now b
+one_text {v} {p} {text} view now found given told is h =
+    let param = subst (λ o. option_map view o ≡ p) found given in
+    let read = subst (λ o. option_and_then as_str o ≡ Some text) (sym param) h in
+    let here = subst (λ r. option_map now r ≡ as_str (view v)) told is in
+    cc

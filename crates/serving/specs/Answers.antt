@@ -9,6 +9,7 @@ use Rattle.json.specs.Tree.{json_tokens}
 use Rattle.json.specs.Print.{print}
 use Rattle.json.specs.Written.{Written}
 use Rattle.hash.specs.Id.{hex_of_id}
+use Rattle.curve.specs.Triple.{Triple}
 use Rattle.tree.specs.declared.tip.Tip.{Tip}
 use Rattle.tree.specs.declared.tip.Status.{Status}
 use Rattle.tree.specs.declared.tip.Status.TheVariants.{Active, Invalid, ValidFork, ValidHeaders}
@@ -111,6 +112,28 @@ abbrev pub coin_items : List CoinAt → Items
 coin_items [] = no_items
 coin_items (c ∷ cs) = item (object (coin_members c)) (coin_items cs)
 
+-- bytes as a word of a table's line: in hexadecimal, `-` for none
+abbrev pub word : List ℕ → List ℕ
+word [] = codes "-"
+word (b ∷ bs) = encode_lower (b ∷ bs)
+
+-- the line of a signature, as the text of a table has it: a key, the signature without its hash type, and the digest
+abbrev pub triple_line : Triple → List ℕ
+triple_line t = word t.key ++ codes " " ++ word t.signature ++ codes " " ++ encode_lower t.digest
+
+abbrev pub line_items : List Triple → Items
+line_items [] = no_items
+line_items (t ∷ ts) = item (string (triple_line t)) (line_items ts)
+
+-- the signatures of which isn't known whether they are valid
+abbrev pub wants_members : List Triple → Members
+wants_members ts =
+    member (codes "answer") (object (member (codes "wants") (array (line_items ts)) no_members)) no_members
+
+-- a signature of which the other verdict is known
+abbrev pub contradicted_members : Triple → Members
+contradicted_members t = member (codes "answer") (object (text (codes "contradicted") (triple_line t) no_members)) no_members
+
 -- what is answered beside the place
 abbrev pub answer_members : Answer → Members
 answer_members answer.Place = no_members
@@ -124,6 +147,8 @@ answer_members answer.Absent = member (codes "answer") null no_members
 answer_members (answer.Block bytes) = text (codes "answer") (encode_lower bytes.now) no_members
 answer_members (answer.Header h) = member (codes "answer") (object (header_members h)) no_members
 answer_members (answer.Coins coins) = member (codes "answer") (array (coin_items coins.now)) no_members
+answer_members (answer.Wants triples) = wants_members triples.now
+answer_members (answer.Contradicted t) = contradicted_members t.now
 
 -- the place of an answer first
 abbrev pub stamped_members : Stamped → Members

@@ -2,13 +2,14 @@
 use Rattle.std.specs.Prelude.{◌≡◌, ◌≢◌, ◌⊎◌, ◌<◌, ◌^◌, ℕ, List, length, reverse, codes, Option, Some, None, option_and_then, Ok, ⊤}
 use Rattle.std.specs.Str.{IsUtf8}
 use Rattle.std.specs.Str.Parse.{ParsesUnsigned}
-use Rattle.std.specs.List.{AllPass}
+use Rattle.std.specs.List.{All, AllPass}
 use Rattle.hex.specs.Hex.{decode_of, is_hex_digit}
 use Rattle.hex.specs.declared.error.FromHexError.{FromHexError}
 use Rattle.json.specs.Json.{Json, null, boolean, number, string, array, object, document}
 use Rattle.json.specs.Find.{get, as_str, as_number}
 use Rattle.hash.specs.declared.id.Id.{Id}
 use Rattle.txn.specs.declared.outpoint.OutPoint.{OutPoint}
+use Rattle.curve.specs.Lines.{lines, IsReadable}
 use Rattle.serving.specs.Answers.{id_json}
 use Rattle.serving.specs.declared.method.Method.{Method}
 use Rattle.serving.specs.declared.method.Method.TheVariants as method
@@ -56,6 +57,10 @@ abbrev pub AreBytes : List ℕ → Option Json → List ℕ → Type 0
 AreBytes name params bytes = (digits : List ℕ) × (option_and_then as_str (param name params) ≡ Some digits)
     × (decode_of digits ≡ Ok bytes)
 
+-- it is a text each of whose lines can be read as one of a table: a key, a signature and a digest, or a line to skip
+abbrev pub AreLines : List ℕ → Option Json → List ℕ → Type 0
+AreLines name params text = (option_and_then as_str (param name params) ≡ Some text) × All IsReadable (lines text)
+
 -- it is an id, as it is printed: 64 hexadecimal digits, which spell its bytes reversed
 abbrev pub IsId : List ℕ → Option Json → Id → Type 0
 IsId name params id = (digits : List ℕ) × (option_and_then as_str (param name params) ≡ Some digits)
@@ -90,6 +95,8 @@ method_name method.Wait = codes "wait"
 method_name method.Note = codes "note"
 method_name method.Told = codes "told"
 method_name method.Journal = codes "journal"
+method_name method.Wants = codes "wants"
+method_name method.Learn = codes "learn"
 method_name method.Info = codes "info"
 method_name method.Finish = codes "finish"
 
@@ -112,6 +119,9 @@ IsCall seats m params call.Note = m ≡ method.Note
 IsCall seats m params (call.Told from) = (m ≡ method.Told) × IsSeat seats (codes "from") params from
 IsCall seats m params (call.Journal from to) = (m ≡ method.Journal)
     × IsNumber (codes "from") params from × (0 < from) × IsNumber (codes "to") params to
+IsCall seats m params call.Wants = m ≡ method.Wants
+IsCall seats m params (call.Learn valid invalid) = (m ≡ method.Learn)
+    × AreLines (codes "valid") params valid.items × AreLines (codes "invalid") params invalid.items
 
 -- ---- requests
 

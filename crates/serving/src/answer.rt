@@ -6,10 +6,12 @@ ghost use Rattle.json.specs.Token.{key, string, boolean};
 ghost use Rattle.std.specs.List.{flat_map};
 ghost use Rattle.hex.specs.Hex.{encode_lower};
 ghost use Rattle.json.specs.Json.{no_members};
-ghost use Rattle.serving.specs.Answers.{Adds, answer_members, coin_members, header_members, tip_members, output_members, step_members, info_members, members, now_of, status_name};
-ghost use Rattle.serving.specs.inside.Front.{coin_tokens, tip_tokens, step_tokens};
+ghost use Rattle.serving.specs.Answers.{Adds, answer_members, coin_members, header_members, tip_members, output_members, step_members, info_members, members, now_of, status_name, wants_members, contradicted_members};
+ghost use Rattle.serving.specs.inside.Front.{coin_tokens, line_tokens, tip_tokens, step_tokens};
 
 use crate::object::Object;
+use crate::triple_line::triple_line;
+use curve::KeptTriple;
 use hash::Id;
 use std::alloc::{AllocError, Global};
 use tree::{Status, Tip};
@@ -38,6 +40,10 @@ pub enum Answer<'a> {
     Block(&'a [u8]),
     Header(Header<'a>),
     Coins(&'a [CoinAt<'a>]),
+    /// No step was taken: of these signatures isn't known whether they are valid.
+    Wants(&'a [KeptTriple]),
+    /// Of this signature the other verdict is known. Those told before it stand, and none behind it was told.
+    Contradicted(&'a KeptTriple),
 }
 
 /// An output that isn't spent. Its value is in satoshis.
@@ -139,6 +145,8 @@ impl Object {
                 self.coins(alloc, coins)?;
                 self.end_list()
             }
+            Answer::Wants(triples) => self.wants(alloc, triples),
+            Answer::Contradicted(triple) => self.contradicted(alloc, triple),
         }
     }
 
@@ -193,6 +201,41 @@ impl Object {
         self.item()?;
         self.coin(alloc, coin)?;
         self.end()
+    }
+
+    /// Signatures that aren't known.
+    fn wants(&mut self, alloc: Global, triples: &[KeptTriple]) -> Result<(), AllocError>
+        ensures { Adds result self.old self.new (members (wants_members triples.now)) }
+    {
+        self.begin("answer")?;
+        self.begin_list("wants")?;
+        self.triples(alloc, triples)?;
+        self.end_list()?;
+        self.end()
+    }
+
+    /// A signature of which the other verdict is known.
+    fn contradicted(&mut self, alloc: Global, triple: &KeptTriple) -> Result<(), AllocError>
+        ensures { Adds result self.old self.new (members (contradicted_members triple.now)) }
+    {
+        self.begin("answer")?;
+        self.text("contradicted", triple_line(alloc, triple)?.as_str())?;
+        self.end()
+    }
+
+    fn triples(&mut self, alloc: Global, triples: &[KeptTriple]) -> Result<(), AllocError>
+        ensures { Adds result self.old self.new (flat_map line_tokens triples.now) }
+    {
+        for triple in triples {
+            self.triple(alloc, triple)?;
+        }
+        Ok(())
+    }
+
+    fn triple(&mut self, alloc: Global, triple: &KeptTriple) -> Result<(), AllocError>
+        ensures { Adds result self.old self.new (line_tokens triple.now) }
+    {
+        self.text_item(triple_line(alloc, triple)?.as_str())
     }
 
     /// The members of a coin with its outpoint.

@@ -10,6 +10,7 @@ mod params;
 mod refusal;
 mod request;
 mod request_id;
+mod triple_line;
 
 pub use answer::{Answer, CoinAt, Header, Info, Output, Stamped, Step, status_word};
 pub use line::{answer_line, info_line, refusal_line};
@@ -19,3 +20,4 @@ pub use object::Object;
 pub use refusal::Refusal;
 pub use request::{Asked, Call, Request, read_request};
 pub use request_id::RequestId;
+pub use triple_line::read_triple;

@@ -22,6 +22,8 @@ pub enum Method {
     Note,
     Told,
     Journal,
+    Wants,
+    Learn,
     Info,
     Finish,
 }
@@ -48,6 +50,8 @@ impl Method {
             "note" => Method::Note,
             "told" => Method::Told,
             "journal" => Method::Journal,
+            "wants" => Method::Wants,
+            "learn" => Method::Learn,
             "info" => Method::Info,
             "finish" => Method::Finish,
             _ => return None,

@@ -115,6 +115,13 @@ impl Object {
         self.writer.begin_object()
     }
 
+    /// An item of a list that is a text.
+    pub(crate) fn text_item(&mut self, value: &str) -> Result<(), AllocError>
+        ensures { Adds result self.old self.new (string value.now ∷ []) }
+    {
+        self.writer.string(value)
+    }
+
     pub fn end_list(&mut self) -> Result<(), AllocError>
         ensures { Adds result self.old self.new (end_array ∷ []) }
     {

@@ -4,11 +4,12 @@ ghost use Rattle.std.specs.Prelude.{◌≡◌, ◌⊎◌, ℕ, List, Option, opt
 ghost use Rattle.json.specs.Value.{value_view};
 ghost use Rattle.hash.specs.declared.id.Id.{Id as AnyId};
 ghost use Rattle.txn.specs.declared.outpoint.OutPoint.{OutPoint as AnyOutPoint};
-ghost use Rattle.serving.specs.Requests.{param, IsNumber, IsSeat, IsId, IsAbove, AreBytes, AreOutPoint};
+ghost use Rattle.serving.specs.Requests.{param, IsNumber, IsSeat, IsId, IsAbove, AreBytes, AreLines, AreOutPoint};
 ghost use Rattle.serving.specs.inside.Given.{given, IsParam};
 ghost use Rattle.serving.specs.declared.refusal.Refusal.TheVariants as refusals;
 
 use crate::refusal::Refusal;
+use curve::{Table, TableFault};
 use hash::Id;
 use hex::FromHexError;
 use json::Value;
@@ -75,6 +76,25 @@ impl<'p, 'l> Params<'p, 'l> {
             Ok(bytes) => Ok(bytes),
             Err(FromHexError::OutOfMemory) => Err(Refusal::Memory),
             Err(_) => Err(Refusal::Param(name)),
+        }
+    }
+
+    /// A text each of whose lines can be read as one of a table.
+    pub(crate) fn lines(&self, alloc: Global, name: &'static str) -> Result<Vec<u8>, Refusal>
+        ensures ok { IfOk result (λ text. AreLines name.now (given self.now) text.items) }
+        ensures err { IfErr result (λ why. (why ≡ refusals.Memory)
+            ⊎ ((why ≡ refusals.Param name.entry)
+            × ((text : List ℕ) → ¬ AreLines name.now (given self.now) text))) }
+    {
+        let found = self.get(name).ok_or(Refusal::Param(name))?;
+        let text = found.as_str().ok_or(Refusal::Param(name))?;
+        match Table::from_lines(alloc, text.as_bytes()) {
+            Ok(_) => match Vec::from_slice(alloc, text.as_bytes()) {
+                Ok(bytes) => Ok(bytes),
+                Err(_) => Err(Refusal::Memory),
+            },
+            Err(TableFault::Memory) => Err(Refusal::Memory),
+            Err(TableFault::BadLine(_)) => Err(Refusal::Param(name)),
         }
     }
 

@@ -63,6 +63,10 @@ pub enum Call {
     Told(usize),
     /// The entries between these numbers, both included, from 1.
     Journal(u64, u64),
+    /// The signatures that the seat's last refused call wants.
+    Wants,
+    /// To take down which signatures are valid, by the lines of a table, and which aren't.
+    Learn(Vec<u8>, Vec<u8>),
 }
 
 /// What a line asks of a node with so many seats.
@@ -178,6 +182,8 @@ fn call_of(
         Method::Note => Ok(Call::Note),
         Method::Told => told(params, seats),
         Method::Journal => entries(params),
+        Method::Wants => Ok(Call::Wants),
+        Method::Learn => verdicts(alloc, params),
         Method::Info | Method::Finish => Err(Refusal::Param("seat")),
     }
 }
@@ -291,5 +297,20 @@ fn entries(params: &Params<'_, '_>) -> Result<Call, Refusal>
         (Ok(from), Ok(to)) => Ok(Call::Journal(from, to)),
         (Err(refusal), _) => Err(refusal),
         (_, Err(refusal)) => Err(refusal),
+    }
+}
+
+fn verdicts(alloc: Global, params: &Params<'_, '_>) -> Result<Call, Refusal>
+    ensures ok { (seats : ℕ) → IfOk result (λ call.
+        IsCall seats methods.Learn (given params.now) call) }
+    ensures err { (seats : ℕ) → IfErr result (λ why.
+        IsNoCall seats methods.Learn (given params.now) why) }
+{
+    match params.lines(alloc, "valid") {
+        Ok(valid) => match params.lines(alloc, "invalid") {
+            Ok(invalid) => Ok(Call::Learn(valid, invalid)),
+            Err(refusal) => Err(refusal),
+        },
+        Err(refusal) => Err(refusal),
     }
 }

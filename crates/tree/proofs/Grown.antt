@@ -1,33 +1,32 @@
 -- A tree to which a block is added is right.
-use Rattle.std.proofs.Common.{◌≡◌, ℕ, suc, ◌-◌, ◌<◌, ◌≤◌, Bool, false, cond, ltb, List, [], ◌∷◌, ◌++◌, length, reverse, get_or, None, Some, sym, refl, ap, ◌∙◌, subst, inl, inr, arith}
-use Rattle.std.proofs.Math.ListN.{set, get_or-append}
+use Rattle.std.proofs.Common.{◌≡◌, ℕ, suc, ◌-◌, ◌<◌, ◌≤◌, Bool, true, false, cond, eqb, List, [], ◌∷◌, ◌++◌, length, reverse, get_or, None, Some, sym, refl, ap, ◌∙◌, subst, inl, inr, arith}
+use Rattle.std.proofs.Math.ListN.{get_or-append}
 use Rattle.std.proofs.Math.Seq.{get_or-append_seam}
 use Rattle.std.proofs.lemmas.Bool.{cases_eq}
 use Rattle.std.proofs.lemmas.List.{length-append}
-use Rattle.std.specs.List.{filter}
+use Rattle.std.specs.List.{filter, list_any, IsDistinct}
+use Rattle.std.specs.Prelude.{nat_eq}
 use Rattle.std.specs.Map.{lookup}
-use Rattle.std.specs.BTreeMap.{is_at}
-use Rattle.std.specs.Ordering.{eq_by_cmp}
+use Rattle.std.specs.Cmp.Lexicographic.{texts_ties}
 use Rattle.hash.specs.declared.id.Id.{Id}
 use Rattle.block.specs.declared.block.Block.{Block}
 use Rattle.block.specs.Identity.{id_of}
 use Rattle.tree.specs.declared.node.Node.{Node}
 use Rattle.tree.specs.declared.node.Mark.{Mark}
 use Rattle.tree.specs.Branches.{Kept, Blocks, has, place_of, down_from}
-use Rattle.tree.specs.Sound.{IsFresh}
 use Rattle.tree.specs.State.{State, has_no_mark, rank, with_block}
 use Rattle.tree.specs.Limits.{max_blocks}
 use Rattle.tree.specs.MedianTime.{median_time_past}
-use Rattle.hash.specs.Id.{id_cmp}
+use Rattle.hash.specs.Id.{same_id}
 use Rattle.tree.specs.Names.{names}
 use Rattle.tree.specs.Nodes.{IsMark, kept_of, blocks_of, blank, mark_at, places_where, state_of}
 use Rattle.tree.specs.inside.Nodes.{IsNode, IsRight, AreNodes, AreIds}
-use Rattle.tree.specs.inside.Slots.{AreInOrder, slot_of, leaves_of}
+use Rattle.tree.specs.inside.Leaves.{AreInOrder, AreLeaves}
 use Rattle.tree.specs.laws.Sets.{filter_agree}
 use Rattle.tree.specs.laws.Branches.{parent_there, height_there}
 use Rattle.tree.specs.laws.Added.{block_there, id_there, id_here, blocks-old, usable_there, usable_new}
 use Rattle.tree.specs.laws.Ranks.{rank-none}
-use Rattle.tree.specs.laws.Slots.{slot_there, leaves_grown}
+use Rattle.tree.specs.laws.Leaves.{leaves_grown}
 use Rattle.tree.proofs.Views.{kept, length-blocks, blocks-push, has_where-above}
 use Rattle.tree.proofs.Changes.{made, bad-view, seen-view, precious-view}
 
@@ -38,7 +37,6 @@ node_there t k p n h is = record {
   parent = is.parent ∙ sym (parent_there k t p h);
   height = is.height ∙ sym (height_there k t p h);
   median = is.median ∙ ap median_time_past (sym (blocks-old names k t p h));
-  slot = is.slot ∙ sym (slot_there k t p h);
 }
 
 -- a mark without flags adds no place
@@ -122,32 +120,25 @@ module _ {ns : List Node} {ms : List Mark} {cs : List ℕ} {is : List (Id × ℕ
         ]
 
     ids_grown : (id : Id) (new : List (Id × ℕ)) → id ≡ id_of n.block.header
-        → ((i : Id) → lookup (is_at (id_cmp i)) new ≡ cond (eq_by_cmp id_cmp id i) (Some (length ns)) (lookup (is_at (id_cmp i)) is)) → AreIds (k ∷ t) new
+        → ((i : Id) → lookup (same_id i) new ≡ cond (same_id id i) (Some (length ns)) (lookup (same_id i) is)) → AreIds (k ∷ t) new
     unfolding place_of
     ids_grown id new e f i =
-        f i ∙ ap (λ (x : Id). cond (eq_by_cmp id_cmp x i) (Some (length ns)) (lookup (is_at (id_cmp i)) is)) e
-        ∙ ap (λ (x : ℕ). cond (eq_by_cmp id_cmp (id_of n.block.header) i) (Some x) (lookup (is_at (id_cmp i)) is)) (sym long)
-        ∙ ap (cond (eq_by_cmp id_cmp (id_of n.block.header) i) (Some (suc (length t)))) (right.are_ids i)
-
-    -- the list of leaves
-    list_grown : ◌≡◌ {A = List ℕ} (cond (ltb n.slot (length ls)) (set ls n.slot (length ns)) (ls ++ length ns ∷ [])) (leaves_of (kept_of n ∷ blocks_of ns))
-    list_grown =
-        ap (λ (l : List ℕ). cond (ltb n.slot (length l)) (set l n.slot (length ns)) (l ++ length ns ∷ [])) right.are_leaves
-        ∙ ap (λ (i : ℕ). cond (ltb i (length (leaves_of t))) (set (leaves_of t) i (length ns)) (leaves_of t ++ length ns ∷ [])) node.slot
-        ∙ ap (λ (x : ℕ). cond (ltb (slot_of (k ∷ t) x) (length (leaves_of t))) (set (leaves_of t) (slot_of (k ∷ t) x) x) (leaves_of t ++ x ∷ [])) (sym long)
-        ∙ leaves_grown k t
+        f i ∙ ap (λ (b : Bool). cond b (Some (length ns)) (lookup (same_id i) is)) (texts_ties id.0 i.0 ∙ ap (λ (x : Id). names.same_id x i) e)
+        ∙ ap (λ (x : ℕ). cond (names.same_id (id_of n.block.header) i) (Some x) (lookup (same_id i) is)) (sym long)
+        ∙ ap (cond (names.same_id (id_of n.block.header) i) (Some (suc (length t)))) (right.are_ids i)
 
     -- the whole
     pub right_grown : (id : Id) (new-ids : List (Id × ℕ)) (new-leaves : List ℕ) → id ≡ id_of n.block.header
-        → ((i : Id) → lookup (is_at (id_cmp i)) new-ids ≡ cond (eq_by_cmp id_cmp id i) (Some (length ns)) (lookup (is_at (id_cmp i)) is))
-        → ◌≡◌ {A = List ℕ} new-leaves (cond (ltb n.slot (length ls)) (set ls n.slot (length ns)) (ls ++ length ns ∷ []))
+        → ((i : Id) → lookup (same_id i) new-ids ≡ cond (same_id id i) (Some (length ns)) (lookup (same_id i) is))
+        → IsDistinct nat_eq new-leaves → ((p : ℕ) → list_any (nat_eq p) new-leaves ≡ cond (eqb (length ns) p) true (cond (eqb n.parent p) false (list_any (nat_eq p) ls)))
         → IsRight (ns ++ n ∷ []) (ms ++ m ∷ []) cs new-ids new-leaves
-    right_grown id new-ids new-leaves e f g =
+    right_grown id new-ids new-leaves e f once g =
         let l = length-append ns (n ∷ []) in
         let j = length-append ms (m ∷ []) in
         let same = right.same in
         let z = right.some in
         let push = blocks-push ns n right.some in
+        let order : AreInOrder (kept_of n ∷ blocks_of ns) = ((let q = parent in let g = long in omega arith), right.in_order) in
         record {
           some = omega arith;
           room = let r = room in omega arith;
@@ -156,22 +147,7 @@ module _ {ns : List Node} {ms : List Mark} {cs : List ℕ} {is : List (Id × ℕ
           are_marks = λ p h. subst (λ (u : State Block). IsMark u p (mark_at (ms ++ m ∷ []) p)) (sym (state_grown bad seen)) (marks_grown p h);
           genesis = ap (λ x. x.bad) (get_or-append ms (m ∷ []) blank 0 (omega arith)) ∙ right.genesis;
           are_calls = λ p h. right.are_calls p (omega arith);
-          in_order = subst AreInOrder (sym push) ((let q = parent in let g = long in omega arith), right.in_order);
+          in_order = subst AreInOrder (sym push) order;
           are_ids = subst (λ (u : Blocks Block). AreIds u new-ids) (sym push) (ids_grown id new-ids e f);
-          are_leaves = g ∙ list_grown ∙ ap (λ (u : Blocks Block). leaves_of u) (sym push);
+          are_leaves = subst (λ (u : Blocks Block). AreLeaves u new-leaves) (sym push) (leaves_grown k t ls new-leaves order right.are_leaves once (λ p. g p ∙ ap (λ (x : ℕ). cond (eqb x p) true (cond (eqb n.parent p) false (list_any (nat_eq p) ls))) (sym long)));
         }
-
--- a new block is fresh if its id is
-pub fresh_grown : {ns : List Node} {ms : List Mark} {cs : List ℕ} {is : List (Id × ℕ)} {ls : List ℕ} (right : IsRight ns ms cs is ls) {s : State Block} (view : state_of ns ms cs ≡ s) (b : Block) (p : ℕ)
-    → place_of names s.blocks (id_of b.header) ≡ None → IsFresh names (with_block s b p)
-fresh_grown {ns} {ms} {cs} right {s} view b p e =
-    let k = kept right view in
-    let l = right.same in
-    let z = right.some in
-    record {
-      some = omega arith;
-      id = ap (place_of names s.blocks) (id_here names (record { block = b; parent = p }) s.blocks) ∙ e;
-      bad = ap (λ (x : List ℕ). has x (suc (length s.blocks))) (sym (bad-view ns ms cs view)) ∙ has_where-above (λ x. x.bad) ms (suc (length s.blocks)) (omega arith) (omega arith);
-      seen = ap (λ (x : List ℕ). has x (suc (length s.blocks))) (sym (seen-view ns ms cs view)) ∙ has_where-above (λ x. x.seen) ms (suc (length s.blocks)) (omega arith) (omega arith);
-      precious = ap (λ (x : List ℕ). has x (suc (length s.blocks))) (sym (precious-view ns ms cs view)) ∙ right.are_calls (suc (length s.blocks)) (omega arith);
-    }

@@ -1,4 +1,3 @@
-mod Back
 mod Changes
 mod Cleared
 mod Grown

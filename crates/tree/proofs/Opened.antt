@@ -1,20 +1,20 @@
 -- The tree of genesis alone is right.
-use Rattle.std.proofs.Common.{◌≡◌, ℕ, cond, List, [], ◌∷◌, get_or, Option, None, Some, sym, refl, subst, arith}
+use Rattle.std.proofs.Common.{◌≡◌, ℕ, cond, List, [], ◌∷◌, get_or, Option, None, Some, sym, refl, ap, ◌∙◌, subst, arith}
 use Rattle.std.specs.Map.{lookup}
-use Rattle.std.specs.BTreeMap.{is_at}
-use Rattle.std.specs.Ordering.{eq_by_cmp}
+use Rattle.std.specs.Cmp.Lexicographic.{texts_ties}
 use Rattle.locks.specs.MedianTime.{median_of, is_middle}
 use Rattle.hash.specs.declared.id.Id.{Id}
+use Rattle.block.specs.declared.block.Block.{Block}
 use Rattle.tree.specs.declared.node.Node.{Node}
 use Rattle.tree.specs.declared.node.Mark.{Mark}
 use Rattle.tree.specs.Branches.{down_from, branch, before, height, parent_at, block_at, id_at, place_of}
 use Rattle.tree.specs.State.{opening, has_no_mark, rank, rank_in}
 use Rattle.tree.specs.MedianTime.{median_time_past}
-use Rattle.hash.specs.Id.{id_cmp}
+use Rattle.hash.specs.Id.{same_id}
 use Rattle.tree.specs.Names.{names}
 use Rattle.tree.specs.Nodes.{IsMark, blocks_of, mark_at, places_where, state_of}
 use Rattle.tree.specs.inside.Nodes.{IsNode, IsRight, first_node, first_mark}
-use Rattle.tree.specs.inside.Slots.{slot_of, leaves_of}
+use Rattle.tree.specs.inside.Leaves.{AreLeaves}
 
 abbrev nodes : List Node
 nodes = first_node ∷ []
@@ -27,16 +27,16 @@ unfolding state_of blocks_of places_where down_from
 opened = refl
 
 node_zero : IsNode [] 0 first_node
-unfolding branch before height parent_at block_at id_at median_time_past median_of is_middle slot_of
-node_zero = record { block = refl; id = refl; parent = refl; height = refl; median = refl; slot = refl }
+unfolding branch before height parent_at block_at id_at median_time_past median_of is_middle
+node_zero = record { block = refl; id = refl; parent = refl; height = refl; median = refl }
 
 mark_zero : IsMark opening 0 first_mark
 unfolding has_no_mark branch rank rank_in
 mark_zero = record { usable = refl; rank = refl }
 
-pub right_opened : (ids : List (Id × ℕ)) (leaves : List ℕ) → ((i : Id) → lookup (is_at (id_cmp i)) ids ≡ cond {A = Option ℕ} (eq_by_cmp id_cmp names.genesis_id i) (Some 0) None)
-    → ◌≡◌ {A = List ℕ} leaves (0 ∷ []) → IsRight nodes marks [] ids leaves
-unfolding place_of blocks_of leaves_of
+pub right_opened : (ids : List (Id × ℕ)) (leaves : List ℕ) → ((i : Id) → lookup (same_id i) ids ≡ cond {A = Option ℕ} (same_id names.genesis_id i) (Some 0) None)
+    → AreLeaves {B = Block} [] leaves → IsRight nodes marks [] ids leaves
+unfolding place_of blocks_of
 right_opened ids leaves f g = record {
   some = omega arith;
   room = omega arith;
@@ -46,7 +46,7 @@ right_opened ids leaves f g = record {
   genesis = refl;
   are_calls = λ p h. refl;
   in_order = tt;
-  are_ids = f;
+  are_ids = λ i. f i ∙ ap (λ b. cond {A = Option ℕ} b (Some 0) None) (texts_ties names.genesis_id.0 i.0);
   are_leaves = g;
 }
   where

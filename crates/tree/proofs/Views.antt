@@ -1,8 +1,6 @@
 -- What is seen of a tree that is right.
 use Rattle.std.proofs.Common.{◌≡◌, ℕ, suc, ◌+◌, ◌-◌, ◌<◌, ◌≤◌, Bool, true, List, [], ◌∷◌, ◌++◌, length, map, reverse, get_or, sym, refl, ap, ◌∙◌, subst, arith, Option}
 use Rattle.std.proofs.lemmas.List.{length-reverse, length-map, reverse-append, map-append, get_or_default}
-use Rattle.std.specs.Map.{lookup}
-use Rattle.std.specs.BTreeMap.{is_at}
 use Rattle.hash.specs.declared.id.Id.{Id}
 use Rattle.block.specs.declared.block.Block.{Block}
 use Rattle.tree.specs.declared.node.Node.{Node}
@@ -11,7 +9,7 @@ use Rattle.tree.specs.Branches.{Blocks, has, down_from}
 use Rattle.tree.specs.State.{State, has_no_mark, rank, union_where}
 use Rattle.tree.specs.Nodes.{kept_of, blocks_of, blank, mark_at, places_where, state_of}
 use Rattle.tree.specs.inside.Nodes.{IsNode, IsRight, AreIds}
-use Rattle.tree.specs.inside.Slots.{AreInOrder, leaves_of}
+use Rattle.tree.specs.inside.Leaves.{AreLeaves}
 use Rattle.tree.specs.laws.Sets.{has-filter, filter_agree, has_filter-above}
 
 -- ---- the nodes as blocks
@@ -96,10 +94,6 @@ module _ {ns : List Node} {ms : List Mark} {cs : List ℕ} {is : List (Id × ℕ
   unfolding state_of
   ids_are = subst (λ (t : State Block). AreIds t.blocks is) view right.are_ids
 
-  pub order_at : AreInOrder s.blocks
+  pub leaves_at : AreLeaves s.blocks ls
   unfolding state_of
-  order_at = subst (λ (t : State Block). AreInOrder t.blocks) view right.in_order
-
-  pub leaves_at : ◌≡◌ {A = List ℕ} ls (leaves_of s.blocks)
-  unfolding state_of
-  leaves_at = right.are_leaves ∙ ap (λ (t : State Block). leaves_of t.blocks) view
+  leaves_at = subst (λ (t : State Block). AreLeaves t.blocks ls) view right.are_leaves

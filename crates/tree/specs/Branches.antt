@@ -31,11 +31,6 @@ abbrev pub has : List ℕ → ℕ → Bool
 has set x = list_any (λ y. y == x) set
 
 module _ {B : Type 0} where
-  -- all but the one that came last
-  abbrev pub older_of : Blocks B → Blocks B
-  older_of [] = []
-  older_of (k ∷ older) = older
-
   -- of all kept blocks, the newest first
   abbrev pub places : Blocks B → List ℕ
   places t = down_from (length t)

@@ -1,9 +1,12 @@
 -- How the program's tree is seen.
-use Rattle.std.specs.Prelude.{◌≡◌, ℕ, suc, ◌-◌, ◌≤◌, Bool, false, List, [], ◌∷◌, length, map, reverse, filter, slice_index_or}
+use Rattle.std.specs.Prelude.{◌≡◌, ℕ, suc, ◌-◌, ◌<◌, ◌≤◌, Bool, false, List, [], ◌∷◌, length, map, reverse, filter, slice_index_or}
 use Rattle.block.specs.declared.block.Block.{Block}
+use Rattle.block.specs.Identity.{id_of}
+use Rattle.tree.specs.declared.new_block.NewBlock.{NewBlock}
 use Rattle.tree.specs.declared.node.Node.{Node}
 use Rattle.tree.specs.declared.node.Mark.{Mark}
 use Rattle.tree.specs.Branches.{Kept, Blocks, down_from}
+use Rattle.tree.specs.Limits.{max_blocks}
 use Rattle.tree.specs.State.{State, has_no_mark, rank}
 
 -- the block of a node, with its parent's place
@@ -55,3 +58,9 @@ pub record AreMarks (s : State Block) (marks : List Mark) : Type 0 where
   pub count : length marks ≡ suc (length s.blocks)
   pub genesis : (mark_at marks 0).bad ≡ false
   pub right : (p : ℕ) → p ≤ length s.blocks → IsMark (laid s marks) p (mark_at marks p)
+
+-- the block may be kept: there is room for it, its id is its header's, and its parent is kept
+pub record CanKeep (s : State Block) (new : NewBlock) : Type 0 where
+  pub room : suc (length s.blocks) < max_blocks
+  pub id : new.id ≡ id_of new.block.header
+  pub parent : new.parent ≤ length s.blocks

@@ -1,7 +1,6 @@
 -- What the theorems speak of.
-use Rattle.std.specs.Prelude.{◌≡◌, ℕ, ◌<◌, ◌≤◌, Bool, true, false, ◌⊎◌, length, None}
-use Rattle.tree.specs.Naming.{Naming}
-use Rattle.tree.specs.Branches.{has, height, older_of, id_at, place_of}
+use Rattle.std.specs.Prelude.{◌≡◌, ℕ, ◌<◌, ◌≤◌, Bool, true, false, ◌⊎◌}
+use Rattle.tree.specs.Branches.{has, height}
 use Rattle.tree.specs.State.{State, rank, beats}
 
 -- of the places up to n, a passes, and it is better than all others that pass
@@ -19,11 +18,3 @@ Precedes s a b =
     × (((has s.precious a ≡ true) × (has s.precious b ≡ false))
     ⊎ (((has s.precious a ≡ true) × (has s.precious b ≡ true) × (rank s b < rank s a))
     ⊎ ((has s.precious a ≡ false) × (has s.precious b ≡ false) × (a < b)))))
-
--- no other block has the id of the one that came last, and nothing was said of that one since
-pub record IsFresh {B I : Type 0} (names : Naming B I) (s : State B) : Type 0 where
-  pub some : 0 < length s.blocks
-  pub id : place_of names (older_of s.blocks) (id_at names s.blocks (length s.blocks)) ≡ None
-  pub bad : has s.bad (length s.blocks) ≡ false
-  pub seen : has s.seen (length s.blocks) ≡ false
-  pub precious : has s.precious (length s.blocks) ≡ false

@@ -1,7 +1,7 @@
 -- The state of the tree: the kept blocks, their marks, and which of two is the better one.
 use Rattle.std.specs.Prelude.{ℕ, suc, ◌==◌, nat_lt, Bool, not, ◌&&◌, ◌||◌, if◌then◌else◌, List, [], ◌∷◌, length}
 use Rattle.std.specs.List.{list_all, filter}
-use Rattle.tree.specs.Branches.{Blocks, has, older_of, places, branch, on, height}
+use Rattle.tree.specs.Branches.{Blocks, has, places, branch, on, height}
 
 pub record State (B : Type 0) : Type 0 where
   pub blocks : Blocks B
@@ -44,10 +44,6 @@ module _ {B : Type 0} where
   -- the block is the last to arrive
   abbrev pub with_block : State B → B → ℕ → State B
   with_block s b parent = record s { blocks = record { block = b; parent = parent } ∷ s.blocks }
-
-  -- the block that came last is no longer kept
-  abbrev pub without_last : State B → State B
-  without_last s = record s { blocks = older_of s.blocks }
 
   -- these blocks are marked too, and those seen
   abbrev pub with_new_flags : State B → (ℕ → Bool) → (ℕ → Bool) → State B

@@ -1,4 +1,4 @@
 -- What private functions and invariants alone cite.
-pub mod Slots
+pub mod Leaves
 pub mod Tops
 pub mod Nodes

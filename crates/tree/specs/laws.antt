@@ -4,12 +4,12 @@ pub mod Added
 pub mod Best
 pub mod Branches
 pub mod Calls
+pub mod Leaves
 pub mod Marks
 pub mod Orders
 pub mod Parents
 pub mod Ranks
 pub mod Sets
-pub mod Slots
 pub mod Tips
 pub mod Tops
 pub mod Walks

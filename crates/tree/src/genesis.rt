@@ -15,6 +15,5 @@ pub(crate) fn genesis_node() -> Node
         parent: 0,
         height: 0,
         median: GENESIS_TIME,
-        slot: 0,
     }
 }

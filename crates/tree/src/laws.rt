@@ -3,7 +3,7 @@
 ghost use Rattle.std.specs.Prelude.{◌≡◌, ℕ, ◌≤◌, ◌<◌, ◌↔◌, ◌⊎◌, suc, true, length, List, Some};
 ghost use Rattle.block.specs.Identity.{id_of};
 ghost use Rattle.tree.specs.Branches.{Blocks, has, on, height, parent_at};
-ghost use Rattle.tree.specs.State.{State, rank_in, beats, with_call, with_block, without_last};
+ghost use Rattle.tree.specs.State.{State, rank_in, beats, with_call};
 ghost use Rattle.tree.specs.Names.{names, genesis};
 ghost use Rattle.tree.specs.Sound.{Precedes};
 ghost use Rattle.tree.specs.laws.Calls.{first_called};
@@ -43,11 +43,6 @@ pub fn the_rank_is_the_place_of_the_last_call()
 pub fn a_block_is_one_higher_than_its_parent<B>()
     ensures { (t : Blocks B) (p : ℕ) → 0 < p → p ≤ length t → (parent_at t p < p) ×
         (height t p ≡ suc (height t (parent_at t p))) × (on t p (parent_at t p) ≡ true) }
-{}
-
-/// Taking the last block back undoes adding it.
-pub fn taking_back_undoes_adding<B>()
-    ensures { (s : State B) (b : B) (p : ℕ) → without_last (with_block s b p) ≡ s }
 {}
 
 /// The id of genesis is its header's, though nobody hashes it.

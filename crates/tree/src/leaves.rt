@@ -1,35 +1,25 @@
-//! How a block is added, and taken back.
+//! How a block is added.
 
-ghost use Rattle.std.specs.Prelude.{◌≡◌, ℕ, ◌<◌, ◌-◌, ◌==◌, nat_lt, if◌then◌else◌, length, OnOk, OnErr, Some, ◌∷◌, [], ◌++◌, take, slice_index, slice_set};
-ghost use Rattle.std.specs.Map.{lookup};
-ghost use Rattle.std.specs.BTreeMap.{is_at};
-ghost use Rattle.std.specs.Ordering.{eq_by_cmp};
+ghost use Rattle.std.specs.Prelude.{◌≡◌, ℕ, ◌<◌, ◌==◌, nat_eq, if◌then◌else◌, true, false, length, OnOk, Some, ◌∷◌};
+ghost use Rattle.std.specs.HashMap.{get, spare};
+ghost use Rattle.std.specs.HashSet as set;
 ghost use Rattle.hash.specs.declared.id.Id.{Id};
 ghost use Rattle.block.specs.Identity.{id_of};
 ghost use Rattle.tree.specs.Limits.{max_blocks};
-ghost use Rattle.hash.specs.Id.{id_cmp};
+ghost use Rattle.hash.specs.Id.{same_id};
 ghost use Rattle.tree.specs.Nodes.{blocks_of, kept_of};
 ghost use Rattle.tree.specs.inside.Nodes.{AreNodes, IsNode};
-ghost use Rattle.tree.specs.inside.Slots.{AreInOrder, is_leaf, slot_of, slots, leaves_of};
 
 use crate::median_time::median_on;
 use crate::node::Node;
 use block::StoredBlock;
 use hash::Id;
-use std::collections::BTreeMap;
-use wire::Memory;
+use std::alloc::AllocError;
+use std::collections::{HashMap, HashSet};
 
 /// The node of a new block on this parent.
-pub(crate) fn node_on(
-    nodes: &[Node],
-    leaves: &[usize],
-    block: StoredBlock,
-    id: Id,
-    parent: usize,
-) -> Node
+pub(crate) fn node_on(nodes: &[Node], block: StoredBlock, id: Id, parent: usize) -> Node
     requires nodes { AreNodes (blocks_of nodes.now) nodes.now }
-    requires order { AreInOrder (blocks_of nodes.now) }
-    requires leaves { leaves.now ≡ leaves_of (blocks_of nodes.now) }
     requires kept { parent < length nodes.now }
     requires room { length nodes.now < max_blocks }
     requires id { id ≡ id_of block.header }
@@ -39,81 +29,54 @@ pub(crate) fn node_on(
 {
     let height = nodes[parent].height + 1;
     let median = median_on(nodes, parent, block.time());
-    let slot = slot_on(nodes, leaves, parent);
     Node {
         block,
         id,
         parent,
         height,
         median,
-        slot,
     }
 }
 
-/// The slot of a new block on this parent: the parent's if that is a leaf, and else a new one.
-fn slot_on(nodes: &[Node], leaves: &[usize], parent: usize) -> usize
-    requires nodes { AreNodes (blocks_of nodes.now) nodes.now }
-    requires order { AreInOrder (blocks_of nodes.now) }
-    requires leaves { leaves.now ≡ leaves_of (blocks_of nodes.now) }
-    requires kept { parent < length nodes.now }
-    ensures { let t = blocks_of nodes.now in result ≡
-        (if is_leaf t parent then slot_of t parent else slots t) }
-{
-    let slot = nodes[parent].slot;
-    if holds(leaves, slot, parent) {
-        slot
-    } else {
-        leaves.len()
-    }
-}
-
-/// Whether this block is in this slot.
-pub(crate) fn holds(leaves: &[usize], slot: usize, place: usize) -> bool
-    requires { slot < length leaves.now }
-    ensures { result ≡ (slice_index leaves.now slot == place) }
-{
-    leaves[slot] == place
-}
-
-/// Notes the id of a new block, and puts it into its slot. A refusal leaves both lists.
-pub(crate) fn enter(
-    ids: &mut BTreeMap<Id, usize>,
-    leaves: &mut Vec<usize>,
-    id: Id,
-    slot: usize,
-    place: usize,
-) -> Result<(), Memory>
-    ensures ids { OnOk result ((i : Id) → lookup (is_at (id_cmp i)) ids.new.entries ≡
-        (if eq_by_cmp id_cmp id i then Some place else lookup (is_at (id_cmp i)) ids.old.entries)) }
-    ensures leaves { OnOk result (leaves.new.items ≡
-        (if nat_lt slot (length leaves.old.items)
-        then slice_set leaves.old.items slot place
-        else leaves.old.items ++ place ∷ [])) }
-    ensures kept { OnErr result (ids.new.entries ≡ ids.old.entries) }
-    ensures same { OnErr result (leaves.new.items ≡ leaves.old.items) }
+/// Room for the id of one block more, and for one leaf more. What is kept stays.
+pub(crate) fn reserve_leaf(
+    ids: &mut HashMap<Id, usize>,
+    leaves: &mut HashSet<usize>,
+) -> Result<(), AllocError>
+    ensures ids { (i : Id) → get same_id ids.new i ≡ get same_id ids.old i }
+    ensures leaves { (p : ℕ) → set.contains nat_eq leaves.new p ≡ set.contains nat_eq leaves.old p }
+    ensures once { set.IsUnique nat_eq leaves.new }
+    ensures room { OnOk result (0 < spare ids.new) }
+    ensures room_too { OnOk result (0 < set.spare leaves.new) }
 {
     leaves.reserve(1)?;
-    ids.insert(id, place)?;
-    if slot < leaves.len() {
-        leaves[slot] = place;
-        return Ok(());
-    }
-    // There is room for it.
-    leaves.push(place)?;
-    Ok(())
+    ids.reserve(1)
 }
 
-/// Takes a block out of its slot, which goes back to its parent if that had it before.
-pub(crate) fn leave(leaves: &mut Vec<usize>, slot: usize, parent: usize, parents_slot: usize)
-    requires { slot < length leaves.old.items }
-    ensures { leaves.new.items ≡
-        (if slot == parents_slot
-        then slice_set leaves.old.items slot parent
-        else take (length leaves.old.items - 1) leaves.old.items) }
+/// Notes the id of a new block, and that it is a leaf and its parent is none. There is room for both.
+pub(crate) fn enter(
+    ids: &mut HashMap<Id, usize>,
+    leaves: &mut HashSet<usize>,
+    id: Id,
+    parent: usize,
+    place: usize,
+)
+    requires ids { 0 < spare ids.old }
+    requires leaves { 0 < set.spare leaves.old }
+    ensures ids { (i : Id) → get same_id ids.new i ≡
+        (if same_id id i then Some place else get same_id ids.old i) }
+    ensures leaves { (p : ℕ) → set.contains nat_eq leaves.new p ≡
+        (if place == p then true
+        else if parent == p then false else set.contains nat_eq leaves.old p) }
+    ensures once { set.IsUnique nat_eq leaves.new }
 {
-    if slot == parents_slot {
-        leaves[slot] = parent;
-    } else {
-        leaves.pop();
+    match ids.insert(id, place) {
+        Ok(_) => {}
+        Err(_) => unreachable!(),
+    }
+    leaves.remove(&parent);
+    match leaves.insert(place) {
+        Ok(_) => {}
+        Err(_) => unreachable!(),
     }
 }

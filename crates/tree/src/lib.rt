@@ -2,25 +2,26 @@
 #![tactic(auto)]
 
 mod branch;
-mod fault;
 mod genesis;
 mod growth;
 pub mod laws;
+mod lays;
 mod leaves;
 mod marking;
 mod marks;
 mod median_time;
+mod new_block;
 mod node;
 mod overlay;
-mod precious;
 mod rank;
 mod tip;
 mod tip_order;
 mod tips;
 mod tree;
 
-pub use fault::AddFault;
+pub use lays::Lays;
 pub use marking::Marking;
+pub use new_block::NewBlock;
 pub use overlay::{Marks, Overlay};
 pub use tip::{Status, Tip};
 pub use tree::{MAX_BLOCKS, Tree};

@@ -13,8 +13,6 @@ pub(crate) struct Node {
     pub(crate) height: usize,
     /// The median time past, in seconds since 1970.
     pub(crate) median: u32,
-    /// Its slot in the list of leaves: its parent's where it was the first child, and else a new one.
-    pub(crate) slot: usize,
 }
 
 /// What is kept of a block and changes (Bitcoin Core's `nStatus`).

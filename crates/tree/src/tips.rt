@@ -4,13 +4,14 @@ ghost use Rattle.std.specs.Prelude.{◌≡◌, ◌≤◌, ◌==◌, ◌&&◌, na
 ghost use Rattle.tree.specs.Branches.{places, branch};
 ghost use Rattle.tree.specs.Names.{names};
 ghost use Rattle.tree.specs.inside.Tops.{top_at};
-ghost use Rattle.tree.specs.inside.Slots.{is_leaf, leaves_of};
+ghost use Rattle.tree.specs.inside.Leaves.{AreLeaves, is_leaf};
 ghost use Rattle.tree.specs.Tips.{goes_first, is_tip, sort_places, tip_of_id, status, tip};
 
 use crate::tip::{Status, Tip};
 use crate::tip_order::Top;
 use crate::tree::{MAX_BLOCKS, Tree};
 use std::alloc::Global;
+use std::collections::HashSet;
 use wire::Memory;
 
 /// The tips beside the active block `best`: by height downwards, then by arrival.
@@ -26,12 +27,17 @@ pub(crate) fn tops(alloc: Global, tree: &Tree, best: usize) -> Result<Vec<Top>, 
 }
 
 /// The leaves, and the active block if it is none.
-fn all_tops(alloc: Global, tree: &Tree, leaves: &[usize], best: usize) -> Result<Vec<Top>, Memory>
+fn all_tops(
+    alloc: Global,
+    tree: &Tree,
+    leaves: &HashSet<usize>,
+    best: usize,
+) -> Result<Vec<Top>, Memory>
     requires kept { best ≤ length tree.now.blocks }
-    requires leaves { leaves.now ≡ leaves_of tree.now.blocks }
+    requires leaves { AreLeaves tree.now.blocks leaves.now.keys }
     ensures { let t = tree.now.blocks in
         IfOk result (λ tops. tops.items ≡
-        map (top_at t) (leaves_of t ++ (if is_leaf t best then [] else best ∷ []))) }
+        map (top_at t) (leaves.now.keys ++ (if is_leaf t best then [] else best ∷ []))) }
 {
     let mut tops = Vec::new(alloc);
     for place in leaves {

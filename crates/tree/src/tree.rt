@@ -1,36 +1,33 @@
 //! The tree.
 
-ghost use Rattle.std.specs.Prelude.{◌≡◌, ◌↔◌, ◌≤◌, ◌<◌, suc, false, length, map, reverse, IfOk, OnOk, OnErr, Err, None};
-ghost use Rattle.block.specs.Identity.{id_of};
+ghost use Rattle.std.specs.Prelude.{◌≡◌, ◌≤◌, ◌<◌, suc, length, map, reverse, IfOk, OnOk, OnErr};
 ghost use Rattle.block.specs.declared.block.Block.{Block};
-ghost use Rattle.tree.specs.declared.fault.AddFault.TheVariants.{Full};
 ghost use Rattle.tree.specs.Limits.{max_blocks};
-ghost use Rattle.tree.specs.Nodes.{AreMarks, laid};
-ghost use Rattle.tree.specs.Branches.{has, rest_of, height, parent_at, place_of, block_at, id_at, blocks_at, branch};
-ghost use Rattle.tree.specs.State.{opening, has_no_mark, rank, beats, with_block, without_last, with_call};
-ghost use Rattle.tree.specs.inside.Slots.{AreInOrder, is_leaf, leaves_of};
-ghost use Rattle.tree.specs.Sound.{IsFresh};
+ghost use Rattle.tree.specs.Nodes.{AreMarks, CanKeep, laid};
+ghost use Rattle.tree.specs.Branches.{has, height, parent_at, place_of, block_at, id_at, blocks_at, branch};
+ghost use Rattle.tree.specs.State.{opening, has_no_mark, rank, beats, with_block, with_call};
+ghost use Rattle.tree.specs.inside.Leaves.{AreLeaves, is_leaf};
 ghost use Rattle.tree.specs.Tips.{tip_of_id, tips};
 ghost use Rattle.tree.specs.MedianTime.{median_time_past};
 ghost use Rattle.tree.specs.Names.{names};
 
 use crate::branch::branch_of;
-use crate::fault::AddFault;
 use crate::genesis::genesis_node;
 use crate::growth::reserve_one;
-use crate::leaves::{enter, holds, leave, node_on};
+use crate::lays::Lays;
+use crate::leaves::{enter, node_on, reserve_leaf};
 use crate::marking::Marking;
 use crate::marks::mark_block;
+use crate::new_block::NewBlock;
 use crate::node::{Mark, Node};
 use crate::overlay::Marks;
-use crate::precious::last_call;
 use crate::rank::Standing;
 use crate::tip::Tip;
 use crate::tips::{tip_at, tops};
 use block::{GENESIS_ID, StoredBlock};
 use hash::Id;
 use std::alloc::Global;
-use std::collections::BTreeMap;
+use std::collections::{HashMap, HashSet};
 use std::marker::Model;
 use wire::Memory;
 
@@ -45,9 +42,9 @@ pub struct Tree {
     pub(crate) marks: Vec<Mark>,
     /// The places that were called precious, in the order of the calls.
     calls: Vec<usize>,
-    ids: BTreeMap<Id, usize>,
+    ids: HashMap<Id, usize>,
     /// The places of the blocks without a child.
-    leaves: Vec<usize>,
+    leaves: HashSet<usize>,
 }
 
 impl Model for Tree {
@@ -61,7 +58,7 @@ impl Model for Tree {
     ghost view = { λ t. state_of t.nodes.items t.marks.items t.calls.items };
 
     ghost invariant = { λ t. IsRight t.nodes.items t.marks.items t.calls.items t.ids.entries
-        t.leaves.items };
+        t.leaves.keys };
 }
 
 impl Tree {
@@ -78,10 +75,10 @@ impl Tree {
             usable: true,
             rank: 0,
         })?;
-        let mut ids = BTreeMap::new(alloc);
+        let mut ids = HashMap::new(alloc);
         ids.insert(GENESIS_ID, 0)?;
-        let mut leaves = Vec::new(alloc);
-        leaves.push(0)?;
+        let mut leaves = HashSet::new(alloc);
+        leaves.insert(0)?;
         Ok(Tree {
             nodes,
             marks,
@@ -212,16 +209,15 @@ impl Tree {
         requires { place ≤ length self.now.blocks }
         ensures { result ≡ is_leaf self.now.blocks place }
     {
-        holds(self.leaves.as_slice(), self.nodes[place].slot, place)
+        self.leaves.contains(&place)
     }
 
     /// The blocks without a child.
-    pub(crate) fn leaves(&self) -> &[usize]
-        ensures leaves { result.now ≡ leaves_of self.now.blocks }
-        ensures order { AreInOrder self.now.blocks }
+    pub(crate) fn leaves(&self) -> &HashSet<usize>
+        ensures leaves { AreLeaves self.now.blocks result.now.keys }
         ensures room { suc (length self.now.blocks) ≤ max_blocks }
     {
-        self.leaves.as_slice()
+        &self.leaves
     }
 
     /// The tips beside the active block `best`, by height downwards, then by arrival; `active` is its branch
@@ -248,68 +244,49 @@ impl Tree {
         self.marks = marks;
     }
 
-    /// Calls a block precious: it is better than all that are as high.
-    pub fn precious(&mut self, place: usize) -> Result<(), Memory>
+    /// Calls a block precious where the other one takes its step too: it is better than all that are as high. A refusal
+    /// leaves both.
+    pub fn precious<C: Drop, L: Lays<C>>(
+        &mut self,
+        alloc: Global,
+        place: usize,
+        other: &mut L,
+        step: C,
+    ) -> Result<(), Memory>
         requires { place ≤ length self.old.blocks }
         ensures ok { OnOk result (self.new ≡ with_call self.old place) }
+        ensures laid { OnOk result (other.new ≡ L.laid other.old step) }
         ensures err { OnErr result (self.new ≡ self.old) }
+        ensures not_laid { OnErr result (other.new ≡ other.old) }
     {
-        self.calls.push(place)?;
+        self.calls.reserve(1)?;
+        other.lay(alloc, step)?;
+        self.calls.push_reserved(place);
         self.marks[place].rank = self.calls.len();
         Ok(())
     }
 
-    /// Takes back the call that came last, as if it had never been made. It takes no memory.
-    pub fn take_back_call(&mut self)
-        requires { 0 < length self.old.precious }
-        ensures { self.new ≡ record self.old { precious = rest_of self.old.precious } }
-    {
-        let Some(place) = self.calls.pop() else {
-            return;
-        };
-        self.marks[place].rank = last_call(self.calls.as_slice(), place);
-    }
-
-    /// Keeps a block that was made of this id, on this parent, and gives its place.
-    pub fn add(&mut self, block: StoredBlock, id: Id, parent: usize) -> Result<usize, AddFault>
-        requires parent { parent ≤ length self.old.blocks }
-        requires id { id ≡ id_of block.header }
-        ensures place { IfOk result (λ place. place ≡ suc (length self.old.blocks)) }
-        ensures ok { OnOk result (self.new ≡ with_block self.old block parent) }
-        ensures fresh { OnOk result (place_of names self.old.blocks id ≡ None →
-            IsFresh names self.new) }
-        ensures full { (result ≡ Err Full) ↔ (max_blocks ≤ suc (length self.old.blocks)) }
+    /// Keeps a block as the last one, where the other one takes its step too. A refusal leaves both: room comes first,
+    /// then the other one, and then what can't fail.
+    pub fn add<C: Drop, L: Lays<C>>(
+        &mut self,
+        alloc: Global,
+        new: NewBlock,
+        other: &mut L,
+        step: C,
+    ) -> Result<(), Memory>
+        requires { CanKeep self.old new }
+        ensures ok { OnOk result (self.new ≡ with_block self.old new.block new.parent) }
+        ensures laid { OnOk result (other.new ≡ L.laid other.old step) }
         ensures err { OnErr result (self.new ≡ self.old) }
-    {
-        if self.nodes.len() >= MAX_BLOCKS {
-            return Err(AddFault::Full);
-        }
-        match self.keep(block, id, parent) {
-            Ok(place) => Ok(place),
-            Err(Memory) => Err(AddFault::Memory),
-        }
-    }
-
-    /// The same where there is room.
-    fn keep(&mut self, block: StoredBlock, id: Id, parent: usize) -> Result<usize, Memory>
-        requires room { suc (length self.old.blocks) < max_blocks }
-        requires parent { parent ≤ length self.old.blocks }
-        requires id { id ≡ id_of block.header }
-        ensures place { IfOk result (λ place. place ≡ suc (length self.old.blocks)) }
-        ensures ok { OnOk result (self.new ≡ with_block self.old block parent) }
-        ensures fresh { OnOk result (place_of names self.old.blocks id ≡ None →
-            IsFresh names self.new) }
-        ensures err { OnErr result (self.new ≡ self.old) }
+        ensures not_laid { OnErr result (other.new ≡ other.old) }
     {
         reserve_one(&mut self.nodes)?;
         reserve_one(&mut self.marks)?;
-        let node = node_on(
-            self.nodes.as_slice(),
-            self.leaves.as_slice(),
-            block,
-            id,
-            parent,
-        );
+        reserve_leaf(&mut self.ids, &mut self.leaves)?;
+        other.lay(alloc, step)?;
+        let NewBlock { block, id, parent } = new;
+        let node = node_on(self.nodes.as_slice(), block, id, parent);
         let mark = Mark {
             bad: false,
             seen: false,
@@ -317,25 +294,10 @@ impl Tree {
             rank: 0,
         };
         let place = self.nodes.len();
-        enter(&mut self.ids, &mut self.leaves, id, node.slot, place)?;
-        // There is room for both.
-        self.nodes.push(node)?;
-        self.marks.push(mark)?;
-        Ok(place)
-    }
-
-    /// Takes back the block that came last, as if it had never been added. It takes no memory.
-    pub fn take_back(&mut self)
-        requires { IsFresh names self.old }
-        ensures { self.new ≡ without_last self.old }
-    {
-        let Some(node) = self.nodes.pop() else {
-            return;
-        };
-        self.marks.pop();
-        self.ids.remove(&node.id);
-        let parents_slot = self.nodes[node.parent].slot;
-        leave(&mut self.leaves, node.slot, node.parent, parents_slot);
+        enter(&mut self.ids, &mut self.leaves, id, parent, place);
+        self.nodes.push_reserved(node);
+        self.marks.push_reserved(mark);
+        Ok(())
     }
 }
 

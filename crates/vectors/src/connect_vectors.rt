@@ -2,7 +2,7 @@
 
 use block::{Block, GENESIS, read};
 use coins::{Base, Cache, Coin, CoinMap};
-use connect::{Context, Env, connect};
+use connect::{BlockWithIds, Context, Env, connect};
 use curve::Table;
 use hash::Id;
 use queue::{Alone, Open};
@@ -47,7 +47,11 @@ fn broken<B: Base>(
         early: &[],
         crew: &Alone,
     };
-    Ok(connect(alloc, cache, &context, block, &ids, &env, &Open)?.err())
+    let of = BlockWithIds {
+        block,
+        ids: ids.as_slice(),
+    };
+    Ok(connect(alloc, cache, &context, &of, &env, &Open)?.err())
 }
 
 #[test]

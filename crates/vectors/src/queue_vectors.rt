@@ -1,12 +1,15 @@
 //! Verdicts got before.
 
 ghost use Rattle.std.specs.Prelude.{◌≡◌, ◌<◌, ◌≤◌, ◌^◌, length, All, IsTrue};
-ghost use Rattle.queue.specs.Jobs.{HasInput};
+ghost use Rattle.curve.specs.Known.{all_known};
+ghost use Rattle.queue.specs.Jobs.{HasInput, known_then};
 
 use curve::Table;
 use hash::Id;
 use interp::{Flags, Job};
-use queue::{Alone, Crew, EarlyJobs, Gate, Runs, Threaded, Verdicts, check_early, first_failure};
+use queue::{
+    Alone, Crew, EarlyJobs, Gate, Runs, Source, Threaded, Verdicts, check_early, first_failure,
+};
 use std::alloc::{AllocError, Global};
 use std::sync::atomic::AtomicU64;
 use std::sync::atomic::Ordering::SeqCst;
@@ -159,15 +162,24 @@ where
     let txs = [transaction(alloc, row.early.len())?];
     let gate = Tally::new();
     let jobs = early(alloc, &txs, row.early)?;
-    let verdicts = [check_early(rt, alloc, jobs, &table, 2, &gate)?];
+    let verdicts = [check_early(rt, alloc, jobs, Source::Listed(&table), 2, &gate)?];
     let is_accepted = are_equal(verdicts[0].answers(), row.accepted);
     let equal = transaction(alloc, row.early.len())?;
     let is_answered = is_answered(rt, row, &equal, &verdicts, &table, &gate)?;
     Ok(is_accepted && is_answered && gate.sums() == row.sums)
 }
 
-fn are_equal(found: &[bool], wanted: &[bool]) -> bool {
-    found == wanted
+/// Whether each job has an answer, and these they are.
+fn are_equal(found: &[Option<bool>], wanted: &[bool]) -> bool {
+    for place in 0..wanted.len() {
+        let Some(Some(answer)) = found.get(place) else {
+            return false;
+        };
+        if *answer != wanted[place] {
+            return false;
+        }
+    }
+    found.len() == wanted.len()
 }
 
 /// Whether the job is answered as a row has it, by the caller alone and by two workers.
@@ -181,7 +193,7 @@ fn is_answered<R>(
 ) -> Result<bool, Memory>
 where
     R: Threads + Sync + AllocGlobal,
-    requires same_table { All (λ v. v.triples ≡ table.now) verdicts.now }
+    requires same_table { All (λ v. known_then v ≡ all_known table.now) verdicts.now }
 {
     let jobs = [Job {
         tx,
@@ -217,7 +229,7 @@ fn failing<'a, C: Crew<Table>>(
 ) -> Result<Option<usize>, Memory>
     requires ready { C.is_ready crew.now }
     requires inputs { All HasInput jobs.now }
-    requires same_table { All (λ v. v.triples ≡ table.now) verdicts.now }
+    requires same_table { All (λ v. known_then v ≡ all_known table.now) verdicts.now }
 {
     let runs = Runs {
         by: table,
@@ -238,7 +250,7 @@ fn by_threads<'a, R: Threads + Sync>(
     gate: &(dyn Gate + Sync),
 ) -> Result<Option<usize>, Memory>
     requires inputs { All HasInput jobs.now }
-    requires same_table { All (λ v. v.triples ≡ table.now) verdicts.now }
+    requires same_table { All (λ v. known_then v ≡ all_known table.now) verdicts.now }
 {
     failing(&Threaded { rt }, alloc, jobs, verdicts, table, gate)
 }

@@ -3,6 +3,8 @@ use Rattle.std.specs.Prelude.{◌≡◌, ◌<◌, ◌-◌, if◌then◌else◌, 
 use Rattle.std.specs.Option.{option_to_list}
 use Rattle.std.specs.FinMap as coin_map
 use Rattle.block.specs.declared.block.Block.{Block}
+use Rattle.curve.specs.Triple.{Triples}
+use Rattle.curve.specs.Known.{Under}
 use Rattle.coins.specs.Coins.{Coins}
 use Rattle.coins.specs.Changes.{after_changes}
 use Rattle.tree.specs.Branches.{height}
@@ -11,27 +13,27 @@ use Rattle.tree.specs.State.{State}
 use Rattle.tree.specs.Tips.{tip_of_id}
 use Rattle.chain.specs.declared.entry.Entry.{Entry}
 use Rattle.chain.specs.History.{Legal, state_after_entries}
+use Rattle.chain.specs.Learnt.{AreNews}
 use Rattle.chain.specs.Regtest.{ledger, regtest}
 use Rattle.chain.specs.Replay.{coins}
 use Rattle.chain.specs.Settle.{active}
-use Rattle.view.specs.Origin.{Origin, machine}
+use Rattle.view.specs.Origin.{Origin, known_in, machine}
 use Rattle.view.specs.declared.chain_info.ChainInfo.{ChainInfo}
 use Rattle.view.specs.declared.publication.Publication.{Publication}
 
--- the state after a history
-abbrev pub state_after : Origin → List Entry → State Block
-state_after o journal = let m = machine o in state_after_entries m m.opening journal
+-- the state after a history, where these signatures are valid
+abbrev pub state_after : Origin → Triples → List Entry → State Block
+state_after o valid journal = let m = machine o valid in state_after_entries m m.opening journal
 
 -- the coins after it
-abbrev pub coins_after : Origin → List Entry → Coins
-coins_after o journal = coins (regtest o.params o.triples) ledger (state_after o journal)
+abbrev pub coins_after : Origin → Triples → List Entry → Coins
+coins_after o valid journal = coins (regtest o.params valid) ledger (state_after o valid journal)
 
 -- the best block, its height and the tips after it
-pub record IsInfo (o : Origin) (journal : List Entry) (x : ChainInfo) : Type 0 where
-  pub best_is : x.best ≡ (machine o).best (state_after o journal)
-  pub height_is : x.height ≡ height (state_after o journal).blocks (active (regtest o.params o.triples) (state_after o journal))
-  pub height_fits : x.height < max_blocks
-  pub tips_are : x.tips ≡ map tip_of_id ((machine o).tips (state_after o journal))
+pub record IsInfo (o : Origin) (valid : Triples) (journal : List Entry) (x : ChainInfo) : Type 0 where
+  pub best_is : x.best ≡ (machine o valid).best (state_after o valid journal)
+  pub height_is : x.height ≡ height (state_after o valid journal).blocks (active (regtest o.params valid) (state_after o valid journal))
+  pub tips_are : x.tips ≡ map tip_of_id ((machine o valid).tips (state_after o valid journal))
 
 -- the history that the readers' token knows, without and with its last entry; the published entries; and what
 -- stands after them
@@ -43,20 +45,39 @@ pub record ViewState : Type 0 where
   pub coins : Coins
   pub info : ChainInfo
 
--- the entries may be a history
-abbrev pub IsLegal : Origin → List Entry → Type 0
-IsLegal o journal = Legal (machine o) o.seats journal
+-- the entries may be a history where these signatures are valid
+abbrev pub IsLegalWith : Origin → Triples → List Entry → Type 0
+IsLegalWith o valid journal = Legal (machine o valid) o.seats journal
 
--- the entries are the token's, they are legal, and what is published beside them is the state after them
+-- the entries may be a history: each verdict is told once, and under every set that agrees with all of them each entry may
+-- come at its place
+pub record IsLegal (o : Origin) (journal : List Entry) : Type 0 where
+  pub news : AreNews o.table journal
+  pub legal : Under (known_in o journal) (λ valid. IsLegalWith o valid journal)
+
+-- what is published beside the entries is the state after them, where these signatures are valid
+pub record IsStateWith (valid : Triples) (x : ViewState) : Type 0 where
+  pub coins_are : x.coins ≡ coins_after x.origin valid x.journal
+  pub info_is : IsInfo x.origin valid x.journal x.info
+
+-- the entries are the token's, they are legal, and what is published beside them is the state after them, under every set
+-- that agrees
 pub record IsExact (x : ViewState) : Type 0 where
   pub whole : x.journal ≡ x.before ++ option_to_list x.last
   pub legal : IsLegal x.origin x.journal
-  pub coins_are : x.coins ≡ coins_after x.origin x.journal
-  pub info_is : IsInfo x.origin x.journal x.info
+  pub state_is : Under (known_in x.origin x.journal) (λ valid. IsStateWith valid x)
+  pub height_fits : x.info.height < max_blocks
 
 -- before any entry there are no coins
 abbrev pub opening_view : Origin → ChainInfo → ViewState
-opening_view o info = record { origin = o; before = []; last = None; journal = []; coins = coin_map.empty; info = info }
+opening_view o info = record {
+  origin = o;
+  before = [];
+  last = None;
+  journal = [];
+  coins = coin_map.empty;
+  info = info;
+}
 
 -- all entries but the last
 abbrev pub but_last : List Entry → List Entry

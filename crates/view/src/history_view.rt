@@ -2,7 +2,8 @@
 
 ghost use Rattle.std.specs.Prelude.{◌≡◌, [], OnOk, OnErr, IfErr};
 ghost use Rattle.std.specs.Arc.{arc_value};
-ghost use Rattle.view.specs.Origin.{origin};
+ghost use Rattle.std.specs.Option.{option_map};
+ghost use Rattle.view.specs.Origin.{origin_of};
 ghost use Rattle.view.specs.ViewState.{after_publication, opening_view};
 
 use crate::chain_info::ChainInfo;
@@ -23,7 +24,8 @@ use std::sync::Arc;
 pub struct View {
     alloc: Global,
     params: Params,
-    table: Arc<Table>,
+    /// All valid signatures, if they are known from the first.
+    table: Option<Arc<Table>>,
     seats: usize,
     /// The history that the last publication went on from.
     before: Note,
@@ -39,12 +41,12 @@ pub struct View {
 impl Model for View {
     ghost use Rattle.std.specs.Prelude.{◌≡◌, ◌++◌, IfSome};
     ghost use Rattle.std.specs.Arc.{arc_value};
-    ghost use Rattle.std.specs.Option.{option_to_list};
+    ghost use Rattle.std.specs.Option.{option_map, option_to_list};
     ghost use Rattle.std.specs.Coded.{codes};
     ghost use Rattle.std.specs.FinSet as set;
     ghost use Rattle.curve.specs.Triple.{triple_cmp, coded_triple};
     ghost use Rattle.coins.specs.Coins.{coded_coins};
-    ghost use Rattle.view.specs.Origin.{origin};
+    ghost use Rattle.view.specs.Origin.{origin_of};
     ghost use Rattle.view.specs.ViewState.{ViewState};
 
     ghost Value = { ViewState };
@@ -52,7 +54,7 @@ impl Model for View {
     ghost coded = { Prim.hlevel (codes, coded_coins, set.code {R = triple_cmp} coded_triple) };
 
     ghost view = { λ v. record {
-      origin = origin v.before.book v.params (arc_value v.table) v.seats;
+      origin = origin_of v.before.book v.params (option_map arc_value v.table) v.seats;
       before = v.before.entries;
       last = v.last;
       journal = v.journal.items;
@@ -69,13 +71,14 @@ impl View {
     pub fn new(
         alloc: Global,
         params: Params,
-        table: Arc<Table>,
+        table: Option<Arc<Table>>,
         seats: usize,
         note: Note,
         info: ChainInfo,
     ) -> View
         requires { note.entries ≡ [] }
-        ensures { result ≡ opening_view (origin note.book params (arc_value table) seats) info }
+        ensures { let known = option_map arc_value table in
+            result ≡ opening_view (origin_of note.book params known seats) info }
     {
         View {
             alloc,

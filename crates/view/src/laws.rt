@@ -1,9 +1,11 @@
 //! What holds of what is published, by the definitions alone.
 
-ghost use Rattle.std.specs.Prelude.{List, []};
+ghost use Rattle.std.specs.Prelude.{List, [], ◌<◌};
 ghost use mathlib.Core.List.{IsPrefix};
+ghost use Rattle.curve.specs.Known.{Under};
+ghost use Rattle.tree.specs.Limits.{max_blocks};
 ghost use Rattle.view.specs.Following.{AllFollow};
-ghost use Rattle.view.specs.Origin.{Origin};
+ghost use Rattle.view.specs.Origin.{Origin, known_in};
 ghost use Rattle.view.specs.ViewState.{ViewState, IsExact, IsInfo, after_publications, opening_view};
 ghost use Rattle.view.specs.declared.chain_info.ChainInfo.{ChainInfo};
 ghost use Rattle.view.specs.declared.publication.Publication.{Publication};
@@ -14,7 +16,9 @@ use crate::publishing::{ViewReader, ViewWriter};
 
 /// A view is exact at first: there are no coins then.
 pub fn the_opening_view_is_exact()
-    ensures { (o : Origin) (info : ChainInfo) → IsInfo o [] info → IsExact (opening_view o info) }
+    ensures { (o : Origin) (info : ChainInfo)
+        → Under (known_in o []) (λ valid. IsInfo o valid [] info)
+        → info.height < max_blocks → IsExact (opening_view o info) }
 {}
 
 /// It stays exact, as long as each publication follows what was there.

@@ -11,12 +11,12 @@ pub trait Naming: Send + Sync {
 }
 
 impl Naming for Brand {
-    ghost use Rattle.std.specs.FinSet as set;
+    ghost use Rattle.std.specs.Prelude.{None};
 
     ghost origin = { record {
       book = record { number = 0; log_name = 0; cells_name = 0 };
       params = record { bip34 = 0; bip65 = 0; bip66 = 0; csv = 0 };
-      triples = set.empty;
+      table = None;
       seats = 0;
     } };
 }

@@ -1,12 +1,14 @@
 //! What a reader reads from the view that it has entered.
 
-ghost use Rattle.std.specs.Prelude.{◌≡◌, IfSome, MatchOption, None, Some, length, map};
+ghost use Rattle.std.specs.Prelude.{◌≡◌, ◌<◌, IfSome, MatchOption, None, Some, length, map};
 ghost use Rattle.chain.specs.Regtest.{regtest};
 ghost use Rattle.chain.specs.Chainstate.{confirmations};
 ghost use Rattle.chain.specs.Settle.{active};
 ghost use Rattle.tree.specs.Branches.{height};
+ghost use Rattle.tree.specs.Limits.{max_blocks};
 ghost use Rattle.tree.specs.Tips.{tip_of_id};
-ghost use Rattle.view.specs.Origin.{machine};
+ghost use Rattle.curve.specs.Known.{Under};
+ghost use Rattle.view.specs.Origin.{known_in, machine};
 ghost use Rattle.view.specs.ViewState.{IsExact, state_after};
 
 use crate::chain_info::ChainInfo;
@@ -62,8 +64,9 @@ impl View {
     /// The best block's id (Bitcoin Core's `getbestblockhash`).
     pub fn best(&self) -> Id
         requires { IsExact self.now }
-        ensures { let o = self.now.origin in
-            result ≡ (machine o).best (state_after o self.now.journal) }
+        ensures { let o = self.now.origin in let es = self.now.journal in
+            Under (known_in o es) (λ valid.
+            result ≡ (machine o valid).best (state_after o valid es)) }
     {
         self.info.best
     }
@@ -71,9 +74,10 @@ impl View {
     /// The best block's height.
     pub fn height(&self) -> usize
         requires { IsExact self.now }
-        ensures { let r = regtest self.now.origin.params self.now.origin.triples in
-            let s = state_after self.now.origin self.now.journal in
-            result ≡ height s.blocks (active r s) }
+        ensures fits { result < max_blocks }
+        ensures value { let o = self.now.origin in let es = self.now.journal in
+            Under (known_in o es) (λ valid. let s = state_after o valid es in
+            result ≡ height s.blocks (active (regtest o.params valid) s)) }
     {
         self.info.height
     }
@@ -81,8 +85,9 @@ impl View {
     /// The tips of the tree, lent (Bitcoin Core's `getchaintips`).
     pub fn tips(&self) -> &[Tip]
         requires { IsExact self.now }
-        ensures { let o = self.now.origin in
-            result.now ≡ map tip_of_id ((machine o).tips (state_after o self.now.journal)) }
+        ensures { let o = self.now.origin in let es = self.now.journal in
+            Under (known_in o es) (λ valid.
+            result.now ≡ map tip_of_id ((machine o valid).tips (state_after o valid es))) }
     {
         self.info.tips.as_slice()
     }
@@ -90,9 +95,10 @@ impl View {
     /// The coin at an outpoint, lent, and how many blocks confirm it (Bitcoin Core's `gettxout`).
     pub fn unspent(&self, outpoint: &OutPoint) -> Option<(&Coin, u32)>
         requires { IsExact self.now }
-        ensures { let o = self.now.origin in
-            let found = (machine o).coin (state_after o self.now.journal) outpoint.now in
-            MatchOption result (found ≡ None) (λ x. found ≡ Some (x.0.now, x.1)) }
+        ensures { let o = self.now.origin in let es = self.now.journal in
+            Under (known_in o es) (λ valid.
+            let found = (machine o valid).coin (state_after o valid es) outpoint.now in
+            MatchOption result (found ≡ None) (λ x. found ≡ Some (x.0.now, x.1))) }
     {
         match self.coins.get(outpoint) {
             Some(coin) => Some((coin, self.confirmations(coin.height))),
@@ -103,9 +109,9 @@ impl View {
     /// How many blocks of the active branch there are from this height on.
     fn confirmations(&self, height: u32) -> u32
         requires { IsExact self.now }
-        ensures { let o = self.now.origin in
-            let r = regtest o.params o.triples in
-            result ≡ confirmations r (state_after o self.now.journal) height }
+        ensures { let o = self.now.origin in let es = self.now.journal in
+            Under (known_in o es) (λ valid.
+            result ≡ confirmations (regtest o.params valid) (state_after o valid es) height) }
     {
         let blocks = self.info.height as u32 + 1;
         blocks.saturating_sub(height)

@@ -58,7 +58,7 @@ where
     let (submitted, coin) = thread::join(
         rt,
         || submit(rt, node, first, to),
-        || wait_for_coin(rt, alloc, node, second, from),
+        || wait_for_coin(rt, alloc, second, from),
     );
     submitted?;
     if let Some(
@@ -89,26 +89,24 @@ fn submit<J: Naming, R: Threads + Wait + Sync>(
 fn wait_for_coin<J: Naming, R: Wait>(
     rt: &R,
     alloc: Global,
-    node: &Node<'_, J>,
     seat: &mut Seat<'_, J>,
     from: Receiver<Note<J>>,
 ) -> Result<Option<Stamped<Option<UnspentOutput>>>, Fault> {
     let Ok(note) = from.recv(rt) else {
         return Ok(None);
     };
-    Ok(Some(coin_after(alloc, node, seat, &note)?))
+    Ok(Some(coin_after(alloc, seat, &note)?))
 }
 
 /// The coin, read no earlier than what the note's seat had seen.
 #[tactic(auto, using(crate::proofs::Told::no_earlier))]
 fn coin_after<J: Naming>(
     alloc: Global,
-    node: &Node<'_, J>,
     seat: &mut Seat<'_, J>,
     note: &Note<J>,
 ) -> Result<Stamped<Option<UnspentOutput>>, Fault>
     ensures { IfOk result (λ read. length note.now.seen ≤ read.at) }
 {
     seat.told(note);
-    seat.gettxout(alloc, node, &COIN)
+    seat.gettxout(alloc, &COIN)
 }

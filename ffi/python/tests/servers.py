@@ -2,23 +2,32 @@
 
 import base64
 import json
+import os
 import socket
 import threading
 
-from wakotehu import Bench
+from wakotehu import errors, secp256k1
+from wakotehu.pool import Pool
 from wakotehu.rpc.auth import Gate
 from wakotehu.rpc.node import Node
 from wakotehu.server import serve
 
+ROOT = os.path.realpath(os.path.join(os.path.dirname(__file__), "..", "..", ".."))
+PROGRAM = os.environ.get("WAKOTEHU_PROGRAM", f"{ROOT}/crates/regchain/out/regchain")
 AUTHORIZATION = "Basic " + base64.b64encode(b"name:password").decode()
+
+
+def seats(*words, verify=secp256k1, **more):
+    """The seats of a node with real signatures, as the server has them by default."""
+    return Pool(*words, program=PROGRAM, verify=verify, **more)
 
 
 class Running:
     """A server on a port that is free, which lets in `name` by `password`."""
 
-    def __init__(self, bench=None, saver=None, gate=None, hosts=("127.0.0.1",)):
-        self.bench = bench or Bench()
-        self.node = Node(self.bench, saver)
+    def __init__(self, bench=None, gate=None, hosts=("127.0.0.1",)):
+        self.bench = bench or seats()
+        self.node = Node(self.bench)
         if gate is None:
             gate = Gate()
             gate.add("name", "password")
@@ -37,7 +46,12 @@ class Running:
         with self.node.turn:
             self.node.stopped = True
             self.node.turn.notify_all()
-        self.thread.join()
+        self.thread.join(20)
+        if self.thread.is_alive():
+            # A call waits for ever, which fails its test: that has to end.
+            with self.node.turn:
+                self.bench._break(errors.Closed("the test is over"))
+            self.thread.join(20)
         self.bench.close()
 
     def raw(self, data, timeout=5, close=True):

@@ -126,6 +126,7 @@ WRONG: Dict[str, List[Any]] = {
     "seconds": [*NOTHING, 0, -1, 0.0, -0.5, float("nan"), float("inf"), 1e9, 10**5000, True, False, *TEXTS, *LISTS, *OCTETS],
     "secret": [*BYTES, *LENGTHS, bytes(32), b"\xff" * 32],
     "own": [None, *NOTHING, *NUMBERS, *FRACTIONS, *TEXTS, *LISTS, *OCTETS],
+    "optional function": [it for it in (*NOTHING, *NUMBERS, *FRACTIONS, *TEXTS, *LISTS, *OCTETS) if not callable(it)],
 }  # fmt: skip
 
 
@@ -185,7 +186,8 @@ MOMENT = ("moment", NOW)
 OPENED = {
     "seats": ("count", 2), "workers": ("count", 1), "heights": ("optional heights", None),
     "table": ("optional lines", None), "program": ("optional path", PROGRAM), "blk": ("optional path", None),
-    "load": ("optional path", None), "save": ("optional path", None), "timeout": ("seconds", 60.0),
+    "load": ("optional path", None), "save": ("optional path", None), "datadir": ("optional path", None),
+    "sync": ("flag", True), "timeout": ("seconds", 60.0), "verify": ("optional function", None),
 }  # fmt: skip
 SEAT = [
     ("submit", {"block": BLOCK, "now": MOMENT}), ("try_submit", {"block": BLOCK, "now": MOMENT}),
@@ -261,6 +263,7 @@ ROWS = [
     row("signatures.Verifier", threads=("threads", 1)),
     row("signatures.Verifier.verdicts", lines=("list of lines", [TRIPLE.line])), row("signatures.processors"),
     row("signatures.read_signature", data=("bytes", b"")),
+    row("signatures.secp256k1", lines=("list of lines", [TRIPLE.line])),
     row("served.program_path", named=("optional path", PROGRAM)),
     row("node.Node", **OPENED), row("asyncnode.AsyncNode", **OPENED),
     *(row(f"{kind}.{name}") for kind in ("node.Node", "asyncnode.AsyncNode") for name in ("close", "kill")),
@@ -269,12 +272,20 @@ ROWS = [
     row("library.library"), row("library.secp256k1_library"),
 ]  # fmt: skip
 
-#: Modules that are no part of this: what takes the arguments, exceptions, what a server has, and what it is started by.
-OTHER = {"ahead", "arguments", "errors", "index", "pipe", "pool", "server", "version", "__main__"}
+#: Modules that are no part of this: what takes the arguments, exceptions, what a server has, and what it is started by; what
+#: needs a database (tests/replicas has its arguments).
+OTHER = {
+    "ahead", "arguments", "errors", "following", "history", "index", "pipe", "pool", "replica", "replicacommand", "replicalog", "replicapool",
+    "replication", "server", "version", "__main__",
+}  # fmt: skip
 #: What other modules of the package call with what was taken before.
 INSIDE = {"chainstate.reply_of"} | {
+    f"signatures.{name}" for name in (
+        "KnownSignatures", "KnownSignatures.learn", "KnownSignatures.verdicts", "signatures_of",
+    )
+} | {
     f"served.{name}" for name in (
-        "Call", "Opening", "submission", "mark", "output", "outputs", "block_of", "header_of", "hash_at", "coins_above", "longer_than",
+        "Call", "Opening", "Wanted", "verdicts", "learning", "submission", "mark", "output", "outputs", "block_of", "header_of", "hash_at", "coins_above", "longer_than",
         "entries", "told", "request", "checked", "outcome",
         "died", "read_answer",
     )

@@ -1,13 +1,16 @@
-"""A server's folder: commands are saved as they come, taken again at the next start, and judged by the program."""
+"""A server's folder: the history is kept in it, the next server goes on from there, and the program judges it."""
 
 import base64
+import collections
 import contextlib
+import fcntl
 import hashlib
 import hmac
 import http.client
 import io
 import json
 import os
+import random
 import shutil
 import signal
 import socket
@@ -16,17 +19,20 @@ import subprocess
 import sys
 import tempfile
 import threading
+import time
 import unittest
+import unittest.mock
 import urllib.error
 import urllib.request
 
-from blocks import Maker, block_id, signed, spend, with_script
+from blocks import NOW, Maker, block_id, signed, spend, with_script
+from servers import PROGRAM, ROOT, Running, seats
 from test_bench import KEYS, SECP, SECRETS, pay_to_key
-from wakotehu import server, show
-from wakotehu.encoding import GENESIS
-
-ROOT = os.path.realpath(os.path.join(os.path.dirname(__file__), "..", "..", ".."))
-PROGRAM = os.environ.get("WAKOTEHU_PROGRAM", f"{ROOT}/crates/regchain/out/regchain")
+from test_node_by_need import Counted, Mined, then
+from wakotehu import Node, read_id, secp256k1, server, show
+from wakotehu.encoding import GENESIS, read_block, write_transaction
+from wakotehu.history import VERDICTS, steps_of
+from wakotehu.rpc import datadir
 
 
 class Command:
@@ -35,7 +41,8 @@ class Command:
     def __init__(self, *words, **environment):
         self.process = subprocess.Popen(
             [sys.executable, "-m", "wakotehu.server", "-rpcport=0", *words],
-            stdout=subprocess.PIPE, stderr=subprocess.PIPE, text=True, env={**os.environ, **environment},
+            stdout=subprocess.PIPE, stderr=subprocess.PIPE, text=True,
+            env={**os.environ, "WAKOTEHU_PROGRAM": PROGRAM, **environment},
         )  # fmt: skip
         self.told = []
         while not self.told or not self.told[-1].startswith("127."):
@@ -47,14 +54,23 @@ class Command:
         self.url = f"http://{place}/"
 
     def call(self, method, *params, user=None):
+        """The result of a call, or the HTTP status of its fault."""
+        answer = self._post({"method": method, "params": params}, user)
+        return answer if isinstance(answer, int) else answer["result"]
+
+    def call_each(self, method, params):
+        """The results of a call with each of these parameters, one after the other."""
+        answers = self._post([{"method": method, "params": [param]} for param in params])
+        return [answer["error"] or answer["result"] for answer in answers]
+
+    def _post(self, asked, user=None):
         if user is None:
             with open(self.cookie, encoding="ascii") as file:
                 user = file.read()
         head = {"Authorization": "Basic " + base64.b64encode(user.encode()).decode()}
-        body = json.dumps({"method": method, "params": params}).encode()
         try:
-            with urllib.request.urlopen(urllib.request.Request(self.url, body, head)) as found:
-                return json.load(found)["result"]
+            with urllib.request.urlopen(urllib.request.Request(self.url, json.dumps(asked).encode(), head), timeout=60) as found:
+                return json.load(found)
         except urllib.error.HTTPError as error:
             with error:
                 return error.code
@@ -73,20 +89,58 @@ class FolderCase(unittest.TestCase):
         folder = tempfile.TemporaryDirectory()
         self.addCleanup(folder.cleanup)
         self.folder = os.path.join(folder.name, "data")
+        #: The node's own folder, and its log.
+        self.node = os.path.join(self.folder, "node")
+        self.log = os.path.join(self.node, "history.log")
 
     def started(self, *words, **environment):
         server = Command(f"-datadir={self.folder}", *words, **environment)
-        self.addCleanup(lambda: server.process.poll() is None and server.end(signal.SIGKILL))
+        self.addCleanup(server.end, signal.SIGKILL)
         return server
 
     def refused(self, *words, **environment):
+        """What the command says as it ends, in this process."""
+        told, serving = io.StringIO(), AssertionError("it isn't refused")
+        self.addCleanup(signal.signal, signal.SIGTERM, signal.getsignal(signal.SIGTERM))
+        with contextlib.redirect_stderr(told), unittest.mock.patch.object(server, "serve", side_effect=serving), \
+                unittest.mock.patch.dict(os.environ, {"WAKOTEHU_PROGRAM": PROGRAM, **environment}), \
+                self.assertRaises(SystemExit) as caught:
+            server.main(["-rpcport=0", *words])
+        self.assertNotIn(caught.exception.code, (None, 0))
+        return f"{told.getvalue()}{caught.exception.code}"
+
+    def ends(self, *words, unprivileged=False, **environment):
+        """What the command says as it ends, as a process with status 1."""
         command = [sys.executable, "-m", "wakotehu.server", "-rpcport=0", *words]
+        if unprivileged and os.geteuid() == 0:
+            command = ["setpriv", "--reuid=65534", "--regid=65534", "--clear-groups", *command]
         done = subprocess.run(
-            command, capture_output=True, text=True, timeout=20, env={**os.environ, **environment}
-        )
-        self.assertNotEqual(done.returncode, 0)
+            command, capture_output=True, text=True, timeout=20,
+            env={**os.environ, "WAKOTEHU_PROGRAM": PROGRAM, **environment},
+        )  # fmt: skip
+        self.assertEqual(done.returncode, 1, done.stderr)
         self.assertNotIn("Traceback", done.stderr)
         return done.stderr
+
+    def logged(self):
+        """The steps of the log."""
+        return list(steps_of(self.log))
+
+    def expect_audited(self):
+        """The program agrees with the log, by the definition."""
+        done = subprocess.run([PROGRAM, "audit", "--datadir", self.node], capture_output=True, text=True, timeout=60)
+        self.assertEqual((done.stdout, done.stderr), ("agrees\n", ""))
+
+    def ended(self):
+        """Waits until the node of a server that was killed has ended."""
+        with open(os.path.join(self.node, "lock"), "r+b") as file:
+            fcntl.flock(file, fcntl.LOCK_EX)
+
+    def shown(self, server):
+        """The state as calls show it, with the blocks of the tips, and those of the active branch by their heights."""
+        found = [server.call(name) for name in ("getbestblockhash", "getchaintips", "gettxoutsetinfo")]
+        tips = [server.call("getblock", tip["hash"], 0) for tip in found[1]]
+        return found + tips + server.call_each("getblockhash", range(server.call("getblockcount") + 1))
 
     def played(self, server):
         """Blocks with a signature, a reorganisation, refusals and marks."""
@@ -94,8 +148,7 @@ class FolderCase(unittest.TestCase):
         maker = Maker(script)
         blocks = maker.chain(101)
         server.call("setmocktime", GENESIS.time + 600 * 200)
-        for block in blocks:
-            self.assertIsNone(server.call("submitblock", block.hex()))
+        self.assertEqual(server.call_each("submitblock", [block.hex() for block in blocks]), [None] * 101)
         tx = spend(maker.coinbases[block_id(blocks[0])].id, 0, 4999990000, b"")
         tx = with_script(tx, 0, *signed(SECP, SECRETS[:1], tx, 0, script))
         spending = maker.block(block_id(blocks[-1]), [tx])
@@ -109,7 +162,7 @@ class FolderCase(unittest.TestCase):
         server.call("preciousblock", show(block_id(spending)))
         server.call("invalidateblock", "11" * 32)
         server.call("submitblock", "00")
-        return [server.call(name) for name in ("getbestblockhash", "getchaintips", "gettxoutsetinfo")]
+        return self.shown(server)
 
 
 class FolderTest(FolderCase):
@@ -117,50 +170,104 @@ class FolderTest(FolderCase):
         server = self.started()
         before = self.played(server)
         server.end(signal.SIGKILL)
-        # A command that wasn't saved whole is taken away.
-        for name, rest in (("journal.txt", b"112 rpc sub"), ("blocks.blk", b"\xfa\xbf\xb5"), ("table.txt", b"02")):
-            with open(os.path.join(self.folder, name), "ab") as file:
-                file.write(rest)
+        self.ended()
+        # A step that wasn't written whole was told to nobody.
+        with open(self.log, "ab") as file:
+            file.write(b"113 seat0 sub")
         again = self.started()
         self.assertEqual(again.told[0], f"111 commands of {self.folder} were taken again")
-        after = [again.call(name) for name in ("getbestblockhash", "getchaintips", "gettxoutsetinfo")]
-        self.assertEqual(after, before)
+        self.assertEqual(self.shown(again), before)
         self.assertEqual(again.call("stop"), "Wakotehu stopping")
         self.assertEqual(again.process.wait(10), 0)
         self.assertFalse(os.path.exists(again.cookie))
 
     def test_the_program_judges_the_folder(self):
-        if not os.path.exists(PROGRAM):
-            self.skipTest(f"{PROGRAM} isn't there: run ./build or rt ci first")
         server = self.started()
         self.played(server)
+        self.expect_audited()
         server.end(signal.SIGTERM)
-        done = subprocess.run([PROGRAM, "audit", "--saved", self.folder], capture_output=True, text=True)
-        self.assertEqual((done.stdout, done.stderr), ("agrees\n", ""))
+        self.expect_audited()
 
-    def test_a_journal_that_was_changed_is_refused(self):
+    def test_a_log_that_was_changed_is_refused(self):
         server = self.started()
         self.played(server)
         server.end(signal.SIGTERM)
-        path = os.path.join(self.folder, "journal.txt")
-        with open(path, encoding="ascii") as file:
+        with open(self.log, "rb") as file:
             text = file.read()
-        for wrong in (text.replace("= duplicate\n", "= accepted\n"), text.replace("2 rpc", "3 rpc", 1), "x\n" + text):
-            with open(path, "w", encoding="ascii") as file:
+        for wrong, told in (
+            (text.replace(b" = duplicate\t", b" = accepted\t"), "journal line 104: the node replies duplicate"),
+            (text.replace(b"2 seat", b"3 seat", 1), "journal line 2"), (b"x\n" + text, "journal line 1"),
+        ):  # fmt: skip
+            with open(self.log, "wb") as file:
                 file.write(wrong)
-            self.assertIn("journal.txt line", self.refused(f"-datadir={self.folder}"))
+            self.assertIn(f"wakotehu-server: {self.node}: {told}", self.refused(f"-datadir={self.folder}"))
 
     def test_one_server_has_the_folder(self):
         self.started()
         self.assertIn("in use by another server", self.refused(f"-datadir={self.folder}"))
 
+    def opened(self):
+        """How many commands the folder has, opened in this process."""
+
+        def pool(heights, known, node, sync):
+            return seats(heights, known, datadir=node, sync=sync)
+
+        with datadir.Folder(self.folder) as folder, folder.open(datadir.Opening(None, None, True, pool)) as found:
+            return found.loaded
+
+    def test_it_waits_for_the_node_of_a_server_that_was_killed(self):
+        """That node ends by itself, perhaps a while later."""
+        self.assertEqual(self.opened(), 0)
+        node = Node(seats=1, program=PROGRAM, datadir=self.node, verify=secp256k1)
+        self.addCleanup(node.kill)
+        node.seat(0).precious(GENESIS.id)
+        found, waits, locks = [], threading.Event(), datadir._locks
+
+        def looked(file):
+            is_locked = locks(file)
+            if not is_locked:
+                waits.set()
+            return is_locked
+
+        with unittest.mock.patch.object(datadir, "_locks", looked):
+            thread = threading.Thread(target=lambda: found.append(self.opened()))
+            thread.start()
+            self.assertTrue(waits.wait(30))
+            node.kill()
+            thread.join(30)
+        self.assertEqual(found, [1])
+
+    def test_another_process_has_the_node(self):
+        self.assertEqual(self.opened(), 0)
+        with Node(seats=1, program=PROGRAM, datadir=self.node, verify=secp256k1), \
+                unittest.mock.patch.object(datadir, "PATIENCE", 0.1), self.assertRaises(datadir.BadFolder) as caught:
+            self.opened()
+        self.assertEqual(str(caught.exception), f"{self.node} is in use by another process")
+
+    def test_a_folder_without_a_table(self):
+        self.started().end(signal.SIGTERM)
+        told = self.ends(f"-datadir={self.folder}", "-table=/dev/null")
+        self.assertEqual(told, f"wakotehu-server: {self.folder} was made without -table\n")
+
+    @unittest.skipIf(os.geteuid() == 0 and not shutil.which("setpriv"), "root may write everywhere")
+    def test_no_permission(self):
+        """A folder in which nothing may be written, or the node's, is refused."""
+        for path in (self.folder, self.node):
+            os.makedirs(self.node, exist_ok=True)
+            os.chmod(os.path.dirname(self.folder), 0o755)
+            os.chmod(self.folder, 0o777)
+            os.chmod(path, 0o555)
+            self.assertIn("ermission denied", self.ends(f"-datadir={self.folder}", unprivileged=True))
+            shutil.rmtree(self.folder)
+
     def test_heights(self):
         server = self.started("-regtest", "-testactivationheight=csv@432", "-testactivationheight=bip34@500")
         self.assertEqual(server.call("getblockchaininfo")["softforks"]["csv"]["height"], 432)
         server.end(signal.SIGTERM)
-        with open(os.path.join(self.folder, "heights.txt"), encoding="ascii") as file:
+        with open(os.path.join(self.node, "heights.txt"), encoding="ascii") as file:
             self.assertEqual(file.read(), "500,1,1,432\n")
-        self.assertIn("heights", self.refused(f"-datadir={self.folder}", "-testactivationheight=csv@1"))
+        told = self.refused(f"-datadir={self.folder}", "-testactivationheight=csv@1")
+        self.assertIn("the folder was made with other heights", told)
         again = self.started()
         self.assertEqual(again.call("getblockchaininfo")["softforks"]["bip34"]["height"], 500)
 
@@ -214,6 +321,177 @@ class FolderTest(FolderCase):
         for flag, word in table:
             with self.subTest(flag):
                 self.assertIn(word, self.refused(flag))
+
+
+class KillTest(FolderCase):
+    """Servers that are killed while several connections call."""
+
+    def test_nothing_that_was_answered_is_missing(self):
+        """Six connections submit branches with right and wrong signatures, mark and read, until the server is killed."""
+        draw, told, heights = random.Random(11), [], []
+        mined = Mined(106)
+        server = self.started()
+        server.call("setmocktime", NOW)
+        self.assertEqual(server.call_each("submitblock", [block.hex() for block in mined.chain]), [None] * 106)
+        for life in range(3):
+            enough = threading.Event()
+            threads = [
+                threading.Thread(target=self.branch, args=(server, mined, life, number, told, heights, enough))
+                for number in range(6)
+            ]
+            wanted = len(told) + draw.randrange(20, 70)
+            for thread in threads:
+                thread.start()
+            while len(told) < wanted and any(thread.is_alive() for thread in threads):
+                time.sleep(0.001)
+            server.process.kill()
+            enough.set()
+            for thread in threads:
+                thread.join(30)
+            server.end(signal.SIGKILL)
+            server = self.started(*["-no-fsync"] * (life % 2))
+            server.call("setmocktime", NOW)
+            self.expect_all(server, mined, told, heights)
+        server.end(signal.SIGKILL)
+        self.expect_audited()
+        signed = [step.rest for step in self.logged() if step.command in VERDICTS]
+        self.assertEqual(len(signed), len(set(signed)))
+        self.assertGreater(len(signed), 20)
+
+    def branch(self, server, mined, life, number, told, heights, enough):
+        """Submits a branch, each block behind one as high with a wrong signature, and marks; what is answered is told."""
+        tip, wrong, paid = mined.tip, mined.spend(number, secret=1), mined.spend(number)
+        while not enough.is_set():
+            block, other = (mined.block(tip, [tx], bytes([life, number, place])) for place, tx in enumerate((paid, wrong)))
+            for method, param, id in (
+                ("submitblock", other.hex(), block_id(other)), ("submitblock", block.hex(), block_id(block)),
+                ("preciousblock", show(block_id(block)), block_id(block)), ("getblockcount", None, None),
+            ):  # fmt: skip
+                try:
+                    answer = server.call(method, *[param] * (param is not None))
+                except (OSError, http.client.HTTPException, ValueError):
+                    return
+                (told if id else heights).append((method, id, answer) if id else answer)
+            tip, wrong, paid = block_id(block), then(paid, right=False), then(paid)
+
+    def expect_all(self, server, mined, told, heights):
+        """All that was answered is there: steps in the log, blocks by their heights."""
+        self.assertGreaterEqual(server.call("getblockcount"), max(heights, default=0))
+        found = collections.Counter((step.command, step.reply.split(" ")[0], id) for step, id in zip(self.logged(), self.ids()))
+        replies = {None: "accepted"}
+        for method, id, answer in set(told):
+            command = ("precious", "done", id) if method == "preciousblock" else ("submit", replies.get(answer, answer), id)
+            self.assertGreaterEqual(found[command], told.count((method, id, answer)), command)
+            if method == "submitblock":
+                header = server.call("getblockheader", show(id))
+                self.assertEqual((header["hash"], header["height"]), (show(id), mined.maker.heights[id]))
+        at = server.call("getbestblockhash")
+        for height in range(server.call("getblockcount"), 100, -1):
+            self.assertEqual(server.call("getblockhash", height), at)
+            at = server.call("getblockheader", at).get("previousblockhash")
+
+    def ids(self):
+        """The ids of the log's steps."""
+        with open(self.log, "rb") as file:
+            return [read_id(line.split(b" ")[3].partition(b"\t")[0].decode()) for line in file]
+
+    def test_no_signature_is_asked_for_again(self):
+        """Neither by commands nor by blocks that are judged beforehand."""
+        asked, mined = [Counted(), Counted()], Mined(104)
+        right, wrong = mined.spend(0), mined.spend(1, secret=1)
+        running = self.running(asked[0])
+        for block in mined.chain:
+            self.assertIsNone(running.call("submitblock", block.hex()))
+        good, sibling = (mined.block(mined.tip, [right], extra) for extra in (b"1", b"2"))
+        bad = mined.block(block_id(good), [wrong])
+        told = [running.call("submitblock", block.hex()) for block in (good, bad, sibling)]
+        self.assertEqual((told, len(asked[0].asked)), ([None, "blk-bad-inputs", "inconclusive"], 2))
+        running.stop()
+        running = self.running(asked[1])
+        self.assertIsNone(running.call("preciousblock", show(block_id(sibling))))
+        self.assertEqual(running.call("getbestblockhash"), show(block_id(sibling)))
+        self.assertIsNone(running.call("invalidateblock", show(block_id(mined.chain[103]))))
+        made = running.call("generateblock", "raw(51)", [write_transaction(right).hex()])
+        self.assertEqual(running.call("getbestblockhash"), made["hash"])
+        told = running.call("generateblock", "raw(51)", [write_transaction(wrong).hex()])
+        self.assertEqual(told["message"], "TestBlockValidity failed: blk-bad-inputs 1:0")
+        self.assertEqual(asked[1].asked, [])
+
+    def running(self, verify):
+        """A server over a node that keeps its history, in this process."""
+        os.makedirs(self.folder, exist_ok=True)
+        running = Running(seats(verify=verify, datadir=self.node))
+        self.addCleanup(running.stop)
+        running.call("setmocktime", NOW)
+        return running
+
+    def test_what_is_known_of_blocks(self):
+        """It is the same when it is read from the log: blocks with a twin of the same header, and blocks that were refused over
+        their coins, reconsidered, and built on."""
+        os.makedirs(self.folder)
+        maker, pools = Maker(), [seats(datadir=self.node)]
+        self.addCleanup(lambda: pools[-1].close())
+        pool, chain = pools[0], maker.chain(8)
+        bad = maker.block(block_id(chain[2]), more=1)
+        child = maker.block(block_id(bad))
+        higher = maker.block(block_id(child))
+        spends = [spend(maker.coinbases[block_id(block)].id, 0, 1, b"") for block in chain[:2]]
+        short = maker.block(block_id(chain[7]), spends)
+        # The last of three once more: the Merkle root is the same.
+        long = short[:80] + b"\x04" + b"".join(map(write_transaction, [*read_block(short).transactions, spends[1]]))
+        with pool.turn:
+            for block in chain[:3]:
+                self.assertEqual(pool.try_submit(block, NOW).text, "accepted")
+            self.assertEqual(pool.try_submit(bad, NOW).text, "bad-cb-amount")
+            self.assertEqual(pool.try_submit(child, NOW).text, "bad-prevblk")
+            for block in chain[3:]:
+                self.assertEqual(pool.try_submit(block, NOW).text, "accepted")
+            self.assertEqual(pool.try_mark("reconsider", block_id(bad)).text, "done")
+            for block, reply in (
+                (child, "inconclusive"), (bad, "duplicate-inconclusive"), (higher, "inconclusive"), (long, "bad-txns-duplicate"),
+                (short, "bad-txns-premature-spend-of-coinbase"), (short, "duplicate-invalid"), (long, "duplicate-invalid"),
+            ):  # fmt: skip
+                self.assertEqual(pool.try_submit(block, NOW).text, reply)
+        self.assertEqual((long[:80], pool.block(block_id(short))), (short[:80], short))
+        pool.close()
+        pools.append(seats(datadir=self.node))
+        again = pools[1]
+        self.assertEqual(set(again.index.blocks), {GENESIS.id, *map(block_id, [*chain, bad, child, higher, short])})
+        self.assertEqual({id: again.block(id) for id in again.index.blocks}, {id: pool.block(id) for id in pool.index.blocks})
+        for name in ("blocks", "active", "transactions", "highest"):
+            self.assertEqual(getattr(again.index, name), getattr(pool.index, name), name)
+        self.assertEqual((again.steps, again.loaded), (pool.steps, 18))
+
+
+class DiskTest(FolderCase):
+    """A disk that fails: a library under the node fails at one of the calls that write."""
+
+    def test_a_disk_that_takes_no_more(self):
+        """The call is answered by an error, the server stops, and the next one has all that was answered."""
+        source = f"{ROOT}/tests/durable/disk.c"
+        os.makedirs(self.folder)
+        library, program = (os.path.join(self.folder, name) for name in ("disk.so", "regchain"))
+        if not shutil.which("cc") or not os.path.exists(source):
+            self.skipTest("the library can't be built here")
+        subprocess.run(["cc", "-O1", "-shared", "-fPIC", "-o", library, source, "-ldl"], check=True)
+        for how in ("FAIL_AT=40", "CUT_AT=41"):
+            with open(program, "w", encoding="ascii") as file:
+                file.write(f"#!/bin/sh\nLD_PRELOAD={library} {how} exec {PROGRAM} \"$@\"\n")
+            os.chmod(program, 0o700)
+            self.folder = os.path.join(os.path.dirname(program), how)
+            server, told = self.started(WAKOTEHU_PROGRAM=program), []
+            for block in Maker().chain(40):
+                if server.call("submitblock", block.hex()) is not None:
+                    break
+                told.append(block)
+            self.assertGreater(len(told), 10)
+            self.assertEqual(server.process.wait(10), 1)
+            why = "wakotehu-server: A fatal internal error occurred: NotSaved: not saved (-32004): cannot write history.log: "
+            self.assertEqual(server.process.stderr.read(), why + "No space left on device\n")
+            again = self.started()
+            for block in told:
+                self.assertEqual(again.call("getblock", show(block_id(block)), 0), block.hex())
+            self.assertLess(again.call("getblockcount"), 40)
 
 
 class FlagsTest(FolderCase):
@@ -330,7 +608,7 @@ class CookieTest(FolderCase):
 
     def command(self, *words, **environment):
         server = Command(*words, **environment)
-        self.addCleanup(lambda: server.process.poll() is None and server.end(signal.SIGKILL))
+        self.addCleanup(server.end, signal.SIGKILL)
         return server
 
     def test_of_another_port(self):
@@ -345,7 +623,7 @@ class CookieTest(FolderCase):
         """The one that comes later doesn't start, and leaves the other's."""
         first = self.home()
         port = first.url.rstrip("/").rpartition(":")[2]
-        told = self.refused(f"-rpcport={port}", HOME=os.path.dirname(self.folder))
+        told = self.ends(f"-rpcport={port}", HOME=os.path.dirname(self.folder))
         self.assertIn("Address already in use", told)
         self.assertEqual(first.call("getblockcount"), 0)
 

@@ -7,8 +7,8 @@ of the block itself: where one below it fails it is `inconclusive`, there as her
 
 import unittest
 
-from servers import Running
-from wakotehu import Bench, show
+from servers import Running, seats
+from wakotehu import show
 from wakotehu.encoding import (
     GENESIS, Block, Header, Input, Output, Transaction, coinbase, double_sha, hash160, merkle_root, mine, push, push_number,
     read_block, subsidy, write_block,
@@ -48,7 +48,7 @@ class Chain(unittest.TestCase):
     ready = 33
 
     def setUp(self):
-        self.running = Running(Bench(heights=self.heights))
+        self.running = Running(seats(self.heights))
         self.addCleanup(self.running.stop)
         self.call = self.running.call
         self.call("setmocktime", GENESIS.time + PAUSE * 5000)

@@ -2,6 +2,7 @@
 
 import asyncio
 import os
+import shutil
 import subprocess
 import tempfile
 import threading
@@ -34,6 +35,43 @@ class NodeTest(unittest.TestCase):
 
     def fake(self, body):
         return fake(self.room, body)
+
+    # ---- a folder of its own
+
+    def test_a_data_directory(self):
+        """What was answered is there, however the process ended; heights and table are the folder's."""
+        folder = os.path.join(self.room, "data")
+        b1, b2 = self.maker.chain(2)
+        node = self.node(seats=2, heights=(5, 6, 7, 8), datadir=folder)
+        self.assertEqual(node.seat(0).submit(b1, NOW), Stamped(1, "accepted"))
+        self.assertRaises(errors.NodeDied, Node, program=PROGRAM, datadir=folder)
+        node.kill()
+        with Node(seats=1, program=PROGRAM, datadir=folder, sync=False) as node:
+            self.assertEqual(node.info[4:], ((5, 6, 7, 8), 1))
+            self.assertEqual(node.seat(0).getbestblockhash(), Stamped(1, block_id(b1)))
+            self.assertEqual(node.seat(0).submit(b2, NOW), Stamped(2, "accepted"))
+        self.assertRaises(errors.NodeDied, Node, program=PROGRAM, datadir=folder, heights=(1, 1, 1, 1))
+
+        async def again():
+            async with AsyncNode(seats=1, program=PROGRAM, datadir=folder) as node:
+                return await node.seat(0).getbestblockhash()
+
+        self.assertEqual(asyncio.run(again()), Stamped(2, block_id(b2)))
+        for words in ({"load": folder}, {"save": folder}):
+            self.assertRaises(ValueError, Node, program=PROGRAM, datadir=folder, **words)
+        self.assertRaises(ValueError, Node, program=PROGRAM, sync=False)
+
+    def test_a_history_under_a_table(self):
+        """Where a table is given it has to be the folder's, an empty one too."""
+        folder, table = os.path.join(self.room, "data"), "02 30 " + "00" * 32 + "\n"
+        self.node(datadir=folder, table=table).close()
+        for given in (None, table, table.encode()):
+            self.node(datadir=folder, table=given).close()
+        for wrong in ("", b"# none\n", "03" + table[2:]):
+            with self.assertRaisesRegex(errors.NodeDied, "the folder was made with another table"):
+                Node(program=PROGRAM, datadir=folder, table=wrong)
+        self.node(datadir=folder + "2", table="").close()
+        self.node(datadir=folder + "2", table="").close()
 
     # ---- calls
 
@@ -241,7 +279,7 @@ class NodeTest(unittest.TestCase):
         folder = os.path.join(self.room, "saved")
         os.mkdir(folder)
         node = self.node(save=folder)
-        os.rmdir(folder)
+        shutil.rmtree(folder)
         with self.assertRaises(errors.BadRequest) as caught:
             node.close()
         self.assertEqual(caught.exception.code, -32004)

@@ -101,7 +101,9 @@ class InstallTest(unittest.TestCase):
         asked = "from wakotehu import Bench, Node; print(Bench().height(), Node(save='made').close())"
         self.assertEqual(run(python, "-W", "ignore", "-c", asked, cwd=self.folder, env=names), "0 0\n")
         self.assertTrue(os.path.exists(f"{self.folder}/made/journal.txt"))
-        self.assertIn("usage", run(f"{self.folder}/venv/bin/wakotehu-server", "--help", cwd=self.folder, env=names))
+        for command in ("wakotehu-server", "wakotehu-replica"):
+            self.assertIn("usage", run(f"{self.folder}/venv/bin/{command}", "--help", cwd=self.folder, env=names))
+        self.assertTrue(os.path.exists(f"{package}/replica.sql"))
 
     def test_the_wheel_needs_the_program(self):
         done = subprocess.run(

@@ -4,14 +4,13 @@ The reasons of the table are what a program of Bitcoin Core 0.21's code answered
 (Debian's litecoind 0.21.2.1), except for those of signatures and of BIPs 30 and 68, which are RULES.md's.
 """
 
-import os
 import unittest
 from unittest import mock
 
 from blocks import Maker, block_id, signed, spend, with_script
-from servers import Running
+from servers import PROGRAM, Running, seats
 from test_bench import KEYS, SECP, SECRETS, pay_to_key
-from wakotehu import Bench, consensus, show
+from wakotehu import consensus, show
 from wakotehu.consensus import Triple
 from wakotehu.encoding import (
     GENESIS, Input, Output, Transaction, block_at_front, coinbase, hash160, mine, push, signature_digest,
@@ -21,7 +20,6 @@ from wakotehu.pool import Pool
 from wakotehu.rpc import node as rpc_node
 from wakotehu.rpc.trial import fault
 
-PROGRAM = os.environ.get("WAKOTEHU_PROGRAM")
 COIN, LAST = 50 * 100_000_000, 0xFFFFFFFF
 MISSING, LOCKED = "bad-txns-inputs-missingorspent", "bad-txns-nonfinal"
 
@@ -39,7 +37,7 @@ class Blocks(unittest.TestCase):
     heights = (1, 1, 1, 1)
 
     def start(self):
-        return Running(Bench(self.heights))
+        return Running(seats(self.heights))
 
     def setUp(self):
         self.running = self.start()
@@ -170,7 +168,7 @@ class TrialTest(Blocks):
         signature = bytes.fromhex("3006020101020101")
         triple = Triple(KEYS[0], signature, digest)
         for table, reason in ((b"", "blk-bad-inputs 1:0"), (b"# ours\n\n" + triple.line.replace(b" ", b"  "), "")):
-            running = Running(Bench(self.heights, table))
+            running = Running(seats(self.heights, table))
             self.addCleanup(running.stop)
             running.call("setmocktime", GENESIS.time + 600 * 200)
             for block in self.blocks:
@@ -180,7 +178,7 @@ class TrialTest(Blocks):
             self.assertEqual(told.get("message", ""), reason and f"TestBlockValidity failed: {reason}")
 
 
-class OverSeatsTest(Blocks):
+class TableTest(Blocks):
     """The same where a table has the signatures."""
 
     def start(self):

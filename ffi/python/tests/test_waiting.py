@@ -96,7 +96,7 @@ class WaitingTest(unittest.TestCase):
     # ---- for how long
 
     def test_a_call_waits_no_longer_than_it_may(self):
-        node = self.node(SILENT, timeout=0.5)
+        node = self.node(SILENT, timeout=2.0)
         self.assertRaises(wakotehu.TimedOut, node.seat(0).note)
         self.assertEqual(node.seat(0).getbestblockhash().value, bytes(32))
         self.assertTrue(issubclass(wakotehu.TimedOut, TimeoutError))
@@ -114,7 +114,7 @@ class WaitingTest(unittest.TestCase):
         self.assertRaises(wakotehu.TimedOut, asyncio.run, opened.__aenter__())
 
     def test_a_line_that_nobody_reads(self):
-        node = self.node(DEAF, timeout=0.5)
+        node = self.node(DEAF, timeout=2.0)
         self.assertRaises(wakotehu.TimedOut, node.seat(0).note)
         for _ in range(2):
             self.assertRaises(wakotehu.TimedOut, node.seat(0).submit, bytes(10**6), NOW)
@@ -309,7 +309,7 @@ class AsyncWaitingTest(unittest.IsolatedAsyncioTestCase):
         return AsyncNode(seats=1, program=fake(self.room, body), **more)
 
     async def test_a_call_waits_no_longer_than_it_may(self):
-        node = await self.node(SILENT, timeout=0.5).__aenter__()
+        node = await self.node(SILENT, timeout=2.0).__aenter__()
         with self.assertRaises(wakotehu.TimedOut):
             await node.seat(0).note()
         self.assertEqual((await node.seat(0).getbestblockhash()).value, bytes(32))
@@ -323,7 +323,7 @@ class AsyncWaitingTest(unittest.IsolatedAsyncioTestCase):
             await node.seat(0).note()
 
     async def test_a_line_that_nobody_reads(self):
-        node = await self.node(DEAF, timeout=0.5).__aenter__()
+        node = await self.node(DEAF, timeout=2.0).__aenter__()
         for call in (node.seat(0).note(), node.seat(0).submit(bytes(10**6), NOW), node.seat(0).note()):
             with self.assertRaises(wakotehu.TimedOut):
                 await call

@@ -10,10 +10,11 @@ guessed wrong.
 import hashlib
 import struct
 from bisect import bisect_right
-from typing import Any, Callable, Dict, Iterable, List, NamedTuple, Optional, Sequence, Tuple
+from typing import Any, Callable, Dict, Iterable, List, NamedTuple, Optional, Sequence, Set, Tuple
 
 from .consensus import Triple, hash160, ripemd160, signature_digest, strict_signature
 from .encoding import Spelled, Transaction, operations, push
+from .signatures import KnownSignatures
 
 #: So many bytes of a block are looked at for signatures at most; some are looked at more than once.
 _MOST_LOOKED_AT = 1 << 26
@@ -32,6 +33,12 @@ class Flags(NamedTuple):
     dersig: bool
     cltv: bool
     csv: bool
+
+    @classmethod
+    def at(cls, height: int, heights: Sequence[int]) -> "Flags":
+        """Those of a block of a height, by the heights of soft forks."""
+        _, cltv, dersig, csv = heights
+        return cls(height >= dersig, height >= cltv, height >= csv)
 
 
 class _Stop(Exception):
@@ -483,3 +490,38 @@ def _add_wanted(inputs: _Inputs, wanted: Sequence[Triple], again: bool) -> Optio
         if again or not data.startswith(bytes([len(key) & 255]) + key, at):
             at = ends[needle] = inputs.add(found)
     return missing if len(missing) < len(wanted) else None
+
+
+# ---- the rounds of a command
+
+
+class Rounds:
+    """What the scripts of one command of a node want, round by round, and what they will want next.
+
+    places: the blocks whose scripts the command may run, the lowest first.
+    transaction: a transaction of a kept block, or None.
+    learn: tells the node verdicts, besides those that it asked for.
+    """
+
+    def __init__(
+        self, known: KnownSignatures, places: Callable[[], Iterable[Place]],
+        transaction: Callable[[bytes], Optional[Transaction]], learn: Callable[[Sequence[bytes], Sequence[bool]], None],
+    ) -> None:  # fmt: skip
+        self._known, self._places, self._transaction, self._learn = known, places, transaction, learn
+        self._verdicts: Dict[Triple, bool] = {}
+        self._told: Set[Triple] = set()
+
+    def verdicts(self, lines: Sequence[bytes]) -> List[bool]:
+        """Whether the wanted signatures are valid. The node is told before what the scripts will want next."""
+        wanted, found, is_again = Triple.of_lines(lines), self._known.verdicts(lines), bool(self._told)
+        self._verdicts.update(zip(wanted, found))
+        self._told.update(wanted)
+        asked = found_out(asking(wanted, self._places(), self._transaction, is_again), self._verdicts, self._test)
+        more = [triple for triple in asked if triple not in self._told]
+        if more:
+            self._learn([triple.line[:-1] for triple in more], [self._verdicts[triple] for triple in more])
+            self._told.update(more)
+        return found
+
+    def _test(self, triples: List[Triple]) -> List[bool]:
+        return self._known.verdicts([triple.line[:-1] for triple in triples])

@@ -13,9 +13,10 @@ from .arguments import Path
 from .chainstate import Coin, Reply, Tip
 from .served import (
     BEST, FINISH, INFO, KEPT, MOST, NOTE, TIMEOUT, TIPS, UNDER_WAY, BlockHeader, Call, Entry, Info, Opening, Stamped,
-    UnspentOutput, block_of, checked, coins_above, died, entries, hash_at, header_of, longer_than, mark, outcome, output,
-    outputs, read_answer, request, submission, told,
+    UnspentOutput, Wanted, block_of, checked, coins_above, died, entries, hash_at, header_of, longer_than, mark,
+    outcome, output, outputs, read_answer, request, submission, told, verdicts,
 )  # fmt: skip
+from .signatures import Verify
 
 #: Requests of no seat, and of each.
 _KINDS = MOST + 1
@@ -255,13 +256,25 @@ class AsyncSeat:
     async def _ask(self, call: Call) -> Any:
         return outcome(await self.node._opened().begun(call, self.number), call)
 
+    async def _command(self, call: Call) -> Any:
+        """As `Seat._command`. Signatures are found out by a thread of the event loop's."""
+        while True:
+            try:
+                return await self._ask(call)
+            except Wanted as wanted:
+                lines = wanted.lines
+            verify = self.node._opening.verify
+            assert verify is not None
+            for told in await asyncio.get_running_loop().run_in_executor(None, verdicts, lines, verify):
+                await self._ask(told)
+
     async def submit(self, block: bytes, now: Optional[int] = None) -> Stamped[str]:
         """As `Seat.submit`."""
         return checked(await self.try_submit(block, now))
 
     async def try_submit(self, block: bytes, now: Optional[int] = None) -> Stamped[Reply]:
         """As `Seat.try_submit`."""
-        answered: Stamped[Reply] = await self._ask(submission(block, now))
+        answered: Stamped[Reply] = await self._command(submission(block, now))
         return answered
 
     async def invalidate(self, id: bytes) -> Stamped[str]:
@@ -278,7 +291,7 @@ class AsyncSeat:
 
     async def try_mark(self, command: str, id: bytes) -> Stamped[Reply]:
         """As `Seat.try_mark`."""
-        answered: Stamped[Reply] = await self._ask(mark(command, id))
+        answered: Stamped[Reply] = await self._command(mark(command, id))
         return answered
 
     async def gettxout(self, txid: bytes, n: int) -> Stamped[Optional[UnspentOutput]]:
@@ -364,9 +377,10 @@ class AsyncNode:
         self, seats: int = 4, workers: int = 2, heights: Optional[Sequence[int]] = None,
         table: Optional[Union[str, bytes]] = None, program: Optional[Path] = None, *,
         blk: Optional[Path] = None, load: Optional[Path] = None, save: Optional[Path] = None,
-        timeout: Optional[float] = TIMEOUT,
+        datadir: Optional[Path] = None, sync: bool = True, timeout: Optional[float] = TIMEOUT,
+        verify: Optional[Verify] = None,
     ) -> None:  # fmt: skip
-        self._opening = Opening(seats, workers, heights, table, program, blk, load, save, timeout)
+        self._opening = Opening(seats, workers, heights, table, program, blk, load, save, datadir, sync, timeout, verify)
         self._pipe: Optional[_Pipe] = None
         self._kept: Dict[int, "ref[AsyncSeat]"] = {}
 

@@ -233,8 +233,7 @@ class Bench(Walks):
                 yield ahead.Place(step.spelled, self._flags_at(index.blocks[tip].height + 1))
 
     def _flags_at(self, height: int) -> ahead.Flags:
-        _, cltv, dersig, csv = self.heights
-        return ahead.Flags(height >= dersig, height >= cltv, height >= csv)
+        return ahead.Flags.at(height, self.heights)
 
     def invalidate(self, id: bytes) -> None:
         """As `Chainstate.invalidate`."""

@@ -3,6 +3,8 @@
 from typing import TYPE_CHECKING, Dict, List, Optional, Sequence, Type
 
 if TYPE_CHECKING:
+    from uuid import UUID
+
     from .consensus import Triple
 
 
@@ -41,6 +43,11 @@ class BadRequest(Error):
         self.data = data
 
 
+class NotSaved(BadRequest):
+    """The history couldn't be saved, or kept in the folder of `datadir`: then nothing is answered any more. Whether a call
+    that was under way is a step is open until the folder is opened again."""
+
+
 class NodeDied(Error):
     """A node's process has ended. `status` is its status, `stderr` the end of what it wrote on the standard error."""
 
@@ -53,6 +60,44 @@ class NodeDied(Error):
 class TimedOut(Error, TimeoutError):
     """A node's answer didn't come in time. Whether the step was taken isn't known; the answer is dropped when it comes.
     Until then it counts among the requests of its seat that are under way."""
+
+
+class DatabaseMissing(Error):
+    """Python's psycopg isn't found, which a `Replica` needs."""
+
+
+class NoHistory(Error):
+    """The database has no history of this package: `wakotehu-replica init` makes one."""
+
+
+class Unavailable(Error):
+    """The database can't be reached, or refuses rows. The command isn't in the table, and won't be."""
+
+
+class ReadOnly(Error):
+    """The replica only follows: its role may not write."""
+
+
+class Undecided(TimedOut):
+    """A write wasn't answered in time. Its row may be in the table, or come there later, with this token: `Replica.find`
+    looks for it."""
+
+    def __init__(self, message: str, token: "UUID") -> None:
+        super().__init__(f"{message} (token {token})")
+        self.token = token
+
+
+class BadRow(Error):
+    """A row of the table isn't what a replica writes: a place that isn't there, or a command that can't be taken."""
+
+
+class ReplicaDiffers(Error):
+    """Of a place of the table two replicas have different replies, or verdicts. `own` is this replica's, `other` the one of
+    the replica of that name. Which one is right isn't known, so both replicas stop; `wakotehu-replica check` finds out."""
+
+    def __init__(self, place: int, own: str, other: str, replica: str) -> None:
+        super().__init__(f"place {place}: this replica replies {own!r}, and {replica} {other!r}")
+        self.place, self.own, self.other, self.replica = place, own, other, replica
 
 
 class OtherProcess(Error):

@@ -95,11 +95,11 @@ def library() -> ctypes.CDLL:
 
 
 def secp256k1_library() -> Optional[ctypes.CDLL]:
-    """The library beside it that tests signatures; None where it isn't there, or libsecp256k1 isn't."""
+    """The library beside it that tests signatures; None where either isn't there, or libsecp256k1 isn't."""
     try:
         # Without a folder the linker looks for it, as it did for the other one.
         loaded = ctypes.CDLL(os.path.join(os.path.dirname(library()._name), _SECP256K1))
-    except OSError:
+    except (LibraryMissing, OSError):
         return None
     call = loaded.wakotehu_secp256k1_verdicts
     call.argtypes, call.restype = [c_char_p, c_size_t, c_size_t, c_char_p, c_size_t], c_int

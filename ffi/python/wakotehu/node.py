@@ -16,9 +16,10 @@ from .chainstate import Coin, Reply, Tip
 from .pipe import Pipe
 from .served import (
     BEST, FINISH, INFO, NOTE, TIMEOUT, TIPS, UNDER_WAY, BlockHeader, Call, Entry, Info, Opening, Stamped, UnspentOutput,
-    block_of, checked, coins_above, entries, hash_at, header_of, longer_than, mark, output, outputs, program_path,
-    submission, told,
+    Wanted, block_of, checked, coins_above, entries, hash_at, header_of, learning, longer_than, mark, output, outputs,
+    program_path, submission, told, verdicts,
 )  # fmt: skip
+from .signatures import Verify
 
 __all__ = [
     "UNDER_WAY", "AsyncNode", "AsyncSeat", "BlockHeader", "Entry", "Info", "Node", "Seat", "Stamped", "UnspentOutput", "program_path",
@@ -38,6 +39,20 @@ class Seat:
     def _ask(self, call: Call) -> Any:
         return self.node._pipe.ask(call, self.number)
 
+    def _command(self, call: Call) -> Any:
+        """Makes a command. Where it wants signatures, finds out which are valid, tells the node, and makes it again."""
+        while True:
+            try:
+                return self._ask(call)
+            except Wanted as wanted:
+                lines = wanted.lines
+            assert self.node._verify is not None
+            self.node._pipe.ask_all(verdicts(lines, self.node._verify), self.number)
+
+    def _learn(self, lines: Sequence[bytes], found: Sequence[bool]) -> None:
+        """Tells the node verdicts that it didn't ask for."""
+        self.node._pipe.ask_all(learning(lines, found), self.number)
+
     # ---- commands
 
     def submit(self, block: bytes, now: Optional[int] = None) -> Stamped[str]:
@@ -51,7 +66,7 @@ class Seat:
 
     def try_submit(self, block: bytes, now: Optional[int] = None) -> Stamped[Reply]:
         """The same, and a refusal is answered, not raised."""
-        answered: Stamped[Reply] = self._ask(submission(block, now))
+        answered: Stamped[Reply] = self._command(submission(block, now))
         return answered
 
     def invalidate(self, id: bytes) -> Stamped[str]:
@@ -68,7 +83,7 @@ class Seat:
 
     def try_mark(self, command: str, id: bytes) -> Stamped[Reply]:
         """One of "invalidate", "reconsider", "precious"; a refusal is answered, not raised."""
-        answered: Stamped[Reply] = self._ask(mark(command, id))
+        answered: Stamped[Reply] = self._command(mark(command, id))
         return answered
 
     # ---- reads
@@ -150,23 +165,32 @@ class Node:
     blk: a file of blocks that are submitted first.
     load: the folder of an earlier run, which is played again first, under its own heights and table.
     save: the folder into which the history is saved at the end; it may be the same. It is made where it isn't there.
-    timeout: how many seconds a call waits for its answer, `close` and the opening with `blk` or `load` included; None is
+    verify: finds out which signatures are valid, as scripts ask for them, in place of a table: `secp256k1`, or a function that
+        says of lines as a table's which are. It runs on the threads of those who call `submit` and the marks, while no other
+        call waits for it.
+    datadir: the folder in which the history is kept, of this node alone. It is made where it isn't there, under these heights
+        and this table; else the node goes on from it, and None of them stands for what it has. An answer comes when its
+        steps are on the disk: however the process or the machine ends, nothing that was answered is lost.
+    sync: False answers without waiting for the disk; a crash of the machine may then lose what was answered.
+    timeout: how many seconds a call waits for its answer, `close` and the opening with `blk`, `load` or `datadir` included; None is
         for ever. Then it raises `TimedOut`.
 
         with Node(seats=2) as node:
             node.seat(0).submit(block)
 
     Any thread may call, of the process that opened it. Where the node's process ends, calls raise `NodeDied`; after
-    `close`, `Closed`. A node that is dropped without `close` ends its process, and nothing is saved.
+    `close`, `Closed`. A node that is dropped without `close` ends its process, and nothing is saved but what `datadir` has.
     """
 
     def __init__(
         self, seats: int = 4, workers: int = 2, heights: Optional[Sequence[int]] = None,
         table: Optional[Union[str, bytes]] = None, program: Optional[Path] = None, *,
         blk: Optional[Path] = None, load: Optional[Path] = None, save: Optional[Path] = None,
-        timeout: Optional[float] = TIMEOUT,
+        datadir: Optional[Path] = None, sync: bool = True, timeout: Optional[float] = TIMEOUT,
+        verify: Optional[Verify] = None,
     ) -> None:  # fmt: skip
-        opening = Opening(seats, workers, heights, table, program, blk, load, save, timeout)
+        opening = Opening(seats, workers, heights, table, program, blk, load, save, datadir, sync, timeout, verify)
+        self._verify = opening.verify
         self._count = opening.seats
         # Seats keep their node, not the other way round: so it is seen at once that nobody has it any more.
         self._kept: Dict[int, "ref[Seat]"] = {}

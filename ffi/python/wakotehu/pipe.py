@@ -306,10 +306,11 @@ class Pipe:
 
     def _said(self) -> bytes:
         """The end of the standard error."""
-        if self._stderr.closed:
-            return self._fault
-        size = os.fstat(self._stderr.fileno()).st_size
-        return os.pread(self._stderr.fileno(), KEPT, max(0, size - KEPT))
+        try:
+            file = self._stderr.fileno()
+            return os.pread(file, KEPT, max(0, os.fstat(file).st_size - KEPT))
+        except (OSError, ValueError):
+            return self._fault  # another thread has closed it meanwhile, and kept what it said before
 
     def end(self, wait: bool) -> None:
         """Ends the process, unless it ends by itself in time; and gives back what it took."""

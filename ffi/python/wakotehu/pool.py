@@ -1,49 +1,63 @@
 """A node of many seats as one bench, for a server whose connections call beside one another."""
 
+import os
 import threading
 from contextlib import contextmanager
 from types import TracebackType
 from typing import Callable, Dict, Iterator, List, NoReturn, Optional, Sequence, Tuple, Type, TypeVar, Union
 
-from . import arguments, errors
-from .arguments import id_of, octets
-from .chainstate import REGTEST, Coin, Reply, Tip, read_heights
+from . import ahead, errors
+from .arguments import Path, id_of, lines, octets, path
+from .chainstate import Coin, Reply, Tip
 from .encoding import EncodingError, Spelled, block_at_front, double_sha
+from .history import LOG, VERDICTS, past_of
 from .index import Index, Unspent, Walks
 from .node import Node, Seat, Stamped
+from .signatures import KnownSignatures, Verify
 
 T = TypeVar("T")
+#: Coins with their outpoints.
+Coins = List[Tuple[bytes, int, Coin]]
 
 #: As many as a node may have.
 SEATS = 16
 
 
 class Pool(Walks):
-    """What `Bench` has, over the seats of a `Node`. No signatures are valid but the table's.
+    """What `Bench` has, over the seats of a `Node`.
+
+    table: the valid signatures, as lines; no others are.
+    verify: finds out which others are valid, as scripts ask for them: a function as `Node`'s. It runs on the thread that
+        submits, which holds no lock then.
+    datadir, sync: as `Node`'s. What is known of blocks and signatures begins with what the folder's log tells.
 
     A thread has a seat from its first call until `leave`; where all are taken it shares the one that the fewest threads
     have. Who calls holds `turn`, and it is let go while the node answers: so a read waits for no submission of another
     thread, and two submissions are judged at once.
 
-    What is known of blocks (`index`) follows the history. Each thread takes its own step up, in the order of the steps,
-    and returns when the active branch is known as it was after that step or a later one. A seat that has seen less than
-    the one that took the last step hears of it before it reads: so a read comes after every step that was answered.
+    What is known of blocks (`index`) follows the history. Each thread takes its own command up, in the order of the
+    steps, and returns when the active branch is known as it was after that step or a later one. Steps that are verdicts
+    are nobody's to take up: the journal says which those are. A seat that has seen less than the one that took the last
+    step hears of it before it reads: so a read comes after every step that was answered.
     """
 
     def __init__(
-        self, heights: Sequence[int] = REGTEST, table: Union[str, bytes] = b"", seats: int = SEATS, workers: int = 2,
-        program: Optional[str] = None,
+        self, heights: Optional[Sequence[int]] = None, table: Union[str, bytes] = b"", seats: int = SEATS,
+        workers: int = 2, program: Optional[str] = None, verify: Optional[Verify] = None,
+        datadir: Optional[Path] = None, sync: bool = True,
     ) -> None:  # fmt: skip
-        self.heights = read_heights(heights)
-        self.table = arguments.lines(table, "table")
+        #: What was found out of signatures; None where the table says which are valid.
+        self.known = None if verify is None else KnownSignatures(verify, table)
+        #: The signatures that are valid where nothing is found out of others.
+        self.table = lines(table, "table")
         self.index = Index()
         #: Held by who calls; told when a step was taken up.
         self.turn = threading.Condition(threading.Lock())
-        #: How many steps were taken up, and after which of them the active branch is known.
+        #: The place of the last command that was taken up, and after which step the active branch is known.
         self.steps = 0
         self._followed = 0
-        #: Is told of each step as it is taken up: command, id, a block's bytes, moment and reply.
-        self.taken: Callable[[str, bytes, bytes, int, str], None] = lambda *words: None
+        #: How many commands the folder had.
+        self.loaded = 0
         self._made = 0
         self._under_way = 0
         self._broken: Optional[errors.Error] = None
@@ -53,16 +67,26 @@ class Pool(Walks):
         self._seen = [0] * seats
         self._newest = 0
         # A block may take longer than callers of a node wait, and a step that nobody takes up would hold up all others.
-        self.node = Node(seats, workers, self.heights, self.table, program, timeout=None)
+        given, verify = (self.table, None) if self.known is None else (None, self._verdicts)
+        self.node = Node(
+            seats, workers, heights, given, program, datadir=datadir, sync=sync, timeout=None, verify=verify
+        )
+        self.heights = self.node.info.heights
+        if datadir is not None:
+            try:
+                self._go_on(os.path.join(path(datadir, "datadir"), LOG))
+            except BaseException:
+                self.close()
+                raise
 
-    @property
-    def table_size(self) -> int:
-        """How many bytes `table` has, which never changes."""
-        return len(self.table)
-
-    def table_from(self, place: int) -> bytes:
-        """What is in `table` from a place on."""
-        return self.table[place:]
+    def _go_on(self, log: str) -> None:
+        """Takes up what a log has, which the node has played."""
+        seat = self.node.seat(0)
+        past = past_of(log, seat.getchaintips().value, seat.getbestblockhash().value)
+        self.index, self._data, self.loaded = past.index, past.data, past.commands
+        if self.known is not None:
+            self.known.learn(past.verdicts)
+        self.steps = self._followed = self._seen[0] = seat.note()
 
     def close(self) -> None:
         """Ends the node."""
@@ -120,11 +144,28 @@ class Pool(Walks):
                 answered = ask(self.node.seat(number))
         except (errors.Owed, errors.NodeDied) as error:
             # A step of which nobody was told: those behind it can't be taken up.
-            self._broken = error
-            self.turn.notify_all()
-            raise
+            raise self._break(error)
+        except errors.NotSaved as error:
+            raise self._break(self._why(error))
         self._saw(number, answered.at)
         return answered
+
+    def _why(self, error: errors.NotSaved) -> errors.Error:
+        """The same fault with its reason: the node ends, and says it."""
+        try:
+            with self.others():
+                self.node.seat(0).note()
+        except errors.NodeDied as died:
+            return errors.NotSaved(error.code, "not saved", died.stderr.strip().rpartition("\n")[2])
+        except errors.Error:
+            pass
+        return error
+
+    def _break(self, error: errors.Error) -> errors.Error:
+        """No more steps can be taken up."""
+        self._broken = error
+        self.turn.notify_all()
+        return error
 
     def _saw(self, number: int, at: int) -> None:
         self._seen[number] = max(self._seen[number], at)
@@ -135,9 +176,7 @@ class Pool(Walks):
         """Makes a read, which comes after each step that was answered."""
         number, newest = self._number(), self._newest
         if self._seen[number] < self._seen[newest]:
-            with self.others():
-                at = self.node.seat(number).told(self.node.seat(newest))
-            self._saw(number, at)
+            self._asked(lambda seat: Stamped(seat.told(self.node.seat(newest)), None))
         return self._asked(ask)
 
     # ---- commands
@@ -162,15 +201,12 @@ class Pool(Walks):
             if id not in self.index.blocks and self._is_kept(id, spelled, reply):
                 self._data[id] = data
                 self.index.add(id, spelled)
-            self.taken("submit", id, data, now, reply.text)
 
-        return self._step(lambda seat: seat.try_submit(data, now), take_up)
+        return self._step(lambda seat: seat.try_submit(data, now), take_up, spelled)
 
     def try_mark(self, command: str, id: bytes) -> Reply:
         """As `Bench.try_mark`."""
-        return self._step(
-            lambda seat: seat.try_mark(command, id), lambda reply: self.taken(command, id, b"", 0, reply.text)
-        )
+        return self._step(lambda seat: seat.try_mark(command, id), lambda reply: None)
 
     def _is_kept(self, id: bytes, spelled: Spelled, reply: Reply) -> bool:
         """Whether a block is kept that wasn't there before. One that breaks a rule as it is connected is kept, as a tip
@@ -180,37 +216,84 @@ class Pool(Walks):
         known = spelled.header.parent in self.index.blocks
         return known and any(tip.id == id for tip in self._asked(Seat.getchaintips).value)
 
-    def _step(self, ask: Callable[[Seat], Stamped[Reply]], take_up: Callable[[Reply], None]) -> Reply:
-        """Has a command taken as a step, and takes it up in its turn."""
+    def _step(
+        self, ask: Callable[[Seat], Stamped[Reply]], take_up: Callable[[Reply], None], spelled: Optional[Spelled] = None
+    ) -> Reply:
+        """Has a command taken as a step, a submission or a mark, and takes it up in its turn."""
         self._under_way += 1
         try:
+            if self.known is not None:
+                self._own.rounds = self._rounds(self.known, self.node.seat(self._number()), spelled)
             answered = self._asked(ask)
             if answered.value.reply != "decode-failed":
-                self._take_up(answered, take_up)
+                self._take_up(answered, take_up, spelled)
         finally:
+            self._own.rounds = None
             self._under_way -= 1
             self.turn.notify_all()
         return answered.value
 
-    def _take_up(self, answered: Stamped[Reply], take_up: Callable[[Reply], None]) -> None:
+    def _take_up(
+        self, answered: Stamped[Reply], take_up: Callable[[Reply], None], spelled: Optional[Spelled]
+    ) -> None:  # fmt: skip
         self._wait_for(answered.at - 1)
         try:
             take_up(answered.value)
         finally:
             self.steps = answered.at
             self.turn.notify_all()
-        best = self._asked(Seat.getbestblockhash)
-        self._wait_for(best.at)
+        best = self._best_after(answered, spelled)
         if self._followed < best.at:
             self._followed = best.at
             self.index.follow(best.value)
 
+    def _best_after(self, answered: Stamped[Reply], spelled: Optional[Spelled]) -> Stamped[bytes]:
+        """The active block after a command, or after a later one; all up to it were taken up."""
+        if spelled and answered.value.reply == "accepted":
+            return Stamped(answered.at, double_sha(spelled.data[:80]))
+        best = self._asked(Seat.getbestblockhash)
+        self._wait_for(best.at)
+        return best
+
     def _wait_for(self, step: int) -> None:
-        """Waits until so many steps were taken up."""
-        while self.steps < step:
+        """Waits until all commands among so many steps were taken up."""
+        try:
+            last = max(self._commands(self.steps + 1, step), default=0)
+        except errors.Memory as error:
+            raise self._break(errors.Owed(f"a step can't be taken up: {error}")) from error
+        while self.steps < last:
             if self._broken:
                 raise self._broken
             self.turn.wait()
+
+    def _commands(self, first: int, last: int) -> Sequence[int]:
+        """Which of these steps, which this thread's seat has seen, are commands. The others are verdicts."""
+        if self.known is None or first > last:
+            return range(first, last + 1)
+        entries = self._asked(lambda seat: seat.journal(first, last)).value
+        return [entry.step for entry in entries if entry.command not in VERDICTS]
+
+    # ---- signatures
+
+    def _verdicts(self, lines: Sequence[bytes]) -> List[bool]:
+        """Which signatures are valid that this thread's command wants. Other threads call meanwhile."""
+        rounds: Optional[ahead.Rounds] = self._own.rounds
+        assert rounds is not None, "commands alone want signatures"
+        return rounds.verdicts(lines)
+
+    def _rounds(self, known: KnownSignatures, seat: Seat, spelled: Optional[Spelled]) -> ahead.Rounds:
+        return ahead.Rounds(known, lambda: self._places(seat, spelled), self.transaction, seat._learn)
+
+    def _places(self, seat: Seat, spelled: Optional[Spelled]) -> Iterator[ahead.Place]:
+        """The blocks whose scripts a command may run: those of a branch that aren't active, the lowest first."""
+        tips = [spelled.header.parent] if spelled else [tip.id for tip in seat.getchaintips().value]
+        with self.turn:
+            found = [self.index.blocks[id] for tip in tips for id in self.index.beside(tip)]
+            parent = self.index.blocks.get(tips[0])
+        for kept in found:
+            yield ahead.Place(block_at_front(self._data[kept.id]), ahead.Flags.at(kept.height, self.heights))
+        if spelled and parent:
+            yield ahead.Place(spelled, ahead.Flags.at(parent.height + 1, self.heights))
 
     # ---- reads
 
@@ -229,21 +312,33 @@ class Pool(Walks):
             if found.value is None:
                 return None
             best = self._asked(Seat.getbestblockhash)
-            if best.at == found.at:
+            if not self._commands(found.at + 1, best.at):
                 value, script, height, coinbase, confirmations = found.value
                 return Unspent(Coin(value, script, height, coinbase), best.value, confirmations)
 
-    def coins(self) -> List[Tuple[bytes, int, Coin]]:
-        """As `Bench.coins`. Other threads wait, so that all parts of the list are of one state."""
+    def coins(self) -> Tuple[bytes, Coins]:
+        """The active block's id, and all coins by rising outpoints, of one state. They come in parts: where a command
+        comes between these they are read again; the third time other threads wait."""
+        for _ in range(2):
+            best = self._read(Seat.getbestblockhash)
+            found = self._all_coins(self._asked)
+            if not self._commands(best.at + 1, found.at):
+                self._wait_for(best.at)
+                return best.value, found.value
         self.settle()
-        found: List[Tuple[bytes, int, Coin]] = []
         seat = self.node.seat(self._number())
         seat.told(self.node.seat(self._newest))
+        return seat.getbestblockhash().value, self._all_coins(lambda ask: ask(seat)).value
+
+    @staticmethod
+    def _all_coins(asked: Callable[[Callable[[Seat], Stamped[Coins]]], Stamped[Coins]]) -> Stamped[Coins]:
+        """All coins, and the place of the last part."""
+        found: Coins = []
         while True:
-            part = seat.coins(found[-1][:2] if found else None).value
-            if not part:
-                return found
-            found += part
+            part = asked(lambda seat: seat.coins(found[-1][:2] if found else None))
+            if not part.value:
+                return Stamped(part.at, found)
+            found += part.value
 
     def block(self, id: bytes) -> Optional[bytes]:
         """The bytes of a kept block, or None."""

@@ -10,6 +10,7 @@ from typing import IO, Any, Callable, Dict, Generic, List, NamedTuple, Optional,
 from . import arguments, errors
 from .arguments import Path, id_of, number, octets
 from .chainstate import REGTEST, Coin, Reply, Tip, mark_of, moment_of, read_heights, show
+from .signatures import Verify
 
 T = TypeVar("T")
 
@@ -17,12 +18,14 @@ T = TypeVar("T")
 UNDER_WAY = 60
 #: As many seats, and as many workers, a node has at most.
 MOST = 16
-#: So many bytes of a block fit into a line that the program reads, with all else that stands there.
-LONGEST_BLOCK = (70_000_000 - 200) // 2
+#: So many bytes of a block the program takes at most: what a record of a blk file holds (docs/SERVE.md, "Limits").
+LONGEST_BLOCK = 33_554_432
 #: How many seconds a call waits, where nobody says how many.
 TIMEOUT = 60.0
 #: So much of the end of the standard error is kept.
 KEPT = 2000
+#: So many verdicts are told by a request at most, whose line is then no longer than the program reads.
+_VERDICTS = 50_000
 
 
 class Stamped(Generic[T]):
@@ -88,6 +91,14 @@ class Info(NamedTuple):
 # ---- calls, and how their answers are read
 
 
+class Wanted(Exception):
+    """A command took no step: of the signatures of these lines, as of a table, isn't known whether they are valid."""
+
+    def __init__(self, lines: Sequence[bytes]) -> None:
+        super().__init__(f"{len(lines)} signatures have to be found out first")
+        self.lines = lines
+
+
 class Call(NamedTuple):
     """A call of a seat: its method, its parameters behind the seat's as JSON, and how its result is read."""
 
@@ -110,6 +121,8 @@ def _read_id(digits: str) -> bytes:
 
 
 def _read_reply(result: Dict[str, Any]) -> Stamped[Reply]:
+    if isinstance(result["answer"], dict):
+        raise Wanted([line.encode() for line in result["answer"]["wants"]])
     return Stamped(result["at"], _reply_of(result["answer"]))
 
 
@@ -157,6 +170,14 @@ def _read_coins(result: Dict[str, Any]) -> Stamped[List[Tuple[bytes, int, Coin]]
 def _read_tips(result: Dict[str, Any]) -> Stamped[List[Tip]]:
     tips = [Tip(_read_id(tip["hash"]), tip["height"], tip["branchlen"], tip["status"]) for tip in result["answer"]]
     return Stamped(result["at"], tips)
+
+
+def _read_learnt(result: Dict[str, Any]) -> int:
+    if isinstance(result["answer"], dict):
+        error = errors.Contradiction(f"the other verdict is known of {result['answer']['contradicted']}")
+        error.at = result["at"]
+        raise error
+    return int(result["at"])
 
 
 def _read_place(result: Dict[str, Any]) -> int:
@@ -235,6 +256,30 @@ def told(other: int) -> Call:
     return Call("told", f',"from":{other}', _read_place)
 
 
+def verdicts(lines: Sequence[bytes], verify: Verify) -> List[Call]:
+    """What a node is told of signatures."""
+    found = [bool(verdict) for verdict in verify(lines)]
+    if len(found) != len(lines):
+        raise ValueError(f"verify must say of each of {len(lines)} signatures whether it is valid, not of {len(found)}")
+    return learning(lines, found)
+
+
+def learning(lines: Sequence[bytes], found: Sequence[bool]) -> List[Call]:
+    """What tells a node verdicts on the signatures of lines."""
+    return [
+        _learning(lines[place : place + _VERDICTS], found[place : place + _VERDICTS])
+        for place in range(0, len(lines), _VERDICTS)
+    ]
+
+
+def _learning(lines: Sequence[bytes], found: Sequence[bool]) -> Call:
+    # The lines have digits, spaces and bars alone.
+    valid, invalid = (
+        "\\n".join(line.decode() for line, verdict in zip(lines, found) if verdict is wanted) for wanted in (True, False)
+    )
+    return Call("learn", f',"valid":"{valid}","invalid":"{invalid}"', _read_learnt)
+
+
 BEST = Call("getbestblockhash", "", _read_best)
 TIPS = Call("getchaintips", "", _read_tips)
 NOTE = Call("note", "", _read_place)
@@ -270,6 +315,8 @@ def checked(answered: Stamped[Reply]) -> Stamped[str]:
 
 
 _FAULTS: Dict[int, Type[errors.Error]] = {-32001: errors.Memory, -32002: errors.Owed, -32003: errors.Closed}
+#: The history couldn't be saved.
+_UNSAVED = -32004
 
 
 def outcome(answer: Dict[str, Any], call: Call) -> Any:
@@ -279,7 +326,8 @@ def outcome(answer: Dict[str, Any], call: Call) -> Any:
     error = answer["error"]
     if error["code"] in _FAULTS:
         raise _FAULTS[error["code"]](error["message"])
-    raise errors.BadRequest(error["code"], error["message"], error.get("data"))
+    kind = errors.NotSaved if error["code"] == _UNSAVED else errors.BadRequest
+    raise kind(error["code"], error["message"], error.get("data"))
 
 
 # ---- the process
@@ -312,20 +360,36 @@ class Opening:
     def __init__(
         self, seats: int, workers: int, heights: Optional[Sequence[int]], table: Optional[Union[str, bytes]],
         program: Optional[Path], blk: Optional[Path], load: Optional[Path], save: Optional[Path],
-        timeout: Optional[float],
+        datadir: Optional[Path], sync: bool, timeout: Optional[float], verify: Optional[Verify],
     ) -> None:  # fmt: skip
         self.seats, workers = _count(seats, "seats"), _count(workers, "workers")
         self.timeout = arguments.seconds(timeout, "timeout")
+        sync = arguments.flag(sync, "sync")
         self.words = ["serve", "--seats", str(self.seats), "--workers", str(workers)]
-        if load is None:
+        if load is not None and (heights is not None or table is not None):
+            raise ValueError("load must be None where heights or table are given: the folder has its own")
+        if datadir is not None and (load is not None or save is not None):
+            raise ValueError("datadir must be None where load or save are given: the folder takes the place of both")
+        if datadir is None and not sync:
+            raise ValueError("sync must be True where datadir is None")
+        if heights is not None or (load is None and datadir is None):
             chosen = read_heights(REGTEST if heights is None else heights)
             self.words += ["--heights", ",".join(map(str, chosen))]
-        elif heights is not None or table is not None:
-            raise ValueError("load must be None where heights or table are given: the folder has its own")
-        for name, value in (("blk", blk), ("load", load), ("save", save)):
+        if not sync:
+            self.words += ["--no-sync"]
+        for name, value in (("blk", blk), ("load", load), ("save", save), ("datadir", datadir)):
             if value is not None:
                 self.words += [f"--{name}", arguments.path(value, name)]
+        if verify is not None:
+            if not callable(verify):
+                raise TypeError(f"verify must be a function, not {arguments.kind_of(verify)}")
+            if table is not None or blk is not None:
+                raise ValueError("verify must be None where table or blk are given: they are of a node with a table")
+            self.words.append("--by-need")
+        self.verify = verify
         self.table = b"" if table is None else arguments.lines(table, "table")
+        # A folder that is there has to have the same table, also where that is empty.
+        self._names_table = bool(self.table) or (table is not None and datadir is not None)
         if program is not None:
             program = arguments.path(program, "program")
         self.words.insert(0, program_path(program))
@@ -336,7 +400,7 @@ class Opening:
         """Makes the folder of `save`, and the table's file, which is there until `__exit__`: the command line."""
         if self._save is not None:
             os.makedirs(self._save, exist_ok=True)
-        if not self.table:
+        if not self._names_table:
             return self.words
         self._file = tempfile.NamedTemporaryFile(prefix="wakotehu-", suffix=".table")
         self._file.write(self.table)

@@ -1,5 +1,5 @@
-"""A server on the loopback that answers the calls of bitcoind's JSON-RPC: over a `Bench`, with real signatures, or over
-the seats of a `Node`, where a table has the valid signatures.
+"""A server on the loopback that answers the calls of bitcoind's JSON-RPC, over the seats of a `Node`: with real signatures,
+or with those of a table.
 
     wakotehu-server -datadir=/tmp/bench
     wakotehu-server -table=/tmp/signatures
@@ -12,18 +12,19 @@ import signal
 import sys
 import threading
 import time
-from typing import Callable, List, Optional, Sequence, Tuple, Union
+from typing import Callable, List, Optional, Sequence, Tuple
 
-from .bench import Bench
 from .chainstate import REGTEST
 from .errors import Error
 from .pool import SEATS, Pool
+from .replicapool import ReplicaPool
 from .rpc import blockchain, control, mining, settings, stats, txs
 from .rpc.auth import COOKIE_USER, Gate, remove_cookie, write_cookie
-from .rpc.datadir import BadFolder, Folder
+from .rpc.datadir import BadFolder, Folder, Opening
 from .rpc.http import LOOPBACK, Server
 from .rpc.jsonrpc import answer
 from .rpc.node import Node, run
+from .signatures import Verifier
 from .version import __version__
 
 #: The modules that put calls into the table.
@@ -99,7 +100,8 @@ def _parser() -> _Parser:
     parser = _Parser(
         prog="wakotehu-server",
         allow_abbrev=False,
-        description="Answers the calls of bitcoind's JSON-RPC on the loopback. Flags have one dash or two.",
+        description=f"Answers the calls of bitcoind's JSON-RPC on the loopback, by the {SEATS} seats of a node (the program"
+        " regchain). Signatures are verified by libsecp256k1. Flags have one dash or two.",
         epilog="A password is never a word of this command, where ps shows it: rpcuser, rpcpassword and rpcauth stand in"
         " the file of -conf, or in WAKOTEHU_RPCUSER, WAKOTEHU_RPCPASSWORD and WAKOTEHU_RPCAUTH. Without them there is a"
         " cookie, in the file that is printed. Flags of bitcoind that mean the same here or nothing are taken too"
@@ -107,11 +109,13 @@ def _parser() -> _Parser:
         " are refused.",
     )
     add = parser.add_argument
-    add("--datadir", metavar="D", help="keeps all commands in the folder D, and takes them again at the next start")
-    add("--table", metavar="F", help="a file of the signatures that are valid, a key, signature and digest a line; no other is."
-        f" Calls then run beside one another, at the {SEATS} seats of a node (the program regchain)")  # fmt: skip
-    add("--workers", metavar="N", help="how many threads check a block's scripts with --table, 1 to 16; 2 by default")
-    add("--fsync", action="store_true", help="has the disk asked to keep each command")
+    add("--datadir", metavar="D", help="keeps the history in the folder D, and goes on from it at the next start")
+    add("--table", metavar="F", help="a file of the signatures that are valid, a key, signature and digest a line; no other is,"
+        " and libsecp256k1 isn't asked")  # fmt: skip
+    add("--replica", metavar="URL", help="one history with other machines, in this database (wakotehu-replica init)")
+    add("--workers", metavar="N", help="how many threads check a block's scripts, 1 to 16; 2 by default")
+    add("--fsync", action="store_true", default=True, help="answers when the history is on the disk; it is the default")
+    add("--no-fsync", dest="fsync", action="store_false", help="doesn't wait for the disk: a crash of the machine may lose commands")
     add("--rpcport", "--port", dest="rpcport", metavar="N", help="18443 by default; 0 is any that is free")
     add("--rpcbind", action="append", default=[], metavar="HOST", help="127.0.0.1, ::1 or localhost; given again for more")
     add("--testactivationheight", action="append", default=[], metavar="FORK@N", help="bip34, cltv, dersig or csv")
@@ -135,8 +139,8 @@ def _given(words: Sequence[str]) -> argparse.Namespace:
     if given.rpcpassword is not None:
         parser.error("-rpcpassword would be shown by ps: put it into the file of -conf or into WAKOTEHU_RPCPASSWORD")
     given.rpcport = _number(parser, "18443" if given.rpcport is None else given.rpcport, "-rpcport", 65535)
-    if given.workers is not None and given.table is None:
-        parser.error("-workers is for -table: without it one thread checks scripts")
+    if given.replica is not None and (given.datadir or given.table is not None or given.testactivationheight):
+        parser.error("-replica has its commands, signatures and heights in the database: not beside -datadir, -table and -testactivationheight")
     given.workers = _number(parser, "2" if given.workers is None else given.workers, "-workers", 16)
     for host in given.rpcbind:
         if host.strip("[]") not in LOOPBACK:
@@ -218,23 +222,22 @@ def _link_cookie(folder: str) -> None:
         os.symlink(os.path.join("..", ".cookie"), link)
 
 
-def _bench(given: argparse.Namespace, folder: Optional[Folder]) -> Union[Bench, Pool]:
-    heights = folder.heights(given.heights, REGTEST) if folder else given.heights or REGTEST
-    if given.table is None:
-        return Bench(heights, folder.table() if folder else b"")
-    with open(given.table, "rb") as file:
-        table = file.read()
-    return Pool(heights, folder.table(table) if folder else table, workers=given.workers)
+def _pool(given: argparse.Namespace, folder: Optional[Folder]) -> Pool:
+    if given.replica is not None:
+        return ReplicaPool(given.replica, workers=given.workers)
+    verify = Verifier().verdicts if given.table is None else None
+    table = None
+    if given.table is not None:
+        with open(given.table, "rb") as file:
+            table = file.read()
 
+    def opened(heights: Optional[Sequence[int]], known: bytes, datadir: Optional[str], sync: bool) -> Pool:
+        signatures = known if table is None else table
+        return Pool(heights, signatures, workers=given.workers, verify=verify, datadir=datadir, sync=sync)
 
-def _replay(folder: Folder, bench: Union[Bench, Pool]) -> int:
-    """Takes the commands of a folder again: how many."""
-    if not isinstance(bench, Pool):
-        return folder.replay(bench)
-    with bench.turn:
-        steps = folder.replay(bench)
-        bench.leave()
-        return steps
+    if folder is None:
+        return opened(given.heights, b"", None, True)
+    return folder.open(Opening(given.heights, table, given.fsync, opened))
 
 
 def _give_memory_back() -> None:
@@ -246,6 +249,25 @@ def _give_memory_back() -> None:
         pass  # Another library of C.
 
 
+def _run(given: argparse.Namespace, folder: Optional[Folder], cookies: List[Tuple[str, str]]) -> None:
+    """Serves until the end. The cookies that are written are added."""
+    gate, has_cookie = _gate(given)
+    with _pool(given, folder) as bench:
+        if folder:
+            print(f"{bench.loaded} commands of {given.datadir} were taken again", flush=True)
+        hosts = list(dict.fromkeys(host.strip("[]") for host in given.rpcbind)) or ["127.0.0.1"]
+
+        def ready(port: int) -> None:
+            if has_cookie:
+                cookies.append(_bake(given, gate, port))
+            print(f"127.0.0.1:{port}" + "".join(f" cookie {path}" for path, _ in cookies), flush=True)
+
+        node = Node(bench)
+        serve(node, gate, hosts, given.rpcport, ready)
+        if node.broken:
+            raise Error(node.broken)
+
+
 def main(words: Optional[Sequence[str]] = None) -> None:
     """The command."""
     given = _given(sys.argv[1:] if words is None else words)
@@ -253,22 +275,11 @@ def main(words: Optional[Sequence[str]] = None) -> None:
     _give_memory_back()
     signal.signal(signal.SIGTERM, signal.default_int_handler)
     try:
-        folder = Folder(given.datadir, given.fsync) if given.datadir else None
-        gate, has_cookie = _gate(given)
-        with _bench(given, folder) as bench:
-            if folder:
-                print(f"{_replay(folder, bench)} commands of {given.datadir} were taken again", flush=True)
-            hosts = list(dict.fromkeys(host.strip("[]") for host in given.rpcbind)) or ["127.0.0.1"]
-
-            def ready(port: int) -> None:
-                if has_cookie:
-                    cookies.append(_bake(given, gate, port))
-                print(f"127.0.0.1:{port}" + "".join(f" cookie {path}" for path, _ in cookies), flush=True)
-
-            node = Node(bench, folder)
-            serve(node, gate, hosts, given.rpcport, ready)
-            if node.broken:
-                raise Error(node.broken)
+        if given.datadir:
+            with Folder(given.datadir) as folder:
+                _run(given, folder, cookies)
+        else:
+            _run(given, None, cookies)
     except (BadFolder, Error, OSError, ValueError) as error:
         sys.exit(f"wakotehu-server: {error}")
     except KeyboardInterrupt:

@@ -3,14 +3,19 @@
 import ctypes
 import ctypes.util
 import os
-from typing import List, Optional, Sequence
+import threading
+from typing import Callable, Collection, List, Mapping, Optional, Sequence, Union
 
+from . import arguments
 from .arguments import flag, id_of, number, octets, octets_of, sequence
-from .consensus import Triple, triple_of
+from .consensus import Table, Triple, triple_of
 from .library import secp256k1_library
 
 #: So many threads are used at most where nobody says how many.
 MOST_THREADS = 8
+
+#: Says which of the signatures of these lines, as of a table, are valid: True or False for each.
+Verify = Callable[[Sequence[bytes]], Collection[bool]]
 
 
 class Secp256k1:
@@ -87,6 +92,58 @@ class Verifier:
         if code != 0:
             raise ValueError(f"lines can't be read: {code}")
         return [verdict == 1 for verdict in valid.raw]
+
+
+def signatures_of(table: Union[str, bytes]) -> List[Triple]:
+    """The signatures of a table's text."""
+    lines = arguments.lines(table, "table").splitlines()
+    return Triple.of_lines([line for line in lines if line.strip() and not line.strip().startswith(b"#")])
+
+
+class KnownSignatures:
+    """Verdicts that a function finds out, each once. The first verdict on a signature stays. Any thread may call it, and
+    holds no lock while it asks the function.
+
+    verify: says of lines as a table's which are valid.
+    table: signatures that are known to be valid, as lines.
+    """
+
+    def __init__(self, verify: Verify, table: Union[str, bytes] = b"") -> None:
+        if not callable(verify):
+            raise TypeError(f"verify must be a function, not {arguments.kind_of(verify)}")
+        self._verify = verify
+        self._verdicts = {triple.line[:-1]: True for triple in signatures_of(Table(table).text)}
+        #: Held to read and to write what is known.
+        self._lock = threading.Lock()
+
+    def learn(self, verdicts: Mapping[bytes, bool]) -> None:
+        """Takes verdicts on the signatures of lines."""
+        with self._lock:
+            self._verdicts = {**verdicts, **self._verdicts}
+
+    def verdicts(self, lines: Sequence[bytes]) -> List[bool]:
+        """Whether the signatures of these lines are valid."""
+        with self._lock:
+            unknown = [line for line in lines if line not in self._verdicts]
+        found = list(self._verify(unknown)) if unknown else []
+        if len(found) != len(unknown):
+            raise ValueError(f"verify must say of each of {len(unknown)} signatures whether it is valid, not of {len(found)}")
+        with self._lock:
+            for line, verdict in zip(unknown, found):
+                self._verdicts.setdefault(line, bool(verdict))
+            return [self._verdicts[line] for line in lines]
+
+
+_verifier: Optional[Verifier] = None
+
+
+def secp256k1(lines: Sequence[bytes]) -> List[bool]:
+    """Whether the signatures of these lines, as of a table, are valid, by a `Verifier` with as many threads as by default.
+    Any thread may call it. `Node(verify=secp256k1)` finds signatures out by it."""
+    global _verifier
+    if _verifier is None:
+        _verifier = Verifier()
+    return _verifier.verdicts(lines)
 
 
 def processors() -> int:

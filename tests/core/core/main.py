@@ -9,7 +9,7 @@ from collections import Counter
 from pathlib import Path
 from typing import Dict, List, Sequence
 
-from . import cases, changed, differences, goals, peer, planted, reached, scripts, table
+from . import cases, changed, differences, goals, peer, planted, reached, scripts, signed, table
 from .chainstate import BY_ITSELF, BY_PLACE, ON_BRANCH, REORGANISING, Refusal
 from .compare import Bench, Tally
 from .rules import ALL_KINDS
@@ -41,7 +41,7 @@ def main(words: Sequence[str]) -> int:
     print(peer.version())
     with tempfile.TemporaryDirectory() as room:
         run = _Run(options, Path(room))
-        faults = run.kinds() + run.rules() + run.table() + run.lists() + run.pairs()
+        faults = run.kinds() + run.rules() + run.table() + run.signed() + run.lists() + run.pairs()
     print(f"{time.monotonic() - begun:.0f} seconds, {'no difference that docs/CORE.md lacks' if not faults else f'{faults} faults'}")
     return 1 if faults else 0
 
@@ -101,6 +101,15 @@ class _Run:
             f"{tally.apart} otherwise, each as it has to be"
         )
         return faults
+
+    def signed(self) -> int:
+        """Blocks with real signatures by writers at once."""
+        if self.options.program is None:
+            return 0
+        faults = signed.faults_of(self.options.program, self.options.seed, self.room)
+        for fault in faults[:10]:
+            print(f"FAULT {fault[:500]}")
+        return len(faults)
 
     def rules(self) -> int:
         """Lists in which each rule is broken and just kept; then wrong products and wrong rules against what was answered."""

@@ -274,10 +274,10 @@ def lay_base(chain: wakotehu.Chainstate, lines: Lines) -> None:
 def _look_at_library(chain: wakotehu.Chainstate, lines: Lines, reply: str, outs: Sequence[Point]) -> Seen:
     height = chain.height()
     tips = tuple((lines.by_ours[tip.id], tip.height, tip.length, tip.status) for tip in chain.tips())
-    return Seen(reply, lines.by_ours[chain.best()], height, tips, tuple(_read(chain.coin(*out), height) for out in outs))
+    return Seen(reply, lines.by_ours[chain.best()], height, tips, tuple(as_read(chain.coin(*out), height) for out in outs))
 
 
-def _read(coin: Optional[AnyCoin], height: int) -> Read:
+def as_read(coin: Optional[AnyCoin], height: int) -> Read:
     return coin and (coin.value, coin.script.hex(), coin.height, coin.coinbase, height + 1 - coin.height)
 
 
@@ -319,6 +319,6 @@ def play_model(lines: Lines, chain: Chainstate) -> Played:
         except Unclear:
             return Played(out + [None] * (len(list_.commands) - len(out)), (0, ""))
         active, coins = chain.active, chain.coins()
-        reads = tuple(_read(coins.get(point), active.height) for point in asked(list_, step))
+        reads = tuple(as_read(coins.get(point), active.height) for point in asked(list_, step))
         out.append(Seen(reply, active.number, active.height, tuple(chain.tips()), reads))
     return Played(out, hash_coins(lines, chain.active.number, chain.coins()))

@@ -34,11 +34,15 @@ pub record AreWantedAbove (params : Params) (t : Blocks Block) (f p : ℕ) (know
   pub there : on t p place ≡ true
   pub wanted : AreWantedAt params t known place list
 
+-- the blocks of the branch of p were applied to this layer over these coins, and these are the medians of that branch
+pub record IsApplied (t : Blocks Block) (p : ℕ) (base : Coins) (layer : Layer) (medians : List ℕ) : Type 0 where
+  pub left : layer.coins ≡ coins_after t p
+  pub base_is : layer.base ≡ base
+  pub medians_are : medians ≡ reverse (medians_of (branch_blocks t p))
+
 -- each of these blocks, the highest first, connects: what they spend, the lowest first, the layer over these coins to which they
 -- were applied, and the medians of their branch
 pub record IsTop (r : Rules Block Id) (t : Blocks Block) (f : ℕ) (up : List ℕ) (base : Coins) (undo : List (List (List Coin))) (layer : Layer) (medians : List ℕ) : Type 0 where
   pub good : branch_connects r t (top_of f up) ≡ true
   pub spent : undo ≡ reverse (map (undo_at t) up)
-  pub left : layer.coins ≡ coins_after t (top_of f up)
-  pub base_is : layer.base ≡ base
-  pub medians_are : medians ≡ reverse (medians_of (branch_blocks t (top_of f up)))
+  pub applied : IsApplied t (top_of f up) base layer medians

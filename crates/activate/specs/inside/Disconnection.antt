@@ -37,3 +37,10 @@ tx_ids_at t place = ids_of (block_at names t place).txs
 -- these are the ids of their transactions, as far as they go
 abbrev pub AreIdsAbove : Blocks Block → List ℕ → ℕ → List (List Id) → Type 0
 AreIdsAbove t places low ids = AreAbove (tx_ids_at t) places low ids
+
+-- from above this height on these lists are of a branch's blocks: what they spend, and the ids of their transactions, as far as
+-- they go. The branch has all of these blocks
+pub record AreOfBlocksAbove (t : Blocks Block) (places : List ℕ) (low : ℕ) (undo : List (List (List Coin))) (ids : List (List Id)) : Type 0 where
+  pub undo_is : IsUndoAbove t places low undo
+  pub ids_are : AreIdsAbove t places low ids
+  pub inside : low + length undo < length places

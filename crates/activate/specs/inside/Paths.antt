@@ -37,7 +37,11 @@ pub record WasConnected (t : Blocks Block) (p : ℕ) : Type 0 where
 abbrev pub AreConnected : Blocks Block → ℕ → Type 0
 AreConnected t p = (x : ℕ) → 0 < x → on t p x ≡ true → WasConnected t x
 
--- a block on the branch of p, but not on that of a, wants them
+-- these and one block more, on this parent
+abbrev pub one_more : Blocks Block → Block → ℕ → Blocks Block
+one_more t b parent = record { block = b; parent = parent } ∷ t
+
+-- a block on the branch of p, but not on a's, wants them
 pub record AreWantedOnWay (params : Params) (t : Blocks Block) (a p : ℕ) (known : Known) (list : List Triple) : Type 0 where
   pub place : ℕ
   pub there : on t p place ≡ true

@@ -1,24 +1,23 @@
 -- Words for what `Core` prepares for a command, before it puts it in place. No public clause needs them.
-use Rattle.std.specs.Prelude.{◌≡◌, ℕ, ◌+◌, ◌-◌, ◌==◌, if◌then◌else◌, ◌<◌, ◌≤◌, true, false, List, [], length, map, reverse, ⊤}
+use Rattle.std.specs.Prelude.{◌≡◌, ℕ, ◌+◌, ◌-◌, ◌==◌, if◌then◌else◌, ◌≤◌, true, false, List, [], length, map, reverse, ⊤}
 use Rattle.hash.specs.declared.id.Id.{Id}
 use Rattle.block.specs.declared.block.Block.{Block}
 use Rattle.coins.specs.declared.coin.Coin.{Coin}
 use Rattle.coins.specs.Changes.{Changes, AreChanges}
-use Rattle.tree.specs.Branches.{Blocks, has, height, rest_of, on}
-use Rattle.tree.specs.State.{State, has_no_mark, with_block, without_last}
-use Rattle.tree.specs.Nodes.{AreMarks, laid}
-use Rattle.tree.specs.Names.{names}
-use Rattle.tree.specs.Sound.{IsBest, IsFresh}
+use Rattle.tree.specs.Branches.{Blocks, has, height, on}
+use Rattle.tree.specs.State.{State, has_no_mark, with_block, with_call}
+use Rattle.tree.specs.Nodes.{AreMarks, CanKeep, laid}
+use Rattle.tree.specs.Sound.{IsBest}
 use Rattle.tree.specs.laws.Sets.{InOrder}
 use Rattle.chain.specs.declared.command.Command.{Command}
 use Rattle.activate.specs.declared.path.ActiveBranch.{ActiveBranch}
 use Rattle.activate.specs.declared.path.Attempt.{Attempt}
 use Rattle.activate.specs.declared.prepared.Prepared.{Prepared}
 use Rattle.activate.specs.declared.prepared.Settled.{Settled}
-use Rattle.activate.specs.declared.prepared.TreeChange.{TreeChange}
-use Rattle.activate.specs.declared.prepared.TreeChange.TheVariants.{Unchanged, BlockAdded, CalledPrecious}
+use Rattle.activate.specs.declared.prepared.Edit.{Edit}
+use Rattle.activate.specs.declared.prepared.Edit.TheVariants.{Leave, Keep, Call, Remark}
 use Rattle.activate.specs.declared.prepared.Completion.{Completion}
-use Rattle.activate.specs.declared.prepared.Completion.TheVariants.{Nothing, Flag, Activate, Remark}
+use Rattle.activate.specs.declared.prepared.Completion.TheVariants.{Nothing, Flag, Activate}
 use Rattle.chain.specs.declared.reply.Reply.{Reply}
 use Rattle.chain.specs.declared.reply.SubmitReply.{SubmitReply}
 use Rattle.chain.specs.declared.reply.SubmitReply.TheVariants.{Inconclusive, Rejected}
@@ -70,7 +69,7 @@ pub record CanFlag (r : Rules Block Id) (c : CoreState) (p : ℕ) (failed : Fail
   pub kept : p ≤ length c.state.blocks
   pub fails : FailsAt r c.state.blocks c.active p failed
 
--- ---- what is still to be put in place
+-- ---- what a try found, put in place
 
 -- the block at p may become active
 pub record CanActivate (r : Rules Block Id) (c : CoreState) (p : ℕ) (path : BranchPath) (undo : List (List (List Coin))) : Type 0 where
@@ -80,11 +79,10 @@ pub record CanActivate (r : Rules Block Id) (c : CoreState) (p : ℕ) (path : Br
   pub good : branch_connects r c.state.blocks p ≡ true
   pub undo_is : undo ≡ reverse (map (undo_at c.state.blocks) path.up.items)
 
-abbrev pub IsReady : Rules Block Id → CoreState → Completion → Type 0
-IsReady r c Nothing = ⊤
-IsReady r c (Flag p failed) = CanFlag r c p failed
-IsReady r c (Activate p path undo) = CanActivate r c p path undo.items
-IsReady r c (Remark marks p path undo) = AreMarks c.state marks × CanActivate r (record c { state = laid c.state marks }) p path undo.items
+abbrev pub CanFinish : Rules Block Id → CoreState → Completion → Type 0
+CanFinish r c Nothing = ⊤
+CanFinish r c (Flag p failed) = CanFlag r c p failed
+CanFinish r c (Activate p path undo) = CanActivate r c p path undo.items
 
 -- of so many blocks undo is kept after a path was gone: not of those that were taken back, and at most of the highest
 abbrev pub undo_after : Blocks Block → ℕ → ℕ → BranchPath → ℕ
@@ -98,27 +96,36 @@ core_after_activation r c p path = record c {
   undo_kept = undo_after c.state.blocks c.active c.undo_kept path;
 }
 
-abbrev pub core_after_commit : Rules Block Id → CoreState → Completion → CoreState
-core_after_commit r c Nothing = c
-core_after_commit r c (Flag p failed) = record c { state = state_after_try r c.state p }
-core_after_commit r c (Activate p path undo) = core_after_activation r c p path
-core_after_commit r c (Remark marks p path undo) = core_after_activation r (record c { state = laid c.state marks }) p path
+abbrev pub core_after_finish : Rules Block Id → CoreState → Completion → CoreState
+core_after_finish r c Nothing = c
+core_after_finish r c (Flag p failed) = record c { state = state_after_try r c.state p }
+core_after_finish r c (Activate p path undo) = core_after_activation r c p path
 
--- ---- how the tree becomes what it was
+-- ---- what changes in the tree before
 
-abbrev pub state_before_change : TreeChange → State Block → State Block
-state_before_change Unchanged s = s
-state_before_change BlockAdded s = without_last s
-state_before_change CalledPrecious s = record s { precious = rest_of s.precious }
+abbrev pub CanEdit : State Block → Edit → Type 0
+CanEdit s Leave = ⊤
+CanEdit s (Keep new) = CanKeep s new
+CanEdit s (Call p) = p ≤ length s.blocks
+CanEdit s (Remark marks) = AreMarks s marks
 
-abbrev pub core_after_rollback : CoreState → TreeChange → CoreState
-core_after_rollback c first = record c { state = state_before_change first c.state }
+abbrev pub edited_state : State Block → Edit → State Block
+edited_state s Leave = s
+edited_state s (Keep new) = with_block s new.block new.parent
+edited_state s (Call p) = with_call s p
+edited_state s (Remark marks) = laid s marks
 
--- the block that was added isn't the active one
-abbrev pub CanBeTakenBack : TreeChange → ℕ → State Block → Type 0
-CanBeTakenBack Unchanged a s = ⊤
-CanBeTakenBack BlockAdded a s = (a < length s.blocks) × IsFresh names s
-CanBeTakenBack CalledPrecious a s = 0 < length s.precious
+abbrev pub edited : CoreState → Edit → CoreState
+edited c edit = record c { state = edited_state c.state edit }
+
+-- ---- the whole of it
+
+pub record IsReady (r : Rules Block Id) (c : CoreState) (prepared : Prepared) : Type 0 where
+  pub edit : CanEdit c.state prepared.edit
+  pub rest : CanFinish r (edited c prepared.edit) prepared.rest
+
+abbrev pub core_after_commit : Rules Block Id → CoreState → Prepared → CoreState
+core_after_commit r c prepared = core_after_finish r (edited c prepared.edit) prepared.rest
 
 -- ---- tries
 
@@ -146,33 +153,29 @@ reply_to_failed_try failed = if failed.passed + 1 == length failed.path.up.items
 
 -- ---- what a command does
 
--- b is a before the command, with what preparing it did to the tree; the coins and the state that the command leaves are
--- those after the rest is put in place
-pub record IsPreparationFor (r : Rules Block Id) (a : CoreState) (after : Outcome Block) (b : CoreState) (prepared : Prepared) : Type 0 where
-  pub params_are : b.params ≡ a.params
-  pub outcome_is : ((core_after_commit r b prepared.rest).state, prepared.reply) ≡ after
-  pub active_is : (core_after_commit r b prepared.rest).active ≡ active r (core_after_commit r b prepared.rest).state
-  pub changes_are : AreChanges (coins_of a) (coins_of (core_after_commit r b prepared.rest)) prepared.changes
-  pub ready : IsReady r b prepared.rest
-  pub can_go_back : CanBeTakenBack prepared.first b.active b.state
-  pub back_is : core_after_rollback b prepared.first ≡ a
+-- it leaves this outcome of the state, and the coins change as it says
+pub record IsPreparationFor (r : Rules Block Id) (c : CoreState) (after : Outcome Block) (prepared : Prepared) : Type 0 where
+  pub outcome_is : ((core_after_commit r c prepared).state, prepared.reply) ≡ after
+  pub active_is : (core_after_commit r c prepared).active ≡ active r (core_after_commit r c prepared).state
+  pub changes_are : AreChanges (coins_of c) (coins_of (core_after_commit r c prepared)) prepared.changes
+  pub ready : IsReady r c prepared
 
-abbrev pub IsPreparation : Rules Block Id → CoreState → Command → CoreState → Prepared → Type 0
-IsPreparation r a command b prepared = IsPreparationFor r a (outcome r a.state command) b prepared
+abbrev pub IsPreparation : Rules Block Id → CoreState → Command → Prepared → Type 0
+IsPreparation r c command prepared = IsPreparationFor r c (outcome r c.state command) prepared
 
 -- what is prepared for a command that changes nothing
 pub record ChangesNothing (reply : Reply) (prepared : Prepared) : Type 0 where
   pub reply_is : prepared.reply ≡ reply
-  pub first_is : prepared.first ≡ Unchanged
+  pub edit_is : prepared.edit ≡ Leave
   pub rest_is : prepared.rest ≡ Nothing
   pub changes_are : prepared.changes ≡ []
 
--- the same of settling the state as it is
+-- this settles the state of c
 pub record Settles (r : Rules Block Id) (c : CoreState) (rest : Completion) (changes : Changes) : Type 0 where
-  pub state_is : (core_after_commit r c rest).state ≡ settle r c.state
-  pub active_is : (core_after_commit r c rest).active ≡ active r c.state
-  pub changes_are : AreChanges (coins_of c) (coins_of (core_after_commit r c rest)) changes
-  pub ready : IsReady r c rest
+  pub state_is : (core_after_finish r c rest).state ≡ settle r c.state
+  pub active_is : (core_after_finish r c rest).active ≡ active r c.state
+  pub changes_are : AreChanges (coins_of c) (coins_of (core_after_finish r c rest)) changes
+  pub ready : CanFinish r c rest
 
 -- a try of the block at p settles the state of c, and this came of it
 pub record IsTried (r : Rules Block Id) (c : CoreState) (p : ℕ) (attempt : Attempt) : Type 0 where

@@ -37,7 +37,7 @@ use Rattle.activate.specs.laws.Fork.{setting_at, connected-at}
 
 -- ---- the place of the next block
 
--- the last of the medians by height is that of the highest block
+-- the last of the medians by height is the highest block's
 last-median : (bs : List Block) → 0 < length bs → get_or (reverse (medians_of bs)) (length (reverse (medians_of bs)) - 1) 0 ≡ median_time_past bs
 last-median [] h = absurd (omega arith)
 last-median (b ∷ older) h =

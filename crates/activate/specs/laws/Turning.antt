@@ -124,7 +124,7 @@ module _ (t : Blocks Block) (a p : ℕ) (h : a ≤ length t) (k : p ≤ length t
     abbrev left : ℕ
     left = n - length (above t a f)
 
-    -- that of the blocks that go is let go
+    -- the undo of the blocks that go is let go
     pub undo_below : take left (highest_undo t a n) ≡ highest_undo t f left
     unfolding highest_undo
     undo_below =
@@ -152,7 +152,7 @@ module _ (t : Blocks Block) (a p : ℕ) (h : a ≤ length t) (k : p ≤ length t
     abbrev most : ℕ
     most = length path.up.items + left
 
-    -- and that of those that come is added
+    -- and the undo of the blocks that come is added
     undo_whole : highest_undo t f left ++ reverse (map (undo_at t) path.up.items) ≡ highest_undo t p most
     unfolding highest_undo
     undo_whole =
@@ -168,7 +168,7 @@ module _ (t : Blocks Block) (a p : ℕ) (h : a ≤ length t) (k : p ≤ length t
         let g = gone in
         length-reverse (map (undo_at t) (take most (branch t p))) ∙ length-map (take most (branch t p)) (undo_at t) ∙ length-take most (branch t p) ∙ omega arith
 
-    -- the last of it are those of the highest blocks
+    -- its last items are the undo of the highest blocks
     undo_newest : (m : ℕ) → m ≤ most → drop (most - m) (highest_undo t p most) ≡ highest_undo t p m
     unfolding highest_undo
     undo_newest m l =

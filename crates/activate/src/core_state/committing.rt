@@ -1,11 +1,12 @@
-//! What was prepared is put in place, or given up. Neither takes memory.
+//! What was prepared is put in place together with the coins: both, or neither.
 
-ghost use Rattle.std.specs.Prelude.{◌≡◌, ◌≤◌, length, map, reverse};
+ghost use Rattle.std.specs.Prelude.{◌≡◌, ◌≤◌, IfOk, OnErr, OnOk, length, map, reverse};
 ghost use Rattle.hash.specs.declared.id.Id.{Id};
 ghost use Rattle.block.specs.declared.block.Block.{Block};
 ghost use Rattle.chain.specs.Rules.{Rules};
-ghost use Rattle.activate.specs.inside.Preparation.{undo_after, CanActivate, CanBeTakenBack, IsReady, core_after_activation, core_after_commit, core_after_rollback};
+ghost use Rattle.activate.specs.inside.Preparation.{undo_after, CanActivate, CanEdit, CanFinish, IsReady, core_after_activation, core_after_commit, core_after_finish, core_with_block, edited};
 ghost use Rattle.curve.specs.Triple.{Triples};
+ghost use Rattle.tree.specs.Nodes.{CanKeep};
 ghost use Rattle.chain.specs.Regtest.{regtest};
 ghost use Rattle.activate.specs.inside.Keeping.{undo_at};
 ghost use Rattle.activate.specs.inside.Paths.{IsPath};
@@ -13,26 +14,101 @@ ghost use Rattle.activate.specs.inside.Paths.{IsPath};
 use crate::active_branch::{append_places, keep_undo};
 use crate::core_state::Core;
 use crate::path::BranchPath;
-use crate::prepared::{Completion, TreeChange};
+use crate::prepared::{Completion, Edit, Prepared};
 use crate::try_flags::flag_valid_path;
-use tree::Marking;
+use chain::Reply;
+use coins::Changes;
+use std::alloc::Global;
+use tree::{Lays, Marking, NewBlock};
 use undo::BlockUndo;
+use wire::Memory;
 
 impl Core {
-    /// Puts in place what is left to do of a prepared command.
-    pub(crate) fn commit(&mut self, rest: Completion)
-        requires { (triples : Triples) × IsReady (regtest self.old.params triples) self.old rest }
-        ensures { (triples : Triples) → IsReady (regtest self.old.params triples) self.old rest
-            → self.new ≡ core_after_commit (regtest self.old.params triples) self.old rest }
+    /// Puts a prepared command in place, where the coins take their changes too. Room comes first, then the coins, and
+    /// then what can't fail; so a refusal leaves both, and nothing is taken back.
+    pub(crate) fn commit<L: Lays<Changes>>(
+        &mut self,
+        alloc: Global,
+        prepared: Prepared,
+        coins: &mut L,
+    ) -> Result<Reply, Memory>
+        requires { (triples : Triples) × IsReady (regtest self.old.params triples) self.old
+            prepared }
+        ensures reply { IfOk result (λ reply. reply ≡ prepared.reply) }
+        ensures ok { (triples : Triples) → let r = regtest self.old.params triples in
+            IsReady r self.old prepared
+            → OnOk result (self.new ≡ core_after_commit r self.old prepared) }
+        ensures laid { OnOk result (coins.new ≡ L.laid coins.old prepared.changes) }
+        ensures err { OnErr result (self.new ≡ self.old) }
+        ensures not_laid { OnErr result (coins.new ≡ coins.old) }
+    {
+        let Prepared {
+            reply,
+            edit,
+            rest,
+            changes,
+        } = prepared;
+        self.edit(alloc, edit, coins, changes)?;
+        self.finish(rest);
+        Ok(reply)
+    }
+
+    /// Changes the tree, where the coins take their changes too.
+    fn edit<L: Lays<Changes>>(
+        &mut self,
+        alloc: Global,
+        edit: Edit,
+        coins: &mut L,
+        changes: Changes,
+    ) -> Result<(), Memory>
+        requires { CanEdit self.old.state edit }
+        ensures ok { OnOk result (self.new ≡ edited self.old edit) }
+        ensures laid { OnOk result (coins.new ≡ L.laid coins.old changes) }
+        ensures err { OnErr result (self.new ≡ self.old) }
+        ensures not_laid { OnErr result (coins.new ≡ coins.old) }
+    {
+        match edit {
+            Edit::Leave => coins.lay(alloc, changes),
+            Edit::Keep(new) => self.keep(alloc, new, coins, changes),
+            Edit::Call(place) => self.tree.precious(alloc, place, coins, changes),
+            Edit::Remark(marks) => {
+                coins.lay(alloc, changes)?;
+                self.tree.set_marks(marks);
+                Ok(())
+            }
+        }
+    }
+
+    /// Keeps a new block, with room for it on the active branch.
+    fn keep<L: Lays<Changes>>(
+        &mut self,
+        alloc: Global,
+        new: NewBlock,
+        coins: &mut L,
+        changes: Changes,
+    ) -> Result<(), Memory>
+        requires { CanKeep self.old.state new }
+        ensures ok { OnOk result (self.new ≡ core_with_block self.old new.block new.parent) }
+        ensures laid { OnOk result (coins.new ≡ L.laid coins.old changes) }
+        ensures err { OnErr result (self.new ≡ self.old) }
+        ensures not_laid { OnErr result (coins.new ≡ coins.old) }
+    {
+        let more = self.tree.len() + 1 - self.branch.len();
+        self.branch.reserve(more)?;
+        self.medians.reserve(more)?;
+        self.tree.add(alloc, new, coins, changes)
+    }
+
+    /// Puts in place what a try found. It takes no memory.
+    fn finish(&mut self, rest: Completion)
+        requires { (triples : Triples) × CanFinish (regtest self.old.params triples) self.old rest }
+        ensures { (triples : Triples) → let r = regtest self.old.params triples in
+            CanFinish r self.old rest → self.new ≡ core_after_finish r self.old rest }
     {
         match rest {
             Completion::Nothing => {}
             Completion::Flag(_, failed) => self.flag(&failed),
             Completion::Activate(place, path, undo) => self.activate(place, &path, undo),
-            Completion::Remark(marks, place, path, undo) => {
-                self.tree.set_marks(marks);
-                self.activate(place, &path, undo);
-            }
         }
     }
 
@@ -72,17 +148,5 @@ impl Core {
         );
         self.undo.truncate(left);
         keep_undo(&mut self.undo, undo);
-    }
-
-    /// Takes back what preparing a command did to the tree.
-    pub(crate) fn roll_back(&mut self, first: TreeChange)
-        requires { CanBeTakenBack first self.old.active self.old.state }
-        ensures { self.new ≡ core_after_rollback self.old first }
-    {
-        match first {
-            TreeChange::Unchanged => {}
-            TreeChange::BlockAdded => self.tree.take_back(),
-            TreeChange::CalledPrecious => self.tree.take_back_call(),
-        }
     }
 }

@@ -1,7 +1,7 @@
 //! What `invalidate`, `reconsider` and `precious` do.
 
-ghost use Rattle.std.specs.Prelude.{◌≡◌, ◌<◌, ◌≤◌, IfOk, OnErr, OnOk, Some, length, if◌then◌else◌, IfErr, None, IfSome};
-ghost use Rattle.tree.specs.State.{with_call, has_no_mark};
+ghost use Rattle.std.specs.Prelude.{◌≡◌, ◌≤◌, IfOk, length, if◌then◌else◌, IfErr, IfSome};
+ghost use Rattle.tree.specs.State.{has_no_mark};
 ghost use Rattle.chain.specs.Regtest.{regtest};
 ghost use Rattle.chain.specs.Settle.{settle};
 ghost use Rattle.chain.specs.Step.{Invalidate, Reconsider, Precious, mark_says, step};
@@ -13,8 +13,9 @@ ghost use Rattle.curve.specs.Known.{Under};
 
 use crate::core_state::Core;
 use crate::core_state::preparing::still;
+use crate::core_state::settling::settled_by;
 use crate::path::Attempt;
-use crate::prepared::{Completion, Prepared, TreeChange};
+use crate::prepared::{Completion, Edit, Prepared};
 use crate::try_flags::flag_failed_try;
 use chain::{MarkReply, Reply};
 use coins::Base;
@@ -23,7 +24,6 @@ use hash::Id;
 use queue::Gate;
 use std::alloc::Global;
 use tree::{Marking, Overlay};
-use wire::Memory;
 
 impl Core {
     /// Marks a block (Bitcoin Core's `InvalidateBlock`).
@@ -39,7 +39,7 @@ impl Core {
         requires coins { B.coins base.now ≡ coins_of self.now }
         ensures prepared { IfOk result (λ prepared. Under (S.known env.now) (λ triples.
             let r = regtest self.now.params triples in IsPreparationFor r self.now
-            (step r self.now.state (Invalidate id.now)) self.now prepared)) }
+            (step r self.now.state (Invalidate id.now)) prepared)) }
         ensures wants { IfErr result (λ stop. IfSome (S.told stop)
             (AreWantedBy self.now (Invalidate id.now) (S.known env.now))) }
     {
@@ -66,7 +66,7 @@ impl Core {
         requires coins { B.coins base.now ≡ coins_of self.now }
         ensures prepared { IfOk result (λ prepared. Under (S.known env.now) (λ triples.
             let r = regtest self.now.params triples in IsPreparationFor r self.now
-            (step r self.now.state (Reconsider id.now)) self.now prepared)) }
+            (step r self.now.state (Reconsider id.now)) prepared)) }
         ensures wants { IfErr result (λ stop. IfSome (S.told stop)
             (AreWantedBy self.now (Reconsider id.now) (S.known env.now))) }
     {
@@ -76,16 +76,6 @@ impl Core {
         let mut overlay = Overlay::over(alloc, &self.tree)?;
         overlay.clear(alloc, place)?;
         self.settle_marks(alloc, base, overlay, env, gate)
-    }
-
-    /// Puts a block last in the list of calls.
-    fn call(&mut self, place: usize) -> Result<(), Memory>
-        requires { place ≤ length self.old.state.blocks }
-        ensures ok { OnOk result
-            (self.new ≡ record self.old { state = with_call self.old.state place }) }
-        ensures err { OnErr result (self.new ≡ self.old) }
-    {
-        self.tree.precious(place)
     }
 
     /// Settles the state under an overlay: it tries the best block whose branch has no mark (Bitcoin Core's
@@ -104,7 +94,7 @@ impl Core {
         requires coins { B.coins base.now ≡ coins_of self.now }
         ensures prepared { IfOk result (λ prepared. Under (S.known env.now) (λ triples.
             let r = regtest self.now.params triples in IsPreparationFor r self.now
-            (mark_says (settle r overlay.entry) Done) self.now prepared)) }
+            (mark_says (settle r overlay.entry) Done) prepared)) }
         ensures wants { IfErr result (λ stop. IfSome (S.told stop)
             (AreWantedToSettle (record self.now { state = overlay.entry }) (S.known env.now))) }
     {
@@ -115,8 +105,8 @@ impl Core {
                     let marks = overlay.into_marks();
                     return Ok(Prepared {
                         reply: Reply::Mark(MarkReply::Done),
-                        first: TreeChange::Unchanged,
-                        rest: Completion::Remark(marks, place, found.path, found.undo),
+                        edit: Edit::Remark(marks),
+                        rest: Completion::Activate(place, found.path, found.undo),
                         changes: found.changes,
                     });
                 }
@@ -128,23 +118,20 @@ impl Core {
     /// Calls a block precious (Bitcoin Core's `PreciousBlock`). A call for one that is lower than the active one
     /// changes nothing.
     pub(crate) fn prepare_precious<B: Base, S: RunsScripts>(
-        &mut self,
+        &self,
         alloc: Global,
         base: &B,
         id: &Id,
         env: &S,
         gate: &(dyn Gate + Sync),
     ) -> Result<Prepared, S::Stop>
-        requires follows { Under (S.known env.now) (λ triples. Follows self.old triples) }
-        requires coins { B.coins base.now ≡ coins_of self.old }
-        ensures prepared { IfOk result (λ prepared.
-            Under (S.known env.now) (λ triples. IsPreparationFor (regtest self.old.params triples) self.old
-            (step (regtest self.old.params triples)
-            self.old.state (Precious id.now))
-            self.new prepared)) }
-        ensures err { OnErr result (self.new ≡ self.old) }
+        requires follows { Under (S.known env.now) (λ triples. Follows self.now triples) }
+        requires coins { B.coins base.now ≡ coins_of self.now }
+        ensures prepared { IfOk result (λ prepared. Under (S.known env.now) (λ triples.
+            let r = regtest self.now.params triples in IsPreparationFor r self.now
+            (step r self.now.state (Precious id.now)) prepared)) }
         ensures wants { IfErr result (λ stop. IfSome (S.told stop)
-            (AreWantedBy self.old (Precious id.now) (S.known env.now))) }
+            (AreWantedBy self.now (Precious id.now) (S.known env.now))) }
     {
         let Some(place) = self.tree.find(id) else {
             return Ok(still(alloc, Reply::Mark(MarkReply::NotFound)));
@@ -152,23 +139,18 @@ impl Core {
         if self.tree.height(place) < self.tree.height(self.active) {
             return Ok(still(alloc, Reply::Mark(MarkReply::Done)));
         }
-        self.call(place)?;
         let first = self.best_of_two(place);
-        match self.settle(alloc, base, first, env, gate) {
-            Ok(settled) => Ok(Prepared {
-                reply: Reply::Mark(MarkReply::Done),
-                first: TreeChange::CalledPrecious,
-                rest: settled.rest,
-                changes: settled.changes,
-            }),
-            Err(stop) => {
-                self.tree.take_back_call();
-                Err(stop)
-            }
-        }
+        let attempt = self.try_block(alloc, base, first, env, gate)?;
+        let settled = settled_by(alloc, first, attempt);
+        Ok(Prepared {
+            reply: Reply::Mark(MarkReply::Done),
+            edit: Edit::Call(place),
+            rest: settled.rest,
+            changes: settled.changes,
+        })
     }
 
-    /// The block that was called precious, if no block of its branch is marked, or else the active one.
+    /// The block that is called precious, if no block of its branch is marked, or else the active one.
     fn best_of_two(&self, place: usize) -> usize
         requires { place ≤ length self.now.state.blocks }
         ensures { result ≡ (if has_no_mark self.now.state place then place else self.now.active) }

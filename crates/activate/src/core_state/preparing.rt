@@ -1,34 +1,28 @@
 //! What a command does, found out before anything is changed.
 
-ghost use Rattle.std.specs.Prelude.{◌≡◌, ◌≤◌, ◌<◌, IfOk, None, Some, OnOk, OnErr, suc, length, IfErr, IfSome};
+ghost use Rattle.std.specs.Prelude.{◌≡◌, ◌≤◌, IfOk, length, IfErr, IfSome};
 ghost use Rattle.hash.specs.declared.id.Id.{Id};
 ghost use Rattle.block.specs.declared.block.Block.{Block};
-ghost use Rattle.tree.specs.Branches.{place_of};
-ghost use Rattle.tree.specs.Limits.{max_blocks};
-ghost use Rattle.tree.specs.Names.{names};
-ghost use Rattle.tree.specs.Sound.{IsFresh};
 ghost use Rattle.chain.specs.Prepared.{command_of};
-ghost use Rattle.chain.specs.Submitted.{IsSubmission};
 ghost use Rattle.chain.specs.Regtest.{regtest};
 ghost use Rattle.chain.specs.Rules.{Rules};
-ghost use Rattle.chain.specs.Step.{Submit, step};
+ghost use Rattle.chain.specs.declared.command.Command.TheVariants as command;
 ghost use Rattle.chain.specs.Submission.{answer_known};
 ghost use Rattle.activate.specs.CoreState.{Follows, coins_of};
-ghost use Rattle.activate.specs.Wants.{AreWantedBy, AreWantedByStep};
-ghost use Rattle.activate.specs.inside.Preparation.{IsPreparation, IsPreparationFor, ChangesNothing, core_with_block};
+ghost use Rattle.activate.specs.Wants.{AreWantedByStep};
+ghost use Rattle.activate.specs.inside.Preparation.{IsPreparation, ChangesNothing};
 ghost use Rattle.curve.specs.Known.{Under};
 
 use crate::block_faults::fault_or_parent;
 use crate::core_state::Core;
-use crate::prepared::{Completion, Prepared, TreeChange};
-use block::{Bytes, StoredBlock};
-use chain::{PreparedCommand, Reply, SubmitReply, SubmittedBlock};
+use crate::prepared::{Completion, Edit, Prepared};
+use block::StoredBlock;
+use chain::{MarkReply, PreparedCommand, Reply, Submission, SubmitReply};
 use coins::{Base, Changes};
 use connect::RunsScripts;
 use queue::Gate;
 use std::alloc::Global;
-use tree::{AddFault, MAX_BLOCKS};
-use wire::Memory;
+use tree::{MAX_BLOCKS, NewBlock};
 
 /// What is prepared for a command that changes nothing.
 pub(crate) fn still(alloc: Global, reply: Reply) -> Prepared
@@ -36,39 +30,34 @@ pub(crate) fn still(alloc: Global, reply: Reply) -> Prepared
 {
     Prepared {
         reply,
-        first: TreeChange::Unchanged,
+        edit: Edit::Leave,
         rest: Completion::Nothing,
         changes: Changes::new(alloc),
     }
 }
 
 impl Core {
-    /// Finds out everything that a command does, and gets all memory for it. Where it refuses nothing has changed;
-    /// else the tree may be changed, and `first` says how.
+    /// Finds out everything that a command does. Nothing changes.
     pub(crate) fn prepare<B: Base, S: RunsScripts>(
-        &mut self,
+        &self,
         alloc: Global,
         base: &B,
         command: &PreparedCommand,
         env: &S,
         gate: &(dyn Gate + Sync),
     ) -> Result<Prepared, S::Stop>
-        requires follows { Under (S.known env.now) (λ triples. Follows self.old triples) }
-        requires coins { B.coins base.now ≡ coins_of self.old }
+        requires follows { Under (S.known env.now) (λ triples. Follows self.now triples) }
+        requires coins { B.coins base.now ≡ coins_of self.now }
         ensures prepared { IfOk result (λ prepared.
-            Under (S.known env.now) (λ triples. IsPreparation (regtest self.old.params triples) self.old
-            (command_of command.now) self.new prepared)) }
-        ensures err { OnErr result (self.new ≡ self.old) }
+            Under (S.known env.now) (λ triples. IsPreparation
+            (regtest self.now.params triples) self.now (command_of command.now) prepared)) }
         ensures wants { IfErr result (λ stop. IfSome (S.told stop)
-            (AreWantedByStep self.old (command_of command.now) (S.known env.now))) }
+            (AreWantedByStep self.now (command_of command.now) (S.known env.now))) }
     {
         match command {
-            PreparedCommand::Submit(submission, now) => match submission.block() {
-                Some(submitted) => {
-                    self.prepare_block(alloc, base, submission.bytes(), submitted, *now, env, gate)
-                }
-                None => Ok(still(alloc, Reply::Submit(SubmitReply::DecodeFailed))),
-            },
+            PreparedCommand::Submit(submission, now) => {
+                self.prepare_block(alloc, base, submission, *now, env, gate)
+            }
             PreparedCommand::Invalidate(id) => {
                 self.prepare_invalidate(alloc, base, id, env, gate)
             }
@@ -76,32 +65,32 @@ impl Core {
                 self.prepare_reconsider(alloc, base, id, env, gate)
             }
             PreparedCommand::Precious(id) => self.prepare_precious(alloc, base, id, env, gate),
+            PreparedCommand::Learn(_, _) => Ok(still(alloc, Reply::Mark(MarkReply::Done))),
         }
     }
 
-    /// What a submitted block does (Bitcoin Core's `ProcessNewBlock`).
+    /// What a submission does (Bitcoin Core's `ProcessNewBlock`).
     fn prepare_block<B: Base, S: RunsScripts>(
-        &mut self,
+        &self,
         alloc: Global,
         base: &B,
-        bytes: &Bytes,
-        submitted: &SubmittedBlock,
+        submission: &Submission,
         now: u64,
         env: &S,
         gate: &(dyn Gate + Sync),
     ) -> Result<Prepared, S::Stop>
-        requires follows { Under (S.known env.now) (λ triples. Follows self.old triples) }
-        requires submission { IsSubmission bytes.now (Some submitted.now) }
-        requires coins { B.coins base.now ≡ coins_of self.old }
-        ensures prepared { IfOk result (λ prepared.
-            Under (S.known env.now) (λ triples. IsPreparationFor (regtest self.old.params triples) self.old
-            (step (regtest self.old.params triples)
-            self.old.state (Submit now submitted.now.block))
-            self.new prepared)) }
-        ensures err { OnErr result (self.new ≡ self.old) }
-        ensures wants { IfErr result (λ stop. IfSome (S.told stop)
-            (AreWantedBy self.old (Submit now submitted.now.block) (S.known env.now))) }
+        requires follows { Under (S.known env.now) (λ triples. Follows self.now triples) }
+        requires coins { B.coins base.now ≡ coins_of self.now }
+        ensures prepared { let c = command.Submit submission.now now in
+            IfOk result (λ prepared. Under (S.known env.now) (λ triples.
+            IsPreparation (regtest self.now.params triples) self.now c prepared)) }
+        ensures wants { let c = command.Submit submission.now now in
+            IfErr result (λ stop. IfSome (S.told stop)
+            (AreWantedByStep self.now c (S.known env.now))) }
     {
+        let Some(submitted) = submission.block() else {
+            return Ok(still(alloc, Reply::Submit(SubmitReply::DecodeFailed)));
+        };
         if let Some(place) = self.tree.find(&submitted.id) {
             return Ok(still(alloc, Reply::Submit(self.known(place))));
         }
@@ -112,10 +101,11 @@ impl Core {
             Err(reason) => Ok(still(alloc, Reply::Submit(SubmitReply::Rejected(reason)))),
             Ok(parent) => {
                 let settled = self.settle_new(alloc, base, submitted, parent, env, gate)?;
-                self.add(bytes, submitted, parent)?;
+                let block = StoredBlock::of(submission.bytes().copy()?, &submitted.block);
+                let id = submitted.id;
                 Ok(Prepared {
                     reply: Reply::Submit(settled.said),
-                    first: TreeChange::BlockAdded,
+                    edit: Edit::Keep(NewBlock { block, id, parent }),
                     rest: settled.rest,
                     changes: settled.changes,
                 })
@@ -134,34 +124,6 @@ impl Core {
             SubmitReply::Duplicate
         } else {
             SubmitReply::DuplicateInconclusive
-        }
-    }
-
-    /// Keeps a new block, with room for it on the active branch.
-    fn add(
-        &mut self,
-        bytes: &Bytes,
-        submitted: &SubmittedBlock,
-        parent: usize,
-    ) -> Result<usize, Memory>
-        requires parent { parent ≤ length self.old.state.blocks }
-        requires room { suc (length self.old.state.blocks) < max_blocks }
-        requires submission { IsSubmission bytes.now (Some submitted.now) }
-        requires new { place_of names self.old.state.blocks submitted.now.id ≡ None }
-        ensures place { IfOk result (λ place. place ≡ suc (length self.old.state.blocks)) }
-        ensures ok { OnOk result
-            (self.new ≡ core_with_block self.old submitted.now.block parent) }
-        ensures fresh { OnOk result (IsFresh names self.new.state) }
-        ensures err { OnErr result (self.new ≡ self.old) }
-    {
-        let block = StoredBlock::of(bytes.copy()?, &submitted.block);
-        let more = self.tree.len() + 1 - self.branch.len();
-        self.branch.reserve(more)?;
-        self.medians.reserve(more)?;
-        match self.tree.add(block, submitted.id, parent) {
-            Ok(place) => Ok(place),
-            Err(AddFault::Full) => unreachable!(),
-            Err(AddFault::Memory) => Err(Memory),
         }
     }
 }

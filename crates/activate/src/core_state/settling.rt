@@ -1,8 +1,6 @@
-//! The try of a block, and what it comes to where it settles the state.
+//! The try of a block, and what is left to do where it settles the state.
 
 ghost use Rattle.std.specs.Prelude.{ℕ, ◌≡◌, ◌≤◌, ◌<◌, suc, length, IfOk, IfErr, None, IfSome};
-ghost use Rattle.tree.specs.Sound.{IsBest};
-ghost use Rattle.tree.specs.State.{has_no_mark};
 ghost use Rattle.hash.specs.declared.id.Id.{Id};
 ghost use Rattle.block.specs.declared.block.Block.{Block};
 ghost use Rattle.coins.specs.Coins.{Coins};
@@ -14,7 +12,7 @@ ghost use Rattle.chain.specs.Regtest.{regtest};
 ghost use Rattle.activate.specs.CoreState.{CoreState, Follows, coins_of};
 ghost use Rattle.activate.specs.Wants.{AreWantedToSettle};
 ghost use Rattle.activate.specs.inside.Paths.{IsActiveBranch, IsAttempt, IsValid, AreWantedOnWay};
-ghost use Rattle.activate.specs.inside.Preparation.{CanFlag, CanTry, IsOneTry, IsSettledBy, IsTried, core_of, core_with_block, reply_to_failed_try};
+ghost use Rattle.activate.specs.inside.Preparation.{CanFlag, IsSettledBy, IsTried, core_of, core_with_block, reply_to_failed_try};
 ghost use Rattle.curve.specs.Known.{Under};
 
 use crate::core_state::Core;
@@ -28,34 +26,8 @@ use queue::Gate;
 use std::alloc::Global;
 
 impl Core {
-    /// Settles the state by one try of the best block whose branch has no mark, where one is enough (Bitcoin Core's
-    /// `ActivateBestChain`).
-    pub(crate) fn settle<B: Base, S: RunsScripts>(
-        &self,
-        alloc: Global,
-        base: &B,
-        place: usize,
-        env: &S,
-        gate: &(dyn Gate + Sync),
-    ) -> Result<Settled, S::Stop>
-        requires can { Under (S.known env.now) (λ triples.
-            CanTry (regtest self.now.params triples) self.now) }
-        requires best { let s = self.now.state in
-            IsBest s (has_no_mark s) (length s.blocks) place }
-        requires one_try { Under (S.known env.now) (λ triples.
-            IsOneTry (regtest self.now.params triples) self.now place) }
-        requires coins { B.coins base.now ≡ coins_of self.now }
-        ensures settled { IfOk result (λ settled. Under (S.known env.now) (λ triples.
-            IsSettledBy (regtest self.now.params triples) self.now place settled)) }
-        ensures wants { IfErr result (λ stop. IfSome (S.told stop)
-            (AreWantedToSettle self.now (S.known env.now))) }
-    {
-        let attempt = self.try_block(alloc, base, place, env, gate)?;
-        Ok(settled_by(alloc, place, attempt))
-    }
-
-    /// The same of the state with a new block on this parent, which isn't kept yet. Where it isn't better than the
-    /// active one nothing is tried.
+    /// Settles the state with a new block on this parent, which isn't kept yet, by one try of it (Bitcoin Core's
+    /// `ActivateBestChain`). Where it isn't better than the active one nothing is tried.
     pub(crate) fn settle_new<B: Base, S: RunsScripts>(
         &self,
         alloc: Global,
@@ -140,8 +112,8 @@ impl Core {
     }
 }
 
-/// What the try of a block comes to, which settles the state.
-fn settled_by(alloc: Global, place: usize, attempt: Attempt) -> Settled
+/// What a try of a block that settles the state leaves to do.
+pub(crate) fn settled_by(alloc: Global, place: usize, attempt: Attempt) -> Settled
     requires { (r : Rules Block Id) × (c : CoreState) × IsTried r c place attempt }
     ensures { (r : Rules Block Id) (c : CoreState) → IsTried r c place attempt
         → IsSettledBy r c place result }

@@ -1,16 +1,18 @@
 -- What commands come to, and the state after one command more.
-use Rattle.std.proofs.Common.{◌≡◌, ℕ, zero, suc, ◌+◌, ◌<◌, List, [], ◌∷◌, length, take, get_or, Option, Some, None, arith, sym, refl, ap, ◌∙◌, subst}
+use Rattle.std.proofs.Common.{◌≡◌, Bool, ℕ, zero, suc, ◌+◌, ◌<◌, List, [], ◌∷◌, length, take, get_or, Option, Some, None, arith, sym, refl, ap, ◌∙◌, subst}
 use Rattle.std.specs.Option.{unwrap_or}
 use Rattle.hash.specs.declared.id.Id.{Id}
 use Rattle.block.specs.declared.block.Block.{Block}
 use Rattle.block.specs.Decoding.{block_of_bytes}
+use Rattle.curve.specs.Triple.{Triple}
 use Rattle.tree.specs.State.{State}
 use Rattle.chain.specs.declared.command.Command.{Command}
 use Rattle.chain.specs.declared.command.Command.TheVariants as command
+use Rattle.chain.specs.declared.reply.MarkReply.TheVariants.{Done}
 use Rattle.chain.specs.declared.reply.SubmitReply.TheVariants.{DecodeFailed}
 use Rattle.chain.specs.Rules.{Rules}
 use Rattle.chain.specs.Submission.{Outcome, submit_says}
-use Rattle.chain.specs.Step.{Request, Submit, Invalidate, Reconsider, Precious, step}
+use Rattle.chain.specs.Step.{Request, Submit, Invalidate, Reconsider, Precious, mark_says, step}
 use Rattle.chain.specs.Commands.{submit_step, command_step, outcome, state_after_commands}
 use Rattle.chain.specs.Settled.{IsSettled, AllKept}
 use Rattle.chain.specs.laws.Steps.{step_sound}
@@ -37,6 +39,10 @@ module _ (r : Rules Block Id) (s : State Block) where
   unfolding command_step
   prefers i = refl
 
+  pub learns : (t : Triple) (valid : Bool) → mark_says s Done ≡ outcome r s (command.Learn t valid)
+  unfolding command_step
+  learns t valid = refl
+
   -- each is a step, or leaves the state
   pub each-outcome : (P : State Block → Type 0) → P s → ((c : Request Block Id) → P (step r s c).0) → (c : Command) → P (outcome r s c).0
   unfolding command_step
@@ -48,6 +54,7 @@ module _ (r : Rules Block Id) (s : State Block) where
   each-outcome P stays steps (command.Invalidate id) = steps (Invalidate id)
   each-outcome P stays steps (command.Reconsider id) = steps (Reconsider id)
   each-outcome P stays steps (command.Precious id) = steps (Precious id)
+  each-outcome P stays steps (command.Learn triple valid) = stays
 
 -- the state after one command more
 pub state-more : (r : Rules Block Id) (s : State Block) (cs : List Command) (i : ℕ) (d : Command) → i < length cs → state_after_commands r s (take (i + 1) cs) ≡ (outcome r (state_after_commands r s (take i cs)) (get_or cs i d)).0

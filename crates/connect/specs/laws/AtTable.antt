@@ -1,8 +1,8 @@
 -- At a table what holds under each set that agrees is what holds of the table.
 use Rattle.std.specs.Prelude.{◌≡◌, All, List, Some}
 use Rattle.std.proofs.Common.{subst, sym}
-use Rattle.queue.specs.Jobs.{Answered, IsEarly}
-use Rattle.curve.specs.Known.{Under, all_known}
+use Rattle.queue.specs.Jobs.{Answered, IsEarly, known_then}
+use Rattle.curve.specs.Known.{Known, Under, all_known}
 use Rattle.curve.specs.Triple.{Triples}
 use Rattle.curve.specs.laws.Growth.{table-alone}
 use Rattle.curve.specs.laws.Agreeing.{table_agrees}
@@ -14,5 +14,5 @@ pub of_table : (table : Triples) (P : Triples → Type 0) → Under (all_known t
 of_table table P under = under table (table_agrees table)
 
 -- verdicts of the table are early ones
-pub tables_early : (table : Triples) (list : List Answered) → All (λ v. v.triples ≡ table) list → All (IsEarly (all_known table)) list
-tables_early table list same = λ k d within t valid is. subst (λ (x : Triples). all_known x t ≡ Some valid) (same k d within) is
+pub tables_early : (table : Triples) (list : List Answered) → All (λ v. known_then v ≡ all_known table) list → All (IsEarly (all_known table)) list
+tables_early table list same = λ k d within t valid is. subst (λ (known : Known). known t ≡ Some valid) (same k d within) is

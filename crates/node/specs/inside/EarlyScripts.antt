@@ -1,6 +1,8 @@
 -- The scripts of a block that can be run before the lock is taken.
 use Rattle.std.specs.Prelude.{◌≡◌, ◌⊎◌, ◌+◌, List, [], Option, None, Some}
 use Rattle.txn.specs.declared.tx.Tx.{Tx}
+use Rattle.curve.specs.Known.{Under}
+use Rattle.curve.specs.Triple.{Triples}
 use Rattle.tree.specs.Branches.{height}
 use Rattle.queue.specs.Jobs.{Batch}
 use Rattle.rules.specs.declared.params.Params.{Params}
@@ -10,24 +12,28 @@ use Rattle.connect.specs.Early.{early_spendings}
 use Rattle.chain.specs.declared.submission.SubmittedBlock.{SubmittedBlock}
 use Rattle.chain.specs.Regtest.{regtest}
 use Rattle.chain.specs.Settle.{active, best}
+use Rattle.view.specs.Origin.{known_in}
 use Rattle.view.specs.ViewState.{ViewState, state_after}
 
--- the block stands on the best block of a view
-abbrev pub StandsOnBest : ViewState → SubmittedBlock → Type 0
-StandsOnBest v b = b.block.header.prev ≡ best (regtest v.origin.params v.origin.triples) (state_after v.origin v.journal)
+-- the block stands on the best block of a view, where these signatures are valid
+abbrev pub StandsOnBest : Triples → ViewState → SubmittedBlock → Type 0
+StandsOnBest valid v b = b.block.header.prev ≡ best (regtest v.origin.params valid) (state_after v.origin valid v.journal)
 
 -- of each input whose coin the view has, or an earlier transaction of the block makes, its script, under the rules of the
 -- height above the view's
-abbrev pub scripts_over : ViewState → Params → SubmittedBlock → Batch
-scripts_over v params b =
-    let s = state_after v.origin v.journal in
+abbrev pub scripts_over : Triples → ViewState → Params → SubmittedBlock → Batch
+scripts_over valid v params b =
+    let s = state_after v.origin valid v.journal in
     record {
       txs = b.block.txs;
-      flags = flags_of (at params (height s.blocks (active (regtest v.origin.params v.origin.triples) s) + 1));
+      flags = flags_of (at params (height s.blocks (active (regtest v.origin.params valid) s) + 1));
       spendings = early_spendings v.coins b.block.txs;
     }
 
 -- these, where the block stands on the best one and there are any
+abbrev pub AreEarlyWith : Triples → ViewState → Params → SubmittedBlock → Option Batch → Type 0
+AreEarlyWith valid v params b (Some jobs) = StandsOnBest valid v b × (jobs ≡ scripts_over valid v params b)
+AreEarlyWith valid v params b None = (StandsOnBest valid v b → ⊥) ⊎ (early_spendings v.coins b.block.txs ≡ [])
+
 abbrev pub AreEarly : ViewState → Params → SubmittedBlock → Option Batch → Type 0
-AreEarly v params b (Some jobs) = StandsOnBest v b × (jobs ≡ scripts_over v params b)
-AreEarly v params b None = (StandsOnBest v b → ⊥) ⊎ (early_spendings v.coins b.block.txs ≡ [])
+AreEarly v params b jobs = Under (known_in v.origin v.journal) (λ valid. AreEarlyWith valid v params b jobs)

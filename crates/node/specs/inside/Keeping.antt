@@ -1,6 +1,8 @@
 -- The history as it is kept, with the chainstate after it.
 use Rattle.std.specs.Prelude.{◌≡◌, ◌≤◌, Bool, true, false, List, None}
 use Rattle.block.specs.Decoding.{block_of_bytes}
+use Rattle.curve.specs.Known.{Under}
+use Rattle.curve.specs.Triple.{Triples}
 use Rattle.tree.specs.Limits.{max_blocks}
 use Rattle.chain.specs.declared.command.Command.{Command}
 use Rattle.chain.specs.declared.command.Command.TheVariants as command
@@ -10,15 +12,20 @@ use Rattle.chain.specs.declared.reply.SubmitReply.TheVariants.{DecodeFailed}
 use Rattle.chain.specs.declared.entry.Entry.{Entry}
 use Rattle.chain.specs.Submission.{kept_blocks}
 use Rattle.activate.specs.CoreState.{WithCoins, IsChainstate}
-use Rattle.view.specs.Origin.{Origin}
+use Rattle.view.specs.Origin.{Origin, known_in}
 use Rattle.view.specs.ViewState.{IsLegal, state_after}
 
--- the entries are a legal history, and the chainstate is theirs; its tree is no greater than it may be
+-- the chainstate is the one after the entries, where these signatures are valid
+pub record IsTheirs (o : Origin) (valid : Triples) (chain : WithCoins) (journal : List Entry) : Type 0 where
+  pub state_is : chain.core.state ≡ state_after o valid journal
+  pub is_chainstate : IsChainstate chain valid
+
+-- the entries are a legal history, and the chainstate is theirs under every set that agrees; its tree is no greater than it
+-- may be
 pub record KeepsHistory (o : Origin) (chain : WithCoins) (journal : List Entry) : Type 0 where
   pub legal : IsLegal o journal
-  pub state_is : chain.core.state ≡ state_after o journal
   pub params_are : chain.core.params ≡ o.params
-  pub is_chainstate : IsChainstate chain o.triples
+  pub theirs : Under (known_in o journal) (λ valid. IsTheirs o valid chain journal)
   pub few : kept_blocks chain.core.state ≤ max_blocks
 
 -- each reply is that of a step, but DecodeFailed

@@ -1,5 +1,5 @@
 -- What a seat finds as it enters the published view.
-use Rattle.std.specs.Prelude.{◌≡◌, List}
+use Rattle.std.specs.Prelude.{◌≡◌, List, Option}
 use mathlib.Core.List.{IsPrefix}
 use Rattle.curve.specs.Triple.{Triples}
 use Rattle.rules.specs.declared.params.Params.{Params}
@@ -17,8 +17,8 @@ pub record IsFound (o : Origin) (seen : List Entry) (x : ViewState) (note : Begi
   pub grows : IsPrefix seen note.entries
 
 -- what is kept beside a seat is of this origin, and what was seen is legal
-pub record IsAt (o : Origin) (params : Params) (triples : Triples) (seen : Beginning) : Type 0 where
+pub record IsAt (o : Origin) (params : Params) (table : Option Triples) (seen : Beginning) : Type 0 where
   pub params_are : params ≡ o.params
-  pub triples_are : triples ≡ o.triples
+  pub table_is : table ≡ o.table
   pub book_is : seen.book ≡ o.book
   pub legal : IsLegal o seen.entries

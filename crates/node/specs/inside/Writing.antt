@@ -6,7 +6,7 @@ use Rattle.chain.specs.declared.reply.Reply.{Reply}
 use Rattle.chain.specs.declared.reply.Reply.TheVariants as reply
 use Rattle.chain.specs.History.{entry_of}
 use Rattle.node.specs.declared.fault.Fault.{Fault}
-use Rattle.node.specs.declared.fault.Fault.TheVariants.{Memory, Owed, Closed}
+use Rattle.node.specs.declared.fault.Fault.TheVariants.{Memory, Owed, Closed, Unknown}
 use Rattle.node.specs.Pass.{Pass, IsWrite}
 use Rattle.node.specs.Calls.{IsSubmitAnswer}
 use Rattle.node.specs.inside.PublishedState.{PublishedState}
@@ -21,6 +21,7 @@ IsWriteAnswer p q c at (reply.Mark value) = IsWrite p q c at (reply.Mark value)
 -- the command marks a block, or prefers one
 abbrev pub IsMark : Command → Type 0
 IsMark (command.Submit bytes now) = ⊥
+IsMark (command.Learn triple valid) = ⊥
 IsMark c = Unit {0}
 
 -- what lies under the lock stays, but that the step that was owed before may have been published
@@ -32,3 +33,4 @@ abbrev pub IsLeftBy : PublishedState → PublishedState → ℕ → Command → 
 IsLeftBy h k number c Memory = IsSettledAtMost h k
 IsLeftBy h k number c Owed = (r : Option Reply) × (k.journal ≡ h.journal ++ entry_of number c r ∷ [])
 IsLeftBy h k number c Closed = IsSettledAtMost h k
+IsLeftBy h k number c Unknown = IsSettledAtMost h k

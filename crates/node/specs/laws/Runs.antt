@@ -1,7 +1,9 @@
 -- What a seat was answered is explained by every legal history that begins with what it has seen.
-use Rattle.std.proofs.Common.{◌≡◌, ℕ, zero, suc, ◌+◌, ◌<◌, ◌≤◌, max, List, [], ◌∷◌, ◌++◌, length, take, drop, slice_get, Option, Some, None, Ok, Err, refl, ap, sym, ◌∙◌, subst, append_assoc, append-nil, length-append, arith, ⊎_elim, inl, inr}
+use Rattle.std.proofs.Common.{◌≡◌, ℕ, zero, suc, ◌+◌, ◌<◌, ◌≤◌, max, List, [], ◌∷◌, ◌++◌, length, take, drop, slice_get, Option, Some, None, Ok, Err, refl, ap, sym, ◌∙◌, subst, append_assoc, append-nil, length-append, arith, ⊎_elim, inl, inr, Bool, not}
 use mathlib.Core.List.{IsPrefix}
 use Rattle.txn.specs.declared.outpoint.OutPoint.{OutPoint}
+use Rattle.curve.specs.Known.{Agrees}
+use Rattle.curve.specs.Triple.{Triple, Triples}
 use Rattle.coins.specs.Coins.{Coins}
 use Rattle.coins.specs.declared.coin.Coin.{Coin}
 use Rattle.chain.specs.declared.command.Command.{Command}
@@ -12,15 +14,20 @@ use Rattle.chain.specs.declared.reply.SubmitReply.{SubmitReply}
 use Rattle.chain.specs.declared.reply.SubmitReply.TheVariants.{Accepted, Inconclusive, Duplicate, DuplicateInvalid, DuplicateInconclusive, Rejected, DecodeFailed, TreeFull}
 use Rattle.chain.specs.declared.entry.Entry.{Entry}
 use Rattle.chain.specs.History.{state_left, state_after_entries, state_at, Answers, Stands, own_of, entry_of}
+use Rattle.chain.specs.declared.reply.MarkReply.TheVariants.{Done}
+use Rattle.chain.specs.Learnt.{AreNews}
 use Rattle.chain.specs.laws.History.{state_after-append, stands_within}
-use Rattle.view.specs.Origin.{Origin, machine}
-use Rattle.view.specs.ViewState.{IsLegal}
+use Rattle.chain.specs.laws.Learnt.{agreed_with_front}
+use Rattle.view.specs.Origin.{Origin, known_in, machine}
+use Rattle.view.specs.ViewState.{IsLegal, IsLegalWith}
+use Rattle.node.specs.declared.answer.Learning.{Learning}
+use Rattle.node.specs.declared.answer.Learning.TheVariants as learning
 use Rattle.node.specs.declared.fault.Fault.{Fault}
-use Rattle.node.specs.declared.fault.Fault.TheVariants.{Memory, Owed, Closed}
+use Rattle.node.specs.declared.fault.Fault.TheVariants.{Memory, Owed, Closed, Unknown}
 use Rattle.node.specs.Pass.{Pass, Heard, opening_pass, IsLater, IsLonger, IsWrite, IsRead, AreCoins, IsListed, IsStanding}
-use Rattle.node.specs.Calls.{IsSubmitAnswer, IsWriteFault, IsReadFault, IsClosedFault}
+use Rattle.node.specs.Calls.{IsSubmitAnswer, IsLearnAnswer, IsVerdict, IsWriteFault, IsReadFault, IsClosedFault}
 use Rattle.node.specs.Told.{AreNext, coins_in}
-use Rattle.node.specs.Runs.{Call, Submit, Mark, GetTxOut, CoinsFrom, GetBestBlockHash, GetChainTips, Journal, Note, Told, Ensures, Makes, step_of_reply, step_of_fault, step_of, steps_of, IsStep, IsSubmission, Explains, ExplainsAll}
+use Rattle.node.specs.Runs.{Call, Submit, Mark, Learn, GetTxOut, CoinsFrom, GetBestBlockHash, GetChainTips, Journal, Note, Told, Ensures, Makes, step_of_reply, step_of_learning, step_of_fault, step_of, steps_of, IsStep, IsSubmission, IsLearnt, IsLeft, Explains, ExplainsAll}
 
 -- beginnings of a list
 begins_all : {A : Type 0} (xs ys zs : List A) → IsPrefix xs ys → IsPrefix ys zs → IsPrefix xs zs
@@ -52,22 +59,22 @@ answered s r None a = absurd a
 answered s r (Some x) a = ap (λ (v : Reply). Some (x.0, v)) (sym a)
 
 -- an entry of a legal history is a step of the chainstate
-module _ (o : Origin) (seat : ℕ) (c : Command) (r : Reply) (before rest : List Entry) where
+module _ (o : Origin) (valid : Triples) (seat : ℕ) (c : Command) (r : Reply) (before rest : List Entry) where
   abbrev its_entry : Entry
   its_entry = entry_of seat c (Some r)
 
   abbrev its_history : List Entry
   its_history = before ++ its_entry ∷ rest
 
-  before_it : state_at (machine o) its_history (length before) ≡ state_after_entries (machine o) (machine o).opening before
-  before_it = ap (λ (l : List Entry). state_after_entries (machine o) (machine o).opening l) (take_front before (its_entry ∷ rest))
+  before_it : state_at (machine o valid) its_history (length before) ≡ state_after_entries (machine o valid) (machine o valid).opening before
+  before_it = ap (λ (l : List Entry). state_after_entries (machine o valid) (machine o valid).opening l) (take_front before (its_entry ∷ rest))
 
-  after_it : state_at (machine o) its_history (suc (length before)) ≡ state_after_entries (machine o) (machine o).opening (before ++ its_entry ∷ [])
-  after_it = ap (λ (l : List Entry). state_after_entries (machine o) (machine o).opening l) (take_next before its_entry rest)
+  after_it : state_at (machine o valid) its_history (suc (length before)) ≡ state_after_entries (machine o valid) (machine o valid).opening (before ++ its_entry ∷ [])
+  after_it = ap (λ (l : List Entry). state_after_entries (machine o valid) (machine o valid).opening l) (take_next before its_entry rest)
 
-  step_there : IsLegal o its_history → IsStep o its_history seat c (suc (length before)) r
+  step_there : IsLegalWith o valid its_history → IsStep o its_history valid seat c (suc (length before)) r
   step_there legal =
-      let m = machine o in
+      let m = machine o valid in
       let s = state_after_entries m m.opening before in
       let stands : Stands m o.seats s its_entry = stands_within m o.seats m.opening before rest its_entry legal in
       let steps : m.step s c ≡ Some (state_left s (m.step s c), r) = answered s r (m.step s c) stands.reply_is in
@@ -89,6 +96,7 @@ of_same p q e = record { number = ap (λ (x : Pass). x.number) e; origin = ap (�
 moves : (p q : Pass) (c : Call) → Ensures p q c → Moves p q
 moves p q (Submit bytes now r) e = of_later p q e.later
 moves p q (Mark c r) e = of_later p q e.later
+moves p q (Learn t v r) e = of_later p q e.later
 moves p q (GetTxOut outpoint r) e = of_later p q e.later
 moves p q (GetBestBlockHash r) e = of_later p q e.later
 moves p q (CoinsFrom above most r) e = of_later p q e.later
@@ -106,36 +114,46 @@ all_move p z (c ∷ cs) e =
 
 -- what a refused call leaves
 module _ (p q : Pass) where
-  write_fault : (c : Command) (f : Fault) → IsWriteFault p q c f → q.seen ≡ p.seen
-  write_fault c Memory e = ap (λ (x : Pass). x.seen) e
-  write_fault c Owed e = e.0
-  write_fault c Closed e = ap (λ (x : Pass). x.seen) e
+  write_fault : (c : Command) (f : Fault) → IsPrefix p.seen q.seen → IsWriteFault p q c f → IsLeft (length p.seen) (length q.seen) f
+  write_fault c Memory b e = ap (λ (x : Pass). length x.seen) e
+  write_fault c Owed b e = ap length e.0
+  write_fault c Closed b e = ap (λ (x : Pass). length x.seen) e
+  write_fault c Unknown b e = length_begun p.seen q.seen b
 
   read_fault : (f : Fault) → IsReadFault p q f → q ≡ p
   read_fault Memory e = e
   read_fault Owed e = absurd e
   read_fault Closed e = e
+  read_fault Unknown e = absurd e
 
   closed_fault : (f : Fault) → IsClosedFault p q f → q ≡ p
   closed_fault Memory e = absurd e
   closed_fault Owed e = absurd e
   closed_fault Closed e = e
+  closed_fault Unknown e = absurd e
 
 -- each answer, at its place
-module _ (h : List Entry) (p q : Pass) (legal : IsLegal p.origin h) (begins : IsPrefix q.seen h) where
-  written : (c : Command) (at : ℕ) (r : Reply) → IsWrite p q c at r → (at ≡ length q.seen) × (length p.seen < length q.seen) × IsStep p.origin h p.number c (length q.seen) r
+module _ (h : List Entry) (p q : Pass) (legal : IsLegal p.origin h) (begins : IsPrefix q.seen h) (grows : IsPrefix p.seen q.seen) (valid : Triples) (agrees : Agrees (known_in p.origin h) valid) where
+  -- what agrees with the whole agreed with what was seen
+  agreed : Agrees (known_in p.origin q.seen) valid
+  agreed =
+      agreed_with_front p.origin.table q.seen begins.0 valid
+      (subst (λ (l : List Entry). AreNews p.origin.table l) (sym begins.1) legal.news)
+      (subst (λ (l : List Entry). Agrees (known_in p.origin l) valid) (sym begins.1) agrees)
+
+  written : (c : Command) (at : ℕ) (r : Reply) → IsWrite p q c at r → (at ≡ length q.seen) × (length p.seen < length q.seen) × IsStep p.origin h valid p.number c (length q.seen) r
   written c at r w =
       let before = w.last.0 in
       let e = entry_of p.number c (Some r) in
       let long : length q.seen ≡ suc (length before) = let l = ap length w.last.1 ∙ length-append before (e ∷ []) in omega (arith, l) in
       let less = length_begun p.seen before w.last.2 in
       let whole : before ++ e ∷ begins.0 ≡ h = sym (append_assoc before (e ∷ []) begins.0) ∙ ap (λ (l : List Entry). l ++ begins.0) (sym w.last.1) ∙ begins.1 in
-      let there : IsStep p.origin h p.number c (suc (length before)) r =
-      subst (λ (l : List Entry). IsStep p.origin l p.number c (suc (length before)) r) whole
-      (step_there p.origin p.number c r before begins.0 (subst (IsLegal p.origin) (sym whole) legal)) in
-      (w.at_is, omega (arith, long, less), subst (λ (n : ℕ). IsStep p.origin h p.number c n r) (sym long) there)
+      let there : IsStep p.origin h valid p.number c (suc (length before)) r =
+      subst (λ (l : List Entry). IsStep p.origin l valid p.number c (suc (length before)) r) whole
+      (step_there p.origin valid p.number c r before begins.0 (subst (IsLegalWith p.origin valid) (sym whole) (legal.legal valid agrees))) in
+      (w.at_is, omega (arith, long, less), subst (λ (n : ℕ). IsStep p.origin h valid p.number c n r) (sym long) there)
 
-  submitted : (bytes : List ℕ) (now at : ℕ) (v : SubmitReply) → IsSubmitAnswer p q bytes now at v → (at ≡ length q.seen) × IsSubmission p.origin h p.number (length p.seen) (length q.seen) bytes now v
+  submitted : (bytes : List ℕ) (now at : ℕ) (v : SubmitReply) → IsSubmitAnswer p q bytes now at v → (at ≡ length q.seen) × IsSubmission p.origin h valid p.number (length p.seen) (length q.seen) bytes now v
   submitted bytes now at DecodeFailed a =
       let same : length q.seen ≡ length p.seen = ap (λ (x : Pass). length x.seen) a.1.same in
       (a.1.at_is ∙ sym same, (same, a.0))
@@ -147,22 +165,31 @@ module _ (h : List Entry) (p q : Pass) (legal : IsLegal p.origin h) (begins : Is
   submitted bytes now at (Rejected reason) a = let w = written (command.Submit bytes now) at (reply.Submit (Rejected reason)) a in (w.0, (w.1, w.2))
   submitted bytes now at TreeFull a = let w = written (command.Submit bytes now) at (reply.Submit TreeFull) a in (w.0, (w.1, w.2))
 
+  -- a verdict that is known after what was seen is known there
+  verdict : (t : Triple) (v : Bool) (at : ℕ) → IsVerdict p q t v at → (at ≡ length q.seen) × (known_in p.origin (take (length q.seen) h) t ≡ Some v)
+  verdict t v at k = (k.at_is, ap (λ (l : List Entry). known_in p.origin l t) (take_begun q.seen h begins) ∙ k.known_is)
+
+  learnt : (t : Triple) (v : Bool) (at : ℕ) (x : Learning) → IsLearnAnswer p q t v at x → (at ≡ length q.seen) × IsLearnt p.origin h valid p.number (length p.seen) (length q.seen) t v x
+  learnt t v at learning.New a = let w = written (command.Learn t v) at (reply.Mark Done) a in (w.0, (w.1, w.2))
+  learnt t v at learning.Known a = verdict t v at a
+  learnt t v at learning.Contradicted a = verdict t (not v) at a
+
   -- what was seen at the place of an answer
   seen_there : (at : ℕ) → at ≡ length q.seen → take at q.seen ≡ take (length q.seen) h
   seen_there at is = ap (λ (n : ℕ). take n q.seen) is ∙ take_begun q.seen q.seen ([], append-nil q.seen) ∙ sym (take_begun q.seen h begins)
 
-  read : {V : Type 0} (value : (machine p.origin).State → V) (at : ℕ) (answer : V) → IsRead p q value at answer → (at ≡ length q.seen) × (answer ≡ value (state_at (machine p.origin) h (length q.seen)))
+  read : {V : Type 0} (value : (valid : Triples) → (machine p.origin valid).State → V) (at : ℕ) (answer : V) → IsRead p q value at answer → (at ≡ length q.seen) × (answer ≡ value valid (state_at (machine p.origin valid) h (length q.seen)))
   read value at answer r =
-      let m = machine p.origin in
-      (r.at_is, r.value_is ∙ ap (λ (l : List Entry). value (state_after_entries m m.opening l)) (seen_there at r.at_is))
+      let m = machine p.origin valid in
+      (r.at_is, r.value_is valid agreed ∙ ap (λ (l : List Entry). value valid (state_after_entries m m.opening l)) (seen_there at r.at_is))
 
   coins : (above : Option OutPoint) (most at : ℕ) (answer : List (OutPoint × Coin)) → AreCoins p q above most at answer
-      → (at ≡ length q.seen) × AreNext (coins_in p.origin (state_at (machine p.origin) h (length q.seen))) above most answer
+      → (at ≡ length q.seen) × AreNext (coins_in p.origin valid (state_at (machine p.origin valid) h (length q.seen))) above most answer
   coins above most at answer a =
-      let m = machine p.origin in
-      let same : coins_in p.origin (state_at m q.seen at) ≡ coins_in p.origin (state_at m h (length q.seen)) =
-      ap (λ (l : List Entry). coins_in p.origin (state_after_entries m m.opening l)) (seen_there at a.at_is) in
-      (a.at_is, subst (λ (x : Coins). AreNext x above most answer) same a.answer_is)
+      let m = machine p.origin valid in
+      let same : coins_in p.origin valid (state_at m q.seen at) ≡ coins_in p.origin valid (state_at m h (length q.seen)) =
+      ap (λ (l : List Entry). coins_in p.origin valid (state_after_entries m m.opening l)) (seen_there at a.at_is) in
+      (a.at_is, subst (λ (x : Coins). AreNext x above most answer) same (a.answer_is valid agreed))
 
   listed : (first last at : ℕ) (answer : List Entry) → IsListed p q first last at answer → (at ≡ length q.seen) × (answer ≡ drop first (take last (take (length q.seen) h)))
   listed first last at answer l = (l.at_is, l.answer_is ∙ ap (λ (xs : List Entry). drop first (take last xs)) (sym (take_begun q.seen h begins)))
@@ -187,36 +214,46 @@ module _ (h : List Entry) (p q : Pass) (legal : IsLegal p.origin h) (begins : Is
           let less = length_begun p.seen x.seen b in
           (omega (arith, n, less), subst (λ (l : List Entry). IsPrefix l h) e begins)
 
-  explained : (c : Call) → Ensures p q c → Explains p.origin h p.number (length p.seen) (length q.seen) c
+  stays : (f : Fault) → q ≡ p → IsLeft (length p.seen) (length q.seen) f
+  stays Memory e = ap (λ (x : Pass). length x.seen) e
+  stays Owed e = ap (λ (x : Pass). length x.seen) e
+  stays Closed e = ap (λ (x : Pass). length x.seen) e
+  stays Unknown e = length_begun p.seen q.seen grows
+
+  explained : (c : Call) → Ensures p q c → Explains p.origin h valid p.number (length p.seen) (length q.seen) c
   explained (Submit bytes now (Ok r)) e = submitted bytes now r.at r.value e.answer
-  explained (Submit bytes now (Err f)) e = ap length (write_fault p q (command.Submit bytes now) f e.fault)
+  explained (Submit bytes now (Err f)) e = write_fault p q (command.Submit bytes now) f grows e.fault
   explained (Mark c (Ok r)) e = let w = written c r.at (reply.Mark r.value) e.answer in (w.0, (w.1, w.2))
-  explained (Mark c (Err f)) e = ap length (write_fault p q c f e.fault)
+  explained (Mark c (Err f)) e = write_fault p q c f grows e.fault
+  explained (Learn t v (Ok r)) e = learnt t v r.at r.value e.answer
+  explained (Learn t v (Err f)) e = write_fault p q (command.Learn t v) f grows e.fault
   explained (GetTxOut outpoint (Ok r)) e = read _ r.at r.value e.answer
-  explained (GetTxOut outpoint (Err f)) e = ap (λ (x : Pass). length x.seen) (read_fault p q f e.fault)
+  explained (GetTxOut outpoint (Err f)) e = stays f (read_fault p q f e.fault)
   explained (GetBestBlockHash (Ok r)) e = read _ r.at r.value e.answer
-  explained (GetBestBlockHash (Err f)) e = ap (λ (x : Pass). length x.seen) (closed_fault p q f e.fault)
+  explained (GetBestBlockHash (Err f)) e = stays f (closed_fault p q f e.fault)
   explained (CoinsFrom above most (Ok r)) e = coins above most r.at r.value.items e.answer
-  explained (CoinsFrom above most (Err f)) e = ap (λ (x : Pass). length x.seen) (read_fault p q f e.fault)
+  explained (CoinsFrom above most (Err f)) e = stays f (read_fault p q f e.fault)
   explained (GetChainTips (Ok r)) e = read _ r.at r.value.items e.answer
-  explained (GetChainTips (Err f)) e = ap (λ (x : Pass). length x.seen) (read_fault p q f e.fault)
+  explained (GetChainTips (Err f)) e = stays f (read_fault p q f e.fault)
   explained (Journal first last (Ok r)) e = listed first last r.at r.value.items e.answer
-  explained (Journal first last (Err f)) e = ap (λ (x : Pass). length x.seen) (read_fault p q f e.fault)
+  explained (Journal first last (Err f)) e = stays f (read_fault p q f e.fault)
   explained (Note x) e = noted x e
   explained (Told x) e = told x e.2
 
-all_explained : (h : List Entry) (p z : Pass) (cs : List Call) → IsLegal p.origin h → Makes p cs z → IsPrefix z.seen h → ExplainsAll p.origin h p.number (length p.seen) cs
-all_explained h p z [] legal e begins = tt
-all_explained h p z (c ∷ cs) legal e begins =
+all_explained : (h : List Entry) (valid : Triples) (p z : Pass) (cs : List Call) → IsLegal p.origin h → Agrees (known_in p.origin h) valid → Makes p cs z → IsPrefix z.seen h
+    → ExplainsAll p.origin h valid p.number (length p.seen) cs
+all_explained h valid p z [] legal agrees e begins = tt
+all_explained h valid p z (c ∷ cs) legal agrees e begins =
     let q = e.0 in
     let one = moves p q c e.1 in
     let begun : IsPrefix q.seen h = begins_all q.seen z.seen h (all_move q z cs e.2).grows begins in
-    let rest = all_explained h q z cs (subst (λ o. IsLegal o h) (sym one.origin) legal) e.2 begins in
-    let here = subst (λ o. ExplainsAll o h q.number (length q.seen) cs) one.origin rest in
-    (length q.seen, length_begun p.seen q.seen one.grows, length_begun q.seen h begun, explained h p q legal begun c e.1, subst (λ n. ExplainsAll p.origin h n (length q.seen) cs) one.number here)
+    let rest = all_explained h valid q z cs (subst (λ o. IsLegal o h) (sym one.origin) legal) (subst (λ o. Agrees (known_in o h) valid) (sym one.origin) agrees) e.2 begins in
+    let here = subst (λ o. ExplainsAll o h valid q.number (length q.seen) cs) one.origin rest in
+    (length q.seen, length_begun p.seen q.seen one.grows, length_begun q.seen h begun, explained h p q legal begun one.grows valid agrees c e.1, subst (λ n. ExplainsAll p.origin h valid n (length q.seen) cs) one.number here)
 
-pub one_history : (o : Origin) (h : List Entry) (seat : ℕ) (cs : List Call) (z : Pass) → IsLegal o h → Makes (opening_pass o seat) cs z → IsPrefix z.seen h → ExplainsAll o h seat 0 cs
-one_history o h seat cs z legal e begins = all_explained h (opening_pass o seat) z cs legal e begins
+pub one_history : (o : Origin) (h : List Entry) (valid : Triples) (seat : ℕ) (cs : List Call) (z : Pass) → IsLegal o h → Agrees (known_in o h) valid → Makes (opening_pass o seat) cs z → IsPrefix z.seen h
+    → ExplainsAll o h valid seat 0 cs
+one_history o h valid seat cs z legal agrees e begins = all_explained h valid (opening_pass o seat) z cs legal agrees e begins
 
 -- the seat's own entries
 module _ (p q : Pass) where
@@ -230,6 +267,7 @@ module _ (p q : Pass) where
   left_unanswered c Memory e = same_mine e
   left_unanswered c Owed e = e.1
   left_unanswered c Closed e = same_mine e
+  left_unanswered c Unknown e = kept e.0
 
   left_by_submission : (bytes : List ℕ) (now at : ℕ) (v : SubmitReply) → IsSubmitAnswer p q bytes now at v → q.mine ≡ p.mine ++ step_of_reply p.number (command.Submit bytes now) (reply.Submit v)
   left_by_submission bytes now at DecodeFailed a = same_mine a.1.same
@@ -241,11 +279,18 @@ module _ (p q : Pass) where
   left_by_submission bytes now at (Rejected reason) a = a.mine_is
   left_by_submission bytes now at TreeFull a = a.mine_is
 
+  left_by_learning : (t : Triple) (v : Bool) (at : ℕ) (x : Learning) → IsLearnAnswer p q t v at x → q.mine ≡ p.mine ++ step_of_learning p.number (command.Learn t v) x
+  left_by_learning t v at learning.New a = a.mine_is
+  left_by_learning t v at learning.Known a = kept a.mine_is
+  left_by_learning t v at learning.Contradicted a = kept a.mine_is
+
   left : (c : Call) → Ensures p q c → q.mine ≡ p.mine ++ step_of p.number c
   left (Submit bytes now (Ok r)) e = left_by_submission bytes now r.at r.value e.answer
   left (Submit bytes now (Err f)) e = left_unanswered (command.Submit bytes now) f e.fault
   left (Mark c (Ok r)) e = e.answer.mine_is
   left (Mark c (Err f)) e = left_unanswered c f e.fault
+  left (Learn t v (Ok r)) e = left_by_learning t v r.at r.value e.answer
+  left (Learn t v (Err f)) e = left_unanswered (command.Learn t v) f e.fault
   left (GetTxOut outpoint (Ok r)) e = kept e.answer.mine_is
   left (GetTxOut outpoint (Err f)) e = same_mine (read_fault p q f e.fault)
   left (GetBestBlockHash (Ok r)) e = kept e.answer.mine_is
@@ -272,9 +317,9 @@ own_steps o h seat cs z e s =
     ap (λ n. own_of n h) (sym moved.number) ∙ s.own ∙ all_left (opening_pass o seat) z cs e
 
 -- at one place there is one seat's step
-pub one_seat : (o : Origin) (h : List Entry) (k l at : ℕ) (c d : Command) (r s : Reply) → IsStep o h k c at r → IsStep o h l d at s → k ≡ l
-one_seat o h k l zero c d r s a b = absurd a
-one_seat o h k l (suc n) c d r s a b =
+pub one_seat : (o : Origin) (h : List Entry) (valid : Triples) (k l at : ℕ) (c d : Command) (r s : Reply) → IsStep o h valid k c at r → IsStep o h valid l d at s → k ≡ l
+one_seat o h valid k l zero c d r s a b = absurd a
+one_seat o h valid k l (suc n) c d r s a b =
     let same : entry_of k c (Some r) ≡ entry_of l d (Some s) = cc (a.0, b.0) in
     ap (λ (e : Entry). e.seat) same
 

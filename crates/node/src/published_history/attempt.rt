@@ -1,7 +1,6 @@
 //! The attempt to publish an entry that is owed.
 
 ghost use Rattle.std.specs.Prelude.{◌≡◌, ◌++◌, ◌∷◌, [], true, IfSome, MatchBool, None, drop};
-ghost use Rattle.view.specs.ViewState.{IsExact};
 ghost use Rattle.view.specs.Following.{AllFollow};
 ghost use Rattle.node.specs.inside.PublishedState.{AreDue, Shows, entry_with_reply};
 
@@ -32,8 +31,8 @@ pub(crate) fn attempt_to_publish<J: Naming, R: Wait>(
     writer: ViewWriter<J>,
     publication: Publication,
 ) -> Attempt<J>
-    requires exact { IsExact writer.desk.shown.value }
-    requires before { publication.before.entries ≡ writer.desk.shown.value.journal }
+    requires shown { let x = writer.desk.shown.value in
+        Shows x x.origin publication.before.entries }
     requires book { publication.before.book ≡ writer.desk.shown.value.origin.book }
     requires follows { let pending = drop writer.behind writer.log.items in
         AllFollow writer.desk.shown.value (pending ++ publication ∷ []) }

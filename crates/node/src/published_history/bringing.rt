@@ -6,7 +6,7 @@ ghost use Rattle.chain.specs.declared.entry.Entry.{Entry as EntryValue};
 ghost use Rattle.node.specs.inside.Brought.{IsBrought};
 ghost use Rattle.node.specs.inside.PublishedState.{entry_with_reply};
 
-use crate::published_history::view_step::chain_info;
+use crate::published_history::core_info::chain_info;
 use activate::Core;
 use chain::{Entry, Reply};
 use std::alloc::Global;

@@ -2,14 +2,18 @@
 
 ghost use Rattle.std.specs.Prelude.{◌≡◌, ◌≤◌, [], IfOk, drop, length};
 ghost use Rattle.std.specs.Arc.{arc_value};
+ghost use Rattle.std.specs.Option.{option_map};
 ghost use Rattle.view.specs.Beginning.{count_of};
-ghost use Rattle.view.specs.Origin.{origin};
+ghost use Rattle.view.specs.Origin.{origin_of};
 ghost use Rattle.view.specs.ViewState.{IsExact, opening_view};
 ghost use Rattle.node.specs.inside.PublishedState.{Shows, opening_state};
 
 use crate::published_history::PublishedHistory;
-use crate::published_history::view_step::chain_info;
+use crate::published_history::core_info::chain_info;
+use crate::published_history::knowledge::Knowledge;
+use crate::published_history::locked_chain::LockedChain;
 use crate::published_history::writer_home::WriterHome;
+use crate::reader_home::ReaderHome;
 use activate::Core;
 use curve::Table;
 use rules::Params;
@@ -41,7 +45,7 @@ struct WriterAndReaders<J: Naming> {
 pub(crate) fn open_history<J: Naming>(
     alloc: Global,
     params: Params,
-    table: Arc<Table>,
+    table: Option<Arc<Table>>,
     seats: usize,
     counter: EntryCount,
     note: Note,
@@ -49,13 +53,12 @@ pub(crate) fn open_history<J: Naming>(
     requires few { seats ≤ 16 }
     requires empty { note.entries ≡ [] }
     requires counter { counter ≡ count_of note.book }
-    requires of { origin note.book params (arc_value table) seats ≡ J.origin }
+    requires of { origin_of note.book params (option_map arc_value table) seats ≡ J.origin }
     ensures history { IfOk result (λ new. new.history ≡ opening_state J.origin) }
     ensures readers { IfOk result (λ new. length new.readers.items ≡ seats) }
 {
     let core = Core::with(alloc, params)?;
     let info = chain_info(alloc, &core)?;
-    let same = info.clone()?;
     let hub = Arc::new(
         alloc,
         Hub {
@@ -67,8 +70,16 @@ pub(crate) fn open_history<J: Naming>(
         home,
         reader,
         readers,
-    } = writer_and_readers(alloc, params, &table, seats, &note, info, same)?;
-    let history = PublishedHistory::new(alloc, table, core, hub, note, home, reader);
+    } = writer_and_readers(alloc, params, &table, seats, &note, info)?;
+    let known = Knowledge::opening(alloc, table);
+    let reader = ReaderHome::of(reader);
+    let chain = LockedChain {
+        core,
+        known,
+        note,
+        reader,
+    };
+    let history = PublishedHistory::new(alloc, chain, hub, home);
     Ok(Opened { history, readers })
 }
 
@@ -77,23 +88,22 @@ pub(crate) fn open_history<J: Naming>(
 fn writer_and_readers<J: Naming>(
     alloc: Global,
     params: Params,
-    table: &Arc<Table>,
+    table: &Option<Arc<Table>>,
     seats: usize,
     note: &Note,
     info: ChainInfo,
-    same: ChainInfo,
 ) -> Result<WriterAndReaders<J>, Memory>
     requires few { seats ≤ 16 }
     requires empty { note.now.entries ≡ [] }
-    requires same { same ≡ info }
-    requires of { origin note.now.book params (arc_value table.now) seats ≡ J.origin }
+    requires of { origin_of note.now.book params (option_map arc_value table.now) seats ≡ J.origin }
     requires exact { IsExact (opening_view J.origin info) }
     ensures shown { IfOk result (λ p. Shows p.home.writer.desk.shown.value J.origin []) }
     ensures pending { IfOk result (λ p. drop p.home.writer.behind p.home.writer.log.items ≡ []) }
     ensures readers { IfOk result (λ p. length p.readers.items ≡ seats) }
 {
-    let one = Arc::try_clone(table)?;
-    let other = Arc::try_clone(table)?;
+    let same = info.clone()?;
+    let one = same_table(table)?;
+    let other = same_table(table)?;
     let first = View::new(alloc, params, one, seats, note.copy(), info);
     let second = View::new(alloc, params, other, seats, note.copy(), same);
     let home = WriterHome {
@@ -106,6 +116,16 @@ fn writer_and_readers<J: Naming>(
         reader,
         readers,
     })
+}
+
+/// The same table, if there is one. It takes no memory.
+fn same_table(table: &Option<Arc<Table>>) -> Result<Option<Arc<Table>>, Memory>
+    ensures { IfOk result (λ same. option_map arc_value same ≡ option_map arc_value table.now) }
+{
+    match table {
+        Some(table) => Ok(Some(Arc::try_clone(table)?)),
+        None => Ok(None),
+    }
 }
 
 /// A reader for each seat.

@@ -1,7 +1,11 @@
 //! What a seat's thread answers.
 
+ghost use Rattle.std.specs.Prelude.{◌≡◌, codes, IfOk};
+ghost use Rattle.serving.specs.Answers.{line_of, response, stamped_members};
+
 use crate::objects::{output_of, reply_text};
 use crate::serve::board::Board;
+use crate::serve::learning::{learnt, wanted};
 use crate::serve::looking;
 use crate::serve::turn::{Turn, line_room};
 use crate::serve::words::Facts;
@@ -9,14 +13,14 @@ use arrayvec::ArrayString;
 use crossbeam_channel::{Receiver, Sender};
 use hash::Id;
 use journal::{Asked, block_of};
-use node::{Entry, Naming, Node, Seat, Tip, UnspentOutput};
+use node::{Bytes, Entry, Naming, Node, Seat, Tip, UnspentOutput};
 use serving::{Answer, Call, Refusal, RequestId, Stamped, Step, answer_line, refusal_line};
 use std::alloc::{AllocError, Global};
 use std::fmt;
 use std::fmt::Write as _;
 use std::sync::Wait;
 use std::thread::Threads;
-use wire::Memory;
+use wire::{LIMIT, Memory};
 
 /// How long a reply's text is at most.
 const MAX_REPLY: usize = 128;
@@ -27,7 +31,7 @@ pub struct Desk {
     /// The seat's.
     pub number: usize,
     pub turns: Receiver<Turn>,
-    pub to: Sender<Vec<u8>>,
+    pub to: Sender<durable::Answer>,
 }
 
 /// Answers what comes in, one after the other, until nothing more can come or nobody takes the answers.
@@ -44,33 +48,35 @@ where
 {
     for turn in desk.turns.iter(rt) {
         let line = answered(rt, node, board, facts, turn, seat);
+        let stamp = board.outbox.stamp(rt, seat);
         let note = seat.note();
         board.growth.tell(rt, note.len());
         board.lay(rt, desk.number, note);
-        if !send(rt, desk, board, line) {
+        if !send(rt, desk, board, line, stamp) {
             return;
         }
     }
 }
 
-/// Sends a line. Whether it was taken.
+/// Sends a line that tells of so many steps. Whether it was taken.
 fn send<J: Naming, R: Wait>(
     rt: &R,
     desk: &Desk,
     board: &Board<J>,
     line: Result<Vec<u8>, AllocError>,
+    stamp: Result<u64, node::Fault>,
 ) -> bool {
-    match line {
-        Ok(line) => desk.to.send(rt, line).is_ok(),
-        Err(AllocError) => {
+    match (line, stamp) {
+        (Ok(line), Ok(stamp)) => desk.to.send(rt, durable::Answer { stamp, line }).is_ok(),
+        _ => {
             board.set_short();
             false
         }
     }
 }
 
-/// The line that answers a request, or that says why none does. In the turn's room it takes no memory, so that each
-/// request has one, and a step that was taken is told.
+/// The line that answers a request, or that says why none does. A block that no record can hold is no step. In the turn's
+/// room it takes no memory, so that each request has one, and a step that was taken is told.
 fn answered<J: Naming, R>(
     rt: &R,
     node: &Node<'_, J>,
@@ -85,16 +91,33 @@ where
     let alloc = rt.alloc();
     let Turn { id, call, room } = turn;
     match call {
-        Ok(Call::Submit(block, now)) => {
-            let reply = seat.submit(rt, node, block.as_slice(), now);
-            replied(alloc, room, &id, reply)
+        Ok(Call::Submit(block, _)) if block.len() as u64 > LIMIT => {
+            refusal_line(room, &id, Refusal::Param("block"))
         }
-        Ok(Call::Invalidate(block)) => replied(alloc, room, &id, seat.invalidate(rt, node, block)),
-        Ok(Call::Reconsider(block)) => replied(alloc, room, &id, seat.reconsider(rt, node, block)),
-        Ok(Call::Precious(block)) => replied(alloc, room, &id, seat.precious(rt, node, block)),
+        Ok(Call::Submit(block, now)) => {
+            let reply = match Bytes::from_vec(alloc, block) {
+                Ok(block) => seat.submit_bytes(rt, node, block, now),
+                Err(Memory) => Err(node::Fault::Memory),
+            };
+            replied(alloc, room, &id, reply, seat)
+        }
+        Ok(Call::Invalidate(block)) => {
+            let reply = seat.invalidate(rt, node, block);
+            replied(alloc, room, &id, reply, seat)
+        }
+        Ok(Call::Reconsider(block)) => {
+            let reply = seat.reconsider(rt, node, block);
+            replied(alloc, room, &id, reply, seat)
+        }
+        Ok(Call::Precious(block)) => {
+            let reply = seat.precious(rt, node, block);
+            replied(alloc, room, &id, reply, seat)
+        }
+        Ok(Call::Learn(valid, invalid)) => { learnt(rt, node, room, &id, (valid, invalid), seat) }
+        Ok(Call::Wants) => read_or_refused(room, &id, wanted(alloc, &id, seat)),
         Ok(Call::Wait(steps)) => {
             board.growth.wait_past(rt, steps);
-            let read = best_place(alloc, &id, seat.getbestblockhash(node));
+            let read = best_place(alloc, &id, seat.getbestblockhash());
             read_or_refused(room, &id, read)
         }
         Ok(Call::Note) => placed(alloc, room, &id, seat.note().len()),
@@ -102,7 +125,7 @@ where
             board.tell(rt, from, seat);
             placed(alloc, room, &id, seat.note().len())
         }
-        Ok(call) => read_or_refused(room, &id, read(rt, node, board, facts, &id, call, seat)),
+        Ok(call) => read_or_refused(room, &id, read(rt, board, facts, &id, call, seat)),
         Err(refusal) => refusal_line(room, &id, refusal),
     }
 }
@@ -110,7 +133,6 @@ where
 /// The line of a reading call.
 fn read<J: Naming, R>(
     rt: &R,
-    node: &Node<'_, J>,
     board: &Board<J>,
     facts: &Facts<'_>,
     id: &RequestId,
@@ -122,22 +144,22 @@ where
 {
     let alloc = rt.alloc();
     match call {
-        Call::Output(outpoint) => found(alloc, id, seat.gettxout(alloc, node, &outpoint)),
-        Call::Tips => listed_tips(alloc, id, seat.getchaintips(alloc, node)),
+        Call::Output(outpoint) => found(alloc, id, seat.gettxout(alloc, &outpoint)),
+        Call::Tips => listed_tips(alloc, id, seat.getchaintips(alloc)),
         Call::Journal(from, to) => {
-            let entries = seat.journal(alloc, node, from.saturating_sub(1), to);
+            let entries = seat.journal(alloc, from.saturating_sub(1), to);
             listed(alloc, id, facts, from, entries)
         }
-        Call::Block(block) => looking::block(rt, node, board, id, &block, seat),
-        Call::Header(block) => looking::header(rt, node, board, id, &block, seat),
-        Call::Hash(height) => looking::hash(rt, node, board, id, height, seat),
-        Call::Coins(above, most) => looking::coins(alloc, node, id, above.as_ref(), most, seat),
-        _ => best(alloc, id, seat.getbestblockhash(node)),
+        Call::Block(block) => looking::block(rt, board, id, &block, seat),
+        Call::Header(block) => looking::header(rt, board, id, &block, seat),
+        Call::Hash(height) => looking::hash(rt, board, id, height, seat),
+        Call::Coins(above, most) => looking::coins(alloc, id, above.as_ref(), most, seat),
+        _ => best(alloc, id, seat.getbestblockhash()),
     }
 }
 
 /// The line of a read, or the one that says in the room why there is none.
-fn read_or_refused(
+pub fn read_or_refused(
     room: Vec<u8>,
     id: &RequestId,
     read: Result<Vec<u8>, Refusal>,
@@ -154,12 +176,13 @@ fn placed(alloc: Global, room: Vec<u8>, id: &RequestId, at: u64) -> Result<Vec<u
     answer_line(alloc, room, id, &Stamped { at, answer })
 }
 
-/// The line of a reply to a step.
-fn replied<T: fmt::Display + Copy>(
+/// The line of a reply to a step, or of the signatures that it wants.
+fn replied<J: Naming, T: fmt::Display + Copy>(
     alloc: Global,
     room: Vec<u8>,
     id: &RequestId,
     reply: Result<node::Stamped<T>, node::Fault>,
+    seat: &Seat<'_, J>,
 ) -> Result<Vec<u8>, AllocError> {
     match reply {
         Ok(node::Stamped { at, value }) => {
@@ -168,6 +191,7 @@ fn replied<T: fmt::Display + Copy>(
             let answer = Answer::Reply(word.as_str());
             answer_line(alloc, room, id, &Stamped { at, answer })
         }
+        Err(node::Fault::Unknown) => read_or_refused(room, id, wanted(alloc, id, seat)),
         Err(fault) => refusal_line(room, id, refused(fault)),
     }
 }
@@ -232,7 +256,10 @@ pub fn read_line(
     id: &RequestId,
     at: u64,
     answer: Answer<'_>,
-) -> Result<Vec<u8>, Refusal> {
+) -> Result<Vec<u8>, Refusal>
+    ensures { let told = stamped_members (record { at = at; answer = answer.entry }) in
+        IfOk result (λ line. line.items ≡ line_of (response (codes "result") id.now told)) }
+{
     let Ok(room) = line_room(alloc, id) else {
         return Err(Refusal::Memory);
     };
@@ -336,5 +363,7 @@ pub fn refused(fault: node::Fault) -> Refusal {
         node::Fault::Memory => Refusal::Memory,
         node::Fault::Owed => Refusal::Owed,
         node::Fault::Closed => Refusal::Closed,
+        // A step's is answered by what it wants, and no other call has it.
+        node::Fault::Unknown => Refusal::Closed,
     }
 }

@@ -2,6 +2,8 @@
 
 use crate::serve::blocks::Blocks;
 use crate::serve::growth::Growth;
+use crate::serve::outbox::Outbox;
+use crate::serve::words::Facts;
 use node::{Naming, Note, Seat};
 use std::alloc::{AllocError, Global};
 use std::sync::atomic::AtomicBool;
@@ -17,11 +19,16 @@ pub struct Board<J: Naming> {
     pub blocks: Mutex<Blocks>,
     /// How long the history is, for who waits.
     pub growth: Growth,
+    pub outbox: Outbox,
 }
 
 impl<J: Naming> Board<J> {
     /// What these seats have seen.
-    pub fn new(alloc: Global, seats: &[Seat<'_, J>]) -> Result<Board<J>, AllocError> {
+    pub fn new(
+        alloc: Global,
+        seats: &[Seat<'_, J>],
+        facts: &Facts<'_>,
+    ) -> Result<Board<J>, AllocError> {
         let mut notes = Vec::new(alloc);
         for seat in seats {
             notes.push(Mutex::new(seat.note()))?;
@@ -31,6 +38,7 @@ impl<J: Naming> Board<J> {
             is_short: AtomicBool::new(false),
             blocks: Mutex::new(Blocks::new(alloc)?),
             growth: Growth::new(),
+            outbox: Outbox::new(alloc, facts),
         })
     }
 

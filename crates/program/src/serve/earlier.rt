@@ -3,6 +3,8 @@
 use crate::clients::BLK_MOMENT;
 use crate::fault::Fault;
 use crate::report::Clients;
+use crate::serve::learning::{deny_wants, learn_lines};
+use crate::serve::words::SEATS;
 use block::SliceSource;
 use hash::Id;
 use journal::{Records, Step};
@@ -17,11 +19,17 @@ pub struct Earlier<'t> {
     pub commands: Vec<Command>,
     /// Their lines in the journal.
     pub steps: Vec<Step<'t, Id>>,
+    /// The lines of the signatures that are told to be valid before, and not to be.
+    pub valid: String,
+    pub invalid: Vec<u8>,
+    /// Whether they are a kept history: each is a step of it, and it has each verdict that they want.
+    pub is_kept: bool,
     /// Then the blocks of this file are submitted.
     pub blk: Option<Vec<u8>>,
 }
 
-/// Plays it at a seat. The first reply that isn't the recorded one is a fault, and so is a blk file's end that is none.
+/// Plays it at a seat. The first reply that isn't the recorded one is a fault, and so is a blk file's end that is none. A
+/// signature that it wants of a node by need isn't valid where it isn't told to be; in a kept history it is a fault.
 pub fn play_earlier<J: Naming, R>(
     rt: &R,
     node: &Node<'_, J>,
@@ -32,11 +40,27 @@ pub fn play_earlier<J: Naming, R>(
 where
     R: AllocGlobal + Threads + Wait + Sync,
 {
+    learn_lines(rt, node, earlier.valid.as_bytes(), true, seat)?;
+    learn_lines(rt, node, earlier.invalid.as_slice(), false, seat)?;
+    clients.put_in(0, seat.note().len(), SEATS[0])?;
     for (command, step) in earlier.commands.iter().zip(earlier.steps.iter()) {
-        let reply = replied(rt, node, seat, command)?;
+        let before = seat.note().len();
+        let reply = match asked(rt, node, seat, command) {
+            Ok(reply) => reply,
+            Err(node::Fault::Unknown) if earlier.is_kept => {
+                return Err(Fault::NoStep(step.number));
+            }
+            Err(node::Fault::Unknown) => replied(rt, node, seat, command)?,
+            Err(fault) => return Err(Fault::from(fault)),
+        };
+        let denied = seat.note().len().saturating_sub(before.saturating_add(1));
+        clients.put_in(before, denied, SEATS[0])?;
         match step.reply {
             Some(recorded) if recorded != reply => {
                 return Err(Fault::OtherReply(step.number, reply));
+            }
+            _ if earlier.is_kept && seat.note().len() != step.number as u64 => {
+                return Err(Fault::NoStep(step.number));
             }
             _ => {}
         }
@@ -47,7 +71,7 @@ where
     }
 }
 
-/// The reply to a command.
+/// The reply to a command that wants signatures, and is made again as long as it does.
 fn replied<J: Naming, R>(
     rt: &R,
     node: &Node<'_, J>,
@@ -55,21 +79,56 @@ fn replied<J: Naming, R>(
     command: &Command,
 ) -> Result<Reply, Fault<'static>>
 where
-    R: Threads + Wait + Sync,
+    R: AllocGlobal + Threads + Wait + Sync,
+{
+    for _ in 0..u64::MAX {
+        deny_wants(rt, node, seat)?;
+        match asked(rt, node, seat, command) {
+            Err(node::Fault::Unknown) => {}
+            Ok(reply) => return Ok(reply),
+            Err(fault) => return Err(Fault::from(fault)),
+        }
+    }
+    Err(Fault::Closed)
+}
+
+/// What a seat answers to a command.
+fn asked<J: Naming, R>(
+    rt: &R,
+    node: &Node<'_, J>,
+    seat: &mut Seat<'_, J>,
+    command: &Command,
+) -> Result<Reply, node::Fault>
+where
+    R: AllocGlobal + Threads + Wait + Sync,
 {
     match command {
         Command::Submit(block, now) => {
-            let reply = seat.submit(rt, node, block.as_slice(), *now)?;
-            Ok(Reply::Submit(reply.value))
+            match seat.submit_bytes(
+                rt,
+                node,
+                block.clone().map_err(|_| node::Fault::Memory)?,
+                *now,
+            ) {
+                Ok(reply) => Ok(Reply::Submit(reply.value)),
+                Err(fault) => Err(fault),
+            }
         }
         Command::Invalidate(id) => marked(seat.invalidate(rt, node, *id)),
         Command::Reconsider(id) => marked(seat.reconsider(rt, node, *id)),
         Command::Precious(id) => marked(seat.precious(rt, node, *id)),
+        Command::Learn(triple, valid) => match seat.learn(rt, node, triple.triple(), *valid) {
+            Ok(_) => Ok(Reply::Mark(MarkReply::Done)),
+            Err(fault) => Err(fault),
+        },
     }
 }
 
-fn marked(reply: Result<Stamped<MarkReply>, node::Fault>) -> Result<Reply, Fault<'static>> {
-    Ok(Reply::Mark(reply?.value))
+fn marked(reply: Result<Stamped<MarkReply>, node::Fault>) -> Result<Reply, node::Fault> {
+    match reply {
+        Ok(reply) => Ok(Reply::Mark(reply.value)),
+        Err(fault) => Err(fault),
+    }
 }
 
 /// Submits the records of a blk file in their order. The steps are a client's whose name no other has.

@@ -20,17 +20,12 @@ const HEADER: usize = 80;
 const MOST_COINS: u64 = 1_000;
 
 /// The seat's number of steps, after the blocks of all of them are known.
-fn caught_up<J: Naming, R>(
-    rt: &R,
-    node: &Node<'_, J>,
-    board: &Board<J>,
-    seat: &mut Seat<'_, J>,
-) -> Result<u64, Refusal>
+fn caught_up<J: Naming, R>(rt: &R, board: &Board<J>, seat: &mut Seat<'_, J>) -> Result<u64, Refusal>
 where
     R: AllocGlobal + Threads + Wait + Sync,
 {
     let mut blocks = board.blocks.lock(rt);
-    match seat.journal(rt.alloc(), node, blocks.steps(), u64::MAX) {
+    match seat.journal(rt.alloc(), blocks.steps(), u64::MAX) {
         Ok(Stamped { at, value }) => match blocks.add(value.as_slice()) {
             Ok(()) => Ok(at),
             Err(AllocError) => Err(Refusal::Memory),
@@ -50,7 +45,6 @@ enum Part {
 /// The line of a block's bytes.
 pub fn block<J: Naming, R>(
     rt: &R,
-    node: &Node<'_, J>,
     board: &Board<J>,
     id: &RequestId,
     block: &Id,
@@ -59,10 +53,10 @@ pub fn block<J: Naming, R>(
 where
     R: AllocGlobal + Threads + Wait + Sync,
 {
-    let at = caught_up(rt, node, board, seat)?;
+    let at = caught_up(rt, board, seat)?;
     let found = board.blocks.lock(rt).get(block);
     match found {
-        Some(block) => part_line(rt.alloc(), node, id, at, block, Part::Whole, seat),
+        Some(block) => part_line(rt.alloc(), id, at, block, Part::Whole, seat),
         None => read_line(rt.alloc(), id, at, Answer::Absent),
     }
 }
@@ -70,7 +64,6 @@ where
 /// The line of a block's header.
 pub fn header<J: Naming, R>(
     rt: &R,
-    node: &Node<'_, J>,
     board: &Board<J>,
     id: &RequestId,
     block: &Id,
@@ -79,13 +72,13 @@ pub fn header<J: Naming, R>(
 where
     R: AllocGlobal + Threads + Wait + Sync,
 {
-    let Stamped { at, value: best } = seat.getbestblockhash(node).map_err(refused)?;
-    caught_up(rt, node, board, seat)?;
+    let Stamped { at, value: best } = seat.getbestblockhash().map_err(refused)?;
+    caught_up(rt, board, seat)?;
     let found = placed_under(rt, board, block, &best);
     match found {
         Some((block, confirmations)) => {
             let part = Part::Header(confirmations);
-            part_line(rt.alloc(), node, id, at, block, part, seat)
+            part_line(rt.alloc(), id, at, block, part, seat)
         }
         None => read_line(rt.alloc(), id, at, Answer::Absent),
     }
@@ -114,7 +107,6 @@ fn placed_under<J: Naming, R: Wait>(
 /// The line of the active branch's block at a height.
 pub fn hash<J: Naming, R>(
     rt: &R,
-    node: &Node<'_, J>,
     board: &Board<J>,
     id: &RequestId,
     height: u64,
@@ -123,8 +115,8 @@ pub fn hash<J: Naming, R>(
 where
     R: AllocGlobal + Threads + Wait + Sync,
 {
-    let Stamped { at, value: best } = seat.getbestblockhash(node).map_err(refused)?;
-    caught_up(rt, node, board, seat)?;
+    let Stamped { at, value: best } = seat.getbestblockhash().map_err(refused)?;
+    caught_up(rt, board, seat)?;
     let found = board.blocks.lock(rt).ancestor(&best, height);
     match found {
         Some(block) => read_line(rt.alloc(), id, at, Answer::Best(block.id)),
@@ -135,7 +127,6 @@ where
 /// The line of a part of a block, whose bytes are the history's.
 fn part_line<J: Naming>(
     alloc: Global,
-    node: &Node<'_, J>,
     id: &RequestId,
     at: u64,
     block: Placed,
@@ -145,9 +136,7 @@ fn part_line<J: Naming>(
     let Some(before) = block.step.checked_sub(1) else {
         return bytes_line(alloc, id, at, &GENESIS, block, part);
     };
-    let entries = seat
-        .journal(alloc, node, before, block.step)
-        .map_err(refused)?;
+    let entries = seat.journal(alloc, before, block.step).map_err(refused)?;
     match entries.value.first() {
         Some(
             Entry {
@@ -183,14 +172,13 @@ fn bytes_line(
 /// The line of the coins at the outpoints above one.
 pub fn coins<J: Naming>(
     alloc: Global,
-    node: &Node<'_, J>,
     id: &RequestId,
     above: Option<&OutPoint>,
     most: u64,
     seat: &mut Seat<'_, J>,
 ) -> Result<Vec<u8>, Refusal> {
     let most = most.min(MOST_COINS) as usize;
-    let found = seat.coins_from(alloc, node, above, most).map_err(refused)?;
+    let found = seat.coins_from(alloc, above, most).map_err(refused)?;
     match rows(alloc, found.value.as_slice()) {
         Ok(rows) => read_line(alloc, id, found.at, Answer::Coins(rows.as_slice())),
         Err(AllocError) => Err(Refusal::Memory),

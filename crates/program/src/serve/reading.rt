@@ -2,12 +2,13 @@
 
 use crate::fault::Fault;
 use crate::options::STANDARD;
+use crate::serve::outbox::Outbox;
 use crate::serve::tally::Tally;
 use crate::serve::turn::Turn;
-use crate::serve::words::Facts;
 use crossbeam_channel::{Sender, TrySendError};
+use durable::Answer;
 use memchr::memchr;
-use serving::{Asked, Refusal, Request, RequestId, info_line, read_request, refusal_line};
+use serving::{Asked, Info, Refusal, Request, RequestId, info_line, read_request, refusal_line};
 use std::alloc::{AllocError, Global};
 use std::io;
 use std::io::{BufRead, BufReader, Error, ErrorKind, Read};
@@ -52,25 +53,27 @@ enum Next {
 #[derive(Drop)]
 pub struct Doors {
     pub seats: Vec<Sender<Turn>>,
-    pub to: Sender<Vec<u8>>,
+    pub to: Sender<Answer>,
     /// Whether a request is refused for whose seat as many wait as may. Else it is waited for room.
     pub is_busy: bool,
+    /// How the node was opened.
+    pub info: Info<'static>,
 }
 
 /// Reads requests to the end of the input, and has each wait for its seat. The request that asked for the end, if one did.
 pub fn read_requests<R, I>(
     rt: &R,
-    facts: &Facts<'_>,
+    outbox: &Outbox,
     doors: &Doors,
     input: &mut I,
-) -> Result<Option<RequestId>, Fault<'static>>
+) -> io::Result<Option<RequestId>>
 where
     R: AllocGlobal + Wait,
     I: Read,
 {
-    let mut input = BufReader::with_capacity(rt.alloc(), READ_AHEAD, input).map_err(unread)?;
+    let mut input = BufReader::with_capacity(rt.alloc(), READ_AHEAD, input)?;
     for _ in 0..u64::MAX {
-        match read_next(rt, facts, doors, &mut input)? {
+        match read_next(rt, outbox, doors, &mut input)? {
             Next::Line => {}
             Next::Finish(id) => return Ok(Some(id)),
             Next::Left => return Ok(None),
@@ -80,20 +83,15 @@ where
 }
 
 /// Reads a line, and has it wait for its seat or answers it.
-fn read_next<R, I>(
-    rt: &R,
-    facts: &Facts<'_>,
-    doors: &Doors,
-    input: &mut I,
-) -> Result<Next, Fault<'static>>
+fn read_next<R, I>(rt: &R, outbox: &Outbox, doors: &Doors, input: &mut I) -> io::Result<Next>
 where
     R: AllocGlobal + Wait,
     I: BufRead,
 {
-    match read_line(rt.alloc(), input) {
-        Ok(Some(line)) => pass_on(rt, facts, doors, line),
-        Ok(None) => Ok(Next::Left),
-        Err(error) => Err(unread(error)),
+    match read_line(rt.alloc(), input)? {
+        Some(_) if outbox.is_over() => Ok(Next::Left),
+        Some(line) => pass_on(rt, doors, line),
+        None => Ok(Next::Left),
     }
 }
 
@@ -148,7 +146,7 @@ fn read_piece<I: BufRead>(
 }
 
 /// Has a line wait for its seat, or answers it.
-fn pass_on<R>(rt: &R, facts: &Facts<'_>, doors: &Doors, line: Line) -> Result<Next, Fault<'static>>
+fn pass_on<R>(rt: &R, doors: &Doors, line: Line) -> io::Result<Next>
 where
     R: AllocGlobal + Wait,
 {
@@ -170,7 +168,7 @@ where
         }
         Asked::Finish => Ok(Next::Finish(id)),
         Asked::Info => {
-            let line = info_line(Vec::new(rt.alloc()), &id, &facts.info())?;
+            let line = info_line(Vec::new(rt.alloc()), &id, &doors.info)?;
             Ok(doors.tell(rt, line))
         }
         Asked::Refused(None, refusal) => {
@@ -199,9 +197,9 @@ impl Doors {
         }
     }
 
-    /// Has a line wait for being written.
+    /// Has a line wait for being written that tells of no step.
     fn tell<R: Wait>(&self, rt: &R, line: Vec<u8>) -> Next {
-        passed(self.to.send(rt, line).is_ok())
+        passed(self.to.send(rt, Answer { stamp: 0, line }).is_ok())
     }
 }
 
@@ -209,7 +207,8 @@ fn passed(is_taken: bool) -> Next {
     if is_taken { Next::Line } else { Next::Left }
 }
 
-fn unread(error: Error) -> Fault<'static> {
+/// Why no more is read.
+pub fn unread(error: Error) -> Fault<'static> {
     match error.kind() {
         ErrorKind::OutOfMemory => Fault::Memory,
         _ => Fault::CannotRead(STANDARD, error),

@@ -1,29 +1,32 @@
 //! The threads of a served node: one for each seat, one that reads, and this one, which writes.
 
+use crate::datadir::HostFault;
 use crate::fault::Fault;
-use crate::files::print_bytes;
 use crate::serve::Ended;
 use crate::serve::asking::{Desk, answer_turns};
 use crate::serve::board::Board;
-use crate::serve::reading::{Doors, read_requests};
+use crate::serve::growth::Growth;
+use crate::serve::outbox::Outbox;
+use crate::serve::reading::{Doors, read_requests, unread};
+use crate::serve::telling::{Lines, tell_as_they_come, tell_unsaved};
 use crate::serve::words::Facts;
-use crossbeam_channel::Receiver;
+use durable::{Host, KeptLog};
 use node::{Naming, Node, Seat};
 use serving::RequestId;
 use std::alloc::Global;
-use std::io::{Read, Write};
+use std::io::Read;
 use std::sync::{Mutex, Wait};
-use std::thread;
-use std::thread::Threads;
+use std::thread::{JoinHandle, Scope, Threads};
+use std::{io, thread};
 
 /// How many requests wait for a seat at most, and how many lines for being written.
 const WAITING: usize = 64;
 
 /// The request that asked for the end, if one did, or why no more is read.
-type Asked = Result<Option<RequestId>, Fault<'static>>;
+type Asked = io::Result<Option<RequestId>>;
 
-/// Whether all lines were written, where the threads could be made.
-type Written = Result<Result<(), Fault<'static>>, Fault<'static>>;
+/// What was read, and whether all lines were written, where the threads could be made.
+type Done = Result<(Asked, Result<(), Fault<'static>>), Fault<'static>>;
 
 /// A seat, and what its thread reads and answers.
 #[derive(Drop)]
@@ -36,33 +39,35 @@ struct Place<'s, 't, J: Naming> {
 type Places<'s, 't, J> = Vec<Mutex<Option<Place<'s, 't, J>>>>;
 
 /// Answers the requests of an input on an output until it ends or one asks for the end.
-pub fn serve_requests<'t, J: Naming, R, I, O>(
+pub fn serve_requests<'t, J: Naming, R, I, H>(
     rt: &R,
     node: &Node<'_, J>,
     seats: &mut [Seat<'t, J>],
     facts: &Facts<'_>,
     input: &mut I,
-    out: &mut O,
+    log: &Mutex<Option<KeptLog<H>>>,
 ) -> Result<Ended<'static>, Fault<'static>>
 where
     R: AllocGlobal + Threads + Wait + Sync,
     I: Read + Send,
-    O: Write,
+    H: Host<Fault = HostFault> + Drop,
 {
     let alloc = rt.alloc();
-    let board = Board::new(alloc, seats)?;
-    let (to, lines) = crossbeam_channel::bounded(alloc, WAITING)?;
+    let board = Board::new(alloc, seats, facts)?;
+    let (to, waiting) = crossbeam_channel::bounded(alloc, WAITING)?;
+    let lines = Lines::new(alloc, waiting, WAITING)?;
     let mut doors = Doors {
         seats: Vec::new(alloc),
         to,
         is_busy: facts.is_busy,
+        info: facts.info(),
     };
     let mut places: Places<'_, 't, J> = Vec::new(alloc);
     let all = seats.iter_mut();
     for seat in all {
         add_place(alloc, seat, &mut doors, &mut places)?;
     }
-    serve_places(rt, node, &board, facts, &places, doors, lines, input, out)
+    serve_places(rt, node, &board, facts, &places, doors, lines, input, log)
 }
 
 /// Adds a seat's place, and the door behind which its requests wait.
@@ -84,34 +89,31 @@ fn add_place<'s, 't, J: Naming>(
 }
 
 /// Answers requests at these places.
-fn serve_places<'t, J: Naming, R, I, O>(
+fn serve_places<'t, J: Naming, R, I, H>(
     rt: &R,
     node: &Node<'_, J>,
     board: &Board<J>,
     facts: &Facts<'_>,
     places: &Places<'_, 't, J>,
     doors: Doors,
-    lines: Receiver<Vec<u8>>,
+    lines: Lines,
     input: &mut I,
-    out: &mut O,
+    log: &Mutex<Option<KeptLog<H>>>,
 ) -> Result<Ended<'static>, Fault<'static>>
 where
     R: AllocGlobal + Threads + Wait + Sync,
     I: Read + Send,
-    O: Write,
+    H: Host<Fault = HostFault> + Drop,
 {
     let doors = Mutex::new(Some(doors));
     let lines = Mutex::new(Some(lines));
     let input = Mutex::new(&mut *input);
-    let read: Mutex<Asked> = Mutex::new(Ok(None));
-    let written = run_threads(
-        rt, node, board, facts, places, &doors, &input, &read, &lines, out,
-    )?;
-    Ok(ended(read.into_inner(), written, board.is_short()))
+    let (read, written) = run_threads(rt, node, board, facts, places, &doors, &input, &lines, log)?;
+    Ok(ended(read, written, board.is_short()))
 }
 
-/// Runs the threads until all have ended. Within, whether all lines were written.
-fn run_threads<'t, J: Naming, R, I, O>(
+/// Runs the threads until all have ended.
+fn run_threads<'t, J: Naming, R, I, H>(
     rt: &R,
     node: &Node<'_, J>,
     board: &Board<J>,
@@ -119,38 +121,62 @@ fn run_threads<'t, J: Naming, R, I, O>(
     places: &Places<'_, 't, J>,
     doors: &Mutex<Option<Doors>>,
     input: &Mutex<&mut I>,
-    read: &Mutex<Asked>,
-    lines: &Mutex<Option<Receiver<Vec<u8>>>>,
-    out: &mut O,
-) -> Written
+    lines: &Mutex<Option<Lines>>,
+    log: &Mutex<Option<KeptLog<H>>>,
+) -> Done
 where
     R: AllocGlobal + Threads + Wait + Sync,
     I: Read + Send,
-    O: Write,
+    H: Host<Fault = HostFault> + Drop,
 {
-    thread::scope(thread::scope_env(), rt, move |scope| -> Written {
+    let outbox = &board.outbox;
+    let growth = &board.growth;
+    thread::scope(thread::scope_env(), rt, move |scope| -> Done {
         let mut is_whole = true;
         for number in 0..places.len() {
             is_whole &= scope
                 .spawn(move || run_seat(rt, node, board, facts, places.get(number)))
                 .is_ok();
         }
-        if is_whole {
-            is_whole = scope
-                .spawn(move || run_reader(rt, board, facts, doors, input, read))
-                .is_ok();
-        }
         if !is_whole {
-            // The seats that run end, as nothing more can come.
-            drop(taken(rt, doors));
-            return Err(Fault::NoThread);
+            return not_begun(rt, doors);
         }
-        Ok(write_lines(rt, lines, out))
+        match start_reader(scope, rt, outbox, growth, doors, input) {
+            Some(reader) => {
+                let written = write_lines(rt, outbox, facts, lines, log);
+                Ok((reader.join(rt), written))
+            }
+            None => not_begun(rt, doors),
+        }
     })
 }
 
+/// Has the seats that run end, as nothing more can come.
+fn not_begun<R: Wait>(rt: &R, doors: &Mutex<Option<Doors>>) -> Done {
+    drop(taken(rt, doors));
+    Err(Fault::NoThread)
+}
+
+/// Starts the thread that reads, if one can be made.
+fn start_reader<'s, E, R, I>(
+    scope: &Scope<'s, E>,
+    rt: &'s R,
+    outbox: &'s Outbox,
+    growth: &'s Growth,
+    doors: &'s Mutex<Option<Doors>>,
+    input: &'s Mutex<&mut I>,
+) -> Option<JoinHandle<Asked>>
+where
+    R: AllocGlobal + Threads + Wait + Sync,
+    I: Read + Send,
+{
+    scope
+        .spawn(move || run_reader(rt, outbox, growth, doors, input))
+        .ok()
+}
+
 /// Takes what is in a place, which is empty then.
-fn taken<T: Drop, R: Wait>(rt: &R, place: &Mutex<Option<T>>) -> Option<T> {
+pub fn taken<T: Drop, R: Wait>(rt: &R, place: &Mutex<Option<T>>) -> Option<T> {
     let mut guard = place.lock(rt);
     guard.take()
 }
@@ -175,48 +201,63 @@ where
 }
 
 /// The thread that reads. The doors are closed as it ends.
-fn run_reader<J: Naming, R, I>(
+fn run_reader<R, I>(
     rt: &R,
-    board: &Board<J>,
-    facts: &Facts<'_>,
+    outbox: &Outbox,
+    growth: &Growth,
     doors: &Mutex<Option<Doors>>,
     input: &Mutex<&mut I>,
-    read: &Mutex<Asked>,
-)
+) -> Asked
 where
     R: AllocGlobal + Wait,
     I: Read,
 {
     let Some(doors) = taken(rt, doors) else {
-        return;
+        return Ok(None);
     };
     let mut input = input.lock(rt);
-    let asked = read_requests(rt, facts, &doors, &mut **input);
-    board.growth.end(rt);
-    let mut guard = read.lock(rt);
-    *guard = asked;
+    let asked = read_requests(rt, outbox, &doors, &mut **input);
+    growth.end(rt);
+    asked
 }
 
-/// Writes each line whole, until all who answer have left. Where the output takes no more, they leave as they answer.
-fn write_lines<R: Wait, O: Write>(
+/// Writes each line whole, until all who answer have left. Where the disk or the output takes no more, they leave as they
+/// answer.
+fn write_lines<R, H>(
     rt: &R,
-    lines: &Mutex<Option<Receiver<Vec<u8>>>>,
-    out: &mut O,
-) -> Result<(), Fault<'static>> {
-    let Some(lines) = taken(rt, lines) else {
+    outbox: &Outbox,
+    facts: &Facts<'_>,
+    lines: &Mutex<Option<Lines>>,
+    log: &Mutex<Option<KeptLog<H>>>,
+) -> Result<(), Fault<'static>>
+where
+    R: AllocGlobal + Wait,
+    H: Host<Fault = HostFault> + Drop,
+{
+    let Some(mut lines) = taken(rt, lines) else {
         return Ok(());
     };
-    for line in lines.iter(rt) {
-        print_bytes(out, line.as_slice())?;
+    let Some(kept) = taken(rt, log) else {
+        return Ok(());
+    };
+    match tell_as_they_come(rt, outbox, facts, &mut lines, kept) {
+        Ok(kept) => {
+            let mut guard = log.lock(rt);
+            *guard = Some(kept);
+            Ok(())
+        }
+        Err(lost) => {
+            outbox.set_over();
+            Err(tell_unsaved(&lines.unsaved, lost))
+        }
     }
-    Ok(())
 }
 
 /// How it ended, by who read, who wrote, and whether a seat had no memory.
 fn ended(read: Asked, written: Result<(), Fault<'static>>, is_short: bool) -> Ended<'static> {
     let (finish, served) = match read {
         Ok(finish) => (finish, Ok(())),
-        Err(fault) => (None, Err(fault)),
+        Err(error) => (None, Err(unread(error))),
     };
     let served = match (written, is_short) {
         (Err(fault), _) => Err(fault),

@@ -1,5 +1,7 @@
 //! What waits for a seat.
 
+ghost use Rattle.std.specs.Prelude.{◌≡◌, [], IfOk};
+
 use serving::{Call, Refusal, RequestId};
 use std::alloc::{AllocError, Global};
 
@@ -27,6 +29,8 @@ impl Turn {
 }
 
 /// Room for a line that answers the request of this id.
-pub fn line_room(alloc: Global, id: &RequestId) -> Result<Vec<u8>, AllocError> {
+pub fn line_room(alloc: Global, id: &RequestId) -> Result<Vec<u8>, AllocError>
+    ensures { IfOk result (λ room. room.items ≡ []) }
+{
     Vec::with_capacity(alloc, ROOM.saturating_add(id.len()))
 }

@@ -19,6 +19,10 @@ pub struct Facts<'t> {
     pub workers: usize,
     /// How many steps were loaded.
     pub loaded: usize,
+    /// Whether answers wait for their steps to be on the disk.
+    pub is_kept: bool,
+    /// Whether signatures are known by need alone, and not by a table.
+    pub is_by_need: bool,
     /// Whether a request is refused for whose seat as many wait as may.
     pub is_busy: bool,
     pub clients: Clients<'t>,

@@ -1,5 +1,5 @@
 -- Answers that are known before jobs are run.
-use Rattle.std.specs.Prelude.{◌≡◌, List, [], ◌∷◌, Option, IsSome}
+use Rattle.std.specs.Prelude.{◌≡◌, ℕ, Bool, List, [], ◌∷◌, Option, Some, IsSome, slice_get}
 use Rattle.std.specs.Map.{lookup}
 use Rattle.std.specs.BTreeMap.{is_at}
 use Rattle.std.specs.declared.cmp.Ordering.{Ordering}
@@ -11,12 +11,17 @@ use Rattle.txn.specs.declared.tx.Tx.{Tx}
 use Rattle.queue.specs.declared.early_jobs.Listed.{Listed}
 use Rattle.queue.specs.declared.verdict_index.Key.{Key}
 use Rattle.queue.specs.declared.verdict_index.Slot.{Slot}
+use Rattle.interp.specs.Answer.{Answer}
 use Rattle.interp.specs.Question.{Question}
 use Rattle.queue.specs.Early.{Fits}
-use Rattle.queue.specs.Jobs.{Spending, spending, Answered}
+use Rattle.queue.specs.Jobs.{Spending, spending, Answered, said}
 
 abbrev pub spending_of : Listed → Spending
 spending_of listed = spending listed.place listed.input listed.spent.items
+
+-- what was found at a place is what its verdict answers
+abbrev pub AreFound : (ℕ → Answer Bool) → List (Option (Option Bool)) → Type 0
+AreFound verdict found = (place : ℕ) (answer : Option Bool) → slice_get found place ≡ Some (Some answer) → answer ≡ said (verdict place)
 
 -- ---- the verdict that fits
 

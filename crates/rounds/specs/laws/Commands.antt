@@ -127,6 +127,7 @@ settles c triples known list (command.Submit bytes now) agrees w =
 settles c triples known list (command.Invalidate id) agrees w = request-settles c triples known list (Invalidate id) agrees w
 settles c triples known list (command.Reconsider id) agrees w = request-settles c triples known list (Reconsider id) agrees w
 settles c triples known list (command.Precious id) agrees w = request-settles c triples known list (Precious id) agrees w
+settles c triples known list (command.Learn triple valid) agrees w = absurd w
 
 some_one : {A : Type 0} {x y : A} → Some x ≡ Some y → x ≡ y
 some_one e = cc

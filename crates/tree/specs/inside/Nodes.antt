@@ -1,17 +1,16 @@
 -- What is always right in the program's tree, and what its functions do to the nodes and marks.
 use Rattle.std.specs.Prelude.{◌≡◌, ℕ, ◌<◌, ◌≤◌, Bool, true, false, List, [], length, reverse, slice_index_or}
 use Rattle.std.specs.Map.{lookup}
-use Rattle.std.specs.BTreeMap.{is_at}
 use Rattle.hash.specs.declared.id.Id.{Id}
 use Rattle.block.specs.declared.block.Block.{Block}
 use Rattle.tree.specs.declared.node.Node.{Node}
 use Rattle.tree.specs.declared.node.Mark.{Mark}
 use Rattle.tree.specs.Branches.{Blocks, has, branch, height, parent_at, block_at, id_at, blocks_at, place_of}
-use Rattle.tree.specs.inside.Slots.{AreInOrder, slot_of, leaves_of}
+use Rattle.tree.specs.inside.Leaves.{AreInOrder, AreLeaves}
 use Rattle.tree.specs.State.{State, has_no_mark}
 use Rattle.tree.specs.Limits.{max_blocks}
 use Rattle.tree.specs.MedianTime.{median_time_past}
-use Rattle.hash.specs.Id.{id_cmp}
+use Rattle.hash.specs.Id.{same_id}
 use Rattle.tree.specs.Names.{names, genesis}
 use Rattle.tree.specs.Nodes.{IsMark, blocks_of, mark_at, state_of}
 
@@ -22,7 +21,6 @@ pub record IsNode (t : Blocks Block) (p : ℕ) (n : Node) : Type 0 where
   pub parent : n.parent ≡ parent_at t p
   pub height : n.height ≡ height t p
   pub median : n.median ≡ median_time_past (blocks_at names t (branch t p))
-  pub slot : n.slot ≡ slot_of t p
 
 -- of all nodes, by their places
 abbrev pub AreNodes : Blocks Block → List Node → Type 0
@@ -30,7 +28,7 @@ AreNodes t nodes = (p : ℕ) (d : Node) → p < length nodes → IsNode t p (sli
 
 -- the ids, each with the place of its block
 abbrev pub AreIds : Blocks Block → List (Id × ℕ) → Type 0
-AreIds t ids = (i : Id) → lookup (is_at (id_cmp i)) ids ≡ place_of names t i
+AreIds t ids = (i : Id) → lookup (same_id i) ids ≡ place_of names t i
 
 -- of a tree: its nodes and marks, its calls, its ids, and its leaves
 pub record IsRight (nodes : List Node) (marks : List Mark) (calls : List ℕ) (ids : List (Id × ℕ)) (leaves : List ℕ) : Type 0 where
@@ -43,7 +41,7 @@ pub record IsRight (nodes : List Node) (marks : List Mark) (calls : List ℕ) (i
   pub are_calls : (p : ℕ) → length nodes ≤ p → has (reverse calls) p ≡ false
   pub in_order : AreInOrder (blocks_of nodes)
   pub are_ids : AreIds (blocks_of nodes) ids
-  pub are_leaves : leaves ≡ leaves_of (blocks_of nodes)
+  pub are_leaves : AreLeaves (blocks_of nodes) leaves
 
 -- all but whether the branch is usable
 pub record SameFlags (m n : Mark) : Type 0 where
@@ -63,7 +61,7 @@ pub record AreRemarked (nodes : List Node) (old new : List Mark) (bad : ℕ → 
   pub usable_are : AreUsable (state_of nodes new []) new (length nodes)
 
 abbrev pub first_node : Node
-first_node = record { block = genesis; id = names.genesis_id; parent = 0; height = 0; median = genesis.header.time; slot = 0 }
+first_node = record { block = genesis; id = names.genesis_id; parent = 0; height = 0; median = genesis.header.time }
 
 abbrev pub first_mark : Mark
 first_mark = record { bad = false; seen = true; usable = true; rank = 0 }

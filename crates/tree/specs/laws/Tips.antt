@@ -1,14 +1,13 @@
 -- The tips: the leaves and the active block, each once, and what is on the active branch.
 use Rattle.std.proofs.Common.{◌≡◌, ℕ, suc, ◌+◌, ◌<◌, ◌≤◌, Bool, true, false, cond, ◌&&◌, ◌||◌, eqb, ltb, List, [], ◌∷◌, ◌++◌, length, get_or, sym, refl, ap, ◌∙◌, inl, inr, ◌⊎◌, arith}
-use Rattle.std.proofs.Math.ListN.{set}
-use Rattle.std.specs.List.{filter}
-use Rattle.std.proofs.lemmas.Bool.{cases_Bool, cases_eq, eqb-true, eq-eqb, ne_eqb, lt-ltb, ltb-true, cases_lt, cases_order, or_cases, or_left, or_right, and_parts, and_from, false_from_ne_true, true≢false}
-use Rattle.std.proofs.lemmas.List.Sums.{sum_by-cons, sum_by-set, sum_by_push, sum_by-append}
-use Rattle.tree.specs.Branches.{Kept, Blocks, has, places, height}
-use Rattle.tree.specs.inside.Slots.{AreInOrder, is_leaf, slot_of, leaves_of}
+use Rattle.std.specs.Prelude.{nat_eq}
+use Rattle.std.specs.List.{filter, list_any, IsDistinct, AllByRecursion}
+use Rattle.std.proofs.lemmas.Bool.{cases_eq, eqb-true, eq-eqb, ne_eqb, lt-ltb, le-ltb, ltb-true, cases_lt, cases_order, or_cases, or_left, or_right, and_parts, and_from, false_from_ne_true, true≢false}
+use Rattle.std.proofs.lemmas.List.Sums.{sum_by-cons, sum_by-append}
+use Rattle.tree.specs.Branches.{Blocks, has, places, height}
+use Rattle.tree.specs.inside.Leaves.{AreLeaves, is_leaf}
 use Rattle.tree.specs.Tips.{is_tip, goes_first, sort_places}
-use Rattle.tree.specs.laws.Orders.{one, times, one_same, one_other, times-filter, times_filter-above, IsOrdered, same_order, times-ordered, order-ordered}
-use Rattle.tree.specs.laws.Slots.{length-leaves, slot-below, leaf_slot, leaf_above, leaf_same, leaf_lost, on_other, leaves_taken, leaves_new}
+use Rattle.tree.specs.laws.Orders.{one, times, has-times, one_same, one_other, times-filter, times_filter-above, IsOrdered, same_order, times-ordered, order-ordered}
 
 -- ---- each leaf stands once in the list
 
@@ -27,88 +26,50 @@ goes-from : (h : ℕ → ℕ) (p q : ℕ) → (h q < h p) ⊎ ((h p ≡ h q) × 
 goes-from h p q (inl f) = or_left (ltb (h q) (h p)) (eqb (h p) (h q) && ltb p q) (lt-ltb (h q) (h p) f)
 goes-from h p q (inr f) = or_right (ltb (h q) (h p)) (eqb (h p) (h q) && ltb p q) (and_from (eqb (h p) (h q)) (ltb p q) (eq-eqb (h p) (h q) f.0) (lt-ltb p q f.1))
 
+-- of places that each stand once
+none_equal : (y : ℕ) (l : List ℕ) → AllByRecursion (λ z. nat_eq y z ≡ false) l → list_any (nat_eq y) l ≡ false
+none_equal y [] a = refl
+none_equal y (z ∷ l) a = ap (λ b. b || list_any (nat_eq y) l) a.0 ∙ none_equal y l a.1
+
+times-once : (x : ℕ) (l : List ℕ) → IsDistinct nat_eq l → times x l ≡ cond (list_any (nat_eq x) l) 1 0
+unfolding IsDistinct
+times-once x [] d = refl
+times-once x (y ∷ l) d =
+    let c = sum_by-cons (one x) y l in
+    let rest = times-once x l d.1 in
+    elim (cases_eq x y) [
+      | inl e ↦
+          let a = one_same x y (sym e) in
+          let none : list_any (nat_eq x) l ≡ false = ap (λ (z : ℕ). list_any (nat_eq z) l) e ∙ none_equal y l d.0 in
+          let zero : times x l ≡ 0 = rest ∙ ap (λ b. cond {A = ℕ} b 1 0) none in
+          let r : times x (y ∷ l) ≡ 1 = omega arith in
+          r ∙ sym (ap (λ b. cond {A = ℕ} (b || list_any (nat_eq x) l) 1 0) (eq-eqb x y e))
+      | inr e ↦
+          let a = one_other x y (λ q. e (sym q)) in
+          let r : times x (y ∷ l) ≡ times x l = omega arith in
+          r ∙ rest ∙ sym (ap (λ b. cond {A = ℕ} (b || list_any (nat_eq x) l) 1 0) (ne_eqb x y e))
+    ]
+
 module _ {B : Type 0} where
-  once_grown : (k : Kept B) (older : Blocks B) (x m : ℕ) → AreInOrder (k ∷ older) → is_leaf older k.parent ≡ true → Once (length older) (is_leaf older) x (times x (leaves_of older))
-      → m + one x k.parent ≡ times x (leaves_of older) + one x (suc (length older)) → Once (suc (length older)) (is_leaf (k ∷ older)) x m
-  once_grown k older x m o e f g = (
-    λ h. elim (cases_eq x (suc (length older))) [
-      | inl w ↦
-          let p = o.0 in
-          let a = one_same x (suc (length older)) (sym w) in
-          let b = one_other x k.parent (omega arith) in
-          let c = f.1 (omega arith) in
-          let r : m ≡ 1 = omega arith in
-          r ∙ sym (ap (λ b. cond {A = ℕ} b 1 0) (leaf_same k older x (omega arith) ∙ leaf_above older x o.1 (omega arith)))
-      | inr w ↦
-          let a = one_other x (suc (length older)) (λ q. w (sym q)) in
-          let c = f.0 (omega arith) in
-          elim (cases_eq k.parent x) [
-            | inl v ↦
-                let b = one_same x k.parent v in
-                let d : times x (leaves_of older) ≡ 1 = c ∙ ap (λ b. cond {A = ℕ} b 1 0) (ap (is_leaf older) (sym v) ∙ e) in
-                let r : m ≡ 0 = omega arith in
-                r ∙ sym (ap (λ b. cond {A = ℕ} b 1 0) (leaf_lost k older x v))
-            | inr v ↦
-                let b = one_other x k.parent v in
-                let r : m ≡ times x (leaves_of older) = omega arith in
-                r ∙ c ∙ sym (ap (λ b. cond {A = ℕ} b 1 0) (leaf_same k older x v))
-          ]
-    ],
-    λ h.
-        let p = o.0 in
-        let a = one_other x (suc (length older)) (omega arith) in
-        let b = one_other x k.parent (omega arith) in
-        let c = f.1 (omega arith) in
-        omega arith,
+  once-leaf : (t : Blocks B) (l : List ℕ) (x : ℕ) → AreLeaves t l → Once (length t) (is_leaf t) x (times x l)
+  once-leaf t l x are = (
+    λ h. times-once x l are.once ∙ ap (λ b. cond {A = ℕ} b 1 0) (are.all x ∙ ap (λ b. b && is_leaf t x) (lt-ltb x (suc (length t)) (omega arith))),
+    λ h. times-once x l are.once ∙ ap (λ b. cond {A = ℕ} b 1 0) (are.all x ∙ ap (λ b. b && is_leaf t x) (le-ltb x (suc (length t)) (omega arith))),
   )
 
-  once_more : (k : Kept B) (older : Blocks B) (x m : ℕ) → AreInOrder (k ∷ older) → is_leaf older k.parent ≡ false → Once (length older) (is_leaf older) x (times x (leaves_of older))
-      → m ≡ times x (leaves_of older) + one x (suc (length older)) → Once (suc (length older)) (is_leaf (k ∷ older)) x m
-  once_more k older x m o e f g = (
-    λ h. elim (cases_eq x (suc (length older))) [
-      | inl w ↦
-          let p = o.0 in
-          let a = one_same x (suc (length older)) (sym w) in
-          let c = f.1 (omega arith) in
-          let r : m ≡ 1 = omega arith in
-          r ∙ sym (ap (λ b. cond {A = ℕ} b 1 0) (leaf_same k older x (omega arith) ∙ leaf_above older x o.1 (omega arith)))
-      | inr w ↦
-          let a = one_other x (suc (length older)) (λ q. w (sym q)) in
-          let c = f.0 (omega arith) in
-          let r : m ≡ times x (leaves_of older) = omega arith in
-          r ∙ c ∙ ap (λ b. cond {A = ℕ} b 1 0) (on_other k older x e)
-    ],
-    λ h.
-        let a = one_other x (suc (length older)) (omega arith) in
-        let c = f.1 (omega arith) in
-        omega arith,
-  )
-
-  once-leaf : (t : Blocks B) (x : ℕ) → AreInOrder t → Once (length t) (is_leaf t) x (times x (leaves_of t))
-  unfolding leaves_of
-  once-leaf [] x o =
-      let c = sum_by-cons (one x) 0 [] in
-      (λ h. let a = one_same x 0 (omega arith) in omega arith, λ h. let a = one_other x 0 (omega arith) in omega arith)
-  once-leaf (k ∷ older) x o =
-      elim (cases_Bool (is_leaf older k.parent)) [
-        | inl e ↦
-            let b = slot-below older k.parent in
-            let l = length-leaves older in
-            let at = eqb-true (get_or (leaves_of older) (slot_of older k.parent) 0) k.parent (leaf_slot older k.parent 0 o.1 o.0 ∙ e) in
-            once_grown k older x (times x (leaves_of (k ∷ older))) o e (once-leaf older x o.1)
-            (ap (λ (l : List ℕ). times x l + one x k.parent) (leaves_taken k older e)
-            ∙ ap (λ (y : ℕ). times x (set (leaves_of older) (slot_of older k.parent) (suc (length older))) + one x y) (sym at)
-            ∙ sum_by-set (one x) (leaves_of older) (slot_of older k.parent) (suc (length older)) 0 (omega arith))
-        | inr e ↦
-            once_more k older x (times x (leaves_of (k ∷ older))) o e (once-leaf older x o.1)
-            (ap (times x) (leaves_new k older e) ∙ sum_by_push (one x) (leaves_of older) (suc (length older)))
+  -- each is kept
+  pub leaf-kept : (t : Blocks B) (l : List ℕ) (x : ℕ) → AreLeaves t l → has l x ≡ true → x ≤ length t
+  leaf-kept t l x are h =
+      elim (cases_lt (length t) x) [
+        | inl g ↦ let n = has-times x l h in let z = (once-leaf t l x are).1 g in absurd (omega arith)
+        | inr g ↦ g
       ]
 
   -- ---- the tips
 
   -- the leaves, and the active block if it is none
-  abbrev pub all_tips : Blocks B → ℕ → List ℕ
-  all_tips t a = leaves_of t ++ cond (is_leaf t a) [] (a ∷ [])
+  abbrev pub all_tips : List ℕ → Blocks B → ℕ → List ℕ
+  all_tips l t a = l ++ cond (is_leaf t a) [] (a ∷ [])
 
   extra : (t : Blocks B) (a x : ℕ) → times x (cond (is_leaf t a) [] (a ∷ [])) ≡ cond (is_leaf t a) 0 (one x a)
   extra t a x = by (is_leaf t a)
@@ -117,19 +78,19 @@ module _ {B : Type 0} where
       by true = refl
       by false = sum_by-cons (one x) a [] ∙ omega arith
 
-  pub once-tip : (t : Blocks B) (a x : ℕ) → AreInOrder t → a ≤ length t → times x (all_tips t a) ≡ times x (filter (is_tip t a) (places t))
+  pub once-tip : (t : Blocks B) (l : List ℕ) (a x : ℕ) → AreLeaves t l → a ≤ length t → times x (all_tips l t a) ≡ times x (filter (is_tip t a) (places t))
   unfolding is_tip
-  once-tip t a x o k =
-      let s = sum_by-append (one x) (leaves_of t) (cond (is_leaf t a) [] (a ∷ [])) in
+  once-tip t l a x are k =
+      let s = sum_by-append (one x) l (cond (is_leaf t a) [] (a ∷ [])) in
       let w = extra t a x in
-      let f = once-leaf t x o in
+      let f = once-leaf t l x are in
       elim (cases_eq a x) [
         | inl e ↦
             let c = f.0 (omega arith) in
             let d = one_same x a e in
             let g = times-filter (is_tip t a) (length t) x (omega arith) in
             let h : is_tip t a x ≡ true = or_left (eqb x a) (is_leaf t x) (eq-eqb x a (sym e)) in
-            let v : times x (leaves_of t) ≡ cond (is_leaf t a) 1 0 = c ∙ ap (λ (z : ℕ). cond {A = ℕ} (is_leaf t z) 1 0) (sym e) in
+            let v : times x l ≡ cond (is_leaf t a) 1 0 = c ∙ ap (λ (z : ℕ). cond {A = ℕ} (is_leaf t z) 1 0) (sym e) in
             let u : times x (filter (is_tip t a) (places t)) ≡ 1 = g ∙ ap (λ b. cond {A = ℕ} b 1 0) h in
             let both = own (is_leaf t a) (one x a) d in
             omega arith
@@ -142,7 +103,7 @@ module _ {B : Type 0} where
                   let c = f.0 h in
                   let g = times-filter (is_tip t a) (length t) x h in
                   let i : is_tip t a x ≡ is_leaf t x = ap (λ b. b || is_leaf t x) (ne_eqb x a (λ q. e (sym q))) in
-                  let j : times x (filter (is_tip t a) (places t)) ≡ times x (leaves_of t) = g ∙ ap (λ b. cond {A = ℕ} b 1 0) i ∙ sym c in
+                  let j : times x (filter (is_tip t a) (places t)) ≡ times x l = g ∙ ap (λ b. cond {A = ℕ} b 1 0) i ∙ sym c in
                   omega arith
             ]
       ]
@@ -195,9 +156,9 @@ module _ {B : Type 0} where
         ]
 
     -- places in order that are the tips, each once, are the tips in their order
-    pub tips_in_order : (a : ℕ) (l : List ℕ) → AreInOrder t → a ≤ length t → ((q : ℕ) → has l q ≡ true → q ≤ length t) → IsOrdered (goes_first t) l → ((x : ℕ) → times x l ≡ times x (all_tips t a))
+    pub tips_in_order : (leaves : List ℕ) (a : ℕ) (l : List ℕ) → AreLeaves t leaves → a ≤ length t → ((q : ℕ) → has l q ≡ true → q ≤ length t) → IsOrdered (goes_first t) l → ((x : ℕ) → times x l ≡ times x (all_tips leaves t a))
         → l ≡ sort_places (goes_first t) (filter (is_tip t a) (places t))
-    tips_in_order a l o k b up f =
+    tips_in_order leaves a l are k b up f =
         same_order (goes_first t) (length t) (λ p q h g. first_tie p q) l (sort_places (goes_first t) (filter (is_tip t a) (places t))) b up
         (order-ordered (goes_first t) first-asym first_trans (filter (is_tip t a) (places t)))
-        (λ x. f x ∙ once-tip t a x o k ∙ sym (times-ordered (goes_first t) x (filter (is_tip t a) (places t))))
+        (λ x. f x ∙ once-tip t leaves a x are k ∙ sym (times-ordered (goes_first t) x (filter (is_tip t a) (places t))))

@@ -15,7 +15,7 @@ use Rattle.tree.specs.declared.tip_order.Top.{Top}
 use Rattle.tree.specs.Branches.{Blocks, has, places, height}
 use Rattle.tree.specs.Limits.{max_blocks}
 use Rattle.tree.specs.inside.Tops.{top_at, top_cmp}
-use Rattle.tree.specs.inside.Slots.{AreInOrder}
+use Rattle.tree.specs.inside.Leaves.{AreLeaves}
 use Rattle.tree.specs.Tips.{is_tip, goes_first, sort_places}
 use Rattle.tree.specs.laws.Sets.{has_here, has_there}
 use Rattle.tree.specs.laws.Parents.{height-place}
@@ -111,22 +111,22 @@ module _ (t : Blocks Block) (room : suc (length t) ≤ max_blocks) where
   places_back (p ∷ l) = ap (λ (r : List ℕ). p ∷ r) (places_back l)
 
   -- the tips, sorted as tops, are the tips in their order
-  pub sorted_tips : (a : ℕ) (l : List Top) → AreInOrder t → a ≤ length t → IsPermutation (map (top_at t) (all_tips t a)) l → IsSorted top_cmp l
+  pub sorted_tips : (leaves : List ℕ) (a : ℕ) (l : List Top) → AreLeaves t leaves → a ≤ length t → IsPermutation (map (top_at t) (all_tips leaves t a)) l → IsSorted top_cmp l
       → l ≡ map (top_at t) (sort_places (goes_first t) (filter (is_tip t a) (places t)))
-  sorted_tips a l o k moved up = whole ∙ ap (map (top_at t)) (tips_in_order t a (map place_in l) o k kept (places_in_order (map place_in l) kept (subst (IsSortedBy below) whole up)) same)
+  sorted_tips leaves a l are k moved up = whole ∙ ap (map (top_at t)) (tips_in_order t leaves a (map place_in l) are k kept (places_in_order (map place_in l) kept (subst (IsSortedBy below) whole up)) same)
     where
       whole : l ≡ map (top_at t) (map place_in l)
-      whole = as_tops l (All-permutation (λ (x : Top). x ≡ top_at t x.place) (map (top_at t) (all_tips t a)) l moved (All-map (λ (x : Top). x ≡ top_at t x.place) (top_at t) (all_tips t a) (λ i d h. refl)))
+      whole = as_tops l (All-permutation (λ (x : Top). x ≡ top_at t x.place) (map (top_at t) (all_tips leaves t a)) l moved (All-map (λ (x : Top). x ≡ top_at t x.place) (top_at t) (all_tips leaves t a) (λ i d h. refl)))
 
-      same : (x : ℕ) → times x (map place_in l) ≡ times x (all_tips t a)
-      same x = sum_by-IsPermutation (one x) (map place_in (map (top_at t) (all_tips t a))) (map place_in l) (IsPermutation-map place_in (map (top_at t) (all_tips t a)) l moved) ∙ ap (times x) (places_back (all_tips t a))
+      same : (x : ℕ) → times x (map place_in l) ≡ times x (all_tips leaves t a)
+      same x = sum_by-IsPermutation (one x) (map place_in (map (top_at t) (all_tips leaves t a))) (map place_in l) (IsPermutation-map place_in (map (top_at t) (all_tips leaves t a)) l moved) ∙ ap (times x) (places_back (all_tips leaves t a))
 
       kept : (q : ℕ) → has (map place_in l) q ≡ true → q ≤ length t
       kept q h =
           elim (cases_lt (length t) q) [
             | inl g ↦
                 let s = same q in
-                let w = once-tip t a q o k in
+                let w = once-tip t leaves a q are k in
                 let z = times_filter-above (is_tip t a) (length t) q g in
                 let n = has-times q (map place_in l) h in
                 absurd (omega arith)

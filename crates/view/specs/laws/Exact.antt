@@ -1,43 +1,56 @@
 -- A view stays exact: at first, and after each publication that may follow.
-use Rattle.std.proofs.Common.{◌≡◌, ℕ, ◌-◌, Bool, true, false, if◌then◌else◌, List, [], ◌∷◌, ◌++◌, map, take, length, length-append, Option, Some, None, refl, sym, ap, ◌∙◌, subst, arith}
+use Rattle.std.proofs.Common.{◌≡◌, ℕ, ◌-◌, ◌<◌, Bool, true, false, if◌then◌else◌, List, [], ◌∷◌, ◌++◌, map, take, length, length-append, Option, Some, None, refl, sym, ap, ◌∙◌, subst, arith}
 use Rattle.std.proofs.lemmas.List.{append-nil}
 use mathlib.Core.List.{IsPrefix}
 use Rattle.std.specs.Option.{option_to_list}
 use Rattle.std.specs.FinMap as coin_map
 use Rattle.logbook.specs.Pages.{Book}
 use Rattle.block.specs.declared.block.Block.{Block}
+use Rattle.curve.specs.Triple.{Triples}
+use Rattle.curve.specs.Known.{Agrees, Verdicts, Under}
 use Rattle.coins.specs.Changes.{after_changes}
 use Rattle.coins.specs.laws.Changing.{laid-changes}
 use Rattle.tree.specs.Branches.{height}
+use Rattle.tree.specs.Limits.{max_blocks}
 use Rattle.tree.specs.State.{State, opening}
 use Rattle.tree.specs.Tips.{tip_of_id}
 use Rattle.chain.specs.declared.reply.Reply.{Reply}
 use Rattle.chain.specs.declared.entry.Entry.{Entry}
 use Rattle.chain.specs.History.{Answers, Stands, entry_of, state_after_entries}
+use Rattle.chain.specs.Learnt.{AreNews, IsNews, found_by, found_in, known_by, none_found}
 use Rattle.chain.specs.Regtest.{ledger, regtest}
 use Rattle.chain.specs.Replay.{coins, coins_at}
 use Rattle.chain.specs.Settle.{active}
 use Rattle.chain.specs.laws.Actives.{active_kept}
 use Rattle.chain.specs.laws.Coins.{coins-genesis}
 use Rattle.chain.specs.laws.History.{state_after-append, legal_push, legal_front, stands_within}
+use Rattle.chain.specs.laws.Learnt.{found_in-push, are_news-push, are_news-front, are_news-rest, found_from-append}
 use Rattle.chain.specs.laws.Steps.{opening_sound}
 use Rattle.view.specs.declared.chain_info.ChainInfo.{ChainInfo}
 use Rattle.view.specs.declared.publication.Publication.{Publication}
-use Rattle.view.specs.Origin.{Origin, machine}
-use Rattle.view.specs.ViewState.{ViewState, IsExact, IsInfo, IsLegal, state_after, coins_after, but_last, after_publication, after_publications, opening_view}
+use Rattle.view.specs.Origin.{Origin, known_in, machine}
+use Rattle.view.specs.ViewState.{ViewState, IsExact, IsInfo, IsLegal, IsLegalWith, IsStateWith, state_after, coins_after, but_last, after_publication, after_publications, opening_view}
 use Rattle.view.specs.Following.{IsNext, IsOwed, AllOwed, AllFollow}
 
 -- genesis leaves no coins
-opening_coins : (o : Origin) → coin_map.empty ≡ coins_after o []
-opening_coins o =
-    let r = regtest o.params o.triples in
+opening_coins : (o : Origin) (valid : Triples) → coin_map.empty ≡ coins_after o valid []
+opening_coins o valid =
+    let r = regtest o.params valid in
     let sound = opening_sound r in
     let low = active_kept r opening sound.genesis in
     let at : 0 ≡ active r opening = omega (arith, low) in
     sym (coins-genesis r ledger []) ∙ ap (λ (p : ℕ). coins_at r ledger [] p) at
 
-pub opening_exact : (o : Origin) (info : ChainInfo) → IsInfo o [] info → IsExact (opening_view o info)
-opening_exact o info h = record { whole = refl; legal = tt; coins_are = opening_coins o; info_is = h }
+pub opening_legal : (o : Origin) → IsLegal o []
+opening_legal o = record { news = tt; legal = λ valid agrees. tt }
+
+pub opening_exact : (o : Origin) (info : ChainInfo) → Under (known_in o []) (λ valid. IsInfo o valid [] info) → info.height < max_blocks → IsExact (opening_view o info)
+opening_exact o info h fits = record {
+  whole = refl;
+  legal = opening_legal o;
+  state_is = λ valid agrees. record { coins_are = opening_coins o valid; info_is = h valid agrees };
+  height_fits = fits;
+}
 
 -- what a publication leaves, from its book and whether it is one entry more
 abbrev after_parts : ViewState → Publication → Book → Bool → ViewState
@@ -59,8 +72,11 @@ next_exact x p exact h =
     subst IsExact (sym (after_by x p true h.is_new h.book_is)) (record {
       whole = ap (λ (es : List Entry). es ++ p.entry ∷ []) (sym h.before_is);
       legal = h.legal;
-      coins_are = laid-changes x.coins (coins_after x.origin (x.journal ++ p.entry ∷ [])) p.changes h.changes_are;
-      info_is = h.info_is;
+      state_is = λ valid agrees. let b = h.brings valid agrees in record {
+        coins_are = laid-changes x.coins (coins_after x.origin valid (x.journal ++ p.entry ∷ [])) p.changes b.changes_are;
+        info_is = b.info_is;
+      };
+      height_fits = h.height_fits;
     })
 
 -- all but the last of a list with one more is the list
@@ -78,32 +94,54 @@ owed_answers : {S : Type 0} (r : Option Reply) (o : Option (S × Reply)) → Ans
 owed_answers r None h = h
 owed_answers r (Some x) h = tt
 
+-- what is known of signatures after an entry hangs on its command alone
+pub found-push : (xs : List Entry) (d e : Entry) → d.command ≡ e.command → found_in (xs ++ d ∷ []) ≡ found_in (xs ++ e ∷ [])
+found-push xs d e same = found_in-push xs d ∙ ap (found_by (found_in xs)) same ∙ sym (found_in-push xs e)
+
+-- and so does whether it is news
+pub news-push : (o : Origin) (xs : List Entry) (d e : Entry) → d.command ≡ e.command → AreNews o.table (xs ++ d ∷ []) → AreNews o.table (xs ++ e ∷ [])
+news-push o xs d e same h =
+    let last = (are_news-rest o.table none_found xs (d ∷ []) h).0 in
+    are_news-push o.table none_found xs e (are_news-front o.table none_found xs (d ∷ []) h)
+    (subst (λ c. IsNews (known_by o.table (found_in xs)) c) same last)
+
 -- the last entry with its reply owed
 module _ (o : Origin) (before : List Entry) (e : Entry) where
   abbrev owed_entry : Entry
   owed_entry = entry_of e.seat e.command None
 
-  owed_state : state_after o (before ++ e ∷ []) ≡ state_after o (before ++ owed_entry ∷ [])
-  owed_state =
-      let m = machine o in
+  owed_found : found_in (before ++ e ∷ []) ≡ found_in (before ++ owed_entry ∷ [])
+  owed_found = found-push before e owed_entry refl
+
+  owed_state : (valid : Triples) → state_after o valid (before ++ e ∷ []) ≡ state_after o valid (before ++ owed_entry ∷ [])
+  owed_state valid =
+      let m = machine o valid in
       state_after-append m m.opening before (e ∷ []) ∙ sym (state_after-append m m.opening before (owed_entry ∷ []))
 
-  owed_legal : IsLegal o (before ++ e ∷ []) → IsLegal o (before ++ owed_entry ∷ [])
-  owed_legal h =
-      let m = machine o in
+  owed_legal-with : (valid : Triples) → IsLegalWith o valid (before ++ e ∷ []) → IsLegalWith o valid (before ++ owed_entry ∷ [])
+  owed_legal-with valid h =
+      let m = machine o valid in
       let stands : Stands m o.seats (state_after_entries m m.opening before) e = stands_within m o.seats m.opening before [] e h in
       legal_push m o.seats m.opening before owed_entry (legal_front m o.seats m.opening before (e ∷ []) h) (record {
         seat_is = stands.seat_is;
         reply_is = owed_answers e.reply (m.step (state_after_entries m m.opening before) e.command) stands.reply_is;
       })
 
+  owed_agrees : (valid : Triples) → Agrees (known_in o (before ++ owed_entry ∷ [])) valid → Agrees (known_in o (before ++ e ∷ [])) valid
+  owed_agrees valid h = subst (λ (found : Verdicts). Agrees (known_by o.table found) valid) (sym owed_found) h
+
+  owed_legal : IsLegal o (before ++ e ∷ []) → IsLegal o (before ++ owed_entry ∷ [])
+  owed_legal h = record {
+    news = news-push o before e owed_entry refl h.news;
+    legal = λ valid agrees. owed_legal-with valid (h.legal valid (owed_agrees valid agrees));
+  }
+
 -- what stands after a history stands after one of the same state
-same_info : (o : Origin) (xs ys : List Entry) (info : ChainInfo) → state_after o xs ≡ state_after o ys → IsInfo o xs info → IsInfo o ys info
-same_info o xs ys info same h = record {
-  best_is = h.best_is ∙ ap (λ (s : State Block). (machine o).best s) same;
-  height_is = h.height_is ∙ ap (λ (s : State Block). height s.blocks (active (regtest o.params o.triples) s)) same;
-  height_fits = h.height_fits;
-  tips_are = h.tips_are ∙ ap (λ (s : State Block). map tip_of_id ((machine o).tips s)) same;
+same_info : (o : Origin) (valid : Triples) (xs ys : List Entry) (info : ChainInfo) → state_after o valid xs ≡ state_after o valid ys → IsInfo o valid xs info → IsInfo o valid ys info
+same_info o valid xs ys info same h = record {
+  best_is = h.best_is ∙ ap (λ (s : State Block). (machine o valid).best s) same;
+  height_is = h.height_is ∙ ap (λ (s : State Block). height s.blocks (active (regtest o.params valid) s)) same;
+  tips_are = h.tips_are ∙ ap (λ (s : State Block). map tip_of_id ((machine o valid).tips s)) same;
 }
 
 -- the last entry again
@@ -115,16 +153,21 @@ owed_exact x p exact h =
     let was : x.journal ≡ x.before ++ e ∷ [] = exact.whole ∙ ap (λ (l : Option Entry). x.before ++ option_to_list l) h.entry_is.1 in
     let front : but_last x.journal ≡ x.before = ap but_last was ∙ but_last-one x.before e in
     let journal : but_last x.journal ++ p.entry ∷ [] ≡ now = ap (λ (es : List Entry). es ++ p.entry ∷ []) front ∙ ap (λ (y : Entry). x.before ++ y ∷ []) h.entry_is.2 in
-    let state : state_after o x.journal ≡ state_after o now = ap (state_after o) was ∙ owed_state o x.before e in
-    let state_here : state_after o x.journal ≡ state_after o (but_last x.journal ++ p.entry ∷ []) = state ∙ ap (state_after o) (sym journal) in
+    let found : found_in x.journal ≡ found_in (but_last x.journal ++ p.entry ∷ []) = ap found_in was ∙ owed_found o x.before e ∙ ap found_in (sym journal) in
+    let state : (valid : Triples) → state_after o valid x.journal ≡ state_after o valid (but_last x.journal ++ p.entry ∷ []) =
+    λ valid. ap (state_after o valid) was ∙ owed_state o x.before e valid ∙ ap (state_after o valid) (sym journal) in
     subst IsExact (sym (after_by x p false h.is_new h.book_is)) (record {
       whole = ap (λ (es : List Entry). es ++ p.entry ∷ []) (front ∙ sym h.before_is);
       legal = subst (λ (es : List Entry). IsLegal o es) (sym journal) (owed_legal o x.before e (subst (λ (es : List Entry). IsLegal o es) was exact.legal));
-      coins_are = exact.coins_are ∙ ap (λ (s : State Block). coins (regtest o.params o.triples) ledger s) state_here;
-      info_is = same_info o x.journal (but_last x.journal ++ p.entry ∷ []) p.info state_here (subst (λ (i : ChainInfo). IsInfo o x.journal i) (sym h.info_is) exact.info_is);
+      state_is = λ valid agrees.
+          let s = exact.state_is valid (subst (λ (found : Verdicts). Agrees (known_by o.table found) valid) (sym found) agrees) in
+          record {
+            coins_are = s.coins_are ∙ ap (λ (s : State Block). coins (regtest o.params valid) ledger s) (state valid);
+            info_is = same_info o valid x.journal (but_last x.journal ++ p.entry ∷ []) p.info (state valid) (subst (λ (i : ChainInfo). IsInfo o valid x.journal i) (sym h.info_is) s.info_is);
+          };
+      height_fits = subst (λ (i : ChainInfo). i.height < max_blocks) (sym h.info_is) exact.height_fits;
     })
 
--- one after the other
 owed_exacts : (x : ViewState) (ps : List Publication) → IsExact x → AllOwed x ps → IsExact (after_publications x ps)
 owed_exacts x [] exact h = exact
 owed_exacts x (p ∷ ps) exact h = owed_exacts (after_publication x p) ps (owed_exact x p exact h.0) h.1

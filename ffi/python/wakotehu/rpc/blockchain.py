@@ -6,6 +6,7 @@ from typing import Any, Callable, Dict, List, Optional
 from ..chainstate import show
 from ..encoding import double_sha, read_block, write_header
 from ..index import Kept
+from ..pool import Coins
 from .errors import INVALID_ADDRESS_OR_KEY, INVALID_PARAMETER, MISC_ERROR, RpcError
 from .node import Node, call
 from .scripts import checksum, descriptor_script, shown
@@ -237,8 +238,14 @@ def gettxoutsetinfo(node: Node, hash_type: Any) -> Object:
     kind = "hash_serialized_2" if hash_type is None else text(hash_type)
     if kind not in ("hash_serialized_2", "none"):
         raise RpcError(INVALID_PARAMETER, f"{shortened(kind)} is not a valid hash_type")
-    coins = sorted(node.bench.coins(), key=lambda it: it[:2])
-    tip = node.tip()
+    best, coins = node.bench.coins()
+    tip = node.kept(best)
+    with node.others():
+        return _info(tip, coins, kind != "none")
+
+
+def _info(tip: Kept, coins: Coins, with_hash: bool) -> Object:
+    """What the call answers about all coins."""
     found: Object = {
         "height": tip.height,
         "bestblock": show(tip.id),
@@ -246,7 +253,7 @@ def gettxoutsetinfo(node: Node, hash_type: Any) -> Object:
         "txouts": len(coins),
         "bogosize": sum(50 + len(coin.script) for _, _, coin in coins),
     }
-    if kind != "none":
+    if with_hash:
         found["hash_serialized_2"] = show(coins_hash(tip.id, coins))
     found["disk_size"] = 0
     found["total_amount"] = Amount(sum(coin.value for _, _, coin in coins))
@@ -326,13 +333,20 @@ def scantxoutset(node: Node, action: Any, scanobjects: Any) -> Any:
     for described in scanobjects:
         it = _described(described)
         wanted.setdefault(descriptor_script(it), it.partition("#")[0])
-    coins = sorted(node.bench.coins(), key=lambda it: it[:2])
+    best, coins = node.bench.coins()
+    tip = node.kept(best)
+    with node.others():
+        return _scanned(tip, coins, wanted)
+
+
+def _scanned(tip: Kept, coins: Coins, wanted: Dict[bytes, str]) -> Object:
+    """The coins of wanted scripts, each with its descriptor."""
     found = [it for it in coins if it[2].script in wanted]
     return {
         "success": True,
         "txouts": len(coins),
-        "height": node.tip().height,
-        "bestblock": show(node.tip().id),
+        "height": tip.height,
+        "bestblock": show(tip.id),
         "unspents": [
             {
                 "txid": show(id),

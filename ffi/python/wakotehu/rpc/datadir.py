@@ -1,153 +1,139 @@
-"""A folder that has all commands, in the form of the program's saved files (docs/PROGRAM.md), so that `regchain audit
---saved` judges them."""
+"""The folder of -datadir. The node has a folder of its own there, in which it keeps its history."""
 
 import fcntl
 import os
-import re
-from typing import BinaryIO, List, NamedTuple, Optional, Set, Tuple, Union
+import shutil
+import sys
+import time
+from typing import BinaryIO, Callable, NamedTuple, Optional, Sequence
 
-from ..bench import Bench
-from ..chainstate import read_id, show
+from ..errors import NodeDied
+from ..history import LOG
 from ..pool import Pool
-from .node import Saver
+from .oldfiles import TABLE, BadFolder, OldFiles
 
-MAGIC = bytes.fromhex("fabfb5da")
-MAX_RECORD = 33_554_432
-_LINE = re.compile(r"(\d+) \w{1,32} (?:submit ([0-9a-f]{64}) (\d+)|(invalidate|reconsider|precious) ([0-9a-f]{64})) = (.+)")
+__all__ = ["BadFolder", "Folder", "Opening"]
 
-
-class BadFolder(Exception):
-    """The folder can't be used, and why."""
-
-
-class Step(NamedTuple):
-    command: str
-    id: bytes
-    now: int
-    reply: str
+#: The node's folder, and where the files of an earlier version are in the end. While these are taken over the names have
+#: another end: so a folder that has its name is whole.
+NODE, OLD, BEGUN = "node", "old-files", ".begun"
+#: How many seconds a node that lost its server may take to end.
+PATIENCE = 60.0
 
 
-class Folder(Saver):
-    """A folder that is in use by this server alone. What a command adds is written before it is answered: first new
-    valid signatures, then the block, then the journal's line. Where the server is killed between these the next start
-    takes away what has no line. `sync` has the disk asked to keep each."""
+class Opening(NamedTuple):
+    """How the server was told to open a node: the heights and the table that were given, whether answers wait for the disk,
+    and what opens a pool: by heights, signatures that are known to be valid, a folder, and whether answers wait."""
 
-    def __init__(self, path: str, sync: bool = False) -> None:
-        self.path, self.sync = path, sync
-        self._files: List[BinaryIO] = []
-        #: How many bytes of the table are saved.
-        self._saved = 0
-        self._steps = 0
+    heights: Optional[Sequence[int]]
+    table: Optional[bytes]
+    sync: bool
+    pool: Callable[[Optional[Sequence[int]], bytes, str, bool], Pool]
+
+
+class Folder:
+    """A folder that this server alone uses."""
+
+    def __init__(self, path: str) -> None:
+        self.path = path
+        self.node, self._old = os.path.join(path, NODE), os.path.join(path, OLD)
         os.makedirs(path, mode=0o700, exist_ok=True)
-        self._lock = self._open(".lock")
-        try:
-            fcntl.flock(self._lock, fcntl.LOCK_EX | fcntl.LOCK_NB)
-        except OSError:
+        lock = os.path.join(path, ".lock")
+        # No link is followed.
+        number = os.open(lock, os.O_RDWR | os.O_CREAT | os.O_NOFOLLOW | os.O_CLOEXEC, 0o600)
+        self._lock = os.fdopen(number, "r+b")
+        if not _locks(self._lock):
+            self.close()
             raise BadFolder(f"{path} is in use by another server")
 
-    def _open(self, name: str) -> BinaryIO:
-        """A file of the folder, made where it isn't there; no link is followed."""
-        number = os.open(os.path.join(self.path, name), os.O_RDWR | os.O_CREAT | os.O_NOFOLLOW | os.O_CLOEXEC, 0o600)
-        return os.fdopen(number, "r+b")
-
-    def heights(self, given: Optional[Tuple[int, ...]], default: Tuple[int, ...]) -> Tuple[int, ...]:
-        """The heights of soft forks that the folder has; in a new one those that are given are written."""
-        with self._open("heights.txt") as file:
-            found = file.read()
-            if not found:
-                chosen = given or default
-                file.write(",".join(map(str, chosen)).encode() + b"\n")
-                return chosen
-        try:
-            saved = tuple(int(word) for word in found.decode().strip().split(","))
-        except ValueError:
-            raise BadFolder("heights.txt can't be read")
-        if given is not None and given != saved:
-            raise BadFolder(f"{self.path} was made with the heights {saved}, not {given}")
-        return saved
-
-    def table(self, given: Optional[bytes] = None) -> bytes:
-        """The valid signatures. A line that wasn't written whole is taken away. Those that are given are those that the
-        folder has; in a new one they are written."""
-        with self._open("table.txt") as file:
-            saved = file.read()
-            self._saved = saved.rfind(b"\n") + 1
-            saved = saved[: self._saved]
-            file.truncate(self._saved)
-        if given is not None and _lines(given) != _lines(saved):
-            if saved or self._has_steps():
-                raise BadFolder(f"{self.path} was made with another table")
-            saved = given if given.endswith(b"\n") else given + b"\n"
-            with self._open("table.txt") as file:
-                file.write(saved)
-            self._saved = len(saved)
-        return saved
-
-    def _has_steps(self) -> bool:
-        with self._open("journal.txt") as file:
-            return file.read(1) != b""
-
-    def replay(self, bench: Union[Bench, Pool]) -> int:
-        """Takes all commands of the folder again, and answers how many. From then on commands are added."""
-        journal, blocks, table = self._open("journal.txt"), self._open("blocks.blk"), self._open("table.txt")
-        self._files = [journal, blocks, table]
-        place = 0
-        for line in journal:
-            if not line.endswith(b"\n"):
-                break
-            self._steps += 1
-            step = _step(line.decode("ascii", "replace").rstrip("\n"), self._steps)
-            if step.command == "submit":
-                reply = bench.try_submit(_record(blocks, self._steps), step.now).text
-            else:
-                reply = bench.try_mark(step.command, step.id).text
-            if reply != step.reply:
-                raise BadFolder(f"journal.txt line {self._steps}: {step.reply!r} was answered, and {reply!r} now")
-            place += len(line)
-        for file, end in ((journal, place), (blocks, blocks.tell()), (table, self._saved)):
-            file.truncate(end)
-            file.seek(end)
-        return self._steps
-
-    def after(self, bench: Union[Bench, Pool], command: str, id: bytes, data: bytes, now: int, reply: str) -> None:
-        journal, blocks, table = self._files
-        self._steps += 1
-        if bench.table_size > self._saved:
-            self._write(table, bench.table_from(self._saved))
-            self._saved = bench.table_size
-        if command == "submit":
-            self._write(blocks, MAGIC + len(data).to_bytes(4, "little") + data)
-        words = f"{command} {show(id)}{f' {now}' if command == 'submit' else ''}"
-        self._write(journal, f"{self._steps} rpc {words} = {reply}\n".encode())
-
-    def _write(self, file: BinaryIO, data: bytes) -> None:
-        file.write(data)
-        file.flush()
-        if self.sync:
-            os.fsync(file.fileno())
-
     def close(self) -> None:
-        for file in (*self._files, self._lock):
-            file.close()
+        self._lock.close()
+
+    def __enter__(self) -> "Folder":
+        return self
+
+    def __exit__(self, *raised: object) -> None:
+        self.close()
+
+    def open(self, opening: Opening) -> Pool:
+        """A pool over the node's folder."""
+        old = OldFiles(self.path)
+        if os.path.exists(self._old + BEGUN) and os.path.exists(self.node):
+            self._move(old)
+        elif old.are_there():
+            self._take_over(old, opening)
+            self._move(old)
+        has_table = os.path.exists(os.path.join(self.node, TABLE))
+        if os.path.exists(os.path.join(self.node, LOG)) and has_table is not (opening.table is not None):
+            raise BadFolder(f"{self.path} was made {'with' if has_table else 'without'} -table")
+        return self._opened(opening, opening.heights, b"", self.node, opening.sync)
+
+    def _opened(
+        self, opening: Opening, heights: Optional[Sequence[int]], known: bytes, node: str, sync: bool
+    ) -> Pool:  # fmt: skip
+        _wait_for_end(node)
+        try:
+            return opening.pool(heights, known, node, sync)
+        except NodeDied as died:
+            why = died.stderr.strip().rpartition("\n")[2]
+            raise BadFolder(f"{node}: {why}" if why else str(died))
+
+    # ---- files of an earlier version
+
+    def _take_over(self, old: OldFiles, opening: Opening) -> None:
+        """Makes the node's folder from the commands of an earlier version. It gets its name once it has all of them."""
+        for path in (self.node, self._old):
+            if os.path.exists(path):
+                raise BadFolder(f"{self.path} has files of an earlier version, and {path}: one of them has to be moved away")
+        begun = self.node + BEGUN
+        _wait_for_end(begun)
+        if os.path.exists(begun):
+            shutil.rmtree(begun)
+        heights, table = old.heights(opening.heights), old.table(opening.table)
+        with self._opened(opening, heights, table, begun, False) as pool:
+            old.replay(pool)
+            pool.node.close()
+        _sync(os.path.join(begun, LOG))
+        os.makedirs(self._old + BEGUN, mode=0o700, exist_ok=True)
+        os.rename(begun, self.node)
+        _sync(self.path)
+
+    def _move(self, old: OldFiles) -> None:
+        """Moves the files of an earlier version aside, whose commands the node's folder has."""
+        old.move(self._old + BEGUN)
+        _sync(self._old + BEGUN)
+        os.rename(self._old + BEGUN, self._old)
+        _sync(self.path)
+        print(f"wakotehu-server: the commands of an earlier version's files are in {self.node} now, the files in {self._old}",
+            file=sys.stderr)  # fmt: skip
 
 
-def _lines(table: bytes) -> Set[bytes]:
-    return {line.strip() for line in table.splitlines()} - {b""}
+def _locks(file: BinaryIO) -> bool:
+    """Locks a file, and says whether it did: not where another process has locked it."""
+    try:
+        fcntl.flock(file, fcntl.LOCK_EX | fcntl.LOCK_NB)
+    except BlockingIOError:
+        return False
+    return True
 
 
-def _step(line: str, place: int) -> Step:
-    found = _LINE.fullmatch(line)
-    if not found or int(found[1]) != place:
-        raise BadFolder(f"journal.txt line {place} can't be read")
-    if found[2]:
-        return Step("submit", read_id(found[2]), int(found[3]), found[6])
-    return Step(found[4], read_id(found[5]), 0, found[6])
+def _wait_for_end(node: str) -> None:
+    """Waits until no node has a folder. One whose server was killed ends by itself, when its input has."""
+    until = time.monotonic() + PATIENCE
+    try:
+        with open(os.path.join(node, "lock"), "r+b") as file:
+            while not _locks(file):
+                if time.monotonic() > until:
+                    raise BadFolder(f"{node} is in use by another process")
+                time.sleep(0.01)
+    except FileNotFoundError:
+        pass
 
 
-def _record(blocks: BinaryIO, place: int) -> bytes:
-    begins = blocks.read(8)
-    length = int.from_bytes(begins[4:], "little")
-    data = blocks.read(length) if begins[:4] == MAGIC and length <= MAX_RECORD else b""
-    if len(begins) < 8 or not data or len(data) < length:
-        raise BadFolder(f"blocks.blk has no block of line {place}")
-    return data
+def _sync(path: str) -> None:
+    """Brings a file, or a folder's names, onto the disk."""
+    number = os.open(path, os.O_RDONLY)
+    try:
+        os.fsync(number)
+    finally:
+        os.close(number)

@@ -1,14 +1,13 @@
-"""What all calls share: the bench, its clock, and the table of calls."""
+"""What all calls share: the pool of seats, its clock, and the table of calls."""
 
 import threading
 import time
 from contextlib import contextmanager
-from typing import Any, Callable, Dict, Iterable, Iterator, List, NamedTuple, Optional, Sequence, Tuple, Union
+from typing import Any, Callable, Dict, Iterable, Iterator, List, NamedTuple, Optional, Sequence, Tuple
 
-from ..bench import Bench
 from ..chainstate import Reply
 from ..encoding import GENESIS, GENESIS_BLOCK, Output, Spelled, Transaction, read_transaction
-from ..errors import NodeDied, Owed
+from ..errors import NodeDied, NotSaved, Owed
 from ..index import Kept
 from ..pool import Pool
 from .errors import INVALID_ADDRESS_OR_KEY, INVALID_PARAMETER, METHOD_NOT_FOUND, MISC_ERROR, RpcError
@@ -19,23 +18,12 @@ from .values import expect
 LOOK = 0.5
 
 
-class Saver:
-    """Who is told of each command. This one does nothing."""
-
-    def after(self, bench: Union[Bench, Pool], command: str, id: bytes, data: bytes, now: int, reply: str) -> None:
-        """After a command was taken as a step."""
-
-    def close(self) -> None:
-        """At the end."""
-
-
 class Node:
-    """A bench that calls are made on: one at a time at a `Bench`, beside one another at a `Pool`."""
+    """A pool of seats that calls are made on. A call waits for no other one, except for those that make blocks, and those
+    that read all coins."""
 
-    def __init__(self, bench: Union[Bench, Pool], saver: Optional[Saver] = None) -> None:
+    def __init__(self, bench: Pool) -> None:
         self.bench = bench
-        bench.taken = self._took
-        self.saver = saver or Saver()
         self.mocked = 0
         self.started = time.time()
         self.stopped = False
@@ -46,7 +34,7 @@ class Node:
         #: Of each thread that calls: whether its client is gone.
         self._caller = threading.local()
         #: Held by the call that runs; told when the best block changes, and at the end.
-        self.turn = bench.turn if isinstance(bench, Pool) else threading.Condition()
+        self.turn = bench.turn
 
     @contextmanager
     def others(self) -> Iterator[None]:
@@ -82,17 +70,14 @@ class Node:
 
     def leave(self) -> None:
         """This thread makes no more calls."""
-        if isinstance(self.bench, Pool):
-            with self.turn:
-                self.bench.leave()
+        with self.turn:
+            self.bench.leave()
 
     def close(self) -> None:
-        """Ends it: what was begun is saved."""
+        """Ends it: what was begun is taken."""
         with self.turn:
             self.stopped = True
-            if isinstance(self.bench, Pool):
-                self.bench.settle()
-            self.saver.close()
+            self.bench.settle()
 
     def fail(self, why: str) -> RpcError:
         """Ends it for a fault, which is answered from now on."""
@@ -114,17 +99,6 @@ class Node:
     def mark(self, command: str, id: bytes) -> Reply:
         """Marks a block."""
         return self.bench.try_mark(command, id)
-
-    def _took(self, command: str, id: bytes, data: bytes, now: int, reply: str) -> None:
-        """Saves a step, in the order of the steps, before it is answered."""
-        self.turn.notify_all()
-        if self.broken:
-            raise RpcError(MISC_ERROR, self.broken)
-        try:
-            self.saver.after(self.bench, command, id, data, now, reply)
-        except OSError as error:
-            # As bitcoind does where its disk takes no more: what was answered before is saved, and no more is taken.
-            raise self.fail(f"a command can't be saved: {error}")
 
     # ---- reads
 
@@ -245,7 +219,7 @@ def run(node: Node, method: str, params: Any) -> Any:
             return found.run(node, *found.arguments(params))
         except RpcError:
             raise
-        except (NodeDied, Owed) as error:
+        except (NodeDied, NotSaved, Owed) as error:
             raise node.fail(f"{type(error).__name__}: {error}")
         except Exception as error:
             # Whatever goes wrong is answered, as Bitcoin Core does with exceptions of C++.

@@ -1,16 +1,15 @@
 """What a block breaks that stands on the active one and isn't submitted: the rules of docs/RULES.md in their order, over
 the coins of the active branch. The rules themselves are the proved ones of `consensus`."""
 
-from typing import Dict, Iterator, List, NamedTuple, Optional, Set, Tuple, Union
+from typing import Dict, Iterator, List, NamedTuple, Optional, Set, Tuple
 
 from .. import consensus
-from ..bench import Bench
 from ..chainstate import Coin
 from ..consensus import Triple
 from ..encoding import Output, Spelled, Transaction, block_at_front, subsidy, write_transaction
 from ..index import Kept
 from ..pool import Pool
-from ..signatures import Verifier
+from ..signatures import signatures_of
 from .node import Node
 
 #: The most signature operations of a block, and how many blocks above a coinbase its coins may be spent.
@@ -29,10 +28,12 @@ class _Turn(NamedTuple):
 
 def fault(node: Node, block: bytes) -> str:
     """The first rule that a block on the active one breaks, in the words of a submission's reply; "" for none."""
-    tip = node.tip()
-    place = consensus.block_place(block, tip.height + 1, tip.median, node.now(), node.bench.heights)
-    found = consensus.block(block).reason or place
-    return found or _Trial(node, tip, block_at_front(block)).fault()
+    tip, now = node.tip(), node.now()
+    with node.others():
+        found = consensus.block(block).reason
+        found = found or consensus.block_place(block, tip.height + 1, tip.median, now, node.bench.heights)
+        spelled = block_at_front(block)
+    return found or _Trial(node, tip, spelled).fault()
 
 
 class _Trial:
@@ -128,19 +129,19 @@ class _Trial:
         forks = (("CLTV", 1), ("DERSIG", 2), ("CSV", 3))
         flags = [name for name, fork in forks if self._in_force(fork)]
         signatures = _Signatures(self.node.bench)
-        for place, turn in enumerate(turns):
-            for number, coin in enumerate(turn.spent):
-                if not signatures.accept(turn, number, coin.script, flags):
-                    return f"blk-bad-inputs {place}:{number}"
+        with self.node.others():
+            for place, turn in enumerate(turns):
+                for number, coin in enumerate(turn.spent):
+                    if not signatures.accept(turn, number, coin.script, flags):
+                        return f"blk-bad-inputs {place}:{number}"
         return ""
 
 
 class _Signatures:
-    """Which signatures are valid, as the bench has it."""
+    """Which signatures are valid, as the pool has it."""
 
-    def __init__(self, bench: Union[Bench, Pool]) -> None:
-        self._bench = bench
-        self._verifier: Optional[Verifier] = None
+    def __init__(self, pool: Pool) -> None:
+        self._pool = pool
         self._table: Optional[Set[Triple]] = None
 
     def accept(self, turn: _Turn, number: int, script: bytes, flags: List[str]) -> bool:
@@ -160,11 +161,8 @@ class _Signatures:
         return found
 
     def _is_valid(self, triple: Triple) -> bool:
-        if isinstance(self._bench, Bench):
-            self._verifier = self._verifier or Verifier(1)
-            if self._verifier.verdicts([triple.line.rstrip()])[0]:
-                return True
+        if self._pool.known is not None:
+            return self._pool.known.verdicts([triple.line.rstrip()])[0]
         if self._table is None:
-            lines = [line for line in self._bench.table.splitlines() if line.strip() and line.split()[0][:1] != b"#"]
-            self._table = set(Triple.of_lines(lines))
+            self._table = set(signatures_of(self._pool.table))
         return triple in self._table

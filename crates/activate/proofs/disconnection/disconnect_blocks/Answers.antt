@@ -35,23 +35,23 @@ pub disconnect_in_layer-requires-clause-connected : goal.disconnect_in_layer-req
 disconnect_in_layer-requires-clause-connected g c =
     let t = c.args.tree.now.blocks in
     let places = c.args.places.now in
-    let undo = c.args.undo.now.items in
+    let undo = c.args.above.now.undo.now.items in
     let done = c.loop-done.done in
-    let one = next_back t places c.requires.branch c.args.low undo c.requires.undo c.requires.inside done c.len-in-loop-done.result
-    (omega (arith, c.len-in-loop-done.ensures, c.args.undo.now.ok)) (omega (arith, c.loop-done-test.true, c.len.ensures, c.len-in-loop-done.ensures, c.requires.from))
+    let one = next_back t places c.requires.branch c.args.above.now.low undo c.requires.above.undo_is c.requires.above.inside done c.len-in-loop-done.result
+    (omega (arith, c.len-in-loop-done.ensures, c.args.above.now.undo.now.ok)) (omega (arith, c.loop-done-test.true, c.len.ensures, c.len-in-loop-done.ensures, c.requires.from))
     c.loop-done.layer.coins c.in_ok-block.block c.index.result.now c.loop-done.invariant.coins (c.in_ok-block.ensures ∙ c.block.ensures) c.index.ensures in
-    (one.0, coins_after t (place_at places (c.args.low + length undo - (done + 1))), one.1)
+    (one.0, coins_after t (place_at places (c.args.above.now.low + length undo - (done + 1))), one.1)
 
 pub loop-done-preserved : goal.loop-done-preserved
 loop-done-preserved g c =
     let t = c.args.tree.now.blocks in
     let places = c.args.places.now in
-    let undo = c.args.undo.now.items in
+    let undo = c.args.above.now.undo.now.items in
     let done = c.loop-done.done in
-    let one = next_back t places c.requires.branch c.args.low undo c.requires.undo c.requires.inside done c.len-in-loop-done.result
-    (omega (arith, c.len-in-loop-done.ensures, c.args.undo.now.ok)) (omega (arith, c.loop-done-test.true, c.len.ensures, c.len-in-loop-done.ensures, c.requires.from))
+    let one = next_back t places c.requires.branch c.args.above.now.low undo c.requires.above.undo_is c.requires.above.inside done c.len-in-loop-done.result
+    (omega (arith, c.len-in-loop-done.ensures, c.args.above.now.undo.now.ok)) (omega (arith, c.loop-done-test.true, c.len.ensures, c.len-in-loop-done.ensures, c.requires.from))
     c.loop-done.layer.coins c.in_ok-block.block c.index.result.now c.loop-done.invariant.coins (c.in_ok-block.ensures ∙ c.block.ensures) c.index.ensures in
-    let rollback = c.in_ok-layer.ensures one.0 (coins_after t (place_at places (c.args.low + length undo - (done + 1)))) one.1 in
+    let rollback = c.in_ok-layer.ensures one.0 (coins_after t (place_at places (c.args.above.now.low + length undo - (done + 1)))) one.1 in
     record {
       base = ap (λ (l : Layer). l.base) rollback ∙ c.loop-done.invariant.base;
       coins = ap (λ (l : Layer). l.coins) rollback;

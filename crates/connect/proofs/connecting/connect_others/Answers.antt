@@ -18,7 +18,7 @@ use Rattle.connect.proofs.connecting.connect_others.Goals as goal
 
 pub returns-in_err-turned-clause-fault : goal.returns-in_err-turned-clause-fault
 returns-in_err-turned-clause-fault g c =
-    let s = setting c.args.context.now in
+    let s = setting c.args.place.now.context.now in
     let h = s.height in
     let m = c.loop-index.layer.coins in
     let n = c.loop-index.so_far in
@@ -53,7 +53,7 @@ overflow_add-fees g c =
 
 pub loop-index-preserved : goal.loop-index-preserved
 loop-index-preserved g c =
-    let s = setting c.args.context.now in
+    let s = setting c.args.place.now.context.now in
     let h = s.height in
     let m = c.loop-index.layer.coins in
     let n = c.loop-index.so_far in
@@ -96,7 +96,7 @@ loop-index-preserved g c =
 
 pub returns-clause-pass : goal.returns-clause-pass
 returns-clause-pass g c =
-    let s = setting c.args.context.now in
+    let s = setting c.args.place.now.context.now in
     let h = s.height in
     let m = c.loop-index.layer.coins in
     let n = c.loop-index.so_far in

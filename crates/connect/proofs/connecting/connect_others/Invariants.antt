@@ -13,15 +13,15 @@ use Rattle.connect.proofs.connecting.connect_others.Given as goal
 abbrev pub invariant-loop-index : goal.invariant-loop-index
 invariant-loop-index g l = record {
   base : l.layer.base ≡ l.initial.layer.base;
-  below : l.lookup ≡ Above → list_any (overwrites l.layer.base) (drop l.index l.txs) ≡ false;
+  below : l.place.lookup ≡ Above → list_any (overwrites l.layer.base) (drop l.index l.txs) ≡ false;
   lawful : AllByRecursion IsLawful (drop l.index l.txs);
   ids : drop l.index l.ids ≡ ids_of (drop l.index l.txs);
-  rules : first_broken (flat_map (turn_rules (setting l.context)) (turns l.context.height l.layer.coins l.so_far (drop l.index l.txs)))
-      ≡ first_broken (flat_map (turn_rules (setting l.context)) (turns l.context.height l.initial.layer.coins l.initial.so_far l.txs));
-  undo : l.undo ++ map spent_in (turns l.context.height l.layer.coins l.so_far (drop l.index l.txs)) ≡ map spent_in (turns l.context.height l.initial.layer.coins l.initial.so_far l.txs);
-  fees : fold (λ sum turn. sum +ℤ fee turn) l.fees (turns l.context.height l.layer.coins l.so_far (drop l.index l.txs)) ≡ fees (turns l.context.height l.initial.layer.coins l.initial.so_far l.txs);
+  rules : first_broken (flat_map (turn_rules (setting l.place.context.now)) (turns l.place.context.now.height l.layer.coins l.so_far (drop l.index l.txs)))
+      ≡ first_broken (flat_map (turn_rules (setting l.place.context.now)) (turns l.place.context.now.height l.initial.layer.coins l.initial.so_far l.txs));
+  undo : l.undo ++ map spent_in (turns l.place.context.now.height l.layer.coins l.so_far (drop l.index l.txs)) ≡ map spent_in (turns l.place.context.now.height l.initial.layer.coins l.initial.so_far l.txs);
+  fees : fold (λ sum turn. sum +ℤ fee turn) l.fees (turns l.place.context.now.height l.layer.coins l.so_far (drop l.index l.txs)) ≡ fees (turns l.place.context.now.height l.initial.layer.coins l.initial.so_far l.txs);
   few : l.so_far ≤ max_block_sigops;
   low : neg_ℤ (pos (19342813113834066795298816 * l.index)) ≤ℤ l.fees;
   high : l.fees ≤ℤ pos (19342813113834066795298816 * l.index);
-  after : effect l.context.height l.layer.coins (drop l.index l.txs) ≡ effect l.context.height l.initial.layer.coins l.txs;
+  after : effect l.place.context.now.height l.layer.coins (drop l.index l.txs) ≡ effect l.place.context.now.height l.initial.layer.coins l.txs;
 }

@@ -19,26 +19,26 @@ use Rattle.connect.proofs.connecting.connect_txs.Goals as goal
 
 pub returns-then-is_overwriting-clause-fault : goal.returns-then-is_overwriting-clause-fault
 returns-then-is_overwriting-clause-fault g c =
-    at_clash (setting c.args.context.now) c.args.layer.coins c.args.txs.now (sym c.is_overwriting.ensures ∙ c.if-is_overwriting.true)
+    at_clash (setting c.args.place.now.context.now) c.args.layer.coins c.args.txs.now (sym c.is_overwriting.ensures ∙ c.if-is_overwriting.true)
 
 pub connect_tx-requires-clause-below : goal.connect_tx-requires-clause-below
 connect_tx-requires-clause-below g c = λ above.
     let b = c.args.layer.base in
     let xs = c.args.txs.now in
-    let p = parted (setting c.args.context.now) b xs c.index-txs-0.result c.requires.some c.index-txs-0.is in
+    let p = parted (setting c.args.place.now.context.now) b xs c.index-txs-0.result c.requires.some c.index-txs-0.is in
     (none_overwrites b xs c.index-txs-0.result p.parts (ap (λ (m : Coins). list_any (overwrites m) xs) (sym (c.requires.fresh above)) ∙ sym c.is_overwriting.ensures ∙ c.if-is_overwriting.false)).0
 
 pub connect_others-requires-clause-below : goal.connect_others-requires-clause-below
 connect_others-requires-clause-below g c = λ above.
     let b = c.args.layer.base in
     let xs = c.args.txs.now in
-    let p = parted (setting c.args.context.now) b xs c.index-txs-0.result c.requires.some c.index-txs-0.is in
+    let p = parted (setting c.args.place.now.context.now) b xs c.index-txs-0.result c.requires.some c.index-txs-0.is in
     ap (λ (l : Layer). list_any (overwrites l.base) (others xs)) c.in_ok-coinbase.ensures.passes.layer
     ∙ (none_overwrites b xs c.index-txs-0.result p.parts (ap (λ (m : Coins). list_any (overwrites m) xs) (sym (c.requires.fresh above)) ∙ sym c.is_overwriting.ensures ∙ c.if-is_overwriting.false)).1
 
 pub returns-in_err-coinbase-clause-fault : goal.returns-in_err-coinbase-clause-fault
 returns-in_err-coinbase-clause-fault g c =
-    let s = setting c.args.context.now in
+    let s = setting c.args.place.now.context.now in
     let m = c.args.layer.coins in
     let xs = c.args.txs.now in
     let p = parted s m xs c.index-txs-0.result c.requires.some c.index-txs-0.is in
@@ -47,7 +47,7 @@ returns-in_err-coinbase-clause-fault g c =
 
 pub returns-in_err-others-clause-fault : goal.returns-in_err-others-clause-fault
 returns-in_err-others-clause-fault g c =
-    let s = setting c.args.context.now in
+    let s = setting c.args.place.now.context.now in
     let m = c.args.layer.coins in
     let xs = c.args.txs.now in
     let p = parted s m xs c.index-txs-0.result c.requires.some c.index-txs-0.is in
@@ -64,7 +64,7 @@ overpaid s m xs found given reward is taken paid = is ∙ ap₂ (λ y z. int_lt 
 
 pub returns-then-is_overpaid-clause-fault : goal.returns-then-is_overpaid-clause-fault
 returns-then-is_overpaid-clause-fault g c =
-    let s = setting c.args.context.now in
+    let s = setting c.args.place.now.context.now in
     let m = c.args.layer.coins in
     let xs = c.args.txs.now in
     let p = parted s m xs c.index-txs-0.result c.requires.some c.index-txs-0.is in
@@ -78,7 +78,7 @@ returns-then-is_overpaid-clause-fault g c =
 
 pub returns-clause-pass : goal.returns-clause-pass
 returns-clause-pass g c =
-    let s = setting c.args.context.now in
+    let s = setting c.args.place.now.context.now in
     let m = c.args.layer.coins in
     let xs = c.args.txs.now in
     let p = parted s m xs c.index-txs-0.result c.requires.some c.index-txs-0.is in

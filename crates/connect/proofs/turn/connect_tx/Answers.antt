@@ -31,17 +31,17 @@ passing s tx m n id is lawful up =
     record { none = none; can = subst (λ (i : Id). IsApplicable m tx i) (sym is) (applies s (turn tx m n) lawful none) }
 
 pub returns-in_err-layer-clause-fault : goal.returns-in_err-layer-clause-fault
-returns-in_err-layer-clause-fault g c = let h = c.in_err-layer.ensures.fault (setting c.args.context.now) in search rules
+returns-in_err-layer-clause-fault g c = let h = c.in_err-layer.ensures.fault (setting c.args.place.now.context.now) in search rules
 
 pub returns-in-Err-clause-fault : goal.returns-in-Err-clause-fault
 returns-in-Err-clause-fault g c =
-    let s = setting c.args.context.now in
+    let s = setting c.args.place.now.context.now in
     let found = of_slice s c.args.tx.now c.args.layer.coins c.args.counted _ _ c.as_slice-coins.ensures (c.in_ok-layer.ensures.found s) in
     c.in-Err.ensures.fault c.args.layer.coins c.args.counted found
 
 pub returns-in_err-counted-clause-fault : goal.returns-in_err-counted-clause-fault
 returns-in_err-counted-clause-fault g c =
-    let s = setting c.args.context.now in
+    let s = setting c.args.place.now.context.now in
     let m = c.args.layer.coins in
     let n = c.args.counted in
     let found = of_slice s c.args.tx.now m n _ _ c.as_slice-coins.ensures (c.in_ok-layer.ensures.found s) in
@@ -50,7 +50,7 @@ returns-in_err-counted-clause-fault g c =
 
 pub returns-then-overwriting-clause-fault : goal.returns-then-overwriting-clause-fault
 returns-then-overwriting-clause-fault g c =
-    let s = setting c.args.context.now in
+    let s = setting c.args.place.now.context.now in
     let m = c.args.layer.coins in
     let n = c.args.counted in
     let found = of_slice s c.args.tx.now m n _ _ c.as_slice-coins.ensures (c.in_ok-layer.ensures.found s) in
@@ -59,7 +59,7 @@ returns-then-overwriting-clause-fault g c =
 
 pub add_outputs-requires : goal.add_outputs-requires
 add_outputs-requires g c =
-    let s = setting c.args.context.now in
+    let s = setting c.args.place.now.context.now in
     let m = c.args.layer.coins in
     let n = c.args.counted in
     let found = of_slice s c.args.tx.now m n _ _ c.as_slice-coins.ensures (c.in_ok-layer.ensures.found s) in
@@ -69,7 +69,7 @@ add_outputs-requires g c =
 
 pub returns-clause-passes : goal.returns-clause-passes
 returns-clause-passes g c =
-    let s = setting c.args.context.now in
+    let s = setting c.args.place.now.context.now in
     let m = c.args.layer.coins in
     let n = c.args.counted in
     let found = of_slice s c.args.tx.now m n _ _ c.as_slice-coins.ensures (c.in_ok-layer.ensures.found s) in
@@ -78,7 +78,7 @@ returns-clause-passes g c =
     record {
       none = p.none;
       layer = c.in_ok-layer-2.ensures m p.can (ap (λ (l : Layer). l.coins) c.in_ok-layer.ensures.layer)
-          ∙ (λ i. record { base = (c.in_ok-layer.ensures.layer i).base; coins = after m c.args.tx.now (c.requires.id i) c.args.context.now.height });
+          ∙ (λ i. record { base = (c.in_ok-layer.ensures.layer i).base; coins = after m c.args.tx.now (c.requires.id i) c.args.place.now.context.now.height });
       spent = (c.in_ok-layer.ensures.found s).lent;
       fee = to_z-of_z w128 c.in-Ok.fee (search rules) ∙ c.in-Ok.ensures.fee m n found;
       low = search rules;

@@ -6,5 +6,5 @@ abbrev pub invariant-loop : goal.invariant-loop
 invariant-loop g l = record {
   list : l.list.items ≡ opening_passes g.J.Naming.origin l.counter;
   given : l.tokens ≡ l.counter;
-  enough : length l.readers.items ≡ l.seats - l.counter;
+  enough : length l.readers.items ≡ length l.initial.readers.items - l.counter;
 }

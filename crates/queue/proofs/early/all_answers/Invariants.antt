@@ -1,5 +1,5 @@
 use Rattle.std.proofs.Common.{◌≡◌, map, take, Some}
 use Rattle.queue.proofs.early.all_answers.Given as goal
 
-abbrev pub invariant-loop-answer : goal.invariant-loop-answer
-invariant-loop-answer l = map (λ yes. Some yes) l.yeses.items ≡ take l.answer-index l.found
+abbrev pub invariant-loop-slot : goal.invariant-loop-slot
+invariant-loop-slot l = map (λ answer. Some answer) l.list.items ≡ take l.slot-index l.found

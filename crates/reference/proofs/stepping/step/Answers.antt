@@ -2,7 +2,7 @@ use Rattle.std.proofs.Common.{◌≡◌, Some, None, Err, sym, ap, ◌∙◌, su
 use Rattle.block.specs.Decoding.{block_of_bytes, Decodes}
 use Rattle.chain.specs.Commands.{outcome}
 use Rattle.reference.specs.inside.Replayed.{chain_rules, state_of_replayed}
-use Rattle.chain.specs.laws.Outcomes.{submitted, refused, invalidates, reconsiders, prefers}
+use Rattle.chain.specs.laws.Outcomes.{submitted, refused, invalidates, reconsiders, prefers, learns}
 use Rattle.reference.proofs.stepping.step.Goals as goal
 
 pub returns-in_ok-submit-in-Ok-clause-state : goal.returns-in_ok-submit-in-Ok-clause-state
@@ -38,3 +38,9 @@ returns-in_ok-prefer-in-Precious-clause-state c =
     let r = chain_rules c.args.chain.now in
     let s = state_of_replayed c.args.old.now in
     c.in_ok-prefer-in-Precious.ensures.state ∙ prefers r s c.in-Precious.id ∙ ap (outcome r s) (sym c.in-Precious.is)
+
+pub returns-in-Learn-clause-state : goal.returns-in-Learn-clause-state
+returns-in-Learn-clause-state c =
+    let r = chain_rules c.args.chain.now in
+    let s = state_of_replayed c.args.old.now in
+    learns r s c.in-Learn.field-0 c.in-Learn.field-1 ∙ ap (outcome r s) (sym c.in-Learn.is)

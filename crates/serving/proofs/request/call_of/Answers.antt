@@ -103,3 +103,13 @@ pub returns-in-Wait-clause-err : goal.returns-in-Wait-clause-err
 returns-in-Wait-clause-err c =
     subst (λ m. IfErr c.wait.result (λ why. IsNoCall c.args.seats m (given c.args.params.now) why))
     (sym c.in-Wait.is) (c.wait.ensures.err c.args.seats)
+
+pub returns-in-Learn-clause-ok : goal.returns-in-Learn-clause-ok
+returns-in-Learn-clause-ok c =
+    subst (λ m. IfOk c.verdicts.result (λ call. IsCall c.args.seats m (given c.args.params.now) call))
+    (sym c.in-Learn.is) (c.verdicts.ensures.ok c.args.seats)
+
+pub returns-in-Learn-clause-err : goal.returns-in-Learn-clause-err
+returns-in-Learn-clause-err c =
+    subst (λ m. IfErr c.verdicts.result (λ why. IsNoCall c.args.seats m (given c.args.params.now) why))
+    (sym c.in-Learn.is) (c.verdicts.ensures.err c.args.seats)

@@ -10,7 +10,6 @@ use Rattle.tree.specs.inside.Nodes.{AreNodes, IsNode}
 use Rattle.tree.specs.laws.Branches.{parent_here, height_here}
 use Rattle.tree.specs.laws.Parents.{height-place}
 use Rattle.tree.specs.laws.Added.{block_here, id_here, blocks-new}
-use Rattle.tree.specs.laws.Slots.{slot_here}
 use Rattle.tree.proofs.Views.{length-blocks}
 use Rattle.tree.proofs.leaves.node_on.Goals as goal
 
@@ -41,7 +40,7 @@ returns-clause-node c =
     let p = c.args.parent in
     let h = c.requires.kept in
     let k = length-blocks ns (omega arith) in
-    let n : Node = record { block = c.args.block; id = c.args.id; parent = p; height = (get_or ns p c.index-nodes-parent.result).height + 1; median = c.median_on-median.result; slot = c.slot_on-slot.result } in
+    let n : Node = record { block = c.args.block; id = c.args.id; parent = p; height = (get_or ns p c.index-nodes-parent.result).height + 1; median = c.median_on-median.result } in
     let e = height_is ns p c.index-nodes-parent.result c.requires.nodes h in
     let up = height_here (kept_of n) t (omega arith) in
     subst (λ (q : ℕ). IsNode (kept_of n ∷ t) q n) k (record {
@@ -50,5 +49,4 @@ returns-clause-node c =
       parent = sym (parent_here (kept_of n) t (omega arith));
       height = omega arith;
       median = median_new t n c.median_on-median.result (subst (λ (x : ℕ). c.median_on-median.result ≡ median_of (take 11 (x ∷ map time_of (blocks_at names t (branch t p))))) c.time.ensures c.median_on-median.ensures);
-      slot = c.slot_on-slot.ensures ∙ sym (slot_here (kept_of n) t);
     })

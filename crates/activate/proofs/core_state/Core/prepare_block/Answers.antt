@@ -1,5 +1,10 @@
-use Rattle.std.proofs.Common.{◌≡◌, ℕ, suc, ◌<◌, ◌≤◌, length, Option, Some, None, sym, ap, subst, ◌∙◌, arith}
+use Rattle.std.proofs.Common.{◌≡◌, ℕ, suc, ◌<◌, ◌≤◌, length, List, Option, Some, None, refl, sym, ap, subst, ◌∙◌, arith}
+use Rattle.std.specs.Option.{option_copied}
 use Rattle.std.specs.Result.{result_err}
+use Rattle.std.proofs.lemmas.Result.{err_from_is_err_and}
+use Rattle.block.specs.Decoding.{block_of_bytes}
+use Rattle.connect.specs.laws.Stops.{wanted_weaker}
+use Rattle.tree.specs.State.{with_block}
 use Rattle.hash.specs.declared.id.Id.{Id}
 use Rattle.block.specs.declared.block.Block.{Block}
 use Rattle.block.specs.Identity.{id_of}
@@ -10,15 +15,23 @@ use Rattle.tree.specs.Limits.{max_blocks}
 use Rattle.tree.specs.Names.{names}
 use Rattle.tree.specs.laws.Added.{place-bound}
 use Rattle.chain.specs.declared.reply.Reply.TheVariants as reply
-use Rattle.chain.specs.declared.reply.SubmitReply.TheVariants.{Rejected, TreeFull}
+use Rattle.chain.specs.declared.reply.SubmitReply.TheVariants.{DecodeFailed, Rejected, TreeFull}
 use Rattle.chain.specs.Context.{first_fault}
 use Rattle.chain.specs.Submission.{submit_says}
-use Rattle.chain.specs.Step.{Submit, step}
+use Rattle.chain.specs.Commands.{outcome}
+use Rattle.chain.specs.Step.{Submit}
+use Rattle.chain.specs.Submitted.{IsSubmission}
+use Rattle.chain.specs.declared.command.Command.TheVariants as command
+use Rattle.chain.specs.declared.submission.SubmittedBlock.{SubmittedBlock}
 use Rattle.chain.specs.Regtest.{regtest}
 use Rattle.activate.specs.CoreState.{CoreState}
+use Rattle.activate.specs.Wants.{AreWantedBy, AreWantedByStep, IsToSettle}
+use Rattle.activate.proofs.Wanted.{wanted_by}
+use Rattle.chain.specs.laws.Outcomes.{refused, submitted}
 use Rattle.chain.specs.laws.Steps.{step-known, step-full, step-faulty}
-use Rattle.tree.specs.Sound.{IsFresh}
-use Rattle.activate.specs.declared.prepared.TreeChange.TheVariants.{BlockAdded}
+use Rattle.tree.specs.declared.new_block.NewBlock.{NewBlock}
+use Rattle.activate.specs.declared.prepared.Prepared.{Prepared}
+use Rattle.activate.specs.declared.prepared.Edit.TheVariants.{Keep}
 use Rattle.activate.specs.inside.Preparation.{IsPreparationFor}
 use Rattle.activate.proofs.NewBlock.{plan_new}
 use Rattle.activate.proofs.Planned.{plan-still}
@@ -43,68 +56,94 @@ module _ {inside outside : CoreState} (e : inside ≡ outside) (b : Block) {id :
         parent = subst (λ (x : CoreState). place_of names x.state.blocks b.header.prev ≡ Some p) e parent;
       }
 
+-- what a submission holds says what its bytes spell
+held : (bytes : List ℕ) (found told : Option SubmittedBlock) → IsSubmission bytes found → found ≡ told → IsSubmission bytes told
+held bytes found told is e = subst (IsSubmission bytes) e is
+
 pub known-requires : goal.known-requires
 known-requires g c =
     let a : CoreState = c.args.self.now in
-    let found = found_there c.self.view_is c.args.submitted.now.block c.requires.submission.1.id c.find.ensures c.in-Some.is in
-    place-bound names a.state.blocks (id_of c.args.submitted.now.block.header) c.in-Some.place found
+    let found = found_there c.self.view_is c.in-Some.submitted.now.block (held c.args.submission.now _ _ c.block.ensures (ap option_copied c.in-Some.is)).1.id c.find.ensures c.in-Some-find.is in
+    place-bound names a.state.blocks (id_of c.in-Some.submitted.now.block.header) c.in-Some-find.place found
 
-pub returns-in-Some-clause-prepared : goal.returns-in-Some-clause-prepared
-returns-in-Some-clause-prepared g c triples agrees =
+pub returns-in-Some-find-clause-prepared : goal.returns-in-Some-find-clause-prepared
+returns-in-Some-find-clause-prepared g c triples agrees =
     let a : CoreState = c.args.self.now in
     let r = regtest a.params triples in
-    let found = found_there c.self.view_is c.args.submitted.now.block c.requires.submission.1.id c.find.ensures c.in-Some.is in
-    plan-still r a (reply.Submit c.known.result) c.still.result (step r a.state (Submit c.args.now c.args.submitted.now.block)) (c.requires.follows triples agrees).active_is c.still.ensures
-    (ap (submit_says a.state) (c.known.ensures r) ∙ sym (step-known r a.state c.args.now c.args.submitted.now.block c.in-Some.place found))
+    let found = found_there c.self.view_is c.in-Some.submitted.now.block (held c.args.submission.now _ _ c.block.ensures (ap option_copied c.in-Some.is)).1.id c.find.ensures c.in-Some-find.is in
+    plan-still r a (reply.Submit c.known.result) c.still-in-Some-find.result (outcome r a.state (command.Submit c.args.submission.now c.args.now)) (c.requires.follows triples agrees).active_is c.still-in-Some-find.ensures
+    (ap (submit_says a.state) (c.known.ensures r) ∙ sym (step-known r a.state c.args.now c.in-Some.submitted.now.block c.in-Some-find.place found) ∙ submitted r a.state c.args.submission.now c.args.now c.in-Some.submitted.now.block (held c.args.submission.now _ _ c.block.ensures (ap option_copied c.in-Some.is)).0)
 
 pub returns-then-len-ge-MAX_BLOCKS-clause-prepared : goal.returns-then-len-ge-MAX_BLOCKS-clause-prepared
 returns-then-len-ge-MAX_BLOCKS-clause-prepared g c triples agrees =
     let a : CoreState = c.args.self.now in
     let r = regtest a.params triples in
-    let none = found_there c.self.view_is c.args.submitted.now.block c.requires.submission.1.id c.find.ensures c.in_default.is in
+    let none = found_there c.self.view_is c.in-Some.submitted.now.block (held c.args.submission.now _ _ c.block.ensures (ap option_copied c.in-Some.is)).1.id c.find.ensures c.in_default-find.is in
     let t = c.if-len-ge-MAX_BLOCKS.true in
     let e = c.len.ensures.count in
     let full : max_blocks ≤ suc (length c.self.inside.tree.blocks) = omega arith in
-    plan-still r a (reply.Submit TreeFull) c.still-then-len-ge-MAX_BLOCKS.result (step r a.state (Submit c.args.now c.args.submitted.now.block)) (c.requires.follows triples agrees).active_is c.still-then-len-ge-MAX_BLOCKS.ensures
-    (sym (step-full r a.state c.args.now c.args.submitted.now.block none (subst (λ (x : CoreState). max_blocks ≤ suc (length x.state.blocks)) c.self.view_is full)))
+    plan-still r a (reply.Submit TreeFull) c.still-then-len-ge-MAX_BLOCKS.result (outcome r a.state (command.Submit c.args.submission.now c.args.now)) (c.requires.follows triples agrees).active_is c.still-then-len-ge-MAX_BLOCKS.ensures
+    (sym (step-full r a.state c.args.now c.in-Some.submitted.now.block none (subst (λ (x : CoreState). max_blocks ≤ suc (length x.state.blocks)) c.self.view_is full)) ∙ submitted r a.state c.args.submission.now c.args.now c.in-Some.submitted.now.block (held c.args.submission.now _ _ c.block.ensures (ap option_copied c.in-Some.is)).0)
 
 pub returns-in-Err-clause-prepared : goal.returns-in-Err-clause-prepared
 returns-in-Err-clause-prepared g c triples agrees =
     let a : CoreState = c.args.self.now in
     let r = regtest a.params triples in
-    let none = found_there c.self.view_is c.args.submitted.now.block c.requires.submission.1.id c.find.ensures c.in_default.is in
-    let room = room_there c.self.view_is c.args.submitted.now.block c.requires.submission.1.id c.find.ensures c.in_default.is c.len.ensures.count (let t = c.if-len-ge-MAX_BLOCKS.false in omega arith) in
-    let inside : first_fault (regtest c.self.inside.params triples) c.self.inside.tree c.args.now c.args.submitted.now.block ≡ Some c.in-Err.reason =
-    sym (subst (λ o. result_err o ≡ first_fault (regtest c.self.inside.params triples) c.self.inside.tree c.args.now c.args.submitted.now.block) c.in-Err.is (c.fault_or_parent.ensures.fault triples)) in
-    let fault : first_fault r a.state c.args.now c.args.submitted.now.block ≡ Some c.in-Err.reason = subst (λ (x : CoreState). first_fault (regtest x.params triples) x.state c.args.now c.args.submitted.now.block ≡ Some c.in-Err.reason) c.self.view_is inside in
-    plan-still r a (reply.Submit (Rejected c.in-Err.reason)) c.still-in-Err.result (step r a.state (Submit c.args.now c.args.submitted.now.block)) (c.requires.follows triples agrees).active_is c.still-in-Err.ensures
-    (sym (step-faulty r a.state c.args.now c.args.submitted.now.block c.in-Err.reason none room fault))
+    let none = found_there c.self.view_is c.in-Some.submitted.now.block (held c.args.submission.now _ _ c.block.ensures (ap option_copied c.in-Some.is)).1.id c.find.ensures c.in_default-find.is in
+    let room = room_there c.self.view_is c.in-Some.submitted.now.block (held c.args.submission.now _ _ c.block.ensures (ap option_copied c.in-Some.is)).1.id c.find.ensures c.in_default-find.is c.len.ensures.count (let t = c.if-len-ge-MAX_BLOCKS.false in omega arith) in
+    let inside : first_fault (regtest c.self.inside.params triples) c.self.inside.tree c.args.now c.in-Some.submitted.now.block ≡ Some c.in-Err.reason =
+    sym (subst (λ o. result_err o ≡ first_fault (regtest c.self.inside.params triples) c.self.inside.tree c.args.now c.in-Some.submitted.now.block) c.in-Err.is (c.fault_or_parent.ensures.fault triples)) in
+    let fault : first_fault r a.state c.args.now c.in-Some.submitted.now.block ≡ Some c.in-Err.reason = subst (λ (x : CoreState). first_fault (regtest x.params triples) x.state c.args.now c.in-Some.submitted.now.block ≡ Some c.in-Err.reason) c.self.view_is inside in
+    plan-still r a (reply.Submit (Rejected c.in-Err.reason)) c.still-in-Err.result (outcome r a.state (command.Submit c.args.submission.now c.args.now)) (c.requires.follows triples agrees).active_is c.still-in-Err.ensures
+    (sym (step-faulty r a.state c.args.now c.in-Some.submitted.now.block c.in-Err.reason none room fault) ∙ submitted r a.state c.args.submission.now c.args.now c.in-Some.submitted.now.block (held c.args.submission.now _ _ c.block.ensures (ap option_copied c.in-Some.is)).0)
 
 pub settle_new-requires-clause-new : goal.settle_new-requires-clause-new
 settle_new-requires-clause-new g c = (
   c.args.now,
-  λ triples agrees. new_there c.self.view_is c.args.submitted.now.block c.requires.submission.1.id c.find.ensures c.in_default.is c.len.ensures.count (let t = c.if-len-ge-MAX_BLOCKS.false in omega arith)
+  λ triples agrees. new_there c.self.view_is c.in-Some.submitted.now.block (held c.args.submission.now _ _ c.block.ensures (ap option_copied c.in-Some.is)).1.id c.find.ensures c.in_default-find.is c.len.ensures.count (let t = c.if-len-ge-MAX_BLOCKS.false in omega arith)
       triples c.args.now c.in-Ok.parent (c.in-Ok.ensures.fault triples) c.in-Ok.ensures.parent,
 )
 
-pub add-requires-clause-parent : goal.add-requires-clause-parent
-add-requires-clause-parent g c =
-    let triples = g.S.RunsScripts.agreeing c.args.env.now in
+pub returns-in_ok-copy-in-Ok-clause-prepared : goal.returns-in_ok-copy-in-Ok-clause-prepared
+returns-in_ok-copy-in-Ok-clause-prepared g c triples agrees =
     let a : CoreState = c.args.self.now in
-    let b = c.args.submitted.now.block in
-    let is = new_there c.self.view_is b c.requires.submission.1.id c.find.ensures c.in_default.is c.len.ensures.count (let t = c.if-len-ge-MAX_BLOCKS.false in omega arith)
+    let b = c.in-Some.submitted.now.block in
+    let s = c.in_ok-settled-in-Ok.settled in
+    let is = new_there c.self.view_is b (held c.args.submission.now _ _ c.block.ensures (ap option_copied c.in-Some.is)).1.id c.find.ensures c.in_default-find.is c.len.ensures.count (let t = c.if-len-ge-MAX_BLOCKS.false in omega arith)
     triples c.args.now c.in-Ok.parent (c.in-Ok.ensures.fault triples) c.in-Ok.ensures.parent in
-    place-bound names a.state.blocks b.header.prev c.in-Ok.parent is.parent
+    let block_is = c.of-block.ensures in
+    let new : NewBlock = record { block = c.of-block.result; id = c.in-Some.submitted.now.id; parent = c.in-Ok.parent } in
+    let prepared : Prepared = record { reply = reply.Submit s.said; edit = Keep new; rest = s.rest; changes = s.changes } in
+    subst (λ o. IsPreparationFor (regtest a.params triples) a o prepared) (submitted (regtest a.params triples) a.state c.args.submission.now c.args.now b (held c.args.submission.now _ _ c.block.ensures (ap option_copied c.in-Some.is)).0)
+    (plan_new triples a (c.requires.follows triples agrees) c.args.now b c.in-Ok.parent is s (c.in_ok-settled-in-Ok.ensures.settled triples agrees) new
+    (record {
+      room = is.room;
+      id = (held c.args.submission.now _ _ c.block.ensures (ap option_copied c.in-Some.is)).1.id ∙ ap (λ (x : Block). id_of x.header) (sym block_is);
+      parent = place-bound names a.state.blocks b.header.prev c.in-Ok.parent is.parent;
+    }) block_is refl)
 
-pub returns-in_ok-add-in-Ok-clause-prepared : goal.returns-in_ok-add-in-Ok-clause-prepared
-returns-in_ok-add-in-Ok-clause-prepared g c triples agrees =
+pub returns-in_default-clause-prepared : goal.returns-in_default-clause-prepared
+returns-in_default-clause-prepared g c triples agrees =
     let a : CoreState = c.args.self.now in
     let r = regtest a.params triples in
-    let b = c.args.submitted.now.block in
-    let s = c.in_ok-settled-in-Ok.settled in
-    let is = new_there c.self.view_is b c.requires.submission.1.id c.find.ensures c.in_default.is c.len.ensures.count (let t = c.if-len-ge-MAX_BLOCKS.false in omega arith)
-    triples c.args.now c.in-Ok.parent (c.in-Ok.ensures.fault triples) c.in-Ok.ensures.parent in
-    let kept = c.in_ok-add-in-Ok.ensures.ok in
-    subst (λ (x : CoreState). IsPreparationFor r a (step r a.state (Submit c.args.now b)) x (record { reply = reply.Submit s.said; first = BlockAdded; rest = s.rest; changes = s.changes })) (sym kept)
-    (plan_new triples a (c.requires.follows triples agrees) c.args.now b c.in-Ok.parent is s (c.in_ok-settled-in-Ok.ensures.settled triples agrees)
-    (subst (λ (x : CoreState). IsFresh names x.state) kept c.in_ok-add-in-Ok.ensures.fresh))
+    let e : block_of_bytes c.args.submission.now ≡ None = held c.args.submission.now _ None c.block.ensures (ap option_copied c.in_default.is) in
+    plan-still r a (reply.Submit DecodeFailed) c.still.result (outcome r a.state (command.Submit c.args.submission.now c.args.now)) (c.requires.follows triples agrees).active_is c.still.ensures
+    (refused r a.state c.args.submission.now c.args.now e)
+
+pub returns-in_err-settled-in-Ok-clause-wants : goal.returns-in_err-settled-in-Ok-clause-wants
+returns-in_err-settled-in-Ok-clause-wants g c =
+    let a : CoreState = c.args.self.now in
+    let known = g.S.RunsScripts.known c.args.env.now in
+    let bytes = c.args.submission.now in
+    let now = c.args.now in
+    let b = c.in-Some.submitted.now.block in
+    let h = (held c.args.submission.now _ _ c.block.ensures (ap option_copied c.in-Some.is)) in
+    let passed = err_from_is_err_and c.from_residual.result c.from_residual.ensures.1 in
+    let changed : IsToSettle a known (Submit now b) (with_block a.state b c.in-Ok.parent) = (
+      c.in-Ok.parent,
+      (λ triples agrees. new_there c.self.view_is b h.1.id c.find.ensures c.in_default-find.is c.len.ensures.count (let t = c.if-len-ge-MAX_BLOCKS.false in omega arith)
+          triples now c.in-Ok.parent (c.in-Ok.ensures.fault triples) c.in-Ok.ensures.parent),
+      refl,
+    ) in
+    rw (passed.1, passed.2) (wanted_weaker (AreWantedBy a (Submit now b) known) (AreWantedByStep a (command.Submit bytes now) known) (λ list w. (b, h.0, w)) _
+    (wanted_by a (Submit now b) known _ changed _ c.in_err-settled-in-Ok.ensures.wants))

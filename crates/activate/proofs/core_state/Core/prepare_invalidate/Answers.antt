@@ -58,7 +58,7 @@ returns-clause-prepared g c =
     if_ok c.settle_marks.result
     (λ (prepared : Prepared) x triples agrees.
     let r = regtest a.params triples in
-    subst (λ t. IsPreparationFor r a t a prepared) (invalidate_done a.params triples a.state c.args.id.now p found m (settle r m) (omega arith) state refl) (x triples agrees))
+    subst (λ t. IsPreparationFor r a t prepared) (invalidate_done a.params triples a.state c.args.id.now p found m (settle r m) (omega arith) state refl) (x triples agrees))
     c.settle_marks.ensures.prepared
 
 pub returns-clause-wants : goal.returns-clause-wants

@@ -1,5 +1,5 @@
 use Rattle.std.specs.Prelude.{IfSome}
-use Rattle.std.proofs.Common.{◌≡◌, ℕ, ◌<◌, ◌≤◌, length, refl, sym, subst, ◌∙◌}
+use Rattle.std.proofs.Common.{◌≡◌, ℕ, ◌<◌, ◌≤◌, length, sym, subst, ◌∙◌}
 use Rattle.hash.specs.declared.id.Id.{Id}
 use Rattle.block.specs.declared.block.Block.{Block}
 use Rattle.tree.specs.Branches.{Blocks}
@@ -67,7 +67,7 @@ returns-in-Succeeds-clause-prepared g c triples agrees =
     let r = regtest a.params triples in
     let moves : LeadsTo r a.state.blocks a.active p c.in-Succeeds.found = subst (λ (x : Attempt). IsAttempt r a.state.blocks a.active p x) c.in-Succeeds.is (c.in_ok-found.ensures.attempt triples agrees) in
     plan-marks r a c.args.overlay c.tries.overlay p c.in-Succeeds.found c.into_marks-marks.result (c.requires.can triples agrees) c.requires.other (c.tries.invariant triples agrees)
-    c.best_usable-place.ensures moves c.into_marks-marks.ensures.are c.into_marks-marks.ensures.laid _ refl refl refl refl
+    c.best_usable-place.ensures moves c.into_marks-marks.ensures.are c.into_marks-marks.ensures.laid
 
 pub flag_failed_try-requires : goal.flag_failed_try-requires
 flag_failed_try-requires g c =

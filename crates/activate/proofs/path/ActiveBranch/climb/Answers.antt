@@ -1,4 +1,4 @@
-use Rattle.std.proofs.Common.{◌≡◌, ℕ, ◌+◌, ◌≤◌, List, length, reverse, take, Result, Ok, Err, IfOk, IfErr, sym, ap, ◌∙◌, subst, arith}
+use Rattle.std.proofs.Common.{◌≡◌, ℕ, ◌+◌, ◌≤◌, List, length, reverse, take, Result, Ok, Err, IfOk, IfErr, refl, sym, ap, ◌∙◌, subst, arith}
 use Rattle.block.specs.declared.block.Block.{Block}
 use Rattle.tree.specs.Branches.{Blocks, branch, on}
 use Rattle.tree.specs.laws.Above.{above}
@@ -58,6 +58,13 @@ err_map : {T E : Type 0} {P Q : E → Type 0} (r : Result T E) → ((x : E) → 
 err_map (Ok x) f h = tt
 err_map (Err e) f h = f e h
 
+pub disconnect_to_fork-requires-clause-active : goal.disconnect_to_fork-requires-clause-active
+disconnect_to_fork-requires-clause-active g c = record {
+  kept = c.requires.active.kept;
+  branch = c.requires.active.branch;
+  coins_are = c.over.ensures.coins ∙ c.requires.active.coins_are;
+}
+
 pub disconnect_to_fork-requires-clause-connected : goal.disconnect_to_fork-requires-clause-connected
 disconnect_to_fork-requires-clause-connected g c =
     let b = c.args.self.now in
@@ -79,17 +86,21 @@ connect_up-requires-clause-path g c =
 pub connect_up-requires-clause-kept : goal.connect_up-requires-clause-kept
 connect_up-requires-clause-kept g c triples agrees = (c.requires.valid triples agrees).all
 
-pub connect_up-requires-clause-good : goal.connect_up-requires-clause-good
-connect_up-requires-clause-good g c triples agrees =
+pub connect_up-requires-clause-start : goal.connect_up-requires-clause-start
+connect_up-requires-clause-start g c triples agrees =
     let b = c.args.self.now in
-    valid_below (regtest b.params.now triples) b.tree.now.blocks b.active c.in_ok-path.path.fork (c.requires.valid triples agrees).good c.in_ok-path.ensures.path.shared.here
-
-pub connect_up-requires-clause-medians : goal.connect_up-requires-clause-medians
-connect_up-requires-clause-medians g c =
-    let b = c.args.self.now in
-    c.lent-medians.ensures
-    ∙ ap (take (c.in_ok-path.path.height + 1)) c.requires.active.branch.medians_are
-    ∙ shared b.tree.now.blocks b.active c.args.place c.in_ok-path.path c.in_ok-path.ensures.path c.requires.active.kept
+    record {
+      good = valid_below (regtest b.params.now triples) b.tree.now.blocks b.active c.in_ok-path.path.fork (c.requires.valid triples agrees).good c.in_ok-path.ensures.path.shared.here;
+      spent = c.new.ensures.items;
+      applied = record {
+        left = c.in_ok-layer.ensures.coins;
+        base_is = refl;
+        medians_are =
+            c.lent-medians.ensures
+            ∙ ap (take (c.in_ok-path.path.height + 1)) c.requires.active.branch.medians_are
+            ∙ shared b.tree.now.blocks b.active c.args.place c.in_ok-path.path c.in_ok-path.ensures.path c.requires.active.kept;
+      };
+    }
 
 pub returns-in_err-answer-clause-wants : goal.returns-in_err-answer-clause-wants
 returns-in_err-answer-clause-wants g c =
@@ -107,9 +118,11 @@ returns-clause-top g c =
     record {
       good = of.good;
       spent = of.spent;
-      left = of.left;
-      base_is = of.base_is ∙ c.in_ok-layer.ensures.base ∙ c.over.ensures.below;
-      medians_are = of.medians_are;
+      applied = record {
+        left = of.applied.left;
+        base_is = of.applied.base_is ∙ c.in_ok-layer.ensures.base ∙ c.over.ensures.below;
+        medians_are = of.applied.medians_are;
+      };
     }) c.in_ok-answer.ensures.top
 
 pub returns-clause-stops : goal.returns-clause-stops

@@ -22,8 +22,8 @@ returns-in-Ok-clause-attempt g c triples agrees =
     let changes = c.into_changes-changes.result in
     let top : IsTop r t path.fork path.up.items (g.B.Base.coins c.args.base.now) ascent.undo.items ascent.layer ascent.medians = ok_part _ _ _ c.in-Ok.is c.in_ok-path.ensures.top triples agrees in
     let e : top_of path.fork path.up.items ≡ c.args.place = ap (top_of path.fork) w.up ∙ top-above t path.fork c.args.place c.requires.place w.shared.there in
-    let after : ascent.layer.coins ≡ coins_after t c.args.place = top.left ∙ ap (coins_after t) e in
-    let below : ascent.layer.base ≡ coins_after t b.active = top.base_is ∙ c.requires.active.coins_are in
+    let after : ascent.layer.coins ≡ coins_after t c.args.place = top.applied.left ∙ ap (coins_after t) e in
+    let below : ascent.layer.base ≡ coins_after t b.active = top.applied.base_is ∙ c.requires.active.coins_are in
     record {
       path = w;
       good = ap (branch_connects r t) (sym e) ∙ top.good;

@@ -72,11 +72,11 @@ returns-in_err-layer-clause-wants g c =
     let ascent = c.in-Ok.ascent in
     let top : IsTop r t path.fork path.up.items (g.B.Base.coins c.args.base.now) ascent.undo.items ascent.layer ascent.medians = ok_part _ _ _ c.in-Ok.is c.in_ok-path.ensures.top triples agrees in
     let e : top_of path.fork path.up.items ≡ p = ap (top_of path.fork) w.up ∙ top-above t path.fork p c.requires.parent w.shared.there in
-    let place = setting-tip b.params.now t p _ c.requires.parent (ap (λ (n : ℕ). n + 1) c.height.ensures.value) c.median.ensures (c.as_slice.ensures ∙ top.medians_are ∙ ap (λ (q : ℕ). reverse (medians_of (branch_blocks t q))) e) refl in
+    let place = setting-tip b.params.now t p _ c.requires.parent (ap (λ (n : ℕ). n + 1) c.height.ensures.value) c.median.ensures (c.as_slice.ensures ∙ top.applied.medians_are ∙ ap (λ (q : ℕ). reverse (medians_of (branch_blocks t q))) e) refl in
     let passed = err_from_is_err_and c.from_residual-in_err-layer.result c.from_residual-in_err-layer.ensures.1 in
     rw (passed.1, passed.2) (wanted_weaker (AreWantedAt b.params.now (k ∷ t) known (suc (length t))) (AreWantedOnWay b.params.now (k ∷ t) b.active (suc (length t)) known)
     (wanted_own k t c.requires.parent b.active c.requires.active.kept b.params.now known) _
-    (wanted_new b.params.now known b.tree.now k.block p c.requires.parent _ _ place (top.left ∙ ap (coins_after t) e) _ c.in_err-layer.ensures.stops))
+    (wanted_new b.params.now known b.tree.now k.block p c.requires.parent _ _ place (top.applied.left ∙ ap (coins_after t) e) _ c.in_err-layer.ensures.stops))
 
 pub returns-in_err-append-in-Ok-2-clause-wants : goal.returns-in_err-append-in-Ok-2-clause-wants
 returns-in_err-append-in-Ok-2-clause-wants g c =
@@ -100,8 +100,8 @@ returns-in_ok-append-in-Ok-2-clause-attempt g c triples agrees =
     let top : IsTop r t path.fork path.up.items (g.B.Base.coins c.args.base.now) ascent.undo.items ascent.layer ascent.medians = ok_part _ _ _ c.in-Ok.is c.in_ok-path.ensures.top triples agrees in
     let e : top_of path.fork path.up.items ≡ p = ap (top_of path.fork) w.up ∙ top-above t path.fork p c.requires.parent w.shared.there in
     let tall : c.height.result + 1 ≡ height t p + 1 = ap (λ (n : ℕ). n + 1) c.height.ensures.value in
-    let medians = c.as_slice.ensures ∙ top.medians_are ∙ ap (λ (q : ℕ). reverse (medians_of (branch_blocks t q))) e in
-    let coins : ascent.layer.coins ≡ coins_after t p = top.left ∙ ap (coins_after t) e in
+    let medians = c.as_slice.ensures ∙ top.applied.medians_are ∙ ap (λ (q : ℕ). reverse (medians_of (branch_blocks t q))) e in
+    let coins : ascent.layer.coins ≡ coins_after t p = top.applied.left ∙ ap (coins_after t) e in
     let s : Setting = record { height = c.height.result + 1; cutoff = c.median.result; medians = c.as_slice.result.now; rules = at b.params.now (c.height.result + 1) } in
     let place : s ≡ setting_on b.params.now (branch_blocks t p) = setting-tip b.params.now t p s c.requires.parent tall c.median.ensures medians refl in
     let fault = (fault-found s ascent.layer.coins k.block.txs triples None).0 (subst (λ a. IsConnectFault s ascent.layer.coins k.block.txs triples (result_err a)) c.in-Ok-2.is (c.in_ok-layer.ensures.fault triples agrees)) in
@@ -116,7 +116,7 @@ returns-in_ok-append-in-Ok-2-clause-attempt g c triples agrees =
     (c.in_ok-append-in-Ok-2.ensures ∙ undo_grown k t c.requires.parent b.active c.requires.active.kept path w ascent.undo.items c.in-Ok-2.spent top.spent
     (done.spent ∙ ap (λ (h : ℕ). at_new h ascent.layer.coins) tall ∙ ap (at_new (height t p + 1)) coins))
     c.in-Ok-2.layer.base c.in-Ok-2.layer.coins
-    (ap (λ (l : Layer). l.base) left ∙ top.base_is ∙ c.requires.active.coins_are)
+    (ap (λ (l : Layer). l.base) left ∙ top.applied.base_is ∙ c.requires.active.coins_are)
     (done.after ∙ ap (λ (h : ℕ). effect h ascent.layer.coins k.block.txs) tall ∙ ap (λ (m : Coins). effect (height t p + 1) m k.block.txs) coins)
     c.into_changes-changes.ensures.differences c.into_changes-changes.ensures.laid
 
@@ -133,8 +133,8 @@ returns-in-Err-2-clause-attempt g c triples agrees =
     let top : IsTop r t path.fork path.up.items (g.B.Base.coins c.args.base.now) ascent.undo.items ascent.layer ascent.medians = ok_part _ _ _ c.in-Ok.is c.in_ok-path.ensures.top triples agrees in
     let e : top_of path.fork path.up.items ≡ p = ap (top_of path.fork) w.up ∙ top-above t path.fork p c.requires.parent w.shared.there in
     let tall : c.height.result + 1 ≡ height t p + 1 = ap (λ (n : ℕ). n + 1) c.height.ensures.value in
-    let medians = c.as_slice.ensures ∙ top.medians_are ∙ ap (λ (q : ℕ). reverse (medians_of (branch_blocks t q))) e in
-    let coins : ascent.layer.coins ≡ coins_after t p = top.left ∙ ap (coins_after t) e in
+    let medians = c.as_slice.ensures ∙ top.applied.medians_are ∙ ap (λ (q : ℕ). reverse (medians_of (branch_blocks t q))) e in
+    let coins : ascent.layer.coins ≡ coins_after t p = top.applied.left ∙ ap (coins_after t) e in
     let s : Setting = record { height = c.height.result + 1; cutoff = c.median.result; medians = c.as_slice.result.now; rules = at b.params.now (c.height.result + 1) } in
     let place : s ≡ setting_on b.params.now (branch_blocks t p) = setting-tip b.params.now t p s c.requires.parent tall c.median.ensures medians refl in
     let reason = c.in-Err-2.reason in

@@ -26,4 +26,4 @@ returns-in-Ok-false-clause-due g c =
     let left : List Publication = drop c.publish-writer.result.0.behind c.publish-writer.result.0.log.items in
     let same : y ≡ x = rw (c.in-Ok-false.is, c.in-Ok-false.field-0-test) at c.publish-writer.ensures.shown in
     let grown : left ≡ pending ++ c.args.publication ∷ [] = rw (c.in-Ok-false.is, c.in-Ok-false.field-0-test) at c.publish-writer.ensures.pending in
-    due_then c.args.publication.is_new x y pending left _ c.args.publication.changes c.args.publication c.requires.due c.requires.follows c.requires.before refl same grown
+    due_then c.args.publication.is_new x y pending left _ c.args.publication.changes c.args.publication c.requires.due c.requires.follows (sym c.requires.shown.journal_is) refl same grown

@@ -1,4 +1,4 @@
-use Rattle.std.proofs.Common.{◌≡◌, ℕ, List, [], ◌∷◌, ◌++◌, take, drop, map, Option, Some, None, refl, ap, sym, ◌∙◌, subst, arith, take_all}
+use Rattle.std.proofs.Common.{◌≡◌, ℕ, List, [], ◌∷◌, ◌++◌, take, drop, map, Option, Some, None, inr, refl, ap, sym, ◌∙◌, subst, arith, take_all}
 use Rattle.std.specs.Prelude.{IfSome}
 use Rattle.std.proofs.lemmas.List.{append-nil}
 use mathlib.Core.List.{IsPrefix}
@@ -21,18 +21,18 @@ found_before : (P Q : Beginning → Type 0) (o : Origin) (before : Option Beginn
 found_before P Q o (Some b) n c seen r p q s = (b, p, q, s)
 found_before P Q o None n c seen r p q s = absurd s
 
-pub returns-clause-later : goal.returns-clause-later
-returns-clause-later g c =
+pub returns-in-Ok-Some-clause-later : goal.returns-in-Ok-Some-clause-later
+returns-in-Ok-Some-clause-later g c =
     let s = c.self.inside in
     let k : Command = command_of c.args.command.now in
-    let r = c.in-Some.reply in
+    let r = c.in-Ok-Some.reply in
     let m = c.number-number.result in
     let P : Beginning → Type 0 = λ b. IsPrefix s.seen.entries b.entries in
     let Q : Beginning → Type 0 = λ b. own_of m (drop s.answered b.entries) ≡ map (owed_entry m) c.as_slice-owed.result.now in
-    let behind : IsSeenBehind g.J.Naming.origin c.look_before-before.result s.token k c.in-Some.seen r = rw c.in-Some.is at c.in_ok-seen.ensures.seen in
-    let did = found_before P Q g.J.Naming.origin c.look_before-before.result s.token k c.in-Some.seen r c.look_before-before.ensures.grows c.look_before-before.ensures.own behind in
+    let behind : IsSeenBehind g.J.Naming.origin c.look_before-before.result s.token k c.in-Ok-Some.seen r = rw c.in-Ok-Some.field-0-is at c.in-Ok-Some.ensures.seen in
+    let did = found_before P Q g.J.Naming.origin c.look_before-before.result s.token k c.in-Ok-Some.seen r c.look_before-before.ensures.grows c.look_before-before.ensures.own behind in
     let e : Entry = entry_of s.token k (Some r) in
-    let whole : IsPrefix s.seen.entries c.in-Some.seen.entries = begins_whole _ _ _ did.1 (e ∷ [], sym did.3.last_is) in
+    let whole : IsPrefix s.seen.entries c.in-Ok-Some.seen.entries = begins_whole _ _ _ did.1 (e ∷ [], sym did.3.last_is) in
     rw (← c.self.view_is) (record {
       number = refl;
       origin = refl;
@@ -40,19 +40,19 @@ returns-clause-later g c =
       legal = did.3.legal;
     })
 
-pub returns-clause-answer : goal.returns-clause-answer
-returns-clause-answer g c =
+pub returns-in-Ok-Some-clause-answer : goal.returns-in-Ok-Some-clause-answer
+returns-in-Ok-Some-clause-answer g c =
     let s = c.self.inside in
     let n = s.token in
     let k : Command = command_of c.args.command.now in
-    let r = c.in-Some.reply in
-    let all = c.in-Some.seen.entries in
+    let r = c.in-Ok-Some.reply in
+    let all = c.in-Ok-Some.seen.entries in
     let at = c.len-at.result in
     let m = c.number-number.result in
     let P : Beginning → Type 0 = λ b. IsPrefix s.seen.entries b.entries in
     let Q : Beginning → Type 0 = λ b. own_of m (drop s.answered b.entries) ≡ map (owed_entry m) c.as_slice-owed.result.now in
-    let behind : IsSeenBehind g.J.Naming.origin c.look_before-before.result n k c.in-Some.seen r = rw c.in-Some.is at c.in_ok-seen.ensures.seen in
-    let did = found_before P Q g.J.Naming.origin c.look_before-before.result n k c.in-Some.seen r c.look_before-before.ensures.grows c.look_before-before.ensures.own behind in
+    let behind : IsSeenBehind g.J.Naming.origin c.look_before-before.result n k c.in-Ok-Some.seen r = rw c.in-Ok-Some.field-0-is at c.in-Ok-Some.ensures.seen in
+    let did = found_before P Q g.J.Naming.origin c.look_before-before.result n k c.in-Ok-Some.seen r c.look_before-before.ensures.grows c.look_before-before.ensures.own behind in
     let xs = did.0.entries in
     let found : own_of m (drop s.answered xs) ≡ map (owed_entry m) c.as_slice-owed.result.now = did.2 in
     let rest : own_of n (drop s.answered xs) ≡ map (owed_entry n) s.owed.items =
@@ -64,34 +64,8 @@ returns-clause-answer g c =
     let whole : own_of n (take at all) ≡ own_of n all = ap (own_of n) (take_all at all (omega (arith, c.len-at.ensures))) in
     rw (← c.self.view_is) (answer_step _ _ k at r did.3.step_is did.3.reply_is (record { last = (xs, did.3.last_is, did.1); at_is = c.len-at.ensures; mine_is = none ∙ whole ∙ own; own_is = sym (none ∙ whole) }))
 
-pub returns-in_err-asked-clause-later : goal.returns-in_err-asked-clause-later
-returns-in_err-asked-clause-later g c =
-    let s = c.self.inside in
-    rw (← c.self.view_is) (record { number = refl; origin = refl; grows = ([], append-nil s.seen.entries); legal = c.self.invariant.0.legal })
+pub returns-in-Ok-Some-clause-own : goal.returns-in-Ok-Some-clause-own
+returns-in-Ok-Some-clause-own g c = let s = c.self.inside in own_begins s.token c.len-at.result c.in-Ok-Some.seen.entries c.clear.new.self.items
 
-pub returns-in_err-asked-clause-own : goal.returns-in_err-asked-clause-own
-returns-in_err-asked-clause-own g c = let s = c.self.inside in own_begins s.token s.answered s.seen.entries c.ready_command.new.owed.items
-
-pub returns-then-is_undecodable-clause-later : goal.returns-then-is_undecodable-clause-later
-returns-then-is_undecodable-clause-later g c =
-    let s = c.self.inside in
-    rw (← c.self.view_is) (record { number = refl; origin = refl; grows = ([], append-nil s.seen.entries); legal = c.self.invariant.0.legal })
-
-pub returns-then-is_undecodable-clause-own : goal.returns-then-is_undecodable-clause-own
-returns-then-is_undecodable-clause-own g c = let s = c.self.inside in own_begins s.token s.answered s.seen.entries c.ready_command.new.owed.items
-
-pub returns-in_err-seen-clause-later : goal.returns-in_err-seen-clause-later
-returns-in_err-seen-clause-later g c =
-    let s = c.self.inside in
-    rw (← c.self.view_is) (record { number = refl; origin = refl; grows = ([], append-nil s.seen.entries); legal = c.self.invariant.0.legal })
-
-pub returns-in_err-seen-clause-own : goal.returns-in_err-seen-clause-own
-returns-in_err-seen-clause-own g c = let s = c.self.inside in own_begins s.token s.answered s.seen.entries c.ready_command.new.owed.items
-
-pub returns-in_default-clause-later : goal.returns-in_default-clause-later
-returns-in_default-clause-later g c =
-    let s = c.self.inside in
-    rw (← c.self.view_is) (record { number = refl; origin = refl; grows = ([], append-nil s.seen.entries); legal = c.self.invariant.0.legal })
-
-pub returns-clause-own : goal.returns-clause-own
-returns-clause-own g c = let s = c.self.inside in own_begins s.token c.len-at.result c.in-Some.seen.entries c.clear.new.self.items
+pub returns-clause-held : goal.returns-clause-held
+returns-clause-held g c = c.want.ensures.left c.args.history.now c.step_and_look.new.history _ _ (inr (c.in-Err-Unknown.ensures.refused.0 ∙ c.in_ok-asked.ensures.shown))

@@ -1,10 +1,12 @@
 use Rattle.std.proofs.Common.{rules, ◌≡◌, ◌<◌, Option, Some, get_or, length, refl, sym, ap, ◌∙◌, subst}
-use Rattle.std.specs.Prelude.{IfSome, slice_get}
+use Rattle.std.specs.Prelude.{IfSome, IsSome, slice_get}
 use Rattle.std.proofs.lemmas.Option.{slice_get_read}
 use Rattle.queue.specs.declared.verdict_index.Slot.{Slot}
-use Rattle.queue.specs.Jobs.{Answered, Batch, Spending, questions}
+use Rattle.interp.specs.Question.{question_of}
+use Rattle.queue.specs.Early.{answer_at}
+use Rattle.queue.specs.Jobs.{Answered, Batch, Spending, answers_to, known_then, questions}
 use Rattle.queue.specs.inside.Pairing.{IsOfSame}
-use Rattle.queue.proofs.Pairs.{fits_like, some_is}
+use Rattle.queue.proofs.Pairs.{fits_by, fits_like, some_is}
 use Rattle.queue.proofs.verdict_index.Index.fits.Goals as goal
 
 pub returns-in-Some-before : goal.returns-in-Some-before
@@ -23,12 +25,10 @@ returns-in-Some-before c t =
     let lent : c.jobs.result.now ≡ own.batch = c.jobs.ensures in
     let lent_again : c.jobs-in-Some-before.result.now ≡ own.batch = c.jobs-in-Some-before.ensures in
     let one : (a b : Spending) → slice_get own.batch.spendings other.place ≡ Some a → slice_get own.batch.spendings slot.place ≡ Some b → a.place ≡ b.place = subst (λ (x : Batch). (a b : Spending) → slice_get x.spendings other.place ≡ Some a → slice_get x.spendings slot.place ≡ Some b → a.place ≡ b.place) lent (c.are_of_one.ensures c.if-are_of_one.true) in
-    record {
-      own = own;
-      there = there;
-      asked = fits_like own.batch other.place slot.place before.0 job (subst (λ (a : Answered). slice_get (questions a.batch) other.place ≡ Some before.0) its before.1.asked) before.2 one
-          (subst (λ (x : Batch). (s : Spending) × (slice_get x.spendings slot.place ≡ Some s) × (s.input ≡ job.input) × (s.spent ≡ job.spent.now) × (x.flags ≡ job.flags)) lent_again (c.asks_but_for_tx.ensures.0 t));
-    }
+    let asked : slice_get (questions own.batch) slot.place ≡ Some (question_of job) = fits_like own.batch other.place slot.place before.0 job (subst (λ (a : Answered). slice_get (questions a.batch) other.place ≡ Some before.0) its before.1.asked) before.2 one
+    (subst (λ (x : Batch). (s : Spending) × (slice_get x.spendings slot.place ≡ Some s) × (s.input ≡ job.input) × (s.spent ≡ job.spent.now) × (x.flags ≡ job.flags)) lent_again (c.asks_but_for_tx.ensures.0 t)) in
+    let some : IsSome (answer_at (answers_to (known_then own) (questions own.batch)) slot.place) = search rules in
+    fits_by verdicts slot (question_of job) own there asked some
 
 pub returns-in_default-before : goal.returns-in_default-before
 returns-in_default-before c t =
@@ -37,8 +37,5 @@ returns-in_default-before c t =
     let own : Answered = c.in-Some.own.now in
     let within : slot.verdicts < length verdicts = search rules in
     let same : own ≡ get_or verdicts slot.verdicts own = search rules in
-    record {
-      own = own;
-      there = slice_get_read verdicts (length verdicts) slot.verdicts own refl within same;
-      asked = c.fits.ensures.0 t;
-    }
+    let some : IsSome (answer_at (answers_to (known_then own) (questions own.batch)) slot.place) = search rules in
+    fits_by verdicts slot (question_of c.args.job.now) own (slice_get_read verdicts (length verdicts) slot.verdicts own refl within same) (c.fits.ensures.0 t) some

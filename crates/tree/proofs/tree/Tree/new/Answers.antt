@@ -1,11 +1,12 @@
-use Rattle.std.proofs.Common.{◌≡◌, ℕ, cond, List, [], ◌∷◌, ◌++◌, Option, Some, sym, ap, ◌∙◌, subst}
+use Rattle.std.proofs.Common.{◌≡◌, ℕ, zero, suc, ◌≤◌, true, false, ◌&&◌, cond, eqb, ltb, List, [], ◌∷◌, ◌++◌, Option, Some, refl, sym, ap, ◌∙◌, subst, inl, inr, arith}
+use Rattle.std.proofs.lemmas.Bool.{cases_eq, eq-eqb, ne_eqb, lt-ltb, le-ltb}
+use Rattle.std.specs.List.{list_any}
+use Rattle.std.specs.Prelude.{nat_eq}
 use Rattle.std.specs.Map.{lookup}
-use Rattle.std.specs.BTreeMap.{is_at}
-use Rattle.std.specs.Ordering.{eq_by_cmp}
 use Rattle.hash.specs.declared.id.Id.{Id}
 use Rattle.tree.specs.declared.node.Node.{Node}
 use Rattle.tree.specs.declared.node.Mark.{Mark}
-use Rattle.hash.specs.Id.{id_cmp}
+use Rattle.hash.specs.Id.{same_id}
 use Rattle.tree.specs.Names.{names}
 use Rattle.tree.specs.Nodes.{state_of}
 use Rattle.tree.specs.inside.Nodes.{IsRight, first_node, first_mark}
@@ -15,15 +16,25 @@ use Rattle.tree.proofs.tree.Tree.new.Goals as goal
 pub invariant_of-result : goal.invariant_of-result
 invariant_of-result c =
     let ids = c.insert.new.self.entries in
-    let leaves = c.push-3.new.self.items in
+    let leaves = c.insert-2.new.self.keys in
     let ns : ◌≡◌ {A = List Node} c.push.new.self.items (first_node ∷ []) = c.in_ok-push.ensures.items ∙ ap (λ (l : List Node). l ++ c.genesis_node.result ∷ []) c.new-nodes.ensures.items ∙ ap (λ (n : Node). n ∷ []) c.genesis_node.ensures in
     let ms : ◌≡◌ {A = List Mark} c.push-2.new.self.items (first_mark ∷ []) = c.in_ok-push-2.ensures.items ∙ ap (λ (l : List Mark). l ++ first_mark ∷ []) c.new-marks.ensures.items in
     subst (λ (l : List Node). IsRight l c.push-2.new.self.items c.new.result.items ids leaves) (sym ns)
     (subst (λ (l : List Mark). IsRight (first_node ∷ []) l c.new.result.items ids leaves) (sym ms)
     (subst (λ (l : List ℕ). IsRight (first_node ∷ []) (first_mark ∷ []) l ids leaves) (sym c.new.ensures.items)
     (right_opened ids leaves
-    (λ i. c.in_ok-insert.ensures.updates.0 i ∙ ap (λ (es : List (Id × ℕ)). cond {A = Option ℕ} (eq_by_cmp id_cmp names.genesis_id i) (Some 0) (lookup (is_at (id_cmp i)) es)) c.new-ids.ensures.empty)
-    (c.in_ok-push-3.ensures.items ∙ ap (λ (l : List ℕ). l ++ 0 ∷ []) c.new-leaves.ensures.items))))
+    (λ i. c.in_ok-insert.ensures.updates.0 i ∙ ap (λ (es : List (Id × ℕ)). cond {A = Option ℕ} (same_id names.genesis_id i) (Some 0) (lookup (same_id i) es)) c.new-ids.ensures.empty)
+    (record { once = c.insert-2.ensures.unique; all = λ p. c.in_ok-insert-2.ensures.updates.0 p ∙ ap (λ (l : List ℕ). cond (eqb 0 p) true (list_any (nat_eq p) l)) c.new-leaves.ensures.empty ∙ alone p }))))
+  where
+    alone : (p : ℕ) → cond (eqb 0 p) true false ≡ (ltb p 1 && true)
+    alone p = elim (cases_eq 0 p) [
+      | inl e ↦ ap (λ b. cond b true false) (eq-eqb 0 p e) ∙ sym (ap (λ b. b && true) (lt-ltb p 1 (omega arith)))
+      | inr e ↦ ap (λ b. cond b true false) (ne_eqb 0 p e) ∙ sym (ap (λ b. b && true) (le-ltb p 1 (some p e)))
+    ]
+      where
+        some : (p : ℕ) → (0 ≡ p → ⊥) → 1 ≤ p
+        some zero e = absurd (e refl)
+        some (suc p) e = omega arith
 
 pub returns : goal.returns
 returns c =

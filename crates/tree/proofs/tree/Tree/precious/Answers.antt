@@ -45,13 +45,13 @@ module _ {ns : List Node} {ms : List Mark} {cs : List ℕ} {is : List (Id × ℕ
       state_ranked right p m (record m { rank = rank }) (has_mark right view p stands) e view refl refl ds (called cs ds p last ∙ ap (λ (x : List ℕ). p ∷ x) (precious-view ns ms cs view))
 
 pub index_mut-requires : goal.index_mut-requires
-index_mut-requires c = let h = has_mark c.self.invariant c.self.view_is c.args.place c.requires in omega arith
+index_mut-requires g c = let h = has_mark c.self.invariant c.self.view_is c.args.place c.requires in omega arith
 
 pub invariant_of-self-2 : goal.invariant_of-self-2
-invariant_of-self-2 c =
-    right_called c.self.invariant c.self.view_is c.args.place c.requires c.index_mut.result.now c.index_mut.ensures.value c.push.new.self.items c.in_ok-push.ensures.items c.len.result
+invariant_of-self-2 g c =
+    right_called c.self.invariant c.self.view_is c.args.place c.requires c.index_mut.result.now c.index_mut.ensures.value c.push_reserved.new.self.items (c.push_reserved.ensures.items ∙ ap (λ (l : List ℕ). l ++ c.args.place ∷ []) c.in_ok-reserve.ensures.items) c.len.result
     (let a = c.len.ensures in omega arith)
 
 pub returns-clause-ok : goal.returns-clause-ok
-returns-clause-ok c =
-    state_called c.self.invariant c.self.view_is c.args.place c.requires c.index_mut.result.now c.index_mut.ensures.value c.push.new.self.items c.in_ok-push.ensures.items c.len.result
+returns-clause-ok g c =
+    state_called c.self.invariant c.self.view_is c.args.place c.requires c.index_mut.result.now c.index_mut.ensures.value c.push_reserved.new.self.items (c.push_reserved.ensures.items ∙ ap (λ (l : List ℕ). l ++ c.args.place ∷ []) c.in_ok-reserve.ensures.items) c.len.result

@@ -42,7 +42,7 @@ module _ {ns : List Node} {ms : List Mark} {cs : List ℕ} {is : List (Id × ℕ
 pub invariant_of-self : goal.invariant_of-self
 invariant_of-self c =
     let done = of_lent c.mark_block.new.marks (λ q bad. bad || eqb q c.args.place) c.as_slice.ensures.value c.as_mut_slice.ensures.value c.mark_block.ensures in
-    subst (λ (l : List Mark). IsRight c.self.inside.nodes.items l c.self.inside.calls.items c.self.inside.ids.entries c.self.inside.leaves.items)
+    subst (λ (l : List Mark). IsRight c.self.inside.nodes.items l c.self.inside.calls.items c.self.inside.ids.entries c.self.inside.leaves.keys)
     (sym (comes_back c.mark_block.new.marks c.self.inside.marks.items c.as_mut_slice.result.now c.self.inside.marks.len c.as_mut_slice.ensures.value c.as_mut_slice.ensures.len (done.count ∙ sym c.self.invariant.same)))
     (right_marked c.self.invariant c.self.view_is c.args.place c.mark_block.new.marks done c.requires.not_genesis)
 

@@ -1,0 +1,9 @@
+use Rattle.curve.specs.laws.Agreeing.{found_agrees}
+use Rattle.chain.specs.Chainstate.{chainstate}
+use Rattle.chain.specs.Learnt.{found_in}
+use Rattle.histories.specs.laws.Verdicts.{legal_without}
+use Rattle.histories.proofs.laws.a_saved_history_is_legal.Goals as goal
+
+pub returns : goal.returns
+returns c = λ book params seats es h. let valid = (found_in es).valid in
+    legal_without params valid seats (chainstate params valid).opening es (h.legal valid (found_agrees (found_in es)))

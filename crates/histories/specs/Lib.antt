@@ -1,0 +1,3 @@
+pub mod Confirmations
+pub mod Histories
+pub mod laws

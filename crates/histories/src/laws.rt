@@ -1,0 +1,101 @@
+//! What holds of whole histories.
+
+ghost use Rattle.std.specs.Prelude.{◌≡◌, ◌≢◌, ◌≤◌, ℕ, pos, ◌≤ℤ◌, true, List, length, None, Option};
+ghost use Rattle.std.specs.FinMap as coin_map;
+ghost use mathlib.Core.List.{IsPrefix};
+ghost use Rattle.logbook.specs.Pages.{Book};
+ghost use Rattle.block.specs.Reward.{subsidy_of};
+ghost use Rattle.block.specs.declared.block.Block.{Block};
+ghost use Rattle.txn.specs.declared.outpoint.OutPoint.{OutPoint};
+ghost use Rattle.coins.specs.declared.coin.Coin.{Coin};
+ghost use Rattle.coins.specs.Coins.{total};
+ghost use Rattle.curve.specs.Known.{Agrees};
+ghost use Rattle.curve.specs.Triple.{Triples};
+ghost use Rattle.rules.specs.declared.params.Params.{Params};
+ghost use Rattle.chain.specs.declared.command.Command.TheVariants as command;
+ghost use Rattle.chain.specs.declared.entry.Entry.{Entry};
+ghost use Rattle.chain.specs.Chainstate.{chainstate};
+ghost use Rattle.tree.specs.Branches.{Blocks, height, on};
+ghost use Rattle.chain.specs.History.{Legal, state_after_entries, state_at, state_left};
+ghost use Rattle.chain.specs.Learnt.{found_in, known_after};
+ghost use Rattle.chain.specs.Regtest.{ledger, regtest};
+ghost use Rattle.chain.specs.Replay.{coins, coins_at};
+ghost use Rattle.chain.specs.Settle.{active};
+ghost use Rattle.chain.specs.Total.{subsidies};
+ghost use Rattle.view.specs.Origin.{known_in, origin_by_need, origin_of};
+ghost use Rattle.view.specs.ViewState.{IsLegal};
+ghost use Rattle.histories.specs.Confirmations.{IsCoinOf, IsUnspentAbove};
+ghost use Rattle.histories.specs.Histories.{AreAnswered, commands_of, replies_of, without_verdicts};
+
+/// The signatures that a history says are valid are a set that agrees with all of its verdicts.
+pub fn what_was_found_valid_agrees()
+    ensures { (es : List Entry) → Agrees (known_after None es) (found_in es).valid }
+{}
+
+/// A verdict changes no chainstate: without them a history leads to the same state.
+pub fn verdicts_change_no_state()
+    ensures { (params : Params) (valid : Triples) (es : List Entry)
+        → let m = chainstate params valid in
+        state_after_entries m m.opening (without_verdicts es)
+        ≡ state_after_entries m m.opening es }
+{}
+
+/// **What a node by need saves is legal**: its history without the verdicts, under the table of the signatures that were
+/// found valid. So the definition gives each of its replies.
+pub fn a_saved_history_is_legal()
+    ensures { (book : Book) (params : Params) (seats : ℕ) (es : List Entry)
+        → IsLegal (origin_by_need book params seats) es
+        → Legal (chainstate params (found_in es).valid) seats (without_verdicts es) }
+{}
+
+/// Of two legal histories of one chainstate, of which one is asked what begins what the other is asked, the replies of the
+/// one begin those of the other, where none is owed.
+pub fn what_is_asked_says_what_is_replied()
+    ensures { (params : Params) (valid : Triples) (seats others : ℕ) (xs ys : List Entry)
+        → Legal (chainstate params valid) seats xs → Legal (chainstate params valid) others ys
+        → AreAnswered xs → AreAnswered ys
+        → IsPrefix (commands_of xs) (commands_of ys)
+        → IsPrefix (replies_of xs) (replies_of ys) }
+{}
+
+/// **Nodes that take the same commands in one order give the same replies**, however each finds its signatures out, as long
+/// as some set of valid signatures agrees with both: verdicts may stand anywhere.
+pub fn nodes_that_are_asked_the_same_reply_the_same()
+    ensures { (book other : Book) (params : Params) (table found : Option Triples)
+        (seats others : ℕ) (xs ys : List Entry) (valid : Triples)
+        → IsLegal (origin_of book params table seats) xs
+        → IsLegal (origin_of other params found others) ys
+        → Agrees (known_after table xs) valid → Agrees (known_after found ys) valid
+        → AreAnswered xs → AreAnswered ys
+        → IsPrefix (commands_of (without_verdicts xs)) (commands_of (without_verdicts ys))
+        → IsPrefix (replies_of (without_verdicts xs)) (replies_of (without_verdicts ys)) }
+{}
+
+/// At each place of a history all coins together are worth at most the subsidies of the active branch's heights.
+pub fn all_coins_are_worth_at_most_the_subsidies()
+    ensures { (params : Params) (valid : Triples) (es : List Entry) (n : ℕ)
+        → let r = regtest params valid in let s = state_at (chainstate params valid) es n in
+        total (coins r ledger s) ≤ℤ pos (subsidies subsidy_of (height s.blocks (active r s))) }
+{}
+
+/// A submission never lowers the best block: a branch that takes over is at least as high as the one before it. So what a
+/// confirmed payment stands on is taken back by no lower branch, unless somebody marks a block.
+pub fn a_submission_never_lowers_the_best_block()
+    ensures { (params : Params) (valid : Triples) (es : List Entry) (bytes : List ℕ) (now : ℕ)
+        → let m = chainstate params valid in let r = regtest params valid in
+        let s = state_after_entries m m.opening es in
+        let t = state_left s (m.step s (command.Submit bytes now)) in
+        height s.blocks (active r s) ≤ height t.blocks (active r t) }
+{}
+
+/// **What confirmations mean**: a coin stays on any other branch that has the block which made it, as long as no block of
+/// that branch above it spends the coin. So a coin with c confirmations is gone only if it was spent, or if a branch took
+/// over that takes c blocks or more back.
+pub fn a_coin_is_gone_only_if_it_is_spent_or_its_block_is_taken_back()
+    ensures { (params : Params) (valid : Triples) (t : Blocks Block) (outpoint : OutPoint)
+        (coin : Coin) (active other made : ℕ)
+        → let r = regtest params valid in
+        IsCoinOf r t active made outpoint coin → other ≤ length t → on t other made ≡ true
+        → IsUnspentAbove t other made outpoint
+        → coin_map.get (coins_at r ledger t other) outpoint ≢ None }
+{}

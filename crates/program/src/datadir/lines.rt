@@ -1,0 +1,159 @@
+//! A line of the log: a step's line in the journal, and behind a tab what that line lacks. Of a submission it is the block's
+//! bytes in hexadecimal digits, of a verdict its signature as a line of a table.
+
+use crate::fault::Fault;
+use crate::report::Clients;
+use curve::{KeptTriple, Table};
+use durable::first_line;
+use journal::{Asked, RecordFault, Step, block_of, put_record};
+use memchr::memchr;
+use node::{Command, Entry};
+use serving::read_triple;
+use std::alloc::Global;
+
+/// The line of an entry of this number, from 1, without its end.
+pub fn entry_line(
+    alloc: Global,
+    clients: &Clients<'_>,
+    number: u64,
+    entry: &Entry,
+) -> Result<Vec<u8>, Fault<'static>> {
+    let number = number as usize;
+    let step = Step {
+        number,
+        client: clients.name(number.saturating_sub(1), entry.seat),
+        asked: Asked::from_command(&entry.command),
+        block: block_of(alloc, entry)?,
+        reply: entry.reply,
+    };
+    let mut line = format!(in alloc; "{step}")?;
+    match &entry.command {
+        Command::Submit(block, _) => {
+            let digits = hex::encode(alloc, block.as_slice())?;
+            write!(line, "\t{digits}")?;
+        }
+        Command::Learn(triple, _) => write!(line, "\t{}", triple.triple())?,
+        _ => {}
+    }
+    Ok(line.into_bytes())
+}
+
+/// A signature, and whether it is valid.
+#[derive(Drop)]
+pub struct Verdict {
+    pub triple: KeptTriple,
+    pub valid: bool,
+}
+
+/// A journal's text, the blk file of its submissions, and its verdicts, in order.
+#[derive(Drop)]
+pub struct Unpacked {
+    pub journal: Vec<u8>,
+    pub blk: Vec<u8>,
+    pub verdicts: Vec<Verdict>,
+}
+
+/// What the lines of a log say.
+pub fn read_lines(alloc: Global, text: &[u8]) -> Result<Unpacked, Fault<'static>> {
+    let mut unpacked = Unpacked {
+        journal: Vec::new(alloc),
+        blk: Vec::new(alloc),
+        verdicts: Vec::new(alloc),
+    };
+    let mut rest = text;
+    for number in 1..usize::MAX {
+        let Some((line, behind)) = first_line(rest) else {
+            break;
+        };
+        unpacked.add(alloc, line, number)?;
+        rest = behind;
+    }
+    Ok(unpacked)
+}
+
+impl Unpacked {
+    /// Adds the line of this number.
+    fn add(&mut self, alloc: Global, line: &[u8], number: usize) -> Result<(), Fault<'static>> {
+        let Some(place) = memchr(b'\t', line) else {
+            return self.add_step(line);
+        };
+        let (step, behind) = line.split_at(place);
+        self.add_step(step)?;
+        let behind = behind.get(1..).unwrap_or(&[]);
+        match word_of(step) {
+            b"submit" => self.add_digits(alloc, behind, number),
+            b"valid" => self.add_verdict(alloc, behind, true, number),
+            b"invalid" => self.add_verdict(alloc, behind, false, number),
+            _ => Err(Fault::JournalLine(number)),
+        }
+    }
+
+    /// Adds the block that these digits spell.
+    fn add_digits(
+        &mut self,
+        alloc: Global,
+        digits: &[u8],
+        number: usize,
+    ) -> Result<(), Fault<'static>> {
+        match hex::decode(alloc, digits) {
+            Ok(block) => self.add_block(block.as_slice()),
+            Err(hex::FromHexError::OutOfMemory) => Err(Fault::Memory),
+            Err(_) => Err(Fault::JournalLine(number)),
+        }
+    }
+
+    /// Adds a verdict on the signature of a table's line.
+    fn add_verdict(
+        &mut self,
+        alloc: Global,
+        line: &[u8],
+        valid: bool,
+        number: usize,
+    ) -> Result<(), Fault<'static>> {
+        let Some(triple) = read_triple(alloc, line)? else {
+            return Err(Fault::JournalLine(number));
+        };
+        self.verdicts.push(Verdict { triple, valid })?;
+        Ok(())
+    }
+
+    fn add_step(&mut self, step: &[u8]) -> Result<(), Fault<'static>> {
+        self.journal.extend_from_slice(step)?;
+        self.journal.push(b'\n')?;
+        Ok(())
+    }
+
+    fn add_block(&mut self, block: &[u8]) -> Result<(), Fault<'static>> {
+        match put_record(&mut self.blk, block) {
+            Ok(()) => Ok(()),
+            Err(RecordFault::Memory) => Err(Fault::Memory),
+            Err(RecordFault::TooLong) => Err(Fault::BlkRecords),
+        }
+    }
+}
+
+/// The word that says what a step was asked.
+fn word_of(step: &[u8]) -> &[u8] {
+    step.split(|byte| *byte == b' ').nth(2).unwrap_or(&[])
+}
+
+/// The signatures that these verdicts say are valid.
+pub fn table_of(alloc: Global, verdicts: &[Verdict]) -> Result<Table, Fault<'static>> {
+    let lines = triple_lines(alloc, verdicts, true)?;
+    Ok(Table::from_lines(alloc, lines.as_bytes())?)
+}
+
+/// The lines of the signatures of which these verdicts say that they are valid, or that they aren't.
+pub fn triple_lines(
+    alloc: Global,
+    verdicts: &[Verdict],
+    are_valid: bool,
+) -> Result<String, Fault<'static>> {
+    let mut lines = String::new(alloc);
+    for Verdict { triple, valid } in verdicts {
+        if *valid == are_valid {
+            writeln!(lines, "{triple}")?;
+        }
+    }
+    Ok(lines)
+}

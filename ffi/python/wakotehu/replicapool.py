@@ -1,0 +1,152 @@
+"""A replica as one bench, for a server whose connections call beside one another, and which has one history with others."""
+
+import random
+import threading
+from typing import Callable, Dict, List, Optional, Tuple, TypeVar
+
+from .arguments import id_of, octets
+from .chainstate import Coin, Reply, Tip
+from .encoding import EncodingError, Spelled, block_at_front, double_sha
+from .errors import Error
+from .index import Index, Unspent
+from .node import Seat
+from .pool import Coins, Pool
+from .replica import Placed, Replica, ReplicaSeat
+from .replicalog import Row
+from .served import MOST
+from .signatures import KnownSignatures, secp256k1
+
+T = TypeVar("T")
+
+#: As many as a replica may have.
+SEATS = MOST - 1
+#: So often all coins are listed anew, where the history goes on meanwhile.
+_TRIES = 20
+
+
+class ReplicaPool(Pool):
+    """What `Pool` has, over the seats of a `Replica`. The heights and the signatures are those of the database.
+
+    What is known of blocks (`index`) follows the rows, whichever machine appended them: the thread that takes them holds `turn`
+    for each. So a call that holds `turn` and asks nothing sees one place, and a read comes after every row that was taken.
+    """
+
+    def __init__(self, url: str, seats: int = SEATS, workers: int = 2, program: Optional[str] = None) -> None:
+        self.index = Index()
+        self.turn = threading.Condition(threading.Lock())
+        self.steps = self.loaded = 0
+        self._data: Dict[bytes, bytes] = {}
+        self._own = threading.local()
+        self._threads = [0] * seats
+        self._seen = [0] * seats
+        # A block may take longer than callers of a node wait.
+        self.replica = Replica(url, seats, workers=workers, program=program, timeout=None, watch=self._took)
+        self.heights = self.replica.setting.heights
+        self.table = self.replica.setting.signatures
+        self.known = KnownSignatures(secp256k1, b"") if self.replica.setting.by_need else None
+
+    def close(self) -> None:
+        """Ends the replica."""
+        self.replica.close()
+
+    def settle(self) -> None:
+        """Nothing is under way that the end would lose: the database has it."""
+
+    # ---- rows
+
+    def _took(self, row: Row, reply: Reply, seat: Seat) -> None:
+        """Takes a row up, on the thread that follows the log."""
+        command, spelled = row.command, None
+        if command.command == "submit":
+            try:
+                spelled = block_at_front(command.data)
+            except EncodingError:
+                pass
+        id = command.data if command.command != "submit" else double_sha(command.data[:80])
+        best = seat.getbestblockhash().value
+        with self.turn:
+            if spelled is not None and id not in self.index.blocks and self._is_kept_by(seat, id, spelled, reply):
+                self._data[id] = command.data
+                self.index.add(id, spelled)
+            self.index.follow(best)
+            self.steps = row.place
+            self.turn.notify_all()
+
+    def _is_kept_by(self, seat: Seat, id: bytes, spelled: Spelled, reply: Reply) -> bool:
+        """Whether a block is kept, as `Pool._is_kept`."""
+        if reply.reply != "rejected":
+            return reply.reply in ("accepted", "inconclusive")
+        return spelled.header.parent in self.index.blocks and any(tip.id == id for tip in seat.getchaintips().value)
+
+    # ---- commands
+
+    def try_submit(self, block: bytes, now: int) -> Reply:
+        """As `Bench.try_submit`."""
+        data = octets(block, "block")
+        return self._written(lambda seat: seat.try_submit(data, now))
+
+    def try_submit_spelled(self, spelled: Spelled, now: int) -> Reply:
+        """As `Bench.try_submit_spelled`."""
+        return self._written(lambda seat: seat.try_submit(spelled.data, now))
+
+    def try_mark(self, command: str, id: bytes) -> Reply:
+        """As `Bench.try_mark`."""
+        return self._written(lambda seat: seat.try_mark(command, id))
+
+    def _written(self, ask: Callable[[ReplicaSeat], Placed[Reply]]) -> Reply:
+        number = self._number()
+        with self.others():
+            answered = ask(self.replica.seat(number))
+        self._seen[number] = max(self._seen[number], answered.at)
+        return answered.value
+
+    # ---- reads
+
+    def _ask(self, ask: Callable[[ReplicaSeat], Placed[T]]) -> Placed[T]:
+        """Makes a read, which comes after each row that was taken."""
+        number, place = self._number(), self.steps
+        with self.others():
+            seat = self.replica.seat(number)
+            if self._seen[number] < place:
+                seat.told(place)
+            answered = ask(seat)
+        self._seen[number] = max(self._seen[number], answered.at)
+        return answered
+
+    def tips(self) -> List[Tip]:
+        """As `Bench.tips`."""
+        return self._ask(ReplicaSeat.getchaintips).value
+
+    def unspent(self, id: bytes, index: int) -> Optional[Unspent]:
+        """As `Bench.unspent`."""
+        while True:
+            found = self._ask(lambda seat: seat.gettxout(id, index))
+            if found.value is None:
+                return None
+            best = self._ask(ReplicaSeat.getbestblockhash)
+            if best.at == found.at:
+                value, script, height, coinbase, confirmations = found.value
+                return Unspent(Coin(value, script, height, coinbase), best.value, confirmations)
+
+    def coins(self) -> Tuple[bytes, Coins]:
+        """As `Pool.coins`. The thread that takes rows waits, so that all parts of the list are of one place."""
+        seat = self.replica.seat(self._number())
+        seat.told(self.steps)
+        for _ in range(_TRIES):
+            best = seat.getbestblockhash()
+            found: Coins = []
+            part = seat.coins()
+            while part.value and part.at == best.at:
+                found += part.value
+                part = seat.coins(found[-1][:2])
+            if part.at == best.at:
+                return best.value, found
+        raise Error("the history goes on faster than its coins can be listed")
+
+    def block(self, id: bytes) -> Optional[bytes]:
+        """The bytes of a kept block, or None."""
+        return self._data.get(id_of(id))
+
+    def fresh(self) -> int:
+        """As `Bench.fresh`; at random, so that no two machines make one block."""
+        return random.getrandbits(31)
