@@ -4,3 +4,4 @@ pub mod Learning
 pub mod Search
 pub mod Words
 pub mod Tables
+pub mod Found

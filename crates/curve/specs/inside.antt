@@ -1,2 +1,3 @@
 -- What private functions and invariants alone cite.
 pub mod Lines
+pub mod Parts

@@ -1,12 +1,12 @@
 //! Signatures that were found out.
 
-ghost use Rattle.std.specs.Prelude.{◌≡◌, None, Some, IfSome, OnOk, OnErr, MatchOption};
-ghost use Rattle.std.specs.Bool.{Decides};
+ghost use Rattle.std.specs.Prelude.{◌≡◌, ◌≤◌, None, OnErr, OnOk, length};
 ghost use Rattle.curve.specs.Triple.{triple_of};
-ghost use Rattle.curve.specs.Known.{AreApart, verdict_in, with_verdict};
+ghost use Rattle.curve.specs.Known.{verdict_in, with_verdict};
+ghost use Rattle.curve.specs.inside.Parts.{whole};
 
+use crate::found_tables::FoundTables;
 use crate::knows_signatures::KnowsSignatures;
-use crate::table::Table;
 use std::alloc::Global;
 use std::marker::Model;
 use wire::Memory;
@@ -14,23 +14,19 @@ use wire::Memory;
 /// Signatures that were found out to be valid or not, of which no verdict ever changes. Of all others nothing is known.
 #[derive(Drop)]
 pub struct KnownSignatures {
-    valid: Table,
-    invalid: Table,
+    /// By the first byte of the digest, so that one verdict more moves few of many. Those at the end may lack.
+    parts: Vec<FoundTables>,
 }
 
 impl Model for KnownSignatures {
-    ghost use Rattle.curve.specs.Known.{Verdicts, AreApart, coded_verdicts};
+    ghost use Rattle.curve.specs.Known.{Verdicts, coded_verdicts};
+    ghost use Rattle.curve.specs.inside.Parts.{whole};
 
     ghost Value = { Verdicts };
 
     ghost coded = { coded_verdicts };
 
-    ghost view = { λ known. record {
-      valid = known.valid;
-      invalid = known.invalid;
-    } };
-
-    ghost invariant = { λ known. AreApart known.valid known.invalid };
+    ghost view = { λ known. whole known.parts.items };
 }
 
 impl KnownSignatures {
@@ -41,20 +37,7 @@ impl KnownSignatures {
         ensures { result ≡ record { valid = set.empty; invalid = set.empty } }
     {
         KnownSignatures {
-            valid: Table::new(alloc),
-            invalid: Table::new(alloc),
-        }
-    }
-
-    /// The triples that are valid, and others that aren't; nothing where a triple is in both tables.
-    pub fn from_tables(valid: Table, invalid: Table) -> Option<KnownSignatures>
-        ensures { MatchOption result (¬ AreApart valid invalid)
-            (λ known. known ≡ record { valid = valid; invalid = invalid }) }
-    {
-        if valid.is_apart(&invalid) {
-            Some(KnownSignatures { valid, invalid })
-        } else {
-            None
+            parts: Vec::new(alloc),
         }
     }
 
@@ -71,12 +54,22 @@ impl KnownSignatures {
             OnOk result (self.new ≡ with_verdict self.old t valid) }
         ensures err { OnErr result (self.new ≡ self.old) }
     {
-        if valid {
-            self.valid.add(key, signature, digest)
-        } else {
-            self.invalid.add(key, signature, digest)
-        }
+        let place = usize::from(digest[0]);
+        add_parts(&mut self.parts, place + 1)?;
+        self.parts[place].learn(key, signature, digest, valid)
     }
+}
+
+/// Adds parts without a verdict, until there are so many.
+fn add_parts(parts: &mut Vec<FoundTables>, least: usize) -> Result<(), Memory>
+    ensures same { whole parts.new.items ≡ whole parts.old.items }
+    ensures long { OnOk result (least ≤ length parts.new.items) }
+{
+    let alloc = *parts.allocator();
+    for _ in parts.len()..least {
+        parts.push(FoundTables::empty(alloc))?;
+    }
+    Ok(())
 }
 
 impl KnowsSignatures for KnownSignatures {
@@ -89,12 +82,7 @@ impl KnowsSignatures for KnownSignatures {
     ghost agrees = { found_agrees };
 
     fn find(&self, key: &[u8], signature: &[u8], digest: &[u8; 32]) -> Option<bool> {
-        if self.valid.has(key, signature, digest) {
-            return Some(true);
-        }
-        if self.invalid.has(key, signature, digest) {
-            return Some(false);
-        }
-        None
+        let part = self.parts.as_slice().get(usize::from(digest[0]))?;
+        part.find(key, signature, digest)
     }
 }

@@ -3,6 +3,7 @@
 #![tactic(auto)]
 
 mod fault;
+mod found_tables;
 mod known_signatures;
 mod knows_signatures;
 pub mod laws;
@@ -12,6 +13,7 @@ mod table;
 mod triple;
 
 pub use fault::TableFault;
+pub use found_tables::FoundTables;
 pub use known_signatures::KnownSignatures;
 pub use knows_signatures::KnowsSignatures;
 pub use shape::der_shape;

@@ -5,5 +5,4 @@ pub mod Opcodes
 pub mod Rows
 pub mod Slots
 pub mod TableLines
-pub mod FoundParts
 pub mod Sessions

@@ -4,4 +4,3 @@ pub mod Parts
 pub mod Known
 pub mod Signatures
 pub mod Agreeing
-pub mod FoundParts

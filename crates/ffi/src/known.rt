@@ -19,7 +19,7 @@ use crate::scripts::flags_of;
 use crate::shown::{ShownFlags, bit};
 use crate::tables::{spelled_line, table_of};
 use crate::transactions::front;
-use curve::{KeptTriple, KnownSignatures};
+use curve::{FoundTables, KeptTriple};
 use interp::{Job, Unverified, verify_with};
 use std::alloc::Global;
 use txn::Tx;
@@ -81,7 +81,7 @@ fn known_of(
     valid: &[u8],
     invalid: &[u8],
     line: &mut u64,
-) -> Result<KnownSignatures, u32>
+) -> Result<FoundTables, u32>
     ensures found { IfOk result (AreOf (lines valid.now) (lines invalid.now)) }
     ensures kept { OnOk result (line.new ≡ line.old) }
     ensures refused { IfErr result
@@ -95,7 +95,7 @@ fn known_of(
         Err(code) => return Err(code),
         Ok(table) => table,
     };
-    match KnownSignatures::from_tables(valid, invalid) {
+    match FoundTables::new(valid, invalid) {
         None => Err(CONTRADICTION),
         Some(known) => Ok(known),
     }
@@ -107,7 +107,7 @@ fn tell_found(
     input: usize,
     spent: &[u8],
     flags: &ShownFlags,
-    known: &KnownSignatures,
+    known: &FoundTables,
     accepted: &mut u32,
     asked: &mut [u8],
     count: &mut u64,
@@ -135,7 +135,7 @@ fn judge<'a>(
     input: usize,
     spent: &'a [u8],
     flags: &ShownFlags,
-    known: &KnownSignatures,
+    known: &FoundTables,
 ) -> Result<bool, Unverified>
     requires { input < length tx.now.inputs }
     ensures answer { IfOk result (λ yes. Under (verdict_in known.now) (λ triples. IsTrue yes

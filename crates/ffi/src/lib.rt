@@ -5,7 +5,6 @@ mod answers;
 mod block_rules;
 mod blocks;
 mod exports;
-mod found;
 mod front;
 mod hashes;
 mod kept;

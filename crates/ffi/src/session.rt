@@ -22,14 +22,13 @@ ghost use Rattle.ffi.specs.Signatures.{valid_in, invalid_in, is_by_need};
 ghost use Rattle.ffi.specs.inside.Signatures.{known_in};
 
 use crate::answers::{CONTRADICTION, DONE, MEMORY, WANTS};
-use crate::found::FoundSignatures;
 use crate::signatures::Signatures;
 use activate::Chainstate;
 use block::Bytes;
 use chain::{Command, PreparedCommand, Reply};
 use coins::{Base, Coin};
 use connect::Env;
-use curve::{KeptTriple, KnowsSignatures, Table, TableFault};
+use curve::{KeptTriple, KnownSignatures, KnowsSignatures, Table, TableFault};
 use hash::Id;
 use queue::{Alone, Open, Undecided};
 use rules::Params;
@@ -123,7 +122,7 @@ impl Session {
         ensures { IfOk result (λ session. session ≡ new_session params set.empty true) }
     {
         let chain = chainstate_at_first(alloc, params)?;
-        let found = Signatures::Found(FoundSignatures::new(alloc)?);
+        let found = Signatures::Found(KnownSignatures::new(alloc));
         Ok(Session::at_first(alloc, chain, found))
     }
 

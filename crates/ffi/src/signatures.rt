@@ -2,8 +2,7 @@
 
 ghost use Rattle.ffi.specs.inside.Signatures.{known_in};
 
-use crate::found::FoundSignatures;
-use curve::{KeptTriple, KnowsSignatures, Table};
+use curve::{KeptTriple, KnownSignatures, KnowsSignatures, Table};
 use queue::{Judges, Undecided};
 
 /// The valid signatures, or verdicts that are found out by need.
@@ -12,7 +11,7 @@ pub enum Signatures {
     /// All others aren't valid.
     Listed(Table),
     /// Of all others nothing is known.
-    Found(FoundSignatures),
+    Found(KnownSignatures),
 }
 
 impl KnowsSignatures for Signatures {

@@ -98,6 +98,7 @@ pub fn compare(alloc: Global, stack: &mut Pile<Element>) -> Result<bool, Memory>
 // Rows are calls that aren't drawn in (`inline(never)`): in one frame each opcode would pay for clearing a slot for
 // each value of each row.
 /// Does it, and says whether it could be done.
+#[inline(always)]
 pub fn apply(alloc: Global, stack: &mut Pile<Element>, by: Change) -> Result<bool, Memory>
     ensures { IfOk result (λ there. Gives there (change_of by stack.old) stack.new) }
 {

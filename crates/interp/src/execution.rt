@@ -100,6 +100,7 @@ impl<'a> Execution<'a> {
     }
 
     /// Whether each open branch is taken.
+    #[inline(always)]
     fn is_executing(&self) -> bool
         ensures { result ≡ is_executing self.now }
     {
@@ -321,6 +322,7 @@ impl<'a> Execution<'a> {
 
     /// An opcode in a branch that isn't taken.
     #[tactic(auto, using(crate::proofs::Table::untaken), unfolding(crate::specs::Row::row_at))]
+    #[inline(always)]
     fn skip(&mut self, number: u8) -> Result<bool, Memory>
         ensures { IfOk result (λ done. Gives done
             (skipped (row_at number) self.old) self.new) }
@@ -388,6 +390,7 @@ impl<'a> Execution<'a> {
 
     /// One more opcode of this number, unless there were as many as there may be.
     #[tactic(auto, unfolding(crate::specs::Rules::with_count))]
+    #[inline(always)]
     fn count_one(&mut self, number: u8) -> bool
         ensures { Gives result (with_count number self.old) self.new }
     {
@@ -403,6 +406,7 @@ impl<'a> Execution<'a> {
 
     /// Whether the stacks are small enough.
     #[tactic(auto, unfolding(crate::specs::computed::Step::within_bounds))]
+    #[inline(always)]
     fn is_bounded(&self) -> bool
         ensures { Gives result (within_bounds self.now) self.now }
     {

@@ -42,6 +42,7 @@ pub enum Op {
 
 /// The opcode of a number.
 #[tactic(auto, using(crate::proofs::Table::failing), unfolding(crate::specs::Row::row_at))]
+#[inline(always)]
 pub fn op_of(number: u8) -> Op
     ensures { meaning result ≡ row_at number }
 {

@@ -1,16 +1,15 @@
 -- What stands in the parts stands in the whole.
-use Rattle.std.proofs.Common.{◌≡◌, ℕ, zero, suc, ◌+◌, ◌-◌, ◌<◌, ◌≤◌, Bool, true, false, ◌&&◌, ◌||◌, cond, eqb, List, [], ◌∷◌, ◌++◌, length, get_or, set, replicate, Option, Some, None, refl, sym, ap, ◌∙◌, subst, ⊎_elim, arith, rules}
-use Rattle.std.specs.Ordering.{eq_by_cmp, is_eq}
+use Rattle.std.proofs.Common.{◌≡◌, ℕ, zero, suc, ◌+◌, ◌-◌, ◌<◌, ◌≤◌, Bool, true, false, ◌&&◌, ◌||◌, cond, eqb, List, [], ◌∷◌, ◌++◌, length, get_or, set, Some, None, refl, sym, ap, ◌∙◌, ⊎_elim, arith, rules}
+use Rattle.std.specs.Ordering.{eq_by_cmp}
 use Rattle.std.specs.FinSet as sets
-use Rattle.std.proofs.lemmas.Bool.{cases_eq, cases_lt}
-use borrow.Author.Tests.{ne_eqb, eqb-true}
+use Rattle.std.proofs.lemmas.Bool.{cases_eq}
+use borrow.Author.Tests.{ne_eqb}
 use Rattle.curve.specs.Known.{Verdicts, verdict_in, with_verdict}
 use Rattle.curve.specs.Triple.{Triple, Triples, triple_cmp}
 use Rattle.curve.specs.laws.Growth.{one-same}
 use Rattle.curve.specs.laws.Members.{same-members}
 use Rattle.curve.specs.laws.Order.{triple_cmp-total, triple_cmp-exact}
-use Rattle.std.specs.Cmp.{Equal-is}
-use Rattle.ffi.specs.inside.FoundParts.{part_of, own, all_from, whole, nothing, part_at}
+use Rattle.curve.specs.inside.Parts.{part_of, own, all_from, whole, nothing, part_at}
 
 -- one that belongs to a part stands there just as in it
 in-own : (n : ℕ) (triples : Triples) (t : Triple) → sets.contains (own n triples) t ≡ (sets.contains triples t && eqb (part_of t) n)
@@ -75,16 +74,17 @@ verdict-in parts t =
     ap (λ b. cond b (Some true) (cond (sets.contains (part_at parts (part_of t)).invalid t) (Some false) None)) (sym (valid-in parts t))
     ∙ ap (λ b. cond (sets.contains (whole parts).valid t) (Some true) (cond b (Some false) None)) (sym (invalid-in parts t))
 
--- ---- nothing is known
-nothing-at : (n k : ℕ) → part_at (replicate n nothing) k ≡ nothing
-nothing-at zero k = refl
-nothing-at (suc n) zero = refl
-nothing-at (suc n) (suc k) = nothing-at n k
+-- ---- a part more
+more-parts : (parts : List Verdicts) (k : ℕ) → part_at (parts ++ nothing ∷ []) k ≡ part_at parts k
+more-parts [] zero = refl
+more-parts [] (suc k) = refl
+more-parts (p ∷ parts) zero = refl
+more-parts (p ∷ parts) (suc k) = more-parts parts k
 
-pub whole-none : (n : ℕ) → whole (replicate n nothing) ≡ nothing
-whole-none n = λ i. record {
-  valid = same-members (whole (replicate n nothing)).valid sets.empty (λ t. valid-in (replicate n nothing) t ∙ ap (λ (v : Verdicts). sets.contains v.valid t) (nothing-at n (part_of t))) i;
-  invalid = same-members (whole (replicate n nothing)).invalid sets.empty (λ t. invalid-in (replicate n nothing) t ∙ ap (λ (v : Verdicts). sets.contains v.invalid t) (nothing-at n (part_of t))) i;
+pub whole-longer : (parts : List Verdicts) → whole (parts ++ nothing ∷ []) ≡ whole parts
+whole-longer parts = λ i. record {
+  valid = same-members (whole (parts ++ nothing ∷ [])).valid (whole parts).valid (λ t. valid-in (parts ++ nothing ∷ []) t ∙ ap (λ (v : Verdicts). sets.contains v.valid t) (more-parts parts (part_of t)) ∙ sym (valid-in parts t)) i;
+  invalid = same-members (whole (parts ++ nothing ∷ [])).invalid (whole parts).invalid (λ t. invalid-in (parts ++ nothing ∷ []) t ∙ ap (λ (v : Verdicts). sets.contains v.invalid t) (more-parts parts (part_of t)) ∙ sym (invalid-in parts t)) i;
 }
 
 -- ---- one more
@@ -165,6 +165,15 @@ at-read [] k v low is = absurd (omega (arith, low))
 at-read (p ∷ parts) zero v low is = is
 at-read (p ∷ parts) (suc k) v low is = at-read parts k v (omega (arith, low)) is
 
-pub length-all : (n : ℕ) (v : Verdicts) → length (replicate n v) ≡ n
-length-all zero v = refl
-length-all (suc n) v = ap (λ m. suc m) (length-all n v)
+beyond : (parts : List Verdicts) (k : ℕ) → length parts ≤ k → part_at parts k ≡ nothing
+beyond [] zero high = refl
+beyond [] (suc k) high = refl
+beyond (p ∷ parts) zero high = absurd (omega (arith, high))
+beyond (p ∷ parts) (suc k) high = beyond parts k (omega (arith, high))
+
+none-in : (t : Triple) → verdict_in nothing t ≡ None
+none-in t = ap (λ b. cond b (Some true) (cond b (Some false) None)) (none-valid t)
+
+-- behind the last part nothing is known
+pub none-beyond : (parts : List Verdicts) (t : Triple) → length parts ≤ part_of t → None ≡ verdict_in (whole parts) t
+none-beyond parts t high = sym (none-in t) ∙ ap (λ (v : Verdicts). verdict_in v t) (sym (beyond parts (part_of t) high)) ∙ verdict-in parts t
