@@ -95,8 +95,9 @@ pub fn compare(alloc: Global, stack: &mut Pile<Element>) -> Result<bool, Memory>
     Ok(true)
 }
 
-// Rows are calls that aren't drawn in (`inline(never)`): in one frame each opcode would pay for clearing a slot for
-// each value of each row.
+// Rows are calls that aren't inlined (`inline(never)`): in one frame each opcode would pay for clearing a slot for each
+// value of each row. What stands between the loop and its rows is (`inline(always)`): there is a loop for each judge of
+// signatures, and what two of them call the compiler would leave as a call for each opcode.
 /// Does it, and says whether it could be done.
 #[inline(always)]
 pub fn apply(alloc: Global, stack: &mut Pile<Element>, by: Change) -> Result<bool, Memory>

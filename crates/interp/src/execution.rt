@@ -375,6 +375,7 @@ impl<'a> Execution<'a> {
 
     /// A push of bytes.
     #[tactic(auto, unfolding(crate::specs::computed::Step::after_acting, crate::specs::Row::push_row))]
+    #[inline(always)]
     fn act_push(&mut self, alloc: Global, bytes: &[u8]) -> Result<bool, Memory>
         ensures { IfOk result (λ done. (known : Known) (q : Question) (after : List ℕ)
             → Leaves done (after_acting known q after (push_row bytes.now) self.old) self.new) }

@@ -59,6 +59,7 @@ macro_rules! copy {
 // the frame, and to clear all these slots at each opcode costs more than the row.
 /// Whether the elements are there; if so, they are rearranged.
 #[tactic(auto, using(crate::proofs::Exchanges::moved))]
+#[inline(always)]
 pub fn rearrange(alloc: Global, stack: &mut Pile<Element>, by: Move) -> Result<bool, Memory>
     ensures { IfOk result (λ there. Gives there
         (moves (move_of by).0 (move_of by).1 stack.old) stack.new) }
