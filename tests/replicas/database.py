@@ -4,9 +4,11 @@ from __future__ import annotations
 import atexit
 import glob
 import os
+import pathlib
 import pwd
 import shutil
 import signal
+import stat
 import subprocess
 import tempfile
 import time
@@ -28,11 +30,20 @@ def programs() -> Optional[str]:
     return os.path.dirname(where) if where else None
 
 
+def reached() -> str:
+    """A folder for temporary files that each user reaches: TMPDIR may be one's own."""
+    for folder in (tempfile.gettempdir(), "/tmp", "/var/tmp"):
+        path = pathlib.Path(os.path.realpath(folder))
+        if all(it.stat().st_mode & stat.S_IXOTH for it in (path, *path.parents)):
+            return str(path)
+    raise OSError("PostgreSQL's user reaches neither TMPDIR nor /tmp nor /var/tmp")
+
+
 class Database:
     """A server that runs until `remove`."""
 
     def __init__(self, *settings: str, of: Optional["Database"] = None) -> None:
-        self.folder = tempfile.mkdtemp(prefix="wakotehu-pg-")
+        self.folder = tempfile.mkdtemp(prefix="wakotehu-pg-", dir=reached() if os.geteuid() == 0 else None)
         # Also where the tests are interrupted.
         atexit.register(self.remove)
         self.who: dict[str, Any] = {}

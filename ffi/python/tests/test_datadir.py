@@ -113,7 +113,8 @@ class FolderCase(unittest.TestCase):
         """What the command says as it ends, as a process with status 1."""
         command = [sys.executable, "-m", "wakotehu.server", "-rpcport=0", *words]
         if unprivileged and os.geteuid() == 0:
-            command = ["setpriv", "--reuid=65534", "--regid=65534", "--clear-groups", *command]
+            # Another user may not be able to read the package or the program, wherever these are.
+            command = ["setpriv", "--inh-caps=-dac_override", "--bounding-set=-dac_override", *command]
         done = subprocess.run(
             command, capture_output=True, text=True, timeout=20,
             env={**os.environ, "WAKOTEHU_PROGRAM": PROGRAM, **environment},
@@ -253,11 +254,10 @@ class FolderTest(FolderCase):
     def test_no_permission(self):
         """A folder in which nothing may be written, or the node's, is refused."""
         for path in (self.folder, self.node):
-            os.makedirs(self.node, exist_ok=True)
-            os.chmod(os.path.dirname(self.folder), 0o755)
-            os.chmod(self.folder, 0o777)
+            os.makedirs(self.node)
             os.chmod(path, 0o555)
             self.assertIn("ermission denied", self.ends(f"-datadir={self.folder}", unprivileged=True))
+            os.chmod(path, 0o755)
             shutil.rmtree(self.folder)
 
     def test_heights(self):
