@@ -1,6 +1,5 @@
 -- The answer of a writing call, by its command.
 use Rattle.std.proofs.Common.{◌≡◌, ℕ, Bool, true, List, [], ◌∷◌, ◌++◌, Some, subst}
-use Rattle.block.specs.declared.block.Block.{Block}
 use Rattle.curve.specs.Known.{Known}
 use Rattle.curve.specs.Triple.{Triple}
 use Rattle.chain.specs.declared.command.Command.{Command}

@@ -1,11 +1,11 @@
 -- What is known only grows along a history, and so do the verdicts that a seat keeps.
-use Rattle.std.proofs.Common.{◌≡◌, Bool, true, false, List, [], ◌∷◌, ◌++◌, Option, Some, None, refl, ap, sym, ◌∙◌, subst}
+use Rattle.std.proofs.Common.{◌≡◌, Bool, true, false, List, [], ◌∷◌, Option, Some, None, refl, ap, sym, ◌∙◌, subst}
 use mathlib.Core.List.{IsPrefix}
 use Rattle.std.specs.Ordering.{eq_by_cmp}
-use Rattle.curve.specs.Known.{Known, Verdicts, all_known, verdict_in, with_verdict}
+use Rattle.curve.specs.Known.{Verdicts, all_known, verdict_in, with_verdict}
 use Rattle.curve.specs.Triple.{Triple, Triples, triple_cmp}
 use Rattle.curve.specs.laws.Growth.{Grows, learning-grows, learnt-at, one-same}
-use Rattle.queue.specs.Jobs.{Answered, IsEarly, known_then}
+use Rattle.queue.specs.Jobs.{Answered, IsEarly}
 use Rattle.chain.specs.declared.command.Command.{Command}
 use Rattle.chain.specs.declared.command.Command.TheVariants.{Submit, Invalidate, Reconsider, Precious, Learn}
 use Rattle.chain.specs.declared.entry.Entry.{Entry}

@@ -1,15 +1,13 @@
 -- What is known of signatures under the lock, and a verdict that is taken down there.
-use Rattle.std.proofs.Common.{◌≡◌, Bool, List, [], ◌∷◌, ◌++◌, Option, Some, None, refl, ap, sym, ◌∙◌, subst}
+use Rattle.std.proofs.Common.{◌≡◌, Bool, List, [], ◌∷◌, ◌++◌, Option, None, refl, ap, sym, ◌∙◌, subst}
 use Rattle.std.specs.List.{All}
 use Rattle.std.specs.List.Sorted.{IsStrictlySortedBy}
-use Rattle.std.specs.Arc.{arc_value}
-use Rattle.block.specs.declared.block.Block.{Block}
 use Rattle.rules.specs.declared.params.Params.{Params}
 use Rattle.curve.specs.Known.{Agrees, Known, verdict_in, with_verdict}
 use Rattle.curve.specs.Triple.{Triple, Triples}
 use Rattle.queue.specs.Jobs.{Answered, IsEarly}
 use Rattle.coins.specs.Coins.{Coins}
-use Rattle.coins.specs.Changes.{Changes, AreChanges}
+use Rattle.coins.specs.Changes.{AreChanges}
 use Rattle.chain.specs.declared.command.Command.{Command}
 use Rattle.chain.specs.declared.command.Command.TheVariants as command
 use Rattle.chain.specs.declared.reply.MarkReply.TheVariants.{Done}
@@ -19,7 +17,7 @@ use Rattle.chain.specs.declared.entry.Entry.{Entry}
 use Rattle.chain.specs.Learnt.{found_by, found_in, known_by}
 use Rattle.chain.specs.Regtest.{regtest}
 use Rattle.chain.specs.Settle.{active}
-use Rattle.chain.specs.laws.Learnt.{found_in-push, one_agrees}
+use Rattle.chain.specs.laws.Learnt.{found_in-push}
 use Rattle.chain.specs.laws.Outcomes.{learns}
 use Rattle.activate.specs.CoreState.{CoreState}
 use Rattle.activate.specs.CoreState as core_state

@@ -11,3 +11,4 @@ pub mod Owning
 pub mod Publications
 pub mod Seen
 pub mod Same
+pub mod Verdicts

@@ -1,6 +1,6 @@
 -- What the calls of a seat answer.
-use Rattle.std.specs.Prelude.{◌≡◌, ◌<◌, ℕ, Bool, not, List, ◌∷◌, [], ◌++◌, length, Some, None}
-use Rattle.curve.specs.Known.{Known, Under}
+use Rattle.std.specs.Prelude.{◌≡◌, ℕ, Bool, not, List, ◌∷◌, [], ◌++◌, length, Some, None}
+use Rattle.curve.specs.Known.{Under}
 use Rattle.curve.specs.Triple.{Triple, Triples}
 use Rattle.block.specs.Decoding.{block_of_bytes}
 use Rattle.chain.specs.declared.command.Command.{Command}

@@ -1,5 +1,5 @@
 -- Runs: what a seat called and was answered, and how one history explains that.
-use Rattle.std.specs.Prelude.{◌≡◌, ℕ, zero, suc, ◌<◌, ◌≤◌, max, Bool, not, List, [], ◌∷◌, ◌++◌, length, take, drop, slice_get}
+use Rattle.std.specs.Prelude.{◌≡◌, ℕ, zero, suc, ◌<◌, ◌≤◌, ◌⊎◌, max, Bool, not, List, [], ◌∷◌, ◌++◌, length, take, drop, slice_get}
 use Rattle.std.specs.Prelude.{Option, Some, None, Result, Ok, Err, IfOk, IfErr}
 use Rattle.std.specs.Global.{Vec}
 use mathlib.Core.List.{IsPrefix}
@@ -74,6 +74,25 @@ Ensures p q (Told x) = IsLater p q × (q.mine ≡ p.mine) × IsLonger p.seen x.s
 abbrev pub Makes : Pass → List Call → Pass → Type 0
 Makes p [] z = z ≡ p
 Makes p (c ∷ cs) z = (q : Pass) × Ensures p q c × Makes q cs z
+
+-- these verdicts are taken down by a call of `learn` each, none of which contradicts what is known
+abbrev pub Learns : Pass → List Triple → Bool → Pass → Type 0
+Learns p [] valid z = z ≡ p
+Learns p (t ∷ ts) valid z = (q : Pass) × ((r : Stamped Learning) × Ensures p q (Learn t valid (Ok r)) × (r.value ≡ learning.Contradicted → ⊥)) × Learns q ts valid z
+
+-- of a list of verdicts the first n are taken down so, and a call of `learn` for the next one is answered so
+abbrev pub IsLearntUpTo : Pass → Pass → List Triple → Bool → ℕ → Result (Stamped Learning) Fault → Type 0
+IsLearntUpTo p z ts valid n result = (t : Triple) × (slice_get ts n ≡ Some t) × ((q : Pass) × Learns p (take n ts) valid q × Ensures q z (Learn t valid result))
+
+-- how many are taken down: all, or those before the first that contradicts what is known
+abbrev pub IsLearnAllAnswer : Pass → Pass → List Triple → Bool → ℕ → ℕ → Type 0
+IsLearnAllAnswer p z ts valid at n =
+    ((n ≡ length ts) × Learns p ts valid z × (at ≡ length z.seen))
+    ⊎ IsLearntUpTo p z ts valid n (Ok (record { at = at; value = learning.Contradicted }))
+
+-- those before the one whose call is refused
+abbrev pub IsLearnAllFault : Pass → Pass → List Triple → Bool → Fault → Type 0
+IsLearnAllFault p z ts valid fault = (n : ℕ) × IsLearntUpTo p z ts valid n (Err fault)
 
 -- the entry of a step, by its reply; DecodeFailed is no step's
 abbrev pub step_of_reply : ℕ → Command → Reply → List Entry

@@ -170,6 +170,7 @@ fn step_and_look<J: Naming, R: Threads + Wait + Sync>(
 
 impl<'t, J: Naming> Seat<'t, J> {
     ghost use Rattle.node.specs.Calls.{AreWanted, IsLearnAnswer, IsSubmitAnswer, IsWriteFault};
+    ghost use Rattle.node.specs.Runs.{IsLearnAllAnswer, IsLearnAllFault};
     ghost use Rattle.node.specs.Pass.{IsLater, IsOwn, IsWrite};
     ghost use Rattle.node.specs.inside.PublishedState.{PublishedState};
     ghost use Rattle.node.specs.inside.Writing.{IsWriteAnswer, IsLeftBy, IsMark, IsSettledAtMost};
@@ -298,16 +299,73 @@ impl<'t, J: Naming> Seat<'t, J> {
             IfErr result (IsWriteFault self.old self.new asked) }
     {
         let mut history = node.history.lock(rt);
-        let answer = self.learn_under_lock(rt, node, &mut history, triple, valid)?;
+        self.learn_under_lock(rt, node, &mut history, triple, valid)
+    }
+
+    /// The same of several, one after the other under one lock, up to the first that contradicts what is known: how many were
+    /// taken down. A refusal leaves those before it taken down.
+    ///
+    /// Seat and node are of one [`Node::open`](crate::Node::open).
+    pub fn learn_all<R: Threads + Wait + Sync>(
+        &mut self,
+        rt: &R,
+        node: &Node<'_, J>,
+        triples: &[KeptTriple],
+        valid: bool,
+    ) -> Result<Stamped<usize>, Fault>
+        ensures later { IsLater self.old self.new }
+        ensures answer { let IsAnswer = IsLearnAllAnswer self.old self.new triples.now valid in
+            IfOk result (λ r. IsAnswer r.at r.value) }
+        ensures own { IsOwn self.new }
+        ensures fault { IfErr result (IsLearnAllFault self.old self.new triples.now valid) }
+    {
+        let _ = &self.params;
+        let mut history = node.history.lock(rt);
+        for place in 0..triples.len() {
+            let triple = &triples[place];
+            let Stamped { at, value } = self.learn_under_lock(
+                rt,
+                node,
+                &mut history,
+                triple,
+                valid,
+            )?;
+            if let Learning::Contradicted = value {
+                return Ok(Stamped { at, value: place });
+            }
+        }
+        Ok(Stamped {
+            at: self.seen.len(),
+            value: triples.len(),
+        })
+    }
+
+    /// Takes a verdict down under the lock, and keeps it for scripts that the seat runs before the next one.
+    fn learn_under_lock<R: Threads + Wait + Sync>(
+        &mut self,
+        rt: &R,
+        node: &Node<'_, J>,
+        history: &mut PublishedHistory<J>,
+        triple: &KeptTriple,
+        valid: bool,
+    ) -> Result<Stamped<Learning>, Fault>
+        ensures later { IsLater self.old self.new }
+        ensures answer { let IsAnswer = IsLearnAnswer self.old self.new triple.now valid in
+            IfOk result (λ r. IsAnswer r.at r.value) }
+        ensures own { IsOwn self.new }
+        ensures fault { let asked = command.Learn triple.now valid in
+            IfErr result (IsWriteFault self.old self.new asked) }
+    {
+        let answer = self.take_verdict(rt, node, history, triple, valid)?;
         if let Some(note) = history.that_knows(triple, valid) {
             self.learnt.add(triple, valid, note);
         }
         Ok(answer)
     }
 
-    /// The same, under the lock.
+    /// Takes the step of a verdict, where none is known.
     #[tactic(auto, using(crate::proofs::Owning::own_begins))]
-    fn learn_under_lock<R: Threads + Wait + Sync>(
+    fn take_verdict<R: Threads + Wait + Sync>(
         &mut self,
         rt: &R,
         node: &Node<'_, J>,

@@ -1,4 +1,4 @@
-use Rattle.std.proofs.Common.{rules, ◌≡◌, None, Some}
+use Rattle.std.proofs.Common.{rules, ◌≡◌, None}
 use mathlib.Core.List.{IsPrefix}
 use Rattle.curve.specs.Known.{verdict_in, with_verdict}
 use Rattle.node.proofs.Growing.{learnt_more}

@@ -1,4 +1,4 @@
-use Rattle.std.proofs.Common.{◌≡◌, ◌∙◌, ap, refl, sym, subst}
+use Rattle.std.proofs.Common.{◌∙◌, refl, sym, subst}
 use Rattle.std.specs.List.{All}
 use Rattle.curve.specs.Known.{Agrees, all_known}
 use Rattle.curve.specs.Triple.{Triples}

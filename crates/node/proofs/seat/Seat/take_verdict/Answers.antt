@@ -1,5 +1,5 @@
 use Rattle.node.proofs.Answering.{answer_learnt}
-use Rattle.node.proofs.seat.Seat.learn_under_lock.Goals as goal
+use Rattle.node.proofs.seat.Seat.take_verdict.Goals as goal
 
 pub returns-clause-answer : goal.returns-clause-answer
 returns-clause-answer g c =
