@@ -28,7 +28,7 @@ FAULTS = 60 if running.LONG else 18
 
 class Random(unittest.TestCase):
     def test_faults_at_random(self) -> None:
-        """Three replicas, of which one is slow, with six clients each, under faults of every kind."""
+        """Three replicas, of which one is slow and one for asyncio, with six clients each, under faults of every kind."""
         database = Database()
         self.addCleanup(database.remove)
         history = History(database, "faults", running.PROGRAM)
@@ -68,7 +68,10 @@ class Random(unittest.TestCase):
         self.assertGreater(ends["unavailable"] + ends["ended"] + ends["undecided"], 0)
 
     def start(self, history: History, number: int, generation: int) -> Worker:
-        worker = history.start(number, generation, seed=generation, until=self.until, pause=0.02, slow=0.001 if number == 2 else 0.0)
+        worker = history.start(
+            number, generation, seed=generation, until=self.until, pause=0.02, slow=0.001 if number == 2 else 0.0,
+            is_async=number == 1,
+        )  # fmt: skip
         worker.opened()
         return worker
 
@@ -216,7 +219,7 @@ class Worked(ReplicaTest):
 
     def test_replies_that_a_dead_replica_did_not_write(self) -> None:
         """A command that has no reply gets it from another replica."""
-        one = self.replica("one")
+        self.replica("one")
         self.database.run(
             self.url, "INSERT INTO wakotehu.commands VALUES (1, gen_random_uuid(), 'gone_0', 'precious', %s, NULL)", GENESIS.id
         )
