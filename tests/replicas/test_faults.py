@@ -157,6 +157,28 @@ class Worked(ReplicaTest):
         self.assertEqual(calls[:3], [1, 1, 1])
         self.assertEqual(self.database.run(self.url, "SELECT count(*) FROM wakotehu.commands"), [(1,)])
 
+    def test_a_commit_that_comes_late(self) -> None:
+        """A connection is lost amid a commit, which goes in only after the database said to try again: the row is there once."""
+        one, append, calls, late = self.replica("one"), Log.append, [], []
+
+        def cut(log: Log, first, commands, told):
+            calls.append(first)
+            if len(calls) == 1:
+                late.append((first, commands))
+                raise Lost("amid the commit")
+            if len(calls) == 2:
+                return False
+            if late:
+                with Log(self.url) as other:
+                    append(other, *late.pop(), [])
+            return append(log, first, commands, told)
+
+        with unittest.mock.patch.object(Log, "append", cut):
+            self.assertEqual(one.seat(0).try_mark("precious", GENESIS.id).at, 1)
+            self.assertEqual(one.seat(0).try_mark("precious", GENESIS.id).at, 2)
+        self.assertEqual(calls[:3], [1, 1, 1])
+        self.assertEqual(self.database.run(self.url, "SELECT count(*) FROM wakotehu.commands"), [(2,)])
+
     def test_a_stopped_database(self) -> None:
         """A write that isn't answered in time says that it is undecided; its row is found by its token, and comes once."""
         one = self.replica("one", timeout=4)

@@ -267,8 +267,12 @@ class Appender(Connected):
         commands = [write.command for write in self._sent]
         try:
             is_in = log.append(first, commands, list(replies.items()))
-            if not is_in and self._is_doubtful and log.token_at(first) == commands[0].token:
-                is_in, replies = True, {}
+            if not is_in and self._is_doubtful:
+                found = log.token_at(first)
+                if found is None:
+                    return  # what was sent on the lost connection may come to this place yet
+                if found == commands[0].token:
+                    is_in, replies = True, {}
         except Refused as refused:
             # Of what was sent before, on a connection that was lost, it says nothing.
             if not self._is_doubtful:
