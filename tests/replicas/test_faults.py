@@ -28,7 +28,7 @@ FAULTS = 60 if running.LONG else 18
 
 class Random(unittest.TestCase):
     def test_faults_at_random(self) -> None:
-        """Three replicas, of which one is slow, with six clients each, under faults of every kind."""
+        """Three replicas, of which one is slow and one for asyncio, with six clients each, under faults of every kind."""
         database = Database()
         self.addCleanup(database.remove)
         history = History(database, "faults", running.PROGRAM)
@@ -68,7 +68,10 @@ class Random(unittest.TestCase):
         self.assertGreater(ends["unavailable"] + ends["ended"] + ends["undecided"], 0)
 
     def start(self, history: History, number: int, generation: int) -> Worker:
-        worker = history.start(number, generation, seed=generation, until=self.until, pause=0.02, slow=0.001 if number == 2 else 0.0)
+        worker = history.start(
+            number, generation, seed=generation, until=self.until, pause=0.02, slow=0.001 if number == 2 else 0.0,
+            is_async=number == 1,
+        )  # fmt: skip
         worker.opened()
         return worker
 
@@ -154,6 +157,28 @@ class Worked(ReplicaTest):
         self.assertEqual(calls[:3], [1, 1, 1])
         self.assertEqual(self.database.run(self.url, "SELECT count(*) FROM wakotehu.commands"), [(1,)])
 
+    def test_a_commit_that_comes_late(self) -> None:
+        """A connection is lost amid a commit, which goes in only after the database said to try again: the row is there once."""
+        one, append, calls, late = self.replica("one"), Log.append, [], []
+
+        def cut(log: Log, first, commands, told):
+            calls.append(first)
+            if len(calls) == 1:
+                late.append((first, commands))
+                raise Lost("amid the commit")
+            if len(calls) == 2:
+                return False
+            if late:
+                with Log(self.url) as other:
+                    append(other, *late.pop(), [])
+            return append(log, first, commands, told)
+
+        with unittest.mock.patch.object(Log, "append", cut):
+            self.assertEqual(one.seat(0).try_mark("precious", GENESIS.id).at, 1)
+            self.assertEqual(one.seat(0).try_mark("precious", GENESIS.id).at, 2)
+        self.assertEqual(calls[:3], [1, 1, 1])
+        self.assertEqual(self.database.run(self.url, "SELECT count(*) FROM wakotehu.commands"), [(2,)])
+
     def test_a_stopped_database(self) -> None:
         """A write that isn't answered in time says that it is undecided; its row is found by its token, and comes once."""
         one = self.replica("one", timeout=4)
@@ -216,7 +241,7 @@ class Worked(ReplicaTest):
 
     def test_replies_that_a_dead_replica_did_not_write(self) -> None:
         """A command that has no reply gets it from another replica."""
-        one = self.replica("one")
+        self.replica("one")
         self.database.run(
             self.url, "INSERT INTO wakotehu.commands VALUES (1, gen_random_uuid(), 'gone_0', 'precious', %s, NULL)", GENESIS.id
         )

@@ -15,7 +15,8 @@ HISTORIES, COMMANDS = 68 if running.LONG else 17, 33
 
 class Lists(unittest.TestCase):
     def test_random_lists(self) -> None:
-        """All answers are those of one sequential chainstate; and each answer with one thing changed is refused."""
+        """All answers are those of one sequential chainstate, of replicas of which one is for asyncio; and each answer with one
+        thing changed is refused."""
         database = Database.shared()
         lists = commands = reads = 0
         with ThreadPoolExecutor(2) as pool:
@@ -33,7 +34,7 @@ class Lists(unittest.TestCase):
         """The rows of a history, and what its clients were answered, which the checker takes."""
         history = History(database, f"lists{number}", running.PROGRAM)
         self.addCleanup(history.remove)
-        for worker in [history.start(replica, seed=number, commands=COMMANDS) for replica in range(REPLICAS)]:
+        for worker in [history.start(replica, seed=number, commands=COMMANDS, is_async=replica == 1) for replica in range(REPLICAS)]:
             worker.ended(240)
         rows, clients = history.rows(), history.clients()
         check(rows, clients, running.PROGRAM)

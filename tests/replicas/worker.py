@@ -5,6 +5,7 @@ answered, is written into a file at once, a line each: so it is there however th
 """
 from __future__ import annotations
 
+import asyncio
 import json
 import mmap
 import os
@@ -21,7 +22,7 @@ sys.dont_write_bytecode = True
 sys.path[:0] = [os.path.join(HERE, "../../ffi/python"), os.path.join(HERE, "../../ffi/python/tests")]
 
 from pool import JUNK, NOWS, Pool
-from wakotehu import errors, show
+from wakotehu import AsyncReplica, errors, show
 from wakotehu.following import Follower
 from wakotehu.replica import Replica
 
@@ -46,6 +47,8 @@ class Options(NamedTuple):
     #: Ends as soon as this file is there, in place of after so many commands.
     until: str = ""
     program: Optional[str] = None
+    #: Whether the replica is one for asyncio.
+    is_async: bool = False
 
 
 class Notes:
@@ -62,10 +65,36 @@ class Notes:
         return int(struct.unpack_from("<Q", self.map, 8 * draw.randrange(len(self.map) // 8))[0])
 
 
+class Bridged:
+    """An `AsyncReplica` in the event loop of another thread, or a seat of it, with the calls of a `Replica`'s."""
+
+    def __init__(self, inner: Any, loop: asyncio.AbstractEventLoop) -> None:
+        self._inner, self._loop = inner, loop
+
+    def __getattr__(self, name: str) -> Any:
+        def call(*words: Any, **more: Any) -> Any:
+            return asyncio.run_coroutine_threadsafe(self._called(name, *words, **more), self._loop).result()
+
+        return call
+
+    async def _called(self, name: str, *words: Any, **more: Any) -> Any:
+        answer = getattr(self._inner, name)(*words, **more)
+        return Bridged(answer, self._loop) if name == "seat" else await answer
+
+    def __enter__(self) -> "Bridged":
+        threading.Thread(target=self._loop.run_forever, daemon=True).start()
+        self.__aenter__()
+        return self
+
+    def __exit__(self, *why: object) -> None:
+        self.close()
+        self._loop.call_soon_threadsafe(self._loop.stop)
+
+
 class Client:
     """One caller, on a seat of its own."""
 
-    def __init__(self, given: Options, replica: Replica, notes: Notes, pool: Pool, number: int) -> None:
+    def __init__(self, given: Options, replica: Any, notes: Notes, pool: Pool, number: int) -> None:
         self.given, self.notes, self.pool, self.number = given, notes, pool, number
         self.seat = replica.seat(number)
         self.draw = random.Random(f"{given.seed} {given.name} {number}")
@@ -159,7 +188,11 @@ def main() -> int:
         slow_down(given.slow)
     pool, notes = Pool(), Notes(given.notes)
     faults: list[BaseException] = []
-    with Replica(given.url, given.clients, name=given.name, timeout=given.timeout, catch_up=300, program=given.program) as replica:
+    words: Any = {"name": given.name, "timeout": given.timeout, "catch_up": 300, "program": given.program}
+    opened: Any = Replica
+    if given.is_async:
+        opened = lambda *own, **more: Bridged(AsyncReplica(*own, **more), asyncio.new_event_loop())  # noqa: E731
+    with opened(given.url, given.clients, **words) as replica:
         print("open", flush=True)
 
         def run(client: Client) -> None:

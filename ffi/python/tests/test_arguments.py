@@ -275,7 +275,7 @@ ROWS = [
 #: Modules that are no part of this: what takes the arguments, exceptions, what a server has, and what it is started by; what
 #: needs a database (tests/replicas has its arguments).
 OTHER = {
-    "ahead", "arguments", "errors", "following", "history", "index", "pipe", "pool", "replica", "replicacommand", "replicalog", "replicapool",
+    "ahead", "arguments", "asyncreplica", "errors", "following", "history", "index", "pipe", "pool", "replica", "replicacommand", "replicalog", "replicapool",
     "replication", "server", "version", "__main__",
 }  # fmt: skip
 #: What other modules of the package call with what was taken before.

@@ -6,7 +6,7 @@ import unittest
 
 from blocks import NOW, Maker, block_id, signed, spend, with_script
 from wakotehu import Bench, Chainstate, consensus as c, errors
-from wakotehu.encoding import Input, Output, Transaction, push, read_block, signature_digest, write_transaction
+from wakotehu.encoding import Input, Output, Transaction, push, signature_digest, write_transaction
 from wakotehu.signatures import Secp256k1
 
 SECP = Secp256k1()

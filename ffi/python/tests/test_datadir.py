@@ -33,6 +33,8 @@ from wakotehu import Node, read_id, secp256k1, server, show
 from wakotehu.encoding import GENESIS, read_block, write_transaction
 from wakotehu.history import VERDICTS, steps_of
 from wakotehu.rpc import datadir
+from wakotehu.rpc.auth import Gate
+from wakotehu.rpc.http import Server
 
 
 class Command:
@@ -654,6 +656,60 @@ class CookieTest(FolderCase):
         first = self.started()
         self.assertIn("in use by another server", self.refused(f"-datadir={self.folder}"))
         self.assertEqual(first.call("getblockcount"), 0)
+
+
+#: The server, whose threads begin half a second late, in a process that lives on until they have begun.
+LATE = """
+import socketserver, sys, time
+from wakotehu import server
+forever = socketserver.BaseServer.serve_forever
+def late(self, seconds):
+    time.sleep(0.5)
+    forever(self, seconds)
+socketserver.BaseServer.serve_forever = late
+server.main(sys.argv[1:])
+time.sleep(1)
+"""
+
+
+class EndTest(FolderCase):
+    """SIGTERM at moments at which little is done."""
+
+    def test_as_soon_as_the_port_is_told(self):
+        """The command ends in order, before a thread of it serves."""
+        process = subprocess.Popen(
+            [sys.executable, "-c", LATE, "-rpcport=0", f"-datadir={self.folder}"], stdout=subprocess.PIPE,
+            stderr=subprocess.PIPE, text=True, env={**os.environ, "WAKOTEHU_PROGRAM": PROGRAM},
+        )  # fmt: skip
+        self.addCleanup(process.kill)
+        self.assertEqual(process.stdout.readline(), f"0 commands of {self.folder} were taken again\n")
+        self.assertRegex(process.stdout.readline(), "^127")
+        process.send_signal(signal.SIGTERM)
+        self.assertEqual(process.communicate(timeout=20), ("", ""))
+        self.assertEqual((process.returncode, os.path.exists(os.path.join(self.folder, ".cookie"))), (0, False))
+
+    def test_amid_the_cookie(self):
+        """The cookie that was written just then is removed."""
+        written = []
+
+        def write(path):
+            written.append(server_cookie(path))
+            os.kill(os.getpid(), signal.SIGTERM)
+            # The interpreter looks for signals between its steps.
+            time.sleep(0.01)
+            return written[0]
+
+        server_cookie = server.write_cookie
+        self.addCleanup(signal.signal, signal.SIGTERM, signal.getsignal(signal.SIGTERM))
+        with contextlib.redirect_stdout(io.StringIO()), unittest.mock.patch.object(server, "write_cookie", write), \
+                unittest.mock.patch.dict(os.environ, {"WAKOTEHU_PROGRAM": PROGRAM}):
+            server.main(["-rpcport=0", f"-datadir={self.folder}"])
+        self.assertEqual((len(written), os.path.exists(os.path.join(self.folder, ".cookie"))), (1, False))
+
+    def test_a_server_that_is_closed_before_it_runs(self):
+        opened = Server("127.0.0.1", 0, Gate(), lambda body, is_gone: (200, b""))
+        opened.server_close()
+        opened.run()
 
 
 class MemoryTest(FolderCase):

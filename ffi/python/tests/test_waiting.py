@@ -11,6 +11,7 @@ import tempfile
 import threading
 import time
 import unittest
+import unittest.mock
 import warnings
 
 import wakotehu
@@ -18,7 +19,7 @@ from blocks import NOW, Maker, block_id
 from fakes import fake
 from interrupts import Interrupts
 from test_node import PROGRAM
-from wakotehu import AsyncNode, Node, Stamped, errors
+from wakotehu import AsyncNode, Node, Stamped, errors, pipe
 from wakotehu.served import LONGEST_BLOCK, UNDER_WAY
 
 #: Answers nothing but `getbestblockhash`.
@@ -152,6 +153,21 @@ class WaitingTest(unittest.TestCase):
         for thread, found in calls:
             thread.join(10)
             self.assertEqual(found, [21])
+
+    def test_an_answer_that_another_one_read_before(self):
+        """Between its look for an answer and its turn to read another thread reads that answer, and leaves."""
+        own, is_reader = threading.get_ident(), pipe.Pipe._is_reader
+
+        def late(of, waiter):
+            while waiter.thread == own and waiter.answer is None:
+                thread, _ = self.thread(node.seat(1).note)
+                thread.join(10)
+            return is_reader(of, waiter)
+
+        begun = time.monotonic()
+        with Node(seats=2, program=PROGRAM) as node, unittest.mock.patch.object(pipe.Pipe, "_is_reader", late):
+            self.assertEqual(node.seat(0).note(), 0)
+        self.assertLess(time.monotonic() - begun, 30)
 
     # ---- answers that are of no call
 

@@ -2,10 +2,11 @@
 
 `Chainstate` is the proved chainstate, with valid signatures as a table or found out by need; `Bench` finds them out by
 libsecp256k1. `Node` is a proved node for many callers, in a process of its own, with a table or, by `verify=secp256k1`, real
-signatures; `AsyncNode` the same for asyncio. `Replica` is one of many such nodes that have one history, over PostgreSQL.
+signatures; `AsyncNode` the same for asyncio. `Replica` is one of many such nodes that have one history, over PostgreSQL; `AsyncReplica` the same for asyncio.
 `python3 -m wakotehu.server` answers the calls of bitcoind's JSON-RPC.
 """
 
+from .asyncreplica import AsyncReplica, AsyncReplicaSeat
 from .bench import Bench
 from .chainstate import REGTEST, Chainstate, Coin, Reply, Tip, read_id, show
 from .errors import (
@@ -19,7 +20,7 @@ from .signatures import secp256k1
 from .version import __version__
 
 __all__ = [
-    "REGTEST", "AsyncNode", "AsyncSeat", "BadRequest", "BadRow", "BadTable", "Bench", "BlockHeader", "Busy", "Chainstate",
+    "REGTEST", "AsyncNode", "AsyncReplica", "AsyncReplicaSeat", "AsyncSeat", "BadRequest", "BadRow", "BadTable", "Bench", "BlockHeader", "Busy", "Chainstate",
     "Closed", "Coin", "Contradiction", "DatabaseMissing", "DecodeFailed", "Entry", "Error", "Genesis", "Info", "LibraryMissing",
     "Memory", "NoHistory", "Node", "NodeDied", "NotFound", "NotSaved", "OtherLoop", "OtherProcess", "Owed", "Placed",
     "ProgramMissing", "ReadOnly", "Rejected", "Replica", "ReplicaDiffers", "ReplicaSeat", "Reply", "Seat", "Stamped", "Status",

@@ -216,10 +216,11 @@ class Pipe:
                         raise self.why()
                     left = _left(until)
                     self._asleep[waiter] = None
-                    if self._is_reader(waiter):
-                        self._read(left)
-                    else:
+                    if not self._is_reader(waiter):
                         waiter.bell.acquire(timeout=min(left, _LOOK))
+                    elif not is_done():
+                        # Before it began to read another one may have read its answer, and then no more may come.
+                        self._read(left)
             finally:
                 self._leave(waiter)
         finally:

@@ -7,6 +7,7 @@ import os
 import re
 import socket
 import time
+from threading import Event
 from types import TracebackType
 from typing import Callable, Dict, List, NamedTuple, NoReturn, Optional, Sequence, Tuple, Type, TypeVar, Union
 from uuid import UUID, uuid4
@@ -68,12 +69,7 @@ class ReplicaSeat:
 
     def try_submit(self, block: bytes, now: Optional[int] = None, token: Optional[UUID] = None) -> Placed[Reply]:
         """The same, and a refusal is answered, not raised. Bytes that are no block have a row too."""
-        data = arguments.octets(block, "block")
-        if len(data) > LONGEST_BLOCK:
-            raise ValueError(f"block must have at most {LONGEST_BLOCK} bytes, not {len(data)}")
-        moment = int(time.time()) if now is None else number(now, "now", 63)
-        submission(b"", moment)
-        return self._written("submit", data, moment, token)
+        return self._written(self._submission(block, now, token))
 
     def invalidate(self, id: bytes, token: Optional[UUID] = None) -> Stamped[str]:
         """As `Seat.invalidate`."""
@@ -89,13 +85,29 @@ class ReplicaSeat:
 
     def try_mark(self, command: str, id: bytes, token: Optional[UUID] = None) -> Placed[Reply]:
         """As `Seat.try_mark`."""
-        mark(command, id)
-        return self._written(command, arguments.id_of(id), None, token)
+        return self._written(self._mark(command, id, token))
 
-    def _written(self, command: str, data: bytes, now: Optional[int], token: Optional[UUID]) -> Placed[Reply]:
+    def _submission(self, block: bytes, now: Optional[int], token: Optional[UUID]) -> Command:
+        data = arguments.octets(block, "block")
+        if len(data) > LONGEST_BLOCK:
+            raise ValueError(f"block must have at most {LONGEST_BLOCK} bytes, not {len(data)}")
+        moment = int(time.time()) if now is None else number(now, "now", 63)
+        submission(b"", moment)
+        return self._command("submit", data, moment, token)
+
+    def _mark(self, command: str, id: bytes, token: Optional[UUID]) -> Command:
+        mark(command, id)
+        return self._command(command, arguments.id_of(id), None, token)
+
+    def _command(self, command: str, data: bytes, now: Optional[int], token: Optional[UUID]) -> Command:
         own = uuid4() if token is None else arguments.instance(token, UUID, "token")
-        place, reply = self.replica._write(Command(own, f"{self.replica.name}_{self.number}", command, data, now))
-        # From here on the seat reads no earlier.
+        return Command(own, f"{self.replica.name}_{self.number}", command, data, now)
+
+    def _written(self, command: Command) -> Placed[Reply]:
+        return self._answered(*self.replica._write(command))
+
+    def _answered(self, place: int, reply: Reply) -> Placed[Reply]:
+        """From here on the seat reads no earlier than what it was answered."""
         self._seat.told(self.replica._follower_seat)
         return Placed(place, reply)
 
@@ -161,6 +173,10 @@ class ReplicaSeat:
         """Waits until this replica has a place, the note of a seat at any replica. From then on the seat has seen it, and reads
         no earlier: which place that makes. Where it doesn't come in time `TimedOut` is raised."""
         self.replica.wait_for(place)
+        return self._seen()
+
+    def _seen(self) -> int:
+        """The seat has seen what this replica has: which place that makes."""
         return self.replica._state.places.at(self._seat.told(self.replica._follower_seat))
 
 
@@ -276,7 +292,7 @@ class Replica:
     def wait_for(self, place: int) -> None:
         """Waits until the replica has a place; where it doesn't come in time `TimedOut` is raised."""
         place = number(place, "place", 63)
-        self._wait(lambda: self._state.taken >= place, self._timeout, f"place {place} didn't come in time")
+        self._wait(lambda: self._state.taken >= place, self._timeout, late(place))
 
     def find(self, token: UUID, after: int = 0) -> Optional[int]:
         """The place of the row with a token, or None if there is no such row yet. It goes over the rows above `after`."""
@@ -312,26 +328,36 @@ class Replica:
 
     def _write(self, command: Command) -> Tuple[int, Reply]:
         """Has a command appended, and taken: its place and the reply."""
-        state, write = self._state, Write(command)
+        write = Write(command, Event())
+        self._begin(write)
+        try:
+            write.done.wait(self._timeout)
+        finally:
+            self._leave(write)
+        return self._outcome(write)
+
+    def _begin(self, write: Write) -> None:
+        """Hands a command to the thread that appends."""
+        state, token = self._state, write.command.token
         with state.lock:
             self._check()
             if not self._may_write:
                 raise errors.ReadOnly("the role of this replica may only follow")
             if state.lost:
                 raise errors.Unavailable(f"the database can't be reached: {next(iter(state.lost.values()))}")
-            if command.token in state.writes:
+            if token in state.writes:
                 raise ValueError("token must be another one: a write with this one is under way")
-            state.writes[command.token] = write
+            state.writes[token] = write
             state.queue.append(write)
             state.work.notify()
-        try:
-            write.done.wait(self._timeout)
-        finally:
-            with state.lock:
-                del state.writes[command.token]
-                if not write.is_sent and write in state.queue:
-                    state.queue.remove(write)
-        return self._outcome(write)
+
+    def _leave(self, write: Write) -> None:
+        """Nobody waits for a command any more. One that wasn't sent is taken back."""
+        state = self._state
+        with state.lock:
+            del state.writes[write.command.token]
+            if not write.is_sent and write in state.queue:
+                state.queue.remove(write)
 
     def _outcome(self, write: Write) -> Tuple[int, Reply]:
         """What became of a write."""
@@ -374,6 +400,11 @@ class Replica:
     def __reduce_ex__(self, protocol: object) -> NoReturn:
         """As of a `Node`."""
         raise TypeError("a Replica can't be copied or pickled")
+
+
+def late(place: int) -> str:
+    """What is said of a place that didn't come."""
+    return f"place {place} didn't come in time"
 
 
 def _name(given: Optional[str]) -> str:

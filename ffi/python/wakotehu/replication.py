@@ -4,8 +4,10 @@ import time
 from array import array
 from bisect import bisect_right
 from collections import deque
+from heapq import heapify, heappop, heappush
+from itertools import count
 from threading import Condition, Event, Lock, Thread
-from typing import Callable, Deque, Dict, Iterable, List, NamedTuple, Optional, Sequence
+from typing import Callable, Deque, Dict, Iterable, List, NamedTuple, Optional, Sequence, Tuple
 from uuid import UUID
 
 from . import errors
@@ -55,10 +57,10 @@ class Write:
 
     __slots__ = ("command", "done", "error", "is_sent", "place", "reply")
 
-    def __init__(self, command: Command) -> None:
+    def __init__(self, command: Command, done: Event) -> None:
         self.command = command
         #: Set where it was answered, or won't be.
-        self.done = Event()
+        self.done = done
         self.is_sent = False
         self.place: Optional[int] = None
         self.reply: Optional[Reply] = None
@@ -96,6 +98,9 @@ class State:
         self.is_closing = False
         #: Why the database can't be reached, of the thread that appends and the one that follows.
         self.lost: Dict[str, str] = {}
+        #: Who waits for a place and takes no thread meanwhile, by places.
+        self._waits: List[Tuple[int, int, Event]] = []
+        self._numbers = count()
         self.writes: Dict[UUID, Write] = {}
         self.queue: Deque[Write] = deque()
         #: Replies that this replica has to write.
@@ -112,7 +117,7 @@ class State:
             if not self.is_closing:
                 self.error = self.error or error
             self.is_closing = self.is_closing or error is None
-            self.moved.notify_all()
+            self._wake()
             self.work.notify_all()
             for write in self.writes.values():
                 write.done.set()
@@ -125,7 +130,24 @@ class State:
             if write is not None:
                 write.place, write.reply = row.place, reply
                 write.done.set()
-            self.moved.notify_all()
+            self._wake()
+
+    def _wake(self) -> None:
+        """Who waits hears of the place that was taken, or of the end."""
+        self.moved.notify_all()
+        while self._waits and (self.is_over or self._waits[0][0] <= self.taken):
+            heappop(self._waits)[2].set()
+
+    def wait(self, place: int, done: Event) -> None:
+        """Has this set as soon as a place is taken, or at the end. The lock is held."""
+        heappush(self._waits, (place, next(self._numbers), done))
+        self._wake()
+
+    def leave(self, done: Event) -> None:
+        """Nobody waits for a place any more."""
+        with self.lock:
+            self._waits = [own for own in self._waits if own[2] is not done]
+            heapify(self._waits)
 
 
 class Connected(Thread):
@@ -245,8 +267,12 @@ class Appender(Connected):
         commands = [write.command for write in self._sent]
         try:
             is_in = log.append(first, commands, list(replies.items()))
-            if not is_in and self._is_doubtful and log.token_at(first) == commands[0].token:
-                is_in, replies = True, {}
+            if not is_in and self._is_doubtful:
+                found = log.token_at(first)
+                if found is None:
+                    return  # what was sent on the lost connection may come to this place yet
+                if found == commands[0].token:
+                    is_in, replies = True, {}
         except Refused as refused:
             # Of what was sent before, on a connection that was lost, it says nothing.
             if not self._is_doubtful:

@@ -6,13 +6,14 @@ or with those of a table.
 """
 
 import argparse
+import contextlib
 import ctypes
 import os
 import signal
 import sys
 import threading
 import time
-from typing import Callable, List, Optional, Sequence, Tuple
+from typing import Callable, Iterator, List, Optional, Sequence, Tuple
 
 from .chainstate import REGTEST
 from .errors import Error
@@ -46,6 +47,7 @@ def serve(
         return answer(lambda method, params: run(node, method, params), body)
 
     servers: List[Server] = []
+    threads: List[threading.Thread] = []
     try:
         for host in hosts:
             servers.append(Server(host, port or (servers[0].server_address[1] if servers else 0), gate, answered))
@@ -54,17 +56,19 @@ def serve(
         # Who connects from now on waits until the servers run.
         if ready:
             ready(servers[0].server_address[1])
-        threads = [threading.Thread(target=server.serve_forever, args=(0.1,), daemon=True) for server in servers]
-        for thread in threads:
-            thread.start()
+        for server in servers:
+            threads.append(threading.Thread(target=server.run, daemon=True))
+            threads[-1].start()
         with node.turn:
             while not node.stopped:
                 node.turn.wait()
         # The answer to `stop` is taken.
         time.sleep(node.pause + 0.1)
-        for server in servers:
-            server.shutdown()
     finally:
+        # An interrupt may come before all of them run.
+        for server, thread in zip(servers, threads):
+            if thread.is_alive():
+                server.shutdown()
         for server in servers:
             server.server_close()
         node.close()
@@ -249,6 +253,20 @@ def _give_memory_back() -> None:
         pass  # Another library of C.
 
 
+@contextlib.contextmanager
+def _held() -> Iterator[None]:
+    """An interrupt comes behind what is done here, and not amid it."""
+    came: List[int] = []
+    before = {number: signal.signal(number, lambda own, _: came.append(own)) for number in (signal.SIGINT, signal.SIGTERM)}
+    try:
+        yield
+    finally:
+        for number, handler in before.items():
+            signal.signal(number, handler)
+        if came:
+            raise KeyboardInterrupt
+
+
 def _run(given: argparse.Namespace, folder: Optional[Folder], cookies: List[Tuple[str, str]]) -> None:
     """Serves until the end. The cookies that are written are added."""
     gate, has_cookie = _gate(given)
@@ -259,7 +277,8 @@ def _run(given: argparse.Namespace, folder: Optional[Folder], cookies: List[Tupl
 
         def ready(port: int) -> None:
             if has_cookie:
-                cookies.append(_bake(given, gate, port))
+                with _held():
+                    cookies.append(_bake(given, gate, port))
             print(f"127.0.0.1:{port}" + "".join(f" cookie {path}" for path, _ in cookies), flush=True)
 
         node = Node(bench)

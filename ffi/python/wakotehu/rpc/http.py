@@ -219,7 +219,20 @@ class Server(socketserver.TCPServer):
         self._waiting: "OrderedDict[socket.socket, None]" = OrderedDict()
         self._busy: Set[socket.socket] = set()
         self.address_family = socket.AF_INET6 if ":" in host else socket.AF_INET
+        self._is_closed = False
         super().__init__((host, port), Handler)
+
+    def run(self) -> None:
+        """Serves until it is shut down. One that was closed before, as by an interrupt, serves nobody."""
+        try:
+            self.serve_forever(0.1)
+        except (OSError, ValueError):
+            if not self._is_closed:
+                raise
+
+    def server_close(self) -> None:
+        self._is_closed = True
+        super().server_close()
 
     def process_request(self, request: Any, client_address: Any) -> None:
         with self._lock:

@@ -3,7 +3,7 @@
 
 import os
 import re
-from typing import BinaryIO, NamedTuple, Optional, Sequence, Set, Tuple
+from typing import BinaryIO, NamedTuple, Optional, Sequence, Set
 
 from ..chainstate import read_id
 from ..pool import Pool
