@@ -2,8 +2,8 @@
 
 `Chainstate` is the proved chainstate, with valid signatures as a table or found out by need; `Bench` finds them out by
 libsecp256k1. `Node` is a proved node for many callers, in a process of its own, with a table or, by `verify=secp256k1`, real
-signatures; `AsyncNode` the same for asyncio. `Replica` is one of many such nodes that have one history, over PostgreSQL; `AsyncReplica` the same for asyncio.
-`python3 -m wakotehu.server` answers the calls of bitcoind's JSON-RPC.
+signatures; `AsyncNode` the same for asyncio. `Replica` is one of many such nodes that have one history, over PostgreSQL;
+`AsyncReplica` the same for asyncio. `python3 -m wakotehu.server` answers the calls of bitcoind's JSON-RPC.
 """
 
 from .asyncreplica import AsyncReplica, AsyncReplicaSeat
@@ -20,10 +20,11 @@ from .signatures import secp256k1
 from .version import __version__
 
 __all__ = [
-    "REGTEST", "AsyncNode", "AsyncReplica", "AsyncReplicaSeat", "AsyncSeat", "BadRequest", "BadRow", "BadTable", "Bench", "BlockHeader", "Busy", "Chainstate",
-    "Closed", "Coin", "Contradiction", "DatabaseMissing", "DecodeFailed", "Entry", "Error", "Genesis", "Info", "LibraryMissing",
-    "Memory", "NoHistory", "Node", "NodeDied", "NotFound", "NotSaved", "OtherLoop", "OtherProcess", "Owed", "Placed",
-    "ProgramMissing", "ReadOnly", "Rejected", "Replica", "ReplicaDiffers", "ReplicaSeat", "Reply", "Seat", "Stamped", "Status",
-    "TimedOut", "Tip", "TooMany", "TreeFull", "Unavailable", "Undecided", "UnspentOutput", "Wants", "__version__", "read_id",
+    "REGTEST", "AsyncNode", "AsyncReplica", "AsyncReplicaSeat", "AsyncSeat", "BadRequest", "BadRow", "BadTable",
+    "Bench", "BlockHeader", "Busy", "Chainstate", "Closed", "Coin", "Contradiction", "DatabaseMissing",
+    "DecodeFailed", "Entry", "Error", "Genesis", "Info", "LibraryMissing", "Memory", "NoHistory", "Node",
+    "NodeDied", "NotFound", "NotSaved", "OtherLoop", "OtherProcess", "Owed", "Placed", "ProgramMissing", "ReadOnly",
+    "Rejected", "Replica", "ReplicaDiffers", "ReplicaSeat", "Reply", "Seat", "Stamped", "Status", "TimedOut", "Tip",
+    "TooMany", "TreeFull", "Unavailable", "Undecided", "UnspentOutput", "Wants", "__version__", "read_id",
     "secp256k1", "show",
 ]  # fmt: skip
