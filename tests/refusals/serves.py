@@ -79,6 +79,7 @@ def lines_of(regchain):
     lines.append(b"no request\n")
     lines.append(request("x" * 400, "no", seat=0))
     lines.append(request('\0"\\\n' * 100, "no", seat=1))
+    ask("save")
     ask("finish")
     return lines
 

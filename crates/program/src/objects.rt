@@ -1,5 +1,9 @@
 //! Answers, lines of the journal, findings and faults as JSON objects, one a line.
 
+ghost use Rattle.std.specs.Prelude.{◌≡◌};
+ghost use Rattle.serving.specs.Answers.{output_members};
+ghost use Rattle.program.specs.inside.Answering.{unspent_members};
+
 use crate::answer::Answer;
 use crate::fault::{Fault, Line, Reason};
 use crate::told::{Block, Tips, Told};
@@ -167,7 +171,9 @@ fn put_tip(
 }
 
 /// An output, as its object has it.
-pub fn output_of(output: &UnspentOutput) -> Output<'_> {
+pub fn output_of(output: &UnspentOutput) -> Output<'_>
+    ensures { output_members result ≡ unspent_members output.now }
+{
     Output {
         value: output.value,
         script: output.script.as_slice(),

@@ -45,6 +45,7 @@ Takes seats method.Journal p = ((n : ℕ) × IsNumber (codes "from") p n) × ((n
 Takes seats method.Wants p = ⊤
 Takes seats method.Learn p = ((text : List ℕ) × AreLines (codes "valid") p text) × ((text : List ℕ) × AreLines (codes "invalid") p text)
 Takes seats method.Info p = ⊤
+Takes seats method.Save p = ⊤
 Takes seats method.Finish p = ⊤
 
 pub takes : (seats : ℕ) (m : Method) (p : Option Json) (c : Call) → IsCall seats m p c → Takes seats m p
@@ -89,6 +90,7 @@ asked-refused seats j m seat refusal.Memory is by none = by
 asked-refused seats j m seat refusal.Owed is by none = by
 asked-refused seats j m seat refusal.Closed is by none = by
 asked-refused seats j m seat refusal.Unsaved is by none = by
+asked-refused seats j m seat (refusal.NotSaved reason) is by none = by
 asked-refused seats j m seat refusal.Busy is by none = by
 
 -- a request of no method is refused in the turn of the seat that it names

@@ -168,6 +168,7 @@ about refusal.Memory = no_members
 about refusal.Owed = no_members
 about refusal.Closed = no_members
 about refusal.Unsaved = no_members
+about (refusal.NotSaved why) = text (codes "data") why.now no_members
 about refusal.Busy = no_members
 
 -- its code, without the minus: JSON-RPC's, and from 32001 on a node's
@@ -182,6 +183,7 @@ code_of refusal.Memory = 32001
 code_of refusal.Owed = 32002
 code_of refusal.Closed = 32003
 code_of refusal.Unsaved = 32004
+code_of (refusal.NotSaved why) = 32004
 code_of refusal.Busy = 32005
 
 -- its name
@@ -196,6 +198,7 @@ name_of refusal.Memory = codes "memory"
 name_of refusal.Owed = codes "owed"
 name_of refusal.Closed = codes "closed"
 name_of refusal.Unsaved = codes "not saved"
+name_of (refusal.NotSaved why) = codes "not saved"
 name_of refusal.Busy = codes "busy"
 
 abbrev pub refusal_members : Refusal → Members

@@ -98,6 +98,7 @@ method_name method.Journal = codes "journal"
 method_name method.Wants = codes "wants"
 method_name method.Learn = codes "learn"
 method_name method.Info = codes "info"
+method_name method.Save = codes "save"
 method_name method.Finish = codes "finish"
 
 -- what a method with these parameters asks of a seat, in a node of so many seats
@@ -140,6 +141,7 @@ abbrev pub IsAsked : ℕ → Json → Asked → Type 0
 IsAsked seats j (asked.Seat k c) = (m : Method) × IsRequest j (method_name m)
     × IsSeat seats (codes "seat") (get (codes "params") j) k × IsCall seats m (get (codes "params") j) c
 IsAsked seats j asked.Info = IsRequest j (codes "info")
+IsAsked seats j asked.Save = IsRequest j (codes "save")
 IsAsked seats j asked.Finish = IsRequest j (codes "finish")
 IsAsked seats j (asked.Refused seat refusal.Parse) = ⊥
 IsAsked seats j (asked.Refused seat refusal.TooLong) = ⊥
@@ -154,6 +156,7 @@ IsAsked seats j (asked.Refused seat refusal.Memory) = ⊥
 IsAsked seats j (asked.Refused seat refusal.Owed) = ⊥
 IsAsked seats j (asked.Refused seat refusal.Closed) = ⊥
 IsAsked seats j (asked.Refused seat refusal.Unsaved) = ⊥
+IsAsked seats j (asked.Refused seat (refusal.NotSaved why)) = ⊥
 IsAsked seats j (asked.Refused seat refusal.Busy) = ⊥
 
 -- the value names no seat of the node, or is no request
@@ -165,6 +168,7 @@ NamesNoSeat seats j = ((name : List ℕ) → ¬ IsRequest j name)
 abbrev pub IsInTurn : ℕ → Json → Asked → Type 0
 IsInTurn seats j (asked.Seat k c) = ⊤
 IsInTurn seats j asked.Info = ⊤
+IsInTurn seats j asked.Save = ⊤
 IsInTurn seats j asked.Finish = ⊤
 IsInTurn seats j (asked.Refused None why) = NamesNoSeat seats j
 IsInTurn seats j (asked.Refused (Some k) why) = IsSeat seats (codes "seat") (get (codes "params") j) k

@@ -50,6 +50,7 @@ impl Object {
             Refusal::TooLong => self.text("data", "line"),
             Refusal::TooMany => self.text("data", "values"),
             Refusal::Param(name) => self.text("data", name),
+            Refusal::NotSaved(why) => self.text("data", why),
             _ => Ok(()),
         }
     }

@@ -25,6 +25,7 @@ pub enum Method {
     Wants,
     Learn,
     Info,
+    Save,
     Finish,
 }
 
@@ -53,6 +54,7 @@ impl Method {
             "wants" => Method::Wants,
             "learn" => Method::Learn,
             "info" => Method::Info,
+            "save" => Method::Save,
             "finish" => Method::Finish,
             _ => return None,
         })

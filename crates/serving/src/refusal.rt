@@ -26,6 +26,8 @@ pub enum Refusal {
     Closed,
     /// What happened couldn't be saved: the program's last line on the standard error says why.
     Unsaved,
+    /// What happened so far couldn't be saved, for this reason. A later request may save it.
+    NotSaved(&'static str),
     /// As many requests wait for the seat as may. No step was taken.
     Busy,
 }
@@ -43,7 +45,7 @@ impl Refusal {
             Refusal::Memory => -32001,
             Refusal::Owed => -32002,
             Refusal::Closed => -32003,
-            Refusal::Unsaved => -32004,
+            Refusal::Unsaved | Refusal::NotSaved(_) => -32004,
             Refusal::Busy => -32005,
         }
     }
@@ -60,7 +62,7 @@ impl Refusal {
             Refusal::Memory => "memory",
             Refusal::Owed => "owed",
             Refusal::Closed => "closed",
-            Refusal::Unsaved => "not saved",
+            Refusal::Unsaved | Refusal::NotSaved(_) => "not saved",
             Refusal::Busy => "busy",
         }
     }

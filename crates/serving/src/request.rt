@@ -30,6 +30,8 @@ pub enum Asked {
     Seat(usize, Call),
     /// How the node was opened.
     Info,
+    /// To save what happened so far.
+    Save,
     /// To end.
     Finish,
     /// Nothing that can be answered. Where it names a seat of the node, it is told in that seat's turn.
@@ -120,6 +122,7 @@ fn asked_of(alloc: Global, value: &Value<'_>, seats: usize) -> Result<Asked, All
     };
     match method {
         Method::Info => Ok(Asked::Info),
+        Method::Save => Ok(Asked::Save),
         Method::Finish => Ok(Asked::Finish),
         _ => match seat {
             Ok(seat) => match call_of(alloc, method, &params, seats) {
@@ -184,7 +187,7 @@ fn call_of(
         Method::Journal => entries(params),
         Method::Wants => Ok(Call::Wants),
         Method::Learn => verdicts(alloc, params),
-        Method::Info | Method::Finish => Err(Refusal::Param("seat")),
+        Method::Info | Method::Save | Method::Finish => Err(Refusal::Param("seat")),
     }
 }
 

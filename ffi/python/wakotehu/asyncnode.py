@@ -12,8 +12,8 @@ from . import arguments, errors
 from .arguments import Path
 from .chainstate import Coin, Reply, Tip
 from .served import (
-    BEST, FINISH, INFO, KEPT, MOST, NOTE, TIMEOUT, TIPS, UNDER_WAY, BlockHeader, Call, Entry, Info, Opening, Stamped,
-    UnspentOutput, Wanted, block_of, checked, coins_above, died, entries, hash_at, header_of, longer_than, mark,
+    BEST, FINISH, INFO, KEPT, MOST, NOTE, SAVE, TIMEOUT, TIPS, UNDER_WAY, BlockHeader, Call, Entry, Info, Opening,
+    Stamped, UnspentOutput, Wanted, block_of, checked, coins_above, died, entries, hash_at, header_of, longer_than, mark,
     outcome, output, outputs, read_answer, request, submission, told, verdicts,
 )  # fmt: skip
 from .signatures import Verify
@@ -427,6 +427,10 @@ class AsyncNode:
             await self.kill()
             return
         await self.close()
+
+    async def save(self) -> int:
+        """As `Node.save`."""
+        return int(await self._opened().ask(SAVE, None))
 
     async def close(self) -> Optional[int]:
         """As `Node.close`."""

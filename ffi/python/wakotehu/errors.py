@@ -45,7 +45,7 @@ class BadRequest(Error):
 
 class NotSaved(BadRequest):
     """The history couldn't be saved, or kept in the folder of `datadir`: then nothing is answered any more. Whether a call
-    that was under way is a step is open until the folder is opened again."""
+    that was under way is a step is open until the folder is opened again. Of `save` `data` says why, and the node goes on."""
 
 
 class NodeDied(Error):

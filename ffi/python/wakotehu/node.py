@@ -15,8 +15,8 @@ from .asyncnode import AsyncNode, AsyncSeat
 from .chainstate import Coin, Reply, Tip
 from .pipe import Pipe
 from .served import (
-    BEST, FINISH, INFO, NOTE, TIMEOUT, TIPS, UNDER_WAY, BlockHeader, Call, Entry, Info, Opening, Stamped, UnspentOutput,
-    Wanted, block_of, checked, coins_above, entries, hash_at, header_of, learning, longer_than, mark, output, outputs,
+    BEST, FINISH, INFO, NOTE, SAVE, TIMEOUT, TIPS, UNDER_WAY, BlockHeader, Call, Entry, Info, Opening, Stamped,
+    UnspentOutput, Wanted, block_of, checked, coins_above, entries, hash_at, header_of, learning, longer_than, mark, output, outputs,
     program_path, submission, told, verdicts,
 )  # fmt: skip
 from .signatures import Verify
@@ -221,6 +221,15 @@ class Node:
         return found
 
     # ---- its life
+
+    def save(self) -> int:
+        """Saves what happened so far in the folder of `save`, with every step that any call was answered: how many steps that
+        are. With `datadir` they are on the disk then, as they are behind each answer.
+
+        What can't be saved raises `NotSaved`, whose `data` says why: "save" where the node has no folder, "no-sync", "full", or
+        "folder" where it can't be written. The folder then has what it had, and a later call may save it. It is answered in
+        the turn of seat 0."""
+        return int(self._pipe.ask(SAVE, None))
 
     def close(self) -> Optional[int]:
         """Has the process finish and save: how many steps the history has, or None where it was closed before. A process

@@ -284,6 +284,7 @@ BEST = Call("getbestblockhash", "", _read_best)
 TIPS = Call("getchaintips", "", _read_tips)
 NOTE = Call("note", "", _read_place)
 INFO = Call("info", "", _read_info)
+SAVE = Call("save", "", _read_place)
 FINISH = Call("finish", "", _read_place)
 
 

@@ -1,20 +1,25 @@
 //! What a seat's thread answers.
 
-ghost use Rattle.std.specs.Prelude.{◌≡◌, codes, IfOk};
-ghost use Rattle.serving.specs.Answers.{line_of, response, stamped_members};
+ghost use Rattle.std.specs.Prelude.{◌≡◌, IfOk};
+ghost use Rattle.node.specs.Calls.{IsClosedFault};
+ghost use Rattle.node.specs.Pass.{IsRead};
+ghost use Rattle.node.specs.Told.{best_in};
+ghost use Rattle.program.specs.inside.Answering.{IsAnswered, IsPlaceTold, IsReadAt, IsReadTold, IsSomeRead, IsSubmitTold, TellsRead, TellsStep, best_answer, no_answer, output_answer, refusal_of, tips_answer};
 
 use crate::objects::{output_of, reply_text};
 use crate::serve::board::Board;
 use crate::serve::learning::{learnt, wanted};
 use crate::serve::looking;
-use crate::serve::turn::{Turn, line_room};
+use crate::serve::outgoing::{Going, Outgoing};
+use crate::serve::saved::asked_to_save;
+use crate::serve::turn::{Ask, Blank, Turn, Waiting};
 use crate::serve::words::Facts;
 use arrayvec::ArrayString;
 use crossbeam_channel::{Receiver, Sender};
 use hash::Id;
 use journal::{Asked, block_of};
 use node::{Bytes, Entry, Naming, Node, Seat, Tip, UnspentOutput};
-use serving::{Answer, Call, Refusal, RequestId, Stamped, Step, answer_line, refusal_line};
+use serving::{Answer, Call, Refusal, Step};
 use std::alloc::{AllocError, Global};
 use std::fmt;
 use std::fmt::Write as _;
@@ -30,8 +35,8 @@ const MAX_REPLY: usize = 128;
 pub struct Desk {
     /// The seat's.
     pub number: usize,
-    pub turns: Receiver<Turn>,
-    pub to: Sender<durable::Answer>,
+    pub turns: Receiver<Waiting>,
+    pub to: Sender<Outgoing>,
 }
 
 /// Answers what comes in, one after the other, until nothing more can come or nobody takes the answers.
@@ -46,28 +51,34 @@ pub fn answer_turns<J: Naming, R>(
 where
     R: AllocGlobal + Threads + Wait + Sync,
 {
-    for turn in desk.turns.iter(rt) {
-        let line = answered(rt, node, board, facts, turn, seat);
+    for waiting in desk.turns.iter(rt) {
+        let going = match waiting {
+            Waiting::Turn(turn) => match answered(rt, node, board, facts, turn, seat) {
+                Ok(line) => Ok(Going::Line(line)),
+                Err(AllocError) => Err(AllocError),
+            },
+            Waiting::Save(blank) => asked_to_save(rt, board, facts, blank, seat),
+        };
         let stamp = board.outbox.stamp(rt, seat);
         let note = seat.note();
         board.growth.tell(rt, note.len());
         board.lay(rt, desk.number, note);
-        if !send(rt, desk, board, line, stamp) {
+        if !send(rt, desk, board, going, stamp) {
             return;
         }
     }
 }
 
-/// Sends a line that tells of so many steps. Whether it was taken.
+/// Sends what tells of so many steps. Whether it was taken.
 fn send<J: Naming, R: Wait>(
     rt: &R,
     desk: &Desk,
     board: &Board<J>,
-    line: Result<Vec<u8>, AllocError>,
+    going: Result<Going, AllocError>,
     stamp: Result<u64, node::Fault>,
 ) -> bool {
-    match (line, stamp) {
-        (Ok(line), Ok(stamp)) => desk.to.send(rt, durable::Answer { stamp, line }).is_ok(),
+    match (going, stamp) {
+        (Ok(going), Ok(stamp)) => desk.to.send(rt, Outgoing { stamp, going }).is_ok(),
         _ => {
             board.set_short();
             false
@@ -75,8 +86,8 @@ fn send<J: Naming, R: Wait>(
     }
 }
 
-/// The line that answers a request, or that says why none does. A block that no record can hold is no step. In the turn's
-/// room it takes no memory, so that each request has one, and a step that was taken is told.
+/// The line that answers a request, or that says why none does. In its blank it takes no memory, so that each request has
+/// one, and a step that was taken is told.
 fn answered<J: Naming, R>(
     rt: &R,
     node: &Node<'_, J>,
@@ -87,207 +98,211 @@ fn answered<J: Naming, R>(
 ) -> Result<Vec<u8>, AllocError>
 where
     R: AllocGlobal + Threads + Wait + Sync,
+    ensures { IfOk result (λ line.
+        IsAnswered turn.ask seat.old seat.new turn.blank line.items) }
 {
     let alloc = rt.alloc();
-    let Turn { id, call, room } = turn;
+    let Turn { ask, blank } = turn;
+    let call = match ask {
+        Ask::Call(call) => call,
+        Ask::Refused(refusal) => return blank.refuse(refusal),
+    };
     match call {
-        Ok(Call::Submit(block, _)) if block.len() as u64 > LIMIT => {
-            refusal_line(room, &id, Refusal::Param("block"))
-        }
-        Ok(Call::Submit(block, now)) => {
-            let reply = match Bytes::from_vec(alloc, block) {
-                Ok(block) => seat.submit_bytes(rt, node, block, now),
-                Err(Memory) => Err(node::Fault::Memory),
-            };
-            replied(alloc, room, &id, reply, seat)
-        }
-        Ok(Call::Invalidate(block)) => {
-            let reply = seat.invalidate(rt, node, block);
-            replied(alloc, room, &id, reply, seat)
-        }
-        Ok(Call::Reconsider(block)) => {
-            let reply = seat.reconsider(rt, node, block);
-            replied(alloc, room, &id, reply, seat)
-        }
-        Ok(Call::Precious(block)) => {
-            let reply = seat.precious(rt, node, block);
-            replied(alloc, room, &id, reply, seat)
-        }
-        Ok(Call::Learn(valid, invalid)) => { learnt(rt, node, room, &id, (valid, invalid), seat) }
-        Ok(Call::Wants) => read_or_refused(room, &id, wanted(alloc, &id, seat)),
-        Ok(Call::Wait(steps)) => {
-            board.growth.wait_past(rt, steps);
-            let read = best_place(alloc, &id, seat.getbestblockhash());
-            read_or_refused(room, &id, read)
-        }
-        Ok(Call::Note) => placed(alloc, room, &id, seat.note().len()),
-        Ok(Call::Told(from)) => {
-            board.tell(rt, from, seat);
-            placed(alloc, room, &id, seat.note().len())
-        }
-        Ok(call) => read_or_refused(room, &id, read(rt, board, facts, &id, call, seat)),
-        Err(refusal) => refusal_line(room, &id, refusal),
+        Call::Submit(block, now) => submitted(rt, node, blank, block, now, seat),
+        Call::Invalidate(block) => replied(alloc, blank, seat.invalidate(rt, node, block), seat),
+        Call::Reconsider(block) => replied(alloc, blank, seat.reconsider(rt, node, block), seat),
+        Call::Precious(block) => replied(alloc, blank, seat.precious(rt, node, block), seat),
+        Call::Output(outpoint) => found(alloc, blank, seat.gettxout(alloc, &outpoint)),
+        Call::Best => best(alloc, blank, seat.getbestblockhash()),
+        Call::Tips => listed_tips(alloc, blank, seat.getchaintips(alloc)),
+        Call::Wait(steps) => waited(rt, board, blank, steps, seat),
+        Call::Note => blank.answer(alloc, seat.note().len(), Answer::Place),
+        Call::Told(from) => told(rt, board, blank, from, seat),
+        Call::Wants => wanted(alloc, blank, seat),
+        Call::Learn(valid, invalid) => learnt(rt, node, blank, valid, invalid, seat),
+        Call::Journal(from, to) => steps(alloc, facts, blank, from, to, seat),
+        Call::Block(block) => looking::block(rt, board, blank, &block, seat),
+        Call::Header(block) => looking::header(rt, board, blank, &block, seat),
+        Call::Hash(height) => looking::hash(rt, board, blank, height, seat),
+        Call::Coins(above, most) => looking::coins(alloc, blank, above.as_ref(), most, seat),
     }
 }
 
-/// The line of a reading call.
-fn read<J: Naming, R>(
+/// The line of a submission's reply. A block that no record can hold is no step.
+fn submitted<J: Naming, R>(
     rt: &R,
-    board: &Board<J>,
-    facts: &Facts<'_>,
-    id: &RequestId,
-    call: Call,
+    node: &Node<'_, J>,
+    blank: Blank,
+    block: Vec<u8>,
+    now: u64,
     seat: &mut Seat<'_, J>,
-) -> Result<Vec<u8>, Refusal>
+) -> Result<Vec<u8>, AllocError>
 where
     R: AllocGlobal + Threads + Wait + Sync,
+    ensures { IfOk result (λ line.
+        IsSubmitTold seat.old seat.new block.items now blank line.items) }
 {
-    let alloc = rt.alloc();
-    match call {
-        Call::Output(outpoint) => found(alloc, id, seat.gettxout(alloc, &outpoint)),
-        Call::Tips => listed_tips(alloc, id, seat.getchaintips(alloc)),
-        Call::Journal(from, to) => {
-            let entries = seat.journal(alloc, from.saturating_sub(1), to);
-            listed(alloc, id, facts, from, entries)
+    if block.len() as u64 > LIMIT {
+        return blank.refuse(Refusal::Param("block"));
+    }
+    match Bytes::from_vec(rt.alloc(), block) {
+        Ok(block) => {
+            let reply = seat.submit_bytes(rt, node, block, now);
+            replied(rt.alloc(), blank, reply, seat)
         }
-        Call::Block(block) => looking::block(rt, board, id, &block, seat),
-        Call::Header(block) => looking::header(rt, board, id, &block, seat),
-        Call::Hash(height) => looking::hash(rt, board, id, height, seat),
-        Call::Coins(above, most) => looking::coins(alloc, id, above.as_ref(), most, seat),
-        _ => best(alloc, id, seat.getbestblockhash()),
+        Err(Memory) => blank.refuse(Refusal::Memory),
     }
-}
-
-/// The line of a read, or the one that says in the room why there is none.
-pub fn read_or_refused(
-    room: Vec<u8>,
-    id: &RequestId,
-    read: Result<Vec<u8>, Refusal>,
-) -> Result<Vec<u8>, AllocError> {
-    match read {
-        Ok(line) => Ok(line),
-        Err(refusal) => refusal_line(room, id, refusal),
-    }
-}
-
-/// The line of an answer that is its place alone.
-fn placed(alloc: Global, room: Vec<u8>, id: &RequestId, at: u64) -> Result<Vec<u8>, AllocError> {
-    let answer = Answer::Place;
-    answer_line(alloc, room, id, &Stamped { at, answer })
 }
 
 /// The line of a reply to a step, or of the signatures that it wants.
 fn replied<J: Naming, T: fmt::Display + Copy>(
     alloc: Global,
-    room: Vec<u8>,
-    id: &RequestId,
+    blank: Blank,
     reply: Result<node::Stamped<T>, node::Fault>,
     seat: &Seat<'_, J>,
-) -> Result<Vec<u8>, AllocError> {
+) -> Result<Vec<u8>, AllocError>
+    ensures { IfOk result (λ line. TellsStep T.output blank reply seat.now line.items) }
+{
     match reply {
         Ok(node::Stamped { at, value }) => {
             let mut word = ArrayString::<MAX_REPLY>::new();
-            let _ = write!(word, "{value}");
-            let answer = Answer::Reply(word.as_str());
-            answer_line(alloc, room, id, &Stamped { at, answer })
+            match word.write(value) {
+                Ok(()) => blank.answer(alloc, at, Answer::Reply(word.as_str())),
+                // No reply is as long.
+                Err(_) => blank.refuse(Refusal::Owed),
+            }
         }
-        Err(node::Fault::Unknown) => read_or_refused(room, id, wanted(alloc, id, seat)),
-        Err(fault) => refusal_line(room, id, refused(fault)),
+        Err(node::Fault::Unknown) => wanted(alloc, blank, seat),
+        Err(fault) => blank.refuse(refused(fault)),
     }
 }
 
 /// The line of an output, if there is one.
 fn found(
     alloc: Global,
-    id: &RequestId,
+    blank: Blank,
     found: Result<node::Stamped<Option<UnspentOutput>>, node::Fault>,
-) -> Result<Vec<u8>, Refusal> {
+) -> Result<Vec<u8>, AllocError>
+    ensures { IfOk result (λ line. TellsRead output_answer blank found line.items) }
+{
     match found {
-        Ok(node::Stamped { at, value }) => {
-            let output = match &value {
-                Some(output) => Some(output_of(output)),
-                None => None,
-            };
-            read_line(alloc, id, at, Answer::Output(output))
-        }
-        Err(fault) => Err(refused(fault)),
+        Ok(node::Stamped { at, value }) => match &value {
+            Some(output) => blank.read(alloc, at, Answer::Output(Some(output_of(output)))),
+            None => blank.read(alloc, at, Answer::Output(None)),
+        },
+        Err(fault) => blank.refuse(refused(fault)),
     }
 }
 
 fn best(
     alloc: Global,
-    id: &RequestId,
+    blank: Blank,
     best: Result<node::Stamped<Id>, node::Fault>,
-) -> Result<Vec<u8>, Refusal> {
+) -> Result<Vec<u8>, AllocError>
+    ensures { IfOk result (λ line. TellsRead best_answer blank best line.items) }
+{
     match best {
-        Ok(node::Stamped { at, value }) => read_line(alloc, id, at, Answer::Best(value)),
-        Err(fault) => Err(refused(fault)),
+        Ok(node::Stamped { at, value }) => blank.read(alloc, at, Answer::Best(value)),
+        Err(fault) => blank.refuse(refused(fault)),
     }
 }
 
 /// The line of how many steps the seat has then seen.
 fn best_place(
     alloc: Global,
-    id: &RequestId,
+    blank: Blank,
     best: Result<node::Stamped<Id>, node::Fault>,
-) -> Result<Vec<u8>, Refusal> {
+) -> Result<Vec<u8>, AllocError>
+    ensures { IfOk result (λ line. TellsRead no_answer blank best line.items) }
+{
     match best {
-        Ok(node::Stamped { at, .. }) => read_line(alloc, id, at, Answer::Place),
-        Err(fault) => Err(refused(fault)),
+        Ok(node::Stamped { at, .. }) => blank.read(alloc, at, Answer::Place),
+        Err(fault) => blank.refuse(refused(fault)),
     }
 }
 
 fn listed_tips(
     alloc: Global,
-    id: &RequestId,
+    blank: Blank,
     tips: Result<node::Stamped<Vec<Tip>>, node::Fault>,
-) -> Result<Vec<u8>, Refusal> {
+) -> Result<Vec<u8>, AllocError>
+    ensures { IfOk result (λ line. TellsRead tips_answer blank tips line.items) }
+{
     match tips {
-        Ok(node::Stamped { at, value }) => {
-            read_line(alloc, id, at, Answer::Tips(value.as_slice()))
-        }
-        Err(fault) => Err(refused(fault)),
+        Ok(node::Stamped { at, value }) => blank.read(alloc, at, Answer::Tips(value.as_slice())),
+        Err(fault) => blank.refuse(refused(fault)),
     }
 }
 
-/// The line of a read.
-pub fn read_line(
-    alloc: Global,
-    id: &RequestId,
-    at: u64,
-    answer: Answer<'_>,
-) -> Result<Vec<u8>, Refusal>
-    ensures { let told = stamped_members (record { at = at; answer = answer.entry }) in
-        IfOk result (λ line. line.items ≡ line_of (response (codes "result") id.now told)) }
+/// Waits until the history has more steps than these, and tells how many the seat has then seen.
+fn waited<J: Naming, R>(
+    rt: &R,
+    board: &Board<J>,
+    blank: Blank,
+    steps: u64,
+    seat: &mut Seat<'_, J>,
+) -> Result<Vec<u8>, AllocError>
+where
+    R: AllocGlobal + Wait,
+    ensures { IfOk result (λ line. let best = best_in seat.old.origin in
+        let IsBest = IsRead seat.old seat.new best in
+        IsReadTold IsBest (IsClosedFault seat.old seat.new) no_answer blank line.items) }
 {
-    let Ok(room) = line_room(alloc, id) else {
-        return Err(Refusal::Memory);
-    };
-    match answer_line(alloc, room, id, &Stamped { at, answer }) {
-        Ok(line) => Ok(line),
-        Err(AllocError) => Err(Refusal::Memory),
+    board.growth.wait_past(rt, steps);
+    best_place(rt.alloc(), blank, seat.getbestblockhash())
+}
+
+/// Has a seat hear what another has seen, and tells how many steps it has then seen.
+fn told<J: Naming, R>(
+    rt: &R,
+    board: &Board<J>,
+    blank: Blank,
+    from: usize,
+    seat: &mut Seat<'_, J>,
+) -> Result<Vec<u8>, AllocError>
+where
+    R: AllocGlobal + Wait,
+    ensures { IfOk result (λ line. IsPlaceTold seat.old seat.new blank line.items) }
+{
+    board.tell(rt, from, seat);
+    blank.answer(rt.alloc(), seat.note().len(), Answer::Place)
+}
+
+/// The line of the entries between these numbers.
+fn steps<J: Naming>(
+    alloc: Global,
+    facts: &Facts<'_>,
+    blank: Blank,
+    first: u64,
+    last: u64,
+    seat: &mut Seat<'_, J>,
+) -> Result<Vec<u8>, AllocError>
+    ensures { IfOk result (λ line. IsSomeRead seat.old seat.new blank line.items) }
+{
+    match seat.journal(alloc, first.saturating_sub(1), last) {
+        Ok(node::Stamped { at, value }) => listed(alloc, facts, blank, at, first, value.as_slice()),
+        Err(fault) => blank.refuse(refused(fault)),
     }
 }
 
 /// The line of some entries, of which the first has this number.
 fn listed(
     alloc: Global,
-    id: &RequestId,
     facts: &Facts<'_>,
+    blank: Blank,
+    at: u64,
     first: u64,
-    entries: Result<node::Stamped<Vec<Entry>>, node::Fault>,
-) -> Result<Vec<u8>, Refusal> {
-    let node::Stamped { at, value } = match entries {
-        Ok(entries) => entries,
-        Err(fault) => return Err(refused(fault)),
-    };
-    let Ok(texts) = texts_of(alloc, facts, first, value.as_slice()) else {
-        return Err(Refusal::Memory);
+    entries: &[Entry],
+) -> Result<Vec<u8>, AllocError>
+    ensures { IfOk result (λ line. IsReadAt blank at line.items) }
+{
+    let Ok(texts) = texts_of(alloc, facts, first, entries) else {
+        return blank.refuse(Refusal::Memory);
     };
     let Ok(steps) = steps_of(alloc, texts.as_slice()) else {
-        return Err(Refusal::Memory);
+        return blank.refuse(Refusal::Memory);
     };
-    read_line(alloc, id, at, Answer::Steps(steps.as_slice()))
+    blank.read(alloc, at, Answer::Steps(steps.as_slice()))
 }
 
 /// The texts of entries, of which the first has this number.
@@ -358,7 +373,9 @@ fn entry_text(
 }
 
 /// What a fault of a seat is told as.
-pub fn refused(fault: node::Fault) -> Refusal {
+pub fn refused(fault: node::Fault) -> Refusal
+    ensures { result ≡ refusal_of fault }
+{
     match fault {
         node::Fault::Memory => Refusal::Memory,
         node::Fault::Owed => Refusal::Owed,

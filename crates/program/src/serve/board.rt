@@ -1,5 +1,7 @@
 //! What seats have for one another.
 
+ghost use Rattle.std.specs.Prelude.{◌≡◌};
+
 use crate::serve::blocks::Blocks;
 use crate::serve::growth::Growth;
 use crate::serve::outbox::Outbox;
@@ -51,8 +53,20 @@ impl<J: Naming> Board<J> {
     }
 
     /// Has a seat hear what the seat of this number has seen.
-    pub fn tell<R: Wait>(&self, rt: &R, from: usize, seat: &mut Seat<'_, J>) {
+    pub fn tell<R: Wait>(&self, rt: &R, from: usize, seat: &mut Seat<'_, J>)
+        ensures { seat.new.mine ≡ seat.old.mine }
+    {
         if let Some(place) = self.notes.get(from) {
+            let guard = place.lock(rt);
+            seat.told(&guard);
+        }
+    }
+
+    /// Has a seat hear what all seats have seen.
+    pub fn tell_all<R: Wait>(&self, rt: &R, seat: &mut Seat<'_, J>)
+        ensures { seat.new.mine ≡ seat.old.mine }
+    {
+        for place in self.notes.as_slice() {
             let guard = place.lock(rt);
             seat.told(&guard);
         }

@@ -1,13 +1,15 @@
 //! Signatures by need: what a call wants, and verdicts that are told.
 
-ghost use Rattle.std.specs.Prelude.{◌≡◌, codes, length, IfOk};
-ghost use Rattle.serving.specs.Answers.{count, line_of, response, wants_members};
+ghost use Rattle.std.specs.Prelude.{length, IfOk};
+ghost use Rattle.serving.specs.Answers.{wants_members};
+ghost use Rattle.program.specs.inside.Answering.{IsLearnTold, IsReadLine};
 
 use crate::fault::Fault;
 use crate::report::Clients;
-use crate::serve::asking::{read_line, read_or_refused, refused};
+use crate::serve::asking::refused;
+use crate::serve::turn::Blank;
 use node::{Command, Entry, KeptTriple, Learning, Naming, Node, Seat};
-use serving::{Answer, Refusal, RequestId, Stamped, answer_line, read_triple, refusal_line};
+use serving::{Answer, read_triple};
 use std::alloc::{AllocError, Global};
 use std::sync::Wait;
 use std::thread::Threads;
@@ -16,13 +18,13 @@ use wire::Memory;
 /// The line of the signatures that a seat's last call wants which took no step for their sake.
 pub fn wanted<J: Naming>(
     alloc: Global,
-    id: &RequestId,
+    blank: Blank,
     seat: &Seat<'_, J>,
-) -> Result<Vec<u8>, Refusal>
-    ensures { let told = count (codes "at") (length seat.now.seen) (wants_members seat.now.wants) in
-        IfOk result (λ line. line.items ≡ line_of (response (codes "result") id.now told)) }
+) -> Result<Vec<u8>, AllocError>
+    ensures { let at = length seat.now.seen in let wants = wants_members seat.now.wants in
+        IfOk result (λ line. IsReadLine blank at wants line.items) }
 {
-    read_line(alloc, id, seat.note().len(), Answer::Wants(seat.wants()))
+    blank.read(alloc, seat.note().len(), Answer::Wants(seat.wants()))
 }
 
 /// Tells a node which signatures are valid, by the lines of a table, and which aren't, up to the first that contradicts
@@ -30,13 +32,14 @@ pub fn wanted<J: Naming>(
 pub fn learnt<J: Naming, R>(
     rt: &R,
     node: &Node<'_, J>,
-    room: Vec<u8>,
-    id: &RequestId,
-    (valid, invalid): (Vec<u8>, Vec<u8>),
+    blank: Blank,
+    valid: Vec<u8>,
+    invalid: Vec<u8>,
     seat: &mut Seat<'_, J>,
 ) -> Result<Vec<u8>, AllocError>
 where
     R: AllocGlobal + Threads + Wait + Sync,
+    ensures { IfOk result (λ line. IsLearnTold seat.new blank line.items) }
 {
     let alloc = rt.alloc();
     let told = match learn_lines(rt, node, valid.as_slice(), true, seat) {
@@ -45,15 +48,9 @@ where
     };
     let at = seat.note().len();
     match told {
-        Ok(None) => {
-            let answer = Answer::Reply("done");
-            answer_line(alloc, room, id, &Stamped { at, answer })
-        }
-        Ok(Some(triple)) => {
-            let line = read_line(alloc, id, at, Answer::Contradicted(&triple));
-            read_or_refused(room, id, line)
-        }
-        Err(fault) => refusal_line(room, id, refused(fault)),
+        Ok(None) => blank.answer(alloc, at, Answer::Reply("done")),
+        Ok(Some(triple)) => blank.read(alloc, at, Answer::Contradicted(&triple)),
+        Err(fault) => blank.refuse(refused(fault)),
     }
 }
 
@@ -121,10 +118,14 @@ pub struct Parted<'t> {
 /// Parts the verdicts of a history from its other entries, which change what the chainstate is.
 pub fn without_verdicts<'t>(
     alloc: Global,
-    clients: Clients<'t>,
+    clients: &Clients<'t>,
     entries: Vec<Entry>,
 ) -> Result<Parted<'t>, Fault<'static>> {
     let mut names = Vec::new(alloc);
+    let mut seats = Vec::new(alloc);
+    for name in clients.seats.as_slice() {
+        seats.push(*name)?;
+    }
     let mut others = Vec::new(alloc);
     let mut valid = String::new(alloc);
     let mut invalid = String::new(alloc);
@@ -141,7 +142,7 @@ pub fn without_verdicts<'t>(
     Ok(Parted {
         clients: Clients {
             earlier: names,
-            seats: clients.seats,
+            seats,
         },
         entries: others,
         valid,

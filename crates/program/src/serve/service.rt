@@ -14,7 +14,9 @@ use durable::{Host, KeptLog};
 use node::{Naming, Node, Seat};
 use serving::RequestId;
 use std::alloc::Global;
+use std::fs::File;
 use std::io::Read;
+use std::rt::Files;
 use std::sync::{Mutex, Wait};
 use std::thread::{JoinHandle, Scope, Threads};
 use std::{io, thread};
@@ -48,7 +50,7 @@ pub fn serve_requests<'t, J: Naming, R, I, H>(
     log: &Mutex<Option<KeptLog<H>>>,
 ) -> Result<Ended<'static>, Fault<'static>>
 where
-    R: AllocGlobal + Threads + Wait + Sync,
+    R: Files<File = File> + AllocGlobal + Threads + Wait + Sync,
     I: Read + Send,
     H: Host<Fault = HostFault> + Drop,
 {
@@ -101,7 +103,7 @@ fn serve_places<'t, J: Naming, R, I, H>(
     log: &Mutex<Option<KeptLog<H>>>,
 ) -> Result<Ended<'static>, Fault<'static>>
 where
-    R: AllocGlobal + Threads + Wait + Sync,
+    R: Files<File = File> + AllocGlobal + Threads + Wait + Sync,
     I: Read + Send,
     H: Host<Fault = HostFault> + Drop,
 {
@@ -125,7 +127,7 @@ fn run_threads<'t, J: Naming, R, I, H>(
     log: &Mutex<Option<KeptLog<H>>>,
 ) -> Done
 where
-    R: AllocGlobal + Threads + Wait + Sync,
+    R: Files<File = File> + AllocGlobal + Threads + Wait + Sync,
     I: Read + Send,
     H: Host<Fault = HostFault> + Drop,
 {
@@ -231,7 +233,7 @@ fn write_lines<R, H>(
     log: &Mutex<Option<KeptLog<H>>>,
 ) -> Result<(), Fault<'static>>
 where
-    R: AllocGlobal + Wait,
+    R: Files<File = File> + AllocGlobal + Wait,
     H: Host<Fault = HostFault> + Drop,
 {
     let Some(mut lines) = taken(rt, lines) else {

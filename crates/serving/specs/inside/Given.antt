@@ -25,6 +25,7 @@ IsParam refusal.Memory = ⊥
 IsParam refusal.Owed = ⊥
 IsParam refusal.Closed = ⊥
 IsParam refusal.Unsaved = ⊥
+IsParam (refusal.NotSaved why) = ⊥
 IsParam refusal.Busy = ⊥
 
 -- there was no memory, or a parameter says that no call is meant
