@@ -8,7 +8,7 @@ use crate::fault::Fault;
 use crate::report::Clients;
 use crate::serve::asking::refused;
 use crate::serve::turn::Blank;
-use node::{Command, Entry, KeptTriple, Learning, Naming, Node, Seat};
+use node::{Command, Entry, KeptTriple, Naming, Node, Seat};
 use serving::{Answer, read_triple};
 use std::alloc::{AllocError, Global};
 use std::sync::Wait;
@@ -66,18 +66,20 @@ pub fn learn_lines<J: Naming, R>(
 where
     R: AllocGlobal + Threads + Wait + Sync,
 {
-    for line in text.split(|byte| *byte == b'\n') {
-        if let Some(triple) = triple_of(rt.alloc(), line)? {
-            if seat.learn(rt, node, &triple, valid)?.value == Learning::Contradicted {
-                return Ok(Some(triple));
-            }
-        }
-    }
-    Ok(None)
+    let triples = triples_of(rt.alloc(), text)?;
+    let taken = seat.learn_all(rt, node, triples.as_slice(), valid)?.value;
+    Ok(triples.into_iter().nth(taken))
 }
 
-fn triple_of(alloc: Global, line: &[u8]) -> Result<Option<KeptTriple>, Memory> {
-    Ok(read_triple(alloc, line)?)
+/// The triples of a table's lines.
+fn triples_of(alloc: Global, text: &[u8]) -> Result<Vec<KeptTriple>, Memory> {
+    let mut triples = Vec::new(alloc);
+    for line in text.split(|byte| *byte == b'\n') {
+        if let Some(triple) = read_triple(alloc, line)? {
+            triples.push(triple)?;
+        }
+    }
+    Ok(triples)
 }
 
 /// Tells a node that the signatures which a seat wants aren't valid.
@@ -90,9 +92,7 @@ where
     R: AllocGlobal + Threads + Wait + Sync,
 {
     let wants = copies(rt.alloc(), seat.wants())?;
-    for triple in wants.as_slice() {
-        seat.learn(rt, node, triple, false)?;
-    }
+    seat.learn_all(rt, node, wants.as_slice(), false)?;
     Ok(())
 }
 
