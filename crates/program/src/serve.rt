@@ -12,7 +12,6 @@ mod lacking;
 mod learning;
 mod looking;
 mod outbox;
-mod outgoing;
 mod reading;
 mod saved;
 mod service;
@@ -29,17 +28,18 @@ use crate::fault::Fault;
 use crate::files::{read_if_named, read_table_file};
 use crate::options::{HEIGHTS, Saved, ServeOptions};
 use crate::replay::{Inputs, commands, read_inputs};
-use crate::report::Clients;
-use crate::saving::{check_folder, read_invalid};
+use crate::report::{Clients, Report};
+use crate::saving::{check_folder, heights_line, read_invalid, save, save_invalid};
 use crate::serve::earlier::{Earlier, play_earlier};
-use crate::serve::saved::save_entries;
+use crate::serve::learning::{Parted, without_verdicts};
 use crate::serve::service::{serve_requests, taken};
 use crate::serve::telling::tell_all;
-use crate::serve::words::{Facts, SEATS, Target};
+use crate::serve::words::{Facts, SEATS};
 use curve::Table;
 use durable::{Host, KeptLog, Lost, whole_lines};
 use journal::{read_heights, read_journal, read_records};
 use node::{EndFault, Entry, Gate, Naming, Node, Opening, Seat};
+use scenario::Definitions;
 use serving::{Answer, Refusal, RequestId, Stamped, answer_line, refusal_line};
 use std::alloc::{AllocError, Global};
 use std::fs::File;
@@ -105,33 +105,19 @@ where
     let known = read_known(rt, options, &table)?;
     let (journal, blk) = (journal.as_slice(), blk.as_slice());
     let earlier = read_earlier(rt, options, journal, blk, verdicts, known)?;
-    let table = Arc::new(alloc, table)?;
     let facts = Facts {
         params,
         seats: options.seats,
         workers: options.workers,
         loaded: earlier.steps.len(),
         is_kept: options.datadir.is_some(),
+        is_unsynced: options.is_unsynced,
         is_by_need: options.is_by_need,
         is_busy: options.is_busy,
-        target: target(alloc, options, &table)?,
         clients: clients(alloc, &earlier)?,
     };
+    let table = Arc::new(alloc, table)?;
     serve_and_save(rt, options, gate, &earlier, facts, &table, input, &log)
-}
-
-/// Where the history is saved.
-fn target(
-    alloc: Global,
-    options: &ServeOptions<'_>,
-    table: &Arc<Table>,
-) -> Result<Target, AllocError> {
-    Ok(match (options.save, options.datadir) {
-        (Some(folder), _) => Target::Folder(String::from_str(alloc, folder)?, table.clone()?),
-        (None, Some(_)) if options.is_unsynced => Target::UnsyncedLog,
-        (None, Some(_)) => Target::Log,
-        (None, None) => Target::Nowhere,
-    })
 }
 
 /// What a node begins with.
@@ -295,7 +281,7 @@ where
     let steps = entries.len() as u64;
     let kept = keep_rest(rt, &facts, entries.as_slice(), log);
     let saved = match options.save {
-        Some(folder) => save_entries(rt, folder, table, &facts, entries),
+        Some(folder) => save_served(rt, folder, table, facts, entries),
         None => Ok(()),
     };
     let told = tell_end(rt.alloc(), finish, steps, saved.is_ok(), kept);
@@ -392,7 +378,7 @@ fn serve_at_node<'f, J: Naming, R, I, H>(
     log: &Mutex<Option<KeptLog<H>>>,
 ) -> Result<Served<'f>, Fault<'f>>
 where
-    R: Files<File = File> + AllocGlobal + Threads + Wait + Sync,
+    R: AllocGlobal + Threads + Wait + Sync,
     I: Read + Send,
     H: Host<Fault = HostFault> + Drop,
     requires { opening ≡ J.origin }
@@ -421,7 +407,7 @@ fn serve_seats<J: Naming, R, I, H>(
     log: &Mutex<Option<KeptLog<H>>>,
 ) -> Result<Ended<'static>, Fault<'static>>
 where
-    R: Files<File = File> + AllocGlobal + Threads + Wait + Sync,
+    R: AllocGlobal + Threads + Wait + Sync,
     I: Read + Send,
     H: Host<Fault = HostFault> + Drop,
 {
@@ -429,6 +415,37 @@ where
         play_earlier(rt, node, seat, earlier, &mut facts.clients)?;
     }
     serve_requests(rt, node, seats, facts, input, log)
+}
+
+/// Saves what happened: a history without verdicts, beside the signatures that these say are valid, and that they aren't.
+fn save_served<'w, R>(
+    rt: &R,
+    folder: &'w str,
+    table: &Table,
+    facts: Facts<'_>,
+    entries: Vec<Entry>,
+) -> Result<(), Fault<'w>>
+where
+    R: Files<File = File> + AllocGlobal,
+{
+    let Facts {
+        params,
+        clients,
+        ..
+    } = facts;
+    let heights = heights_line(rt.alloc(), &params)?;
+    let Parted {
+        clients,
+        entries,
+        valid,
+        invalid,
+    } = without_verdicts(rt.alloc(), clients, entries)?;
+    let found = Table::from_lines(rt.alloc(), valid.as_bytes())?;
+    let table = if valid.is_empty() { table } else { &found };
+    let definitions = Definitions::read(rt.alloc(), &[], Table::new(rt.alloc()))?;
+    let report = Report::new(rt.alloc(), &definitions, clients, entries)?;
+    save(rt, folder, &report, table, heights.trim_end())?;
+    save_invalid(rt, folder, invalid.as_str())
 }
 
 /// Answers the request that asked for the end, if one did, where the history is kept.

@@ -223,12 +223,9 @@ class Node:
     # ---- its life
 
     def save(self) -> int:
-        """Saves what happened so far in the folder of `save`, with every step that any call was answered: how many steps that
-        are. With `datadir` they are on the disk then, as they are behind each answer.
-
-        What can't be saved raises `NotSaved`, whose `data` says why: "save" where the node has no folder, "no-sync", "full", or
-        "folder" where it can't be written. The folder then has what it had, and a later call may save it. It is answered in
-        the turn of seat 0."""
+        """Waits until every step that any call was answered is on the disk, of `datadir`: how many steps that are. They are there
+        behind each answer already. Without `datadir`, or with `sync=False`, it raises `NotSaved`. It is answered in the turn of
+        seat 0."""
         return int(self._pipe.ask(SAVE, None))
 
     def close(self) -> Optional[int]:

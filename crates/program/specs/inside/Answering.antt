@@ -1,13 +1,11 @@
 -- What a seat's thread answers to a request: the line that goes out, by what the seat was before its turn and is behind it.
-use Rattle.std.specs.Prelude.{◌≡◌, ◌⊎◌, ◌≤◌, ◌<◌, ◌^◌, ℕ, List, length, codes, Option, Some, None, Result, Ok, Err, IfOk, IfErr, IfSome, Vec}
+use Rattle.std.specs.Prelude.{◌≡◌, ◌⊎◌, ◌<◌, ◌^◌, ℕ, ⊤, List, length, codes, Option, Some, None, Result, Ok, Err, IfOk, IfErr, IfSome, Vec}
 use Rattle.std.specs.Global.{Global}
-use Rattle.std.specs.Borrow.{Bor}
 use Rattle.std.specs.Fmt.{signed_decimal}
 use Rattle.hex.specs.Hex.{encode_lower}
 use Rattle.json.specs.Json.{null, boolean, number, array, object, Members, no_members, member}
 use Rattle.hash.specs.Id.{hex_of_id}
 use Rattle.hash.specs.declared.id.Id.{Id}
-use Rattle.curve.specs.Triple.{Triple}
 use Rattle.tree.specs.declared.tip.Tip.{Tip}
 use Rattle.chain.specs.ReplyText.{text_of_submit, text_of_mark}
 use Rattle.chain.specs.declared.command.Command.{Command}
@@ -22,7 +20,7 @@ use Rattle.node.specs.declared.fault.Fault.TheVariants.{Memory, Owed, Closed, Un
 use Rattle.node.specs.Calls.{IsSubmitAnswer, IsWriteFault, IsReadFault, IsClosedFault}
 use Rattle.node.specs.Pass.{Pass, IsWrite, IsRead}
 use Rattle.node.specs.Told.{best_in, output_at, shown_tips}
-use Rattle.serving.specs.Answers.{text, count, line_of, response, refusal_members, tip_items, wants_members, contradicted_members}
+use Rattle.serving.specs.Answers.{text, count, line_of, response, refusal_members, tip_items, wants_members}
 use Rattle.serving.specs.declared.refusal.Refusal.{Refusal}
 use Rattle.serving.specs.declared.refusal.Refusal.TheVariants as refusal
 use Rattle.serving.specs.declared.request.Call.{Call}
@@ -41,6 +39,10 @@ answer_at i at ms = line_of (response (codes "result") i (count (codes "at") at 
 abbrev pub error_of : RequestId → Refusal → List ℕ
 error_of i why = line_of (response (codes "error") i (refusal_members why))
 
+-- some refusal
+abbrev pub IsError : RequestId → List ℕ → Type 0
+IsError i line = (why : Refusal) × (line ≡ error_of i why)
+
 -- what a fault of the node is told as
 abbrev pub refusal_of : Fault → Refusal
 refusal_of Memory = refusal.Memory
@@ -51,14 +53,6 @@ refusal_of Unknown = refusal.Closed
 -- the line of what was read, or that there is no memory for it
 abbrev pub IsReadLine : RequestId → ℕ → Members → List ℕ → Type 0
 IsReadLine i at ms line = (line ≡ answer_at i at ms) ⊎ (line ≡ error_of i refusal.Memory)
-
--- the line of something that was read at this place, or that there is no memory for it
-abbrev pub IsReadAt : RequestId → ℕ → List ℕ → Type 0
-IsReadAt i at line = (ms : Members) × IsReadLine i at ms line
-
--- the line of something that was read, at this place or an earlier one
-abbrev pub IsReadUpTo : ℕ → RequestId → List ℕ → Type 0
-IsReadUpTo most i line = (at : ℕ) × (at ≤ most) × ((ms : Members) × (line ≡ answer_at i at ms))
 
 -- the line that was made, or the refusal
 abbrev pub GivesRead : Result (Vec ℕ Global) Refusal → RequestId → List ℕ → Type 0
@@ -121,9 +115,7 @@ IsMarkTold p q c i line = IsStepTold p q c (λ at (r : MarkReply). IsWrite p q c
 pub record IsTooLong (block : List ℕ) (i : RequestId) (p q : Pass) (line : List ℕ) : Type 0 where
   pub long : 2 ^ 25 < length block
   pub same : q ≡ p
-  pub name : Bor (List ℕ)
-  pub name_is : name.now ≡ codes "block"
-  pub told : line ≡ error_of i (refusal.Param name)
+  pub told : IsError i line
 
 -- bytes are submitted
 abbrev pub IsSubmitTold : Pass → Pass → List ℕ → ℕ → RequestId → List ℕ → Type 0
@@ -135,24 +127,17 @@ IsSubmitTold p q block now i line =
 abbrev pub IsReadTold : {V : Type 0} → (ℕ → V → Type 0) → (Fault → Type 0) → (V → Members) → RequestId → List ℕ → Type 0
 IsReadTold IsAnswer IsFault ms i line = IsTold IsAnswer IsFault (λ r. TellsRead ms i r line)
 
--- an answer at a place that the seat has then seen, or a refusal; no step was taken
-pub record IsSomeRead (p q : Pass) (i : RequestId) (line : List ℕ) : Type 0 where
-  pub mine : q.mine ≡ p.mine
-  pub told : IsReadUpTo (length q.seen) i line ⊎ ((why : Refusal) × (line ≡ error_of i why))
-
 -- how many steps the seat has then seen
 pub record IsPlaceTold (p q : Pass) (i : RequestId) (line : List ℕ) : Type 0 where
   pub mine : q.mine ≡ p.mine
   pub told : line ≡ answer_at i (length q.seen) no_members
 
--- verdicts: all were taken down, or up to one that contradicts what is known, or up to a fault
-abbrev pub IsLearnTold : Pass → RequestId → List ℕ → Type 0
-IsLearnTold q i line =
-    (line ≡ answer_at i (length q.seen) (text (codes "answer") (codes "done") no_members))
-    ⊎ ((t : Triple) × IsReadLine i (length q.seen) (contradicted_members t) line)
-    ⊎ ((fault : Fault) × (line ≡ error_of i (refusal_of fault)))
+-- what was answered is on the disk, or a refusal
+pub record IsSaveTold (p q : Pass) (i : RequestId) (line : List ℕ) : Type 0 where
+  pub mine : q.mine ≡ p.mine
+  pub told : (line ≡ answer_at i (length q.seen) no_members) ⊎ IsError i line
 
--- what a call is answered
+-- what a call is answered; nothing is said of what looks blocks, coins and entries up, and of verdicts
 abbrev pub IsCallTold : Call → Pass → Pass → RequestId → List ℕ → Type 0
 IsCallTold (call.Submit block now) p q i line = IsSubmitTold p q block.items now i line
 IsCallTold (call.Invalidate id) p q i line = IsMarkTold p q (command.Invalidate id) i line
@@ -162,18 +147,19 @@ IsCallTold (call.Output at) p q i line = IsReadTold (IsRead p q (output_at p.ori
 IsCallTold call.Best p q i line = IsReadTold (IsRead p q (best_in p.origin)) (IsClosedFault p q) best_answer i line
 IsCallTold call.Tips p q i line =
     IsReadTold (λ at (tips : Vec Tip Global). IsRead p q (shown_tips p.origin) at tips.items) (IsReadFault p q) tips_answer i line
-IsCallTold (call.Block id) p q i line = IsSomeRead p q i line
-IsCallTold (call.Header id) p q i line = IsSomeRead p q i line
-IsCallTold (call.Hash height) p q i line = IsSomeRead p q i line
-IsCallTold (call.Coins above most) p q i line = IsSomeRead p q i line
+IsCallTold (call.Block id) p q i line = ⊤
+IsCallTold (call.Header id) p q i line = ⊤
+IsCallTold (call.Hash height) p q i line = ⊤
+IsCallTold (call.Coins above most) p q i line = ⊤
 IsCallTold (call.Wait steps) p q i line = IsReadTold (IsRead p q (best_in p.origin)) (IsClosedFault p q) no_answer i line
 IsCallTold call.Note p q i line = IsPlaceTold p q i line
 IsCallTold (call.Told from) p q i line = IsPlaceTold p q i line
-IsCallTold (call.Journal from to) p q i line = IsSomeRead p q i line
+IsCallTold (call.Journal from to) p q i line = ⊤
 IsCallTold call.Wants p q i line = (q ≡ p) × IsReadLine i (length q.seen) (wants_members q.wants) line
-IsCallTold (call.Learn valid invalid) p q i line = IsLearnTold q i line
+IsCallTold (call.Learn valid invalid) p q i line = ⊤
 
 -- what a request is answered
 abbrev pub IsAnswered : Ask → Pass → Pass → RequestId → List ℕ → Type 0
 IsAnswered (ask.Call c) p q i line = IsCallTold c p q i line
+IsAnswered ask.Save p q i line = IsSaveTold p q i line
 IsAnswered (ask.Refused why) p q i line = (q ≡ p) × (line ≡ error_of i why)

@@ -1,24 +1,24 @@
 //! What a seat's thread answers.
 
-ghost use Rattle.std.specs.Prelude.{◌≡◌, IfOk};
-ghost use Rattle.node.specs.Calls.{IsClosedFault};
+ghost use Rattle.std.specs.Prelude.{◌≡◌, IfOk, IfErr};
+ghost use Rattle.chain.specs.declared.command.Command.TheVariants as command;
+ghost use Rattle.node.specs.Calls.{IsClosedFault, IsSubmitAnswer, IsWriteFault};
 ghost use Rattle.node.specs.Pass.{IsRead};
 ghost use Rattle.node.specs.Told.{best_in};
-ghost use Rattle.program.specs.inside.Answering.{IsAnswered, IsPlaceTold, IsReadAt, IsReadTold, IsSomeRead, IsSubmitTold, TellsRead, TellsStep, best_answer, no_answer, output_answer, refusal_of, tips_answer};
+ghost use Rattle.program.specs.inside.Answering.{IsAnswered, IsPlaceTold, IsReadTold, IsSubmitTold, TellsRead, TellsStep, best_answer, no_answer, output_answer, refusal_of, tips_answer};
 
 use crate::objects::{output_of, reply_text};
 use crate::serve::board::Board;
 use crate::serve::learning::{learnt, wanted};
 use crate::serve::looking;
-use crate::serve::outgoing::{Going, Outgoing};
-use crate::serve::saved::asked_to_save;
-use crate::serve::turn::{Ask, Blank, Turn, Waiting};
+use crate::serve::saved::saved;
+use crate::serve::turn::{Ask, Blank, Turn};
 use crate::serve::words::Facts;
 use arrayvec::ArrayString;
 use crossbeam_channel::{Receiver, Sender};
 use hash::Id;
 use journal::{Asked, block_of};
-use node::{Bytes, Entry, Naming, Node, Seat, Tip, UnspentOutput};
+use node::{Bytes, Entry, Naming, Node, Seat, SubmitReply, Tip, UnspentOutput};
 use serving::{Answer, Call, Refusal, Step};
 use std::alloc::{AllocError, Global};
 use std::fmt;
@@ -35,8 +35,8 @@ const MAX_REPLY: usize = 128;
 pub struct Desk {
     /// The seat's.
     pub number: usize,
-    pub turns: Receiver<Waiting>,
-    pub to: Sender<Outgoing>,
+    pub turns: Receiver<Turn>,
+    pub to: Sender<durable::Answer>,
 }
 
 /// Answers what comes in, one after the other, until nothing more can come or nobody takes the answers.
@@ -51,34 +51,28 @@ pub fn answer_turns<J: Naming, R>(
 where
     R: AllocGlobal + Threads + Wait + Sync,
 {
-    for waiting in desk.turns.iter(rt) {
-        let going = match waiting {
-            Waiting::Turn(turn) => match answered(rt, node, board, facts, turn, seat) {
-                Ok(line) => Ok(Going::Line(line)),
-                Err(AllocError) => Err(AllocError),
-            },
-            Waiting::Save(blank) => asked_to_save(rt, board, facts, blank, seat),
-        };
+    for turn in desk.turns.iter(rt) {
+        let line = answered(rt, node, board, facts, turn, seat);
         let stamp = board.outbox.stamp(rt, seat);
         let note = seat.note();
         board.growth.tell(rt, note.len());
         board.lay(rt, desk.number, note);
-        if !send(rt, desk, board, going, stamp) {
+        if !send(rt, desk, board, line, stamp) {
             return;
         }
     }
 }
 
-/// Sends what tells of so many steps. Whether it was taken.
+/// Sends a line that tells of so many steps. Whether it was taken.
 fn send<J: Naming, R: Wait>(
     rt: &R,
     desk: &Desk,
     board: &Board<J>,
-    going: Result<Going, AllocError>,
+    line: Result<Vec<u8>, AllocError>,
     stamp: Result<u64, node::Fault>,
 ) -> bool {
-    match (going, stamp) {
-        (Ok(going), Ok(stamp)) => desk.to.send(rt, Outgoing { stamp, going }).is_ok(),
+    match (line, stamp) {
+        (Ok(line), Ok(stamp)) => desk.to.send(rt, durable::Answer { stamp, line }).is_ok(),
         _ => {
             board.set_short();
             false
@@ -105,6 +99,7 @@ where
     let Turn { ask, blank } = turn;
     let call = match ask {
         Ask::Call(call) => call,
+        Ask::Save => return saved(rt, board, facts, blank, seat),
         Ask::Refused(refusal) => return blank.refuse(refusal),
     };
     match call {
@@ -121,10 +116,22 @@ where
         Call::Wants => wanted(alloc, blank, seat),
         Call::Learn(valid, invalid) => learnt(rt, node, blank, valid, invalid, seat),
         Call::Journal(from, to) => steps(alloc, facts, blank, from, to, seat),
-        Call::Block(block) => looking::block(rt, board, blank, &block, seat),
-        Call::Header(block) => looking::header(rt, board, blank, &block, seat),
-        Call::Hash(height) => looking::hash(rt, board, blank, height, seat),
-        Call::Coins(above, most) => looking::coins(alloc, blank, above.as_ref(), most, seat),
+        Call::Block(block) => {
+            let line = looking::block(rt, board, blank.id(), &block, seat);
+            blank.give(line)
+        }
+        Call::Header(block) => {
+            let line = looking::header(rt, board, blank.id(), &block, seat);
+            blank.give(line)
+        }
+        Call::Hash(height) => {
+            let line = looking::hash(rt, board, blank.id(), height, seat);
+            blank.give(line)
+        }
+        Call::Coins(above, most) => {
+            let line = looking::coins(alloc, blank.id(), above.as_ref(), most, seat);
+            blank.give(line)
+        }
     }
 }
 
@@ -145,13 +152,25 @@ where
     if block.len() as u64 > LIMIT {
         return blank.refuse(Refusal::Param("block"));
     }
-    match Bytes::from_vec(rt.alloc(), block) {
-        Ok(block) => {
-            let reply = seat.submit_bytes(rt, node, block, now);
-            replied(rt.alloc(), blank, reply, seat)
-        }
-        Err(Memory) => blank.refuse(Refusal::Memory),
-    }
+    let reply = submit(rt, node, block, now, seat);
+    replied(rt.alloc(), blank, reply, seat)
+}
+
+fn submit<J: Naming, R>(
+    rt: &R,
+    node: &Node<'_, J>,
+    block: Vec<u8>,
+    now: u64,
+    seat: &mut Seat<'_, J>,
+) -> Result<node::Stamped<SubmitReply>, node::Fault>
+where
+    R: AllocGlobal + Threads + Wait + Sync,
+    ensures answer { let IsAnswer = IsSubmitAnswer seat.old seat.new block.items now in
+        IfOk result (λ r. IsAnswer r.at r.value) }
+    ensures fault { let asked = command.Submit block.items now in
+        IfErr result (IsWriteFault seat.old seat.new asked) }
+{
+    seat.submit_bytes(rt, node, Bytes::from_vec(rt.alloc(), block)?, now)
 }
 
 /// The line of a reply to a step, or of the signatures that it wants.
@@ -276,9 +295,7 @@ fn steps<J: Naming>(
     first: u64,
     last: u64,
     seat: &mut Seat<'_, J>,
-) -> Result<Vec<u8>, AllocError>
-    ensures { IfOk result (λ line. IsSomeRead seat.old seat.new blank line.items) }
-{
+) -> Result<Vec<u8>, AllocError> {
     match seat.journal(alloc, first.saturating_sub(1), last) {
         Ok(node::Stamped { at, value }) => listed(alloc, facts, blank, at, first, value.as_slice()),
         Err(fault) => blank.refuse(refused(fault)),
@@ -293,9 +310,7 @@ fn listed(
     at: u64,
     first: u64,
     entries: &[Entry],
-) -> Result<Vec<u8>, AllocError>
-    ensures { IfOk result (λ line. IsReadAt blank at line.items) }
-{
+) -> Result<Vec<u8>, AllocError> {
     let Ok(texts) = texts_of(alloc, facts, first, entries) else {
         return blank.refuse(Refusal::Memory);
     };

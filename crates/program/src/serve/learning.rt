@@ -2,7 +2,7 @@
 
 ghost use Rattle.std.specs.Prelude.{length, IfOk};
 ghost use Rattle.serving.specs.Answers.{wants_members};
-ghost use Rattle.program.specs.inside.Answering.{IsLearnTold, IsReadLine};
+ghost use Rattle.program.specs.inside.Answering.{IsReadLine};
 
 use crate::fault::Fault;
 use crate::report::Clients;
@@ -39,7 +39,6 @@ pub fn learnt<J: Naming, R>(
 ) -> Result<Vec<u8>, AllocError>
 where
     R: AllocGlobal + Threads + Wait + Sync,
-    ensures { IfOk result (λ line. IsLearnTold seat.new blank line.items) }
 {
     let alloc = rt.alloc();
     let told = match learn_lines(rt, node, valid.as_slice(), true, seat) {
@@ -118,14 +117,10 @@ pub struct Parted<'t> {
 /// Parts the verdicts of a history from its other entries, which change what the chainstate is.
 pub fn without_verdicts<'t>(
     alloc: Global,
-    clients: &Clients<'t>,
+    clients: Clients<'t>,
     entries: Vec<Entry>,
 ) -> Result<Parted<'t>, Fault<'static>> {
     let mut names = Vec::new(alloc);
-    let mut seats = Vec::new(alloc);
-    for name in clients.seats.as_slice() {
-        seats.push(*name)?;
-    }
     let mut others = Vec::new(alloc);
     let mut valid = String::new(alloc);
     let mut invalid = String::new(alloc);
@@ -142,7 +137,7 @@ pub fn without_verdicts<'t>(
     Ok(Parted {
         clients: Clients {
             earlier: names,
-            seats,
+            seats: clients.seats,
         },
         entries: others,
         valid,

@@ -1,13 +1,9 @@
 //! Requests that look blocks and coins up.
 
-ghost use Rattle.std.specs.Prelude.{◌≡◌, length, IfOk};
-ghost use mathlib.Core.List.{IsPrefix};
-ghost use Rattle.program.specs.inside.Answering.{IsReadUpTo, IsSomeRead};
-
 use crate::serve::asking::refused;
 use crate::serve::blocks::Placed;
 use crate::serve::board::Board;
-use crate::serve::turn::{Blank, read_line};
+use crate::serve::turn::read_line;
 use block::GENESIS;
 use coins::Coin;
 use hash::Id;
@@ -28,9 +24,6 @@ const MOST_COINS: u64 = 1_000;
 fn caught_up<J: Naming, R>(rt: &R, board: &Board<J>, seat: &mut Seat<'_, J>) -> Result<u64, Refusal>
 where
     R: AllocGlobal + Threads + Wait + Sync,
-    ensures at { IfOk result (λ at. at ≡ length seat.new.seen) }
-    ensures grows { IsPrefix seat.old.seen seat.new.seen }
-    ensures mine { seat.new.mine ≡ seat.old.mine }
 {
     let mut blocks = board.blocks.lock(rt);
     match seat.journal(rt.alloc(), blocks.steps(), u64::MAX) {
@@ -54,29 +47,12 @@ enum Part {
 pub fn block<J: Naming, R>(
     rt: &R,
     board: &Board<J>,
-    blank: Blank,
-    block: &Id,
-    seat: &mut Seat<'_, J>,
-) -> Result<Vec<u8>, AllocError>
-where
-    R: AllocGlobal + Threads + Wait + Sync,
-    ensures { IfOk result (λ line. IsSomeRead seat.old seat.new blank line.items) }
-{
-    let line = block_line(rt, board, blank.id(), block, seat);
-    blank.give(line)
-}
-
-fn block_line<J: Naming, R>(
-    rt: &R,
-    board: &Board<J>,
     id: &RequestId,
     block: &Id,
     seat: &mut Seat<'_, J>,
 ) -> Result<Vec<u8>, Refusal>
 where
     R: AllocGlobal + Threads + Wait + Sync,
-    ensures line { IfOk result (λ line. IsReadUpTo (length seat.new.seen) id.now line.items) }
-    ensures mine { seat.new.mine ≡ seat.old.mine }
 {
     let at = caught_up(rt, board, seat)?;
     let found = board.blocks.lock(rt).get(block);
@@ -90,29 +66,12 @@ where
 pub fn header<J: Naming, R>(
     rt: &R,
     board: &Board<J>,
-    blank: Blank,
-    block: &Id,
-    seat: &mut Seat<'_, J>,
-) -> Result<Vec<u8>, AllocError>
-where
-    R: AllocGlobal + Threads + Wait + Sync,
-    ensures { IfOk result (λ line. IsSomeRead seat.old seat.new blank line.items) }
-{
-    let line = header_line(rt, board, blank.id(), block, seat);
-    blank.give(line)
-}
-
-fn header_line<J: Naming, R>(
-    rt: &R,
-    board: &Board<J>,
     id: &RequestId,
     block: &Id,
     seat: &mut Seat<'_, J>,
 ) -> Result<Vec<u8>, Refusal>
 where
     R: AllocGlobal + Threads + Wait + Sync,
-    ensures line { IfOk result (λ line. IsReadUpTo (length seat.new.seen) id.now line.items) }
-    ensures mine { seat.new.mine ≡ seat.old.mine }
 {
     let Stamped { at, value: best } = seat.getbestblockhash().map_err(refused)?;
     caught_up(rt, board, seat)?;
@@ -150,29 +109,12 @@ fn placed_under<J: Naming, R: Wait>(
 pub fn hash<J: Naming, R>(
     rt: &R,
     board: &Board<J>,
-    blank: Blank,
-    height: u64,
-    seat: &mut Seat<'_, J>,
-) -> Result<Vec<u8>, AllocError>
-where
-    R: AllocGlobal + Threads + Wait + Sync,
-    ensures { IfOk result (λ line. IsSomeRead seat.old seat.new blank line.items) }
-{
-    let line = hash_line(rt, board, blank.id(), height, seat);
-    blank.give(line)
-}
-
-fn hash_line<J: Naming, R>(
-    rt: &R,
-    board: &Board<J>,
     id: &RequestId,
     height: u64,
     seat: &mut Seat<'_, J>,
 ) -> Result<Vec<u8>, Refusal>
 where
     R: AllocGlobal + Threads + Wait + Sync,
-    ensures line { IfOk result (λ line. IsReadUpTo (length seat.new.seen) id.now line.items) }
-    ensures mine { seat.new.mine ≡ seat.old.mine }
 {
     let Stamped { at, value: best } = seat.getbestblockhash().map_err(refused)?;
     caught_up(rt, board, seat)?;
@@ -191,11 +133,7 @@ fn part_line<J: Naming>(
     block: Placed,
     part: Part,
     seat: &mut Seat<'_, J>,
-) -> Result<Vec<u8>, Refusal>
-    ensures line { IfOk result (λ line. IsReadUpTo at id.now line.items) }
-    ensures grows { IsPrefix seat.old.seen seat.new.seen }
-    ensures mine { seat.new.mine ≡ seat.old.mine }
-{
+) -> Result<Vec<u8>, Refusal> {
     let Some(before) = block.step.checked_sub(1) else {
         return bytes_line(alloc, id, at, &GENESIS, block, part);
     };
@@ -218,9 +156,7 @@ fn bytes_line(
     bytes: &[u8],
     block: Placed,
     part: Part,
-) -> Result<Vec<u8>, Refusal>
-    ensures { IfOk result (λ line. IsReadUpTo at id.now line.items) }
-{
+) -> Result<Vec<u8>, Refusal> {
     match part {
         Part::Whole => read_line(alloc, id, at, Answer::Block(bytes)),
         Part::Header(confirmations) => {
@@ -237,21 +173,16 @@ fn bytes_line(
 /// The line of the coins at the outpoints above one.
 pub fn coins<J: Naming>(
     alloc: Global,
-    blank: Blank,
+    id: &RequestId,
     above: Option<&OutPoint>,
     most: u64,
     seat: &mut Seat<'_, J>,
-) -> Result<Vec<u8>, AllocError>
-    ensures { IfOk result (λ line. IsSomeRead seat.old seat.new blank line.items) }
-{
+) -> Result<Vec<u8>, Refusal> {
     let most = most.min(MOST_COINS) as usize;
-    let (at, found) = match seat.coins_from(alloc, above, most) {
-        Ok(Stamped { at, value }) => (at, value),
-        Err(fault) => return blank.refuse(refused(fault)),
-    };
-    match rows(alloc, found.as_slice()) {
-        Ok(rows) => blank.read(alloc, at, Answer::Coins(rows.as_slice())),
-        Err(AllocError) => blank.refuse(Refusal::Memory),
+    let found = seat.coins_from(alloc, above, most).map_err(refused)?;
+    match rows(alloc, found.value.as_slice()) {
+        Ok(rows) => read_line(alloc, id, found.at, Answer::Coins(rows.as_slice())),
+        Err(AllocError) => Err(Refusal::Memory),
     }
 }
 

@@ -3,10 +3,10 @@
 use crate::fault::Fault;
 use crate::options::STANDARD;
 use crate::serve::outbox::Outbox;
-use crate::serve::outgoing::{Going, Outgoing};
 use crate::serve::tally::Tally;
-use crate::serve::turn::{Ask, Blank, Turn, Waiting};
+use crate::serve::turn::{Ask, Turn};
 use crossbeam_channel::{Sender, TrySendError};
+use durable::Answer;
 use memchr::memchr;
 use serving::{Asked, Info, Refusal, Request, RequestId, info_line, read_request, refusal_line};
 use std::alloc::{AllocError, Global};
@@ -52,8 +52,8 @@ enum Next {
 /// Where requests wait for each seat, and where lines wait for being written.
 #[derive(Drop)]
 pub struct Doors {
-    pub seats: Vec<Sender<Waiting>>,
-    pub to: Sender<Outgoing>,
+    pub seats: Vec<Sender<Turn>>,
+    pub to: Sender<Answer>,
     /// Whether a request is refused for whose seat as many wait as may. Else it is waited for room.
     pub is_busy: bool,
     /// How the node was opened.
@@ -160,15 +160,15 @@ where
     match asked {
         Asked::Seat(seat, call) => {
             let turn = Turn::new(rt.alloc(), id, Ask::Call(call))?;
-            Ok(doors.wait(rt, seat, Waiting::Turn(turn))?)
+            Ok(doors.wait(rt, seat, turn)?)
         }
         Asked::Refused(Some(seat), refusal) => {
             let turn = Turn::new(rt.alloc(), id, Ask::Refused(refusal))?;
-            Ok(doors.wait(rt, seat, Waiting::Turn(turn))?)
+            Ok(doors.wait(rt, seat, turn)?)
         }
         Asked::Save => {
-            let blank = Blank::new(rt.alloc(), id)?;
-            Ok(doors.wait(rt, 0, Waiting::Save(blank))?)
+            let turn = Turn::new(rt.alloc(), id, Ask::Save)?;
+            Ok(doors.wait(rt, 0, turn)?)
         }
         Asked::Finish => Ok(Next::Finish(id)),
         Asked::Info => {
@@ -184,17 +184,17 @@ where
 
 impl Doors {
     /// Has a request wait for its seat, or refuses it.
-    fn wait<R: Wait>(&self, rt: &R, seat: usize, waiting: Waiting) -> Result<Next, AllocError> {
+    fn wait<R: Wait>(&self, rt: &R, seat: usize, turn: Turn) -> Result<Next, AllocError> {
         let Some(door) = self.seats.get(seat) else {
             return Ok(Next::Left);
         };
         if !self.is_busy {
-            return Ok(passed(door.send(rt, waiting).is_ok()));
+            return Ok(passed(door.send(rt, turn).is_ok()));
         }
-        match door.try_send(rt, waiting) {
+        match door.try_send(rt, turn) {
             Ok(()) => Ok(Next::Line),
-            Err(TrySendError::Full(waiting)) => {
-                Ok(self.tell(rt, waiting.refuse(Refusal::Busy)?))
+            Err(TrySendError::Full(turn)) => {
+                Ok(self.tell(rt, turn.blank.refuse(Refusal::Busy)?))
             }
             Err(_) => Ok(Next::Left),
         }
@@ -202,9 +202,7 @@ impl Doors {
 
     /// Has a line wait for being written that tells of no step.
     fn tell<R: Wait>(&self, rt: &R, line: Vec<u8>) -> Next {
-        let stamp = 0;
-        let going = Going::Line(line);
-        passed(self.to.send(rt, Outgoing { stamp, going }).is_ok())
+        passed(self.to.send(rt, Answer { stamp: 0, line }).is_ok())
     }
 }
 

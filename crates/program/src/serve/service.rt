@@ -14,9 +14,7 @@ use durable::{Host, KeptLog};
 use node::{Naming, Node, Seat};
 use serving::RequestId;
 use std::alloc::Global;
-use std::fs::File;
 use std::io::Read;
-use std::rt::Files;
 use std::sync::{Mutex, Wait};
 use std::thread::{JoinHandle, Scope, Threads};
 use std::{io, thread};
@@ -50,7 +48,7 @@ pub fn serve_requests<'t, J: Naming, R, I, H>(
     log: &Mutex<Option<KeptLog<H>>>,
 ) -> Result<Ended<'static>, Fault<'static>>
 where
-    R: Files<File = File> + AllocGlobal + Threads + Wait + Sync,
+    R: AllocGlobal + Threads + Wait + Sync,
     I: Read + Send,
     H: Host<Fault = HostFault> + Drop,
 {
@@ -103,7 +101,7 @@ fn serve_places<'t, J: Naming, R, I, H>(
     log: &Mutex<Option<KeptLog<H>>>,
 ) -> Result<Ended<'static>, Fault<'static>>
 where
-    R: Files<File = File> + AllocGlobal + Threads + Wait + Sync,
+    R: AllocGlobal + Threads + Wait + Sync,
     I: Read + Send,
     H: Host<Fault = HostFault> + Drop,
 {
@@ -127,7 +125,7 @@ fn run_threads<'t, J: Naming, R, I, H>(
     log: &Mutex<Option<KeptLog<H>>>,
 ) -> Done
 where
-    R: Files<File = File> + AllocGlobal + Threads + Wait + Sync,
+    R: AllocGlobal + Threads + Wait + Sync,
     I: Read + Send,
     H: Host<Fault = HostFault> + Drop,
 {
@@ -233,7 +231,7 @@ fn write_lines<R, H>(
     log: &Mutex<Option<KeptLog<H>>>,
 ) -> Result<(), Fault<'static>>
 where
-    R: Files<File = File> + AllocGlobal + Wait,
+    R: AllocGlobal + Wait,
     H: Host<Fault = HostFault> + Drop,
 {
     let Some(mut lines) = taken(rt, lines) else {

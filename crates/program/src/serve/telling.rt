@@ -7,16 +7,12 @@ ghost use Rattle.program.specs.inside.Telling.{GoesOn, KeepsToTheEnd, Appends};
 use crate::datadir::{HostFault, entry_line};
 use crate::fault::Fault;
 use crate::serve::outbox::Outbox;
-use crate::serve::outgoing::Outgoing;
-use crate::serve::saved::line_of;
 use crate::serve::words::Facts;
 use crossbeam_channel::Receiver;
 use durable::{Answer, Host, KeptLog, Lost};
 use node::Entry;
 use serving::{Refusal, RequestId, refusal_line};
 use std::alloc::{AllocError, Global};
-use std::fs::File;
-use std::rt::Files;
 use std::sync::Wait;
 
 /// A log that goes on, or why it doesn't.
@@ -26,7 +22,7 @@ pub type Told<H> = Result<KeptLog<H>, Lost<Fault<'static>, H>>;
 /// answer that was made goes out.
 #[derive(Drop)]
 pub struct Lines {
-    waiting: Receiver<Outgoing>,
+    waiting: Receiver<Answer>,
     at_hand: Vec<Answer>,
     /// The last line, where no answer goes out any more.
     pub unsaved: Vec<u8>,
@@ -34,11 +30,7 @@ pub struct Lines {
 
 impl Lines {
     /// Of which so many are taken at once.
-    pub fn new(
-        alloc: Global,
-        waiting: Receiver<Outgoing>,
-        most: usize,
-    ) -> Result<Lines, AllocError> {
+    pub fn new(alloc: Global, waiting: Receiver<Answer>, most: usize) -> Result<Lines, AllocError> {
         Ok(Lines {
             waiting,
             at_hand: Vec::with_capacity(alloc, most)?,
@@ -47,33 +39,20 @@ impl Lines {
     }
 
     /// Waits for an answer, and takes it with those that wait behind it, as many as there is room for. Whether one came.
-    fn take<R>(&mut self, rt: &R, facts: &Facts<'_>) -> Result<bool, AllocError>
-    where
-        R: Files<File = File> + AllocGlobal + Wait,
-    {
+    fn take<R: Wait>(&mut self, rt: &R) -> Result<bool, AllocError> {
         let Ok(first) = self.waiting.recv(rt) else {
             return Ok(false);
         };
         self.at_hand.clear();
-        self.at_hand.push(answer_of(rt, facts, first)?)?;
+        self.at_hand.push(first)?;
         for _ in 1..self.at_hand.capacity() {
             let Ok(answer) = self.waiting.try_recv(rt) else {
                 return Ok(true);
             };
-            self.at_hand.push(answer_of(rt, facts, answer)?)?;
+            self.at_hand.push(answer)?;
         }
         Ok(true)
     }
-}
-
-/// What goes out, as the log has it.
-fn answer_of<R>(rt: &R, facts: &Facts<'_>, outgoing: Outgoing) -> Result<Answer, AllocError>
-where
-    R: Files<File = File> + AllocGlobal,
-{
-    let Outgoing { stamp, going } = outgoing;
-    let line = line_of(rt, facts, going)?;
-    Ok(Answer { stamp, line })
 }
 
 /// Lets answers out as they come, until all who answer have left: those that come at once behind one sync.
@@ -85,14 +64,14 @@ pub fn tell_as_they_come<R, H>(
     log: KeptLog<H>,
 ) -> Told<H>
 where
-    R: Files<File = File> + AllocGlobal + Wait,
+    R: AllocGlobal + Wait,
     H: Host<Fault = HostFault> + Drop,
     ensures goes_on { IfOk result (λ now. GoesOn H.calls log.log now.log) }
     ensures lost { IfErr result (λ lost. KeepsToTheEnd H.calls log.log lost.host) }
 {
     let mut log = log;
     for _ in rt.forever() {
-        match lines.take(rt, facts) {
+        match lines.take(rt) {
             Ok(true) => {}
             Ok(false) => return Ok(log),
             Err(AllocError) => return Err(given_up(Fault::Memory, log)),

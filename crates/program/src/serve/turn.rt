@@ -3,7 +3,7 @@
 ghost use Rattle.std.specs.Prelude.{◌≡◌, [], IfOk, IfErr};
 ghost use Rattle.serving.specs.Answers.{answer_members};
 ghost use Rattle.serving.specs.declared.refusal.Refusal.TheVariants as refusals;
-ghost use Rattle.program.specs.inside.Answering.{GivesRead, IsReadLine, answer_at, error_of};
+ghost use Rattle.program.specs.inside.Answering.{GivesRead, IsError, IsReadLine, answer_at, error_of};
 
 use serving::{Answer, Call, Refusal, RequestId, Stamped, answer_line, refusal_line};
 use std::alloc::{AllocError, Global};
@@ -11,24 +11,6 @@ use std::marker::Model;
 
 /// How long a line is at most that answers a step or refuses a request, beside its id.
 const ROOM: usize = 256;
-
-/// What waits for a seat.
-#[derive(Drop)]
-pub enum Waiting {
-    Turn(Turn),
-    /// To save what happened so far.
-    Save(Blank),
-}
-
-impl Waiting {
-    /// The line that refuses it.
-    pub fn refuse(self, refusal: Refusal) -> Result<Vec<u8>, AllocError> {
-        match self {
-            Waiting::Turn(turn) => turn.blank.refuse(refusal),
-            Waiting::Save(blank) => blank.refuse(refusal),
-        }
-    }
-}
 
 /// A request that waits for its seat's turn.
 #[derive(Drop)]
@@ -41,6 +23,8 @@ pub struct Turn {
 #[derive(Drop)]
 pub enum Ask {
     Call(Call),
+    /// To save what happened so far.
+    Save,
     /// Nothing that can be answered.
     Refused(Refusal),
 }
@@ -119,7 +103,8 @@ impl Blank {
 
     /// The line that says why there is no answer.
     pub fn refuse(self, refusal: Refusal) -> Result<Vec<u8>, AllocError>
-        ensures { IfOk result (λ line. line.items ≡ error_of self refusal) }
+        ensures line { IfOk result (λ line. line.items ≡ error_of self refusal) }
+        ensures error { IfOk result (λ line. IsError self line.items) }
     {
         let Blank { id, room } = self;
         refusal_line(room, &id, refusal)

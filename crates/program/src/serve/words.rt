@@ -2,28 +2,14 @@
 
 use crate::options::{NAME, VERSION};
 use crate::report::Clients;
-use curve::Table;
 use node::Params;
 use serving::Info;
-use std::sync::Arc;
 
 /// The names of the seats in a journal.
 pub const SEATS: [&str; 16] = [
     "seat0", "seat1", "seat2", "seat3", "seat4", "seat5", "seat6", "seat7", "seat8", "seat9",
     "seat10", "seat11", "seat12", "seat13", "seat14", "seat15",
 ];
-
-/// Where the history is saved.
-#[derive(Drop)]
-pub enum Target {
-    /// In a log, on the disk before anyone is told.
-    Log,
-    /// In a log, whoever was told before.
-    UnsyncedLog,
-    /// In this folder, beside this table, at the end and when a request asks for it.
-    Folder(String, Arc<Table>),
-    Nowhere,
-}
 
 /// How a node was opened, and who asked for its steps.
 #[derive(Drop)]
@@ -35,11 +21,12 @@ pub struct Facts<'t> {
     pub loaded: usize,
     /// Whether answers wait for their steps to be on the disk.
     pub is_kept: bool,
+    /// Whether answers go out before their steps are on the disk.
+    pub is_unsynced: bool,
     /// Whether signatures are known by need alone, and not by a table.
     pub is_by_need: bool,
     /// Whether a request is refused for whose seat as many wait as may.
     pub is_busy: bool,
-    pub target: Target,
     pub clients: Clients<'t>,
 }
 
