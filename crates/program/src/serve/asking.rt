@@ -183,10 +183,10 @@ fn replied<J: Naming, T: fmt::Display + Copy>(
     ensures { IfOk result (λ line. TellsStep T.output blank reply seat.now line.items) }
 {
     match reply {
-        Ok(node::Stamped { at, value }) => {
+        Ok(stamped) => {
             let mut word = ArrayString::<MAX_REPLY>::new();
-            match word.write(value) {
-                Ok(()) => blank.answer(alloc, at, Answer::Reply(word.as_str())),
+            match word.write(stamped.value) {
+                Ok(()) => blank.answer(alloc, stamped.at, Answer::Reply(word.as_str())),
                 // No reply is as long.
                 Err(_) => blank.refuse(Refusal::Owed),
             }
