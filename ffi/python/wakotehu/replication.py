@@ -98,6 +98,7 @@ class State:
         #: Why the replica has stopped.
         self.error: Optional[errors.Error] = None
         self.is_closing = False
+        self.ended = Event()
         #: Why the database can't be reached, of the thread that appends and the one that follows.
         self.lost: Dict[str, str] = {}
         #: Who waits for a place and takes no thread meanwhile, by places.
@@ -120,6 +121,7 @@ class State:
                 self.error = self.error or error
             self.is_closing = self.is_closing or error is None
             self._wake()
+            self.ended.set()
             self.work.notify_all()
             for write in self.writes.values():
                 write.done.set()
@@ -242,10 +244,7 @@ class Watcher(Thread):
         self._state, self._threads = state, threads
 
     def run(self) -> None:
-        while True:
-            with self._state.lock:
-                if self._state.moved.wait_for(lambda: self._state.is_over, 1):
-                    return
+        while not self._state.ended.wait(1):
             for thread in self._threads:
                 thread.tick()
 
