@@ -17,7 +17,7 @@ from cases import ReplicaTest
 from checker import WRITES, check
 from database import Database
 from playing import REPLICAS, History, Worker
-from wakotehu import errors
+from wakotehu import errors, replication
 from wakotehu.encoding import GENESIS
 from wakotehu.following import Follower
 from wakotehu.replicalog import Log, Lost, Refused
@@ -204,6 +204,41 @@ class Worked(ReplicaTest):
         self.assertEqual(seat.told(2), 2)
         self.assertEqual(seat.getbestblockhash().value, block_id(block))
         self.assertEqual(self.database.run(self.url, "SELECT count(*) FROM wakotehu.commands"), [(2,)])
+
+    def test_a_connection_that_hangs(self) -> None:
+        """The server's process of the one that follows, and of the one that appends, is stopped: another one is asked, and the
+        write is there once, also when the stopped process goes on."""
+        for number in (0, 1):
+            self.history()
+            with unittest.mock.patch.object(replication, "_PATIENCE", 2):
+                one = self.replica("one", timeout=40)
+            # Nothing else is under way then.
+            one.seat(0).try_mark("precious", GENESIS.id)
+            self.until(lambda: self.database.run(self.url, "SELECT count(*) FROM wakotehu.replies") == [(1,)])
+            stopped = one._threads[number]._log._connection.info.backend_pid
+            os.kill(stopped, signal.SIGSTOP)
+            try:
+                self.assertEqual(one.seat(0).try_mark("precious", GENESIS.id).at, 2)
+            finally:
+                os.kill(stopped, signal.SIGCONT)
+            self.until(lambda: stopped not in self.pids())
+            self.assertEqual(one.seat(0).try_mark("precious", GENESIS.id).at, 3)
+            self.assertEqual(self.database.run(self.url, "SELECT count(*) FROM wakotehu.commands"), [(3,)])
+
+    def test_patience(self) -> None:
+        """A connection is given up later each time, until a statement was answered; one that isn't waited for never is."""
+        interrupted: list[int] = []
+        first, other = unittest.mock.Mock(), unittest.mock.Mock()
+        thread, second = replication.Connected(replication.State("one"), "", "follow", first), 0
+        first.interrupt = other.interrupt = lambda: interrupted.append(second)
+        # At the first second of each row there is another statement. On another connection that is no answer.
+        for log, asked, seconds, last in ((first, 2, 700, 0), (first, 3, 21, 721), (other, 5, 41, 762), (other, 7, 21, 783), (other, 8, 700, 783)):
+            log.asked, thread._log = asked, log
+            for _ in range(seconds):
+                second += 1
+                thread.tick()
+            self.assertEqual(interrupted[-1:], [last] if last else [])
+        self.assertEqual(interrupted, [721, 762, 783])
 
     def test_a_cut_connection_alone(self) -> None:
         """Idle connections that are cut are opened again, and the next write goes in."""

@@ -18,7 +18,7 @@ from .chainstate import Coin, Reply, Tip
 from .following import Follower
 from .node import Node, Seat
 from .replicalog import Command, Log, Lost
-from .replication import Appender, Fresh, State, Watch, Write
+from .replication import Appender, Fresh, State, Watch, Watcher, Write
 from .served import MOST, TIMEOUT, BlockHeader, Stamped, UnspentOutput, checked, mark, submission
 from .signatures import Verify, secp256k1
 
@@ -227,7 +227,7 @@ class Replica:
             Follower(self._state, self.url, logs[0], self._follower_seat, used, recheck, poll, self._may_write, watch),
             *(Appender(self._state, self.url, log) for log in logs[1:]),
         ]
-        for thread in self._threads:
+        for thread in (*self._threads, Watcher(self._state, self._threads)):
             thread.start()
         try:
             self._wait(lambda: self._state.fresh is not None, catch_up, "the replica didn't catch up in time")

@@ -105,6 +105,8 @@ class Log:
             self._connection = self._psycopg.connect(**words, autocommit=True)
         except self._psycopg.Error as error:
             raise Lost(_said(error)) from None
+        #: How many statements were begun and ended: it is odd while the database is waited for.
+        self.asked = 0
         # psycopg takes what the database notifies beside the answer to a statement too.
         self._is_new = False
         self._connection.add_notify_handler(self._notified)
@@ -145,18 +147,21 @@ class Log:
 
     def ask(self, statement: str, *values: Any) -> List[Tuple[Any, ...]]:
         """The rows that a statement gives, as bytes that aren't text."""
+        cursor = self._execute(statement, values or None, binary=True)
+        return list(cursor.fetchall()) if cursor.description else []
+
+    def _execute(self, statement: str, values: Any = None, binary: bool = False) -> Any:
+        self.asked += 1
         try:
-            cursor = self._connection.execute(statement, values or None, binary=True)
-            return list(cursor.fetchall()) if cursor.description else []
+            return self._connection.execute(statement, values, binary=binary)
         except self._psycopg.Error as error:
-            raise self._fault(error) from None
+            raise self._fault(error) from error
+        finally:
+            self.asked += 1
 
     def run(self, statements: str) -> None:
         """Runs statements, as one commit."""
-        try:
-            self._connection.execute(statements)
-        except self._psycopg.Error as error:
-            raise self._fault(error) from None
+        self._execute(statements)
 
     def setting(self) -> Setting:
         rows = self.ask("SELECT format, heights, signatures, by_need FROM wakotehu.setting")
@@ -198,7 +203,16 @@ class Log:
             with self._connection.cursor() as cursor:
                 with cursor.copy(_COPY.format(after=int(after), last=int(last))) as copy:
                     copy.set_types(_TYPES)
-                    for found in copy.rows():
+                    rows = copy.rows()
+                    while True:
+                        # What is done with a row is no wait for the next one.
+                        self.asked += 1
+                        try:
+                            found = next(rows, None)
+                        finally:
+                            self.asked += 1
+                        if found is None:
+                            break
                         yield _row(found)
         except self._psycopg.Error as error:
             raise self._fault(error) from None
@@ -229,12 +243,11 @@ class Log:
             *_columns([own for _, own in told], 3),
         ]  # fmt: skip
         try:
-            self._connection.execute(_APPEND, [list(column) for column in values])
-        except self._psycopg.Error as error:
-            fault = self._fault(error)
-            if isinstance(fault, Refused) and error.sqlstate in _AGAIN:
+            self._execute(_APPEND, [list(column) for column in values])
+        except Refused as refused:
+            if getattr(refused.__cause__, "sqlstate", None) in _AGAIN:
                 return False
-            raise fault from None
+            raise
         return True
 
     def differs(self, place: int, replica: str, reply: str) -> None:

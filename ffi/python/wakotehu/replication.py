@@ -23,6 +23,8 @@ _TOGETHER = 0.01
 _TURN = 0.003
 #: So many seconds it takes at first, and at most, until a lost connection is tried again.
 _SOON, _LATE = 0.05, 1.0
+#: So many seconds a statement may take at first until its connection is given up, and at most where that was done before.
+_PATIENCE, _MOST_PATIENCE = 20, 640
 
 
 class Places:
@@ -96,6 +98,7 @@ class State:
         #: Why the replica has stopped.
         self.error: Optional[errors.Error] = None
         self.is_closing = False
+        self.ended = Event()
         #: Why the database can't be reached, of the thread that appends and the one that follows.
         self.lost: Dict[str, str] = {}
         #: Who waits for a place and takes no thread meanwhile, by places.
@@ -118,6 +121,7 @@ class State:
                 self.error = self.error or error
             self.is_closing = self.is_closing or error is None
             self._wake()
+            self.ended.set()
             self.work.notify_all()
             for write in self.writes.values():
                 write.done.set()
@@ -157,6 +161,9 @@ class Connected(Thread):
         super().__init__(name=f"wakotehu-{word}", daemon=True)
         self._state, self._url, self._word = state, url, word
         self._log: Optional[Log] = log
+        #: The statement that was under way a second ago, for how many seconds it was, and how many it may be.
+        self._under_way: Tuple[Optional[Log], int] = (None, 0)
+        self._seconds, self._patience = 0, _PATIENCE
 
     def run(self) -> None:
         wait = _SOON
@@ -186,6 +193,22 @@ class Connected(Thread):
         if log is not None:
             log.interrupt()
 
+    def tick(self) -> None:
+        """A second has passed. A connection on which nothing is answered is given up, each time later: a server that hangs
+        closes none, and might be left with more and more of them."""
+        log = self._log
+        asked = 0 if log is None else log.asked
+        before, self._under_way = self._under_way, (log, asked)
+        if self._under_way != before or asked % 2 == 0:
+            self._seconds = 0
+            if before[0] is log and asked > before[1] + 1:
+                self._patience = _PATIENCE
+            return
+        self._seconds += 1
+        if self._seconds >= self._patience:
+            self._seconds, self._patience = 0, min(2 * self._patience, _MOST_PATIENCE)
+            self.interrupt()
+
     def _note_lost(self, why: Optional[str]) -> None:
         with self._state.lock:
             if why is None:
@@ -211,6 +234,19 @@ class Connected(Thread):
 
     def lost(self, why: str) -> None:
         """The connection is lost."""
+
+
+class Watcher(Thread):
+    """Tells threads that a second has passed. A process that was stopped hasn't waited meanwhile."""
+
+    def __init__(self, state: State, threads: Sequence[Connected]) -> None:
+        super().__init__(name="wakotehu-watch", daemon=True)
+        self._state, self._threads = state, threads
+
+    def run(self) -> None:
+        while not self._state.ended.wait(1):
+            for thread in self._threads:
+                thread.tick()
 
 
 class Appender(Connected):
