@@ -38,6 +38,28 @@ class NodeTest(unittest.TestCase):
 
     # ---- a folder of its own
 
+    def test_save(self):
+        """With a data directory: what any seat was answered is counted. Else it is refused, and the node goes on."""
+        folder = os.path.join(self.room, "saved")
+        b1 = self.maker.chain(1)[0]
+        node = self.node(seats=2, datadir=folder)
+        self.assertEqual(node.save(), 0)
+        self.assertEqual(node.seat(1).submit(b1, NOW), Stamped(1, "accepted"))
+        self.assertEqual(node.save(), 1)
+        node.kill()
+
+        async def saves():
+            async with AsyncNode(seats=1, program=PROGRAM, datadir=folder) as again:
+                return again.info.loaded, await again.save()
+
+        self.assertEqual(asyncio.run(saves()), (1, 1))
+        for why, more in (("datadir", {}), ("no-sync", {"datadir": folder, "sync": False})):
+            with self.subTest(why=why), Node(seats=1, program=PROGRAM, **more) as node:
+                with self.assertRaises(errors.NotSaved) as caught:
+                    node.save()
+                self.assertEqual((caught.exception.code, caught.exception.data), (-32004, why))
+                self.assertEqual(node.seat(0).getbestblockhash().at, node.info.loaded)
+
     def test_a_data_directory(self):
         """What was answered is there, however the process ended; heights and table are the folder's."""
         folder = os.path.join(self.room, "data")
