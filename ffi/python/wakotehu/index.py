@@ -9,7 +9,8 @@ from .encoding import GENESIS, GENESIS_BLOCK, Header, Output, Spelled, Transacti
 
 class Kept(NamedTuple):
     """A block that is kept. `times` are its own time and the times of the ten blocks below it, the highest first,
-    `transactions` how many it has, `size` how many bytes, `branch_size` how many its branch has with genesis."""
+    `transactions` how many it has, `size` how many bytes, `branch_size` and `branch_transactions` how many its branch has
+    with genesis."""
 
     id: bytes
     height: int
@@ -18,6 +19,7 @@ class Kept(NamedTuple):
     transactions: int
     size: int
     branch_size: int
+    branch_transactions: int
 
     @property
     def median(self) -> int:
@@ -40,7 +42,8 @@ class Index:
         self.transactions: Dict[bytes, Tuple[bytes, int, int]] = {}
         #: The height of the highest block.
         self.highest = 0
-        self.blocks[GENESIS.id] = Kept(GENESIS.id, 0, GENESIS, (GENESIS.time,), 1, *[len(GENESIS_BLOCK)] * 2)
+        size = len(GENESIS_BLOCK)
+        self.blocks[GENESIS.id] = Kept(GENESIS.id, 0, GENESIS, (GENESIS.time,), 1, size, size, 1)
 
     @property
     def active_size(self) -> int:
@@ -54,8 +57,9 @@ class Index:
         self.highest = max(self.highest, height)
         for tx, (begin, end) in zip(spelled.ids, spelled.places):
             self.transactions.setdefault(tx, (id, begin, end))
-        size = len(spelled.data)
-        self.blocks[id] = Kept(id, height, header, times, len(spelled.ids), size, parent.branch_size + size)
+        size, many = len(spelled.data), len(spelled.ids)
+        sums = parent.branch_size + size, parent.branch_transactions + many
+        self.blocks[id] = Kept(id, height, header, times, many, size, *sums)
 
     def follow(self, best: bytes) -> None:
         """Makes the branch of a block the active one, in one step."""

@@ -9,7 +9,7 @@ from ..index import Kept
 from ..pool import Coins
 from .errors import INVALID_ADDRESS_OR_KEY, INVALID_PARAMETER, MISC_ERROR, RpcError
 from .node import Node, call
-from .scripts import checksum, descriptor_script, shown
+from .scripts import checksum, compact, descriptor_script, shown
 from .txs import transaction_fields
 from .values import Amount, Object, boolean, digits, integer, is_number, shortened, text
 
@@ -269,7 +269,7 @@ def coins_hash(best: bytes, coins: Any) -> bytes:
         if id != last:
             pieces += [b"\0"] * bool(last) + [id, b"\1"]
             last = id
-        pieces += [_varint(number + 1), _compact(len(coin.script)), coin.script, _varint(coin.value)]
+        pieces += [_varint(number + 1), compact(len(coin.script)), coin.script, _varint(coin.value)]
     return double_sha(b"".join(pieces) + b"\0" * bool(last))
 
 
@@ -280,12 +280,6 @@ def _varint(number: int) -> bytes:
         number = (number >> 7) - 1
         digits.append(number & 127 | 128)
     return bytes(reversed(digits))
-
-
-def _compact(number: int) -> bytes:
-    if number < 253:
-        return bytes([number])
-    return b"\xfd" + number.to_bytes(2, "little") if number < 2**16 else b"\xfe" + number.to_bytes(4, "little")
 
 
 def _described(given: Any) -> str:

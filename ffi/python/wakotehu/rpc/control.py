@@ -49,6 +49,63 @@ def setmocktime(node: Node, timestamp: Any) -> None:
     node.mocked = moment
 
 
+@call("Control")
+def getrpcinfo(node: Node) -> Object:
+    """The calls that run, with the microseconds since they began. There is no file of a log."""
+    now = time.monotonic()
+    running = [{"method": name, "duration": int((now - begun) * 1e6)} for name, begun in list(node.running.values())]
+    return {"active_commands": running, "logpath": ""}
+
+
+#: What Bitcoin Core 0.21 can log, by its categories.
+CATEGORIES = (
+    "net tor mempool http bench zmq walletdb rpc estimatefee addrman selectcoins reindex cmpctblock rand prune proxy"
+    " mempoolrej libevent coindb qt leveldb validation"
+).split()
+
+
+@call("Control", "include", "exclude")
+def logging(node: Node, include: Any, exclude: Any) -> Object:
+    """The categories of the log, and which of them are on. They are remembered; nothing is logged."""
+    for given, is_on in ((include, True), (exclude, False)):
+        for name in given if isinstance(given, list) else ():
+            found = {*CATEGORIES} if text(name) in ("all", "1", "") else {name} - {"none", "0"}
+            if not found <= {*CATEGORIES}:
+                raise RpcError(INVALID_PARAMETER, f"unknown logging category {name[:100]}")
+            node.logged = node.logged | found if is_on else node.logged - found
+    return {name: name in node.logged for name in CATEGORIES}
+
+
+_ECHOED = [f"arg{number}" for number in range(10)]
+
+
+@call("Hidden", *_ECHOED, padded=False)
+def echo(node: Node, *given: Any) -> List[Any]:
+    """Answers the parameters."""
+    return list(given)
+
+
+@call("Hidden", *_ECHOED, padded=False)
+def echojson(node: Node, *given: Any) -> List[Any]:
+    """Answers the parameters."""
+    return list(given)
+
+
+#: The most blocks that a fee may be estimated for.
+MOST_BLOCKS = 1008
+
+
+@call("Util", "conf_target", "estimate_mode", needed=1, types=("number", "string"))
+def estimatesmartfee(node: Node, conf_target: Any, estimate_mode: Any) -> Object:
+    """What fee a transaction needs: without a mempool there is no estimate."""
+    if not 1 <= integer(conf_target) <= MOST_BLOCKS:
+        raise RpcError(INVALID_PARAMETER, f"Invalid conf_target, must be between 1 and {MOST_BLOCKS}")
+    if estimate_mode is not None and estimate_mode.lower() not in ("unset", "economical", "conservative"):
+        message = 'Invalid estimate_mode parameter, must be one of: "unset", "economical", "conservative"'
+        raise RpcError(INVALID_PARAMETER, message)
+    return {"errors": ["Insufficient data or no feerate found"], "blocks": 0}
+
+
 # ---- no wallet
 
 

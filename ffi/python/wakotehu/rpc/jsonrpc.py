@@ -109,7 +109,10 @@ def _refused(word: str) -> NoReturn:
 
 def _object(pairs: List[Tuple[str, Any]]) -> Dict[str, Any]:
     """Of a name that is given twice the first counts, as in Bitcoin Core."""
-    return dict(reversed(pairs))
+    found: Dict[str, Any] = {}
+    for name, value in pairs:
+        found.setdefault(name, value)
+    return found
 
 
 def written(value: Any) -> bytes:

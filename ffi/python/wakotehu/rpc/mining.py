@@ -8,6 +8,7 @@ from ..chainstate import show
 from ..encoding import (
     EncodingError, Transaction, block_at_front, coinbase, double_sha, mine, subsidy,
 )  # fmt: skip
+from .chain import hashes_a_second
 from .errors import (
     DESERIALIZATION_ERROR, INVALID_ADDRESS_OR_KEY, METHOD_NOT_FOUND, MISC_ERROR, VERIFY_ERROR, RpcError,
 )  # fmt: skip
@@ -15,7 +16,7 @@ from .node import Node, call
 from .scripts import address_script, descriptor_script, output_script
 from .trial import fault
 from .txs import MAX_SIZE, raw_transaction
-from .values import Object, array, boolean, hexadecimal, integer, text
+from .values import MAX_MONEY, Object, array, boolean, hexadecimal, integer, text
 
 GROUP, GENERATING = "Mining", "Generating"
 #: How many blocks one call may make.
@@ -26,8 +27,6 @@ MAX_TRIES = 1_000_000
 _LATE = {
     "time-too-old": ", block's timestamp is too early", "time-too-new": ", block timestamp too far in the future",
 }  # fmt: skip
-#: No transaction may make more, in satoshis.
-MAX_MONEY = 21_000_000 * 100_000_000
 
 
 @call(GROUP, "hexdata", "dummy", needed=1)
@@ -73,7 +72,7 @@ def getmininginfo(node: Node) -> Object:
     return {
         "blocks": node.tip().height,
         "difficulty": 4.656542373906925e-10,
-        "networkhashps": 0,
+        "networkhashps": hashes_a_second(node, 120, -1),
         "pooledtx": 0,
         "chain": "regtest",
         "warnings": "",

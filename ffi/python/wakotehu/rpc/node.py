@@ -3,7 +3,7 @@
 import threading
 import time
 from contextlib import contextmanager
-from typing import Any, Callable, Dict, Iterable, Iterator, List, NamedTuple, Optional, Sequence, Tuple
+from typing import Any, Callable, Dict, Iterable, Iterator, List, NamedTuple, Optional, Sequence, Set, Tuple
 
 from ..chainstate import Reply
 from ..encoding import GENESIS, GENESIS_BLOCK, Output, Spelled, Transaction, read_transaction
@@ -31,6 +31,10 @@ class Node:
         self.pause = 0.0
         self.broken = ""
         self._is_making = False
+        #: The categories of the log that are on.
+        self.logged: Set[str] = set()
+        #: The calls that run, by their threads: the name, and when they began.
+        self.running: Dict[int, Tuple[str, float]] = {}
         #: Of each thread that calls: whether its client is gone.
         self._caller = threading.local()
         #: Held by the call that runs; told when the best block changes, and at the end.
@@ -163,6 +167,8 @@ class Call(NamedTuple):
     types: Tuple[str, ...]
     about: str
     run: Callable[..., Any]
+    #: Whether it takes None for each parameter that isn't given.
+    padded: bool
 
     @property
     def usage(self) -> str:
@@ -178,7 +184,7 @@ class Call(NamedTuple):
             raise RpcError(MISC_ERROR, f"{self.usage}\n\n{self.about}\n")
         for value, kind in zip(found, self.types):
             expect(value, kind)
-        return found + [None] * (len(self.names) - len(found))
+        return found + [None] * (len(self.names) - len(found)) if self.padded else found
 
     def _in_order(self, params: Dict[str, Any]) -> List[Any]:
         left, found, count = dict(params), [], 0
@@ -197,11 +203,14 @@ CALLS: Dict[str, Call] = {}
 Run = Callable[..., Any]
 
 
-def call(group: str, *names: str, needed: int = 0, types: Tuple[str, ...] = ()) -> Callable[[Run], Run]:
+def call(
+    group: str, *names: str, needed: int = 0, types: Tuple[str, ...] = (), padded: bool = True
+) -> Callable[[Run], Run]:
     """Puts a function into the table under its name. It takes the node, and its parameters by place."""
 
     def put(run: Run) -> Run:
-        CALLS[run.__name__] = Call(run.__name__, group, names, needed, types, (run.__doc__ or "").strip(), run)
+        about = (run.__doc__ or "").strip()
+        CALLS[run.__name__] = Call(run.__name__, group, names, needed, types, about, run, padded)
         return run
 
     return put
@@ -215,6 +224,7 @@ def run(node: Node, method: str, params: Any) -> Any:
     with node.turn:
         if node.stopped:
             raise RpcError(MISC_ERROR, node.broken or "The server is stopping")
+        node.running[threading.get_ident()] = method, time.monotonic()
         try:
             return found.run(node, *found.arguments(params))
         except RpcError:
@@ -224,3 +234,5 @@ def run(node: Node, method: str, params: Any) -> Any:
         except Exception as error:
             # Whatever goes wrong is answered, as Bitcoin Core does with exceptions of C++.
             raise RpcError(MISC_ERROR, f"{type(error).__name__}: {error}") from error
+        finally:
+            node.running.pop(threading.get_ident(), None)

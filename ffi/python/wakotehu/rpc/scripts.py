@@ -6,6 +6,7 @@ from typing import Dict, Iterator, List, Optional, Tuple
 
 from ..encoding import double_sha, hash160, operations, push
 from .errors import INVALID_ADDRESS_OR_KEY, RpcError
+from .values import HASH_TYPES
 
 _DIGITS = "123456789ABCDEFGHJKLMNPQRSTUVWXYZabcdefghijkmnopqrstuvwxyz"
 #: The first bytes of addresses of regtest, to a hash of a key and of a script.
@@ -36,8 +37,7 @@ _OPCODES = enumerate(
 _NAMED: Dict[int, str] = {0: "0", 0x4F: "-1", **{0x50 + number: str(number) for number in range(1, 17)}}
 _NAMED.update({0x50: "OP_RESERVED", 0xFF: "OP_INVALIDOPCODE"})
 _NAMED.update((number, "OP_" + name) for number, name in _OPCODES)
-_HASH_TYPES = {1: "ALL", 2: "NONE", 3: "SINGLE", 129: "ALL|ANYONECANPAY", 130: "NONE|ANYONECANPAY",
-               131: "SINGLE|ANYONECANPAY"}  # fmt: skip
+_HASH_TYPES = {kind: name for name, kind in HASH_TYPES.items()}
 
 
 def asm(script: bytes, signatures: bool = False) -> str:
@@ -115,6 +115,15 @@ def _multisig(script: bytes) -> Optional[Tuple[int, List[bytes]]]:
     return needed, keys
 
 
+def script_keys(script: bytes) -> List[bytes]:
+    """The keys of a script to one key or to several; empty for others."""
+    kind = kind_of(script)[0]
+    if kind == "pubkey":
+        return [script[1:-1]]
+    found = _multisig(script) if kind == "multisig" else None
+    return found[1] if found else []
+
+
 def kind_of(script: bytes) -> Tuple[str, int, List[str]]:
     """A script's type, how many signatures spend it, and the addresses that it pays to (Bitcoin Core's `Solver`)."""
     if len(script) == 23 and script[:2] == b"\xa9\x14" and script[22:] == b"\x87":
@@ -151,6 +160,13 @@ def shown(script: bytes, with_hex: bool = True) -> Dict[str, object]:
     return fields
 
 
+def compact(number: int) -> bytes:
+    """A count of less than 2^32 as bytes."""
+    if number < 253:
+        return bytes([number])
+    return b"\xfd" + number.to_bytes(2, "little") if number < 2**16 else b"\xfe" + number.to_bytes(4, "little")
+
+
 # ---- addresses and descriptors
 
 
@@ -165,21 +181,26 @@ def address(prefix: int, digest: bytes) -> str:
     return "1" * (len(data) - len(data.lstrip(b"\0"))) + text
 
 
-def address_script(text: str) -> Optional[bytes]:
-    """The script that an address of regtest pays to, or None."""
-    if len(text) > MAX_ADDRESS or not text or any(digit not in _DIGITS for digit in text):
+def base58_data(text: str, most: int = MAX_ADDRESS) -> Optional[bytes]:
+    """What a text in base 58 has before the four bytes of its digest, or None. Spaces around it don't count."""
+    text = text.strip(" \f\n\r\t\v")
+    if len(text) > most or not text or any(digit not in _DIGITS for digit in text):
         return None
     number = 0
     for digit in text:
         number = number * 58 + _DIGITS.index(digit)
-    if number >= 2**200:
-        return None
-    data = number.to_bytes(25, "big")
-    if double_sha(data[:21])[:4] != data[21:]:
+    data = bytes(len(text) - len(text.lstrip("1"))) + number.to_bytes((number.bit_length() + 7) // 8, "big")
+    return data[:-4] if len(data) >= 4 and double_sha(data[:-4])[:4] == data[-4:] else None
+
+
+def address_script(text: str) -> Optional[bytes]:
+    """The script that an address of regtest pays to, or None."""
+    data = base58_data(text)
+    if data is None or len(data) != 21:
         return None
     if data[0] == KEY_PREFIX:
-        return b"\x76\xa9" + push(data[1:21]) + b"\x88\xac"
-    return b"\xa9" + push(data[1:21]) + b"\x87" if data[0] == SCRIPT_PREFIX else None
+        return b"\x76\xa9" + push(data[1:]) + b"\x88\xac"
+    return b"\xa9" + push(data[1:]) + b"\x87" if data[0] == SCRIPT_PREFIX else None
 
 
 _CHARSET = "0123456789()[],'/*abcdefgh@:$%{}IJKLMNOPQRSTUVWXYZ&+-.;<=>?!^_|~ijklmnopqrstuvwxyzABCDEFGH`#\"\\ "

@@ -24,11 +24,21 @@ def is_number(value: Any) -> bool:
 _KINDS = ((str, "string"), (bool, "bool"), (list, "array"), (dict, "object"), (type(None), "null"))
 
 
+def kind_name(value: Any) -> str:
+    """A value's type, as Bitcoin Core names it."""
+    return next((name for it, name in _KINDS if isinstance(value, it)), "number")
+
+
 def expect(value: Any, kind: str) -> None:
     """That a parameter has a type, where Bitcoin Core tests the types of all of a call's parameters first."""
-    found = next((name for it, name in _KINDS if isinstance(value, it)), "number")
-    if found != kind:
-        raise RpcError(TYPE_ERROR, f"Expected type {kind}, got {found}")
+    if kind_name(value) != kind:
+        raise RpcError(TYPE_ERROR, f"Expected type {kind}, got {kind_name(value)}")
+
+
+def expect_or_null(value: Any, kind: str) -> None:
+    """The same, null allowed."""
+    if value is not None:
+        expect(value, kind)
 
 
 def _wrong(kind: str) -> RpcError:
@@ -62,6 +72,12 @@ def array(value: Any) -> List[Any]:
     return value
 
 
+def object_of(value: Any) -> Dict[str, Any]:
+    if not isinstance(value, dict):
+        raise _wrong("an object")
+    return value
+
+
 def digits(value: Any, name: str) -> bytes:
     """An id of 64 digits, as it is printed."""
     given = text(value)
@@ -82,6 +98,14 @@ def hexadecimal(value: Any, fault: str, most: Optional[int] = None) -> bytes:
     return bytes.fromhex(given)
 
 
+def hex_text(value: Any, name: str) -> bytes:
+    """Bytes as digits, one at least, by Bitcoin Core's `ParseHexV`: what isn't a text is told as none."""
+    given = value if isinstance(value, str) else ""
+    if not given or len(given) % 2 or not re.fullmatch("[0-9a-fA-F]*", given):
+        raise RpcError(INVALID_PARAMETER, f"{name} must be hexadecimal string (not '{shortened(given)}')")
+    return bytes.fromhex(given)
+
+
 def shortened(given: str) -> str:
     """A text that is told back: no more of it than 100 characters."""
     return given if len(given) <= 100 else given[:100] + ".."
@@ -96,6 +120,38 @@ class Amount:
     def __str__(self) -> str:
         whole, part = divmod(abs(self.satoshis), 100_000_000)
         return f"{'-' if self.satoshis < 0 else ''}{whole}.{part:08}"
+
+
+#: Hash types of signatures by their names.
+HASH_TYPES = {"ALL": 1, "NONE": 2, "SINGLE": 3, "ALL|ANYONECANPAY": 129, "NONE|ANYONECANPAY": 130, "SINGLE|ANYONECANPAY": 131}
+#: No output has more, in satoshis.
+MAX_MONEY = 21_000_000 * 100_000_000
+
+
+def amount(value: Any) -> int:
+    """An amount in bitcoin, a number or a text, as satoshis."""
+    if not isinstance(value, str) and not is_number(value):
+        raise RpcError(TYPE_ERROR, "Amount is not a number or string")
+    found = satoshis(str(value))
+    if found is None:
+        raise RpcError(TYPE_ERROR, "Invalid amount")
+    if not 0 <= found <= MAX_MONEY:
+        raise RpcError(TYPE_ERROR, "Amount out of range")
+    return found
+
+
+def satoshis(spelled: str) -> Optional[int]:
+    """A number of bitcoin as satoshis (Bitcoin Core's `ParseFixedPoint` of 8 digits), or None."""
+    found = re.fullmatch(r"(-?)(0|[1-9][0-9]*)(?:\.([0-9]+))?(?:[eE]([+-]?[0-9]{1,18}))?", spelled, re.ASCII)
+    if found is None:
+        return None
+    digits = found[2] + (found[3] or "")
+    kept = digits.rstrip("0").lstrip("0")
+    exponent = int(found[4] or 0) - len(found[3] or "") + len(digits) - len(digits.rstrip("0")) + 8
+    if not 0 <= exponent < 18 or len(kept) > 18:
+        return None
+    value = int(kept or 0) * 10**exponent
+    return None if value >= 10**18 else -value if found[1] else value
 
 
 Object = Dict[str, Any]

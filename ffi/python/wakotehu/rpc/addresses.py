@@ -1,0 +1,30 @@
+"""Calls about addresses and descriptors."""
+
+from typing import Any
+
+from .node import Node, call
+from .scripts import address_script, checksum, descriptor_script
+from .values import Object, text
+
+GROUP = "Util"
+
+
+@call(GROUP, "address", needed=1)
+def validateaddress(node: Node, address: Any) -> Object:
+    """Whether an address is one of regtest without witnesses, and the script that it pays to."""
+    given = text(address)
+    script = address_script(given)
+    if script is None:
+        return {"isvalid": False}
+    return {"isvalid": True, "address": given.strip(), "scriptPubKey": script.hex(), "isscript": len(script) == 23,
+            "iswitness": False}  # fmt: skip
+
+
+@call(GROUP, "descriptor", needed=1, types=("string",))
+def getdescriptorinfo(node: Node, descriptor: Any) -> Object:
+    """What a descriptor is, raw(HEX) or addr(ADDRESS), with its checksum."""
+    descriptor_script(descriptor)
+    found = descriptor.partition("#")[0]
+    made = checksum(found)
+    return {"descriptor": f"{found}#{made}", "checksum": made, "isrange": False, "issolvable": False,
+            "hasprivatekeys": False}  # fmt: skip
