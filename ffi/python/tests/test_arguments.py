@@ -264,6 +264,7 @@ ROWS = [
     row("signatures.Verifier.verdicts", lines=("list of lines", [TRIPLE.line])), row("signatures.processors"),
     row("signatures.read_signature", data=("bytes", b"")),
     row("signatures.secp256k1", lines=("list of lines", [TRIPLE.line])),
+    row("spelling.read_script", text=("text", "1 ADD")), row("spelling.show_script", script=("bytes", b"\x51")),
     row("served.program_path", named=("optional path", PROGRAM)),
     row("node.Node", **OPENED), row("asyncnode.AsyncNode", **OPENED),
     *(row(f"{kind}.{name}") for kind in ("node.Node", "asyncnode.AsyncNode") for name in ("close", "kill")),

@@ -10,7 +10,7 @@ from ctypes import POINTER, c_char_p, c_int, c_int64, c_size_t, c_uint8, c_uint3
 from dataclasses import dataclass
 from typing import Any, Callable, Iterable, Iterator, List, NamedTuple, Optional, Sequence, Tuple, Union
 
-from . import arguments
+from . import arguments, spelling
 from .arguments import id_of, number, octets, signed
 from .errors import REASONS, BadTable, Error
 from .library import Heights, library
@@ -398,6 +398,11 @@ def script(data: bytes) -> Script:
     f = _Script()
     _call("script", *_sized(data), f)
     return Script(f.plain, f.accurate, bool(f.push_only), bool(f.p2sh), bool(f.unspendable))
+
+
+#: Scripts as words, and back: see there.
+read_script = spelling.read_script
+show_script = spelling.show_script
 
 
 def p2sh_sigops(input: bytes, spent: bytes) -> int:

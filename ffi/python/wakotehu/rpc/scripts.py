@@ -5,6 +5,7 @@ from itertools import islice
 from typing import Dict, Iterator, List, Optional, Tuple
 
 from ..encoding import double_sha, hash160, operations, push
+from ..spelling import NAMES
 from .errors import INVALID_ADDRESS_OR_KEY, RpcError
 
 _DIGITS = "123456789ABCDEFGHJKLMNPQRSTUVWXYZabcdefghijkmnopqrstuvwxyz"
@@ -20,22 +21,10 @@ _WITNESS = {
 #: An address has no more characters, nor a descriptor's script more digits.
 MAX_ADDRESS, MAX_RAW = 100, 2 * 1_000_000
 
-_OPCODES = enumerate(
-    (
-        "NOP VER IF NOTIF VERIF VERNOTIF ELSE ENDIF VERIFY RETURN TOALTSTACK FROMALTSTACK 2DROP 2DUP 3DUP 2OVER"
-        " 2ROT 2SWAP IFDUP DEPTH DROP DUP NIP OVER PICK ROLL ROT SWAP TUCK CAT SUBSTR LEFT RIGHT SIZE INVERT AND"
-        " OR XOR EQUAL EQUALVERIFY RESERVED1 RESERVED2 1ADD 1SUB 2MUL 2DIV NEGATE ABS NOT 0NOTEQUAL ADD SUB MUL"
-        " DIV MOD LSHIFT RSHIFT BOOLAND BOOLOR NUMEQUAL NUMEQUALVERIFY NUMNOTEQUAL LESSTHAN GREATERTHAN"
-        " LESSTHANOREQUAL GREATERTHANOREQUAL MIN MAX WITHIN RIPEMD160 SHA1 SHA256 HASH160 HASH256 CODESEPARATOR"
-        " CHECKSIG CHECKSIGVERIFY CHECKMULTISIG CHECKMULTISIGVERIFY NOP1 CHECKLOCKTIMEVERIFY CHECKSEQUENCEVERIFY"
-        " NOP4 NOP5 NOP6 NOP7 NOP8 NOP9 NOP10 CHECKSIGADD"
-    ).split(),
-    0x61,
-)
 #: Opcodes as words. Each is made once: a script may have a million of one.
 _NAMED: Dict[int, str] = {0: "0", 0x4F: "-1", **{0x50 + number: str(number) for number in range(1, 17)}}
 _NAMED.update({0x50: "OP_RESERVED", 0xFF: "OP_INVALIDOPCODE"})
-_NAMED.update((number, "OP_" + name) for number, name in _OPCODES)
+_NAMED.update((number, "OP_" + name) for number, name in (*NAMES.items(), (0xBA, "CHECKSIGADD")))
 _HASH_TYPES = {1: "ALL", 2: "NONE", 3: "SINGLE", 129: "ALL|ANYONECANPAY", 130: "NONE|ANYONECANPAY",
                131: "SINGLE|ANYONECANPAY"}  # fmt: skip
 
