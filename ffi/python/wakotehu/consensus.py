@@ -527,10 +527,15 @@ class Table:
 
 
 def verify(
-    data: bytes, input: int, spent: bytes, flags: Iterable[str] = ALL, table: Union[str, bytes, Table] = b""
-) -> bool:
+    data: bytes, input: int, spent: bytes, flags: Iterable[str] = ALL, table: Union[str, bytes, Table] = b"",
+    signatures: Optional[str] = None,
+) -> bool:  # fmt: skip
     """Whether an input of a transaction may spend a script under some of "DERSIG", "CLTV" and "CSV". The table has the
-    signatures that are valid; its text is read by each call."""
+    signatures that are valid; its text is read by each call. With `signatures="secp256k1"` libsecp256k1 is asked about
+    each other one that the scripts come to."""
+    if signatures is not None:
+        arguments.word(signatures, "signatures", ("secp256k1",))
+        return _verify_really(data, input, spent, _words(flags), _text(table, "table"))
     line, yes = c_uint64(), c_uint32()
     asked = (*_sized(data), number(input, "input", 64), *_sized(spent, "spent"), _forced(flags))
     if _call("verify", *asked, *_sized(_text(table, "table")), line, yes) == 3:
@@ -555,10 +560,29 @@ def verify_known(
     return Triple.of_line(room.raw[: needed.value]) if code == 29 else bool(yes.value)
 
 
+def _verify_really(data: bytes, input: int, spent: bytes, flags: List[str], table: bytes) -> bool:
+    """The verdict, where what isn't in the table is found out by libsecp256k1, one after the other."""
+    from .signatures import secp256k1
+
+    known = {True: table and table + b"\n", False: b""}
+    while True:
+        found = verify_known(data, input, spent, flags, known[True], known[False])
+        if isinstance(found, bool):
+            return found
+        [verdict] = secp256k1([found.line])
+        known[verdict] += found.line
+
+
+_FORCED = ("DERSIG", "CLTV", "CSV")
+
+
+def _words(flags: Iterable[str]) -> List[str]:
+    return list(arguments.words_of(flags, "flags", _FORCED))
+
+
 def _forced(flags: Iterable[str]) -> _Flags:
-    order = ("DERSIG", "CLTV", "CSV")
-    names = arguments.words_of(flags, "flags", order)
-    return _Flags(*(int(name in names) for name in order))
+    names = _words(flags)
+    return _Flags(*(int(name in names) for name in _FORCED))
 
 
 def _text(table: Union[str, bytes, Table], name: str) -> bytes:
