@@ -278,7 +278,7 @@ ROWS = [
 #: needs a database (tests/replicas has its arguments).
 OTHER = {
     "ahead", "arguments", "asyncreplica", "errors", "following", "history", "index", "pipe", "pool", "replica", "replicacommand", "replicalog", "replicapool",
-    "replication", "server", "version", "__main__",
+    "replication", "server", "vectors", "version", "__main__",
 }  # fmt: skip
 #: What other modules of the package call with what was taken before.
 INSIDE = {"chainstate.reply_of"} | {
