@@ -4,13 +4,13 @@ import re
 from itertools import islice
 from typing import Dict, Iterator, List, Optional, Tuple
 
-from ..encoding import double_sha, hash160, operations, push
+from ..addresses import PREFIXES, script_of, spelled as address
+from ..encoding import hash160, operations
 from ..spelling import NAMES
 from .errors import INVALID_ADDRESS_OR_KEY, RpcError
 
-_DIGITS = "123456789ABCDEFGHJKLMNPQRSTUVWXYZabcdefghijkmnopqrstuvwxyz"
 #: The first bytes of addresses of regtest, to a hash of a key and of a script.
-KEY_PREFIX, SCRIPT_PREFIX = 111, 196
+KEY_PREFIX, SCRIPT_PREFIX = PREFIXES["regtest"]
 #: A script of more bytes can't be spent.
 MAX_SCRIPT = 10_000
 #: A script of keys has no more of them.
@@ -18,8 +18,8 @@ MOST_KEYS = 16
 _WITNESS = {
     (0, 22): "witness_v0_keyhash", (0, 34): "witness_v0_scripthash", (0x51, 34): "witness_v1_taproot",
 }  # fmt: skip
-#: An address has no more characters, nor a descriptor's script more digits.
-MAX_ADDRESS, MAX_RAW = 100, 2 * 1_000_000
+#: A descriptor's script has no more digits.
+MAX_RAW = 2 * 1_000_000
 
 #: Opcodes as words. Each is made once: a script may have a million of one.
 _NAMED: Dict[int, str] = {0: "0", 0x4F: "-1", **{0x50 + number: str(number) for number in range(1, 17)}}
@@ -143,32 +143,9 @@ def shown(script: bytes, with_hex: bool = True) -> Dict[str, object]:
 # ---- addresses and descriptors
 
 
-def address(prefix: int, digest: bytes) -> str:
-    """An address, in base 58 with four bytes of a digest."""
-    data = bytes([prefix]) + digest
-    data += double_sha(data)[:4]
-    number, text = int.from_bytes(data, "big"), ""
-    while number:
-        number, digit = divmod(number, 58)
-        text = _DIGITS[digit] + text
-    return "1" * (len(data) - len(data.lstrip(b"\0"))) + text
-
-
 def address_script(text: str) -> Optional[bytes]:
     """The script that an address of regtest pays to, or None."""
-    if len(text) > MAX_ADDRESS or not text or any(digit not in _DIGITS for digit in text):
-        return None
-    number = 0
-    for digit in text:
-        number = number * 58 + _DIGITS.index(digit)
-    if number >= 2**200:
-        return None
-    data = number.to_bytes(25, "big")
-    if double_sha(data[:21])[:4] != data[21:]:
-        return None
-    if data[0] == KEY_PREFIX:
-        return b"\x76\xa9" + push(data[1:21]) + b"\x88\xac"
-    return b"\xa9" + push(data[1:21]) + b"\x87" if data[0] == SCRIPT_PREFIX else None
+    return script_of(text) if text.isascii() else None
 
 
 _CHARSET = "0123456789()[],'/*abcdefgh@:$%{}IJKLMNOPQRSTUVWXYZ&+-.;<=>?!^_|~ijklmnopqrstuvwxyzABCDEFGH`#\"\\ "

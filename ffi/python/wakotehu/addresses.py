@@ -1,0 +1,56 @@
+"""Addresses in base 58, of hashes of keys and of scripts."""
+
+from typing import Dict, Optional, Tuple
+
+from . import arguments
+from .encoding import double_sha, push
+
+_DIGITS = "123456789ABCDEFGHJKLMNPQRSTUVWXYZabcdefghijkmnopqrstuvwxyz"
+#: An address has no more characters.
+MAX_ADDRESS = 100
+#: The first bytes of addresses, to a hash of a key and of a script.
+PREFIXES: Dict[str, Tuple[int, int]] = {"main": (0, 5), "test": (111, 196), "regtest": (111, 196)}
+
+
+def address_of(script: bytes, network: str = "regtest") -> Optional[str]:
+    """The address that pays to a script: to a key's hash or to a script's, else None. `network` is "main", "test" or
+    "regtest"."""
+    script = arguments.octets(script, "script")
+    key, inner = PREFIXES[arguments.word(network, "network", PREFIXES)]
+    if len(script) == 25 and script[:3] == b"\x76\xa9\x14" and script[23:] == b"\x88\xac":
+        return spelled(key, script[3:23])
+    if len(script) == 23 and script[:2] == b"\xa9\x14" and script[22:] == b"\x87":
+        return spelled(inner, script[2:22])
+    return None
+
+
+def script_of(address: str, network: str = "regtest") -> Optional[bytes]:
+    """The script that an address of the network pays to, or None."""
+    address = arguments.text(address, "address")
+    key, inner = PREFIXES[arguments.word(network, "network", PREFIXES)]
+    if len(address) > MAX_ADDRESS or not address or any(digit not in _DIGITS for digit in address):
+        return None
+    number = 0
+    for digit in address:
+        number = number * 58 + _DIGITS.index(digit)
+    if number >= 2**200:
+        return None
+    data = number.to_bytes(25, "big")
+    zeros = len(data) - len(data.lstrip(b"\0"))
+    # Each zero byte in front is a digit 1 in front, no more and no fewer.
+    if double_sha(data[:21])[:4] != data[21:] or len(address) - len(address.lstrip("1")) != zeros:
+        return None
+    if data[0] == key:
+        return b"\x76\xa9" + push(data[1:21]) + b"\x88\xac"
+    return b"\xa9" + push(data[1:21]) + b"\x87" if data[0] == inner else None
+
+
+def spelled(prefix: int, digest: bytes) -> str:
+    """The address of a first byte and a hash, with four bytes of a digest."""
+    data = bytes([arguments.number(prefix, "prefix", 8)]) + arguments.octets_of(digest, 20, "digest")
+    data += double_sha(data)[:4]
+    number, text = int.from_bytes(data, "big"), ""
+    while number:
+        number, digit = divmod(number, 58)
+        text = _DIGITS[digit] + text
+    return "1" * (len(data) - len(data.lstrip(b"\0"))) + text
