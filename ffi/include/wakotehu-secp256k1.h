@@ -1,6 +1,6 @@
 /*
- * Which signatures are valid, by libsecp256k1: for chainstates that are opened by wakotehu_open_by_need. It is a library
- * of its own, so that libwakotehu needs none but C's.
+ * Which signatures are valid, by libsecp256k1: for chainstates that are opened by wakotehu_open_by_need, and for scripts
+ * by themselves. It is a library of its own over libwakotehu, which so needs none but C's.
  */
 #ifndef WAKOTEHU_SECP256K1_H
 #define WAKOTEHU_SECP256K1_H
@@ -24,6 +24,13 @@ extern "C" {
  * memory, one thread does all. It may be called by any threads at once. */
 wakotehu_code wakotehu_secp256k1_verdicts(const char *lines, size_t length, size_t threads, uint8_t *valid,
                                           size_t count);
+
+/* Whether an input of the transaction at the front of the bytes may spend a script (Bitcoin Core's VerifyScript), with
+ * real signatures: wakotehu_verify_known, and wakotehu_secp256k1_verdicts for each signature that the scripts ask for.
+ * The codes are those of wakotehu_verify_known, which has a table or a room no more. It may be called by any threads at
+ * once. */
+wakotehu_code wakotehu_secp256k1_verify(const uint8_t *bytes, size_t length, uint64_t input, const uint8_t *spent,
+                                        size_t spent_length, const wakotehu_flags *flags, uint32_t *accepted);
 
 #ifdef __cplusplus
 }

@@ -4,11 +4,14 @@ import json
 import os
 import random
 import unittest
+from ctypes import byref, c_size_t, c_uint32, c_uint64
 from typing import Any, Dict, Iterator, List, NamedTuple, Set
 
 from wakotehu import Chainstate, consensus as c
 from wakotehu.encoding import GENESIS, coinbase, mine, read_block, subsidy
 from wakotehu.errors import BadTable
+from wakotehu.library import secp256k1_library
+from wakotehu.signatures import secp256k1
 
 HERE = os.path.dirname(os.path.abspath(__file__))
 
@@ -120,6 +123,28 @@ class Vectors(unittest.TestCase):
                 valid = chance.sample(lines, known) + [f"{chance.randrange(99):02} - {'7' * 64}\n".encode()] * known
                 found = self.found_out(pair, table, valid, chance)
                 self.assertEqual(found, pair.accepted, (seed, number, pair))
+
+    def test_scripts_with_real_signatures(self) -> None:
+        """The pairs whose tables have real signatures alone, by libsecp256k1 and without a table, as the call of C says
+        too."""
+        loaded, played, accepted = secp256k1_library(), 0, 0
+        self.assertIsNotNone(loaded)
+        call = loaded.wakotehu_secp256k1_verify  # type: ignore[union-attr]
+        for number, pair in enumerate(pairs()):
+            lines = [line for line in pair.table.encode().splitlines() if line.strip()]
+            if not all(secp256k1(lines)):
+                continue
+            found = c.verify(pair.tx, pair.input, pair.spent, pair.flags, signatures="secp256k1")
+            self.assertEqual(found, pair.accepted, (number, pair))
+            flags = (c_uint32 * 3)(*(name in pair.flags for name in ("DERSIG", "CLTV", "CSV")))
+            told, place = c_uint32(7), c_uint64(pair.input)
+            spent, tx = (pair.spent, c_size_t(len(pair.spent))), (pair.tx, c_size_t(len(pair.tx)))
+            self.assertEqual(call(*tx, place, *spent, flags, byref(told)), 0)
+            self.assertEqual(told.value, int(pair.accepted), (number, pair))
+            played, accepted = played + bool(lines), accepted + (bool(lines) and found)
+        print(f"{played} pairs had real signatures; {accepted} of them were accepted")
+        self.assertGreater(played, 300)
+        self.assertGreater(accepted, 100)
 
     def test_each_opcode_from_both_sides(self) -> None:
         """Each opcode is in a pair that is accepted, as an opcode, and in one that is refused; those that fail wherever they

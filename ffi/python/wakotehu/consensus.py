@@ -10,7 +10,7 @@ from ctypes import POINTER, c_char_p, c_int, c_int64, c_size_t, c_uint8, c_uint3
 from dataclasses import dataclass
 from typing import Any, Callable, Iterable, Iterator, List, NamedTuple, Optional, Sequence, Tuple, Union
 
-from . import arguments
+from . import arguments, spelling
 from .arguments import id_of, number, octets, signed
 from .errors import REASONS, BadTable, Error
 from .library import Heights, library
@@ -400,6 +400,11 @@ def script(data: bytes) -> Script:
     return Script(f.plain, f.accurate, bool(f.push_only), bool(f.p2sh), bool(f.unspendable))
 
 
+#: Scripts as words, and back: see there.
+read_script = spelling.read_script
+show_script = spelling.show_script
+
+
 def p2sh_sigops(input: bytes, spent: bytes) -> int:
     """The signature operations of the inner script of an input script and the script that it spends (BIP 16)."""
     count = c_uint64()
@@ -522,10 +527,15 @@ class Table:
 
 
 def verify(
-    data: bytes, input: int, spent: bytes, flags: Iterable[str] = ALL, table: Union[str, bytes, Table] = b""
-) -> bool:
+    data: bytes, input: int, spent: bytes, flags: Iterable[str] = ALL, table: Union[str, bytes, Table] = b"",
+    signatures: Optional[str] = None,
+) -> bool:  # fmt: skip
     """Whether an input of a transaction may spend a script under some of "DERSIG", "CLTV" and "CSV". The table has the
-    signatures that are valid; its text is read by each call."""
+    signatures that are valid; its text is read by each call. With `signatures="secp256k1"` libsecp256k1 is asked about
+    each other one that the scripts come to."""
+    if signatures is not None:
+        arguments.word(signatures, "signatures", ("secp256k1",))
+        return _verify_really(data, input, spent, _words(flags), _text(table, "table"))
     line, yes = c_uint64(), c_uint32()
     asked = (*_sized(data), number(input, "input", 64), *_sized(spent, "spent"), _forced(flags))
     if _call("verify", *asked, *_sized(_text(table, "table")), line, yes) == 3:
@@ -550,10 +560,29 @@ def verify_known(
     return Triple.of_line(room.raw[: needed.value]) if code == 29 else bool(yes.value)
 
 
+def _verify_really(data: bytes, input: int, spent: bytes, flags: List[str], table: bytes) -> bool:
+    """The verdict, where what isn't in the table is found out by libsecp256k1, one after the other."""
+    from .signatures import secp256k1
+
+    known = {True: table and table + b"\n", False: b""}
+    while True:
+        found = verify_known(data, input, spent, flags, known[True], known[False])
+        if isinstance(found, bool):
+            return found
+        [verdict] = secp256k1([found.line])
+        known[verdict] += found.line
+
+
+_FORCED = ("DERSIG", "CLTV", "CSV")
+
+
+def _words(flags: Iterable[str]) -> List[str]:
+    return list(arguments.words_of(flags, "flags", _FORCED))
+
+
 def _forced(flags: Iterable[str]) -> _Flags:
-    order = ("DERSIG", "CLTV", "CSV")
-    names = arguments.words_of(flags, "flags", order)
-    return _Flags(*(int(name in names) for name in order))
+    names = _words(flags)
+    return _Flags(*(int(name in names) for name in _FORCED))
 
 
 def _text(table: Union[str, bytes, Table], name: str) -> bytes:

@@ -8,13 +8,23 @@ import struct
 from typing import Iterable, List, NamedTuple, Optional, Sequence, Tuple
 
 from . import arguments
-from .arguments import id_of, instance, number, octets, sequence, sequence_of, signed
+from .arguments import flag, id_of, instance, number, octets, sequence, sequence_of, signed
 
 OP_CODESEPARATOR = 0xAB
 
 
 class EncodingError(ValueError):
     """The bytes spell no such thing."""
+
+
+def sha256(data: bytes) -> bytes:
+    """SHA-256."""
+    return hashlib.sha256(octets(data, "data")).digest()
+
+
+def sha1(data: bytes) -> bytes:
+    """SHA-1."""
+    return hashlib.sha1(octets(data, "data")).digest()
 
 
 def double_sha(data: bytes) -> bytes:
@@ -163,6 +173,14 @@ def read_transaction(data: bytes) -> Transaction:
     return found
 
 
+def read_header(data: bytes) -> Header:
+    """The header that 80 bytes spell."""
+    reader = _Reader(data)
+    found = reader.header()
+    reader.end()
+    return found
+
+
 def read_block(data: bytes) -> Block:
     """The block that all of these bytes spell."""
     reader = _Reader(data)
@@ -265,13 +283,27 @@ def write_block(block: Block) -> bytes:
 # ---- making
 
 
-def merkle_root(ids: Sequence[bytes]) -> bytes:
-    """The root of a Merkle tree over ids; of an odd level the last is paired with itself."""
-    level = [id_of(id, "ids") for id in sequence(ids, "ids")] or [bytes(32)]
+class Merkle(NamedTuple):
+    """The root of a Merkle tree, and whether another list of ids has it too: a part of this one stands there twice."""
+
+    root: bytes
+    twin: bool
+
+
+def merkle(ids: Sequence[bytes]) -> Merkle:
+    """The root of a Merkle tree over ids; of an odd level the last is paired with itself (Bitcoin Core's
+    `ComputeMerkleRoot`, whose `mutated` is `twin`)."""
+    level, twin = [id_of(id, "ids") for id in sequence(ids, "ids")] or [bytes(32)], False
     while len(level) > 1:
+        twin = twin or any(a == b for a, b in zip(level[::2], level[1::2]))
         level += level[-1:] * (len(level) % 2)
         level = [double_sha(a + b) for a, b in zip(level[::2], level[1::2])]
-    return level[0]
+    return Merkle(level[0], twin)
+
+
+def merkle_root(ids: Sequence[bytes]) -> bytes:
+    """The root of a Merkle tree over ids."""
+    return merkle(ids).root
 
 
 def push(data: bytes) -> bytes:
@@ -317,6 +349,45 @@ def mine(parent: bytes, when: int, transactions: List[Transaction], version: int
     while int.from_bytes(header.id, "little") > target:
         header = header._replace(nonce=header.nonce + 1)
     return write_block(Block(header, transactions))
+
+
+# ---- targets
+
+
+class Target(NamedTuple):
+    """What the bits of a header spell: a number of 256 bits, and its faults: it has a sign, or more bits than 256."""
+
+    value: int
+    negative: bool
+    overflow: bool
+
+
+def read_bits(bits: int) -> Target:
+    """The target that bits spell (Bitcoin Core's `SetCompact`): a size in bytes, and the three highest of them, whose
+    first bit is a sign. Of a number that has more bits than 256 the value is the lowest of them."""
+    size, word = divmod(number(bits, "bits"), 1 << 24)
+    digits = word & 0x7FFFFF
+    digits = digits >> 8 * (3 - size) if size < 3 else digits
+    value = digits << 8 * max(size - 3, 0)
+    return Target(value & (1 << 256) - 1, digits != 0 and word >= 0x800000, value >= 1 << 256)
+
+
+def write_bits(value: int, negative: bool = False) -> int:
+    """The bits of a target (Bitcoin Core's `GetCompact`), which are its three highest bytes, or two where a third would
+    begin with the sign's bit; what is below them is lost."""
+    value, negative = number(value, "value", 256), flag(negative, "negative")
+    size = (value.bit_length() + 7) // 8
+    digits = value << 8 * (3 - size) if size <= 3 else value >> 8 * (size - 3)
+    if digits >= 0x800000:
+        digits, size = digits >> 8, size + 1
+    return size << 24 | digits | (0x800000 if negative and digits else 0)
+
+
+def work(bits: int) -> int:
+    """How many tries a header with these bits takes by chance, as Bitcoin Core counts a chain's work (`GetBlockProof`):
+    0 where the target is 0, or has a fault."""
+    target = read_bits(bits)
+    return 0 if not target.value or target.negative or target.overflow else (1 << 256) // (target.value + 1)
 
 
 # ---- scripts

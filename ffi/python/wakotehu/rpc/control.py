@@ -7,7 +7,8 @@ from ..encoding import hash160
 from ..version import __version__
 from .errors import INVALID_PARAMETER, RpcError
 from .node import CALLS, Node, call
-from .scripts import SCRIPT_PREFIX, address
+from ..addresses import spelled as address
+from .scripts import SCRIPT_PREFIX
 from .values import Amount, Object, boolean, integer, text
 
 

@@ -4,13 +4,16 @@ import re
 from itertools import islice
 from typing import Dict, Iterator, List, Optional, Tuple
 
-from ..encoding import double_sha, hash160, operations, push
+from ..addresses import PREFIXES, data_of, script_of, spelled as address
+from ..encoding import hash160, operations
+from ..spelling import NAMES
 from .errors import INVALID_ADDRESS_OR_KEY, RpcError
 from .values import HASH_TYPES
 
-_DIGITS = "123456789ABCDEFGHJKLMNPQRSTUVWXYZabcdefghijkmnopqrstuvwxyz"
 #: The first bytes of addresses of regtest, to a hash of a key and of a script.
-KEY_PREFIX, SCRIPT_PREFIX = 111, 196
+KEY_PREFIX, SCRIPT_PREFIX = PREFIXES["regtest"]
+#: What Bitcoin Core skips around an address.
+_SPACES = " \f\n\r\t\v"
 #: A script of more bytes can't be spent.
 MAX_SCRIPT = 10_000
 #: A script of keys has no more of them.
@@ -18,25 +21,13 @@ MOST_KEYS = 16
 _WITNESS = {
     (0, 22): "witness_v0_keyhash", (0, 34): "witness_v0_scripthash", (0x51, 34): "witness_v1_taproot",
 }  # fmt: skip
-#: An address has no more characters, nor a descriptor's script more digits.
-MAX_ADDRESS, MAX_RAW = 100, 2 * 1_000_000
+#: A descriptor's script has no more digits.
+MAX_RAW = 2 * 1_000_000
 
-_OPCODES = enumerate(
-    (
-        "NOP VER IF NOTIF VERIF VERNOTIF ELSE ENDIF VERIFY RETURN TOALTSTACK FROMALTSTACK 2DROP 2DUP 3DUP 2OVER"
-        " 2ROT 2SWAP IFDUP DEPTH DROP DUP NIP OVER PICK ROLL ROT SWAP TUCK CAT SUBSTR LEFT RIGHT SIZE INVERT AND"
-        " OR XOR EQUAL EQUALVERIFY RESERVED1 RESERVED2 1ADD 1SUB 2MUL 2DIV NEGATE ABS NOT 0NOTEQUAL ADD SUB MUL"
-        " DIV MOD LSHIFT RSHIFT BOOLAND BOOLOR NUMEQUAL NUMEQUALVERIFY NUMNOTEQUAL LESSTHAN GREATERTHAN"
-        " LESSTHANOREQUAL GREATERTHANOREQUAL MIN MAX WITHIN RIPEMD160 SHA1 SHA256 HASH160 HASH256 CODESEPARATOR"
-        " CHECKSIG CHECKSIGVERIFY CHECKMULTISIG CHECKMULTISIGVERIFY NOP1 CHECKLOCKTIMEVERIFY CHECKSEQUENCEVERIFY"
-        " NOP4 NOP5 NOP6 NOP7 NOP8 NOP9 NOP10 CHECKSIGADD"
-    ).split(),
-    0x61,
-)
 #: Opcodes as words. Each is made once: a script may have a million of one.
 _NAMED: Dict[int, str] = {0: "0", 0x4F: "-1", **{0x50 + number: str(number) for number in range(1, 17)}}
 _NAMED.update({0x50: "OP_RESERVED", 0xFF: "OP_INVALIDOPCODE"})
-_NAMED.update((number, "OP_" + name) for number, name in _OPCODES)
+_NAMED.update((number, "OP_" + name) for number, name in (*NAMES.items(), (0xBA, "CHECKSIGADD")))
 _HASH_TYPES = {kind: name for name, kind in HASH_TYPES.items()}
 
 
@@ -170,37 +161,14 @@ def compact(number: int) -> bytes:
 # ---- addresses and descriptors
 
 
-def address(prefix: int, digest: bytes) -> str:
-    """An address, in base 58 with four bytes of a digest."""
-    data = bytes([prefix]) + digest
-    data += double_sha(data)[:4]
-    number, text = int.from_bytes(data, "big"), ""
-    while number:
-        number, digit = divmod(number, 58)
-        text = _DIGITS[digit] + text
-    return "1" * (len(data) - len(data.lstrip(b"\0"))) + text
-
-
-def base58_data(text: str, most: int = MAX_ADDRESS) -> Optional[bytes]:
-    """What a text in base 58 has before the four bytes of its digest, or None. Spaces around it don't count."""
-    text = text.strip(" \f\n\r\t\v")
-    if len(text) > most or not text or any(digit not in _DIGITS for digit in text):
-        return None
-    number = 0
-    for digit in text:
-        number = number * 58 + _DIGITS.index(digit)
-    data = bytes(len(text) - len(text.lstrip("1"))) + number.to_bytes((number.bit_length() + 7) // 8, "big")
-    return data[:-4] if len(data) >= 4 and double_sha(data[:-4])[:4] == data[-4:] else None
-
-
 def address_script(text: str) -> Optional[bytes]:
-    """The script that an address of regtest pays to, or None."""
-    data = base58_data(text)
-    if data is None or len(data) != 21:
-        return None
-    if data[0] == KEY_PREFIX:
-        return b"\x76\xa9" + push(data[1:]) + b"\x88\xac"
-    return b"\xa9" + push(data[1:]) + b"\x87" if data[0] == SCRIPT_PREFIX else None
+    """The script that an address of regtest pays to, or None. Spaces around it don't count."""
+    return script_of(text.strip(_SPACES)) if text.isascii() else None
+
+
+def base58_data(text: str) -> Optional[bytes]:
+    """What a text in base 58 has before the four bytes of its digest, or None. Spaces around it don't count."""
+    return data_of(text.strip(_SPACES))
 
 
 _CHARSET = "0123456789()[],'/*abcdefgh@:$%{}IJKLMNOPQRSTUVWXYZ&+-.;<=>?!^_|~ijklmnopqrstuvwxyzABCDEFGH`#\"\\ "

@@ -8,7 +8,8 @@ from ..encoding import (
 )  # fmt: skip
 from .errors import DESERIALIZATION_ERROR, INVALID_ADDRESS_OR_KEY, INVALID_PARAMETER, RpcError
 from .node import Node, call
-from .scripts import SCRIPT_PREFIX, address, asm, kind_of, shown
+from ..addresses import spelled as address
+from .scripts import SCRIPT_PREFIX, asm, kind_of, shown
 from .values import Amount, Object, boolean, digits, hexadecimal, integer, is_number
 
 GROUP = "Rawtransactions"

@@ -1,0 +1,58 @@
+"""Addresses in base 58, of hashes of keys and of scripts."""
+
+from typing import Dict, Optional, Tuple
+
+from . import arguments
+from .encoding import double_sha, push
+
+_DIGITS = "123456789ABCDEFGHJKLMNPQRSTUVWXYZabcdefghijkmnopqrstuvwxyz"
+#: An address has no more characters.
+MAX_ADDRESS = 100
+#: The first bytes of addresses, to a hash of a key and of a script.
+PREFIXES: Dict[str, Tuple[int, int]] = {"main": (0, 5), "test": (111, 196), "regtest": (111, 196)}
+
+
+def address_of(script: bytes, network: str = "regtest") -> Optional[str]:
+    """The address that pays to a script: to a key's hash or to a script's, else None. `network` is "main", "test" or
+    "regtest"."""
+    script = arguments.octets(script, "script")
+    key, inner = PREFIXES[arguments.word(network, "network", PREFIXES)]
+    if len(script) == 25 and script[:3] == b"\x76\xa9\x14" and script[23:] == b"\x88\xac":
+        return spelled(key, script[3:23])
+    if len(script) == 23 and script[:2] == b"\xa9\x14" and script[22:] == b"\x87":
+        return spelled(inner, script[2:22])
+    return None
+
+
+def script_of(address: str, network: str = "regtest") -> Optional[bytes]:
+    """The script that an address of the network pays to, or None."""
+    address = arguments.text(address, "address")
+    key, inner = PREFIXES[arguments.word(network, "network", PREFIXES)]
+    data = data_of(address)
+    if data is None or len(data) != 21:
+        return None
+    if data[0] == key:
+        return b"\x76\xa9" + push(data[1:]) + b"\x88\xac"
+    return b"\xa9" + push(data[1:]) + b"\x87" if data[0] == inner else None
+
+
+def data_of(text: str) -> Optional[bytes]:
+    """What a text in base 58 has before the four bytes of its digest, or None. Each zero byte in front is a digit 1."""
+    if len(text) > MAX_ADDRESS or not text or any(digit not in _DIGITS for digit in text):
+        return None
+    number = 0
+    for digit in text:
+        number = number * 58 + _DIGITS.index(digit)
+    data = bytes(len(text) - len(text.lstrip("1"))) + number.to_bytes((number.bit_length() + 7) // 8, "big")
+    return data[:-4] if len(data) >= 4 and double_sha(data[:-4])[:4] == data[-4:] else None
+
+
+def spelled(prefix: int, digest: bytes) -> str:
+    """The address of a first byte and a hash, with four bytes of a digest."""
+    data = bytes([arguments.number(prefix, "prefix", 8)]) + arguments.octets_of(digest, 20, "digest")
+    data += double_sha(data)[:4]
+    number, text = int.from_bytes(data, "big"), ""
+    while number:
+        number, digit = divmod(number, 58)
+        text = _DIGITS[digit] + text
+    return "1" * (len(data) - len(data.lstrip(b"\0"))) + text
