@@ -104,6 +104,10 @@ class InstallTest(unittest.TestCase):
         for command in ("wakotehu-server", "wakotehu-replica"):
             self.assertIn("usage", run(f"{self.folder}/venv/bin/{command}", "--help", cwd=self.folder, env=names))
         self.assertTrue(os.path.exists(f"{package}/replica.sql"))
+        # pytest finds its plugin.
+        asked = "from importlib.metadata import distribution as of; print(*of('wakotehu').entry_points)"
+        told = run(python, "-c", asked, cwd=self.folder, env=names)
+        self.assertIn("EntryPoint(name='wakotehu.testing', value='wakotehu.testing', group='pytest11')", told)
 
     def test_the_wheel_needs_the_program(self):
         done = subprocess.run(
