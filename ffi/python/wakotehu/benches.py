@@ -273,6 +273,7 @@ class Server:
         self._folder = tempfile.TemporaryDirectory(prefix="wakotehu-")
         self.cookie = os.path.join(self._folder.name, "cookie")
         command = [sys.executable, "-m", "wakotehu.server", "-rpcport=0", f"-rpccookiefile={self.cookie}", *words]
+        self._connection: Optional[http.client.HTTPConnection] = None
         self._process = subprocess.Popen(command, stdout=subprocess.PIPE, stderr=subprocess.PIPE, text=True)
         assert self._process.stdout is not None and self._process.stderr is not None
         line = self._process.stdout.readline()
@@ -285,7 +286,6 @@ class Server:
             name = file.read().strip()
         self.url = f"http://{name}@127.0.0.1:{self.port}"
         self._headers = {"Authorization": "Basic " + base64.b64encode(name.encode()).decode()}
-        self._connection = http.client.HTTPConnection("127.0.0.1", self.port, timeout=TIMEOUT)
         #: How many blocks tests mined so far.
         self.made = 0
         self._base: List[str] = []
@@ -297,13 +297,15 @@ class Server:
             reply = self._answered(body)
         except (http.client.RemoteDisconnected, ConnectionError):
             # The server closes a connection that was idle for long.
-            self._connection.close()
+            self._connection = None
             reply = self._answered(body)
         if reply["error"]:
             raise RpcError(reply["error"]["code"], reply["error"]["message"])
         return reply["result"]
 
     def _answered(self, body: str) -> Any:
+        if self._connection is None:
+            self._connection = http.client.HTTPConnection("127.0.0.1", self.port, timeout=TIMEOUT)
         self._connection.request("POST", "/", body, self._headers)
         return json.loads(self._connection.getresponse().read())
 
@@ -331,6 +333,8 @@ class Server:
 
     def stop(self) -> None:
         """Ends the server."""
+        if self._connection is not None:
+            self._connection.close()
         self._process.terminate()
         self._process.communicate()
         self._folder.cleanup()

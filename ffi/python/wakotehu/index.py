@@ -61,18 +61,21 @@ class Index:
         sums = parent.branch_size + size, parent.branch_transactions + many
         self.blocks[id] = Kept(id, height, header, times, many, size, *sums)
 
-    def follow(self, best: bytes) -> None:
-        """Makes the branch of a block the active one, in one step."""
+    def follow(self, best: bytes) -> Tuple[List[bytes], List[bytes]]:
+        """Makes the branch of a block the active one, in one step. The ids of the blocks that left, the highest first, and of
+        those that came, the lowest first."""
         if best == self.active[-1]:
-            return
+            return [], []
         come, at = [], self.blocks[best]
         if at.header.parent == self.active[-1]:
             self.active.append(best)
-            return
+            return [], [best]
         while not self.is_active(at.id):
             come.append(at)
             at = self.blocks[at.header.parent]
-        self.active[at.height + 1 :] = [kept.id for kept in reversed(come)]
+        gone, new = self.active[:at.height:-1], [kept.id for kept in reversed(come)]
+        self.active[at.height + 1 :] = new
+        return gone, new
 
     def is_active(self, id: bytes) -> bool:
         """Whether a block is on the active branch."""

@@ -4,7 +4,7 @@ import os
 import threading
 from contextlib import contextmanager
 from types import TracebackType
-from typing import Callable, Dict, Iterator, List, NoReturn, Optional, Sequence, Tuple, Type, TypeVar, Union
+from typing import Callable, Dict, Iterator, List, NamedTuple, NoReturn, Optional, Sequence, Tuple, Type, TypeVar, Union
 
 from . import ahead, errors
 from .arguments import Path, id_of, lines, octets, path
@@ -21,6 +21,16 @@ Coins = List[Tuple[bytes, int, Coin]]
 
 #: As many as a node may have.
 SEATS = 16
+
+
+class Move(NamedTuple):
+    """A move of the active branch: the ids of the blocks that left it, the highest first, and of those that came, the lowest
+    first; the height of its best block before, and of the parent of a block that was marked as invalid on it."""
+
+    gone: List[bytes]
+    come: List[bytes]
+    top: int
+    cut: Optional[int]
 
 
 class Pool(Walks):
@@ -61,6 +71,9 @@ class Pool(Walks):
         self._made = 0
         self._under_way = 0
         self._broken: Optional[errors.Error] = None
+        #: Is told of each move of the active branch.
+        self.moved: Callable[[Move], None] = lambda move: None
+        self._cut: Optional[int] = None
         self._data: Dict[bytes, bytes] = {}
         self._own = threading.local()
         self._threads = [0] * seats
@@ -206,7 +219,7 @@ class Pool(Walks):
 
     def try_mark(self, command: str, id: bytes) -> Reply:
         """As `Bench.try_mark`."""
-        return self._step(lambda seat: seat.try_mark(command, id), lambda reply: None)
+        return self._step(lambda seat: seat.try_mark(command, id), lambda reply: self._cut_at(command, id))
 
     def _is_kept(self, id: bytes, spelled: Spelled, reply: Reply) -> bool:
         """Whether a block is kept that wasn't there before. One that breaks a rule as it is connected is kept, as a tip
@@ -245,7 +258,22 @@ class Pool(Walks):
         best = self._best_after(answered, spelled)
         if self._followed < best.at:
             self._followed = best.at
-            self.index.follow(best.value)
+            self._follow(best.value)
+        self._cut = None
+
+    def _follow(self, best: bytes) -> None:
+        """Makes the branch of a block the active one, and tells of that."""
+        top, cut = len(self.index.active) - 1, self._cut
+        self._cut = None
+        gone, come = self.index.follow(best)
+        if gone or come:
+            self.moved(Move(gone, come, top, cut))
+
+    def _cut_at(self, command: str, id: bytes) -> None:
+        """Notes where an active block is marked as invalid: its parent is the best one before others come."""
+        found = self.index.blocks.get(id)
+        if command == "invalidate" and found is not None and self.index.is_active(id):
+            self._cut = found.height - 1
 
     def _best_after(self, answered: Stamped[Reply], spelled: Optional[Spelled]) -> Stamped[bytes]:
         """The active block after a command, or after a later one; all up to it were taken up."""

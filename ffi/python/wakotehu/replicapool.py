@@ -35,6 +35,8 @@ class ReplicaPool(Pool):
         self.index = Index()
         self.turn = threading.Condition(threading.Lock())
         self.steps = self.loaded = 0
+        self.moved = lambda move: None
+        self._cut = None
         self._data: Dict[bytes, bytes] = {}
         self._own = threading.local()
         self._threads = [0] * seats
@@ -68,7 +70,8 @@ class ReplicaPool(Pool):
             if spelled is not None and id not in self.index.blocks and self._is_kept_by(seat, id, spelled, reply):
                 self._data[id] = command.data
                 self.index.add(id, spelled)
-            self.index.follow(best)
+            self._cut_at(command.command, id)
+            self._follow(best)
             self.steps = row.place
             self.turn.notify_all()
 

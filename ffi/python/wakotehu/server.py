@@ -19,7 +19,7 @@ from .chainstate import REGTEST
 from .errors import Error
 from .pool import SEATS, Pool
 from .replicapool import ReplicaPool
-from .rpc import addresses, blockchain, chain, control, making, mining, proofs, settings, signing, stats, txs
+from .rpc import addresses, blockchain, chain, control, making, mining, notices, proofs, settings, signing, stats, txs
 from .rpc.auth import COOKIE_USER, Gate, remove_cookie, write_cookie
 from .rpc.datadir import BadFolder, Folder, Opening
 from .rpc.http import LOOPBACK, Server
@@ -29,7 +29,7 @@ from .signatures import Verifier
 from .version import __version__
 
 #: The modules that put calls into the table.
-MODULES = (addresses, blockchain, chain, control, making, mining, proofs, signing, stats, txs)
+MODULES = (addresses, blockchain, chain, control, making, mining, notices, proofs, signing, stats, txs)
 #: M_MMAP_THRESHOLD of glibc's malloc.h.
 _MMAP_THRESHOLD = -3
 #: Names of soft forks for -testactivationheight, by their places in the heights; csv has BIPs 68, 112 and 113.
@@ -100,6 +100,17 @@ class _Also(argparse.Action):
             parser.error(str(error))
 
 
+#: What is published by ZeroMQ.
+_ZMQ = {
+    "hashblock": "publishes the hash of each best block by ZeroMQ: tcp://127.0.0.1:N or ipc://PATH; needs python3-zmq."
+    " -zmqpubhashblockhwm=N, and so on: how many messages wait, 1000 by default",
+    "hashtx": "the id of each transaction of a block that comes or goes",
+    "rawblock": "each best block",
+    "rawtx": "each transaction of a block that comes or goes",
+    "sequence": "the hash of each block that comes (C) or goes (D)",
+}
+
+
 def _parser() -> _Parser:
     parser = _Parser(
         prog="wakotehu-server",
@@ -129,6 +140,10 @@ def _parser() -> _Parser:
     add("--rpcauth", action="append", default=[], metavar="NAME:SALT$HASH", help="who is let in, by a salted hash")
     add("--rpccookiefile", metavar="F", help="where the cookie is written")
     add("--no-auth", action="store_true", help="lets in everyone on this machine, without a password")
+    for topic in notices.TOPICS:
+        add(f"--zmqpub{topic}", action="append", default=[], metavar="ADDRESS", help=_ZMQ[topic])
+        add(f"--zmqpub{topic}hwm", metavar="N", help=argparse.SUPPRESS)
+    add("--blocknotify", metavar="COMMAND", help="is run when another block is the active one, with its hash for %%s")
     add("--version", action="version", version=__version__)
     for name in settings.RULES:
         add(f"--{name}", action=_Also, nargs="?", const="1", help=argparse.SUPPRESS)
@@ -156,7 +171,23 @@ def _given(words: Sequence[str]) -> argparse.Namespace:
             parser.error(f"-testactivationheight={it}: forks are bip34, cltv (bip65), dersig (bip66) and csv")
         heights[FORKS[fork]] = _number(parser, number, "-testactivationheight", 2**32 - 1)
     given.heights = tuple(heights) if given.testactivationheight else None
+    given.notices = _notices(parser, given)
     return given
+
+
+def _notices(parser: argparse.ArgumentParser, given: argparse.Namespace) -> List[notices.Notice]:
+    """What is published where."""
+    found: List[notices.Notice] = []
+    for topic in notices.TOPICS:
+        flag = f"-zmqpub{topic}hwm"
+        many = getattr(given, flag[1:])
+        water = _number(parser, str(notices.HIGH_WATER) if many is None else many, flag, 2**31 - 1)
+        for address in getattr(given, flag[1:-3]):
+            try:
+                found.append(notices.read_notice(topic, address, water))
+            except notices.BadNotice as error:
+                parser.error(str(error))
+    return list(dict.fromkeys(found))
 
 
 def _with_file(parser: _Parser, words: Sequence[str]) -> argparse.Namespace:
@@ -267,10 +298,23 @@ def _held() -> Iterator[None]:
             raise KeyboardInterrupt
 
 
+@contextlib.contextmanager
+def _published(given: argparse.Namespace) -> Iterator[Optional[notices.Publisher]]:
+    """What tells of blocks, where that is asked for."""
+    if not given.notices and not given.blocknotify:
+        yield None
+        return
+    publisher = notices.Publisher(given.notices, given.blocknotify or "")
+    try:
+        yield publisher
+    finally:
+        publisher.close()
+
+
 def _run(given: argparse.Namespace, folder: Optional[Folder], cookies: List[Tuple[str, str]]) -> None:
     """Serves until the end. The cookies that are written are added."""
     gate, has_cookie = _gate(given)
-    with _pool(given, folder) as bench:
+    with _published(given) as publisher, _pool(given, folder) as bench:
         if folder:
             print(f"{bench.loaded} commands of {given.datadir} were taken again", flush=True)
         hosts = list(dict.fromkeys(host.strip("[]") for host in given.rpcbind)) or ["127.0.0.1"]
@@ -282,6 +326,8 @@ def _run(given: argparse.Namespace, folder: Optional[Folder], cookies: List[Tupl
             print(f"127.0.0.1:{port}" + "".join(f" cookie {path}" for path, _ in cookies), flush=True)
 
         node = Node(bench)
+        if publisher is not None:
+            publisher.follow(node)
         serve(node, gate, hosts, given.rpcport, ready)
         if node.broken:
             raise Error(node.broken)
@@ -299,7 +345,7 @@ def main(words: Optional[Sequence[str]] = None) -> None:
                 _run(given, folder, cookies)
         else:
             _run(given, None, cookies)
-    except (BadFolder, Error, OSError, ValueError) as error:
+    except (BadFolder, Error, OSError, ValueError, notices.BadNotice) as error:
         sys.exit(f"wakotehu-server: {error}")
     except KeyboardInterrupt:
         pass

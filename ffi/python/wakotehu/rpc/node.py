@@ -3,7 +3,7 @@
 import threading
 import time
 from contextlib import contextmanager
-from typing import Any, Callable, Dict, Iterable, Iterator, List, NamedTuple, Optional, Sequence, Set, Tuple
+from typing import TYPE_CHECKING, Any, Callable, Dict, Iterable, Iterator, List, NamedTuple, Optional, Sequence, Set, Tuple
 
 from ..chainstate import Reply
 from ..encoding import GENESIS, GENESIS_BLOCK, Output, Spelled, Transaction, read_transaction
@@ -13,6 +13,8 @@ from ..pool import Pool
 from .errors import INVALID_ADDRESS_OR_KEY, INVALID_PARAMETER, METHOD_NOT_FOUND, MISC_ERROR, RpcError
 from .values import expect
 
+if TYPE_CHECKING:
+    from .notices import Publisher
 
 #: How often a call that waits looks whether its client is there, in seconds.
 LOOK = 0.5
@@ -31,6 +33,8 @@ class Node:
         self.pause = 0.0
         self.broken = ""
         self._is_making = False
+        #: What tells of blocks.
+        self.publisher: Optional["Publisher"] = None
         #: The categories of the log that are on.
         self.logged: Set[str] = set()
         #: The calls that run, by their threads: the name, and when they began.
