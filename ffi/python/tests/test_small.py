@@ -62,7 +62,7 @@ class TargetsTest(unittest.TestCase):
         self.assertEqual((e.work(0x1D00FFFF), e.work(0x207FFFFF)), (0x100010001, 2))
         self.assertAlmostEqual(e.work(0x1B0404CB) / e.work(0x1D00FFFF), 16307.420938523983, 6)
         self.assertEqual((e.work(0x01010000), e.work(0x2100FFFF)), (1 << 255, 1))
-        for bits in (0, 0x01003456, 0x04923456, 0xFF123456):
+        for bits in (0, 0x01003456, 0x04923456, 0xFF123456, 0x21123456):
             self.assertEqual(e.work(bits), 0)
         rng = random.Random(SEED + 1)
         for _ in range(2000):

@@ -13,6 +13,9 @@ import tempfile
 import unittest
 from typing import Any, List, Tuple
 
+from bitcoin.core import CTransaction
+from bitcoin.core.script import CScript, RawSignatureHash
+
 from wakotehu import vectors
 
 KEY = (
@@ -100,7 +103,9 @@ TRANSACTIONS: List[Tuple[List[Any], str, str, str]] = [
     ([point(INNER), PUSHED, "P2SH"], "!", "no P2SH", ""),
     ([point(INNER), PUSHED, "NONE"], "no P2SH", "!", ""),
     ([point("1"), EMPTY, "BADTX"], "!", "!", ""),
+    ([point("1"), EMPTY, "P2SH"], "!", "!", ""),
     ([point("1"), PLAIN, "BADTX"], "BADTX", "", "!"),
+    ([[["07" * 32, -1, "1"]], PLAIN.replace("07" + "00000000", "07" + "ffffffff", 1), "P2SH"], "", "", "!"),
     ([point("1"), PLAIN, "P2SH,WITNESS,NULLDUMMY"], "", "", "WITNESS,NULLDUMMY"),
     ([point("1"), WITNESS, "P2SH"], "a witness", "a witness", "a witness"),
     ([point("1"), PLAIN, "TOMORROW"], "TOMORROW", "", "TOMORROW"),
@@ -163,9 +168,11 @@ class PlayTest(unittest.TestCase):
             [raw[2:], script, place, kind, digest], [raw, "5", place, kind, digest], [raw, script, place, kind],
             [raw, script, "2", kind, digest],
         ]  # fmt: skip
+        tx = CTransaction.deserialize(bytes.fromhex(raw))
+        other = RawSignatureHash(CScript(b"\x53"), tx, 1, -1391424484)[0][::-1].hex()
         # A separator is no part of what is signed. Without a code all inputs of this type sign the same.
-        right = [DIGEST, [raw, "ab", place, kind, digest], [raw, script, place, kind - (1 << 32), digest],
-                 [raw, script, 1, kind, digest]]  # fmt: skip
+        right = [DIGEST, [raw, "ab", place, kind, digest], [raw, script, 1, kind, digest],
+                 [raw, "53", 1, -1391424484, other]]  # fmt: skip
         self.came("sighash", [*right, *wrong], [""] * len(right) + ["!"] * len(wrong))
 
     def test_rows_of_another_shape_are_told(self) -> None:
