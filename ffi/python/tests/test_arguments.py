@@ -264,7 +264,8 @@ ROWS = [
         kind=("number32", 1)),
     row("signatures.Secp256k1"), row("signatures.Secp256k1.valid", triple=("triple", TRIPLE)),
     row("signatures.Secp256k1.public_key", secret=("secret", SECRET), compressed=("flag", True)),
-    row("signatures.Secp256k1.sign", secret=("secret", SECRET), digest=ID),
+    row("signatures.Secp256k1.sign", secret=("secret", SECRET), digest=ID, entropy=("optional id", SECRET)),
+    row("signatures.Secp256k1.sign_short", secret=("secret", SECRET), digest=ID),
     row("signatures.Verifier", threads=("threads", 1)),
     row("signatures.Verifier.verdicts", lines=("list of lines", [TRIPLE.line])), row("signatures.processors"),
     row("signatures.read_signature", data=("bytes", b"")),
@@ -279,7 +280,7 @@ ROWS = [
     row("spelling.read_script", text=("text", "1 ADD")), row("spelling.show_script", script=("bytes", b"\x51")),
     row("served.program_path", named=("optional path", PROGRAM)),
     row("node.Node", **OPENED), row("asyncnode.AsyncNode", **OPENED),
-    *(row(f"{kind}.{name}") for kind in ("node.Node", "asyncnode.AsyncNode") for name in ("close", "kill")),
+    *(row(f"{kind}.{name}") for kind in ("node.Node", "asyncnode.AsyncNode") for name in ("close", "kill", "save")),
     *(row(f"{kind}.seat", number=("seat", 0)) for kind in ("node.Node", "asyncnode.AsyncNode")),
     *(row(f"{kind}.{name}", **words) for kind in ("node.Seat", "asyncnode.AsyncSeat") for name, words in SEAT),
     row("library.library"), row("library.secp256k1_library"),
@@ -288,11 +289,11 @@ ROWS = [
 #: Modules that are no part of this: what takes the arguments, exceptions, what a server has, and what it is started by; what
 #: needs a database (tests/replicas has its arguments).
 OTHER = {
-    "ahead", "arguments", "asyncreplica", "errors", "following", "history", "index", "pipe", "pool", "replica", "replicacommand", "replicalog", "replicapool",
-    "replication", "server", "vectors", "version", "__main__",
+    "ahead", "arguments", "asyncreplica", "benches", "errors", "following", "history", "index", "pipe", "pool", "replica",
+    "replicacommand", "replicalog", "replicapool", "replication", "server", "testing", "vectors", "version", "__main__",
 }  # fmt: skip
 #: What other modules of the package call with what was taken before.
-INSIDE = {"chainstate.reply_of"} | {
+INSIDE = {"addresses.data_of", "chainstate.reply_of"} | {
     f"signatures.{name}" for name in (
         "KnownSignatures", "KnownSignatures.learn", "KnownSignatures.verdicts", "signatures_of",
     )
