@@ -13,10 +13,9 @@ from ..encoding import block_at_front
 from ..index import Index
 from ..pool import Move
 from .node import Node, call
+from .settings import TOPICS
 from .values import Object
 
-#: What may be published, in the order in which Bitcoin Core tells of one event.
-TOPICS = ("hashblock", "hashtx", "rawblock", "rawtx", "sequence")
 #: How many messages wait for a subscriber before others are dropped, where nobody says it.
 HIGH_WATER = 1000
 
