@@ -140,7 +140,7 @@ def _parser() -> _Parser:
     add("--rpcauth", action="append", default=[], metavar="NAME:SALT$HASH", help="who is let in, by a salted hash")
     add("--rpccookiefile", metavar="F", help="where the cookie is written")
     add("--no-auth", action="store_true", help="lets in everyone on this machine, without a password")
-    for topic in notices.TOPICS:
+    for topic in settings.TOPICS:
         add(f"--zmqpub{topic}", action="append", default=[], metavar="ADDRESS", help=_ZMQ[topic])
         add(f"--zmqpub{topic}hwm", metavar="N", help=argparse.SUPPRESS)
     add("--blocknotify", metavar="COMMAND", help="is run when another block is the active one, with its hash for %%s")
@@ -178,7 +178,7 @@ def _given(words: Sequence[str]) -> argparse.Namespace:
 def _notices(parser: argparse.ArgumentParser, given: argparse.Namespace) -> List[notices.Notice]:
     """What is published where."""
     found: List[notices.Notice] = []
-    for topic in notices.TOPICS:
+    for topic in settings.TOPICS:
         flag = f"-zmqpub{topic}hwm"
         many = getattr(given, flag[1:])
         water = _number(parser, str(notices.HIGH_WATER) if many is None else many, flag, 2**31 - 1)

@@ -6,9 +6,9 @@ import os
 import re
 from typing import Callable, Dict, List, NamedTuple, Optional, Tuple
 
-#: What the file may set that the server has flags for. Those of the second are read in its section [regtest] alone.
 #: What may be published by ZeroMQ, in the order in which Bitcoin Core tells of one event.
 TOPICS = ("hashblock", "hashtx", "rawblock", "rawtx", "sequence")
+#: What the file may set that the server has flags for. Those of the second are read in its section [regtest] alone.
 READ = (
     "rpcuser", "rpcpassword", "rpcauth", "rpccookiefile", "testactivationheight", "blocknotify",
     *(f"zmqpub{topic}{end}" for topic in TOPICS for end in ("", "hwm")),
