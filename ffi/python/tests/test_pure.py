@@ -1,7 +1,8 @@
 """Calls that ask for no block, or for none but what is there, beside Debian's litecoind 0.21.2.1, which is Bitcoin Core's
 code: litecoind.json has what it answered on regtest. `calls` were made in their order on a chain of genesis alone,
-`signed` by the private keys 01.., 02.., 03.. and 04.. of 32 bytes; `proofs` are of blocks of 1 to 12 transactions: the
-header, the ids, which were asked for, the proof, and what it leads to; `spoiled` are edits of the last one.
+`descriptors` anywhere, `signed` by the private keys 01.., 02.., 03.. and 04.. of 32 bytes; `proofs` are of blocks of 1
+to 12 transactions: the header, the ids, which were asked for, the proof, and what it leads to; `spoiled` are edits of the
+last one.
 """
 
 import json
@@ -49,6 +50,9 @@ class BesideLitecoindTest(CallsTest):
     def test_calls(self):
         self.assertGreater(self.compare("calls"), 100)
 
+    def test_descriptors(self):
+        self.assertGreater(self.compare("descriptors"), 110)
+
     def test_signatures_are_the_same_bytes(self):
         found = rows("signed")
         for words, answer in found:
@@ -90,6 +94,14 @@ class ProofTest(CallsTest):
             return "end"
         # Of another number of transactions than the block has it leads to none.
         return [] if found is None or count != many else [show(id) for id in found]
+
+    def test_twins(self):
+        """A level of three is paired as one of four whose last two are the same: of those a proof leads to nothing."""
+        head, txs = next((bytes.fromhex(row[0]), row[1]) for row in rows("proofs") if len(row[1]) == 3)
+        ids = [read_id(tx) for tx in txs]
+        self.assertEqual(leads_to(head + proof(ids, [False, False, True])), (3, ids[2:]))
+        for marks in ([False, False, False, True], [True] * 4):
+            self.assertEqual(leads_to(head + proof([*ids, ids[2]], marks)), (4, None))
 
     def test_of_kept_blocks(self):
         blocks = self.maker.chain(103)

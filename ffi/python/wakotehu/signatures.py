@@ -44,6 +44,13 @@ class Secp256k1:
         library.secp256k1_ecdsa_signature_normalize(context, signature, signature)
         return bool(library.secp256k1_ecdsa_verify(context, signature, triple.digest, key))
 
+    def is_key(self, key: bytes) -> bool:
+        """Whether bytes are a public key, a point of the curve."""
+        key = octets(key, "key")
+        return bool(self._library.secp256k1_ec_pubkey_parse(
+            self._context, ctypes.create_string_buffer(64), key, ctypes.c_size_t(len(key))
+        ))  # fmt: skip
+
     def public_key(self, secret: bytes, compressed: bool = True) -> bytes:
         """The key of a secret, to make tests with."""
         secret, compressed = octets_of(secret, 32, "secret"), flag(compressed, "compressed")

@@ -171,8 +171,12 @@ def compact(number: int) -> bytes:
 
 
 def address(prefix: int, digest: bytes) -> str:
-    """An address, in base 58 with four bytes of a digest."""
-    data = bytes([prefix]) + digest
+    """An address."""
+    return base58(bytes([prefix]) + digest)
+
+
+def base58(data: bytes) -> str:
+    """Bytes in base 58, with four bytes of their digest."""
     data += double_sha(data)[:4]
     number, text = int.from_bytes(data, "big"), ""
     while number:
@@ -236,7 +240,7 @@ def _symbols(places: List[int]) -> Iterator[int]:
 
 def descriptor_script(descriptor: str) -> bytes:
     """The script of `raw(HEX)` or `addr(ADDRESS)`, with or without a checksum."""
-    text = _without_checksum(descriptor)
+    text = without_checksum(descriptor)
     found = re.fullmatch(r"(raw|addr)\((.*)\)", text, re.DOTALL)
     if not found:
         raise RpcError(INVALID_ADDRESS_OR_KEY, f"{text[:100]} is not a valid descriptor function")
@@ -250,7 +254,7 @@ def descriptor_script(descriptor: str) -> bytes:
     return script
 
 
-def _without_checksum(descriptor: str) -> str:
+def without_checksum(descriptor: str) -> str:
     """A descriptor without its checksum, which has to be right where it is there (Bitcoin Core's `CheckChecksum`)."""
     text, *checks = descriptor.split("#")
     if len(checks) > 1:
