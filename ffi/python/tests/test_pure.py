@@ -2,7 +2,7 @@
 code: litecoind.json has what it answered on regtest. `calls` were made in their order on a chain of genesis alone,
 `descriptors` anywhere, `signed` by the private keys 01.., 02.., 03.. and 04.. of 32 bytes; `proofs` are of blocks of 1
 to 12 transactions: the header, the ids, which were asked for, the proof, and what it leads to; `spoiled` are edits of the
-last one.
+last one, and `other proofs` too.
 """
 
 import json
@@ -84,14 +84,16 @@ class ProofTest(CallsTest):
                         changed[place] ^= 1
                     self.assertEqual(self.answered(bytes(changed), len(txs)), answer)
         self.assertEqual(count, 2 * (len(made) - 80) + 1)
+        for what, changed, answer in rows("other proofs"):
+            with self.subTest(what):
+                self.assertEqual(self.answered(bytes.fromhex(changed), len(txs)), answer)
 
     @staticmethod
     def answered(changed, many):
         try:
             count, found = leads_to(changed)
         except RpcError as error:
-            assert str(error).startswith("CDataStream::read()")
-            return "end"
+            return "end" if str(error) == "CDataStream::read(): end of data: iostream error" else str(error)
         # Of another number of transactions than the block has it leads to none.
         return [] if found is None or count != many else [show(id) for id in found]
 
