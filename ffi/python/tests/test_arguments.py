@@ -260,6 +260,8 @@ ROWS = [
     row("signatures.Secp256k1"), row("signatures.Secp256k1.valid", triple=("triple", TRIPLE)),
     row("signatures.Secp256k1.public_key", secret=("secret", SECRET), compressed=("flag", True)),
     row("signatures.Secp256k1.sign", secret=("secret", SECRET), digest=ID),
+    row("signatures.Secp256k1.sign_short", secret=("secret", SECRET), digest=ID),
+    row("signatures.Secp256k1.is_key", key=("bytes", b"")),
     row("signatures.Verifier", threads=("threads", 1)),
     row("signatures.Verifier.verdicts", lines=("list of lines", [TRIPLE.line])), row("signatures.processors"),
     row("signatures.read_signature", data=("bytes", b"")),
@@ -273,9 +275,9 @@ ROWS = [
 ]  # fmt: skip
 
 #: Modules that are no part of this: what takes the arguments, exceptions, what a server has, and what it is started by; what
-#: needs a database (tests/replicas has its arguments).
+#: needs a database (tests/replicas has its arguments); what pytest calls (test_testing has its own).
 OTHER = {
-    "ahead", "arguments", "asyncreplica", "errors", "following", "history", "index", "pipe", "pool", "replica", "replicacommand", "replicalog", "replicapool",
+    "ahead", "arguments", "asyncreplica", "benches", "testing", "errors", "following", "history", "index", "pipe", "pool", "replica", "replicacommand", "replicalog", "replicapool",
     "replication", "server", "version", "__main__",
 }  # fmt: skip
 #: What other modules of the package call with what was taken before.
