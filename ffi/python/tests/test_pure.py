@@ -154,6 +154,23 @@ class ChainTest(CallsTest):
         told = {"code": -8, "message": "Block is not in main chain"}
         self.assertEqual(self.call("getchaintxstats", 0, show(block_id(beside[0]))), told)
 
+    def test_a_change_of_difficulty(self):
+        """As litecoind answered on 2,018 blocks: -1 and 0 count from the last block at which the difficulty may change."""
+        self.call("setmocktime", 1700000000)
+        self.mined(2018)
+        for words, rate in (
+            ((), 12), ((-1,), 6), ((0,), 6), ((-1, 2015), 9.992270619152701e-06), ((-1, 2016), 0), ((2, 2017), 0),
+            ((-1, 2014), 9.987311675917389e-06), ((5, 2016), 10),
+        ):  # fmt: skip
+            with self.subTest(words):
+                self.assertEqual(self.call("getnetworkhashps", *words), rate)
+        found = self.call("getchaintxstats")
+        del found["window_final_block_hash"]
+        self.assertEqual(found, {
+            "time": 1700000338, "txcount": 2019, "window_final_block_height": 2018, "window_block_count": 2017,
+            "window_tx_count": 2017, "window_interval": 337, "txrate": 5.985163204747774,
+        })  # fmt: skip
+
     def test_counts_transactions(self):
         blocks = self.maker.chain(101)
         for block in blocks:
