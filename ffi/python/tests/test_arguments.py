@@ -266,6 +266,7 @@ ROWS = [
     row("signatures.Secp256k1.public_key", secret=("secret", SECRET), compressed=("flag", True)),
     row("signatures.Secp256k1.sign", secret=("secret", SECRET), digest=ID, entropy=("optional id", SECRET)),
     row("signatures.Secp256k1.sign_short", secret=("secret", SECRET), digest=ID),
+    row("signatures.Secp256k1.is_key", key=("bytes", b"")),
     row("signatures.Verifier", threads=("threads", 1)),
     row("signatures.Verifier.verdicts", lines=("list of lines", [TRIPLE.line])), row("signatures.processors"),
     row("signatures.read_signature", data=("bytes", b"")),
@@ -287,13 +288,13 @@ ROWS = [
 ]  # fmt: skip
 
 #: Modules that are no part of this: what takes the arguments, exceptions, what a server has, and what it is started by; what
-#: needs a database (tests/replicas has its arguments).
+#: needs a database (tests/replicas has its arguments); what pytest calls (test_testing has its own).
 OTHER = {
     "ahead", "arguments", "asyncreplica", "benches", "errors", "following", "history", "index", "pipe", "pool", "replica",
     "replicacommand", "replicalog", "replicapool", "replication", "server", "testing", "vectors", "version", "__main__",
 }  # fmt: skip
 #: What other modules of the package call with what was taken before.
-INSIDE = {"addresses.data_of", "chainstate.reply_of"} | {
+INSIDE = {"addresses.base58", "addresses.data_of", "chainstate.reply_of"} | {
     f"signatures.{name}" for name in (
         "KnownSignatures", "KnownSignatures.learn", "KnownSignatures.verdicts", "signatures_of",
     )

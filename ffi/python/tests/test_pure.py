@@ -1,7 +1,8 @@
 """Calls that ask for no block, or for none but what is there, beside Debian's litecoind 0.21.2.1, which is Bitcoin Core's
 code: litecoind.json has what it answered on regtest. `calls` were made in their order on a chain of genesis alone,
-`signed` by the private keys 01.., 02.., 03.. and 04.. of 32 bytes; `proofs` are of blocks of 1 to 12 transactions: the
-header, the ids, which were asked for, the proof, and what it leads to; `spoiled` are edits of the last one.
+`descriptors` anywhere, `signed` by the private keys 01.., 02.., 03.. and 04.. of 32 bytes; `proofs` are of blocks of 1
+to 12 transactions: the header, the ids, which were asked for, the proof, and what it leads to; `spoiled` are edits of the
+last one, and `other proofs` too.
 """
 
 import json
@@ -49,6 +50,9 @@ class BesideLitecoindTest(CallsTest):
     def test_calls(self):
         self.assertGreater(self.compare("calls"), 100)
 
+    def test_descriptors(self):
+        self.assertGreater(self.compare("descriptors"), 110)
+
     def test_signatures_are_the_same_bytes(self):
         found = rows("signed")
         for words, answer in found:
@@ -80,16 +84,26 @@ class ProofTest(CallsTest):
                         changed[place] ^= 1
                     self.assertEqual(self.answered(bytes(changed), len(txs)), answer)
         self.assertEqual(count, 2 * (len(made) - 80) + 1)
+        for what, changed, answer in rows("other proofs"):
+            with self.subTest(what):
+                self.assertEqual(self.answered(bytes.fromhex(changed), len(txs)), answer)
 
     @staticmethod
     def answered(changed, many):
         try:
             count, found = leads_to(changed)
         except RpcError as error:
-            assert str(error).startswith("CDataStream::read()")
-            return "end"
+            return "end" if str(error) == "CDataStream::read(): end of data: iostream error" else str(error)
         # Of another number of transactions than the block has it leads to none.
         return [] if found is None or count != many else [show(id) for id in found]
+
+    def test_twins(self):
+        """A level of three is paired as one of four whose last two are the same: of those a proof leads to nothing."""
+        head, txs = next((bytes.fromhex(row[0]), row[1]) for row in rows("proofs") if len(row[1]) == 3)
+        ids = [read_id(tx) for tx in txs]
+        self.assertEqual(leads_to(head + proof(ids, [False, False, True])), (3, ids[2:]))
+        for marks in ([False, False, False, True], [True] * 4):
+            self.assertEqual(leads_to(head + proof([*ids, ids[2]], marks)), (4, None))
 
     def test_of_kept_blocks(self):
         blocks = self.maker.chain(103)
@@ -139,6 +153,23 @@ class ChainTest(CallsTest):
         self.submit(beside[0])
         told = {"code": -8, "message": "Block is not in main chain"}
         self.assertEqual(self.call("getchaintxstats", 0, show(block_id(beside[0]))), told)
+
+    def test_a_change_of_difficulty(self):
+        """As litecoind answered on 2,018 blocks: -1 and 0 count from the last block at which the difficulty may change."""
+        self.call("setmocktime", 1700000000)
+        self.mined(2018)
+        for words, rate in (
+            ((), 12), ((-1,), 6), ((0,), 6), ((-1, 2015), 9.992270619152701e-06), ((-1, 2016), 0), ((2, 2017), 0),
+            ((-1, 2014), 9.987311675917389e-06), ((5, 2016), 10),
+        ):  # fmt: skip
+            with self.subTest(words):
+                self.assertEqual(self.call("getnetworkhashps", *words), rate)
+        found = self.call("getchaintxstats")
+        del found["window_final_block_hash"]
+        self.assertEqual(found, {
+            "time": 1700000338, "txcount": 2019, "window_final_block_height": 2018, "window_block_count": 2017,
+            "window_tx_count": 2017, "window_interval": 337, "txrate": 5.985163204747774,
+        })  # fmt: skip
 
     def test_counts_transactions(self):
         blocks = self.maker.chain(101)

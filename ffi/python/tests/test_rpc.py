@@ -83,6 +83,9 @@ class RequestsTest(CallsTest):
                 error = self.call("getblock", blockhash=genesis, **named)
                 self.assertEqual(error, {"code": -8, "message": f"Unknown named parameter {left}"})
         self.assertEqual(self.call("getblock", verbosity=0)["message"], "JSON value is not a string as expected")
+        # Of one name that is given twice the first counts here; at Bitcoin Core the last does.
+        status, body = self.running.posted(b'{"method": "getblockhash", "params": {"height": 0, "height": 1}}')
+        self.assertEqual((status, json.loads(body)["result"]), (200, genesis))
 
     def test_numbers_and_signs_of_requests(self):
         """Ids come back as they were spelled; halves of a sign aren't read. As litecoind's answers."""

@@ -194,6 +194,18 @@ class HelpersTest(unittest.TestCase):
             self.assertEqual(len(miner.tree().split("\n")), 5)
             self.assertEqual(miner.id_at(0)[:2], read_block(miner.block(miner.id_at(0))).header.id[:2])
 
+    def test_what_is_no_argument(self):
+        with Bench() as bench:
+            miner = BenchMiner(bench)
+            for kind, call in (
+                ("count", lambda it: miner.mine(it)), ("to", lambda it: miner.mine(1, it)), ("value", lambda it: miner.fund(b"", it)),
+                ("to", lambda it: miner.fund(it, 1)), ("depth", miner.reorg),
+            ):  # fmt: skip
+                for value in (None, 1.5, [], True):
+                    with self.subTest((kind, value)), self.assertRaisesRegex((TypeError, ValueError), kind):
+                        call(value)
+            self.assertEqual(bench.height(), 0)
+
     def test_trees(self):
         """Each block that is not below all forks is there once, in the row of its height, and each tip with its status."""
         with Node(seats=1, verify=secp256k1, program=PROGRAM) as node:

@@ -36,9 +36,9 @@ def script_of(address: str, network: str = "regtest") -> Optional[bytes]:
     return b"\xa9" + push(data[1:]) + b"\x87" if data[0] == inner else None
 
 
-def data_of(text: str) -> Optional[bytes]:
+def data_of(text: str, most: int = MAX_ADDRESS) -> Optional[bytes]:
     """What a text in base 58 has before the four bytes of its digest, or None. Each zero byte in front is a digit 1."""
-    if len(text) > MAX_ADDRESS or not text or any(digit not in _DIGITS for digit in text):
+    if len(text) > most or not text or any(digit not in _DIGITS for digit in text):
         return None
     number = 0
     for digit in text:
@@ -48,8 +48,12 @@ def data_of(text: str) -> Optional[bytes]:
 
 
 def spelled(prefix: int, digest: bytes) -> str:
-    """The address of a first byte and a hash, with four bytes of a digest."""
-    data = bytes([arguments.number(prefix, "prefix", 8)]) + arguments.octets_of(digest, 20, "digest")
+    """The address of a first byte and a hash."""
+    return base58(bytes([arguments.number(prefix, "prefix", 8)]) + arguments.octets_of(digest, 20, "digest"))
+
+
+def base58(data: bytes) -> str:
+    """Bytes in base 58, with four bytes of their digest."""
     data += double_sha(data)[:4]
     number, text = int.from_bytes(data, "big"), ""
     while number:

@@ -9,6 +9,8 @@ import sys
 import tempfile
 from typing import Any, Callable, List, Optional, Sequence, Tuple, Union
 
+from .arguments import number as number_of
+from .arguments import octets
 from .bench import Bench
 from .chainstate import Tip, read_id, show
 from .encoding import GENESIS, GENESIS_BLOCK, Input, Output, Transaction, block_at_front, coinbase, mine, subsidy
@@ -67,7 +69,7 @@ class Miner:
         self, count: int = 1, to: Union[bytes, str] = ANYONE, transactions: Sequence[Transaction] = ()
     ) -> List[bytes]:
         """Mines blocks on the active one, which pay to a script or an address; the first has the transactions. Their ids."""
-        found = []
+        count, found = number_of(count, "count"), []
         height = self.height()
         at = self.id_at(height)
         for number in range(count):
@@ -78,11 +80,12 @@ class Miner:
     def fund(self, to: Union[bytes, str], value: int) -> Tuple[bytes, int]:
         """Mines a block that pays so many satoshis to a script or an address: the outpoint. The coins are those of earlier
         blocks that anyone spends; where too few of them are old enough, more are mined first."""
+        script, value = _script(to), number_of(value, "value", 51, least=1)
         inputs, sum = self._coins(value)
         while sum < value:
             self.mine()
             inputs, sum = self._coins(value)
-        outputs = [Output(value, _script(to)), Output(sum - value, ANYONE)]
+        outputs = [Output(value, script), Output(sum - value, ANYONE)]
         tx = Transaction(2, inputs, outputs if sum > value else outputs[:1], 0)
         self.mine(1, ANYONE, [tx])
         return tx.id, 0
@@ -91,7 +94,7 @@ class Miner:
         """Takes so many active blocks back: a branch of one more, without transactions, forks below them. The ids of those
         that were taken back, the lowest first."""
         top = self.height()
-        if not 1 <= depth <= top:
+        if not 1 <= number_of(depth, "depth") <= top:
             raise ValueError(f"depth must be from 1 to {top}")
         gone = [self.id_at(height) for height in range(top - depth + 1, top + 1)]
         at = self.id_at(top - depth)
@@ -155,7 +158,7 @@ def _cell(column: Tuple[int, List[str], str], height: int) -> str:
 
 def _script(to: Union[bytes, str]) -> bytes:
     """A script, or that of an address."""
-    found = address_script(to) if isinstance(to, str) else to
+    found = address_script(to) if isinstance(to, str) else octets(to, "to")
     if found is None:
         raise ValueError(f"{to!r} is no address of regtest")
     return found

@@ -19,7 +19,9 @@ from .chainstate import REGTEST
 from .errors import Error
 from .pool import SEATS, Pool
 from .replicapool import ReplicaPool
-from .rpc import addresses, blockchain, chain, control, making, mining, notices, proofs, settings, signing, stats, txs
+from .rpc import (
+    addresses, blockchain, chain, control, descriptors, making, mining, notices, proofs, settings, signing, stats, txs,
+)  # fmt: skip
 from .rpc.auth import COOKIE_USER, Gate, remove_cookie, write_cookie
 from .rpc.datadir import BadFolder, Folder, Opening
 from .rpc.http import LOOPBACK, Server
@@ -29,7 +31,9 @@ from .signatures import Verifier
 from .version import __version__
 
 #: The modules that put calls into the table.
-MODULES = (addresses, blockchain, chain, control, making, mining, notices, proofs, signing, stats, txs)
+MODULES = (
+    addresses, blockchain, chain, control, descriptors, making, mining, notices, proofs, signing, stats, txs,
+)  # fmt: skip
 #: M_MMAP_THRESHOLD of glibc's malloc.h.
 _MMAP_THRESHOLD = -3
 #: Names of soft forks for -testactivationheight, by their places in the heights; csv has BIPs 68, 112 and 113.

@@ -44,6 +44,13 @@ class Secp256k1:
         library.secp256k1_ecdsa_signature_normalize(context, signature, signature)
         return bool(library.secp256k1_ecdsa_verify(context, signature, triple.digest, key))
 
+    def is_key(self, key: bytes) -> bool:
+        """Whether bytes are a public key, a point of the curve."""
+        key = octets(key, "key")
+        return bool(self._library.secp256k1_ec_pubkey_parse(
+            self._context, ctypes.create_string_buffer(64), key, ctypes.c_size_t(len(key))
+        ))  # fmt: skip
+
     def public_key(self, secret: bytes, compressed: bool = True) -> bytes:
         """The key of a secret, to make tests with."""
         secret, compressed = octets_of(secret, 32, "secret"), flag(compressed, "compressed")
@@ -57,24 +64,27 @@ class Secp256k1:
         )
         return out.raw[: length.value]
 
-    def sign(self, secret: bytes, digest: bytes, entropy: Optional[bytes] = None) -> bytes:
-        """A signature in BIP 66's form, without a hash type, to make tests with. Other `entropy` (32 bytes) makes another."""
-        secret, digest = octets_of(secret, 32, "secret"), id_of(digest, "digest")
-        signature, out = ctypes.create_string_buffer(64), ctypes.create_string_buffer(72)
-        length = ctypes.c_size_t(72)
-        more = None if entropy is None else octets_of(entropy, 32, "entropy")
-        if not self._library.secp256k1_ecdsa_sign(self._context, signature, digest, secret, None, more):
-            raise ValueError("secret must be a number from 1 to the curve's order less 1")
-        self._library.secp256k1_ecdsa_signature_serialize_der(self._context, out, ctypes.byref(length), signature)
-        return out.raw[: length.value]
+    def sign(self, secret: bytes, digest: bytes) -> bytes:
+        """A signature in BIP 66's form, without a hash type, to make tests with."""
+        return self._signature(octets_of(secret, 32, "secret"), id_of(digest, "digest"), None)
 
     def sign_short(self, secret: bytes, digest: bytes) -> bytes:
         """The signature that Bitcoin Core makes: the first one whose first number has at most 32 bytes."""
-        found, tries = self.sign(secret, digest), 0
+        secret, digest = octets_of(secret, 32, "secret"), id_of(digest, "digest")
+        found, tries = self._signature(secret, digest, None), 0
         while found[3] > 32:
             tries += 1
-            found = self.sign(secret, digest, tries.to_bytes(32, "little"))
+            found = self._signature(secret, digest, tries.to_bytes(32, "little"))
         return found
+
+    def _signature(self, secret: bytes, digest: bytes, entropy: Optional[bytes]) -> bytes:
+        """A signature; other entropy of 32 bytes makes another."""
+        signature, out = ctypes.create_string_buffer(64), ctypes.create_string_buffer(72)
+        length = ctypes.c_size_t(72)
+        if not self._library.secp256k1_ecdsa_sign(self._context, signature, digest, secret, None, entropy):
+            raise ValueError("secret must be a number from 1 to the curve's order less 1")
+        self._library.secp256k1_ecdsa_signature_serialize_der(self._context, out, ctypes.byref(length), signature)
+        return out.raw[: length.value]
 
 
 class Verifier:

@@ -1,9 +1,9 @@
-"""Calls about addresses and descriptors."""
+"""Calls about addresses."""
 
 from typing import Any
 
 from .node import Node, call
-from .scripts import address_script, checksum, descriptor_script
+from .scripts import address_script
 from .values import Object, text
 
 GROUP = "Util"
@@ -18,13 +18,3 @@ def validateaddress(node: Node, address: Any) -> Object:
         return {"isvalid": False}
     return {"isvalid": True, "address": given.strip(), "scriptPubKey": script.hex(), "isscript": len(script) == 23,
             "iswitness": False}  # fmt: skip
-
-
-@call(GROUP, "descriptor", needed=1, types=("string",))
-def getdescriptorinfo(node: Node, descriptor: Any) -> Object:
-    """What a descriptor is, raw(HEX) or addr(ADDRESS), with its checksum."""
-    descriptor_script(descriptor)
-    found = descriptor.partition("#")[0]
-    made = checksum(found)
-    return {"descriptor": f"{found}#{made}", "checksum": made, "isrange": False, "issolvable": False,
-            "hasprivatekeys": False}  # fmt: skip

@@ -13,6 +13,9 @@ from .values import array, digits, hex_text
 GROUP = "Blockchain"
 #: A transaction has at least 60 bytes, so a block has no more of them.
 MOST = 1_000_000 // 60
+#: No count is more, in Bitcoin Core's words.
+MAX_COUNT = 0x02000000
+_END = "CDataStream::read(): end of data"
 
 
 @call(GROUP, "txids", "blockhash", needed=1)
@@ -68,8 +71,8 @@ def leads_to(data: bytes) -> Tuple[int, Optional[List[bytes]]]:
     """Of how many transactions a proof is, and to which it leads from its header; None where it doesn't."""
     try:
         part = _read(data)
-    except (ValueError, IndexError):
-        raise RpcError(MISC_ERROR, "CDataStream::read(): end of data: iostream error")
+    except ValueError as error:
+        raise RpcError(MISC_ERROR, f"{error}: iostream error")
     found = part.matches()
     return part.leaves, found[1] if found is not None and found[0] == data[36:68] else None
 
@@ -156,14 +159,19 @@ def _read(data: bytes) -> _Part:
     size, at = _count(data, at)
     packed = data[at : at + size]
     if at + size > len(data):
-        raise ValueError("it ends early")
+        raise ValueError(_END)
     bits = [bool(packed[place // 8] >> place % 8 & 1) for place in range(8 * size)]
     return _Part(int.from_bytes(data[80:84], "little"), hashes, bits)
 
 
 def _count(data: bytes, at: int) -> Tuple[int, int]:
     """A count, and the place behind it."""
-    wide = {253: 2, 254: 4, 255: 8}.get(data[at], 0)
+    wide, least = {253: (2, 253), 254: (4, 2**16), 255: (8, 2**32)}.get(data[at] if at < len(data) else 0, (0, 0))
     if at + 1 + wide > len(data):
-        raise ValueError("it ends early")
-    return (int.from_bytes(data[at + 1 : at + 1 + wide], "little") if wide else data[at]), at + 1 + wide
+        raise ValueError(_END)
+    found = int.from_bytes(data[at + 1 : at + 1 + wide], "little") if wide else data[at]
+    if found < least:
+        raise ValueError("non-canonical ReadCompactSize()")
+    if found > MAX_COUNT:
+        raise ValueError("ReadCompactSize(): size too large")
+    return found, at + 1 + wide

@@ -4,7 +4,7 @@ import re
 from itertools import islice
 from typing import Dict, Iterator, List, Optional, Tuple
 
-from ..addresses import PREFIXES, data_of, script_of, spelled as address
+from ..addresses import MAX_ADDRESS, PREFIXES, data_of, script_of, spelled as address
 from ..encoding import hash160, operations
 from ..spelling import NAMES
 from .errors import INVALID_ADDRESS_OR_KEY, RpcError
@@ -166,9 +166,9 @@ def address_script(text: str) -> Optional[bytes]:
     return script_of(text.strip(_SPACES)) if text.isascii() else None
 
 
-def base58_data(text: str) -> Optional[bytes]:
+def base58_data(text: str, most: int = MAX_ADDRESS) -> Optional[bytes]:
     """What a text in base 58 has before the four bytes of its digest, or None. Spaces around it don't count."""
-    return data_of(text.strip(_SPACES))
+    return data_of(text.strip(_SPACES), most)
 
 
 _CHARSET = "0123456789()[],'/*abcdefgh@:$%{}IJKLMNOPQRSTUVWXYZ&+-.;<=>?!^_|~ijklmnopqrstuvwxyzABCDEFGH`#\"\\ "
@@ -204,7 +204,7 @@ def _symbols(places: List[int]) -> Iterator[int]:
 
 def descriptor_script(descriptor: str) -> bytes:
     """The script of `raw(HEX)` or `addr(ADDRESS)`, with or without a checksum."""
-    text = _without_checksum(descriptor)
+    text = without_checksum(descriptor)
     found = re.fullmatch(r"(raw|addr)\((.*)\)", text, re.DOTALL)
     if not found:
         raise RpcError(INVALID_ADDRESS_OR_KEY, f"{text[:100]} is not a valid descriptor function")
@@ -218,7 +218,7 @@ def descriptor_script(descriptor: str) -> bytes:
     return script
 
 
-def _without_checksum(descriptor: str) -> str:
+def without_checksum(descriptor: str) -> str:
     """A descriptor without its checksum, which has to be right where it is there (Bitcoin Core's `CheckChecksum`)."""
     text, *checks = descriptor.split("#")
     if len(checks) > 1:

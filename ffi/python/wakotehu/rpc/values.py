@@ -145,7 +145,8 @@ def satoshis(spelled: str) -> Optional[int]:
     found = re.fullmatch(r"(-?)(0|[1-9][0-9]*)(?:\.([0-9]+))?(?:[eE]([+-]?[0-9]{1,18}))?", spelled, re.ASCII)
     if found is None:
         return None
-    digits = found[2] + (found[3] or "")
+    # One zero before the point is no digit.
+    digits = found[2].lstrip("0") + (found[3] or "")
     kept = digits.rstrip("0").lstrip("0")
     exponent = int(found[4] or 0) - len(found[3] or "") + len(digits) - len(digits.rstrip("0")) + 8
     if not 0 <= exponent < 18 or len(kept) > 18:
