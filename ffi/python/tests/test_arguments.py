@@ -264,7 +264,7 @@ ROWS = [
         kind=("number32", 1)),
     row("signatures.Secp256k1"), row("signatures.Secp256k1.valid", triple=("triple", TRIPLE)),
     row("signatures.Secp256k1.public_key", secret=("secret", SECRET), compressed=("flag", True)),
-    row("signatures.Secp256k1.sign", secret=("secret", SECRET), digest=ID, entropy=("optional id", SECRET)),
+    row("signatures.Secp256k1.sign", secret=("secret", SECRET), digest=ID),
     row("signatures.Secp256k1.sign_short", secret=("secret", SECRET), digest=ID),
     row("signatures.Secp256k1.is_key", key=("bytes", b"")),
     row("signatures.Verifier", threads=("threads", 1)),

@@ -13,7 +13,6 @@ from ..encoding import block_at_front
 from ..index import Index
 from ..pool import Move
 from .node import Node, call
-from .settings import TOPICS
 from .values import Object
 
 #: How many messages wait for a subscriber before others are dropped, where nobody says it.
