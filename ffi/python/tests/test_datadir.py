@@ -527,7 +527,7 @@ class FlagsTest(FolderCase):
             ("-addnode=10.0.0.1", "peers"), ("-upnp", "peers"), ("-discover=1", "peers"), ("-debuglogfile=x.log", "logged"), ("-txindex", "index"), ("-txindex=1", "index"), ("-rest", "/rest/"),
             ("-prune=550", "pruned"), ("-rpcallowip=0.0.0.0/0", "this machine"), ("-rpcallowip=::/0", "this machine"),
             ("-rpcallowip=127.0.0.0/7", "this machine"), ("-rpcallowip=x", "this machine"), ("-rpcthreads=x", "number"),
-            ("-fallbackfee=x", "amount"), ("-fallbackfee=", "amount"), ("-zmqpubrawblock=tcp://127.0.0.1:1", "zmqpubrawblock"),
+            ("-fallbackfee=x", "amount"), ("-fallbackfee=", "amount"), ("-zmqpubrawblock=tcp://10.0.0.1:1", "loopback"),
         ]  # fmt: skip
         for flag, word in table:
             with self.subTest(flag):
@@ -594,12 +594,12 @@ class FlagsTest(FolderCase):
                 self.assertIn(word, told.getvalue())
 
     def test_lines_without_an_effect_are_named(self):
-        self.conf("rpcuser=a\nrpcpassword=b\nzmqpubhashblock=x\n[main]\nnonsense=1\n")
+        self.conf("rpcuser=a\nrpcpassword=b\nwalletnotify=x\n[main]\nnonsense=1\n")
         server = self.started()
         self.assertEqual(server.call("getblockcount", user="a:b"), 0)
         server.process.send_signal(signal.SIGTERM)
         path = os.path.join(self.folder, "bitcoin.conf")
-        self.assertEqual(server.process.communicate(timeout=10)[1], f"wakotehu-server: {path} line 3: zmqpubhashblock has no effect\n")
+        self.assertEqual(server.process.communicate(timeout=10)[1], f"wakotehu-server: {path} line 3: walletnotify has no effect\n")
 
 
 class CookieTest(FolderCase):
