@@ -279,7 +279,7 @@ ROWS = [
     row("spelling.read_script", text=("text", "1 ADD")), row("spelling.show_script", script=("bytes", b"\x51")),
     row("served.program_path", named=("optional path", PROGRAM)),
     row("node.Node", **OPENED), row("asyncnode.AsyncNode", **OPENED),
-    *(row(f"{kind}.{name}") for kind in ("node.Node", "asyncnode.AsyncNode") for name in ("close", "kill")),
+    *(row(f"{kind}.{name}") for kind in ("node.Node", "asyncnode.AsyncNode") for name in ("close", "kill", "save")),
     *(row(f"{kind}.seat", number=("seat", 0)) for kind in ("node.Node", "asyncnode.AsyncNode")),
     *(row(f"{kind}.{name}", **words) for kind in ("node.Seat", "asyncnode.AsyncSeat") for name, words in SEAT),
     row("library.library"), row("library.secp256k1_library"),
