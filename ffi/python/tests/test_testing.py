@@ -194,6 +194,24 @@ class HelpersTest(unittest.TestCase):
             self.assertEqual(len(miner.tree().split("\n")), 5)
             self.assertEqual(miner.id_at(0)[:2], read_block(miner.block(miner.id_at(0))).header.id[:2])
 
+    def test_a_bench_that_is_replayed(self):
+        """It has the same blocks, and is one of its own."""
+        with Bench() as bench:
+            miner = BenchMiner(bench)
+            miner.mine(3)
+            miner.reorg(2)
+            with bench._replayed() as other:
+                for read in (Bench.best, Bench.coins, Bench.tips, lambda it: it.journal, lambda it: it.index.active,
+                             lambda it: it.index.blocks, lambda it: it.index.transactions, Bench.branch):  # fmt: skip
+                    self.assertEqual(read(other), read(bench))
+                ids, moved = BenchMiner(other), bench.best()
+                ids._made = 100
+                [id] = ids.mine()
+                self.assertEqual((bench.best(), bench.is_kept(id), other.best(), other.height()), (moved, False, id, 5))
+                self.assertEqual((len(bench.journal), len(other.journal)), (6, 7))
+                other.invalidate(other.index.active[1])
+                self.assertEqual((other.height(), bench.height()), (0, 4))
+
     def test_what_is_no_argument(self):
         with Bench() as bench:
             miner = BenchMiner(bench)

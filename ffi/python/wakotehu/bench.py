@@ -102,6 +102,18 @@ class Bench(Walks):
         """As of a `Chainstate`."""
         raise TypeError("a Bench can't be copied or pickled")
 
+    def _replayed(self) -> "Bench":
+        """Another bench to which the same blocks were submitted. What is known of them is copied, so that is twice as fast as
+        to submit them; the chainstate takes each anew."""
+        found = Bench(self.heights, self.table)
+        for entry in self.journal:
+            data = self.chain.block(entry.id)
+            assert data is not None and entry.command == "submit", "of blocks alone"
+            reply = found.chain._submit_into(Answer(), data, entry.now)
+            assert reply.text == entry.reply, "a chainstate replies the same"
+        found._index, found._journal = self.index.copy(), list(self.journal)
+        return found
+
     def close(self) -> None:
         """Closes the chainstate."""
         try:

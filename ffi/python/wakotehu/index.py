@@ -45,6 +45,13 @@ class Index:
         size = len(GENESIS_BLOCK)
         self.blocks[GENESIS.id] = Kept(GENESIS.id, 0, GENESIS, (GENESIS.time,), 1, size, size, 1)
 
+    def copy(self) -> "Index":
+        """Another index of the same."""
+        found = Index()
+        found.blocks, found.active = dict(self.blocks), list(self.active)
+        found.transactions, found.highest = dict(self.transactions), self.highest
+        return found
+
     @property
     def active_size(self) -> int:
         """How many bytes the blocks of the active branch have."""

@@ -32,11 +32,18 @@ def pytest_addoption(parser: pytest.Parser) -> None:
 
 
 @pytest.fixture(scope="session")
-def _wakotehu_blocks() -> List[Spelled]:
-    """The blocks that each chain begins with, mined once."""
-    with Bench() as bench:
-        miner = BenchMiner(bench)
-        return [block_at_front(miner.block(id)) for id in miner.mine(BASE)]
+def _wakotehu_base() -> Iterator[Bench]:
+    """The chain with which each test begins, mined once."""
+    with Bench() as found:
+        BenchMiner(found).mine(BASE)
+        yield found
+
+
+@pytest.fixture(scope="session")
+def _wakotehu_blocks(_wakotehu_base: Bench) -> List[Spelled]:
+    """Its blocks."""
+    miner = BenchMiner(_wakotehu_base)
+    return [block_at_front(miner.block(id)) for id in _wakotehu_base.branch()]
 
 
 _Miners = Dict[str, Miner]
@@ -51,11 +58,9 @@ def _wakotehu_miners(request: pytest.FixtureRequest) -> _Miners:
 
 
 @pytest.fixture
-def bench(_wakotehu_blocks: List[Spelled], _wakotehu_miners: _Miners) -> Iterator[Bench]:
+def bench(_wakotehu_base: Bench, _wakotehu_miners: _Miners) -> Iterator[Bench]:
     """A `Bench` of 101 blocks, whose coins anyone spends."""
-    with Bench() as found:
-        for block in _wakotehu_blocks:
-            found.try_submit_spelled(block, block.header.time)
+    with _wakotehu_base._replayed() as found:
         _wakotehu_miners["bench"] = BenchMiner(found)
         yield found
 
