@@ -213,7 +213,7 @@ class CommandTest(unittest.TestCase):
             status, out, _ = self.run_it(digests, wrong)
             self.assertEqual(status, 1)
             self.assertIn(f"{wrong}:5: the digest is {DIGEST[4]}\n{wrong}: 1 as said, 1 not, 0 skipped\n", out)
-            # A file of which nothing is played is none that agrees.
+            # A file without a row that is played doesn't agree.
             self.assertEqual(self.run_it(put("tx_valid.json", []))[0], 1)
             other = put("mine.json", [DIGEST])
             self.assertEqual(self.run_it(other)[0], 2)

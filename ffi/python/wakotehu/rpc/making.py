@@ -64,7 +64,7 @@ def _pairs(given: List[Any]) -> List[Tuple[str, Any]]:
 def _outputs(pairs: Iterable[Tuple[str, Any]]) -> List[Output]:
     """The outputs; no address twice, and one with data at most."""
     found: List[Output] = []
-    #: The scripts so far; that of data is none.
+    #: The scripts so far; data has no script of its own.
     known: Dict[Optional[bytes], str] = {}
     for name, value in pairs:
         script = None if name == "data" else address_script(name)

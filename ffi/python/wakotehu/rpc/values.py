@@ -99,7 +99,7 @@ def hexadecimal(value: Any, fault: str, most: Optional[int] = None) -> bytes:
 
 
 def hex_text(value: Any, name: str) -> bytes:
-    """Bytes as digits, one at least, by Bitcoin Core's `ParseHexV`: what isn't a text is told as none."""
+    """Bytes as digits, one at least, by Bitcoin Core's `ParseHexV`: anything but text counts as no digits."""
     given = value if isinstance(value, str) else ""
     if not given or len(given) % 2 or not re.fullmatch("[0-9a-fA-F]*", given):
         raise RpcError(INVALID_PARAMETER, f"{name} must be hexadecimal string (not '{shortened(given)}')")
