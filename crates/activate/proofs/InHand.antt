@@ -130,7 +130,7 @@ module _ (k : Kept Block) (t : Blocks Block) (kept : k.parent ≤ length t) (a :
 
     -- it connects
     pub leads_new : (path : BranchPath) → IsPath t a k.parent path → (move : Reorganisation) → move.path.fork ≡ path.fork → move.path.height ≡ path.height → move.path.up.items ≡ n ∷ path.up.items
-        → branch_connects r more n ≡ true → move.undo.items ≡ reverse (map (undo_at more) (n ∷ path.up.items))
+        → branch_connects r more n ≡ true → move.undo ≡ reverse (map (undo_at more) (n ∷ path.up.items))
         → (below after : Coins) → below ≡ coins_after t a → after ≡ effect (height t k.parent + 1) (coins_after t k.parent) k.block.txs
         → AreChanges below after move.changes → after_changes below move.changes ≡ after → LeadsTo r more a n move
     leads_new path is move fork high up good undo below after base top changes laid = record {

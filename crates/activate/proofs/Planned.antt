@@ -137,7 +137,7 @@ module _ (r : Rules Block Id) where
               (subst (λ (u : Blocks Block). AreChanges (coins_of a) (coins_after u place) found.changes) (sym (tried-blocks r t place ∙ same_blocks)) moves.changes);
           ready = record {
             edit = over_marks;
-            rest = subst (λ (u : State Block). CanActivate r (record a { state = u }) place found.path found.undo.items) (sym over) (record {
+            rest = subst (λ (u : State Block). CanActivate r (record a { state = u }) place found.path found.undo) (sym over) (record {
               can = lead.can;
               kept = best.kept;
               is_way = subst (λ (u : Blocks Block). IsPath u a.active place found.path) (sym same_blocks) moves.path;

@@ -84,7 +84,7 @@ after-finish : (r : Rules Block Id) (a b : CoreState) (rest : Completion) → Ca
 after-finish r a b Nothing ready same kept z h = absurd (own_parent b.state.blocks a.active b.active same z h)
 after-finish r a b (Flag p failed) ready same kept z h =
     absurd (own_parent b.state.blocks a.active b.active same z (ap (λ (t : Blocks Block). parent_at t b.active) (sym (tried-blocks r b.state p)) ∙ h))
-after-finish r a b (Activate p path undo) ready same kept z h = after-activation r a b p path undo.items ready same kept z h
+after-finish r a b (Activate p path undo) ready same kept z h = after-activation r a b p path undo ready same kept z h
 
 pub more-undo : (r : Rules Block Id) (a : CoreState) (after : Outcome Block) (prepared : Prepared) → IsPreparationFor r a after prepared → HasOneMore a (core_after_commit r a prepared)
 more-undo r a after prepared is = after-finish r a (edited a prepared.edit) prepared.rest is.ready.rest refl refl
@@ -138,7 +138,7 @@ module _ (a : CoreState) (few : a.undo_kept ≤ most_undo) where
       same_blocks t e l =
           kept ∙ stays t a.active a.undo_kept (omega (arith, l, same)) few
           ∙ ap (λ (x : ℕ). lesser_of most_undo ((a.undo_kept - (height t a.active - height t (last_shared t a.active x))) + (height t x - height t (last_shared t a.active x)))) (sym same)
-  left-by r b (Activate p path undo) same kept ready high = moved r b p path undo.items same kept ready
+  left-by r b (Activate p path undo) same kept ready high = moved r b p path undo same kept ready
 
 -- how much undo stands after a command
 pub undo-follows : (a : CoreState) (triples : Triples) (c : Command) (prepared : Prepared) → Follows a triples → IsPreparation (regtest a.params triples) a c prepared → a.undo_kept ≤ most_undo

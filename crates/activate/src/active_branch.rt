@@ -7,7 +7,7 @@ ghost use Rattle.activate.specs.CoreState.{most_undo};
 
 use std::collections::VecDeque;
 use tree::Tree;
-use undo::BlockUndo;
+use undo::{BlockUndo, PackedUndo};
 
 /// Of how many blocks undo is kept at most (Bitcoin Core's `MIN_BLOCKS_TO_KEEP`).
 pub const MOST_UNDO: usize = 288;
@@ -45,6 +45,17 @@ pub(crate) fn keep_undo(kept: &mut VecDeque<BlockUndo>, more: Vec<BlockUndo>)
     for undo in more {
         drop_oldest(kept);
         kept.push_back_reserved(undo);
+    }
+}
+
+/// Adds what further blocks spend, packed, the lowest first.
+pub(crate) fn append_packed(kept: &mut Vec<PackedUndo>, more: Vec<PackedUndo>)
+    requires room { length kept.old.items + length more.items ≤ vec_capacity kept.old }
+    ensures kept { kept.new.items ≡ kept.old.items ++ more.items }
+    ensures room { vec_capacity kept.new ≡ vec_capacity kept.old }
+{
+    for undo in more {
+        kept.push_reserved(undo);
     }
 }
 

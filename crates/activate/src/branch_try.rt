@@ -11,6 +11,7 @@ use crate::ascent::{Ascent, Stop, append, connect_up};
 use crate::disconnection::disconnect_to_fork;
 use crate::fork_search::path_to;
 use crate::medians::Medians;
+use crate::new_undo::NewUndo;
 use crate::path::{ActiveBranch, Attempt, BranchPath, FailedTry, Reorganisation};
 use chain::SubmittedBlock;
 use coins::{Base, Cache};
@@ -43,9 +44,10 @@ impl<'a> ActiveBranch<'a> {
         match answer {
             Ok(ascent) => {
                 let changes = ascent.layer.into_changes();
+                let undo = NewUndo::of(alloc, ascent.undo)?;
                 Ok(Attempt::Succeeds(Reorganisation {
                     path,
-                    undo: ascent.undo,
+                    undo,
                     changes,
                 }))
             }
@@ -111,6 +113,7 @@ impl<'a> ActiveBranch<'a> {
         match connect_in_layer(alloc, layer, &context, &of, env, gate)? {
             Ok((layer, spent)) => {
                 append(&mut undo, spent)?;
+                let undo = NewUndo::of(alloc, undo)?;
                 let changes = layer.into_changes();
                 Ok(Attempt::Succeeds(Reorganisation {
                     path,

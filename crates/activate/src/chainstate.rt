@@ -110,6 +110,36 @@ impl Chainstate {
         Ok(self.core.commit(alloc, prepared, &mut self.coins)?)
     }
 
+    /// The reply that [`Chainstate::step`] would give now, or the signatures that it would list. Nothing changes.
+    pub fn judge<S: RunsScripts>(
+        &self,
+        alloc: Global,
+        command: &PreparedCommand,
+        env: &S,
+        gate: &(dyn Gate + Sync),
+    ) -> Result<Reply, S::Stop>
+        requires is_chainstate { Under (S.known env.now) (λ triples.
+            IsChainstate self.now triples) }
+        ensures reply { let core = self.now.core in let c = command_of command.now in
+            IfOk result (λ reply. Under (S.known env.now) (λ triples.
+            reply ≡ (outcome (regtest core.params triples) core.state c).1)) }
+        ensures wants { IfErr result (λ stop. IfSome (S.told stop)
+            (AreWantedByStep self.now.core (command_of command.now) (S.known env.now))) }
+    {
+        self.core
+            .judge_over(alloc, self.coins.map(), command, env, gate)
+    }
+
+    /// An equal chainstate, which goes on by itself. Blocks share their bytes.
+    pub fn copy(&self, alloc: Global) -> Result<Chainstate, Memory>
+        ensures { IfOk result (λ chain. chain ≡ self.now) }
+    {
+        Ok(Chainstate {
+            core: self.core.copy(alloc)?,
+            coins: self.coins.copy()?,
+        })
+    }
+
     /// Takes commands one after the other. Out of memory leaves it behind the last command that was taken.
     pub fn run<C: Crew<Table>>(
         &mut self,

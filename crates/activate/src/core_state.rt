@@ -13,6 +13,7 @@ ghost use Rattle.tree.specs.Tips.{tip_of_id};
 ghost use Rattle.activate.specs.CoreState.{Follows, IsBlockOf, coins_of, opened_core, most_undo};
 
 mod committing;
+mod copying;
 mod marking;
 pub(crate) mod preparing;
 pub(crate) mod settling;
@@ -26,7 +27,7 @@ use std::alloc::Global;
 use std::collections::VecDeque;
 use std::marker::Model;
 use tree::{Tip, Tree};
-use undo::BlockUndo;
+use undo::{BlockUndo, PackedUndo};
 use wire::Memory;
 
 /// The tree, the active block, and the undo of the highest active blocks; the coins lie with the caller. A clause
@@ -42,6 +43,8 @@ pub struct Core {
     medians: Vec<u32>,
     /// What the highest of them spent, the lowest first.
     undo: VecDeque<BlockUndo>,
+    /// What each of them but genesis spent, by height.
+    packed: Vec<PackedUndo>,
 }
 
 impl Model for Core {
@@ -61,8 +64,9 @@ impl Model for Core {
 
     ghost invariant = { λ c. let t = c.tree.blocks in
         (c.active ≤ length t)
-        × IsBranch t c.active c.branch.items c.medians.items c.undo.items
-        × HasRoom t (vec_capacity c.branch) (vec_capacity c.medians) (deque_capacity c.undo) };
+        × IsBranch t c.active c.branch.items c.medians.items c.undo.items c.packed.items
+        × HasRoom t (vec_capacity c.branch) (vec_capacity c.medians) (deque_capacity c.undo)
+        (vec_capacity c.packed) };
 }
 
 impl Core {
@@ -94,6 +98,7 @@ impl Core {
             branch,
             medians,
             undo: VecDeque::with_capacity(alloc, MOST_UNDO)?,
+            packed: Vec::new(alloc),
         })
     }
 

@@ -1,6 +1,6 @@
 //! Who takes the coins that a command changes.
 
-ghost use Rattle.std.specs.Prelude.{◌≡◌};
+ghost use Rattle.std.specs.Prelude.{◌≡◌, IfOk};
 ghost use Rattle.std.specs.FinMap as coin_map;
 ghost use Rattle.coins.specs.Changes.{after_changes};
 
@@ -34,6 +34,15 @@ impl OwnCoins {
         OwnCoins {
             map: CoinMap::new(alloc),
         }
+    }
+
+    /// The same coins.
+    pub(crate) fn copy(&self) -> Result<OwnCoins, Memory>
+        ensures { IfOk result (λ coins. coins ≡ self.now) }
+    {
+        Ok(OwnCoins {
+            map: self.map.copy()?,
+        })
     }
 
     /// The coins, lent.

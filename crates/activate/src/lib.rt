@@ -12,6 +12,7 @@ mod fork_search;
 pub mod laws;
 mod laying;
 mod medians;
+mod new_undo;
 mod path;
 mod prepared;
 mod try_flags;

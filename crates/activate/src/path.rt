@@ -1,11 +1,12 @@
 //! The active branch, the path from it to another block, and the outcome of a try of that.
 
+use crate::new_undo::NewUndo;
 use coins::Changes;
 use rules::Params;
 use std::collections::VecDeque;
 use tree::Tree;
 use txn::Reason;
-use undo::BlockUndo;
+use undo::{BlockUndo, PackedUndo};
 
 /// The active branch, as a try looks at it.
 #[derive(Clone, Copy)]
@@ -19,6 +20,8 @@ pub(crate) struct ActiveBranch<'a> {
     pub(crate) medians: &'a [u32],
     /// What the highest of its blocks spent, the lowest first.
     pub(crate) undo: &'a VecDeque<BlockUndo>,
+    /// What each of them but genesis spent, by height.
+    pub(crate) packed: &'a [PackedUndo],
 }
 
 /// From the active branch up to a block.
@@ -37,7 +40,7 @@ pub(crate) struct BranchPath {
 pub(crate) struct Reorganisation {
     pub(crate) path: BranchPath,
     /// What the blocks above the fork spend, the lowest first.
-    pub(crate) undo: Vec<BlockUndo>,
+    pub(crate) undo: NewUndo,
     /// The coins that change.
     pub(crate) changes: Changes,
 }

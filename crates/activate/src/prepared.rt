@@ -1,10 +1,10 @@
 //! What a command does, before it is done.
 
+use crate::new_undo::NewUndo;
 use crate::path::{BranchPath, FailedTry};
 use chain::{Reply, SubmitReply};
 use coins::Changes;
 use tree::{Marks, NewBlock};
-use undo::BlockUndo;
 
 /// A command that was looked at whole, over a core that was only read. What is left to do takes room alone, and what
 /// the coins take.
@@ -39,7 +39,7 @@ pub(crate) enum Completion {
     /// The block at a place was tried and isn't valid: what the try found is flagged.
     Flag(usize, FailedTry),
     /// The block at a place becomes active, by this path, and its blocks spend this, the lowest first.
-    Activate(usize, BranchPath, Vec<BlockUndo>),
+    Activate(usize, BranchPath, NewUndo),
 }
 
 /// What settles the state, before it is put in place.

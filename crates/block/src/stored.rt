@@ -61,6 +61,20 @@ impl StoredBlock {
         }
     }
 
+    /// The same block. Its bytes are shared.
+    pub fn copy(&self) -> Result<StoredBlock, Memory>
+        ensures { IfOk result (λ block. block ≡ self.now) }
+    {
+        let bytes = match &self.bytes {
+            Some(bytes) => Some(bytes.copy()?),
+            None => None,
+        };
+        Ok(StoredBlock {
+            time: self.time,
+            bytes,
+        })
+    }
+
     /// The header's time, in seconds since 1970.
     pub fn time(&self) -> u32
         ensures { result ≡ self.now.header.time }

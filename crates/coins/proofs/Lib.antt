@@ -1,3 +1,4 @@
+pub mod Copying
 pub mod Following
 pub mod Gathering
 pub mod Layers

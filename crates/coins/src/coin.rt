@@ -2,12 +2,13 @@
 
 ghost use Rattle.std.specs.Prelude.{◌≡◌, ◌↔◌, IfOk, IsTrue};
 
+use std::alloc::AllocError;
 use txn::Script;
 use wire::Memory;
 
 /// An output that isn't spent (Bitcoin Core's `Coin`): its value in satoshis, its script, the height of
 /// its block, and whether a coinbase made it.
-#[derive(Clone, Debug, Drop)]
+#[derive(Debug, Drop)]
 pub struct Coin {
     pub value: i64,
     pub script: Script,
@@ -15,17 +16,26 @@ pub struct Coin {
     pub coinbase: bool,
 }
 
-impl Coin {
-    /// An equal coin.
-    pub fn copy(&self) -> Result<Coin, Memory>
-        ensures { IfOk result (λ coin. coin ≡ self.now) }
-    {
+// A clone is the same value, so that a map of coins can be cloned.
+impl Clone for Coin {
+    ghost is_clone = { λ old new. new ≡ old };
+
+    fn clone(&self) -> Result<Coin, AllocError> {
         Ok(Coin {
             value: self.value,
             script: self.script.clone()?,
             height: self.height,
             coinbase: self.coinbase,
         })
+    }
+}
+
+impl Coin {
+    /// An equal coin.
+    pub fn copy(&self) -> Result<Coin, Memory>
+        ensures { IfOk result (λ coin. coin ≡ self.now) }
+    {
+        Ok(self.clone()?)
     }
 
     /// Whether all fields are equal.

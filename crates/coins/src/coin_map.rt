@@ -58,6 +58,22 @@ impl CoinMap {
         }
     }
 
+    /// An equal map.
+    pub fn copy(&self) -> Result<CoinMap, Memory>
+        ensures { IfOk result (λ copy. copy ≡ self.now) }
+    {
+        let few = self.few.clone()?;
+        let many = match &self.many {
+            Some(shards) => Some(shards.copy()?),
+            None => None,
+        };
+        Ok(CoinMap {
+            alloc: self.alloc,
+            few,
+            many,
+        })
+    }
+
     /// Puts a coin at an outpoint.
     pub fn insert(&mut self, at: OutPoint, coin: Coin) -> Result<(), Memory>
         ensures ok { OnOk result (self.new ≡ map.insert self.old at coin) }

@@ -52,6 +52,14 @@ impl Shards {
         Ok(Shards { maps })
     }
 
+    /// Equal maps.
+    pub(crate) fn copy(&self) -> Result<Shards, Memory>
+        ensures { IfOk result (λ copy. copy ≡ self.now) }
+    {
+        let maps = self.maps.clone()?;
+        Ok(Shards { maps })
+    }
+
     pub(crate) fn get(&self, at: &OutPoint) -> Option<&Coin>
         ensures { option_copied result ≡ map.get self.now at.now }
     {

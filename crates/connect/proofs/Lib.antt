@@ -5,6 +5,5 @@ pub mod Parted
 pub mod Checks
 pub mod Whole
 pub mod Back
-pub mod Again
 pub mod Numbers
 pub mod EarlyInputs

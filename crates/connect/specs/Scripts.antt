@@ -21,7 +21,7 @@ use Rattle.connect.specs.Faults.{connect_rules}
 
 -- the script rules that are in force where these rules of blocks are (`GetBlockScriptFlags`)
 abbrev pub flags_of : InForce → Flags
-flags_of rules = record { dersig = rules.bip66; cltv = rules.bip65; csv = rules.csv }
+flags_of rules = record { p2sh = true; dersig = rules.bip66; cltv = rules.bip65; csv = rules.csv }
 
 -- a script that has to accept, with the place of its transaction in the block
 abbrev pub Check : Type 0

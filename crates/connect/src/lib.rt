@@ -1,8 +1,7 @@
-//! Connecting a block to the coins of its parent's branch, disconnecting it, and applying it again.
+//! Connecting a block to the coins of its parent's branch, and disconnecting it.
 #![tactic(auto)]
 
 mod amounts;
-mod applying;
 mod connecting;
 mod context;
 mod counts;
@@ -15,7 +14,6 @@ mod scripts;
 mod stop;
 mod turn;
 
-pub use applying::apply_in_layer;
 pub use connecting::{connect, connect_in_layer};
 pub use context::{BlockWithIds, Context, Env};
 pub use disconnecting::{disconnect, disconnect_in_layer};

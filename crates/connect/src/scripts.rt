@@ -90,6 +90,7 @@ pub(crate) fn flags_of(rules: InForce) -> Flags
     ensures { result ≡ flags_of rules }
 {
     Flags {
+        p2sh: true,
         dersig: rules.bip66,
         cltv: rules.bip65,
         csv: rules.csv,

@@ -1,6 +1,6 @@
 //! Signatures that were found out, in two tables.
 
-ghost use Rattle.std.specs.Prelude.{◌≡◌, None, Some, IfSome, OnOk, OnErr, MatchOption};
+ghost use Rattle.std.specs.Prelude.{◌≡◌, None, Some, IfOk, IfSome, OnOk, OnErr, MatchOption};
 ghost use Rattle.std.specs.Bool.{Decides};
 ghost use Rattle.curve.specs.Triple.{triple_of};
 ghost use Rattle.curve.specs.Known.{AreApart, verdict_in, with_verdict};
@@ -56,6 +56,16 @@ impl FoundTables {
         } else {
             None
         }
+    }
+
+    /// The same verdicts.
+    pub(crate) fn copy(&self) -> Result<FoundTables, Memory>
+        ensures { IfOk result (λ known. known ≡ self.now) }
+    {
+        Ok(FoundTables {
+            valid: self.valid.copy()?,
+            invalid: self.invalid.copy()?,
+        })
     }
 
     /// Takes the verdict on a triple of which none is known. The signature is without its hash type.

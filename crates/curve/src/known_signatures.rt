@@ -1,6 +1,6 @@
 //! Signatures that were found out.
 
-ghost use Rattle.std.specs.Prelude.{◌≡◌, ◌≤◌, None, OnErr, OnOk, length};
+ghost use Rattle.std.specs.Prelude.{◌≡◌, ◌≤◌, None, IfOk, OnErr, OnOk, length};
 ghost use Rattle.curve.specs.Triple.{triple_of};
 ghost use Rattle.curve.specs.Known.{verdict_in, with_verdict};
 ghost use Rattle.curve.specs.inside.Parts.{whole};
@@ -58,6 +58,26 @@ impl KnownSignatures {
         add_parts(&mut self.parts, place + 1)?;
         self.parts[place].learn(key, signature, digest, valid)
     }
+
+    /// The same verdicts.
+    pub fn copy(&self) -> Result<KnownSignatures, Memory>
+        ensures { IfOk result (λ known. known ≡ self.now) }
+    {
+        Ok(KnownSignatures {
+            parts: copies(*self.parts.allocator(), self.parts.as_slice())?,
+        })
+    }
+}
+
+/// Equal parts.
+fn copies(alloc: Global, parts: &[FoundTables]) -> Result<Vec<FoundTables>, Memory>
+    ensures { IfOk result (λ copies. copies.items ≡ parts.now) }
+{
+    let mut copies = Vec::new(alloc);
+    for part in parts {
+        copies.push(part.copy()?)?;
+    }
+    Ok(copies)
 }
 
 /// Adds parts without a verdict, until there are so many.

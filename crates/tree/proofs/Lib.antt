@@ -1,3 +1,4 @@
+pub mod Copied
 mod Changes
 mod Cleared
 mod Grown

@@ -2,6 +2,7 @@
 #![tactic(auto)]
 
 mod branch;
+mod copying;
 mod genesis;
 mod growth;
 pub mod laws;

@@ -41,10 +41,10 @@ pub struct Tree {
     pub(crate) nodes: Vec<Node>,
     pub(crate) marks: Vec<Mark>,
     /// The places that were called precious, in the order of the calls.
-    calls: Vec<usize>,
-    ids: HashMap<Id, usize>,
+    pub(crate) calls: Vec<usize>,
+    pub(crate) ids: HashMap<Id, usize>,
     /// The places of the blocks without a child.
-    leaves: HashSet<usize>,
+    pub(crate) leaves: HashSet<usize>,
 }
 
 impl Model for Tree {

@@ -1,2 +1,3 @@
 pub mod Effect
+pub mod inside
 pub mod laws

@@ -24,6 +24,15 @@ impl Model for Spent {
 }
 
 impl Spent {
+    /// Equal coins.
+    pub fn copy(&self) -> Result<Spent, Memory>
+        ensures { IfOk result (λ spent. spent ≡ self.now) }
+    {
+        Ok(Spent {
+            coins: self.coins.clone()?,
+        })
+    }
+
     /// No coins.
     pub fn new(alloc: Global) -> Spent
         ensures { result ≡ [] }
@@ -90,6 +99,17 @@ impl Model for BlockUndo {
 }
 
 impl BlockUndo {
+    /// The same, for each transaction.
+    pub fn copy(&self, alloc: Global) -> Result<BlockUndo, Memory>
+        ensures { IfOk result (λ undo. undo ≡ self.now) }
+    {
+        let mut txs = Vec::with_capacity(alloc, self.txs.len())?;
+        for spent in self.txs.as_slice() {
+            txs.push(spent.copy()?)?;
+        }
+        Ok(BlockUndo { txs })
+    }
+
     /// Of a block with no transaction but the first.
     pub fn new(alloc: Global) -> BlockUndo
         ensures { result ≡ [] }

@@ -57,7 +57,7 @@ pub record IsPath (t : Blocks Block) (a p : ℕ) (path : BranchPath) : Type 0 wh
 -- the active branch with what is kept of it, over its coins
 pub record IsActiveBranch (b : ActiveBranch) (coins : Coins) : Type 0 where
   pub kept : b.active ≤ length b.tree.now.blocks
-  pub branch : IsBranch b.tree.now.blocks b.active b.branch.now b.medians.now b.undo.now.items
+  pub branch : IsBranch b.tree.now.blocks b.active b.branch.now b.medians.now b.undo.now.items b.packed.now
   pub coins_are : coins ≡ coins_after b.tree.now.blocks b.active
 
 -- each block was kept by the rules, and the branch of a is valid
@@ -70,7 +70,7 @@ pub record IsValid (r : Rules Block Id) (t : Blocks Block) (a : ℕ) : Type 0 wh
 pub record LeadsTo (r : Rules Block Id) (t : Blocks Block) (a p : ℕ) (move : Reorganisation) : Type 0 where
   pub path : IsPath t a p move.path
   pub good : branch_connects r t p ≡ true
-  pub undo : move.undo.items ≡ reverse (map (undo_at t) move.path.up.items)
+  pub undo : move.undo ≡ reverse (map (undo_at t) move.path.up.items)
   pub changes : AreChanges (coins_after t a) (coins_after t p) move.changes
   pub laid : after_changes (coins_after t a) move.changes ≡ coins_after t p
 

@@ -10,6 +10,7 @@ use Rattle.tree.specs.Nodes.{AreMarks, CanKeep, laid}
 use Rattle.tree.specs.Sound.{IsBest}
 use Rattle.tree.specs.laws.Sets.{InOrder}
 use Rattle.chain.specs.declared.command.Command.{Command}
+use Rattle.chain.specs.declared.command.Command.TheVariants as command
 use Rattle.activate.specs.declared.path.ActiveBranch.{ActiveBranch}
 use Rattle.activate.specs.declared.path.Attempt.{Attempt}
 use Rattle.activate.specs.declared.prepared.Prepared.{Prepared}
@@ -33,6 +34,11 @@ use Rattle.chain.specs.Submission.{Outcome, answer_added}
 use Rattle.activate.specs.CoreState.{CoreState, coins_of, lesser_of, most_undo}
 use Rattle.activate.specs.inside.Keeping.{undo_at}
 use Rattle.activate.specs.inside.Paths.{FailsAt, IsAttempt, IsPath}
+
+-- the command submits nothing
+abbrev pub IsNoSubmission : Command → Type 0
+IsNoSubmission (command.Submit bytes now) = ⊥
+IsNoSubmission c = ⊤
 
 -- what is always right of the flags between two tries: the active branch is valid and was seen
 pub record CanTry (r : Rules Block Id) (c : CoreState) : Type 0 where
@@ -82,7 +88,7 @@ pub record CanActivate (r : Rules Block Id) (c : CoreState) (p : ℕ) (path : Br
 abbrev pub CanFinish : Rules Block Id → CoreState → Completion → Type 0
 CanFinish r c Nothing = ⊤
 CanFinish r c (Flag p failed) = CanFlag r c p failed
-CanFinish r c (Activate p path undo) = CanActivate r c p path undo.items
+CanFinish r c (Activate p path undo) = CanActivate r c p path undo
 
 -- of so many blocks undo is kept after a path was gone: not of those that were taken back, and at most of the highest
 abbrev pub undo_after : Blocks Block → ℕ → ℕ → BranchPath → ℕ

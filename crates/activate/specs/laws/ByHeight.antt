@@ -1,8 +1,5 @@
 -- The places of a branch by height.
 use Rattle.std.proofs.Common.{◌≡◌, ℕ, zero, suc, ◌+◌, ◌-◌, ◌<◌, ◌≤◌, true, eqb, ltb, List, [], ◌∷◌, ◌++◌, length, map, reverse, take, get_or, sym, ap, ◌∙◌, subst, inl, inr, arith}
-use Rattle.std.specs.FinMap as coin_map
-use Rattle.std.proofs.Math.ListN.{get_or-append}
-use Rattle.std.proofs.Math.Seq.{get_or-append_seam}
 use Rattle.std.proofs.lemmas.Bool.{cases_eq, and_parts, ltb-true, eqb-true}
 use Rattle.std.proofs.lemmas.List.{length-append, length-reverse, length-map, length-take-le, get_or-reverse, get_or-map, get_or-take}
 use Rattle.block.specs.declared.block.Block.{Block}
@@ -15,12 +12,10 @@ use Rattle.tree.specs.Names.{names}
 use Rattle.tree.specs.laws.Branches.{branch_head, branch-genesis, on-bounds, on-genesis, height-genesis}
 use Rattle.tree.specs.laws.Parents.{branch-parent, height-parent, climb}
 use Rattle.tree.specs.laws.Walks.{has_at, on_by_height}
-use Rattle.chain.specs.Replay.{replay}
-use Rattle.chain.specs.Regtest.{ledger}
 use Rattle.activate.specs.CoreState.{coins_after}
 use Rattle.activate.specs.inside.Keeping.{undo_at, highest_undo}
 use Rattle.activate.specs.inside.Paths.{AreConnected}
-use Rattle.activate.specs.inside.Disconnection.{place_at, AreAbove, IsConnectedBranch, IsUndoAbove}
+use Rattle.activate.specs.inside.Disconnection.{place_at, IsConnectedBranch, IsUndoAbove}
 
 -- ---- one step up a branch
 
@@ -129,7 +124,6 @@ module _ (t : Blocks Block) (a : ℕ) (k : a ≤ length t) where
   connected-branch each =
       let n = places-long t a k in
       record {
-        genesis = place-genesis t a k;
         kept = λ h l. let w = place-kept t a k h (omega arith) in omega arith;
         high = λ h l. place-high t a k h (omega arith);
         parent = λ h l. place-parent t a k h (omega arith);
@@ -153,18 +147,6 @@ module _ (t : Blocks Block) (a : ℕ) (k : a ≤ length t) where
       ∙ ap (λ j. undo_at t (get_or (branch t a) j 0)) {x = n - 1 - i} {y = length (branch t a) - 1 - suc (height t a - n + i)} (omega arith)
       ∙ ap (undo_at t) (sym (by_height t a k (suc (height t a - n + i)) (omega arith)))
 
--- with that of one block more
-module _ {A : Type 0} (list_of : ℕ → List A) (places : List ℕ) (low : ℕ) where
-  pub above-more : (h : ℕ) (lists new : List (List A)) (more : List A) → AreAbove list_of places low lists → low + length lists ≡ h → more ≡ list_of (place_at places (suc h)) → new ≡ lists ++ more ∷ [] → AreAbove list_of places low new
-  above-more h lists new more is sum e f i l =
-      let size = ap (λ (u : List (List A)). length u) f ∙ length-append lists (more ∷ []) in
-      elim (cases_eq i (length lists)) [
-        | inl s ↦
-            ap (λ (u : List (List A)). get_or u i []) f ∙ ap (λ j. get_or (lists ++ more ∷ []) j []) s ∙ get_or-append_seam lists more [] [] ∙ e
-            ∙ ap (λ j. list_of (place_at places (suc j))) {x = h} {y = low + i} (omega arith)
-        | inr n ↦ ap (λ (u : List (List A)). get_or u i []) f ∙ get_or-append lists (more ∷ []) [] i (omega arith) ∙ is i (omega arith)
-      ]
-
 -- ---- one block of such a branch
 
 module _ (t : Blocks Block) (places : List ℕ) (branch : IsConnectedBranch t places) (h : ℕ) (l : suc h < length places) where
@@ -175,9 +157,6 @@ module _ (t : Blocks Block) (places : List ℕ) (branch : IsConnectedBranch t pl
   abbrev pub step-setting : Setting
   step-setting = (branch.connected h l).setting
 
-  pub step-high : step-setting.height ≡ suc h
-  step-high = (branch.connected h l).high ∙ branch.high (suc h) l
-
   -- it led from the coins of the block below to its own
   pub step-connected : (m : Coins) (block : Block) (n : Coins) (undo : List (List Coin)) → m ≡ coins_after t (place_at places h) → block ≡ block_at names t p → n ≡ coins_after t p → undo ≡ undo_at t p
       → IsConnected step-setting m block n undo
@@ -187,8 +166,3 @@ module _ (t : Blocks Block) (places : List ℕ) (branch : IsConnectedBranch t pl
       (subst (λ (x : Coins). IsConnected w.setting m block x (undo_at t p)) (sym g)
       (subst (λ (x : Block). IsConnected w.setting m x (coins_after t p) (undo_at t p)) (sym f)
       (subst (λ (x : Coins). IsConnected w.setting x (block_at names t p) (coins_after t p) (undo_at t p)) (ap (coins_after t) (branch.parent h l) ∙ sym e) w.connected)))
-
--- genesis leaves no coins
-pub coins-opening : (t : Blocks Block) → coins_after t 0 ≡ coin_map.empty
-unfolding replay
-coins-opening t = ap (λ (l : List ℕ). replay ledger (blocks_at names t l)) (branch-genesis t)

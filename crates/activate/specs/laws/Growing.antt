@@ -67,16 +67,17 @@ module _ (k : Kept Block) (older : Blocks Block) where
       ∙ ap (λ (l : List (List (List Coin))). reverse l) (undo-taken n p)
 
   -- the block stands beside: all stays
-  pub branch-beside : (p : ℕ) (places medians : List ℕ) (undo : List (List (List Coin))) → p ≤ length older → IsBranch older p places medians undo → IsBranch more p places medians undo
-  branch-beside p places medians undo h is = record {
+  pub branch-beside : (p : ℕ) (places medians : List ℕ) (undo packed : List (List (List Coin))) → p ≤ length older → IsBranch older p places medians undo packed → IsBranch more p places medians undo packed
+  branch-beside p places medians undo packed h is = record {
     places_are = is.places_are ∙ ap (λ (l : List ℕ). reverse l) (sym (branch_there k older p (omega arith)));
     medians_are = is.medians_are ∙ ap (λ (l : List Block). reverse (medians_of l)) (sym (blocks-old names k older p h));
     undo_is = is.undo_is ∙ sym (highest-old p (length undo) h);
     undo_few = is.undo_few;
     undo_above = (let tall = height_there k older p h in let a = is.undo_above in omega arith);
+    packed_is = is.packed_is ∙ sym (highest-old p (height older p) h) ∙ ap (highest_undo more p) (sym (height_there k older p h));
   }
 
 -- of genesis alone
-pub branch_opening : IsBranch [] 0 (0 ∷ []) (GENESIS_TIME ∷ []) []
+pub branch_opening : IsBranch [] 0 (0 ∷ []) (GENESIS_TIME ∷ []) [] []
 unfolding branch before height median_time_past median_of is_middle highest_undo block_at
-branch_opening = record { places_are = refl; medians_are = refl; undo_is = refl; undo_few = omega arith; undo_above = omega arith }
+branch_opening = record { places_are = refl; medians_are = refl; undo_is = refl; undo_few = omega arith; undo_above = omega arith; packed_is = refl }

@@ -202,7 +202,7 @@ medians-branch t p h =
     ∙ sym (ap (map (median_at t)) (branch-parent t x z k)))
     p h (on-genesis t p)
 
-highest-long : (t : Blocks Block) (p n : ℕ) → p ≤ length t → n ≤ height t p → length (highest_undo t p n) ≡ n
+pub highest-long : (t : Blocks Block) (p n : ℕ) → p ≤ length t → n ≤ height t p → length (highest_undo t p n) ≡ n
 unfolding highest_undo height
 highest-long t p n k l =
     let e = ap (λ (k : List ℕ). length k) (branch_head t p k) in
@@ -210,15 +210,16 @@ highest-long t p n k l =
 
 -- what is kept of a branch, led over to another one
 pub turned_branch : (t : Blocks Block) (a p : ℕ) (h : a ≤ length t) (k : p ≤ length t) (path : BranchPath) (is : IsPath t a p path)
-    (places medians : List ℕ) (undo more : List (List (List Coin))) → IsBranch t a places medians undo → more ≡ reverse (map (undo_at t) path.up.items)
-    → IsBranch t p (take (suc path.height) places ++ reverse path.up.items) (take (suc path.height) medians ++ reverse (map (median_at t) path.up.items)) (last_of most_undo (take (length undo - (height t a - path.height)) undo ++ more))
-turned_branch t a p h k path is places medians undo more kept new =
+    (places medians : List ℕ) (undo packed more : List (List (List Coin))) → IsBranch t a places medians undo packed → more ≡ reverse (map (undo_at t) path.up.items)
+    → IsBranch t p (take (suc path.height) places ++ reverse path.up.items) (take (suc path.height) medians ++ reverse (map (median_at t) path.up.items)) (last_of most_undo (take (length undo - (height t a - path.height)) undo ++ more)) (take path.height packed ++ more)
+turned_branch t a p h k path is places medians undo packed more kept new =
     let n : ℕ = length undo in
     let few = kept.undo_above in
     let lower = gone t a p h k path is in
     let higher = come t a p h k path is in
     let left : ℕ = n - length (above t a path.fork) in
     let most : ℕ = length path.up.items + left in
+    let all : ℕ = height t a - length (above t a path.fork) in
     let whole : last_of most_undo (take (n - (height t a - path.height)) undo ++ more) ≡ highest_undo t p (min most_undo most) =
     ap (λ i. last_of most_undo (take i undo ++ more)) {x = n - (height t a - path.height)} {y = left} (omega arith)
     ∙ ap (λ (l : List (List (List Coin))). last_of most_undo (take left l ++ more)) kept.undo_is
@@ -243,4 +244,11 @@ turned_branch t a p h k path is places medians undo more kept new =
       undo_is = whole ∙ ap (highest_undo t p) (sym long);
       undo_few = omega arith;
       undo_above = omega arith;
+      packed_is =
+          ap (λ i. take i packed ++ more) {x = path.height} {y = all} (omega arith)
+          ∙ ap (λ (l : List (List (List Coin))). take all l ++ more) kept.packed_is
+          ∙ ap (λ (l : List (List (List Coin))). l ++ more) (undo_below t a p h k path is (height t a) (omega arith))
+          ∙ ap (λ (l : List (List (List Coin))). highest_undo t path.fork all ++ l) new
+          ∙ undo_whole t a p h k path is (height t a) (omega arith)
+          ∙ ap (highest_undo t p) {x = length path.up.items + all} {y = height t p} (omega arith);
     }

@@ -11,8 +11,9 @@ ghost use Rattle.chain.specs.Regtest.{regtest};
 ghost use Rattle.activate.specs.inside.Keeping.{undo_at};
 ghost use Rattle.activate.specs.inside.Paths.{IsPath};
 
-use crate::active_branch::{append_places, keep_undo};
+use crate::active_branch::{append_packed, append_places, keep_undo};
 use crate::core_state::Core;
+use crate::new_undo::NewUndo;
 use crate::path::BranchPath;
 use crate::prepared::{Completion, Edit, Prepared};
 use crate::try_flags::flag_valid_path;
@@ -20,7 +21,6 @@ use chain::Reply;
 use coins::Changes;
 use std::alloc::Global;
 use tree::{Lays, Marking, NewBlock};
-use undo::BlockUndo;
 use wire::Memory;
 
 impl Core {
@@ -96,6 +96,7 @@ impl Core {
         let more = self.tree.len() + 1 - self.branch.len();
         self.branch.reserve(more)?;
         self.medians.reserve(more)?;
+        self.packed.reserve(more)?;
         self.tree.add(alloc, new, coins, changes)
     }
 
@@ -113,9 +114,9 @@ impl Core {
     }
 
     /// Makes another block the active one.
-    fn activate(&mut self, place: usize, path: &BranchPath, undo: Vec<BlockUndo>)
-        requires { (r : Rules Block Id) × CanActivate r self.old place path.now undo.items }
-        ensures { (r : Rules Block Id) → CanActivate r self.old place path.now undo.items
+    fn activate(&mut self, place: usize, path: &BranchPath, undo: NewUndo)
+        requires { (r : Rules Block Id) × CanActivate r self.old place path.now undo }
+        ensures { (r : Rules Block Id) → CanActivate r self.old place path.now undo
             → self.new ≡ core_after_activation r self.old place path.now }
     {
         flag_valid_path(&mut self.tree, path);
@@ -123,11 +124,11 @@ impl Core {
     }
 
     /// Leads over to another block what is kept of the active branch.
-    fn turn(&mut self, place: usize, path: &BranchPath, undo: Vec<BlockUndo>)
+    fn turn(&mut self, place: usize, path: &BranchPath, undo: NewUndo)
         requires kept { place ≤ length self.old.state.blocks }
         requires path { IsPath self.old.state.blocks self.old.active place path.now }
         requires undo { let t = self.old.state.blocks in
-            undo.items ≡ reverse (map (undo_at t) path.now.up.items) }
+            undo ≡ reverse (map (undo_at t) path.now.up.items) }
         ensures { let old = self.old in
             self.new
             ≡ record old {
@@ -146,7 +147,10 @@ impl Core {
             &mut self.branch,
             &mut self.medians,
         );
+        let NewUndo { blocks, packed } = undo;
         self.undo.truncate(left);
-        keep_undo(&mut self.undo, undo);
+        keep_undo(&mut self.undo, blocks);
+        self.packed.truncate(path.height);
+        append_packed(&mut self.packed, packed);
     }
 }

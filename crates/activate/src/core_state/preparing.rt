@@ -6,18 +6,17 @@ ghost use Rattle.block.specs.declared.block.Block.{Block};
 ghost use Rattle.chain.specs.Prepared.{command_of};
 ghost use Rattle.chain.specs.Regtest.{regtest};
 ghost use Rattle.chain.specs.Rules.{Rules};
-ghost use Rattle.chain.specs.declared.command.Command.TheVariants as command;
 ghost use Rattle.chain.specs.Submission.{answer_known};
 ghost use Rattle.activate.specs.CoreState.{Follows, coins_of};
 ghost use Rattle.activate.specs.Wants.{AreWantedByStep};
-ghost use Rattle.activate.specs.inside.Preparation.{IsPreparation, ChangesNothing};
+ghost use Rattle.activate.specs.inside.Preparation.{IsNoSubmission, IsPreparation, ChangesNothing};
 ghost use Rattle.curve.specs.Known.{Under};
 
 use crate::block_faults::fault_or_parent;
 use crate::core_state::Core;
 use crate::prepared::{Completion, Edit, Prepared};
 use block::StoredBlock;
-use chain::{MarkReply, PreparedCommand, Reply, Submission, SubmitReply};
+use chain::{MarkReply, PreparedCommand, Reply, SubmitReply};
 use coins::{Base, Changes};
 use connect::RunsScripts;
 use queue::Gate;
@@ -37,7 +36,7 @@ pub(crate) fn still(alloc: Global, reply: Reply) -> Prepared
 }
 
 impl Core {
-    /// Finds out everything that a command does. Nothing changes.
+    /// Finds out everything that a command does, of a submission as Bitcoin Core's `ProcessNewBlock`. Nothing changes.
     pub(crate) fn prepare<B: Base, S: RunsScripts>(
         &self,
         alloc: Global,
@@ -54,40 +53,9 @@ impl Core {
         ensures wants { IfErr result (λ stop. IfSome (S.told stop)
             (AreWantedByStep self.now (command_of command.now) (S.known env.now))) }
     {
-        match command {
-            PreparedCommand::Submit(submission, now) => {
-                self.prepare_block(alloc, base, submission, *now, env, gate)
-            }
-            PreparedCommand::Invalidate(id) => {
-                self.prepare_invalidate(alloc, base, id, env, gate)
-            }
-            PreparedCommand::Reconsider(id) => {
-                self.prepare_reconsider(alloc, base, id, env, gate)
-            }
-            PreparedCommand::Precious(id) => self.prepare_precious(alloc, base, id, env, gate),
-            PreparedCommand::Learn(_, _) => Ok(still(alloc, Reply::Mark(MarkReply::Done))),
-        }
-    }
-
-    /// What a submission does (Bitcoin Core's `ProcessNewBlock`).
-    fn prepare_block<B: Base, S: RunsScripts>(
-        &self,
-        alloc: Global,
-        base: &B,
-        submission: &Submission,
-        now: u64,
-        env: &S,
-        gate: &(dyn Gate + Sync),
-    ) -> Result<Prepared, S::Stop>
-        requires follows { Under (S.known env.now) (λ triples. Follows self.now triples) }
-        requires coins { B.coins base.now ≡ coins_of self.now }
-        ensures prepared { let c = command.Submit submission.now now in
-            IfOk result (λ prepared. Under (S.known env.now) (λ triples.
-            IsPreparation (regtest self.now.params triples) self.now c prepared)) }
-        ensures wants { let c = command.Submit submission.now now in
-            IfErr result (λ stop. IfSome (S.told stop)
-            (AreWantedByStep self.now c (S.known env.now))) }
-    {
+        let PreparedCommand::Submit(submission, now) = command else {
+            return self.prepare_mark(alloc, base, command, env, gate);
+        };
         let Some(submitted) = submission.block() else {
             return Ok(still(alloc, Reply::Submit(SubmitReply::DecodeFailed)));
         };
@@ -97,7 +65,7 @@ impl Core {
         if self.tree.len() >= MAX_BLOCKS {
             return Ok(still(alloc, Reply::Submit(SubmitReply::TreeFull)));
         }
-        match fault_or_parent(&self.tree, &self.params, submitted, now) {
+        match fault_or_parent(&self.tree, &self.params, submitted, *now) {
             Err(reason) => Ok(still(alloc, Reply::Submit(SubmitReply::Rejected(reason)))),
             Ok(parent) => {
                 let settled = self.settle_new(alloc, base, submitted, parent, env, gate)?;
@@ -110,6 +78,37 @@ impl Core {
                     changes: settled.changes,
                 })
             }
+        }
+    }
+
+    /// What a command does that submits nothing.
+    fn prepare_mark<B: Base, S: RunsScripts>(
+        &self,
+        alloc: Global,
+        base: &B,
+        command: &PreparedCommand,
+        env: &S,
+        gate: &(dyn Gate + Sync),
+    ) -> Result<Prepared, S::Stop>
+        requires mark { IsNoSubmission (command_of command.now) }
+        requires follows { Under (S.known env.now) (λ triples. Follows self.now triples) }
+        requires coins { B.coins base.now ≡ coins_of self.now }
+        ensures prepared { IfOk result (λ prepared.
+            Under (S.known env.now) (λ triples. IsPreparation
+            (regtest self.now.params triples) self.now (command_of command.now) prepared)) }
+        ensures wants { IfErr result (λ stop. IfSome (S.told stop)
+            (AreWantedByStep self.now (command_of command.now) (S.known env.now))) }
+    {
+        match command {
+            PreparedCommand::Submit(_, _) => unreachable!(),
+            PreparedCommand::Invalidate(id) => {
+                self.prepare_invalidate(alloc, base, id, env, gate)
+            }
+            PreparedCommand::Reconsider(id) => {
+                self.prepare_reconsider(alloc, base, id, env, gate)
+            }
+            PreparedCommand::Precious(id) => self.prepare_precious(alloc, base, id, env, gate),
+            PreparedCommand::Learn(_, _) => Ok(still(alloc, Reply::Mark(MarkReply::Done))),
         }
     }
 

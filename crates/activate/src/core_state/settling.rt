@@ -108,6 +108,7 @@ impl Core {
             branch: self.branch.as_slice(),
             medians: self.medians.as_slice(),
             undo: &self.undo,
+            packed: self.packed.as_slice(),
         }
     }
 }

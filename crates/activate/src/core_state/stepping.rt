@@ -1,8 +1,10 @@
-//! A command over lent coins.
+//! A command over lent coins, taken or only judged.
 
 ghost use Rattle.std.specs.Prelude.{◌≡◌, IfErr, IfOk, OnErr, IfSome};
 ghost use Rattle.coins.specs.Changes.{after_changes};
+ghost use Rattle.chain.specs.Commands.{outcome};
 ghost use Rattle.chain.specs.Prepared.{command_of};
+ghost use Rattle.chain.specs.Regtest.{regtest};
 ghost use Rattle.activate.specs.CoreState.{Follows, coins_of};
 ghost use Rattle.activate.specs.Steps.{IsStep};
 ghost use Rattle.activate.specs.Wants.{AreWantedByStep};
@@ -18,6 +20,27 @@ use queue::Gate;
 use std::alloc::Global;
 
 impl Core {
+    /// The reply that [`Core::step_over`] would give now. Nothing changes.
+    pub fn judge_over<B: Base, S: RunsScripts>(
+        &self,
+        alloc: Global,
+        base: &B,
+        command: &PreparedCommand,
+        env: &S,
+        gate: &(dyn Gate + Sync),
+    ) -> Result<Reply, S::Stop>
+        requires follows { Under (S.known env.now) (λ triples. Follows self.now triples) }
+        requires coins { B.coins base.now ≡ coins_of self.now }
+        ensures reply { let c = command_of command.now in
+            IfOk result (λ reply. Under (S.known env.now) (λ triples.
+            reply ≡ (outcome (regtest self.now.params triples) self.now.state c).1)) }
+        ensures wants { IfErr result (λ stop. IfSome (S.told stop)
+            (AreWantedByStep self.now (command_of command.now) (S.known env.now))) }
+    {
+        let prepared = self.prepare(alloc, base, command, env, gate)?;
+        Ok(prepared.reply)
+    }
+
     /// Takes a command over the coins of the active branch, which stay as they are: the reply, and the coins that
     /// the command changes, by rising outpoints. Who lent the coins lays these changes over them.
     pub fn step_over<B: Base, S: RunsScripts>(

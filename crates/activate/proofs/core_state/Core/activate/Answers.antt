@@ -39,8 +39,8 @@ invariant_of-self c =
     let r = c.requires.0 in
     let e = same_blocks r i.tree c.flag_valid_path.new.tree c.args.place (c.flag_valid_path.ensures r i.active c.args.place (valid-path r c.self.view_is c.requires.1)) in (
       subst (λ (t : Blocks Block). i.active ≤ length t) (sym e) c.self.invariant.0,
-      branch_of_same i.tree.blocks c.flag_valid_path.new.tree.blocks i.active _ _ _ e c.self.invariant.1,
-      room_of_same i.tree.blocks c.flag_valid_path.new.tree.blocks _ _ _ e c.self.invariant.2,
+      branch_of_same i.tree.blocks c.flag_valid_path.new.tree.blocks i.active _ _ _ _ e c.self.invariant.1,
+      room_of_same i.tree.blocks c.flag_valid_path.new.tree.blocks _ _ _ _ e c.self.invariant.2,
     )
 
 pub turn-requires-clause-kept : goal.turn-requires-clause-kept

@@ -35,8 +35,8 @@ invariant_of-self c =
     let is = subst (λ (x : CoreState). IsFailedTry r x.state x.active p c.args.failed.now) (sym c.self.view_is) (failed-try r c.args.self.now p c.args.failed.now c.requires.2) in
     let e : ◌≡◌ {A = Blocks Block} c.flag_failed_try.new.tree.blocks c.self.inside.tree.blocks = ap (λ (s : State Block). s.blocks) (c.flag_failed_try.ensures r c.self.inside.active p is) ∙ tried-blocks r c.self.inside.tree p in (
       subst (λ (t : Blocks Block). c.self.inside.active ≤ length t) (sym e) c.self.invariant.0,
-      branch_of_same c.self.inside.tree.blocks c.flag_failed_try.new.tree.blocks c.self.inside.active _ _ _ e c.self.invariant.1,
-      room_of_same c.self.inside.tree.blocks c.flag_failed_try.new.tree.blocks _ _ _ e c.self.invariant.2,
+      branch_of_same c.self.inside.tree.blocks c.flag_failed_try.new.tree.blocks c.self.inside.active _ _ _ _ e c.self.invariant.1,
+      room_of_same c.self.inside.tree.blocks c.flag_failed_try.new.tree.blocks _ _ _ _ e c.self.invariant.2,
     )
 
 pub returns : goal.returns

@@ -101,6 +101,20 @@ append_places-requires-clause-medians c =
     let m = ap (λ (q : List ℕ). length q) c.as_slice.ensures.value in
     omega arith
 
+pub append_packed-requires : goal.append_packed-requires
+append_packed-requires c =
+    let t = c.self.inside.tree.blocks in
+    let q = pathed c.self.view_is c.self.invariant.0 c.requires.kept c.requires.path in
+    let d = q.come_is in
+    let up = q.low in
+    let high = q.kept in
+    let few = ap (λ (l : List (List (List Coin))). length l) c.truncate-4.ensures.items ∙ length-take c.args.path.now.height c.self.inside.packed.items in
+    let r = c.self.invariant.2.for_packed in
+    let v = c.truncate-4.ensures.capacity in
+    let more = undo_inside c.args.path.now.up.items c.self.view_is c.requires.undo in
+    let size = ap (λ (l : List (List (List Coin))). length l) (c.undo.invariant ∙ c.undo.view_is ∙ more) ∙ length-reverse (map (undo_at t) c.args.path.now.up.items) ∙ length-map c.args.path.now.up.items (undo_at t) in
+    omega arith
+
 pub invariant_of-self : goal.invariant_of-self
 invariant_of-self c =
     let t = c.self.inside.tree.blocks in
@@ -120,16 +134,19 @@ invariant_of-self c =
     let high = c.height.ensures.value in
     let rest = c.saturating_sub-left.ensures in
     let left : c.saturating_sub-left.result ≡ length undos - (height t c.self.inside.active - h) = omega arith in
-    let undo : ◌≡◌ {A = List (List (List Coin))} c.keep_undo.new.kept.items (last_of most_undo (take (length undos - (height t c.self.inside.active - h)) undos ++ c.args.undo.items)) =
-    c.keep_undo.ensures.kept ∙ ap (λ (q : List (List (List Coin))). last_of most_undo (q ++ c.args.undo.items)) (c.truncate-3.ensures.items ∙ ap (λ n. take n undos) left) in
-    let whole = turned_branch t c.self.inside.active c.args.place c.self.invariant.0 q.kept c.args.path.now q.is_path c.self.inside.branch.items c.self.inside.medians.items undos c.args.undo.items c.self.invariant.1 more in
+    let undo : ◌≡◌ {A = List (List (List Coin))} c.keep_undo.new.kept.items (last_of most_undo (take (length undos - (height t c.self.inside.active - h)) undos ++ c.args.undo)) =
+    c.keep_undo.ensures.kept ∙ ap (λ (q : List (List (List Coin))). last_of most_undo (c.truncate-3.new.self.items ++ q)) c.undo.view_is ∙ ap (λ (q : List (List (List Coin))). last_of most_undo (q ++ c.args.undo)) (c.truncate-3.ensures.items ∙ ap (λ n. take n undos) left) in
+    let packed : ◌≡◌ {A = List (List (List Coin))} c.append_packed.new.kept.items (take h c.self.inside.packed.items ++ c.args.undo) =
+    c.append_packed.ensures.kept ∙ ap (λ (q : List (List (List Coin))). q ++ c.undo.inside.packed.items) c.truncate-4.ensures.items ∙ ap (λ (q : List (List (List Coin))). take h c.self.inside.packed.items ++ q) (c.undo.invariant ∙ c.undo.view_is) in
+    let whole = turned_branch t c.self.inside.active c.args.place c.self.invariant.0 q.kept c.args.path.now q.is_path c.self.inside.branch.items c.self.inside.medians.items undos c.self.inside.packed.items c.args.undo c.self.invariant.1 more in
     let room = c.self.invariant.2 in (
       q.kept,
-      rw (places, medians, undo) whole,
+      rw (places, medians, undo, packed) whole,
       record {
         for_places = (let r = room.for_places in let a = c.append_places.ensures.room in let b = c.truncate.ensures.capacity in omega arith);
         for_medians = (let r = room.for_medians in let a = c.append_places.ensures.room_too in let b = c.truncate-2.ensures.capacity in omega arith);
         for_undo = (let r = room.for_undo in let a = c.keep_undo.ensures.room in let b = c.truncate-3.ensures.capacity in omega arith);
+        for_packed = (let r = room.for_packed in let a = c.append_packed.ensures.room in let b = c.truncate-4.ensures.capacity in omega arith);
       },
     )
 
@@ -147,10 +164,10 @@ returns c =
     let stay : ◌≡◌ {A = List (List (List Coin))} c.truncate-3.new.self.items (take (length undos - (height i.tree.blocks i.active - path.height)) undos) = c.truncate-3.ensures.items ∙ ap (λ n. take n undos) left in
     let first = ap (λ (l : List (List (List Coin))). length l) stay ∙ length-take-le (length undos - (height i.tree.blocks i.active - path.height)) undos (omega arith) in
     let second = ap (λ (l : List (List (List Coin))). length l) more ∙ length-reverse (map (undo_at i.tree.blocks) path.up.items) ∙ length-map path.up.items (undo_at i.tree.blocks) in
-    let both = length-append c.truncate-3.new.self.items c.args.undo.items in
-    let all : length (c.truncate-3.new.self.items ++ c.args.undo.items) ≡ (length undos - (height i.tree.blocks i.active - path.height)) + length path.up.items = omega arith in
+    let both = length-append c.truncate-3.new.self.items c.args.undo in
+    let all : length (c.truncate-3.new.self.items ++ c.args.undo) ≡ (length undos - (height i.tree.blocks i.active - path.height)) + length path.up.items = omega arith in
     let kept : length c.keep_undo.new.kept.items ≡ undo_after i.tree.blocks i.active (length undos) path =
-    ap (λ (l : List (List (List Coin))). length l) c.keep_undo.ensures.kept ∙ length-newest most_undo (c.truncate-3.new.self.items ++ c.args.undo.items) ∙ ap (lesser_of most_undo) all in
+    ap (λ (l : List (List (List Coin))). length l) (c.keep_undo.ensures.kept ∙ ap (λ (q : List (List (List Coin))). last_of most_undo (c.truncate-3.new.self.items ++ q)) c.undo.view_is) ∙ length-newest most_undo (c.truncate-3.new.self.items ++ c.args.undo) ∙ ap (lesser_of most_undo) all in
     ap (λ (n : ℕ). with_undo i.params i.tree c.args.place n) kept
     ∙ ap (λ (x : CoreState). record x { active = c.args.place; undo_kept = undo_after x.state.blocks x.active x.undo_kept path }) c.self.view_is
   where

@@ -15,6 +15,7 @@ invariant_of-result c =
     let places : ◌≡◌ {A = List ℕ} c.push.new.self.items (0 ∷ []) = c.in_ok-push.ensures.items ∙ ap (λ (l : List ℕ). l ++ (0 ∷ [])) c.new-branch.ensures.items in
     let medians : ◌≡◌ {A = List ℕ} c.push-2.new.self.items (GENESIS_TIME ∷ []) = c.in_ok-push-2.ensures.items ∙ ap (λ (l : List ℕ). l ++ (GENESIS_TIME ∷ [])) c.new-medians.ensures.items in
     let undo : ◌≡◌ {A = List (List (List Coin))} c.in_ok-with_capacity.field-0.items [] = c.in_ok-with_capacity.ensures.items in
+    let packed : ◌≡◌ {A = List (List (List Coin))} c.new-2.result.items [] = c.new-2.ensures.items in
     let one = ap (λ (l : List ℕ). length l) places in
     let two = ap (λ (l : List ℕ). length l) medians in
     let a = c.push.new.self.ok.0 in
@@ -24,8 +25,8 @@ invariant_of-result c =
     let f = c.in_ok-with_capacity.ensures.capacity in
     let size = ap (λ (t : Blocks Block). length t) none in (
       omega arith,
-      rw (none, places, medians, undo) branch_opening,
-      record { for_places = omega arith; for_medians = omega arith; for_undo = f },
+      rw (none, places, medians, undo, packed) branch_opening,
+      record { for_places = omega arith; for_medians = omega arith; for_undo = f; for_packed = omega arith },
     )
 
 pub returns-clause-follows : goal.returns-clause-follows

@@ -11,8 +11,8 @@ use Rattle.activate.proofs.path.ActiveBranch.try_block.Goals as goal
 ok_part : {T E : Type 0} (P : T → Type 0) (r : Result T E) (x : T) → r ≡ Ok x → IfOk r P → P x
 ok_part P r x e h = subst (λ a. IfOk a P) e h
 
-pub returns-in-Ok-clause-attempt : goal.returns-in-Ok-clause-attempt
-returns-in-Ok-clause-attempt g c triples agrees =
+pub returns-in_ok-undo-in-Ok-clause-attempt : goal.returns-in_ok-undo-in-Ok-clause-attempt
+returns-in_ok-undo-in-Ok-clause-attempt g c triples agrees =
     let b = c.args.self.now in
     let t = b.tree.now.blocks in
     let r = regtest b.params.now triples in
@@ -27,7 +27,7 @@ returns-in-Ok-clause-attempt g c triples agrees =
     record {
       path = w;
       good = ap (branch_connects r t) (sym e) ∙ top.good;
-      undo = top.spent;
+      undo = c.in_ok-undo-in-Ok.ensures ∙ top.spent;
       changes =
           subst (λ (x : Coins). AreChanges x (coins_after t c.args.place) changes) below
           (subst (λ (x : Coins). AreChanges ascent.layer.base x changes) after c.into_changes-changes.ensures.differences);

@@ -87,8 +87,8 @@ returns-in_err-append-in-Ok-2-clause-wants g c =
     let none = g.met.S.RunsScripts.memory_tells c.in_err-append-in-Ok-2.field-0.0 stopped.0 stopped.2 in
     rw stopped.1 (none_wanted (AreWantedOnWay b.params.now (k ∷ t) b.active (suc (length t)) (g.S.RunsScripts.known c.args.env.now)) (g.S.RunsScripts.told stopped.0) none)
 
-pub returns-in_ok-append-in-Ok-2-clause-attempt : goal.returns-in_ok-append-in-Ok-2-clause-attempt
-returns-in_ok-append-in-Ok-2-clause-attempt g c triples agrees =
+pub returns-in_ok-undo-in-Ok-2-clause-attempt : goal.returns-in_ok-undo-in-Ok-2-clause-attempt
+returns-in_ok-undo-in-Ok-2-clause-attempt g c triples agrees =
     let b = c.args.self.now in
     let t = b.tree.now.blocks in
     let p = c.args.parent in
@@ -109,11 +109,11 @@ returns-in_ok-append-in-Ok-2-clause-attempt g c triples agrees =
     let done = subst (λ a. IfOk a (λ (d : Layer × List (List Coin)). IsConnected s ascent.layer.coins k.block d.0.coins d.1)) c.in-Ok-2.is c.in_ok-layer.ensures.connected in
     let left = subst (λ a. IfOk a (λ (d : Layer × List (List Coin)). ◌≡◌ {A = Layer} d.0 (record ascent.layer { coins = effect (c.height.result + 1) ascent.layer.coins k.block.txs }))) c.in-Ok-2.is c.in_ok-layer.ensures.coins in
     let up = c.in_ok-put_first.ensures ∙ ap (λ (q : ℕ). q ∷ path.up.items) c.len.ensures.count in
-    let move : Reorganisation = record { path = record path { up = c.put_first.new.list }; undo = c.append.new.list; changes = c.into_changes-changes.result } in
+    let move : Reorganisation = record { path = record path { up = c.put_first.new.list }; undo = c.in_ok-undo-in-Ok-2.undo; changes = c.into_changes-changes.result } in
     let at_new = λ (h : ℕ) (m : Coins). undo_of h m k.block.txs in
     leads_new k t c.requires.parent b.active c.requires.active.kept b.params.now triples path w move refl refl up
     (valid_new r k t c.requires.parent (ap (branch_connects r t) (sym e) ∙ top.good) own)
-    (c.in_ok-append-in-Ok-2.ensures ∙ undo_grown k t c.requires.parent b.active c.requires.active.kept path w ascent.undo.items c.in-Ok-2.spent top.spent
+    (c.in_ok-undo-in-Ok-2.ensures ∙ c.in_ok-append-in-Ok-2.ensures ∙ undo_grown k t c.requires.parent b.active c.requires.active.kept path w ascent.undo.items c.in-Ok-2.spent top.spent
     (done.spent ∙ ap (λ (h : ℕ). at_new h ascent.layer.coins) tall ∙ ap (at_new (height t p + 1)) coins))
     c.in-Ok-2.layer.base c.in-Ok-2.layer.coins
     (ap (λ (l : Layer). l.base) left ∙ top.applied.base_is ∙ c.requires.active.coins_are)
