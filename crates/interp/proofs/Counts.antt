@@ -4,6 +4,8 @@ use Rattle.std.specs.Option.{option_and_then}
 use Rattle.interp.specs.Stack.{Stack, Bytes}
 use Rattle.interp.specs.Elements.{natural_of}
 use Rattle.interp.specs.inside.Multisig.{many}
+use Rattle.interp.specs.Failures.{count_of, count_or}
+use Rattle.interp.specs.declared.script_error.ScriptError.{ScriptError}
 
 pub many_past : (most k : ℕ) (s : Stack) → length s ≤ k → many most (drop k s) ≡ None
 unfolding many
@@ -20,3 +22,9 @@ unfolding many
 many_there most k [] x o got is = cc
 many_there most zero (y ∷ s) x o got is = let same : y ≡ x = cc in ap (λ v. at_most most (natural_of 4 v)) same ∙ ap (at_most most) is
 many_there most (suc k) (y ∷ s) x o got is = many_there most k s x o got is
+
+pub count_there : (most k : ℕ) (beyond : ScriptError) (s : Stack) (x : Bytes) → slice_get s k ≡ Some x → count_or most beyond (drop k s) ≡ count_of most beyond x
+unfolding count_or
+count_there most k beyond [] x got = cc
+count_there most zero beyond (y ∷ s) x got = let same : y ≡ x = cc in ap (count_of most beyond) same
+count_there most (suc k) beyond (y ∷ s) x got = count_there most k beyond s x got

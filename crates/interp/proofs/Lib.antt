@@ -1,4 +1,6 @@
 pub mod Table
+pub mod Naming
+pub mod Pushing
 pub mod Piles
 pub mod Truth
 pub mod FirstFalse
@@ -9,3 +11,4 @@ pub mod Exchanges
 pub mod Opcodes
 pub mod Pairs
 pub mod Inputs
+pub mod Named

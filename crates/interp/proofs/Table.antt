@@ -10,7 +10,7 @@ abbrev pub none_from : List (ℕ × Row) → ℕ → ℕ → Bool
 none_from [] lo hi = true
 none_from (row ∷ others) lo hi = (nat_lt row.0 lo || nat_lt hi row.0) && none_from others lo hi
 
-and_true : (a b : Bool) → (a && b) ≡ true → (a ≡ true) × (b ≡ true)
+pub and_true : (a b : Bool) → (a && b) ≡ true → (a ≡ true) × (b ≡ true)
 and_true true b e = (refl, e)
 and_true false b e = absurd (cc)
 
@@ -23,7 +23,7 @@ row_among-gap (row ∷ others) lo hi b e p q =
     let both = and_true (nat_lt row.0 lo || nat_lt hi row.0) (none_from others lo hi) e in
     rw (or_apart row.0 lo hi b both.0 p q) (row_among-gap others lo hi b both.1 p q)
 
-outside : (x y lo hi b : ℕ) → (nat_lt hi x || nat_lt y lo) ≡ true → lo ≤ b → b ≤ hi → (nat_le x b && nat_le b y) ≡ false
+pub outside : (x y lo hi b : ℕ) → (nat_lt hi x || nat_lt y lo) ≡ true → lo ≤ b → b ≤ hi → (nat_le x b && nat_le b y) ≡ false
 outside x y lo hi b e p q = grind (arith, common_steps)
 
 -- what stands in no row fails

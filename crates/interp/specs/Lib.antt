@@ -7,6 +7,7 @@ pub mod Signatures
 pub mod Timelocks
 pub mod Effects
 pub mod Row
+pub mod Failures
 pub mod Rules
 pub mod Question
 pub mod Answer

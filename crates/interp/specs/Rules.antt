@@ -120,10 +120,10 @@ AcceptsInner p script left =
     (is_push_only script ≡ true) × ((inner : Bytes) × (others : Stack) × (left ≡ inner ∷ others) × RunsToTrue p inner others)
 
 -- the input script runs from an empty stack; the spent script, on the stack that it left, ends with a true top; and
--- so does the inner script, where the spent script is BIP 16's
+-- so does the inner script, where BIP 16 is in force and the spent script is its
 abbrev pub Accepts : Tx → ℕ → List ℕ → Flags → Triples → Type 0
 Accepts tx input spent flags triples =
     let p = spending_of tx input flags triples in
     (own : TxIn) × (slice_get tx.inputs input ≡ Some own)
     × ((left : Stack) × Run p own.script [] left × RunsToTrue p spent left
-    × (is_p2sh spent ≡ true → AcceptsInner p own.script left))
+    × (flags.p2sh ≡ true → is_p2sh spent ≡ true → AcceptsInner p own.script left))

@@ -3,6 +3,7 @@ pub mod Conditions
 pub mod Groups
 pub mod Meaning
 pub mod Step
+pub mod Named
 pub mod Verifying
 pub mod Examples
 pub mod Signatures

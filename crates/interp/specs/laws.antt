@@ -6,3 +6,4 @@ pub mod Following
 pub mod Accepting
 pub mod Keeping
 pub mod Verifying
+pub mod Naming

@@ -1,9 +1,10 @@
 //! One script, opcode by opcode.
 
 ghost use Rattle.std.specs.Prelude.{◌≡◌, ◌<◌, ◌≤◌, ◌+◌, ℕ, List, length, option_and_then, IfOk, IfSome};
+ghost use Rattle.script.specs.Op.{number_of};
 ghost use Rattle.curve.specs.Known.{Known};
 ghost use Rattle.interp.specs.Answer.{answer_map};
-ghost use Rattle.interp.specs.inside.Going.{Goes, Leaves};
+ghost use Rattle.interp.specs.inside.Going.{Goes, Leaves, GoesNamed, LeavesNamed};
 ghost use Rattle.interp.specs.inside.Multisig.{counts_of};
 ghost use Rattle.interp.specs.Question.{Question, question_of};
 ghost use Rattle.interp.specs.inside.Going.{Gives};
@@ -13,16 +14,20 @@ ghost use Rattle.interp.specs.computed.Meaning.{meaning, check_of};
 ghost use Rattle.interp.specs.Effects.{verify, on_main, to_alt, from_alt, branch, turn, close, ask};
 ghost use Rattle.interp.specs.Rules.{skipped, with_count};
 ghost use Rattle.interp.specs.computed.Step.{after_executing, after_multisig, after_test, after_acting, within_bounds, step_at, step, stack_left};
-ghost use Rattle.interp.specs.Row.{push_row, row_at, row_of, Sig};
+ghost use Rattle.interp.specs.computed.Named.{named, or_else, executed, acted, step_named};
+ghost use Rattle.interp.specs.Failures.{name_at, verify_name};
+ghost use Rattle.interp.specs.Row.{push_row, row_at, row_of, Sig, AndVerifies};
 
 use crate::changes::{apply, compare, push, verify};
 use crate::conditions::Conditions;
 use crate::element::Element;
+use crate::failures::{name_at, verify_name};
 use crate::job::Job;
 use crate::multisig::{answer, many};
 use crate::numbers::{Binary, join_numbers};
 use crate::op::{Op, Test, op_of};
 use crate::pile::Pile;
+use crate::script_error::ScriptError;
 use crate::signatures::judge;
 use crate::timelocks::{meets_lock_time, meets_sequence};
 use crate::unverified::Unverified;
@@ -37,13 +42,13 @@ use wire::Memory;
 const MAX_PUSH: usize = 520;
 
 /// How many opcodes above OP_16 a script has at most (Bitcoin Core's `MAX_OPS_PER_SCRIPT`).
-const MAX_OPS: usize = 201;
+pub const MAX_OPS: usize = 201;
 
 /// How many elements both stacks have at most (Bitcoin Core's `MAX_STACK_SIZE`).
 const MAX_ELEMENTS: i64 = 1000;
 
 /// How many keys CHECKMULTISIG has at most (Bitcoin Core's `MAX_PUBKEYS_PER_MULTISIG`).
-const MAX_KEYS: usize = 20;
+pub const MAX_KEYS: usize = 20;
 
 /// What a script runs on.
 #[derive(Drop)]
@@ -439,6 +444,146 @@ impl<'a> Execution<'a> {
             return Ok(false);
         }
         Ok(self.act(alloc, job, known, after, number)? && self.is_bounded())
+    }
+
+    /// What verifies is executed, else why it fails: `name` where its test can't be done.
+    fn verify_or_name<K: KnowsSignatures>(
+        &mut self,
+        alloc: Global,
+        job: &Job,
+        known: &K,
+        by: Test,
+        number: u8,
+    ) -> Result<Option<ScriptError>, Unverified>
+        requires { job.now.input < length job.now.tx.now.inputs }
+        ensures { (after : List ℕ) → GoesNamed result (executed (K.known known.now)
+            (question_of job.now) after number (AndVerifies (check_of by)) self.old) self.new }
+    {
+        let name = name_at(number, &self.main, self.count);
+        if !self.test(alloc, job, known, by)? {
+            return Ok(Some(name));
+        }
+        if !self.verify() {
+            return Ok(Some(verify_name(number)));
+        }
+        Ok(None)
+    }
+
+    /// The same of each opcode that is executed.
+    fn execute_or_name<K: KnowsSignatures>(
+        &mut self,
+        alloc: Global,
+        job: &Job,
+        known: &K,
+        after: &'a [u8],
+        number: u8,
+    ) -> Result<Option<ScriptError>, Unverified>
+        requires { job.now.input < length job.now.tx.now.inputs }
+        ensures { GoesNamed result (executed (K.known known.now) (question_of job.now)
+            after.now number (row_at number) self.old) self.new }
+    {
+        let op = op_of(number);
+        if let Op::TestVerify(by) = op {
+            return self.verify_or_name(alloc, job, known, by, number);
+        }
+        let name = name_at(number, &self.main, self.count);
+        if !self.execute(alloc, job, known, after, op)? {
+            return Ok(Some(name));
+        }
+        Ok(None)
+    }
+
+    /// The same, whether its branch is taken or not.
+    #[tactic(auto, unfolding(crate::specs::computed::Named::acted))]
+    fn act_or_name<K: KnowsSignatures>(
+        &mut self,
+        alloc: Global,
+        job: &Job,
+        known: &K,
+        after: &'a [u8],
+        number: u8,
+    ) -> Result<Option<ScriptError>, Unverified>
+        requires { job.now.input < length job.now.tx.now.inputs }
+        ensures { GoesNamed result (acted (K.known known.now) (question_of job.now)
+            after.now number (row_at number) self.old) self.new }
+    {
+        if self.is_executing() {
+            return self.execute_or_name(alloc, job, known, after, number);
+        }
+        let name = name_at(number, &self.main, self.count);
+        if !self.skip(number)? {
+            return Ok(Some(name));
+        }
+        Ok(None)
+    }
+
+    /// A push of bytes, by an opcode of this number, and why it fails where it does.
+    fn push_or_name(
+        &mut self,
+        alloc: Global,
+        number: u8,
+        bytes: &[u8],
+    ) -> Result<Option<ScriptError>, Memory>
+        requires { number ≤ 0x4e }
+        ensures { IfOk result (λ failure. (known : Known) (q : Question) (after : List ℕ)
+            → LeavesNamed failure (acted known q after number (push_row bytes.now) self.old)
+            self.new) }
+    {
+        if !self.act_push(alloc, bytes)? {
+            return Ok(Some(ScriptError::PushSize));
+        }
+        Ok(None)
+    }
+
+    /// What an opcode's row does, once it is counted, and why that fails where it does.
+    #[tactic(auto, unfolding(crate::specs::Row::row_of))]
+    fn row_or_name<K: KnowsSignatures>(
+        &mut self,
+        alloc: Global,
+        job: &Job,
+        known: &K,
+        after: &'a [u8],
+        op: &[u8],
+    ) -> Result<Option<ScriptError>, Unverified>
+        requires input { job.now.input < length job.now.tx.now.inputs }
+        requires some { 0 < length op.now }
+        ensures { GoesNamed result (acted (K.known known.now) (question_of job.now)
+            after.now (number_of op.now) (row_of op.now) self.old) self.new }
+    {
+        let number = op[0];
+        if number <= OP_PUSHDATA4 {
+            return Ok(self.push_or_name(alloc, number, pushed(op))?);
+        }
+        self.act_or_name(alloc, job, known, after, number)
+    }
+
+    /// One opcode with its bytes, and why it fails where it does; `after` follows it in the script.
+    #[tactic(auto, unfolding(crate::specs::computed::Named::step_named))]
+    pub fn step_or_name<K: KnowsSignatures>(
+        &mut self,
+        alloc: Global,
+        job: &Job,
+        known: &K,
+        after: &'a [u8],
+        op: &[u8],
+    ) -> Result<Option<ScriptError>, Unverified>
+        requires { job.now.input < length job.now.tx.now.inputs }
+        ensures { GoesNamed result (step_named (K.known known.now) (question_of job.now)
+            after.now op.now self.old) self.new }
+    {
+        if op.is_empty() {
+            return Ok(Some(ScriptError::BadOpcode));
+        }
+        if !self.count_one(op[0]) {
+            return Ok(Some(ScriptError::OpCount));
+        }
+        if let Some(name) = self.row_or_name(alloc, job, known, after, op)? {
+            return Ok(Some(name));
+        }
+        if !self.is_bounded() {
+            return Ok(Some(ScriptError::StackSize));
+        }
+        Ok(None)
     }
 
     /// The main stack, if no condition is open.

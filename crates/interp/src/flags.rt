@@ -3,6 +3,8 @@
 /// Which rules of scripts that came by soft forks are in force for the block that holds the transaction.
 #[derive(Clone, Copy, Debug, PartialEq, Eq)]
 pub struct Flags {
+    /// What pays to a script's hash runs that script too (BIP 16).
+    pub p2sh: bool,
     /// A signature that is tried is strictly encoded (BIP 66).
     pub dersig: bool,
     /// The opcode b1 is CHECKLOCKTIMEVERIFY (BIP 65), and else does nothing.
@@ -14,6 +16,7 @@ pub struct Flags {
 impl Flags {
     /// All of these rules are in force.
     pub const ALL: Flags = Flags {
+        p2sh: true,
         dersig: true,
         cltv: true,
         csv: true,
@@ -21,6 +24,7 @@ impl Flags {
 
     /// None of them is.
     pub const NONE: Flags = Flags {
+        p2sh: false,
         dersig: false,
         cltv: false,
         csv: false,

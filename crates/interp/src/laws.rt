@@ -1,6 +1,12 @@
 //! What holds of the definitions.
 
-ghost use Rattle.std.specs.Prelude.{◌↔◌, ℕ, List, IsTrue};
+ghost use Rattle.std.specs.Prelude.{◌≡◌, ◌↔◌, ℕ, List, IsTrue};
+ghost use Rattle.curve.specs.Known.{Known};
+ghost use Rattle.interp.specs.Question.{Question};
+ghost use Rattle.interp.specs.Stack.{Stack};
+ghost use Rattle.interp.specs.computed.Step.{outcome, verdict};
+ghost use Rattle.interp.specs.computed.Named.{eval_script, verify_script};
+ghost use Rattle.interp.specs.laws.Naming.{unnamed, passes};
 ghost use Rattle.txn.specs.declared.tx.Tx.{Tx};
 ghost use Rattle.curve.specs.Triple.{Triples};
 ghost use Rattle.interp.specs.declared.flags.Flags.{Flags};
@@ -11,4 +17,12 @@ ghost use Rattle.interp.specs.computed.Verifying.{accepts};
 pub fn the_verdict_is_computed()
     ensures { (tx : Tx) (input : ℕ) (spent : List ℕ) (flags : Flags) (triples : Triples)
         → IsTrue (accepts tx input spent flags triples) ↔ Accepts tx input spent flags triples }
+{}
+
+/// A failure has a name exactly where a script fails; names change no stack that is left, and no verdict.
+pub fn names_change_no_verdict()
+    ensures scripts { (known : Known) (q : Question) (script : List ℕ) (stack : Stack)
+        → unnamed (eval_script known q script stack) ≡ outcome known q script stack }
+    ensures inputs { (known : Known) (q : Question)
+        → passes (verify_script known q) ≡ verdict known q }
 {}

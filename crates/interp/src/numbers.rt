@@ -41,7 +41,7 @@ pub enum Binary {
 }
 
 /// How many bytes an operand has at most.
-const MAX_OPERAND: usize = 4;
+pub const MAX_OPERAND: usize = 4;
 
 /// The number of an operand.
 fn number(bytes: &[u8]) -> Option<i64>

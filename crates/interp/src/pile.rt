@@ -30,6 +30,20 @@ impl<T: Drop> Pile<T> {
         }
     }
 
+    /// These from the bottom up.
+    pub fn from_vec(items: Vec<T>) -> Pile<T>
+        ensures { reverse result ≡ items.items }
+    {
+        Pile { items }
+    }
+
+    /// All of them from the bottom up.
+    pub fn as_slice(&self) -> &[T]
+        ensures { result.now ≡ reverse self.now }
+    {
+        self.items.as_slice()
+    }
+
     pub fn len(&self) -> usize
         ensures { result ≡ length self.now }
     {

@@ -12,7 +12,7 @@ use txn::LOCKTIME_THRESHOLD;
 use txn::sequence::{SEQUENCE_FINAL, duration, has_relative_locks, is_disabled, is_time};
 
 /// How many bytes a lock on the stack has at most.
-const MAX_LOCK: usize = 5;
+pub const MAX_LOCK: usize = 5;
 
 fn sequence(job: &Job) -> u32
     requires { job.now.input < length job.now.tx.now.inputs }

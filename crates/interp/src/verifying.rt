@@ -50,7 +50,7 @@ pub fn verify_with<K: KnowsSignatures>(
 }
 
 /// The opcode at the front of a script, if it is whole, and what follows it.
-fn first_op(script: &[u8]) -> Option<(&[u8], &[u8])>
+pub fn first_op(script: &[u8]) -> Option<(&[u8], &[u8])>
     ensures { MatchOption result ((ops script.now ≡ []) × (rest script.now ≡ script.now))
         (λ parts. (ops script.now ≡ parts.0.now ∷ ops parts.1.now)
         × (script.now ≡ parts.0.now ++ parts.1.now)) }
@@ -152,7 +152,7 @@ fn accepts_on<K: KnowsSignatures>(
     requires { job.now.input < length job.now.tx.now.inputs }
     ensures { Tells result (verdict_on (K.known known.now) (question_of job.now) script.now left) }
 {
-    if !is_p2sh(job.spent) {
+    if !job.flags.p2sh || !is_p2sh(job.spent) {
         return runs_to_true(alloc, job, known, job.spent, left);
     }
     let same = left.copy(alloc)?;

@@ -4,4 +4,5 @@ pub mod Kinds
 pub mod Signatures
 pub mod Removal
 pub mod Num
+pub mod inside
 pub mod laws

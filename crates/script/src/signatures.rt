@@ -1,6 +1,8 @@
 //! Counting signature operations.
 
 ghost use Rattle.std.specs.Prelude.{◌≡◌, ◌≤◌};
+ghost use Rattle.std.specs.List.{list_any};
+ghost use Rattle.script.specs.inside.Signatures.{is_check};
 ghost use Rattle.script.specs.Signatures.{keys, op_sigops, sigops, last_pushed, p2sh_sigops};
 
 use crate::kinds::{is_p2sh, push_only};
@@ -25,6 +27,9 @@ pub enum Counting {
 pub fn sigops(script: &[u8], counting: Counting) -> u128
     ensures { result ≡ sigops counting script.now }
 {
+    if !has_checks(script) {
+        return 0;
+    }
     let mut total = 0;
     let mut before = OP_INVALIDOPCODE;
     for op in Ops::new(script) {
@@ -33,6 +38,18 @@ pub fn sigops(script: &[u8], counting: Counting) -> u128
         before = number;
     }
     total
+}
+
+/// Whether a byte of a script, be it of an opcode or of a push, is the number of an opcode that checks
+/// signatures. It looks at each byte, so that the compiler can look at many at once.
+fn has_checks(script: &[u8]) -> bool
+    ensures { result ≡ list_any is_check script.now }
+{
+    let mut found = false;
+    for byte in script {
+        found |= OP_CHECKSIG <= *byte && *byte <= OP_CHECKMULTISIGVERIFY;
+    }
+    found
 }
 
 /// The signature operations of the inner script (BIP 16) of an input script and the script that it spends:

@@ -5,7 +5,7 @@ from collections import Counter
 from dataclasses import dataclass, field
 from pathlib import Path
 from types import TracebackType
-from typing import Callable, List, NamedTuple, Optional, Tuple, Type
+from typing import Callable, List, NamedTuple, Optional, Sequence, Tuple, Type
 
 from wakotehu.encoding import GENESIS
 
@@ -92,16 +92,18 @@ def as_core(played: Played) -> Played:
 class Bench:
     """A peer over a base, and lists that are played on it."""
 
-    def __init__(self, height: int, room: Path, program: Optional[str] = None, kept: Optional[Path] = None) -> None:
+    def __init__(
+        self, height: int, room: Path, program: Optional[str] = None, kept: Optional[Path] = None, options: Sequence[str] = ()
+    ) -> None:
         self.maker = Maker(height)
         self.base = Base(self.maker.base)
         self.made = {tx.id for block in self.maker.base for tx in block.transactions}
         self.product: Callable[[Lines], Played] = play_library
         self.height, self.program = height, program
-        self.folder = room / f"peer-{height}"
+        self.folder, self.options = room / f"peer-{height}", options
         if kept is not None and (kept / f"base-{height}").exists():
             shutil.copytree(kept / f"base-{height}", self.folder)
-        self.peer = Peer(self.folder)
+        self.peer = Peer(self.folder, self.options)
         self.reverse, self.precious_height = -1, 0
         self._lay_base()
         if kept is not None and not (kept / f"base-{height}").exists():
@@ -159,7 +161,7 @@ class Bench:
     def _restart(self) -> None:
         """Starts the peer anew: it forgets its count of preferences, which isn't known behind a tie by addresses."""
         self.peer.stop(is_kept=True)
-        self.peer = Peer(self.folder)
+        self.peer = Peer(self.folder, self.options)
         self.peer.call("setmocktime", GENESIS.time + 600 * self.height + 10**6)
         self.reverse, self.precious_height = -1, 0
 

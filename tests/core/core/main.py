@@ -64,10 +64,10 @@ class _Run:
         self.short = bool(options.short)
         self.begun = time.monotonic()
 
-    def _bench(self, height: int) -> Bench:
+    def _bench(self, height: int, options: Sequence[str] = ()) -> Bench:
         if self.options.keep is not None:
             self.options.keep.mkdir(parents=True, exist_ok=True)
-        return Bench(height, self.room, self.options.program, self.options.keep)
+        return Bench(height, self.room, self.options.program, self.options.keep, options)
 
     def kinds(self) -> int:
         """Each kind of difference is as docs/CORE.md has it, and each switch of the rules is one of them."""
@@ -209,7 +209,7 @@ class _Run:
         faults = 0
         every: List[scripts.Pairs] = []
         for height in SHORT_PAIR_BASES if self.short else PAIR_BASES:
-            with self._bench(height) as bench:
+            with self._bench(height, scripts.TELLING) as bench:
                 pairs = scripts.Pairs(bench, self.options.seed * 1000003 + height)
                 pairs.play(self.options.pairs or (3500 if self.short else 25000))
                 every.append(pairs)
@@ -219,6 +219,11 @@ class _Run:
                 for found in pairs.differing(scripts.by_rules(pairs.height, pairs.author.secp)):
                     faults += 1
                     print(f"FAULT the rules as they are written here: {found}")
+                names: "Counter[str]" = Counter()
+                for fault in pairs.misnamed(names):
+                    faults += 1
+                    print(f"FAULT {fault}")
+                print(f"{len(names)} names of failures, each Core's: " + ", ".join(f"{n} {w}" for w, n in names.most_common()))
                 others = dict.fromkeys(scripts.OTHERS, "not a matter of scripts")
                 said = Counter(others.get(said, "accepted" if said == "accepted" else "refused") for _, said in pairs.played)
                 print(f"{len(pairs.played)} script pairs at height {pairs.height}: " + ", ".join(f"{n} {w}" for w, n in said.most_common()))

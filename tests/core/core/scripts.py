@@ -2,8 +2,9 @@
 
 import random
 import struct
+from collections import Counter
 from dataclasses import dataclass
-from typing import Callable, Dict, Iterator, List, NamedTuple, Sequence, Set, Tuple, Type
+from typing import Callable, Dict, Iterator, List, NamedTuple, Optional, Sequence, Set, Tuple, Type
 
 from wakotehu import consensus
 from wakotehu.encoding import (
@@ -340,6 +341,23 @@ def accepts(pair: Pair, flags: Set[str], secp: Secp256k1) -> bool:
             invalid += answer.line
 
 
+#: By one thread the peer answers why a script fails, in words; by several only that one does.
+TELLING = ("-par=1",)
+
+
+def failure(pair: Pair, flags: Set[str], secp: Secp256k1) -> Optional[consensus.ScriptError]:
+    """Why ours refuses the spend by some rules and BIP 16, as `accepts`."""
+    data, valid, invalid = write_transaction(pair.tx), b"", b""
+    while True:
+        answer = consensus.verify_script(data, pair.input, pair.spent, flags | {"P2SH"}, valid, invalid)
+        if not isinstance(answer, consensus.Triple):
+            return answer
+        if secp.valid(answer):
+            valid += answer.line
+        else:
+            invalid += answer.line
+
+
 def ours(pair: Pair, height: int, secp: Secp256k1) -> bool:
     """Whether ours accepts the spend in a block of a height."""
     return accepts(pair, flags_at(height), secp)
@@ -442,6 +460,18 @@ class Pairs:
         if (answer == "accepted") != (said == "accepted"):
             raise RuntimeError(f"a block is answered {answer}, and its proposal {said}")
         bench.peer.mark("invalidate", double_sha(bytes(header)))
+
+    def misnamed(self, names: "Counter[str]") -> Iterator[str]:
+        """The pairs whose failure has another text than the peer's; the names of failures are counted."""
+        for pair, said in self.played:
+            if said in OTHERS:
+                continue
+            found = failure(pair, flags_at(self.height), self.author.secp)
+            text = "accepted" if found is None else found.text
+            if found is not None:
+                names[found.name] += 1
+            if text != said.partition("(")[2][:-1] and text != said:
+                yield f"ours says {text}, Core says {said}\n  spent {pair.spent.hex()}\n  transaction {write_transaction(pair.tx).hex()}"
 
     def differing(self, accepts: Callable[[Pair], bool]) -> Iterator[Disagreement]:
         """The pairs of which something else is said."""

@@ -1,6 +1,6 @@
 -- One opcode, a script and the verdict on an input, by what is known of signatures (Bitcoin Core's `EvalScript` and
 -- `VerifyScript`).
-use Rattle.std.specs.Prelude.{ℕ, ◌+◌, ◌==◌, List, [], ◌∷◌, ◌++◌, length, Bool, true, false, Option, Some, None, option_and_then, nat_lt, if◌then◌else◌, slice_get}
+use Rattle.std.specs.Prelude.{ℕ, ◌+◌, ◌==◌, List, [], ◌∷◌, ◌++◌, length, Bool, true, false, Option, Some, None, option_and_then, nat_lt, ◌&&◌, if◌then◌else◌, slice_get}
 use Rattle.std.specs.Option.{option_map, option_map_or}
 use Rattle.std.specs.List.{concat}
 use Rattle.script.specs.Ops.{ops, rest, is_whole}
@@ -105,10 +105,10 @@ inner_outcome known q (inner ∷ others) = outcome known q inner others
 unfoldable pub inner_verdict : Known → Question → List ℕ → Stack → Answer Bool
 inner_verdict known q script left = if is_push_only script then ends_true (inner_outcome known q left) else Says false
 
--- the spent script on the stack that the input script left, and the inner script where there is one
+-- the spent script on the stack that the input script left, and the inner script where there is one and BIP 16 is in force
 unfoldable pub verdict_on : Known → Question → List ℕ → Stack → Answer Bool
 verdict_on known q script left =
-    also (ends_true (outcome known q q.spent left)) (if is_p2sh q.spent then inner_verdict known q script left else Says true)
+    also (ends_true (outcome known q q.spent left)) (if q.flags.p2sh && is_p2sh q.spent then inner_verdict known q script left else Says true)
 
 -- the same, where the input script left a stack
 abbrev pub verdict_after : Known → Question → List ℕ → Answer (Option Stack) → Answer Bool

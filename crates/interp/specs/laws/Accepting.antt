@@ -1,5 +1,5 @@
 -- What is answered of scripts with a table is what the relations say.
-use Rattle.std.specs.Prelude.{if◌then◌else◌}
+use Rattle.std.specs.Prelude.{if◌then◌else◌, ◌&&◌}
 use Rattle.std.proofs.Common.{◌≡◌, ℕ, ◌≤◌, List, [], ◌∷◌, ◌++◌, Bool, true, false, eqb, Option, Some, None, length, slice_get, refl, sym, ap, ◌∙◌, ⊎_elim, append-nil, arith}
 use Rattle.std.specs.Option.{option_and_then}
 use Rattle.std.specs.List.{concat}
@@ -105,22 +105,28 @@ module _ (q : Question) (triples : Triples) where
   both-say (Says false) b e = cc
   both-say (Wants t) b e = cc
 
-  on-sound : (script : List ℕ) (left : Stack) → verdict_on (all_known triples) q script left ≡ Says true → RunsToTrue (spending_for q triples) q.spent left × (is_p2sh q.spent ≡ true → AcceptsInner (spending_for q triples) script left)
+  both-on : (a b : Bool) (x y : Answer Bool) → a ≡ true → b ≡ true → (if a && b then x else y) ≡ x
+  both-on true true x y on is = refl
+  both-on true false x y on is = absurd (cc)
+  both-on false b x y on is = absurd (cc)
+
+  on-sound : (script : List ℕ) (left : Stack) → verdict_on (all_known triples) q script left ≡ Says true → RunsToTrue (spending_for q triples) q.spent left × (q.flags.p2sh ≡ true → is_p2sh q.spent ≡ true → AcceptsInner (spending_for q triples) script left)
   unfolding verdict_on
   on-sound script left e =
-      let both = both-say (ends_true (outcome (all_known triples) q q.spent left)) (if is_p2sh q.spent then inner_verdict (all_known triples) q script left else Says true) e in
-      (ends-sound q.spent left both.0, λ is. inner-sound script left (rw is at both.1))
+      let both = both-say (ends_true (outcome (all_known triples) q q.spent left)) (if q.flags.p2sh && is_p2sh q.spent then inner_verdict (all_known triples) q script left else Says true) e in
+      (ends-sound q.spent left both.0, λ on is. inner-sound script left (sym (both-on q.flags.p2sh (is_p2sh q.spent) _ _ on is) ∙ both.1))
 
-  on-again : (script : List ℕ) (left : Stack) → RunsToTrue (spending_for q triples) q.spent left → (is_p2sh q.spent ≡ true → AcceptsInner (spending_for q triples) script left) → verdict_on (all_known triples) q script left ≡ Says true
+  on-again : (script : List ℕ) (left : Stack) → RunsToTrue (spending_for q triples) q.spent left → (q.flags.p2sh ≡ true → is_p2sh q.spent ≡ true → AcceptsInner (spending_for q triples) script left) → verdict_on (all_known triples) q script left ≡ Says true
   unfolding verdict_on
-  on-again script left r inner = rw (ends-again q.spent left r) (by (is_p2sh q.spent) (λ is. inner-again script left (inner is)))
+  on-again script left r inner = rw (ends-again q.spent left r) (by q.flags.p2sh (is_p2sh q.spent) (λ on is. inner-again script left (inner on is)))
     where
-      by : (b : Bool) → (b ≡ true → inner_verdict (all_known triples) q script left ≡ Says true) → (if b then inner_verdict (all_known triples) q script left else Says true) ≡ Says true
-      by true h = h refl
-      by false h = refl
+      by : (on b : Bool) → (on ≡ true → b ≡ true → inner_verdict (all_known triples) q script left ≡ Says true) → (if on && b then inner_verdict (all_known triples) q script left else Says true) ≡ Says true
+      by true true h = h refl refl
+      by true false h = refl
+      by false b h = refl
 
   after-by : (script : List ℕ) (o : Answer (Option Stack)) → outcome (all_known triples) q script [] ≡ o → verdict_after (all_known triples) q script o ≡ Says true
-      → (left : Stack) × Run (spending_for q triples) script [] left × RunsToTrue (spending_for q triples) q.spent left × (is_p2sh q.spent ≡ true → AcceptsInner (spending_for q triples) script left)
+      → (left : Stack) × Run (spending_for q triples) script [] left × RunsToTrue (spending_for q triples) q.spent left × (q.flags.p2sh ≡ true → is_p2sh q.spent ≡ true → AcceptsInner (spending_for q triples) script left)
   after-by script (Says None) is e = cc
   after-by script (Wants t) is e = cc
   after-by script (Says (Some left)) is e = let h = on-sound script left e in (left, outcome-sound script [] left is, h.0, h.1)

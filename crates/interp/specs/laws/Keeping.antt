@@ -1,5 +1,5 @@
 -- What was answered stays so however much more is known.
-use Rattle.std.specs.Prelude.{if◌then◌else◌}
+use Rattle.std.specs.Prelude.{if◌then◌else◌, ◌&&◌}
 use Rattle.std.proofs.Common.{◌≡◌, ℕ, List, [], ◌∷◌, ◌++◌, Bool, true, false, Option, Some, None, length, ltb, eqb, slice_get, refl, sym, ap, ◌∙◌}
 use Rattle.std.specs.List.{concat}
 use Rattle.script.specs.Ops.{ops, rest}
@@ -122,7 +122,7 @@ module _ (known more : Known) (grows : Grows known more) (q : Question) where
   on-stays : (script : List ℕ) (left : Stack) → Stays known (verdict_on known q script left) (verdict_on more q script left)
   unfolding verdict_on
   on-stays script left =
-      also-stays known _ _ _ _ (ends-stay _ _ (outcome-stays q.spent left)) (if-stays known (is_p2sh q.spent) _ _ _ _ (inner-stays script left) refl)
+      also-stays known _ _ _ _ (ends-stay _ _ (outcome-stays q.spent left)) (if-stays known (q.flags.p2sh && is_p2sh q.spent) _ _ _ _ (inner-stays script left) refl)
 
   after-stays : (script : List ℕ) (a b : Answer (Option Stack)) → Stays known a b → Stays known (verdict_after known q script a) (verdict_after more q script b)
   after-stays script (Says (Some left)) b h = rw h (on-stays script left)

@@ -1,8 +1,12 @@
-use Rattle.std.proofs.Common.{ap, ◌∙◌, ◌+◌, arith}
+use Rattle.std.proofs.Common.{ap, sym, ◌∙◌, ◌+◌, arith}
 use Rattle.script.specs.Ops.{ops}
 use Rattle.script.specs.Signatures.{sigops_after, op_sigops}
 use Rattle.script.proofs.Sums.{sigops_start, sigops_bound, counted_next}
+use Rattle.script.proofs.Checks.{no_checks}
 use Rattle.script.proofs.signatures.sigops.Goals as goal
+
+pub returns-then-not-has_checks : goal.returns-then-not-has_checks
+returns-then-not-has_checks c = sym (no_checks c.args.counting c.args.script.now (sym c.has_checks.ensures ∙ c.if-not-has_checks.true))
 
 pub loop-op-init : goal.loop-op-init
 loop-op-init c =

@@ -1,0 +1,12 @@
+use Rattle.std.proofs.Common.{◌∙◌, ap, sym, subst}
+use Rattle.interp.specs.Question.{question_of}
+use Rattle.interp.specs.Row.{Row}
+use Rattle.interp.specs.inside.Going.{GoesNamed}
+use Rattle.interp.specs.computed.Meaning.{meaning}
+use Rattle.interp.specs.computed.Named.{executed}
+use Rattle.interp.proofs.execution.Execution.execute_or_name.Goals as goal
+
+pub returns-in-TestVerify : goal.returns-in-TestVerify
+returns-in-TestVerify g c =
+    let Of : Row → Type 0 = λ row. GoesNamed c.verify_or_name.result (executed (g.K.KnowsSignatures.known c.args.known.now) (question_of c.args.job.now) c.args.after.now c.args.number row c.args.self.now) c.verify_or_name.new.self in
+    subst Of (sym (ap meaning c.in-TestVerify.is) ∙ c.op_of-op.ensures) (c.verify_or_name.ensures c.args.after.now)
