@@ -1,5 +1,5 @@
 -- The core after a history, and what it tells.
-use Rattle.std.proofs.Common.{◌≡◌, ℕ, ◌<◌, true, false, List, [], ◌∷◌, ◌++◌, map, Option, Some, None, refl, sym, ap, subst, ◌∙◌}
+use Rattle.std.proofs.Common.{◌≡◌, ℕ, ◌<◌, true, List, [], ◌∷◌, ◌++◌, map, Option, Some, None, refl, sym, ap, subst, ◌∙◌}
 use Rattle.std.specs.FinMap as coin_map
 use Rattle.block.specs.declared.block.Block.{Block}
 use Rattle.curve.specs.Known.{Agrees, Under}
@@ -13,8 +13,6 @@ use Rattle.coins.specs.Coins.{Coins}
 use Rattle.coins.specs.Changes.{Changes, AreChanges}
 use Rattle.chain.specs.declared.command.Command.{Command}
 use Rattle.chain.specs.declared.reply.Reply.{Reply}
-use Rattle.chain.specs.declared.reply.Reply.TheVariants as reply
-use Rattle.chain.specs.declared.reply.SubmitReply.TheVariants.{DecodeFailed}
 use Rattle.chain.specs.declared.entry.Entry.{Entry}
 use Rattle.chain.specs.History.{entry_of}
 use Rattle.chain.specs.Learnt.{IsNews, found_in}
@@ -32,7 +30,7 @@ use Rattle.node.specs.inside.Brought.{IsInfoOfCore}
 use Rattle.node.specs.inside.Keeping.{IsReplyTo, IsUndecodable, is_step}
 use Rattle.node.specs.inside.PublishedState.{IsCoreOf, IsCoreStep, with_its_coins, entry_with_reply}
 use Rattle.node.proofs.Few.{height-few}
-use Rattle.node.proofs.Kept.{Stepped, opens, stayed_bytes, stayed_kept, stayed_reply, taken_kept, taken_reply}
+use Rattle.node.proofs.Kept.{Stepped, opens, taken_kept, taken_reply, taken_step}
 use Rattle.node.proofs.Publications.{agrees-push, state_of-push, owed_legal}
 
 -- the coins that a core stands on are those of its history
@@ -94,16 +92,8 @@ module _ (o : Origin) (old new : CoreState) (journal : List Entry) (number : ℕ
   all_stepped : Under (known_in o journal) (λ valid. Stepped valid (with_its_coins old) (with_its_coins new) c r)
   all_stepped valid agrees = stepped valid old new c r changes (did valid agrees)
 
-  -- without a step nothing changes
-  module _ (none : is_step r ≡ false) where
-    pub still_kept : IsCoreOf o new journal
-    still_kept = stayed_kept o (with_its_coins old) (with_its_coins new) journal number c r kept all_stepped none
-
-    pub still_reply : r ≡ reply.Submit DecodeFailed
-    still_reply = stayed_reply o (with_its_coins old) (with_its_coins new) journal number c r kept all_stepped none
-
-    pub still_bytes : IsUndecodable c
-    still_bytes = stayed_bytes o (with_its_coins old) (with_its_coins new) journal number c r kept all_stepped none
+  pub step_taken : ¬ IsUndecodable c → is_step r ≡ true
+  step_taken decodable = taken_step o (with_its_coins old) (with_its_coins new) journal number c r kept all_stepped decodable
 
   module _ (step : is_step r ≡ true) where
     pub step_reply : IsReplyTo c r

@@ -72,6 +72,13 @@ module _ (o : Origin) (old new : WithCoins) (journal : List Entry) (number : ℕ
   came : (valid : Triples) → Agrees (known_in o journal) valid → Came o valid s c (new.core.state, r)
   came valid agrees = subst (λ (x : Outcome Block). Came o valid s c x) (sym (says valid agrees)) (comes (regtest o.params valid) s c)
 
+  -- it was a step
+  pub taken_step : ¬ IsUndecodable c → is_step r ≡ true
+  taken_step decodable = elim (came some.0 some.1) [
+    | inl h ↦ h.1
+    | inr h ↦ absurd (decodable h.1)
+  ]
+
   -- after a step it stands last
   module _ (step : is_step r ≡ true) where
     taken : (valid : Triples) → Agrees (known_in o journal) valid → (command_step (regtest o.params valid) s c ≡ Some (new.core.state, r)) × IsReplyTo c r
@@ -116,28 +123,3 @@ module _ (o : Origin) (old new : WithCoins) (journal : List Entry) (number : ℕ
         };
         few = few-new;
       }
-
-  -- without a step nothing changes
-  module _ (none : is_step r ≡ false) where
-    stayed : ((new.core.state, r) ≡ submit_says s DecodeFailed) × IsUndecodable c
-    stayed = elim (came some.0 some.1) [
-      | inl h ↦ let e : true ≡ false = sym h.1 ∙ none in absurd (cc e)
-      | inr h ↦ h
-    ]
-
-    pub stayed_reply : r ≡ reply.Submit DecodeFailed
-    stayed_reply = ap (λ (x : Outcome Block). x.1) stayed.0
-
-    pub stayed_bytes : IsUndecodable c
-    stayed_bytes = stayed.1
-
-    pub stayed_kept : KeepsHistory o new journal
-    stayed_kept = record {
-      legal = kept.legal;
-      params_are = params-new;
-      theirs = λ valid agrees. record {
-        state_is = ap (λ (x : Outcome Block). x.0) stayed.0 ∙ (kept.theirs valid agrees).state_is;
-        is_chainstate = (stepped valid agrees).is_chainstate;
-      };
-      few = few-new;
-    }

@@ -30,7 +30,6 @@ use Rattle.node.specs.declared.published_history.knowledge.Knowledge.TheVariants
 use Rattle.node.specs.inside.Knowledge.{IsKnowledge, known_behind, known_of}
 use Rattle.node.specs.declared.published_history.refusal.Refusal.{Refusal}
 use Rattle.node.specs.declared.published_history.refusal.Refusal.TheVariants as refusal
-use Rattle.node.specs.inside.Keeping.{IsUndecodable}
 use Rattle.node.specs.inside.PublishedState.{AreCoreSteps, IsCoreOf, IsLockedAt, entry_with_reply}
 use Rattle.node.specs.inside.Refused.{IsWantOf, IsWantAfter}
 
@@ -98,11 +97,3 @@ wanted_after o core k es c (refusal.Unknown wants) kept h want = record {
   };
   wanted = subst (λ (known : Known). AreWantedByStep core c known wants.items) (known_is o k es h) want;
 }
-
--- bytes that are no block tell no verdict
-pub known_undecoded : (k : Knowledge) (c : Command) → IsUndecodable c → known_behind k c ≡ k
-known_undecoded k (command.Submit bytes now) none = refl
-known_undecoded k (command.Invalidate id) none = absurd none
-known_undecoded k (command.Reconsider id) none = absurd none
-known_undecoded k (command.Precious id) none = absurd none
-known_undecoded k (command.Learn t valid) none = absurd none

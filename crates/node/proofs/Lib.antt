@@ -4,11 +4,11 @@ pub mod Cores
 pub mod Few
 pub mod Following
 pub mod Kept
+pub mod Lasts
 pub mod Knowing
 pub mod Growing
 pub mod Owing
 pub mod Owning
 pub mod Publications
 pub mod Seen
-pub mod Same
 pub mod Verdicts

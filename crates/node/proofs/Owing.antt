@@ -1,8 +1,7 @@
 -- A publication of the entry that is owed.
-use Rattle.std.proofs.Common.{◌≡◌, Bool, false, List, [], ◌∷◌, ◌++◌, Option, None, ap, sym, ◌∙◌, subst}
+use Rattle.std.proofs.Common.{◌≡◌, false, List, [], ◌∷◌, ◌++◌, Option, None, ap, sym, ◌∙◌, subst}
 use Rattle.curve.specs.Known.{Agrees}
 use Rattle.curve.specs.Triple.{Triples}
-use Rattle.coins.specs.Changes.{Changes}
 use Rattle.chain.specs.declared.reply.Reply.{Reply}
 use Rattle.chain.specs.declared.entry.Entry.{Entry}
 use Rattle.activate.specs.CoreState.{CoreState, Follows}
@@ -10,7 +9,8 @@ use Rattle.view.specs.Origin.{Origin, known_in}
 use Rattle.view.specs.ViewState.{IsInfo, IsLegal}
 use Rattle.view.specs.declared.publication.Publication.{Publication}
 use Rattle.node.specs.inside.Brought.{IsInfoOfCore}
-use Rattle.node.specs.inside.PublishedState.{IsCoreOf, entry_with_reply}
+use Rattle.node.specs.declared.published_history.pending.Pending.{Pending}
+use Rattle.node.specs.inside.PublishedState.{IsCoreOf, changes_of, entry_with_reply, is_new}
 use Rattle.node.proofs.Cores.{height_told, tells, with_reply}
 use Rattle.node.proofs.Publications.{IsOfOwed}
 
@@ -20,9 +20,9 @@ module _ (o : Origin) (core : CoreState) (seen journal : List Entry) (e : Entry)
   pub replied_core : IsCoreOf o core (seen ++ entry_with_reply e reply ∷ [])
   replied_core = with_reply o core seen (entry_with_reply e None) reply legal (subst (λ (l : List Entry). IsCoreOf o core l) is kept)
 
-  pub of_owed : (is_new : Bool) (changes : Changes) (p : Publication) → p.is_new ≡ is_new → p.before.book ≡ o.book → p.before.entries ≡ seen → p.entry ≡ entry_with_reply e reply → (is_new ≡ false → reply ≡ None) → p.changes ≡ changes
-      → ((valid : Triples) → Follows core valid → IsInfoOfCore valid core p.info) → IsOfOwed is_new o seen e changes p
-  of_owed is_new changes p new_is book before entry none changes_are told = record {
+  pub of_owed : (d : Pending) (p : Publication) → p.is_new ≡ is_new d → p.before.book ≡ o.book → p.before.entries ≡ seen → p.entry ≡ entry_with_reply e reply → (is_new d ≡ false → reply ≡ None) → p.changes ≡ changes_of d
+      → ((valid : Triples) → Follows core valid → IsInfoOfCore valid core p.info) → IsOfOwed d o seen e p
+  of_owed d p new_is book before entry none changes_are told = record {
     new_is = new_is;
     book_is = book;
     before_is = before;

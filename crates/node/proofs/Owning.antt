@@ -1,5 +1,5 @@
 -- A seat's own entries in a history that grows.
-use Rattle.std.proofs.Common.{arith, ◌&&◌, ◌==◌, set, get_or, ◌≡◌, ℕ, zero, suc, ◌≤◌, Bool, true, false, cond, List, [], ◌∷◌, ◌++◌, length, take, drop, map, refl, ap, sym, ◌∙◌, subst, append_assoc}
+use Rattle.std.proofs.Common.{arith, ◌&&◌, ◌==◌, ◌≡◌, ℕ, zero, suc, ◌≤◌, Bool, true, false, cond, List, [], ◌∷◌, ◌++◌, length, length-append, take, drop, map, refl, ap, sym, ◌∙◌, subst, append_assoc}
 use Rattle.std.proofs.lemmas.List.{take-append-le, take-append-drop}
 use Rattle.std.proofs.lemmas.Bool.Decides.{nat_tests}
 use Rattle.std.specs.Prelude.{is_none, slice_get, Some}
@@ -25,21 +25,13 @@ pub own_all : (n place : ℕ) (seen log : List Entry) (owed : List Command) → 
 own_all n place seen log owed le p rest =
     ap (own_of n) (sym (take-append-drop place log)) ∙ own_of-append n (take place log) (drop place log) ∙ (λ i. own_of n (take_kept place seen log le p i) ++ rest i)
 
+-- a place of a beginning is one of the whole
+pub within_more : (place : ℕ) (xs ys : List Entry) → place ≤ length xs → IsPrefix xs ys → place ≤ length ys
+within_more place xs ys le p = omega (arith, le, length-append xs p.0, ap length p.1)
+
 -- the seat's entry at the end
 pub own_push : (n : ℕ) (log : List Entry) (c : Command) (r : Reply) → own_of n (log ++ entry_of n c (Some r) ∷ []) ≡ own_of n log ++ entry_of n c (Some r) ∷ []
 own_push n log c r = own_of-append n log (entry_of n c (Some r) ∷ []) ∙ ap (λ (xs : List Entry). own_of n log ++ xs) (own_of-one n c (Some r))
-
--- what is the seat's own once its step was seen
-pub own_wrote : (n place : ℕ) (seen before log : List Entry) (owed : List Command) (c : Command) (r : Reply) → place ≤ length seen → IsPrefix seen before → own_of n (drop place before) ≡ map (owed_entry n) owed
-    → log ≡ before ++ entry_of n c (Some r) ∷ [] → own_of n log ≡ (own_of n (take place seen) ++ map (owed_entry n) owed) ++ entry_of n c (Some r) ∷ []
-own_wrote n place seen before log owed c r le p rest last =
-    ap (own_of n) last ∙ own_push n before c r ∙ ap (λ (l : List Entry). l ++ entry_of n c (Some r) ∷ []) (own_all n place seen before owed le p rest)
-
--- an element that is put back in its place
-pub set_back : {A : Type 0} (xs : List A) (i : ℕ) (d : A) → set xs i (get_or xs i d) ≡ xs
-set_back [] i d = refl
-set_back (x ∷ xs) zero d = refl
-set_back (x ∷ xs) (suc i) d = ap (λ ys. x ∷ ys) (set_back xs i d)
 
 answered_begin : (xs : List Entry) → IsPrefix (up_to_last_answered xs) xs
 answered_begin [] = ([], refl)

@@ -27,7 +27,9 @@ use Rattle.view.specs.Following.{IsNext, IsOwed, AllOwed, AllFollow}
 use Rattle.view.specs.declared.chain_info.ChainInfo.{ChainInfo}
 use Rattle.view.specs.declared.publication.Publication.{Publication}
 use Rattle.view.specs.laws.Exact.{all_exact, found-push, news-push, same_origin}
-use Rattle.node.specs.inside.PublishedState.{Shows, AreDue, entry_with_reply}
+use Rattle.node.specs.declared.published_history.pending.Pending.{Pending}
+use Rattle.node.specs.declared.published_history.pending.Pending.TheVariants as pending
+use Rattle.node.specs.inside.PublishedState.{Shows, AreDue, changes_of, entry_with_reply, is_new, is_owed, owed_by}
 
 -- the state after an entry is that after its command
 pub state_of-push : (o : Origin) (valid : Triples) (xs : List Entry) (e d : Entry) → e.command ≡ d.command → state_after o valid (xs ++ e ∷ []) ≡ state_after o valid (xs ++ d ∷ [])
@@ -96,21 +98,21 @@ pub same_last : (xs ys : List Entry) (d e : Entry) → xs ++ d ∷ [] ≡ ys ++ 
 same_last xs ys d e h = let t = same_from_push xs ys d e h in t
 
 -- a publication of the entry that is owed
-pub record IsOfOwed (is_new : Bool) (o : Origin) (seen : List Entry) (e : Entry) (changes : Changes) (p : Publication) : Type 0 where
-  pub new_is : p.is_new ≡ is_new
+pub record IsOfOwed (d : Pending) (o : Origin) (seen : List Entry) (e : Entry) (p : Publication) : Type 0 where
+  pub new_is : p.is_new ≡ is_new d
   pub book_is : p.before.book ≡ o.book
   pub before_is : p.before.entries ≡ seen
   pub entry_is : entry_with_reply p.entry None ≡ entry_with_reply e None
-  pub none : is_new ≡ false → p.entry.reply ≡ None
-  pub changes_are : p.changes ≡ changes
+  pub none : is_new d ≡ false → p.entry.reply ≡ None
+  pub changes_are : p.changes ≡ changes_of d
   pub legal : IsLegal o (seen ++ p.entry ∷ [])
   pub info_is : Under (known_in o (seen ++ p.entry ∷ [])) (λ valid. IsInfo o valid (seen ++ p.entry ∷ []) p.info)
   pub height_fits : p.info.height < max_blocks
 
 -- the entry of the last of them
-again_owed : (x : ViewState) (o : Origin) (seen : List Entry) (e : Entry) (changes : Changes) (p q : Publication) (qs : List Publication) → Shows x o seen → IsOfOwed false o seen e changes p → AllFollow x (q ∷ qs)
+again_owed : (x : ViewState) (o : Origin) (seen : List Entry) (e : Entry) (p q : Publication) (qs : List Publication) → Shows x o seen → IsOfOwed pending.Again o seen e p → AllFollow x (q ∷ qs)
     → entry_with_reply q.entry None ≡ entry_with_reply e None → IsOwed (after_publications x (q ∷ qs)) p
-again_owed x o seen e changes p q qs shows of follow same =
+again_owed x o seen e p q qs shows of follow same =
     let z : ViewState = after_publications x (q ∷ qs) in
     let t = owed_last (after_publication x q) q.entry qs refl follow.1 in
     let origin : z.origin ≡ o = same_origin x (q ∷ qs) follow ∙ shows.origin_is in
@@ -135,10 +137,10 @@ again_owed x o seen e changes p q qs shows of follow same =
     }
 
 -- the coins that stand after an entry stand after it with another reply
-changes_of : (x : ViewState) (o : Origin) (seen journal : List Entry) (e : Entry) (changes : Changes) (p : Publication) → Shows x o seen → journal ≡ seen ++ entry_with_reply e None ∷ [] → entry_with_reply p.entry None ≡ entry_with_reply e None → p.changes ≡ changes
+changes_there : (x : ViewState) (o : Origin) (seen journal : List Entry) (e : Entry) (changes : Changes) (p : Publication) → Shows x o seen → journal ≡ seen ++ entry_with_reply e None ∷ [] → entry_with_reply p.entry None ≡ entry_with_reply e None → p.changes ≡ changes
     → Under (known_in x.origin journal) (λ valid. AreChanges x.coins (coins_after x.origin valid journal) changes)
     → Under (known_in x.origin (x.journal ++ p.entry ∷ [])) (λ valid. AreChanges x.coins (coins_after x.origin valid (x.journal ++ p.entry ∷ [])) p.changes)
-changes_of x o seen journal e changes p shows is same eq h valid agrees =
+changes_there x o seen journal e changes p shows is same eq h valid agrees =
     let k : Origin = x.origin in
     let command : e.command ≡ p.entry.command = ap (λ (f : Entry). f.command) (sym same) in
     let here : seen ++ p.entry ∷ [] ≡ x.journal ++ p.entry ∷ [] = ap (λ (es : List Entry). es ++ p.entry ∷ []) (sym shows.journal_is) in
@@ -154,9 +156,10 @@ changes_of x o seen journal e changes p shows is same eq h valid agrees =
     coins_same xs ys h = ap (λ (s : State Block). coins (regtest x.origin.params valid) ledger s) h
 
 -- it follows what is pending
-pub follows : (is_new : Bool) (x : ViewState) (pending : List Publication) (o : Origin) (seen journal : List Entry) (e : Entry) (changes : Changes) (p : Publication) → Shows x o seen → AreDue true is_new x pending journal changes
-    → journal ≡ seen ++ entry_with_reply e None ∷ [] → IsOfOwed is_new o seen e changes p → AllFollow x (pending ++ p ∷ [])
-follows true x pending o seen journal e changes p shows due is of =
+pub follows : (d : Pending) (x : ViewState) (queued : List Publication) (o : Origin) (seen journal : List Entry) (e : Entry) (p : Publication) → is_owed d ≡ true → Shows x o seen → AreDue d x queued journal
+    → journal ≡ seen ++ entry_with_reply e None ∷ [] → IsOfOwed d o seen e p → AllFollow x (queued ++ p ∷ [])
+follows pending.None x queued o seen journal e p owed shows due is of = absurd (cc owed)
+follows (pending.New changes) x queued o seen journal e p owed shows due is of =
     let at : o ≡ x.origin = sym shows.origin_is in
     let es : seen ++ p.entry ∷ [] ≡ x.journal ++ p.entry ∷ [] = ap (λ (l : List Entry). l ++ p.entry ∷ []) (sym shows.journal_is) in
     let next : IsNext x p = record {
@@ -165,7 +168,7 @@ follows true x pending o seen journal e changes p shows due is of =
       before_is = of.before_is ∙ sym shows.journal_is;
       legal = subst (λ (l : List Entry). IsLegal x.origin l) es (subst (λ (k : Origin). IsLegal k (seen ++ p.entry ∷ [])) at of.legal);
       brings = λ valid agrees. record {
-        changes_are = changes_of x o seen journal e changes p shows is of.entry_is of.changes_are due.1 valid agrees;
+        changes_are = changes_there x o seen journal e changes p shows is of.entry_is of.changes_are due.1 valid agrees;
         info_is =
             let there : Agrees (known_in o (seen ++ p.entry ∷ [])) valid =
             subst (λ (k : Origin). Agrees (known_in k (seen ++ p.entry ∷ [])) valid) (sym at) (subst (λ (l : List Entry). Agrees (known_in x.origin l) valid) (sym es) agrees) in
@@ -175,13 +178,13 @@ follows true x pending o seen journal e changes p shows due is of =
     } in
     let follow : AllFollow x (p ∷ []) = (next, tt) in
     subst (λ (ps : List Publication). AllFollow x (ps ++ p ∷ [])) (sym due.0) follow
-follows false x pending o seen journal e changes p shows due is of =
+follows pending.Again x queued o seen journal e p owed shows due is of =
     let q : Publication = due.0 in
     let qs : List Publication = due.1 in
     let follow : AllFollow x (q ∷ qs) = due.3 in
     let at : x.journal ++ entry_with_reply q.entry None ∷ [] ≡ seen ++ entry_with_reply e None ∷ [] = sym due.4 ∙ is in
     let same : entry_with_reply q.entry None ≡ entry_with_reply e None = (same_last x.journal seen (entry_with_reply q.entry None) (entry_with_reply e None) at).1 in
-    let all : AllFollow x (q ∷ (qs ++ p ∷ [])) = (follow.0, owed_more (after_publication x q) qs p follow.1 (again_owed x o seen e changes p q qs shows of follow same)) in
+    let all : AllFollow x (q ∷ (qs ++ p ∷ [])) = (follow.0, owed_more (after_publication x q) qs p follow.1 (again_owed x o seen e p q qs shows of follow same)) in
     subst (λ (ps : List Publication). AllFollow x (ps ++ p ∷ [])) (sym due.2) all
 
 -- what readers see once it is published
@@ -195,12 +198,12 @@ shown_then x y pending p follow is exact =
     )
 
 -- what is due where it is pending too
-pub due_then : (is_new : Bool) (x y : ViewState) (pending left : List Publication) (journal : List Entry) (changes : Changes) (p : Publication) → AreDue true is_new x pending journal changes → AllFollow x (pending ++ p ∷ []) → p.before.entries ≡ x.journal
-    → journal ≡ p.before.entries ++ entry_with_reply p.entry None ∷ [] → y ≡ x → left ≡ pending ++ p ∷ [] → AreDue true false y left journal []
-due_then is_new x y pending left journal changes p due follow before is same grown =
-    subst (λ (v : ViewState). AreDue true false v left journal []) (sym same) (subst (λ (ps : List Publication). AreDue true false x ps journal []) (sym grown) (by is_new due))
+pub due_then : (is_new : Bool) (x y : ViewState) (queued left : List Publication) (journal : List Entry) (changes : Changes) (p : Publication) → AreDue (owed_by is_new changes) x queued journal → AllFollow x (queued ++ p ∷ []) → p.before.entries ≡ x.journal
+    → journal ≡ p.before.entries ++ entry_with_reply p.entry None ∷ [] → y ≡ x → left ≡ queued ++ p ∷ [] → AreDue pending.Again y left journal
+due_then is_new x y queued left journal changes p due follow before is same grown =
+    subst (λ (v : ViewState). AreDue pending.Again v left journal) (sym same) (subst (λ (ps : List Publication). AreDue pending.Again x ps journal) (sym grown) (by is_new due))
   where
-    by : (b : Bool) → AreDue true b x pending journal changes → AreDue true false x (pending ++ p ∷ []) journal []
+    by : (b : Bool) → AreDue (owed_by b changes) x queued journal → AreDue pending.Again x (queued ++ p ∷ []) journal
     by true d = (
       p,
       [],
@@ -237,10 +240,12 @@ both_some P Q R (Some x) f h k = f x h k
 both_some P Q R None f h k = h
 
 -- what is due once a step is taken
-pub due_taken : (is_new : Bool) (x : ViewState) (pending : List Publication) (o : Origin) (seen journal more : List Entry) (e : Entry) (before changes : Changes) → Shows x o seen → AreDue false is_new x pending journal before → journal ≡ seen
+pub due_taken : (d : Pending) (x : ViewState) (queued : List Publication) (o : Origin) (seen journal more : List Entry) (e : Entry) (changes : Changes) → Shows x o seen → is_owed d ≡ false → AreDue d x queued journal → journal ≡ seen
     → AreNews o.table (journal ++ e ∷ []) → more ≡ journal ++ e ∷ []
-    → Under (known_in o more) (λ valid. AreChanges (coins_after o valid journal) (coins_after o valid more) changes) → AreDue true true x pending more changes
-due_taken is_new x pending o seen journal more e before changes shows none same news grown h = (
+    → Under (known_in o more) (λ valid. AreChanges (coins_after o valid journal) (coins_after o valid more) changes) → AreDue (pending.New changes) x queued more
+due_taken (pending.New was) x queued o seen journal more e changes shows shut none same news grown h = absurd (cc shut)
+due_taken pending.Again x queued o seen journal more e changes shows shut none same news grown h = absurd (cc shut)
+due_taken pending.None x queued o seen journal more e changes shows shut none same news grown h = (
   none,
   λ valid agrees.
       let wide : Agrees (known_in o more) valid = subst (λ (k : Origin). Agrees (known_in k more) valid) shows.origin_is agrees in
@@ -251,3 +256,21 @@ due_taken is_new x pending o seen journal more e before changes shows none same 
       let after : coins_after o valid more ≡ coins_after x.origin valid more = ap (λ (k : Origin). coins_after k valid more) (sym shows.origin_is) in
       subst (λ m. AreChanges m (coins_after x.origin valid more) changes) here (subst (λ m. AreChanges (coins_after o valid journal) m changes) after (h valid wide)),
 )
+
+-- what is owed comes back as it was
+pub owed_again : (d : Pending) → is_owed d ≡ true → owed_by (is_new d) (changes_of d) ≡ d
+owed_again pending.None owed = absurd (cc owed)
+owed_again (pending.New changes) owed = refl
+owed_again pending.Again owed = refl
+
+-- where none is owed nothing waits, whatever the journal is
+pub due_shut : (d : Pending) (x : ViewState) (queued : List Publication) (journal other : List Entry) → is_owed d ≡ false → AreDue d x queued journal → AreDue d x queued other
+due_shut pending.None x queued journal other shut due = due
+due_shut (pending.New changes) x queued journal other shut due = absurd (cc shut)
+due_shut pending.Again x queued journal other shut due = absurd (cc shut)
+
+-- what is so of the last entry with a reply, by whatever it is the last
+pub last_with : (P : List Entry → Type 0) (xs before : List Entry) (d e : Entry) (r : Option Reply) → before ++ e ∷ [] ≡ xs ++ d ∷ [] → P (xs ++ entry_with_reply d r ∷ []) → P (before ++ entry_with_reply e r ∷ [])
+last_with P xs before d e r same here =
+    let t = same_last before xs e d same in
+    subst P (λ i. sym t.0 i ++ entry_with_reply (sym t.1 i) r ∷ []) here

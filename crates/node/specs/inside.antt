@@ -4,9 +4,9 @@ pub mod EarlyScripts
 pub mod Following
 pub mod Keeping
 pub mod Knowledge
+pub mod LastPlaces
 pub mod Learnt
 pub mod PublishedState
 pub mod Refused
 pub mod Seats
-pub mod SeenStep
 pub mod Writing

@@ -14,7 +14,6 @@ mod published_history;
 mod reader_home;
 mod reading;
 mod seat;
-mod view_reads;
 mod writing;
 
 pub use answer::{Learning, Stamped, UnspentOutput};

@@ -87,7 +87,7 @@ impl<'g, J: Naming> NodeOf<&'g (dyn Gate + Sync), J> {
         ensures closed { IfErr result (λ fault. IsLegal J.origin fault.history.items) }
         ensures same { seats.new ≡ seats.old }
     {
-        match self.fitting_history(seats) {
+        match self.fitting_history(&*seats) {
             Ok(history) => Ok(history.into_journal()),
             Err(history) => Err(EndFault {
                 history: history.into_journal(),
@@ -103,7 +103,7 @@ impl<'g, J: Naming> NodeOf<&'g (dyn Gate + Sync), J> {
         ensures closed { IfErr result (λ fault. IsLegal J.origin fault.history.items) }
         ensures same { seats.new ≡ seats.old }
     {
-        match self.fitting_history(seats) {
+        match self.fitting_history(&*seats) {
             Ok(history) => Ok(history.close(rt)),
             Err(history) => Err(EndFault {
                 history: history.close(rt),
@@ -114,17 +114,17 @@ impl<'g, J: Naming> NodeOf<&'g (dyn Gate + Sync), J> {
     /// The history, and whether each of these seats fits it.
     fn fitting_history(
         self,
-        seats: &mut [Seat<'_, J>],
+        seats: &[Seat<'_, J>],
     ) -> Result<PublishedHistory<J>, PublishedHistory<J>>
         ensures legal { IfOk result (λ history. IsLegal J.origin history.journal) }
-        ensures each { (k : ℕ) (p : Pass) → slice_get seats.old k ≡ Some p →
+        ensures each { (k : ℕ) (p : Pass) → slice_get seats.now k ≡ Some p →
             IfOk result (λ history. IsStanding history.journal p) }
         ensures closed { IfErr result (λ history. IsLegal J.origin history.journal) }
-        ensures same { seats.new ≡ seats.old }
     {
         let NodeOf { history, .. } = self;
         let history = history.into_inner();
-        if !all_fit(seats, history.journal()) {
+        let _legal = history.note();
+        if !all_stand(seats, &history) {
             return Err(history);
         }
         Ok(history)
@@ -188,15 +188,13 @@ fn seat_list<'t, J: Naming>(
     Ok(list)
 }
 
-/// Whether each of these seats fits a whole history.
-fn all_fit<J: Naming>(seats: &mut [Seat<'_, J>], journal: &[Entry]) -> bool
-    ensures same { seats.new ≡ seats.old }
-    ensures standing { (result ≡ true) → (k : ℕ) (p : Pass) →
-        slice_get seats.old k ≡ Some p → IsStanding journal.now p }
+/// Whether each of these seats stands in a history.
+fn all_stand<J: Naming>(seats: &[Seat<'_, J>], history: &PublishedHistory<J>) -> bool
+    ensures { (result ≡ true) → (k : ℕ) (p : Pass) →
+        slice_get seats.now k ≡ Some p → IsStanding history.now.journal p }
 {
     for k in 0..seats.len() {
-        let seat = &mut seats[k];
-        if !seat.fits(journal) {
+        if !seats[k].stands_in(history) {
             return false;
         }
     }

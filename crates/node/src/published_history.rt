@@ -1,38 +1,44 @@
 //! The history of a node of many seats, as it lies under the lock: the journal, the chainstate after it, and the
 //! writer that publishes both. The coins lie in what is published alone.
 
-ghost use Rattle.std.specs.Prelude.{◌≡◌, ◌≤◌, ◌∷◌, ◌++◌, [], true, false, All, IfOk, IfErr, IfSome, OnErr, List, Some, drop, length};
+ghost use Rattle.std.specs.Prelude.{◌≡◌, ◌≤◌, ◌∷◌, ◌++◌, [], true, false, All, Decides, IfOk, IfErr, IfSome, OnErr, List, Some, drop, length, map};
 ghost use mathlib.Core.List.{IsPrefix};
 ghost use Rattle.std.specs.Arc.{arc_value};
 ghost use Rattle.chain.specs.declared.entry.Entry.{Entry as EntryValue};
 ghost use Rattle.queue.specs.Jobs.{IsEarly};
+ghost use Rattle.chain.specs.History.{own_of};
 ghost use Rattle.chain.specs.Prepared.{command_of};
 ghost use Rattle.view.specs.Beginning.{count_of};
 ghost use Rattle.view.specs.Origin.{known_in};
 ghost use Rattle.view.specs.ViewState.{IsLegal};
-ghost use Rattle.node.specs.inside.Keeping.{is_step};
-ghost use Rattle.node.specs.inside.PublishedState.{IsLockedAt, IsReady, IsStepAnswer, IsTaken, Shows, opening_state, entry_with_reply};
+ghost use Rattle.node.specs.Pass.{owed_entry};
+ghost use Rattle.node.specs.inside.LastPlaces.{AreLastPlaces};
+ghost use Rattle.node.specs.inside.PublishedState.{IsLockedAt, IsReady, IsStepAnswer, Shows, opening_state, entry_with_reply};
 ghost use Rattle.node.specs.inside.Refused.{IsWantAfter};
 
 mod attempt;
 mod bringing;
 mod core_info;
 mod knowledge;
+mod last_places;
 mod locked_chain;
 mod opening;
+mod pending;
 mod refusal;
 mod writer_home;
 
+use crate::entries::own_are;
 use crate::naming::SeatToken;
 use crate::published_history::attempt::{Attempt, attempt_to_publish};
 use crate::published_history::bringing::{Brought, what_is_brought};
+use crate::published_history::last_places::LastPlaces;
 pub(crate) use crate::published_history::locked_chain::Crews;
 use crate::published_history::locked_chain::LockedChain;
 pub(crate) use crate::published_history::opening::{Opened, open_history};
+use crate::published_history::pending::Pending;
 pub(crate) use crate::published_history::refusal::Refusal;
 use crate::published_history::writer_home::WriterHome;
-use chain::{Entry, PreparedCommand, Reply, SubmitReply};
-use coins::Changes;
+use chain::{Command, Entry, PreparedCommand, Reply};
 use curve::{KeptTriple, KnownSignatures, Table};
 use queue::{Crew, Gate};
 use std::alloc::Global;
@@ -50,10 +56,8 @@ pub(crate) struct PublishedHistory<J: Naming> {
     hub: Arc<Hub>,
     /// The whole history: a step that is owed is its last entry, without its reply.
     journal: Vec<Entry>,
-    owed: bool,
-    /// The owed step is in no pending publication, and then these are its changes.
-    is_new: bool,
-    changes: Changes,
+    last: LastPlaces,
+    pending: Pending,
     /// None once what is published has no note: nothing more is published then.
     home: Option<WriterHome<J>>,
     of: PhantomData<J>,
@@ -67,32 +71,26 @@ impl<J: Naming> Model for PublishedHistory<J> {
     ghost use Rattle.std.specs.Arc.{arc_value};
     ghost use Rattle.view.specs.Beginning.{count_of};
     ghost use Rattle.node.specs.inside.Knowledge.{IsKnowledge};
-    ghost use Rattle.node.specs.inside.PublishedState.{PublishedState, IsCoreOf, IsJournal, Shows, AreDue};
+    ghost use Rattle.node.specs.inside.LastPlaces.{AreLastPlaces};
+    ghost use Rattle.node.specs.inside.PublishedState.{PublishedState, IsCoreOf, IsJournal, Shows, AreDue, is_owed};
 
     ghost Value = { PublishedState };
 
     ghost coded = { Prim.hlevel (codes, set.code {R = triple_cmp} coded_triple) };
 
-    ghost view = { λ s. record { origin = J.origin; journal = s.journal.items; owed = s.owed } };
+    ghost view = { λ s. record { origin = J.origin; journal = s.journal.items; owed = is_owed s.pending } };
 
     ghost invariant = { λ s. let o = J.origin in
         IsCoreOf o s.chain.core s.journal.items
         × ((arc_value s.hub).counter ≡ count_of o.book)
-        × IsJournal s.owed s.chain.note.entries s.journal.items
+        × IsJournal (is_owed s.pending) s.chain.note.entries s.journal.items
         × (s.chain.reader ≡ true)
         × IfSome s.home (λ h. let x = h.writer.desk.shown.value in
-        let pending = drop h.writer.behind h.writer.log.items in
-        Shows x o s.chain.note.entries
-        × AreDue s.owed s.is_new x pending s.journal.items s.changes)
+        let queued = drop h.writer.behind h.writer.log.items in
+        Shows x o s.chain.note.entries × AreDue s.pending x queued s.journal.items)
         × (s.chain.note.book ≡ o.book)
-        × IsKnowledge o s.chain.known s.journal.items };
-}
-
-/// Whether it is the reply to what takes a step.
-fn is_step(reply: &Reply) -> bool
-    ensures { result ≡ is_step reply.now }
-{
-    !matches!(reply, Reply::Submit(SubmitReply::DecodeFailed))
+        × IsKnowledge o s.chain.known s.journal.items
+        × AreLastPlaces o.seats s.last s.journal.items };
 }
 
 /// Puts a reply in place of the last entry's.
@@ -116,13 +114,15 @@ impl<J: Naming> PublishedHistory<J> {
         chain: LockedChain<J>,
         hub: Arc<Hub>,
         home: WriterHome<J>,
+        last: LastPlaces,
     ) -> PublishedHistory<J>
         requires chain { IsLockedAt J.origin chain.core chain.known chain.note }
         requires reader { chain.reader ≡ true }
         requires hub { (arc_value hub).counter ≡ count_of J.origin.book }
         requires empty { chain.note.entries ≡ [] }
         requires shown { Shows home.writer.desk.shown.value J.origin [] }
-        requires pending { drop home.writer.behind home.writer.log.items ≡ [] }
+        requires queued { drop home.writer.behind home.writer.log.items ≡ [] }
+        requires last { AreLastPlaces J.origin.seats last [] }
         ensures { result ≡ opening_state J.origin }
     {
         PublishedHistory {
@@ -130,19 +130,11 @@ impl<J: Naming> PublishedHistory<J> {
             chain,
             hub,
             journal: Vec::new(alloc),
-            owed: false,
-            is_new: false,
-            changes: Changes::new(alloc),
+            last,
+            pending: Pending::None,
             home: Some(home),
             of: PhantomData,
         }
-    }
-
-    /// How many entries there are.
-    pub(crate) fn len(&self) -> u64
-        ensures { result ≡ length self.now.journal }
-    {
-        self.journal.len() as u64
     }
 
     /// The entries, given away. What is published is kept for ever.
@@ -164,12 +156,19 @@ impl<J: Naming> PublishedHistory<J> {
         journal
     }
 
-    /// The entries.
-    pub(crate) fn journal(&self) -> &[Entry]
-        ensures journal { result.now ≡ self.now.journal }
-        ensures legal { IsLegal J.origin self.now.journal }
+    /// Whether a seat's entries behind a place are owed, and of these commands. Those of others behind its last one aren't
+    /// looked at.
+    pub(crate) fn has_owed(&self, token: &SeatToken<J>, place: u64, owed: &[Command]) -> bool
+        requires within { place ≤ length self.now.journal }
+        ensures { Decides result
+            (own_of token.now (drop place self.now.journal) ≡ map (owed_entry token.now) owed.now) }
     {
-        self.journal.as_slice()
+        let (from, number) = (place as usize, token.number());
+        let to = self.last.of(number);
+        if to <= from {
+            return owed.is_empty();
+        }
+        own_are(&self.journal[from..to], number, owed)
     }
 
     /// The history that is published.
@@ -190,7 +189,7 @@ impl<J: Naming> PublishedHistory<J> {
         ensures known { IfSome result (λ note.
             known_in J.origin note.entries triple.now ≡ Some valid) }
     {
-        if self.owed || self.find(triple) != Some(valid) {
+        if self.pending.is_owed() || self.find(triple) != Some(valid) {
             return None;
         }
         Some(self.note())
@@ -201,46 +200,6 @@ impl<J: Naming> PublishedHistory<J> {
         ensures { result ≡ known_in J.origin self.now.journal triple.now }
     {
         self.chain.known.find(triple)
-    }
-
-    /// Takes a step, which is owed then. Bytes that are no block take none.
-    fn take_step<A: Crew<Table>, B: Crew<KnownSignatures>>(
-        &mut self,
-        token: &SeatToken<J>,
-        command: &PreparedCommand,
-        crews: &Crews<'_, A, B>,
-        gate: &(dyn Gate + Sync),
-    ) -> Result<Reply, Refusal>
-        requires ready { IsReady J.origin self.old (command_of command.now) }
-        requires crews { A.is_ready crews.now.by_table.now × B.is_ready crews.now.by_need.now
-            × (1 ≤ crews.now.workers) × (crews.now.workers ≤ 16) }
-        requires early { let known = known_in J.origin self.old.journal in
-            All (IsEarly known) crews.now.early.now }
-        ensures takes { let c = command_of command.now in
-            IfOk result (λ reply. IsTaken self.old self.new token.now c reply) }
-        ensures err { OnErr result (self.new ≡ self.old) }
-        ensures wants { let c = command_of command.now in
-            IfErr result (IsWantAfter J.origin self.old.journal c) }
-    {
-        if reserve_one(&mut self.journal).is_err() {
-            return Err(Refusal::Memory);
-        }
-        let Ok(asked) = command.command() else {
-            return Err(Refusal::Memory);
-        };
-        let (reply, changes) = self.chain.step(self.alloc, command, crews, gate)?;
-        if !is_step(&reply) {
-            return Ok(reply);
-        }
-        self.journal.push_reserved(Entry {
-            seat: token.number(),
-            command: asked,
-            reply: None,
-        });
-        self.owed = true;
-        self.is_new = true;
-        self.changes = changes;
-        Ok(reply)
     }
 
     /// Publishes the step that is owed, with this reply.
@@ -255,13 +214,13 @@ impl<J: Naming> PublishedHistory<J> {
             self.new ≡ record self.old { journal = journal; owed = false } }
         ensures same { (result ≡ false) → self.new ≡ self.old }
     {
-        let entries = self.journal.as_slice();
+        let (entries, is_new) = (self.journal.as_slice(), self.pending.is_new());
         let Some(brought) = what_is_brought(
             self.alloc,
             &self.chain.core,
             &self.hub,
             entries,
-            self.is_new,
+            is_new,
             reply,
         ) else {
             return false;
@@ -275,8 +234,8 @@ impl<J: Naming> PublishedHistory<J> {
             hub,
             before: self.chain.note.copy(),
             entry,
-            is_new: self.is_new,
-            changes: replace(&mut self.changes, Changes::new(self.alloc)),
+            is_new,
+            changes: replace(&mut self.pending, Pending::Again).into_changes(self.alloc),
             info,
             attempt: self
                 .hub
@@ -287,16 +246,12 @@ impl<J: Naming> PublishedHistory<J> {
         let Attempt {
             home: left,
             note: seen,
-            owed: still,
-            is_new: new,
-            changes: rest,
-        } = attempt_to_publish(rt, self.alloc, writer, publication);
+            pending: still,
+        } = attempt_to_publish(rt, writer, publication);
         self.home = left;
         self.chain.note = seen;
-        self.owed = still;
-        self.is_new = new;
-        self.changes = rest;
-        if still {
+        self.pending = still;
+        if self.pending.is_owed() {
             return false;
         }
         put_reply(&mut self.journal, reply);
@@ -308,35 +263,49 @@ impl<J: Naming> PublishedHistory<J> {
         ensures shown { (result ≡ true) → self.new ≡ record self.old { owed = false } }
         ensures same { (result ≡ false) → self.new ≡ self.old }
     {
-        if self.owed {
+        if self.pending.is_owed() {
             return self.publish_owed(rt, None);
         }
         true
     }
 
-    /// Takes a step over the coins that are published, and publishes it. Without an answer it is owed. Bytes that are
-    /// no block take none.
+    /// Takes the step of a command over the coins that are published, enters it under the seat's number, and publishes it
+    /// with its reply. Without an answer it is owed.
     pub(crate) fn step<R: Wait, A: Crew<Table>, B: Crew<KnownSignatures>>(
         &mut self,
         rt: &R,
         token: &SeatToken<J>,
         command: &PreparedCommand,
+        asked: &Command,
         crews: &Crews<'_, A, B>,
         gate: &(dyn Gate + Sync),
     ) -> Result<Option<Reply>, Refusal>
-        requires ready { IsReady J.origin self.old (command_of command.now) }
+        requires ready { IsReady J.origin self.old asked.now }
+        requires asked { asked.now ≡ command_of command.now }
         requires crews { A.is_ready crews.now.by_table.now × B.is_ready crews.now.by_need.now
             × (1 ≤ crews.now.workers) × (crews.now.workers ≤ 16) }
         requires early { let known = known_in J.origin self.old.journal in
             All (IsEarly known) crews.now.early.now }
-        ensures step { let c = command_of command.now in
-            IfOk result (λ answer. IsStepAnswer self.old self.new token.now c answer) }
+        ensures step { IfOk result (IsStepAnswer self.old self.new token.now asked.now) }
         ensures err { OnErr result (self.new ≡ self.old) }
-        ensures wants { let c = command_of command.now in
-            IfErr result (IsWantAfter J.origin self.old.journal c) }
+        ensures wants { IfErr result (IsWantAfter J.origin self.old.journal asked.now) }
     {
-        let reply = self.take_step(token, command, crews, gate)?;
-        if !is_step(&reply) || self.publish_owed(rt, Some(reply)) {
+        if reserve_one(&mut self.journal).is_err() {
+            return Err(Refusal::Memory);
+        }
+        let Ok(entered) = asked.copy() else {
+            return Err(Refusal::Memory);
+        };
+        let (reply, changes) = self.chain.step(self.alloc, command, crews, gate)?;
+        let seat = token.number();
+        self.last.set(seat, self.journal.len() + 1);
+        self.journal.push_reserved(Entry {
+            seat,
+            command: entered,
+            reply: None,
+        });
+        self.pending = Pending::New(changes);
+        if self.publish_owed(rt, Some(reply)) {
             return Ok(Some(reply));
         }
         Ok(None)

@@ -1,6 +1,6 @@
 //! Where a reader is between calls.
 
-ghost use Rattle.std.specs.Prelude.{◌≡◌, true, false, IfSome, MatchOption};
+ghost use Rattle.std.specs.Prelude.{◌≡◌, true, false, Decides, IfSome, MatchOption};
 ghost use Rattle.view.specs.ViewState.{IsExact, IsLegal};
 ghost use Rattle.node.specs.inside.Seats.{IsFound};
 
@@ -47,6 +47,25 @@ impl<J: Naming> ReaderHome<J> {
         }
     }
 
+    /// Enters it, if it is just this history.
+    pub(crate) fn enter_at(&mut self, note: &Note) -> Option<ViewReading<J>>
+        requires { note.now.book ≡ J.origin.book }
+        ensures home { MatchOption result
+            (self.new ≡ self.old) (λ _. (self.old ≡ true) × (self.new ≡ false)) }
+        ensures exact { IfSome result (λ r. IsExact r.part.value) }
+        ensures origin { IfSome result (λ r. r.part.value.origin ≡ J.origin) }
+        ensures whole { IfSome result (λ r. note.now.entries ≡ r.part.value.journal) }
+    {
+        let reading = self.enter()?;
+        match reading.get().note() {
+            Some(found) if is_whole(note, &found) => Some(reading),
+            _ => {
+                self.leave(reading);
+                None
+            }
+        }
+    }
+
     /// Enters it, if it goes on from what was seen: the view, and a note of all of it.
     pub(crate) fn enter_from(&mut self, seen: &Note) -> Option<(ViewReading<J>, Note)>
         requires { seen.now.book ≡ J.origin.book }
@@ -72,4 +91,13 @@ impl<J: Naming> ReaderHome<J> {
     {
         self.reader = Some(reading.leave());
     }
+}
+
+/// Whether another beginning of the same history is just as long. Then it is the same, as one of them begins the other.
+fn is_whole(note: &Note, found: &Note) -> bool
+    requires { found.now.book ≡ note.now.book }
+    ensures { Decides result (found.now.entries ≡ note.now.entries) }
+{
+    let _either = note.begins(found);
+    note.len() == found.len()
 }

@@ -4,12 +4,12 @@ ghost use Rattle.std.specs.Prelude.{◌≡◌, [], true, length};
 ghost use mathlib.Core.List.{IsPrefix};
 ghost use Rattle.view.specs.ViewState.{IsLegal};
 
-use crate::entries::{begins, own_are};
 use crate::learnt::Learnt;
 use crate::naming::SeatToken;
 use crate::note::Note;
+use crate::published_history::PublishedHistory;
 use crate::reader_home::ReaderHome;
-use chain::{Command, Entry};
+use chain::Command;
 use curve::{KeptTriple, Table};
 use rules::Params;
 use std::alloc::Global;
@@ -162,21 +162,13 @@ impl<'t, J: Naming> Seat<'t, J> {
         self.seen.len()
     }
 
-    /// Whether it fits a whole history: that goes on from what the seat has seen and would see, and the seat's entries
-    /// in it are its own.
-    pub(crate) fn fits(&mut self, journal: &[Entry]) -> bool
-        ensures same { self.new ≡ self.old }
-        ensures standing { (result ≡ true) → IsStanding journal.now self.old }
+    /// Whether a history goes on from what the seat has seen, and the seat's entries in it are its own.
+    pub(crate) fn stands_in(&self, history: &PublishedHistory<J>) -> bool
+        ensures { (result ≡ true) → IsStanding history.now.journal self.now }
     {
-        let Some((reading, _found)) = self.reader.enter_from(&self.seen) else {
-            return false;
-        };
-        let is_beginning = begins(reading.get().journal(), journal);
-        self.reader.leave(reading);
-        let from = self.answered as usize;
-        if !is_beginning || from > journal.len() {
+        if !self.seen.begins(&history.note()) {
             return false;
         }
-        own_are(&journal[from..], self.token.number(), self.owed.as_slice())
+        history.has_owed(&self.token, self.answered, self.owed.as_slice())
     }
 }

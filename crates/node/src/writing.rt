@@ -1,6 +1,6 @@
 //! A seat's writing calls. Each takes its step under the lock, and sees it published.
 
-ghost use Rattle.std.specs.Prelude.{◌≡◌, ◌<◌, ℕ, true, false, length, IfOk, IfErr, IfSome, OnOk, OnErr};
+ghost use Rattle.std.specs.Prelude.{◌≡◌, ◌<◌, ℕ, true, false, length, All, IfOk, IfErr, IfSome, OnOk, OnErr};
 ghost use Rattle.std.specs.Prelude.{vec_capacity, vec_len};
 ghost use Rattle.curve.specs.Known.{Known};
 ghost use Rattle.queue.specs.Jobs.{IsEarly};
@@ -11,31 +11,35 @@ ghost use Rattle.chain.specs.declared.command.Command.TheVariants as command;
 ghost use Rattle.view.specs.Origin.{known_in};
 ghost use Rattle.chain.specs.declared.reply.Reply.TheVariants as reply;
 ghost use Rattle.node.specs.inside.Keeping.{IsUndecodable};
-ghost use Rattle.node.specs.inside.PublishedState.{IsReady, IsStepAnswer};
-ghost use Rattle.node.specs.inside.Refused.{IsWantAfter};
-ghost use Rattle.node.specs.inside.SeenStep.{IsStepSeen};
 ghost use Rattle.node.specs.declared.fault.Fault.TheVariants as faults;
 
 use crate::answer::{Learning, Stamped};
 use crate::fault::Fault;
 use crate::learnt::{Learnt, still_early};
-use crate::naming::SeatToken;
 use crate::node::Node;
 use crate::published_history::{Crews, PublishedHistory, Refusal};
-use crate::reader_home::ReaderHome;
 use crate::seat::Seat;
-use crate::view_reads::{look_after, look_before};
 use chain::{
     Bytes, Command, MarkReply, PreparedCommand, Reply, SharedTriple, Submission, SubmitReply,
 };
 use curve::KeptTriple;
 use hash::Id;
 use queue::{Threaded, Verdicts};
+use std::alloc::Global;
 use std::mem::replace;
+use std::slice::from_ref;
 use std::sync::Wait;
 use std::thread::Threads;
-use view::{Naming, Note};
+use view::Naming;
 use wire::Memory;
+
+/// The command that submits these bytes.
+fn submitting(alloc: Global, bytes: Bytes, now: u64) -> Result<PreparedCommand, Memory>
+    ensures { IfOk result (λ asked. command_of asked ≡ command.Submit bytes now) }
+{
+    let submission = Submission::read(alloc, bytes)?;
+    Ok(PreparedCommand::Submit(submission, now))
+}
 
 /// Whether it is a submission of bytes that are no block.
 fn is_undecodable(command: &PreparedCommand) -> bool
@@ -48,46 +52,14 @@ fn is_undecodable(command: &PreparedCommand) -> bool
     }
 }
 
-/// Takes a step under the lock, by a seat's token. The verdicts are of scripts that were run before the lock.
-fn step_under_lock<J: Naming, R: Threads + Wait + Sync>(
-    rt: &R,
-    node: &Node<'_, J>,
-    history: &mut PublishedHistory<J>,
-    token: &SeatToken<J>,
-    command: &PreparedCommand,
-    early: Option<Verdicts<'_>>,
-) -> Result<Option<Reply>, Refusal>
-    requires ready { IsReady J.origin history.old (command_of command.now) }
-    requires early { let known = known_in J.origin history.old.journal in
-        IfSome early (IsEarly known) }
-    ensures step { let c = command_of command.now in
-        IfOk result (λ answer. IsStepAnswer history.old history.new token.now c answer) }
-    ensures err { OnErr result (history.new ≡ history.old) }
-    ensures wants { let c = command_of command.now in
-        IfErr result (IsWantAfter J.origin history.old.journal c) }
+/// The verdicts as a list.
+fn listed<'a>(early: &'a Option<Verdicts<'a>>) -> &'a [Verdicts<'a>]
+    ensures { (known : Known) → IfSome early.now (IsEarly known)
+        → All (IsEarly known) result.now }
 {
-    let (by_table, by_need) = (&Threaded { rt }, &Threaded { rt });
-    let (workers, gate) = (node.workers, node.gate);
     match early {
-        Some(verdicts) => {
-            let early = &[verdicts];
-            let crews = Crews {
-                workers,
-                early,
-                by_table,
-                by_need,
-            };
-            history.step(rt, token, command, &crews, gate)
-        }
-        None => {
-            let crews = Crews {
-                workers,
-                early: &[],
-                by_table,
-                by_need,
-            };
-            history.step(rt, token, command, &crews, gate)
-        }
+        Some(verdicts) => from_ref(verdicts),
+        None => &[],
     }
 }
 
@@ -113,59 +85,6 @@ fn ready_command<J: Naming, R: Wait>(
         return Err(Memory);
     }
     Ok(asked)
-}
-
-/// A write before its step.
-#[derive(Drop)]
-struct Write<'a> {
-    /// What its seat found before.
-    before: Option<Note>,
-    command: &'a PreparedCommand,
-    /// The same command, as it is entered.
-    asked: &'a Command,
-    /// Verdicts of scripts that were run before the lock.
-    early: Option<Verdicts<'a>>,
-}
-
-/// Takes the step of a seat's command, if the seat found what it has to before, and looks at it: what the seat then sees,
-/// and the reply. None where it is owed. It owns what it was given at its own early returns, and the caller nothing of it.
-fn step_and_look<J: Naming, R: Threads + Wait + Sync>(
-    rt: &R,
-    node: &Node<'_, J>,
-    history: &mut PublishedHistory<J>,
-    token: &SeatToken<J>,
-    home: &mut ReaderHome<J>,
-    write: Write<'_>,
-) -> Result<Option<(Note, Reply)>, Refusal>
-    requires ready { IsReady J.origin history.old (command_of write.command.now) }
-    requires book { IfSome write.before (λ b. b.book ≡ J.origin.book) }
-    requires asked { write.asked.now ≡ command_of write.command.now }
-    requires decodable { IsUndecodable (command_of write.command.now) → ⊥ }
-    requires early { let known = known_in J.origin history.old.journal in
-        IfSome write.early (IsEarly known) }
-    ensures home { home.new ≡ home.old }
-    ensures seen { let c = command_of write.entry.command.now in let before = write.entry.before in
-        IfOk result (IsStepSeen J.origin before history.old history.new token.now c) }
-    ensures refused { let c = command_of write.entry.command.now in
-        let before = history.old in
-        IfErr result (λ why. (history.new ≡ before) × IsWantAfter J.origin before.journal c why) }
-{
-    let Write {
-        before,
-        command,
-        asked,
-        early,
-    } = write;
-    let Some(before) = before else {
-        return Err(Refusal::Closed);
-    };
-    let Some(reply) = step_under_lock(rt, node, history, token, command, early)? else {
-        return Ok(None);
-    };
-    let Some(seen) = look_after(home, &before, token.number(), asked, reply) else {
-        return Ok(None);
-    };
-    Ok(Some((seen, reply)))
 }
 
 impl<'t, J: Naming> Seat<'t, J> {
@@ -194,7 +113,12 @@ impl<'t, J: Naming> Seat<'t, J> {
             IfErr result (IsWriteFault self.old self.new asked) }
     {
         let (_, alloc) = (&self.params, node.alloc);
-        self.submit_bytes(rt, node, Bytes::from_slice(alloc, bytes)?, now)
+        let command = submitting(alloc, Bytes::from_slice(alloc, bytes)?, now)?;
+        let Stamped { at, value } = self.write(rt, node, &command)?;
+        match value {
+            Reply::Submit(value) => Ok(Stamped { at, value }),
+            Reply::Mark(_) => unreachable!(),
+        }
     }
 
     /// The same for shared bytes: the history keeps them, and no copy is made.
@@ -215,8 +139,7 @@ impl<'t, J: Naming> Seat<'t, J> {
             IfErr result (IsWriteFault self.old self.new asked) }
     {
         let (_, alloc) = (&self.params, node.alloc);
-        let submission = Submission::read(alloc, bytes)?;
-        let command = PreparedCommand::Submit(submission, now);
+        let command = submitting(alloc, bytes, now)?;
         let Stamped { at, value } = self.write(rt, node, &command)?;
         match value {
             Reply::Submit(value) => Ok(Stamped { at, value }),
@@ -462,7 +385,8 @@ impl<'t, J: Naming> Seat<'t, J> {
         }
     }
 
-    /// Takes the step of a command. What the seat told of signatures is for one step, and kept where none is taken.
+    /// Runs a submission's scripts, takes the lock, and there the step of a command. What the seat told of signatures is for
+    /// one step, and kept where none is taken.
     #[tactic(auto, using(crate::proofs::Owning::own_begins))]
     fn write<R: Threads + Wait + Sync>(
         &mut self,
@@ -478,37 +402,23 @@ impl<'t, J: Naming> Seat<'t, J> {
         ensures fault { let c = command_of command.now in
             IfErr result (λ fault. IsWriteFault self.old self.new c fault) }
     {
+        let table = self.table;
         let none = Learnt::new(node.alloc, self.seen.copy());
         let learnt = replace(&mut self.learnt, none);
-        let answer = self.write_with(rt, node, command, &learnt);
+        let early = self.early_verdicts(rt, node, command, table, &learnt);
+        let answer = match early {
+            Ok(early) => {
+                let mut history = node.history.lock(rt);
+                let early = still_early(&history, early);
+                self.write_under_lock(rt, node, &mut history, command, early)
+            }
+            Err(fault) => Err(fault.into()),
+        };
         self.learnt = learnt.unless(node.alloc, answer.is_ok());
         answer
     }
 
-    /// Runs a submission's scripts, takes the lock, and there the step of a command.
-    fn write_with<R: Threads + Wait + Sync>(
-        &mut self,
-        rt: &R,
-        node: &Node<'_, J>,
-        command: &PreparedCommand,
-        learnt: &Learnt<J>,
-    ) -> Result<Stamped<Reply>, Fault>
-        requires ordinary { (known : Known) → IsNews known (command_of command.now) }
-        ensures later { IsLater self.old self.new }
-        ensures answer { let IsAnswer = IsWriteAnswer self.old self.new (command_of command.now) in
-            IfOk result (λ r. IsAnswer r.at r.value) }
-        ensures own { IsOwn self.new }
-        ensures fault { let c = command_of command.now in
-            IfErr result (λ fault. IsWriteFault self.old self.new c fault) }
-    {
-        let table = self.table;
-        let early = self.early_verdicts(rt, node, command, table, learnt)?;
-        let mut history = node.history.lock(rt);
-        let early = still_early(&history, early);
-        self.write_under_lock(rt, node, &mut history, command, early)
-    }
-
-    /// Takes the step of a command, and sees it. A step that is owed is published first.
+    /// Takes the step of a command, and sees it: nobody publishes meanwhile. A step that is owed is published first.
     #[tactic(auto, using(crate::proofs::Owning::own_begins))]
     fn write_under_lock<R: Threads + Wait + Sync>(
         &mut self,
@@ -538,20 +448,19 @@ impl<'t, J: Naming> Seat<'t, J> {
                 value,
             });
         }
-        let (len, number) = (history.len(), self.token.number());
-        let (seen, place, owed) = (&self.seen, self.answered, self.owed.as_slice());
-        let before = look_before(&mut self.reader, seen, len, number, place, owed);
-        let write = Write {
-            before,
-            command,
-            asked: &asked,
-            early,
+        if !self.stands_in(history) {
+            return Err(Fault::Closed);
+        }
+        let crews = Crews {
+            workers: node.workers,
+            early: listed(&early),
+            by_table: &Threaded { rt },
+            by_need: &Threaded { rt },
         };
-        let (token, home) = (&self.token, &mut self.reader);
-        match step_and_look(rt, node, history, token, home, write) {
-            Ok(Some((seen, reply))) => {
-                let at = seen.len();
-                self.seen = seen;
+        match history.step(rt, &self.token, command, &asked, &crews, node.gate) {
+            Ok(Some(reply)) => {
+                self.seen = history.note();
+                let at = self.seen.len();
                 self.answered = at;
                 self.owed.clear();
                 Ok(Stamped { at, value: reply })

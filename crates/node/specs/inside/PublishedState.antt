@@ -1,12 +1,10 @@
 -- The history of a node of many seats, as it lies under the lock, and what is published of it.
-use Rattle.std.specs.Prelude.{◌≡◌, ◌⊎◌, ℕ, Bool, true, false, List, [], ◌∷◌, ◌++◌, Option, Some, None}
+use Rattle.std.specs.Prelude.{◌≡◌, ℕ, Bool, true, false, List, [], ◌∷◌, ◌++◌, Option, None, IfSome, is_none}
 use Rattle.curve.specs.Known.{Known, Under}
 use Rattle.curve.specs.Triple.{Triples}
 use Rattle.coins.specs.Changes.{Changes, AreChanges}
 use Rattle.chain.specs.declared.command.Command.{Command}
 use Rattle.chain.specs.declared.reply.Reply.{Reply}
-use Rattle.chain.specs.declared.reply.Reply.TheVariants as reply
-use Rattle.chain.specs.declared.reply.SubmitReply.TheVariants.{DecodeFailed}
 use Rattle.chain.specs.declared.entry.Entry.{Entry}
 use Rattle.chain.specs.Commands.{outcome}
 use Rattle.chain.specs.Learnt.{IsNews}
@@ -20,6 +18,8 @@ use Rattle.view.specs.ViewState.{ViewState, IsExact, IsLegal, coins_after}
 use Rattle.view.specs.Following.{AllFollow}
 use Rattle.view.specs.declared.publication.Publication.{Publication}
 use Rattle.node.specs.declared.published_history.knowledge.Knowledge.{Knowledge}
+use Rattle.node.specs.declared.published_history.pending.Pending.{Pending}
+use Rattle.node.specs.declared.published_history.pending.Pending.TheVariants as pending
 use Rattle.node.specs.inside.Keeping.{KeepsHistory, IsReplyTo, IsUndecodable, is_step}
 use Rattle.node.specs.inside.Knowledge.{IsKnowledge}
 
@@ -69,37 +69,55 @@ pub record Shows (x : ViewState) (o : Origin) (seen : List Entry) : Type 0 where
   pub journal_is : x.journal ≡ seen
   pub exact : IsExact x
 
--- what waits to be published: nothing where no entry is owed; else nothing yet, and this list has the coins that the
--- owed entry changes; or publications of that entry
-abbrev pub AreDue : Bool → Bool → ViewState → List Publication → List Entry → Changes → Type 0
-AreDue false is_new x pending journal changes = pending ≡ []
-AreDue true true x pending journal changes = (pending ≡ []) × Under (known_in x.origin journal) (λ valid. AreChanges x.coins (coins_after x.origin valid journal) changes)
-AreDue true false x pending journal changes =
-    (p : Publication) × (ps : List Publication) × (pending ≡ p ∷ ps) × AllFollow x (p ∷ ps)
+-- whether a step is owed, whether no publication has it yet, and the changes that none has
+abbrev pub is_owed : Pending → Bool
+is_owed pending.None = false
+is_owed (pending.New changes) = true
+is_owed pending.Again = true
+
+abbrev pub is_new : Pending → Bool
+is_new pending.None = false
+is_new (pending.New changes) = true
+is_new pending.Again = false
+
+abbrev pub changes_of : Pending → Changes
+changes_of pending.None = []
+changes_of (pending.New changes) = changes
+changes_of pending.Again = []
+
+-- what is owed where a publication of it comes back
+abbrev pub owed_by : Bool → Changes → Pending
+owed_by true changes = pending.New changes
+owed_by false changes = pending.Again
+
+-- of what readers see, what waits to be published, and the journal: nothing waits where no step is owed, or none of it yet, and
+-- these coins change; or publications of its entry wait
+abbrev pub AreDue : Pending → ViewState → List Publication → List Entry → Type 0
+AreDue pending.None x queued journal = queued ≡ []
+AreDue (pending.New changes) x queued journal =
+    (queued ≡ []) × Under (known_in x.origin journal) (λ valid. AreChanges x.coins (coins_after x.origin valid journal) changes)
+AreDue pending.Again x queued journal =
+    (p : Publication) × (ps : List Publication) × (queued ≡ p ∷ ps) × AllFollow x (p ∷ ps)
     × (journal ≡ x.journal ++ entry_with_reply p.entry None ∷ [])
 
--- one entry more, whose reply is owed
-abbrev pub with_owed : PublishedState → ℕ → Command → PublishedState
-with_owed h number c = record h { journal = h.journal ++ entry_of number c None ∷ []; owed = true }
+-- one entry more, which is owed where it has no reply
+abbrev pub with_entry : PublishedState → ℕ → Command → Option Reply → PublishedState
+with_entry h number c r = record h { journal = h.journal ++ entry_of number c r ∷ []; owed = is_none r }
 
--- the step stands last, and its reply may stand there too; without a step the bytes are no block
-abbrev pub IsTaken : PublishedState → PublishedState → ℕ → Command → Reply → Type 0
-IsTaken h k number c r =
-    ((is_step r ≡ true) × IsReplyTo c r × IsLegal h.origin (h.journal ++ entry_of number c (Some r) ∷ [])
-    × (k ≡ with_owed h number c))
-    ⊎ ((r ≡ reply.Submit DecodeFailed) × IsUndecodable c × (k ≡ h))
+-- the reply is one to the command, and a step's
+abbrev pub IsStepReply : Command → Reply → Type 0
+IsStepReply c r = (is_step r ≡ true) × IsReplyTo c r
 
--- by what is answered: an entry that is owed, one that is published with its reply, or no step
+-- the step of a command is entered, with this reply, or owed
 abbrev pub IsStepAnswer : PublishedState → PublishedState → ℕ → Command → Option Reply → Type 0
-IsStepAnswer h k number c None = k ≡ with_owed h number c
-IsStepAnswer h k number c (Some r) =
-    ((is_step r ≡ true) × IsReplyTo c r × (k ≡ record h { journal = h.journal ++ entry_of number c (Some r) ∷ [] }))
-    ⊎ ((r ≡ reply.Submit DecodeFailed) × IsUndecodable c × (k ≡ h))
+IsStepAnswer h k number c r = (k ≡ with_entry h number c r) × IfSome r (IsStepReply c)
 
--- a command may take its step: none is owed, and it tells no verdict that is known
+-- a command may take its step: none is owed, it tells no verdict that is known, and it isn't a submission of bytes that are
+-- no block
 pub record IsReady (o : Origin) (h : PublishedState) (c : Command) : Type 0 where
   pub shown : h.owed ≡ false
   pub news : IsNews (known_in o h.journal) c
+  pub decodable : ¬ IsUndecodable c
 
 -- no step was taken yet
 abbrev pub opening_state : Origin → PublishedState

@@ -1,13 +1,12 @@
 -- What a seat's writing calls answer, before the answer is told apart by the call.
-use Rattle.std.specs.Prelude.{◌≡◌, ◌⊎◌, ℕ, false, [], ◌∷◌, ◌++◌, Option}
+use Rattle.std.specs.Prelude.{◌≡◌, ◌⊎◌, ℕ, false, [], ◌∷◌, ◌++◌}
 use Rattle.chain.specs.declared.command.Command.{Command}
 use Rattle.chain.specs.declared.command.Command.TheVariants as command
 use Rattle.chain.specs.declared.reply.Reply.{Reply}
 use Rattle.chain.specs.declared.reply.Reply.TheVariants as reply
-use Rattle.chain.specs.History.{entry_of}
 use Rattle.node.specs.declared.fault.Fault.{Fault}
 use Rattle.node.specs.declared.fault.Fault.TheVariants.{Memory, Owed, Closed, Unknown}
-use Rattle.node.specs.Pass.{Pass, IsWrite}
+use Rattle.node.specs.Pass.{Pass, IsWrite, owed_entry}
 use Rattle.node.specs.Calls.{IsSubmitAnswer}
 use Rattle.node.specs.inside.PublishedState.{PublishedState}
 
@@ -31,6 +30,6 @@ IsSettledAtMost h k = (k ≡ h) ⊎ (k ≡ record h { owed = false })
 -- what a refused write leaves under the lock: where it is owed, the seat's step alone is new
 abbrev pub IsLeftBy : PublishedState → PublishedState → ℕ → Command → Fault → Type 0
 IsLeftBy h k number c Memory = IsSettledAtMost h k
-IsLeftBy h k number c Owed = (r : Option Reply) × (k.journal ≡ h.journal ++ entry_of number c r ∷ [])
+IsLeftBy h k number c Owed = k.journal ≡ h.journal ++ owed_entry number c ∷ []
 IsLeftBy h k number c Closed = IsSettledAtMost h k
 IsLeftBy h k number c Unknown = IsSettledAtMost h k

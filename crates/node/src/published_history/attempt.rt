@@ -1,12 +1,11 @@
 //! The attempt to publish an entry that is owed.
 
-ghost use Rattle.std.specs.Prelude.{◌≡◌, ◌++◌, ◌∷◌, [], true, IfSome, MatchBool, None, drop};
+ghost use Rattle.std.specs.Prelude.{◌≡◌, ◌++◌, ◌∷◌, [], IfSome, MatchBool, None, drop};
 ghost use Rattle.view.specs.Following.{AllFollow};
-ghost use Rattle.node.specs.inside.PublishedState.{AreDue, Shows, entry_with_reply};
+ghost use Rattle.node.specs.inside.PublishedState.{AreDue, Shows, entry_with_reply, is_owed, owed_by};
 
+use crate::published_history::pending::Pending;
 use crate::published_history::writer_home::WriterHome;
-use coins::Changes;
-use std::alloc::Global;
 use std::sync::Wait;
 use view::{Naming, Note, Publication, ViewWriter, publish};
 
@@ -18,16 +17,12 @@ pub(crate) struct Attempt<J: Naming> {
     /// The history that is published.
     pub(crate) note: Note,
     /// Whether the entry is still owed.
-    pub(crate) owed: bool,
-    /// Whether it is in no pending publication, and then these are its changes.
-    pub(crate) is_new: bool,
-    pub(crate) changes: Changes,
+    pub(crate) pending: Pending,
 }
 
 /// Publishes an entry that is owed.
 pub(crate) fn attempt_to_publish<J: Naming, R: Wait>(
     rt: &R,
-    alloc: Global,
     writer: ViewWriter<J>,
     publication: Publication,
 ) -> Attempt<J>
@@ -39,10 +34,10 @@ pub(crate) fn attempt_to_publish<J: Naming, R: Wait>(
     requires due { let pending = drop writer.behind writer.log.items in
         let p = publication in
         let journal = p.before.entries ++ entry_with_reply p.entry None ∷ [] in
-        AreDue true p.is_new writer.desk.shown.value pending journal p.changes }
+        AreDue (owed_by p.is_new p.changes) writer.desk.shown.value pending journal }
     ensures book { result.note.book ≡ publication.before.book }
     ensures note { let p = publication in
-        MatchBool result.owed
+        MatchBool (is_owed result.pending)
         (result.note.entries ≡ p.before.entries)
         (result.note.entries ≡ p.before.entries ++ p.entry ∷ []) }
     ensures shown { let o = writer.desk.shown.value.origin in
@@ -51,7 +46,7 @@ pub(crate) fn attempt_to_publish<J: Naming, R: Wait>(
         let journal = p.before.entries ++ entry_with_reply p.entry None ∷ [] in
         IfSome result.home (λ h.
         let left = drop h.writer.behind h.writer.log.items in
-        AreDue result.owed result.is_new h.writer.desk.shown.value left journal result.changes) }
+        AreDue result.pending h.writer.desk.shown.value left journal) }
 {
     let before = publication.before.copy();
     let (writer, shown) = publish(rt, writer, publication);
@@ -62,25 +57,19 @@ pub(crate) fn attempt_to_publish<J: Naming, R: Wait>(
                 return Attempt {
                     home: None,
                     note: before,
-                    owed: true,
-                    is_new: false,
-                    changes: Changes::new(alloc),
+                    pending: Pending::Again,
                 };
             };
             Attempt {
                 home: Some(WriterHome { writer }),
                 note,
-                owed: false,
-                is_new: false,
-                changes: Changes::new(alloc),
+                pending: Pending::None,
             }
         }
         Ok(false) => Attempt {
             home: Some(WriterHome { writer }),
             note: before,
-            owed: true,
-            is_new: false,
-            changes: Changes::new(alloc),
+            pending: Pending::Again,
         },
         Err(publication) => {
             let Publication {
@@ -91,9 +80,11 @@ pub(crate) fn attempt_to_publish<J: Naming, R: Wait>(
             Attempt {
                 home: Some(WriterHome { writer }),
                 note: before,
-                owed: true,
-                is_new,
-                changes,
+                pending: if is_new {
+                    Pending::New(changes)
+                } else {
+                    Pending::Again
+                },
             }
         }
     }

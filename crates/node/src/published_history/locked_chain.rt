@@ -1,10 +1,9 @@
 //! The chainstate under the lock, and its step over the coins that are published, as a reader finds them.
 
-ghost use Rattle.std.specs.Prelude.{◌≡◌, ◌≤◌, All, IfOk, IfErr, Decides};
+ghost use Rattle.std.specs.Prelude.{◌≡◌, ◌≤◌, All, IfOk, IfErr};
 ghost use Rattle.queue.specs.Jobs.{IsEarly};
 ghost use Rattle.chain.specs.Learnt.{IsNews};
 ghost use Rattle.chain.specs.Prepared.{command_of};
-ghost use Rattle.view.specs.ViewState.{IsExact};
 ghost use Rattle.node.specs.inside.Knowledge.{known_behind, known_of};
 ghost use Rattle.node.specs.inside.PublishedState.{AreCoreSteps, IsLockedAt};
 ghost use Rattle.node.specs.inside.Refused.{IsWantOf};
@@ -19,7 +18,7 @@ use connect::Env;
 use curve::{KnownSignatures, Table};
 use queue::{Crew, Gate, Verdicts};
 use std::alloc::Global;
-use view::{Naming, Note, View};
+use view::{Naming, Note};
 
 /// Who runs scripts, by a table or by need, with the verdicts that were got before the lock.
 #[derive(Drop)]
@@ -39,15 +38,6 @@ pub(crate) struct LockedChain<J: Naming> {
     /// The history that is published.
     pub(crate) note: Note,
     pub(crate) reader: ReaderHome<J>,
-}
-
-/// Whether another beginning of the same history is just as long. Then it is the same, as one of them begins the other.
-fn is_whole(note: &Note, found: &Note) -> bool
-    requires { found.now.book ≡ note.now.book }
-    ensures { Decides result (found.now.entries ≡ note.now.entries) }
-{
-    let _either = note.begins(found);
-    note.len() == found.len()
 }
 
 impl<J: Naming> LockedChain<J> {
@@ -78,42 +68,10 @@ impl<J: Naming> LockedChain<J> {
             self.known.learn(triple.triple(), *valid)?;
             return Ok((Reply::Mark(MarkReply::Done), Changes::new(alloc)));
         }
-        let Some(reading) = self.reader.enter() else {
+        let Some(reading) = self.reader.enter_at(&self.note) else {
             return Err(Refusal::Closed);
         };
-        let done = self.step_over(alloc, reading.get(), command, crews, gate);
-        self.reader.leave(reading);
-        done
-    }
-
-    /// Takes a command over the coins of a view, if it is just as long as this history.
-    fn step_over<A: Crew<Table>, B: Crew<KnownSignatures>>(
-        &mut self,
-        alloc: Global,
-        view: &View,
-        command: &PreparedCommand,
-        crews: &Crews<'_, A, B>,
-        gate: &(dyn Gate + Sync),
-    ) -> Result<(Reply, Changes), Refusal>
-        requires exact { IsExact view.now × (view.now.origin ≡ J.origin) }
-        requires at { IsLockedAt J.origin self.old.core self.old.known self.old.note }
-        requires crews { A.is_ready crews.now.by_table.now × B.is_ready crews.now.by_need.now
-            × (1 ≤ crews.now.workers) × (crews.now.workers ≤ 16) }
-        requires early { All (IsEarly (known_of self.old.known)) crews.now.early.now }
-        ensures step { let c = command_of command.now in let known = known_of self.old.known in
-            IfOk result (λ done. AreCoreSteps known self.old.core self.new.core c done.0 done.1) }
-        ensures rest { self.new ≡ record self.old { core = self.new.core } }
-        ensures refused { let c = command_of command.now in
-            let known = known_of self.old.known in
-            IfErr result (λ why. (self.new ≡ self.old) × IsWantOf self.old.core known c why) }
-    {
-        let Some(found) = view.note() else {
-            return Err(Refusal::Closed);
-        };
-        if !is_whole(&self.note, &found) {
-            return Err(Refusal::Closed);
-        }
-        let (workers, coins) = (crews.workers, view.coins());
+        let (workers, coins) = (crews.workers, reading.get().coins());
         match &self.known {
             Knowledge::Table(table) => {
                 let env = Env {
@@ -122,7 +80,9 @@ impl<J: Naming> LockedChain<J> {
                     early: crews.early,
                     crew: crews.by_table,
                 };
-                Ok(self.core.step_over(alloc, coins, command, &env, gate)?)
+                let done = self.core.step_over(alloc, coins, command, &env, gate);
+                self.reader.leave(reading);
+                Ok(done?)
             }
             Knowledge::Found(verdicts) => {
                 let env = Env {
@@ -131,7 +91,9 @@ impl<J: Naming> LockedChain<J> {
                     early: crews.early,
                     crew: crews.by_need,
                 };
-                Ok(self.core.step_over(alloc, coins, command, &env, gate)?)
+                let done = self.core.step_over(alloc, coins, command, &env, gate);
+                self.reader.leave(reading);
+                Ok(done?)
             }
         }
     }

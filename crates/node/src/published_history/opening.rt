@@ -11,6 +11,7 @@ ghost use Rattle.node.specs.inside.PublishedState.{Shows, opening_state};
 use crate::published_history::PublishedHistory;
 use crate::published_history::core_info::chain_info;
 use crate::published_history::knowledge::Knowledge;
+use crate::published_history::last_places::LastPlaces;
 use crate::published_history::locked_chain::LockedChain;
 use crate::published_history::writer_home::WriterHome;
 use crate::reader_home::ReaderHome;
@@ -79,7 +80,8 @@ pub(crate) fn open_history<J: Naming>(
         note,
         reader,
     };
-    let history = PublishedHistory::new(alloc, chain, hub, home);
+    let last = LastPlaces::new(alloc, seats)?;
+    let history = PublishedHistory::new(alloc, chain, hub, home, last);
     Ok(Opened { history, readers })
 }
 

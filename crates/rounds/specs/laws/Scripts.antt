@@ -84,9 +84,9 @@ module _ (q : Question) where
       → AsksWithin (λ answer. 0) (201 + for_inner only) (λ known. verdict_on known q script left)
   unfolding verdict_on
   on-within script left only is =
-      alsos (201 + for_inner only) (for_inner only) (λ known. ends_true (outcome known q q.spent left)) (λ known. if is_p2sh q.spent then inner_verdict known q script left else Says true)
+      alsos (201 + for_inner only) (for_inner only) (λ known. ends_true (outcome known q q.spent left)) (λ known. if q.flags.p2sh && is_p2sh q.spent then inner_verdict known q script left else Says true)
       (before 201 (for_inner only) (λ known. ends_true (outcome known q q.spent left)) (ends-within q.spent left))
-      (chosen (λ answer. 0) (for_inner only) (is_p2sh q.spent) _ _ (inner-within script left only is) (says (λ answer. 0) (for_inner only) true (omega arith)))
+      (chosen (λ answer. 0) (for_inner only) (q.flags.p2sh && is_p2sh q.spent) _ _ (inner-within script left only is) (says (λ answer. 0) (for_inner only) true (omega arith)))
 
   after-within : (script : List ℕ) (o : Option Stack) (only : Bool) → is_push_only script ≡ only
       → AsksWithin (λ answer. 0) (201 + for_inner only) (λ known. verdict_after known q script (Says o))
