@@ -41,6 +41,16 @@ uint32_t ffi_verify_known(const uint8_t *bytes, size_t length, uint64_t input, c
                           size_t spent_length, const wakotehu_flags *flags, const uint8_t *valid, size_t valid_length,
                           const uint8_t *invalid, size_t invalid_length, uint64_t *line, uint32_t *accepted,
                           uint8_t *asked, size_t room, uint64_t *needed);
+uint32_t ffi_verify_script(const uint8_t *bytes, size_t length, uint64_t input, const uint8_t *spent,
+                           size_t spent_length, uint32_t flags, const uint8_t *valid, size_t valid_length,
+                           const uint8_t *invalid, size_t invalid_length, uint64_t *line, uint32_t *error,
+                           uint8_t *asked, size_t room, uint64_t *needed);
+uint32_t ffi_eval_script(const uint8_t *bytes, size_t length, uint64_t input, const uint8_t *script,
+                         size_t script_length, uint32_t flags, const uint64_t *sizes, size_t count,
+                         const uint8_t *elements, size_t elements_length, const uint8_t *valid, size_t valid_length,
+                         const uint8_t *invalid, size_t invalid_length, uint64_t *line, wakotehu_evaluated *evaluated,
+                         uint64_t *left_sizes, size_t most_sizes, uint8_t *left, size_t most, uint8_t *asked,
+                         size_t room, uint64_t *needed);
 uint32_t ffi_table(const uint8_t *table, size_t length, uint64_t *line);
 uint32_t ffi_table_has(const uint8_t *table, size_t length, const uint8_t *key, size_t key_length,
                        const uint8_t *signature, size_t signature_length, const uint8_t *digest, uint64_t *line,
@@ -61,6 +71,7 @@ _Static_assert(sizeof(wakotehu_start) == 8 && sizeof(wakotehu_flags) == 12, "as 
 _Static_assert(sizeof(wakotehu_made) == 40, "as Made");
 _Static_assert(sizeof(wakotehu_input) == 48 && offsetof(wakotehu_input, sequence) == 44, "as InputRow");
 _Static_assert(sizeof(wakotehu_output) == 16, "as OutputRow");
+_Static_assert(sizeof(wakotehu_evaluated) == 24 && offsetof(wakotehu_evaluated, error) == 16, "as ShownStack");
 
 /* Where no byte is meant some address that isn't null is passed on, aligned for any row. */
 static _Alignas(8) uint8_t nothing[8];
@@ -265,6 +276,82 @@ wakotehu_code wakotehu_verify_known(const uint8_t *bytes, size_t length, uint64_
                                            flags, AT(valid, valid_length), valid_length, AT(invalid, invalid_length),
                                            invalid_length, line ? line : &unasked, accepted, INTO(asked, room), room,
                                            needed);
+}
+
+wakotehu_code wakotehu_verify_script(const uint8_t *bytes, size_t length, uint64_t input, const uint8_t *spent,
+                                     size_t spent_length, uint32_t flags, const char *valid, size_t valid_length,
+                                     const char *invalid, size_t invalid_length, uint64_t *line, uint32_t *error,
+                                     char *asked, size_t room, uint64_t *needed) {
+    uint64_t unasked;
+    if (!readable(bytes, length) || !readable(spent, spent_length) || !readable(valid, valid_length)
+        || !readable(invalid, invalid_length) || !error || !readable(asked, room) || !needed)
+        return WAKOTEHU_NULL;
+    return (wakotehu_code)ffi_verify_script(AT(bytes, length), length, input, AT(spent, spent_length), spent_length,
+                                            flags, AT(valid, valid_length), valid_length, AT(invalid, invalid_length),
+                                            invalid_length, line ? line : &unasked, error, INTO(asked, room), room,
+                                            needed);
+}
+
+wakotehu_code wakotehu_eval_script(const uint8_t *bytes, size_t length, uint64_t input, const uint8_t *script,
+                                   size_t script_length, uint32_t flags, const uint64_t *sizes, size_t count,
+                                   const uint8_t *elements, size_t elements_length, const char *valid,
+                                   size_t valid_length, const char *invalid, size_t invalid_length, uint64_t *line,
+                                   wakotehu_evaluated *evaluated, uint64_t *left_sizes, size_t most_sizes,
+                                   uint8_t *left, size_t most, char *asked, size_t room, uint64_t *needed) {
+    uint64_t unasked;
+    if (!readable(bytes, length) || !readable(script, script_length) || !rows_fit(sizes, count, sizeof *sizes)
+        || !readable(elements, elements_length) || !readable(valid, valid_length)
+        || !readable(invalid, invalid_length) || !evaluated || !rows_fit(left_sizes, most_sizes, sizeof *left_sizes)
+        || !readable(left, most) || !readable(asked, room) || !needed)
+        return WAKOTEHU_NULL;
+    return (wakotehu_code)ffi_eval_script(
+        AT(bytes, length), length, input, AT(script, script_length), script_length, flags, AT(sizes, count), count,
+        AT(elements, elements_length), elements_length, AT(valid, valid_length), valid_length,
+        AT(invalid, invalid_length), invalid_length, line ? line : &unasked, evaluated, INTO(left_sizes, most_sizes),
+        most_sizes, INTO(left, most), most, INTO(asked, room), room, needed);
+}
+
+static const struct {
+    const char *name, *text;
+} script_errors[] = {
+    [WAKOTEHU_SCRIPT_OK] = {"OK", "No error"},
+    [WAKOTEHU_SCRIPT_UNKNOWN_ERROR] = {"UNKNOWN_ERROR", "unknown error"},
+    [WAKOTEHU_SCRIPT_EVAL_FALSE] =
+        {"EVAL_FALSE", "Script evaluated without error but finished with a false/empty top stack element"},
+    [WAKOTEHU_SCRIPT_OP_RETURN] = {"OP_RETURN", "OP_RETURN was encountered"},
+    [WAKOTEHU_SCRIPT_SCRIPT_SIZE] = {"SCRIPT_SIZE", "Script is too big"},
+    [WAKOTEHU_SCRIPT_PUSH_SIZE] = {"PUSH_SIZE", "Push value size limit exceeded"},
+    [WAKOTEHU_SCRIPT_OP_COUNT] = {"OP_COUNT", "Operation limit exceeded"},
+    [WAKOTEHU_SCRIPT_STACK_SIZE] = {"STACK_SIZE", "Stack size limit exceeded"},
+    [WAKOTEHU_SCRIPT_SIG_COUNT] = {"SIG_COUNT", "Signature count negative or greater than pubkey count"},
+    [WAKOTEHU_SCRIPT_PUBKEY_COUNT] = {"PUBKEY_COUNT", "Pubkey count negative or limit exceeded"},
+    [WAKOTEHU_SCRIPT_VERIFY] = {"VERIFY", "Script failed an OP_VERIFY operation"},
+    [WAKOTEHU_SCRIPT_EQUALVERIFY] = {"EQUALVERIFY", "Script failed an OP_EQUALVERIFY operation"},
+    [WAKOTEHU_SCRIPT_CHECKMULTISIGVERIFY] = {"CHECKMULTISIGVERIFY",
+                                             "Script failed an OP_CHECKMULTISIGVERIFY operation"},
+    [WAKOTEHU_SCRIPT_CHECKSIGVERIFY] = {"CHECKSIGVERIFY", "Script failed an OP_CHECKSIGVERIFY operation"},
+    [WAKOTEHU_SCRIPT_NUMEQUALVERIFY] = {"NUMEQUALVERIFY", "Script failed an OP_NUMEQUALVERIFY operation"},
+    [WAKOTEHU_SCRIPT_BAD_OPCODE] = {"BAD_OPCODE", "Opcode missing or not understood"},
+    [WAKOTEHU_SCRIPT_DISABLED_OPCODE] = {"DISABLED_OPCODE", "Attempted to use a disabled opcode"},
+    [WAKOTEHU_SCRIPT_INVALID_STACK_OPERATION] = {"INVALID_STACK_OPERATION",
+                                                 "Operation not valid with the current stack size"},
+    [WAKOTEHU_SCRIPT_INVALID_ALTSTACK_OPERATION] = {"INVALID_ALTSTACK_OPERATION",
+                                                    "Operation not valid with the current altstack size"},
+    [WAKOTEHU_SCRIPT_UNBALANCED_CONDITIONAL] = {"UNBALANCED_CONDITIONAL", "Invalid OP_IF construction"},
+    [WAKOTEHU_SCRIPT_NEGATIVE_LOCKTIME] = {"NEGATIVE_LOCKTIME", "Negative locktime"},
+    [WAKOTEHU_SCRIPT_UNSATISFIED_LOCKTIME] = {"UNSATISFIED_LOCKTIME", "Locktime requirement not satisfied"},
+    [WAKOTEHU_SCRIPT_SIG_DER] = {"SIG_DER", "Non-canonical DER signature"},
+    [WAKOTEHU_SCRIPT_SIG_PUSHONLY] = {"SIG_PUSHONLY", "Only push operators allowed in signatures"},
+};
+
+enum { SCRIPT_ERRORS = sizeof script_errors / sizeof *script_errors };
+
+const char *wakotehu_script_error_name(uint32_t error) {
+    return error < SCRIPT_ERRORS && script_errors[error].name ? script_errors[error].name : "";
+}
+
+const char *wakotehu_script_error_text(uint32_t error) {
+    return error < SCRIPT_ERRORS && script_errors[error].text ? script_errors[error].text : "";
 }
 
 wakotehu_code wakotehu_table_read(const char *table, size_t length, uint64_t *line) {

@@ -34,6 +34,8 @@ uint32_t ffi_learn(struct slot *slot, const uint8_t *key, size_t key_length, con
                    size_t signature_length, const uint8_t *digest, uint32_t valid);
 uint32_t ffi_close(struct slot *slot);
 uint32_t ffi_submit(struct slot *slot, const uint8_t *bytes, size_t length, uint64_t now, wakotehu_answer *answer);
+uint32_t ffi_judge(struct slot *slot, const uint8_t *bytes, size_t length, uint64_t now, wakotehu_answer *answer);
+uint32_t ffi_copy(struct slot *slot, struct slot *other);
 uint32_t ffi_invalidate(struct slot *slot, const uint8_t *id, wakotehu_answer *answer);
 uint32_t ffi_reconsider(struct slot *slot, const uint8_t *id, wakotehu_answer *answer);
 uint32_t ffi_precious(struct slot *slot, const uint8_t *id, wakotehu_answer *answer);
@@ -89,16 +91,19 @@ static bool readable(const void *bytes, size_t length) { return (bytes || !lengt
 
 /* ---- opening and closing */
 
-/* What is opened: by a table, or by need. */
+/* What is opened: by a table, or by need, or as another one is. */
 struct opening {
     const wakotehu_heights *heights;
     const uint8_t *table;
     size_t length;
     uint64_t *line;
     bool by_need;
+    struct slot *copied; /* null where it is no copy */
 };
 
 static uint32_t open_slot(struct slot *slot, const struct opening *asked) {
+    if (asked->copied)
+        return ffi_copy(asked->copied, slot);
     if (asked->by_need)
         return ffi_open_by_need(slot, asked->heights);
     return ffi_open(slot, asked->heights, asked->table, asked->length, asked->line);
@@ -128,13 +133,22 @@ wakotehu_code wakotehu_open(wakotehu_handle *handle, const wakotehu_heights *hei
     if (!handle || !heights || !readable(table, length))
         return WAKOTEHU_NULL;
     const uint8_t *bytes = length ? (const uint8_t *)table : no_bytes;
-    return open_place(handle, &(struct opening){heights, bytes, length, line ? line : &unasked, false});
+    return open_place(handle, &(struct opening){heights, bytes, length, line ? line : &unasked, false, NULL});
 }
 
 wakotehu_code wakotehu_open_by_need(wakotehu_handle *handle, const wakotehu_heights *heights) {
     if (!handle || !heights)
         return WAKOTEHU_NULL;
-    return open_place(handle, &(struct opening){heights, no_bytes, 0, NULL, true});
+    return open_place(handle, &(struct opening){heights, no_bytes, 0, NULL, true, NULL});
+}
+
+wakotehu_code wakotehu_copy(wakotehu_handle handle, wakotehu_handle *copy) {
+    if (!copy)
+        return WAKOTEHU_NULL;
+    wakotehu_code code = enter(handle);
+    if (code != WAKOTEHU_OK)
+        return code;
+    return leave(handle, open_place(copy, &(struct opening){NULL, no_bytes, 0, NULL, false, slot_of(handle)}));
 }
 
 wakotehu_code wakotehu_close(wakotehu_handle handle) {
@@ -156,6 +170,16 @@ wakotehu_code wakotehu_submit(wakotehu_handle handle, const uint8_t *bytes, size
     if (code != WAKOTEHU_OK)
         return code;
     return leave(handle, ffi_submit(slot_of(handle), length ? bytes : no_bytes, length, now, answer));
+}
+
+wakotehu_code wakotehu_judge(wakotehu_handle handle, const uint8_t *bytes, size_t length, uint64_t now,
+                             wakotehu_answer *answer) {
+    if (!readable(bytes, length) || !answer)
+        return WAKOTEHU_NULL;
+    wakotehu_code code = enter(handle);
+    if (code != WAKOTEHU_OK)
+        return code;
+    return leave(handle, ffi_judge(slot_of(handle), length ? bytes : no_bytes, length, now, answer));
 }
 
 static wakotehu_code mark(wakotehu_handle handle, const uint8_t *id, wakotehu_answer *answer,

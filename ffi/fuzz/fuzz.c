@@ -73,6 +73,13 @@ static void as_transaction(const uint8_t *bytes, size_t length) {
     wakotehu_code found = wakotehu_verify_known(bytes, length, 0, bytes, length, &flags, NULL, 0, NULL, 0, &line, &known,
                                                 asked, sizeof asked, &needed);
     EXPECT(found == WAKOTEHU_UNKNOWN || (found == code && (code != WAKOTEHU_OK || known == yes)));
+    /* A refusal has a name, and an acceptance none. */
+    uint32_t error = 99, rules = WAKOTEHU_VERIFY_P2SH | WAKOTEHU_VERIFY_DERSIG | WAKOTEHU_VERIFY_CHECKLOCKTIMEVERIFY
+                                 | WAKOTEHU_VERIFY_CHECKSEQUENCEVERIFY;
+    wakotehu_code named = wakotehu_verify_script(bytes, length, 0, bytes, length, rules, NULL, 0, NULL, 0, &line, &error,
+                                                 others, sizeof others, &needed);
+    EXPECT(named == found && (named != WAKOTEHU_OK || known == (error == WAKOTEHU_SCRIPT_OK)));
+    EXPECT(named != WAKOTEHU_OK || *wakotehu_script_error_name(error));
     EXPECT(found != WAKOTEHU_UNKNOWN
            || wakotehu_verify_known(bytes, length, 0, bytes, length, &flags, NULL, 0, asked, needed, &line, &known, others,
                                     sizeof others, &needed) < WAKOTEHU_CONTRADICTION);

@@ -133,6 +133,10 @@ wakotehu_code wakotehu_open(wakotehu_handle *handle, const wakotehu_heights *hei
  * given. */
 wakotehu_code wakotehu_open_by_need(wakotehu_handle *handle, const wakotehu_heights *heights);
 
+/* Opens a chainstate that is the same as another one, and writes its handle: blocks are shared, coins and verdicts on
+ * signatures are copied. From then on each goes its own way. It has to be given back by wakotehu_close too. */
+wakotehu_code wakotehu_copy(wakotehu_handle handle, wakotehu_handle *copy);
+
 /* Who is called for a signature that has to be found out: with its line, as in a table, of `length` bytes. It lives as
  * long as the call. Any other answer than 0 ends the walk. For the handle, and for calls that don't return, see
  * wakotehu_coin_call. */
@@ -161,6 +165,11 @@ wakotehu_code wakotehu_close(wakotehu_handle handle);
  * copied. */
 wakotehu_code wakotehu_submit(wakotehu_handle handle, const uint8_t *bytes, size_t length, uint64_t now,
                               wakotehu_answer *answer);
+
+/* The answer that wakotehu_submit would give now. No step is taken: the block isn't kept. By need it may be answered
+ * WAKOTEHU_WANTS, as a submission. */
+wakotehu_code wakotehu_judge(wakotehu_handle handle, const uint8_t *bytes, size_t length, uint64_t now,
+                             wakotehu_answer *answer);
 
 /* Marks a block as invalid; takes the marks from a block, its ancestors and its descendants; prefers a block to all
  * that are as high (Bitcoin Core's invalidateblock, reconsiderblock, preciousblock). id: 32 bytes. */
@@ -272,7 +281,8 @@ typedef struct {
     uint32_t push_only, p2sh, unspendable;
 } wakotehu_script_shown;
 
-/* Which rules of scripts are in force: BIP 66, BIP 65, BIP 112. BIP 16 always is. */
+/* Which rules of scripts are in force: BIP 66, BIP 65, BIP 112. BIP 16 always is: calls that take bits
+ * (WAKOTEHU_VERIFY_P2SH and others) can do without it. */
 typedef struct {
     uint32_t dersig, cltv, csv;
 } wakotehu_flags;
@@ -384,6 +394,71 @@ wakotehu_code wakotehu_verify_known(const uint8_t *bytes, size_t length, uint64_
 
 /* An element of a script has at most 520 bytes, so no line of a key, a signature and a digest is longer. */
 #define WAKOTEHU_MOST_ASKED 2145
+
+/* Why a script fails: Bitcoin Core's names and numbers (ScriptError) of the rules before segregated witness. */
+typedef enum {
+    WAKOTEHU_SCRIPT_OK = 0,
+    WAKOTEHU_SCRIPT_UNKNOWN_ERROR = 1, /* an element is too long to be a number */
+    WAKOTEHU_SCRIPT_EVAL_FALSE = 2, /* the top isn't true at the end, or there is none */
+    WAKOTEHU_SCRIPT_OP_RETURN = 3, /* an OP_RETURN is executed */
+    WAKOTEHU_SCRIPT_SCRIPT_SIZE = 4, /* the script has more than 10,000 bytes */
+    WAKOTEHU_SCRIPT_PUSH_SIZE = 5, /* a push has more than 520 bytes */
+    WAKOTEHU_SCRIPT_OP_COUNT = 6, /* more than 201 opcodes above OP_16 and keys */
+    WAKOTEHU_SCRIPT_STACK_SIZE = 7, /* both stacks have more than 1,000 elements */
+    WAKOTEHU_SCRIPT_SIG_COUNT = 8, /* of a CHECKMULTISIG */
+    WAKOTEHU_SCRIPT_PUBKEY_COUNT = 9, /* of a CHECKMULTISIG */
+    WAKOTEHU_SCRIPT_VERIFY = 10,
+    WAKOTEHU_SCRIPT_EQUALVERIFY = 11,
+    WAKOTEHU_SCRIPT_CHECKMULTISIGVERIFY = 12,
+    WAKOTEHU_SCRIPT_CHECKSIGVERIFY = 13,
+    WAKOTEHU_SCRIPT_NUMEQUALVERIFY = 14,
+    WAKOTEHU_SCRIPT_BAD_OPCODE = 15, /* also a push that is cut short */
+    WAKOTEHU_SCRIPT_DISABLED_OPCODE = 16,
+    WAKOTEHU_SCRIPT_INVALID_STACK_OPERATION = 17, /* too few elements */
+    WAKOTEHU_SCRIPT_INVALID_ALTSTACK_OPERATION = 18, /* the same */
+    WAKOTEHU_SCRIPT_UNBALANCED_CONDITIONAL = 19,
+    WAKOTEHU_SCRIPT_NEGATIVE_LOCKTIME = 20,
+    WAKOTEHU_SCRIPT_UNSATISFIED_LOCKTIME = 21,
+    WAKOTEHU_SCRIPT_SIG_DER = 23, /* a signature isn't strictly encoded (BIP 66) */
+    WAKOTEHU_SCRIPT_SIG_PUSHONLY = 25 /* of a script hash's input script (BIP 16) */
+} wakotehu_script_error;
+
+/* A failure's name, as EVAL_FALSE, and Bitcoin Core's text for it; "OK" and "No error" of 0, "" of a number that is none. */
+const char *wakotehu_script_error_name(uint32_t error);
+const char *wakotehu_script_error_text(uint32_t error);
+
+/* Rules of scripts by Bitcoin Core's bits, for the calls below: BIP 16, BIP 66, BIP 65, BIP 112. Other bits change
+ * nothing. */
+#define WAKOTEHU_VERIFY_P2SH 1
+#define WAKOTEHU_VERIFY_DERSIG 4
+#define WAKOTEHU_VERIFY_CHECKLOCKTIMEVERIFY 512
+#define WAKOTEHU_VERIFY_CHECKSEQUENCEVERIFY 1024
+
+/* wakotehu_verify_known with the name of the failure: `error` is WAKOTEHU_SCRIPT_OK where the input may spend the script. */
+wakotehu_code wakotehu_verify_script(const uint8_t *bytes, size_t length, uint64_t input, const uint8_t *spent,
+                                     size_t spent_length, uint32_t flags, const char *valid, size_t valid_length,
+                                     const char *invalid, size_t invalid_length, uint64_t *line, uint32_t *error,
+                                     char *asked, size_t room, uint64_t *needed);
+
+/* What a script left: how many elements its stack has, and how many bytes these have together; `error` is why it failed,
+ * and then the others are 0. */
+typedef struct {
+    uint64_t elements, size;
+    uint32_t error;
+} wakotehu_evaluated;
+
+/* Runs one script on a stack (Bitcoin Core's EvalScript), with signatures of an input of the transaction at the front of
+ * the bytes. A stack is the lengths of its elements, from the bottom up, and their bytes one after the other; else
+ * WAKOTEHU_MISMATCH. The stack that is left is put at the front of `left_sizes`, with room for `most_sizes`, and of
+ * `left`, with room for `most` bytes. Where one is too small neither is written and the answer is WAKOTEHU_TOO_SMALL, but
+ * `evaluated` is told: the script left at most 1,000 elements, unless it has no opcode. Signatures are known as for
+ * wakotehu_verify_known. */
+wakotehu_code wakotehu_eval_script(const uint8_t *bytes, size_t length, uint64_t input, const uint8_t *script,
+                                   size_t script_length, uint32_t flags, const uint64_t *sizes, size_t count,
+                                   const uint8_t *elements, size_t elements_length, const char *valid,
+                                   size_t valid_length, const char *invalid, size_t invalid_length, uint64_t *line,
+                                   wakotehu_evaluated *evaluated, uint64_t *left_sizes, size_t most_sizes,
+                                   uint8_t *left, size_t most, char *asked, size_t room, uint64_t *needed);
 
 /* A table of valid signatures is its text. Whether each line can be read, else WAKOTEHU_BAD_TABLE and the line's number,
  * from 1 (line may be null). */

@@ -63,6 +63,9 @@ enum { RECORD = 8 + sizeof b1 };
 
 static const uint8_t spent[] = {0x93, 0x53, 0x9c}; /* ADD 3 NUMEQUAL */
 static const uint8_t separated[] = {0xab, 0x51, 0xab};
+/* A stack of the elements 07 and 08 09. */
+static const uint8_t given[] = {7, 8, 9};
+static const uint64_t given_sizes[] = {1, 2};
 static const wakotehu_flags flags = {1, 1, 1};
 /* CHECKSIG of the key 02 and the signature 01, which is a hash type alone and may be tried without BIP 66. */
 static const uint8_t checksig[] = {0xac};
@@ -96,6 +99,8 @@ struct told {
     wakotehu_input inputs[2];
     wakotehu_output outputs[2];
     wakotehu_made rows[2];
+    wakotehu_evaluated evaluated;
+    uint64_t sizes[8];
     int64_t value;
     uint64_t count, line;
     uint32_t yes;
@@ -115,6 +120,7 @@ static int is_same(struct told *one, struct told *other) {
         CLEAR_TAIL(&both[n]->block, reason);
         CLEAR_TAIL(&both[n]->opcode, number);
         CLEAR_TAIL(&both[n]->script, unspendable);
+        CLEAR_TAIL(&both[n]->evaluated, error);
     }
     return memcmp(one, other, sizeof *one) == 0;
 }
@@ -127,7 +133,7 @@ static struct told nothing_told(void) {
 }
 
 /* Each call that may take memory, then those that take none; the numbers are those of `MEMORY_FREE` on. */
-enum { MEMORY_FREE = 18, CALLS = 25 };
+enum { MEMORY_FREE = 20, CALLS = 27 };
 
 static wakotehu_code nth_call(int call, struct told *it) {
     static const wakotehu_input input = {{7}, 2, 0, 0};
@@ -158,13 +164,20 @@ static wakotehu_code nth_call(int call, struct told *it) {
     }
     case 16: return wakotehu_signature_digest_as_given(tx, TX, 0, spent, 3, 1, it->bytes);
     case 17: return wakotehu_signature_digest(tx, TX, 0, separated, sizeof separated, 1, it->bytes);
+    case 18: {
+        wakotehu_code code = wakotehu_verify_script(tx, TX, 0, checksig, 1, 0, table, TABLE, NULL, 0, &it->line, &it->yes,
+                                                    it->text, 256, &it->count);
+        return code == WAKOTEHU_UNKNOWN ? WAKOTEHU_OK : code;
+    }
+    case 19: return wakotehu_eval_script(tx, TX, 0, separated, 3, 0, given_sizes, 2, given, 3, table, TABLE, NULL, 0,
+                                         &it->line, &it->evaluated, it->sizes, 8, it->bytes, 128, it->text, 256, &it->count);
     /* MEMORY_FREE */
-    case 18: return wakotehu_next_opcode(spent, 3, &it->opcode);
-    case 19: return wakotehu_script(spent, 3, &it->script);
-    case 20: return wakotehu_read_number(spent, 3, 4, &it->value);
-    case 21: return wakotehu_median(times, 3, &it->yes);
-    case 22: return wakotehu_strict_signature(signature, 8, &it->yes);
-    case 23: return wakotehu_hash160(spent, 3, it->bytes);
+    case 20: return wakotehu_next_opcode(spent, 3, &it->opcode);
+    case 21: return wakotehu_script(spent, 3, &it->script);
+    case 22: return wakotehu_read_number(spent, 3, 4, &it->value);
+    case 23: return wakotehu_median(times, 3, &it->yes);
+    case 24: return wakotehu_strict_signature(signature, 8, &it->yes);
+    case 25: return wakotehu_hash160(spent, 3, it->bytes);
     default: return wakotehu_read_id("00", 2, it->bytes) == WAKOTEHU_NONE ? WAKOTEHU_OK : WAKOTEHU_NULL;
     }
 }
@@ -272,6 +285,35 @@ static void known_signatures(void) {
     EXPECT(yes == 0 && needed == 70);
 }
 
+/* A script on a stack, and the names of failures. */
+static void evaluations(void) {
+    static const uint8_t less[] = {0x6d, 0x75}, taken[] = {0x6d}; /* 2DROP DROP, 2DROP */
+    wakotehu_evaluated told = {7, 7, 7};
+    uint64_t sizes[3] = {9, 9, 9}, needed = 0;
+    uint8_t left[4] = {9, 9, 9, 9};
+    uint32_t error = 7;
+    for (int room = 0; room < 6; room++) {
+        wakotehu_code code = wakotehu_eval_script(tx, TX, 0, separated, 3, 0, given_sizes, 2, given, 3, NULL, 0, NULL, 0, NULL,
+                                                  &told, sizes, room % 2 + 2, left, room / 2 + 2, NULL, 0, &needed);
+        EXPECT(code == (room == 5 ? WAKOTEHU_OK : WAKOTEHU_TOO_SMALL));
+        EXPECT(told.elements == 3 && told.size == 4 && told.error == 0);
+        EXPECT(sizes[0] == (room < 5 ? 9 : 1) && left[0] == (room < 5 ? 9 : 7));
+    }
+    EXPECT(sizes[1] == 2 && sizes[2] == 1 && left[1] == 8 && left[2] == 9 && left[3] == 1);
+    EXPECT(wakotehu_eval_script(tx, TX, 0, taken, 1, 0, given_sizes, 2, given, 3, NULL, 0, NULL, 0, NULL, &told, NULL, 0, NULL, 0,
+                                NULL, 0, &needed) == WAKOTEHU_OK);
+    EXPECT(told.elements == 0 && told.size == 0 && told.error == WAKOTEHU_SCRIPT_OK);
+    EXPECT(wakotehu_eval_script(tx, TX, 0, less, 2, 0, given_sizes, 2, given, 3, NULL, 0, NULL, 0, NULL, &told, sizes, 3, left, 4,
+                                NULL, 0, &needed) == WAKOTEHU_OK);
+    EXPECT(told.elements == 0 && told.size == 0 && told.error == WAKOTEHU_SCRIPT_INVALID_STACK_OPERATION && sizes[0] == 1);
+    EXPECT(strcmp(wakotehu_script_error_name(told.error), "INVALID_STACK_OPERATION") == 0);
+    EXPECT(strcmp(wakotehu_script_error_name(22), "") == 0 && strcmp(wakotehu_script_error_text(UINT32_MAX), "") == 0);
+    EXPECT(wakotehu_verify_script(tx, TX, 0, less, 2, 0, NULL, 0, NULL, 0, NULL, &error, NULL, 0, &needed) == WAKOTEHU_OK);
+    EXPECT(error == WAKOTEHU_SCRIPT_INVALID_STACK_OPERATION);
+    EXPECT(wakotehu_verify_script(tx, TX, 0, spent, 3, 0, NULL, 0, NULL, 0, NULL, &error, NULL, 0, &needed) == WAKOTEHU_OK);
+    EXPECT(error == WAKOTEHU_SCRIPT_OK);
+}
+
 /* Answers that write nothing but what is said of them. */
 static void refusals(void) {
     struct told it = nothing_told(), before = nothing_told();
@@ -303,6 +345,14 @@ static void refusals(void) {
            == WAKOTEHU_NO_INPUT);
     EXPECT(wakotehu_verify_known(tx, 9, 0, spent, 3, &flags, NULL, 0, NULL, 0, &it.line, &it.yes, it.text, 256, &it.count)
            == WAKOTEHU_SHORT);
+    EXPECT(wakotehu_verify_script(tx, TX, 1, spent, 3, 5, NULL, 0, NULL, 0, &it.line, &it.yes, it.text, 256, &it.count)
+           == WAKOTEHU_NO_INPUT);
+    EXPECT(wakotehu_verify_script(tx, TX, 0, spent, 3, 5, table, TABLE, table, TABLE, &it.line, &it.yes, it.text, 256, &it.count)
+           == WAKOTEHU_CONTRADICTION);
+    for (size_t n = 0; n < 3; n++)
+        EXPECT(wakotehu_eval_script(tx, n ? TX : 9, n != 1, separated, 3, 0, given_sizes, 2, given, 2, NULL, 0, NULL, 0, &it.line,
+                                    &it.evaluated, it.sizes, 8, it.bytes, 128, it.text, 256, &it.count)
+               == (n == 0 ? WAKOTEHU_SHORT : n == 1 ? WAKOTEHU_MISMATCH : WAKOTEHU_NO_INPUT));
     EXPECT(wakotehu_table_add(it.text, 69, &it.length, key, 1, signature, 8, digest) == WAKOTEHU_TOO_SMALL);
     EXPECT(wakotehu_read_id("0", 1, it.bytes) == WAKOTEHU_NONE);
     EXPECT(is_same(&it, &before));
@@ -365,6 +415,16 @@ static void null_and_hostile_lengths(void) {
         for (int k = 0; k < 5; k++)
             EXPECT(wakotehu_verify_known(tx, k == 0 ? l : TX, 0, spent, k == 1 ? l : 3, &flags, table, k == 2 ? l : TABLE, table,
                                          k == 3 ? l : TABLE, NULL, &it.yes, it.text, k == 4 ? l : 256, &it.count)
+                   == WAKOTEHU_NULL);
+        for (int k = 0; k < 5; k++)
+            EXPECT(wakotehu_verify_script(tx, k == 0 ? l : TX, 0, spent, k == 1 ? l : 3, 0, table, k == 2 ? l : TABLE, table,
+                                          k == 3 ? l : TABLE, NULL, &it.yes, it.text, k == 4 ? l : 256, &it.count)
+                   == WAKOTEHU_NULL);
+        for (int k = 0; k < 9; k++)
+            EXPECT(wakotehu_eval_script(tx, k == 0 ? l : TX, 0, separated, k == 1 ? l : 3, 0, given_sizes, k == 2 ? l / 4 : 2,
+                                        given, k == 3 ? l : 3, table, k == 4 ? l : TABLE, table, k == 5 ? l : TABLE, NULL,
+                                        &it.evaluated, it.sizes, k == 6 ? l / 4 : 8, it.bytes, k == 7 ? l : 128, it.text,
+                                        k == 8 ? l : 256, &it.count)
                    == WAKOTEHU_NULL);
         EXPECT(wakotehu_table_read(table, l, &it.line) == WAKOTEHU_NULL);
         EXPECT(wakotehu_table_has(table, l, key, 1, key, 1, digest, &it.line, &it.yes) == WAKOTEHU_NULL);
@@ -495,6 +555,7 @@ int main(int count, char **words) {
     values();
     separators();
     known_signatures();
+    evaluations();
     refusals();
     null_and_hostile_lengths();
     hostile_counts();

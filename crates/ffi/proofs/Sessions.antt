@@ -10,7 +10,7 @@ use Rattle.activate.specs.CoreState.{WithCoins, IsChainstate}
 use Rattle.ffi.specs.declared.answers.Answer.{Answer}
 use Rattle.ffi.specs.declared.signatures.Signatures.{Signatures}
 use Rattle.ffi.specs.declared.signatures.Signatures.TheVariants.{Listed, Found}
-use Rattle.ffi.specs.Answers.{IsAnswered}
+use Rattle.ffi.specs.Answers.{IsAnswered, IsJudged}
 use Rattle.ffi.specs.SessionState.{SessionState, known_of}
 use Rattle.ffi.specs.Signatures.{valid_in, invalid_in, is_by_need}
 use Rattle.ffi.specs.inside.Signatures.{known_in}
@@ -39,3 +39,8 @@ any-signatures (Err e) h = tt
 pub no-memory : (v : Option SessionState) (c : Command) (a : Answer) → is_some v ≡ true → IsAnswered v v c a a 1
 no-memory None c a h = cc
 no-memory (Some s) c a h = inr (record { next = s; after_is = refl; step_is = inr (refl, refl) }, refl)
+
+-- nor is one judged
+pub none-to-judge : (v : Option SessionState) (c : Command) (a : Answer) → is_some v ≡ true → IsJudged v v c a a 1
+none-to-judge None c a h = cc
+none-to-judge (Some s) c a h = inr (record { next = s; after_is = refl; step_is = inr (refl, refl) }, refl)

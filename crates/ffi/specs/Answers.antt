@@ -105,6 +105,27 @@ IsAnswered (Some s) after c before told result =
     ((result ≡ 0) × IsTaken s after c told)
     ⊎ (IsNotTaken s after c result × (told ≡ before))
 
+-- the session of before would give this reply under each set of valid signatures that agrees with what is known
+pub record IsForeseen (s : SessionState) (after : Option SessionState) (c : Command) (a : Answer) : Type 0 where
+  pub reply : Reply
+  pub reply_is : Under (known_of s) (λ triples. reply ≡ (outcome (rules_under s triples) (tree_of s) c).1)
+  pub after_is : after ≡ Some (record s { wanted = [] })
+  pub told : IsTold reply a
+
+-- A dry run: the reply that a step would give, or why it would give none; no step is taken, and only what is wanted changes.
+abbrev pub IsJudged : Option SessionState → Option SessionState → Command → Answer → Answer → ℕ → Type 0
+IsJudged None after c before told result = (result ≡ 2) × (after ≡ None) × (told ≡ before)
+IsJudged (Some s) after c before told result =
+    ((result ≡ 0) × IsForeseen s after c told)
+    ⊎ (IsNotTaken s after c result × (told ≡ before))
+
+-- A slot that is full stays so. Into another one the session comes as it is, but that it wants nothing; or there was no
+-- memory.
+abbrev pub IsCopied : Option SessionState → Option SessionState → Option SessionState → ℕ → Type 0
+IsCopied s (Some other) after result = (result ≡ 6) × (after ≡ Some other)
+IsCopied None None after result = (result ≡ 2) × (after ≡ None)
+IsCopied (Some s) None after result = ((result ≡ 0) × (after ≡ Some (record s { wanted = [] }))) ⊎ ((result ≡ 1) × (after ≡ None))
+
 -- a verdict is given
 pub record IsLearnt (s : SessionState) (after : Option SessionState) (t : Triple) (valid : Bool) (code : ℕ) : Type 0 where
   pub next : SessionState

@@ -5,6 +5,7 @@ pub mod Codes
 pub mod Hashes
 pub mod Keeping
 pub mod Known
+pub mod Named
 pub mod Parts
 pub mod Refusals
 pub mod Room

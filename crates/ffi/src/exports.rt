@@ -7,7 +7,7 @@ ghost use Rattle.curve.specs.Triple.{triple_of};
 ghost use Rattle.chain.specs.declared.command.Command.TheVariants as command;
 ghost use Rattle.chain.specs.Regtest.{ledger};
 ghost use Rattle.chain.specs.Replay.{coins};
-ghost use Rattle.ffi.specs.Answers.{IsAnswered, IsBestShown, IsCoinShown, IsCoinTold, IsLearntIn, IsOpened, IsOpenedByNeed, IsTipTold, IsWantShown, IsWantTold, close_number, id_of, outpoint_of, params_of};
+ghost use Rattle.ffi.specs.Answers.{IsAnswered, IsBestShown, IsCoinShown, IsCoinTold, IsCopied, IsJudged, IsLearntIn, IsOpened, IsOpenedByNeed, IsTipTold, IsWantShown, IsWantTold, close_number, id_of, outpoint_of, params_of};
 ghost use Rattle.ffi.specs.Known.{asked_of};
 ghost use Rattle.ffi.specs.SessionState.{rules_of, tree_of};
 
@@ -124,6 +124,52 @@ fn step(alloc: Global, slot: &mut Slot, asked: &Command, reply: &mut Answer) -> 
     }
 }
 
+/// The reply that the session in a slot would give.
+fn judge(alloc: Global, slot: &mut Slot, asked: &Command, reply: &mut Answer) -> u32
+    ensures { IsJudged slot.old.kept.value slot.new.kept.value asked.now reply.old reply.new
+        result }
+{
+    let Some(mut session) = take(alloc, slot) else {
+        return CLOSED;
+    };
+    let told = session.judge(alloc, asked);
+    put(slot, session);
+    match told {
+        Err(code) => code,
+        Ok(found) => {
+            *reply = as_told(found);
+            DONE
+        }
+    }
+}
+
+/// Copies the session of a slot into another one, which holds none. The copy wants no signature.
+#[unsafe(no_mangle)]
+pub extern "C" fn ffi_copy(alloc: Global, slot: &mut Slot, other: &mut Slot) -> u32
+    ensures kept { slot.new.kept.value ≡ slot.old.kept.value }
+    ensures copied { IsCopied slot.old.kept.value other.old.kept.value other.new.kept.value
+        result }
+{
+    if other.is_full() {
+        return FULL;
+    }
+    let Some(session) = take(alloc, slot) else {
+        return CLOSED;
+    };
+    let copy = session.copy(alloc);
+    put(slot, session);
+    match copy {
+        Err(_) => MEMORY,
+        Ok(copy) => match Box::new(alloc, copy) {
+            Err(_) => MEMORY,
+            Ok(copy) => {
+                put(other, copy);
+                DONE
+            }
+        },
+    }
+}
+
 /// Takes the verdict on a signature, which is without its hash type: 0 where it isn't valid. One that is known stays.
 #[unsafe(no_mangle)]
 pub extern "C" fn ffi_learn(
@@ -203,6 +249,27 @@ pub extern "C" fn ffi_submit(
     match Bytes::from_slice(alloc, bytes) {
         Err(_) => MEMORY,
         Ok(bytes) => step(alloc, slot, &Command::Submit(bytes, now), reply),
+    }
+}
+
+/// The reply that the block of these bytes would get, if it were submitted at a moment in seconds since 1970.
+#[unsafe(no_mangle)]
+pub extern "C" fn ffi_judge(
+    alloc: Global,
+    slot: &mut Slot,
+    bytes: &[u8],
+    now: u64,
+    reply: &mut Answer,
+) -> u32
+    ensures { IsJudged slot.old.kept.value slot.new.kept.value (command.Submit bytes.now now)
+        reply.old reply.new result }
+{
+    if !slot.is_full() {
+        return CLOSED;
+    }
+    match Bytes::from_slice(alloc, bytes) {
+        Err(_) => MEMORY,
+        Ok(bytes) => judge(alloc, slot, &Command::Submit(bytes, now), reply),
     }
 }
 

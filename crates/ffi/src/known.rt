@@ -76,7 +76,12 @@ pub extern "C" fn ffi_verify_known(
 
 /// What two texts say of signatures; else the number that says why that is nothing, and where a line can't be read its
 /// number.
-fn known_of(alloc: Global, valid: &[u8], invalid: &[u8], line: &mut u64) -> Result<FoundTables, u32>
+pub(crate) fn known_of(
+    alloc: Global,
+    valid: &[u8],
+    invalid: &[u8],
+    line: &mut u64,
+) -> Result<FoundTables, u32>
     ensures found { IfOk result (AreOf (lines valid.now) (lines invalid.now)) }
     ensures kept { OnOk result (line.new ≡ line.old) }
     ensures refused { IfErr result

@@ -4,6 +4,7 @@
 mod answers;
 mod block_rules;
 mod blocks;
+mod evaluating;
 mod exports;
 mod front;
 mod hashes;
@@ -11,6 +12,7 @@ mod kept;
 mod known;
 pub mod laws;
 mod listing;
+mod named;
 mod parts;
 mod room;
 mod scripts;

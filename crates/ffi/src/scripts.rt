@@ -152,6 +152,7 @@ pub(crate) fn flags_of(flags: &ShownFlags) -> Flags
     ensures { result ≡ flags_of flags.now }
 {
     Flags {
+        p2sh: true,
         dersig: flags.dersig != 0,
         cltv: flags.cltv != 0,
         csv: flags.csv != 0,

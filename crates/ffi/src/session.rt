@@ -157,6 +157,48 @@ impl Session {
         }
     }
 
+    /// The reply that a command would be given now, or the number that says why there is none. No step is taken.
+    pub(crate) fn judge(&mut self, alloc: Global, command: &Command) -> Result<Reply, u32>
+        ensures reply { IfOk result (λ reply. Under (known_of self.old) (λ triples.
+            reply ≡ (outcome (rules_under self.old triples) (tree_of self.old) command.now).1)) }
+        ensures stays { OnOk result (self.new ≡ record self.old { wanted = [] }) }
+        ensures refused { IfErr result (IsNoStep self.old self.new command.now) }
+    {
+        let Ok(command) = PreparedCommand::of(alloc, command) else {
+            return Err(MEMORY);
+        };
+        let env = Env {
+            signatures: &self.signatures,
+            workers: 1,
+            early: &[],
+            crew: &Alone,
+        };
+        match self.chain.judge(alloc, &command, &env, &Open) {
+            Ok(reply) => {
+                self.wanted = Vec::new(alloc);
+                Ok(reply)
+            }
+            Err(Undecided::Memory) => Err(MEMORY),
+            Err(Undecided::Unknown(unknown)) => {
+                self.wanted = unknown;
+                Err(WANTS)
+            }
+        }
+    }
+
+    /// The same session, which wants nothing.
+    pub(crate) fn copy(&self, alloc: Global) -> Result<Session, Memory>
+        ensures { IfOk result (λ session. session ≡ record self.now { wanted = [] }) }
+    {
+        let chain = self.chain.copy(alloc)?;
+        let signatures = self.signatures.copy()?;
+        Ok(Session {
+            chain,
+            signatures,
+            wanted: Vec::new(alloc),
+        })
+    }
+
     /// Takes the verdict on a signature, which is without its hash type. One that is known stays.
     pub(crate) fn learn(
         &mut self,

@@ -95,6 +95,16 @@ pub struct ShownScript {
     pub unspendable: u32,
 }
 
+/// What a script left: how many elements its stack has, and their bytes together; or the number of its failure, which is
+/// 0 where there is none.
+#[repr(C)]
+#[derive(Clone, Copy, Drop)]
+pub struct ShownStack {
+    pub elements: u64,
+    pub size: u64,
+    pub error: u32,
+}
+
 /// Which rules of scripts are in force: those whose number isn't 0.
 #[repr(C)]
 #[derive(Clone, Copy, Drop)]

@@ -1,9 +1,11 @@
 //! What a session knows of signatures.
 
+ghost use Rattle.std.specs.Prelude.{◌≡◌, IfOk};
 ghost use Rattle.ffi.specs.inside.Signatures.{known_in};
 
 use curve::{KeptTriple, KnownSignatures, KnowsSignatures, Table};
 use queue::{Judges, Undecided};
+use wire::Memory;
 
 /// The valid signatures, or verdicts that are found out by need.
 #[derive(Drop)]
@@ -12,6 +14,18 @@ pub enum Signatures {
     Listed(Table),
     /// Of all others nothing is known.
     Found(KnownSignatures),
+}
+
+impl Signatures {
+    /// The same.
+    pub(crate) fn copy(&self) -> Result<Signatures, Memory>
+        ensures { IfOk result (λ signatures. signatures ≡ self.now) }
+    {
+        match self {
+            Signatures::Listed(table) => Ok(Signatures::Listed(table.copy()?)),
+            Signatures::Found(found) => Ok(Signatures::Found(found.copy()?)),
+        }
+    }
 }
 
 impl KnowsSignatures for Signatures {

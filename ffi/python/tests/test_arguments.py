@@ -105,6 +105,11 @@ WRONG: Dict[str, List[Any]] = {
         None, *(own for own in NOTHING if not isinstance(own, Iterator)), *NUMBERS, *FRACTIONS, *TEXTS, *OCTETS, {},
         {1: 2}, ["P2SH"], [1], [None], {b"CSV"},
     ],
+    "rules": [
+        None, *(own for own in NOTHING if not isinstance(own, Iterator)), *NUMBERS, *FRACTIONS, *TEXTS, *OCTETS, {},
+        {1: 2}, ["WITNESS"], [1], [None], {b"P2SH"},
+    ],
+    "stack": [*SEQUENCE, [1], [None], ["aa"], [b"aa", 1], [array.array("I", [1])]],
     "heights": [*SEQUENCE, [], [1], [1] * 3, [1] * 5, [1, 1, 1, -1], [1, 1, 1, 1 << 32], [1, 1, 1, 0.5], [1, 1, 1, "1"]],
     "optional heights": [
         *SEQUENCE[1:], [], [1], [1] * 3, [1] * 5, [1, 1, 1, -1], [1, 1, 1, 1 << 32], [1, 1, 1, 0.5], [True] * 4,
@@ -231,6 +236,10 @@ ROWS = [
         table=("lines", b""), signatures=("optional source", "secp256k1")),
     row("consensus.verify_known", data=DATA, input=("number", 0), spent=("bytes", b""), flags=("flags", {"CSV"}),
         valid=("lines", ""), invalid=("lines", b"")),
+    row("consensus.verify_script", data=DATA, input=("number", 0), spent=("bytes", b""), flags=("rules", {"P2SH"}),
+        valid=("lines", ""), invalid=("lines", b"")),
+    row("consensus.eval_script", data=DATA, input=("number", 0), script=("bytes", b""), stack=("stack", [b"\1"]),
+        flags=("rules", ["CSV"]), valid=("lines", ""), invalid=("lines", b"")),
     row("consensus.triple_of", triple=("triple", TRIPLE)), row("consensus.Triple.of_line", line=("line", TRIPLE.line)),
     row("consensus.Triple.of_lines", lines=("list of lines", [TRIPLE.line])), row("consensus.Table", text=("lines", "")),
     row("consensus.Table.add", key=("bytes", b""), signature=("bytes", b""), digest=ID),
@@ -308,7 +317,7 @@ INSIDE = {"addresses.base58", "addresses.data_of", "chainstate.reply_of"} | {
 #: What calls answer, and who is called: nobody makes them.
 ANSWERS = {
     "consensus.Transaction", "consensus.Input", "consensus.Output", "consensus.Parts", "consensus.Block",
-    "consensus.Opcode", "consensus.Script", "consensus.Refused", "consensus.Triple", "chainstate.Coin",
+    "consensus.Opcode", "consensus.Script", "consensus.Refused", "consensus.Triple", "consensus.ScriptError", "chainstate.Coin",
     "chainstate.Tip", "chainstate.Reply", "chainstate.Reply.check", "bench.Entry", "encoding.EncodingError",
     "encoding.Merkle", "encoding.Target",
     "encoding.Input", "encoding.Output", "encoding.Transaction", "encoding.Header", "encoding.Block", "encoding.Spelled",

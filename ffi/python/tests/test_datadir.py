@@ -524,7 +524,7 @@ class FlagsTest(FolderCase):
             ("-chain=", "regtest alone"), ("-testnet", "regtest alone"), ("-signet=1", "regtest alone"),
             ("-server=0", "the server"), ("-noserver", "the server"), ("-daemon", "foreground"), ("-daemon=1", "foreground"),
             ("-daemonwait", "foreground"), ("-listen", "peers"), ("-listen=1", "peers"), ("-connect=10.0.0.1", "peers"), ("-connect=localhost", "peers"),
-            ("-addnode=10.0.0.1", "peers"), ("-upnp", "peers"), ("-discover=1", "peers"), ("-debuglogfile=x.log", "logged"), ("-txindex", "index"), ("-txindex=1", "index"), ("-rest", "/rest/"),
+            ("-addnode=10.0.0.1", "peers"), ("-upnp", "peers"), ("-discover=1", "peers"), ("-debuglogfile=x.log", "logged"), ("-blockfilterindex", "index"), ("-coinstatsindex=1", "index"), ("-maxmempool=x", "number"), ("-rest", "/rest/"),
             ("-prune=550", "pruned"), ("-rpcallowip=0.0.0.0/0", "this machine"), ("-rpcallowip=::/0", "this machine"),
             ("-rpcallowip=127.0.0.0/7", "this machine"), ("-rpcallowip=x", "this machine"), ("-rpcthreads=x", "number"),
             ("-fallbackfee=x", "amount"), ("-fallbackfee=", "amount"), ("-zmqpubrawblock=tcp://10.0.0.1:1", "loopback"),
@@ -565,6 +565,7 @@ class FlagsTest(FolderCase):
             ("rpcuser=a # b", "rpcuser", "a"), ("rpcuser=a\nrpcuser=b", "rpcuser", "a"), ("rpcuser=a#b", "rpcuser", "a"),
             ("rpcauth=a:b$c\nrpcauth=d:e$f", "rpcauth", ["d:e$f", "a:b$c"]), ("[regtest]\nrpcport=5", "rpcport", 0),
             ("testactivationheight=csv@432", "heights", (1, 1, 1, 432)), ("listen=0\ntxindex=0\nfallbackfee=0.1", "rpcport", 0),
+            ("txindex=1", "txindex", True), ("txindex=0", "txindex", False), ("maxmempool=5", "maxmempool", 5), ("", "maxmempool", 300),
         ]  # fmt: skip
         for text, name, value in table:
             with self.subTest(text):
@@ -580,7 +581,7 @@ class FlagsTest(FolderCase):
             ("rpcpassword=a#b", "line 1: # in rpcpassword can be ambiguous"), ("\nrpcpassword=#b", "line 2"),
             ("regtest", "line 1 isn't NAME=VALUE"), ("-server=1", "line 1 isn't NAME=VALUE"), ("[x", "line 1 isn't NAME=VALUE"),
             ("rpcport=5", "in the section [regtest]"), ("rpcbind=127.0.0.1", "in the section [regtest]"),
-            ("txindex=1", "line 1: -txindex=1 isn't taken: there is no such index"), ("daemon=1", "-daemon=1 isn't taken"),
+            ("blockfilterindex=1", "line 1: -blockfilterindex=1 isn't taken: there is no such index"), ("daemon=1", "-daemon=1 isn't taken"),
             ("includeconf=x", "includeconf"), ("datadir=x", "datadir"), ("[regtest]\nrpcbind=0.0.0.0", "loopback"),
             ("regtest=0", "regtest alone"), ("[regtest]\nrpcport=x", "number"),
         ]  # fmt: skip

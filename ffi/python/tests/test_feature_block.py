@@ -128,7 +128,8 @@ class Chain(unittest.TestCase):
         self.assertEqual(self.best(), show(self.places[name][1]))
 
     def is_coin(self, tx, index=0):
-        return self.call("gettxout", show(tx.id), index) is not None
+        # By blocks alone: what they had may wait again.
+        return self.call("gettxout", show(tx.id), index, False) is not None
 
 
 class ForksTest(Chain):

@@ -22,7 +22,7 @@ STRUCTS: Dict[str, Any] = {
     "wakotehu_coin": library.Coin, "wakotehu_transaction": consensus._Transaction, "wakotehu_input": consensus._Input,
     "wakotehu_output": consensus._Output, "wakotehu_start": consensus._Start, "wakotehu_block_shown": consensus._Block,
     "wakotehu_made": consensus._Made, "wakotehu_opcode": consensus._Opcode, "wakotehu_script_shown": consensus._Script,
-    "wakotehu_flags": consensus._Flags,
+    "wakotehu_flags": consensus._Flags, "wakotehu_evaluated": consensus._Evaluated,
 }  # fmt: skip
 SCALARS: Dict[str, Any] = {
     "uint8_t": ctypes.c_uint8, "uint32_t": ctypes.c_uint32, "uint64_t": ctypes.c_uint64, "int32_t": ctypes.c_int32,
@@ -138,7 +138,7 @@ class DeclarationsTest(unittest.TestCase):
 
     def test_each_call_and_struct_is_declared_as_the_header_has_it(self) -> None:
         header = read(self.text)
-        self.assertGreaterEqual(len(header.calls), 51)
+        self.assertGreaterEqual(len(header.calls), 55)
         self.assertEqual(set(header.structs), set(STRUCTS))
         self.assertEqual(differences(header, self.loaded), [])
         self.assertEqual(differences(read(text_of(SECP256K1)), self.secp256k1), [])
@@ -170,6 +170,20 @@ class DeclarationsTest(unittest.TestCase):
         self.assertEqual(len(consensus.FAULTS), len(faults) + 1)
         codes = {"OK": 0, "MEMORY": 1, "BAD_TABLE": 3, "NONE": 4, "TOO_SMALL": 5, "NULL": 8, "UNKNOWN": 29, "WANTS": 31}
         self.assertEqual({name: numbers[f"WAKOTEHU_{name}"] for name in codes}, codes)
+
+    def test_names_of_failures(self) -> None:
+        """The header's, by the library's words, are Python's, and so are the bits of rules."""
+        numbers = read(self.text).numbers
+        names = {error.value: error.name for error in consensus.ScriptError}
+        for n in range(1, 64):
+            self.assertEqual(self.loaded.wakotehu_script_error_name(n).decode(), names.get(n, ""))
+            self.assertEqual(bool(self.loaded.wakotehu_script_error_text(n)), n in names)
+        found = {name: n for name, n in numbers.items() if name.startswith("WAKOTEHU_SCRIPT_")}
+        self.assertEqual(found, {"WAKOTEHU_SCRIPT_OK": 0, **{f"WAKOTEHU_SCRIPT_{name}": n for n, name in names.items()}})
+        self.assertEqual(self.loaded.wakotehu_script_error_name(0), b"OK")
+        words = {"CLTV": "CHECKLOCKTIMEVERIFY", "CSV": "CHECKSEQUENCEVERIFY"}
+        bits = {name: numbers[f"WAKOTEHU_VERIFY_{words.get(name, name)}"] for name in consensus._BITS}
+        self.assertEqual(bits, consensus._BITS)
 
     def test_words(self) -> None:
         """The library's words for replies and reasons are Python's."""

@@ -194,13 +194,13 @@ class HelpersTest(unittest.TestCase):
             self.assertEqual(len(miner.tree().split("\n")), 5)
             self.assertEqual(miner.id_at(0)[:2], read_block(miner.block(miner.id_at(0))).header.id[:2])
 
-    def test_a_bench_that_is_replayed(self):
+    def test_a_bench_that_is_copied(self):
         """It has the same blocks, and is one of its own."""
         with Bench() as bench:
             miner = BenchMiner(bench)
             miner.mine(3)
             miner.reorg(2)
-            with bench._replayed() as other:
+            with bench.copy() as other:
                 for read in (Bench.best, Bench.coins, Bench.tips, lambda it: it.journal, lambda it: it.index.active,
                              lambda it: it.index.blocks, lambda it: it.index.transactions, Bench.branch):  # fmt: skip
                     self.assertEqual(read(other), read(bench))

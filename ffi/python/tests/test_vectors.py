@@ -46,7 +46,7 @@ SCRIPTS: List[Tuple[List[Any], str]] = [
     (["0x01 0x01", KEY, "DERSIG,STRICTENC", "SIG_DER"], ""),
     (["0x01 0x01", KEY, "", "EVAL_FALSE"], ""),
     (["0x01 0x00", INNER, "P2SH", "EVAL_FALSE"], ""),
-    (["0x01 0x00", INNER, "", "OK"], "no P2SH"),
+    (["0x01 0x00", INNER, "", "OK"], ""),
     (["0x01 0x00 NOP", INNER, "P2SH", "SIG_PUSHONLY"], ""),
     (["1 NOP", "1", "SIGPUSHONLY", "SIG_PUSHONLY"], "SIGPUSHONLY"),
     (["0x01 0x00 NOP", INNER, "P2SH,SIGPUSHONLY", "SIG_PUSHONLY"], "SIGPUSHONLY"),
@@ -100,8 +100,8 @@ TRANSACTIONS: List[Tuple[List[Any], str, str, str]] = [
     ([point("127 CHECKLOCKTIMEVERIFY"), PLAIN, "P2SH"], "", "!", "!"),
     ([point("1 CHECKSEQUENCEVERIFY"), PLAIN, "CHECKSEQUENCEVERIFY"], "!", "", ""),
     ([point("1 CHECKSEQUENCEVERIFY"), PLAIN, "CHECKLOCKTIMEVERIFY"], "", "!", "!"),
-    ([point(INNER), PUSHED, "P2SH"], "!", "no P2SH", ""),
-    ([point(INNER), PUSHED, "NONE"], "no P2SH", "!", ""),
+    ([point(INNER), PUSHED, "P2SH"], "!", "", ""),
+    ([point(INNER), PUSHED, "NONE"], "", "!", "!"),
     ([point("1"), EMPTY, "BADTX"], "!", "!", ""),
     ([point("1"), EMPTY, "P2SH"], "!", "!", ""),
     ([point("1"), PLAIN, "BADTX"], "BADTX", "", "!"),
@@ -153,6 +153,15 @@ class PlayTest(unittest.TestCase):
                 rows = [row for row, _ in SCRIPTS]
                 rows[n] = [*row[:2], names, other]
                 self.came("script", rows, [*(it for _, it in SCRIPTS[:n]), "!", *(it for _, it in SCRIPTS[n + 1 :])])
+
+    def test_wrong_names_are_told(self) -> None:
+        """Each refused row that is played, with the name of another failure. SCRIPTNUM is UNKNOWN_ERROR."""
+        for row, said in SCRIPTS:
+            if said == "" and row[3] != "OK":
+                other = "OP_COUNT" if row[3] == "OP_RETURN" else "OP_RETURN"
+                names = ",".join(name for name in row[2].split(",") if name not in ("WITNESS", "TAPROOT"))
+                self.came("script", [[*row[:2], names, other]], ["!"])
+        self.came("script", [["0x050102030405", "1ADD", "", name] for name in ("SCRIPTNUM", "UNKNOWN_ERROR", "VERIFY")], ["", "", "!"])
 
     def test_transactions(self) -> None:
         rows = [row for row, *_ in TRANSACTIONS]

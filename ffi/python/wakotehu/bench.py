@@ -102,16 +102,16 @@ class Bench(Walks):
         """As of a `Chainstate`."""
         raise TypeError("a Bench can't be copied or pickled")
 
-    def _replayed(self) -> "Bench":
-        """Another bench to which the same blocks were submitted. What is known of them is copied, so that is twice as fast as
-        to submit them; the chainstate takes each anew."""
-        found = Bench(self.heights, self.table)
-        for entry in self.journal:
-            data = self.chain.block(entry.id)
-            assert data is not None and entry.command == "submit", "of blocks alone"
-            reply = found.chain._submit_into(Answer(), data, entry.now)
-            assert reply.text == entry.reply, "a chainstate replies the same"
-        found._index, found._journal = self.index.copy(), list(self.journal)
+    def copy(self) -> "Bench":
+        """Another bench that is the same: blocks are shared, coins and verdicts copied. Each then goes its own way. `taken` isn't
+        copied."""
+        self._settle()
+        found = Bench.__new__(Bench)
+        found.heights, found._journal, found._begun = self.heights, list(self._journal), []
+        found.taken = lambda *words: None
+        found.rounds = found.found_out = 0
+        found._index, found._verifier, found._table = self._index.copy(), self._verifier, bytearray(self._table)
+        found.chain = self.chain.copy()
         return found
 
     def close(self) -> None:
@@ -150,6 +150,16 @@ class Bench(Walks):
         id = double_sha(spelled.data[:80])
         step = _Step("submit", id, now, spelled, id not in self.index.blocks)
         return self._taken(step, lambda: self.chain._submit_into(step.answer, spelled.data, now))
+
+    def judge(self, block: bytes, now: Optional[int] = None) -> Reply:
+        """As `Chainstate.judge`. Signatures that it asks for are found out, and stay known."""
+        data, moment = octets(block, "block"), moment_of(now)
+        try:
+            spelled = block_at_front(data)
+        except EncodingError:
+            return self.chain.judge(data, moment)
+        step = _Step("judge", double_sha(data[:80]), moment, spelled, False)
+        return self._by_need(step, lambda: self.chain.judge(data, moment))
 
     def try_mark(self, command: str, id: bytes) -> Reply:
         """As `Chainstate.try_mark`."""

@@ -148,7 +148,8 @@ class Chainstate:
             self._library.wakotehu_close(self._handle)
 
     def __reduce_ex__(self, protocol: object) -> NoReturn:
-        """A chainstate isn't copied and isn't pickled: a copy would close the original's handle."""
+        """A chainstate isn't copied by `copy.copy` and isn't pickled: that copy would close the original's handle. `copy`
+        makes another one."""
         raise TypeError("a Chainstate can't be copied or pickled")
 
     # ---- commands
@@ -171,6 +172,19 @@ class Chainstate:
         known even where an interrupt keeps this from returning."""
         block, moment = octets(block, "block"), moment_of(now)
         return self._command("submit", arguments.instance(answer, Answer, "answer"), block, len(block), moment)
+
+    def judge(self, block: bytes, now: Optional[int] = None) -> Reply:
+        """What `try_submit` would answer now. No step is taken: the block isn't kept."""
+        block, moment = octets(block, "block"), moment_of(now)
+        return self._command("judge", Answer(), block, len(block), moment)
+
+    def copy(self) -> "Chainstate":
+        """Another chainstate that is the same: blocks are shared, coins and verdicts copied. Each then goes its own way."""
+        handle = ctypes.c_uint64()
+        self._check(self._library.wakotehu_copy(self._handle, ctypes.byref(handle)))
+        found = Chainstate.__new__(Chainstate)
+        found._library, found._handle = self._library, handle.value
+        return found
 
     def invalidate(self, id: bytes) -> None:
         """Marks a block as invalid. One that isn't kept raises `NotFound`; the genesis block raises `Genesis`."""

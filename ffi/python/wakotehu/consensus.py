@@ -8,6 +8,8 @@ import ctypes
 from binascii import unhexlify
 from ctypes import POINTER, c_char_p, c_int, c_int64, c_size_t, c_uint8, c_uint32, c_uint64
 from dataclasses import dataclass
+from enum import Enum
+from itertools import accumulate
 from typing import Any, Callable, Iterable, Iterator, List, NamedTuple, Optional, Sequence, Tuple, Union
 
 from . import arguments, spelling
@@ -24,6 +26,41 @@ FAULTS = {
 _MOST_ASKED = 2145
 #: All rules of scripts that came by soft forks.
 ALL = frozenset({"DERSIG", "CLTV", "CSV"})
+#: The same with BIP 16, which the calls that name a failure can do without.
+NAMED = ALL | {"P2SH"}
+
+
+class ScriptError(Enum):
+    """Why a script fails: Bitcoin Core's names and numbers."""
+
+    UNKNOWN_ERROR = 1
+    EVAL_FALSE = 2
+    OP_RETURN = 3
+    SCRIPT_SIZE = 4
+    PUSH_SIZE = 5
+    OP_COUNT = 6
+    STACK_SIZE = 7
+    SIG_COUNT = 8
+    PUBKEY_COUNT = 9
+    VERIFY = 10
+    EQUALVERIFY = 11
+    CHECKMULTISIGVERIFY = 12
+    CHECKSIGVERIFY = 13
+    NUMEQUALVERIFY = 14
+    BAD_OPCODE = 15
+    DISABLED_OPCODE = 16
+    INVALID_STACK_OPERATION = 17
+    INVALID_ALTSTACK_OPERATION = 18
+    UNBALANCED_CONDITIONAL = 19
+    NEGATIVE_LOCKTIME = 20
+    UNSATISFIED_LOCKTIME = 21
+    SIG_DER = 23
+    SIG_PUSHONLY = 25
+
+    @property
+    def text(self) -> str:
+        """Bitcoin Core's text for it."""
+        return _word("text", self.value)
 
 
 class Refused(Error):
@@ -76,6 +113,10 @@ class _Flags(ctypes.Structure):
     _fields_ = [("dersig", c_uint32), ("cltv", c_uint32), ("csv", c_uint32)]
 
 
+class _Evaluated(ctypes.Structure):
+    _fields_ = [("elements", c_uint64), ("size", c_uint64), ("error", c_uint32)]
+
+
 class _Start(ctypes.Structure):
     _fields_ = [("height", c_uint32), ("median", c_uint32)]
 
@@ -111,6 +152,13 @@ _CALLS = {
         _BYTES + [c_uint64] + _BYTES + [POINTER(_Flags)] + _BYTES * 2 + [POINTER(c_uint64)] + _YES + _BYTES
         + [POINTER(c_uint64)]
     ),
+    "verify_script": (
+        _BYTES + [c_uint64] + _BYTES + [c_uint32] + _BYTES * 2 + [POINTER(c_uint64)] + _YES + _BYTES + [POINTER(c_uint64)]
+    ),
+    "eval_script": (
+        _BYTES + [c_uint64] + _BYTES + [c_uint32, POINTER(c_uint64), c_size_t] + _BYTES * 3
+        + [POINTER(c_uint64), POINTER(_Evaluated), POINTER(c_uint64), c_size_t] + _BYTES * 2 + [POINTER(c_uint64)]
+    ),
     "table_read": _BYTES + [POINTER(c_uint64)],
     "table_has": _BYTES * 3 + [c_char_p, POINTER(c_uint64)] + _YES,
     "table_add": _BYTES + [POINTER(c_size_t)] + _BYTES * 2 + [c_char_p],
@@ -138,6 +186,8 @@ def _call(name: str, *args: Any) -> int:
             getattr(loaded, f"wakotehu_{call}").argtypes = types
             getattr(loaded, f"wakotehu_{call}").restype = c_int
         loaded.wakotehu_subsidy.argtypes, loaded.wakotehu_subsidy.restype = [c_uint32], c_int64
+        for word in (loaded.wakotehu_script_error_name, loaded.wakotehu_script_error_text):
+            word.argtypes, word.restype = [c_uint32], c_char_p
         _ready = loaded
     code = int(getattr(_ready, f"wakotehu_{name}")(*args))
     if code == 1:
@@ -147,6 +197,12 @@ def _call(name: str, *args: Any) -> int:
     if code == 8:
         raise ValueError("a length is too large")
     return code
+
+
+def _word(kind: str, error: int) -> str:
+    """What the library calls a script's failure."""
+    _call("double_sha", b"", 0, ctypes.create_string_buffer(32))
+    return bytes(getattr(library(), f"wakotehu_script_error_{kind}")(error)).decode()
 
 
 def _sized(data: bytes, name: str = "data") -> Tuple[bytes, int]:
@@ -573,7 +629,61 @@ def _verify_really(data: bytes, input: int, spent: bytes, flags: List[str], tabl
         known[verdict] += found.line
 
 
+def verify_script(
+    data: bytes, input: int, spent: bytes, flags: Iterable[str] = NAMED,
+    valid: Union[str, bytes, Table] = b"", invalid: Union[str, bytes, Table] = b"",
+) -> Union[None, ScriptError, Triple]:  # fmt: skip
+    """Why an input of a transaction may not spend a script, None where it may, under some of "P2SH", "DERSIG", "CLTV" and
+    "CSV"; or, as by `verify_known`, a triple of which nothing is known."""
+    line, error, needed = c_uint64(), c_uint32(), c_uint64()
+    room = ctypes.create_string_buffer(_MOST_ASKED)
+    asked = (*_sized(data), number(input, "input", 64), *_sized(spent, "spent"), _bits(flags))
+    tables = (*_sized(_text(valid, "valid")), *_sized(_text(invalid, "invalid")))
+    code = _call("verify_script", *asked, *tables, line, error, room, _MOST_ASKED, needed)
+    if code == 3:
+        raise BadTable(line.value)
+    if code == 29:
+        return Triple.of_line(room.raw[: needed.value])
+    return ScriptError(error.value) if error.value else None
+
+
+def eval_script(
+    data: bytes, input: int, script: bytes, stack: Sequence[bytes] = (), flags: Iterable[str] = NAMED,
+    valid: Union[str, bytes, Table] = b"", invalid: Union[str, bytes, Table] = b"",
+) -> Union[List[bytes], ScriptError, Triple]:  # fmt: skip
+    """Runs one script on a stack, whose top is last, with signatures of an input of a transaction: the stack that it
+    leaves, or why it fails; or a triple of which nothing is known."""
+    line, told, needed = c_uint64(), _Evaluated(), c_uint64()
+    given = [octets(element, "stack") for element in arguments.sequence(stack, "stack")]
+    sizes, joined = (c_uint64 * len(given))(*map(len, given)), b"".join(given)
+    asked = (*_sized(data), number(input, "input", 64), *_sized(script, "script"), _bits(flags))
+    tables = (*_sized(_text(valid, "valid")), *_sized(_text(invalid, "invalid")))
+    most, room = 1000 + len(given), ctypes.create_string_buffer(_MOST_ASKED)
+    left_sizes, left = (c_uint64 * most)(), ctypes.create_string_buffer(65536)
+    while True:
+        rooms = (left_sizes, most, left, len(left), room, _MOST_ASKED, needed)
+        code = _call("eval_script", *asked, sizes, len(given), joined, len(joined), *tables, line, told, *rooms)
+        if code != 5 or told.size <= len(left):
+            break
+        left = ctypes.create_string_buffer(told.size)
+    if code == 3:
+        raise BadTable(line.value)
+    if code == 29:
+        return Triple.of_line(room.raw[: needed.value])
+    if told.error:
+        return ScriptError(told.error)
+    ends = list(accumulate(left_sizes[: told.elements]))
+    raw = left.raw[: told.size]
+    return [raw[begin:end] for begin, end in zip([0, *ends], ends)]
+
+
 _FORCED = ("DERSIG", "CLTV", "CSV")
+#: The bits of rules, which are Bitcoin Core's.
+_BITS = {"P2SH": 1, "DERSIG": 4, "CLTV": 512, "CSV": 1024}
+
+
+def _bits(flags: Iterable[str]) -> int:
+    return sum(_BITS[name] for name in set(arguments.words_of(flags, "flags", tuple(_BITS))))
 
 
 def _words(flags: Iterable[str]) -> List[str]:

@@ -35,6 +35,8 @@ _CALLS = {
     "learn": [c_uint64, c_char_p, c_size_t, c_char_p, c_size_t, c_char_p, c_int],
     "close": [c_uint64],
     "submit": [c_uint64, c_char_p, c_size_t, c_uint64, POINTER(Answer)],
+    "judge": [c_uint64, c_char_p, c_size_t, c_uint64, POINTER(Answer)],
+    "copy": [c_uint64, POINTER(c_uint64)],
     "invalidate": [c_uint64, c_char_p, POINTER(Answer)],
     "reconsider": [c_uint64, c_char_p, POINTER(Answer)],
     "precious": [c_uint64, c_char_p, POINTER(Answer)],

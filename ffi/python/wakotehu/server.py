@@ -20,7 +20,8 @@ from .errors import Error
 from .pool import SEATS, Pool
 from .replicapool import ReplicaPool
 from .rpc import (
-    addresses, blockchain, chain, control, descriptors, making, mining, notices, proofs, settings, signing, stats, txs,
+    addresses, blockchain, chain, control, descriptors, making, mining, notices, proofs, sending, settings, signing, stats,
+    template, txs, waiting,
 )  # fmt: skip
 from .rpc.auth import COOKIE_USER, Gate, remove_cookie, write_cookie
 from .rpc.datadir import BadFolder, Folder, Opening
@@ -32,7 +33,8 @@ from .version import __version__
 
 #: The modules that put calls into the table.
 MODULES = (
-    addresses, blockchain, chain, control, descriptors, making, mining, notices, proofs, signing, stats, txs,
+    addresses, blockchain, chain, control, descriptors, making, mining, notices, proofs, sending, signing, stats, template,
+    txs, waiting,
 )  # fmt: skip
 #: M_MMAP_THRESHOLD of glibc's malloc.h.
 _MMAP_THRESHOLD = -3
@@ -108,10 +110,11 @@ class _Also(argparse.Action):
 _ZMQ = {
     "hashblock": "publishes the hash of each best block by ZeroMQ: tcp://127.0.0.1:N or ipc://PATH; needs python3-zmq."
     " -zmqpubhashblockhwm=N, and so on: how many messages wait, 1000 by default",
-    "hashtx": "the id of each transaction of a block that comes or goes",
+    "hashtx": "the id of each transaction that comes to the mempool, and of a block that comes or goes",
     "rawblock": "each best block",
-    "rawtx": "each transaction of a block that comes or goes",
-    "sequence": "the hash of each block that comes (C) or goes (D)",
+    "rawtx": "each transaction that comes to the mempool, and of a block that comes or goes",
+    "sequence": "the hash of each block that comes (C) or goes (D), and the id of each transaction that comes to the mempool (A)"
+    " or leaves it without being mined (R)",
 }
 
 
@@ -147,6 +150,8 @@ def _parser() -> _Parser:
     for topic in settings.TOPICS:
         add(f"--zmqpub{topic}", action="append", default=[], metavar="ADDRESS", help=_ZMQ[topic])
         add(f"--zmqpub{topic}hwm", metavar="N", help=argparse.SUPPRESS)
+    add("--maxmempool", metavar="N", help="how many MB of transactions may wait to be mined; 300 by default")
+    add("--txindex", nargs="?", const="1", default="0", help="getrawtransaction finds transactions of active blocks by their ids alone")
     add("--blocknotify", metavar="COMMAND", help="is run when another block is the active one, with its hash for %%s")
     add("--version", action="version", version=__version__)
     for name in settings.RULES:
@@ -175,6 +180,8 @@ def _given(words: Sequence[str]) -> argparse.Namespace:
             parser.error(f"-testactivationheight={it}: forks are bip34, cltv (bip65), dersig (bip66) and csv")
         heights[FORKS[fork]] = _number(parser, number, "-testactivationheight", 2**32 - 1)
     given.heights = tuple(heights) if given.testactivationheight else None
+    given.maxmempool = _number(parser, "300" if given.maxmempool is None else given.maxmempool, "-maxmempool", 100_000)
+    given.txindex = settings.is_on(given.txindex)
     given.notices = _notices(parser, given)
     return given
 
@@ -329,9 +336,8 @@ def _run(given: argparse.Namespace, folder: Optional[Folder], cookies: List[Tupl
                     cookies.append(_bake(given, gate, port))
             print(f"127.0.0.1:{port}" + "".join(f" cookie {path}" for path, _ in cookies), flush=True)
 
-        node = Node(bench)
-        if publisher is not None:
-            publisher.follow(node)
+        node = Node(bench, given.maxmempool * 1_000_000, given.txindex)
+        node.publisher = publisher
         serve(node, gate, hosts, given.rpcport, ready)
         if node.broken:
             raise Error(node.broken)

@@ -60,7 +60,7 @@ def _wakotehu_miners(request: pytest.FixtureRequest) -> _Miners:
 @pytest.fixture
 def bench(_wakotehu_base: Bench, _wakotehu_miners: _Miners) -> Iterator[Bench]:
     """A `Bench` of 101 blocks, whose coins anyone spends."""
-    with _wakotehu_base._replayed() as found:
+    with _wakotehu_base.copy() as found:
         _wakotehu_miners["bench"] = BenchMiner(found)
         yield found
 

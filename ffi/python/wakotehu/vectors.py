@@ -14,10 +14,11 @@ from typing import Any, Callable, Dict, FrozenSet, Iterator, List, NamedTuple, N
 from . import consensus
 from .encoding import Input, Output, Transaction, write_transaction
 from .errors import Error
+from .signatures import secp256k1
 from .spelling import read_script
 
-#: The flags that are rules here; pay-to-script-hash always is one.
-_OURS = {"DERSIG": "DERSIG", "CHECKLOCKTIMEVERIFY": "CLTV", "CHECKSEQUENCEVERIFY": "CSV"}
+#: The flags that are rules here.
+_OURS = {"P2SH": "P2SH", "DERSIG": "DERSIG", "CHECKLOCKTIMEVERIFY": "CLTV", "CHECKSEQUENCEVERIFY": "CSV"}
 #: Flags that refuse more by themselves, and change nothing else; and the errors by which they do.
 _POLICY: Dict[str, FrozenSet[str]] = {
     "STRICTENC": frozenset({"SIG_DER", "SIG_HASHTYPE", "PUBKEYTYPE"}), "LOW_S": frozenset({"SIG_DER", "SIG_HIGH_S"}),
@@ -96,13 +97,13 @@ def _names(flags: str) -> List[str]:
 def _forced(names: List[str]) -> List[str]:
     """What is in force here of some flags. One that nobody knows may mean anything."""
     for name in names:
-        if name != "P2SH" and name not in _OURS and name not in _POLICY and name not in _WITNESS:
+        if name not in _OURS and name not in _POLICY and name not in _WITNESS:
             raise Skipped(name)
     return [_OURS[name] for name in names if name in _OURS]
 
 
 def _others(names: List[str]) -> List[str]:
-    return [name for name in names if name != "P2SH" and name not in _OURS]
+    return [name for name in names if name not in _OURS]
 
 
 def _need(names: List[str], error: str) -> None:
@@ -116,8 +117,15 @@ def _need(names: List[str], error: str) -> None:
         raise Skipped(",".join(others))
 
 
-def _pays_hash(script: bytes) -> bool:
-    return consensus.script(script).p2sh
+def _failure(raw: bytes, input: int, spent: bytes, forced: List[str]) -> Optional[str]:
+    """Why an input may not spend, by Core's name, with libsecp256k1's word on signatures."""
+    known = {True: b"", False: b""}
+    while True:
+        found = consensus.verify_script(raw, input, spent, forced, known[True], known[False])
+        if not isinstance(found, consensus.Triple):
+            return None if found is None else found.name
+        [verdict] = secp256k1([found.line])
+        known[verdict] += found.line
 
 
 # ---- rows
@@ -159,10 +167,9 @@ def play_script(row: Row) -> Optional[str]:
     forced = _forced(names)
     if error != "OK":
         _need(names, error)
-    elif "P2SH" not in names and _pays_hash(spent):
-        raise Skipped("no P2SH")
-    found = consensus.verify(spending(own, spent), 0, spent, forced, signatures="secp256k1")
-    return None if found == (error == "OK") else f"{'accepted' if found else 'refused'}, and not {error}"
+    found = _failure(spending(own, spent), 0, spent, forced) or "OK"
+    # A number that is too long has a name of its own in later versions.
+    return None if found == ("UNKNOWN_ERROR" if error == "SCRIPTNUM" else error) else f"{found}, and not {error}"
 
 
 def _read_transaction(row: Row) -> Tuple[bytes, consensus.Parts, str]:
@@ -198,8 +205,7 @@ def _outputs(row: Row, parts: consensus.Parts) -> List[bytes]:
 
 def _refused_input(raw: bytes, spent: List[bytes], forced: List[str]) -> Optional[int]:
     """The first input that may not spend."""
-    verdicts = (consensus.verify(raw, n, script, forced, signatures="secp256k1") for n, script in enumerate(spent))
-    return next((n for n, verdict in enumerate(verdicts) if not verdict), None)
+    return next((n for n, script in enumerate(spent) if _failure(raw, n, script, forced) is not None), None)
 
 
 def play_valid(row: Row, is_excluded: bool) -> Optional[str]:
@@ -210,8 +216,6 @@ def play_valid(row: Row, is_excluded: bool) -> Optional[str]:
         return f"refused by {reason}"
     spent = _outputs(row, parts)
     forced = [own for name, own in _OURS.items() if name not in names] if is_excluded else _forced(names)
-    if ("P2SH" in names) == is_excluded and any(map(_pays_hash, spent)):
-        raise Skipped("no P2SH")
     place = _refused_input(raw, spent, forced)
     return None if place is None else f"input {place} is refused"
 

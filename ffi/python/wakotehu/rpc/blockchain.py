@@ -5,7 +5,7 @@ from typing import Any, Callable, Dict, List, Optional
 
 from ..chainstate import show
 from ..encoding import double_sha, read_block, write_header
-from ..index import Kept
+from ..index import Kept, Unspent
 from ..pool import Coins
 from .errors import INVALID_ADDRESS_OR_KEY, INVALID_PARAMETER, MISC_ERROR, RpcError
 from .node import Node, call
@@ -148,13 +148,20 @@ def getblockchaininfo(node: Node) -> Object:
 
 @call(GROUP, "txid", "n", "include_mempool", needed=2)
 def gettxout(node: Node, txid: Any, n: Any, include_mempool: Any) -> Optional[Object]:
-    """An output that isn't spent, or null. There is no mempool."""
+    """An output that isn't spent, or null; neither by what waits to be mined, where include_mempool isn't false."""
     id, index = digits(txid, "txid"), integer(n)
-    if include_mempool is not None:
-        boolean(include_mempool)
+    if include_mempool is None or boolean(include_mempool):
+        with node.mempool.used():
+            waiting, is_spent = node.mempool.coin(id, index), (id, index) in node.mempool.spenders
+        if is_spent:
+            return None
+        if waiting is not None:
+            return _unspent(Unspent(waiting, node.tip().id, 0))
     found = node.bench.unspent(id, index) if index >= 0 else None
-    if found is None:
-        return None
+    return None if found is None else _unspent(found)
+
+
+def _unspent(found: Unspent) -> Object:
     coin = found.coin
     return {
         "bestblock": show(found.best),

@@ -99,7 +99,8 @@ def _is_right(node: Node, kept: Kept, parent: Kept, data: bytes, level: int) -> 
 
 @call("Util", "index_name")
 def getindexinfo(node: Node, index_name: Any) -> Object:
-    """The state of indices: there are none."""
-    if index_name is not None:
-        text(index_name)
-    return {}
+    """The state of indices: that of -txindex."""
+    name = "txindex" if index_name is None else text(index_name)
+    if not node.has_index or name != "txindex":
+        return {}
+    return {"txindex": {"synced": True, "best_block_height": node.tip().height}}

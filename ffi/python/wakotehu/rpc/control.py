@@ -1,4 +1,4 @@
-"""Calls about the server itself, and about a mempool and peers, of which there are none."""
+"""Calls about the server itself, and about peers, of which there are none."""
 
 import time
 from typing import Any, Dict, List
@@ -9,7 +9,7 @@ from .errors import INVALID_PARAMETER, RpcError
 from .node import CALLS, Node, call
 from ..addresses import spelled as address
 from .scripts import SCRIPT_PREFIX
-from .values import Amount, Object, boolean, integer, text
+from .values import Amount, Object, integer, text
 
 
 @call("Control", "command")
@@ -98,7 +98,7 @@ MOST_BLOCKS = 1008
 
 @call("Util", "conf_target", "estimate_mode", needed=1, types=("number", "string"))
 def estimatesmartfee(node: Node, conf_target: Any, estimate_mode: Any) -> Object:
-    """What fee a transaction needs: without a mempool there is no estimate."""
+    """What fee a transaction needs: there is no estimate, since none is asked for."""
     if not 1 <= integer(conf_target) <= MOST_BLOCKS:
         raise RpcError(INVALID_PARAMETER, f"Invalid conf_target, must be between 1 and {MOST_BLOCKS}")
     if estimate_mode is not None and estimate_mode.lower() not in ("unset", "economical", "conservative"):
@@ -114,28 +114,6 @@ def estimatesmartfee(node: Node, conf_target: Any, estimate_mode: Any) -> Object
 def getnewaddress(node: Node, label: Any, address_type: Any) -> str:
     """An address for bitcoin-cli's -generate. There is no wallet: it is the address of the script 51, which anyone spends."""
     return address(SCRIPT_PREFIX, hash160(b"\x51"))
-
-
-# ---- no mempool
-
-
-@call("Blockchain")
-def getmempoolinfo(node: Node) -> Object:
-    """The state of the mempool: there is none."""
-    fee = Amount(1000)
-    return {"loaded": True, "size": 0, "bytes": 0, "usage": 0, "maxmempool": 0, "mempoolminfee": fee,
-            "minrelaytxfee": fee, "unbroadcastcount": 0}  # fmt: skip
-
-
-@call("Blockchain", "verbose", "mempool_sequence")
-def getrawmempool(node: Node, verbose: Any, mempool_sequence: Any) -> Any:
-    """The transactions of the mempool: none."""
-    sequence = mempool_sequence is not None and boolean(mempool_sequence)
-    if verbose is not None and boolean(verbose):
-        if sequence:
-            raise RpcError(INVALID_PARAMETER, "Verbose results cannot contain mempool sequence values.")
-        return {}
-    return {"txids": [], "mempool_sequence": 1} if sequence else []
 
 
 # ---- no peers

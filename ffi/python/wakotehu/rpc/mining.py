@@ -16,7 +16,7 @@ from .node import Node, call
 from .scripts import address_script, descriptor_script, output_script
 from .trial import fault
 from .txs import MAX_SIZE, raw_transaction
-from .values import MAX_MONEY, Object, array, boolean, hexadecimal, integer, text
+from .values import MAX_MONEY, Object, array, boolean, digits, hexadecimal, integer, text
 
 GROUP, GENERATING = "Mining", "Generating"
 #: How many blocks one call may make.
@@ -73,7 +73,7 @@ def getmininginfo(node: Node) -> Object:
         "blocks": node.tip().height,
         "difficulty": 4.656542373906925e-10,
         "networkhashps": hashes_a_second(node, 120, -1),
-        "pooledtx": 0,
+        "pooledtx": len(node.mempool.entries),
         "chain": "regtest",
         "warnings": "",
     }
@@ -119,7 +119,8 @@ def _generate(node: Node, count: int, script: bytes, tries: int) -> List[str]:
     found: List[str] = []
     while len(found) < count and tries:
         with node.making():
-            block = _made(node, script, ())
+            with node.mempool.used():
+                block = _made(node, script, [entry.tx for entry in node.mempool.selection(script)])
             # Each nonce that didn't meet the target was a try.
             tries -= min(tries, int.from_bytes(block[76:80], "little"))
             if not tries:
@@ -134,7 +135,7 @@ def _generate(node: Node, count: int, script: bytes, tries: int) -> List[str]:
 
 @call(GENERATING, "nblocks", "address", "maxtries", needed=2)
 def generatetoaddress(node: Node, nblocks: Any, address: Any, maxtries: Any) -> List[str]:
-    """Makes blocks that pay to an address."""
+    """Makes blocks that pay to an address, and take in what waits."""
     count, tries, script = integer(nblocks), _tries(maxtries), address_script(text(address))
     if script is None:
         raise RpcError(INVALID_ADDRESS_OR_KEY, "Error: Invalid address")
@@ -156,10 +157,11 @@ def generate(node: Node) -> None:
 
 @call(GENERATING, "output", "transactions", "submit", needed=2)
 def generateblock(node: Node, output: Any, transactions: Any, submit: Any) -> Object:
-    """Makes a block of raw transactions that pays to an address or a descriptor; without submitting it where submit is
-    false. One that breaks a rule is never submitted."""
+    """Makes a block of transactions, raw ones or ids of those that wait, that pays to an address or a descriptor; without
+    submitting it where submit is false. One that breaks a rule is never submitted."""
     script = output_script(text(output))
-    made = [_raw_transaction(raw) for raw in array(transactions)]
+    with node.mempool.used():
+        made = [_raw_transaction(node, raw) for raw in array(transactions)]
     wanted = True if submit is None else boolean(submit)
     with node.making():
         block, broken = _tried(node, script, made)
@@ -183,10 +185,13 @@ def _tried(node: Node, script: bytes, transactions: Sequence[Transaction]) -> Tu
             return block, broken
 
 
-def _raw_transaction(raw: Any) -> Transaction:
+def _raw_transaction(node: Node, raw: Any) -> Transaction:
     given = text(raw)
     if re.fullmatch("[0-9a-fA-F]{64}", given):
-        raise RpcError(INVALID_ADDRESS_OR_KEY, f"Transaction {given} not in mempool.")
+        waiting = node.mempool.entries.get(digits(given, "txid"))
+        if waiting is None:
+            raise RpcError(INVALID_ADDRESS_OR_KEY, f"Transaction {given} not in mempool.")
+        return waiting.tx
     if len(given) > 2 * MAX_SIZE:
         raise RpcError(VERIFY_ERROR, "TestBlockValidity failed: bad-blk-length")
     return raw_transaction(

@@ -9,8 +9,9 @@ from ..chainstate import Reply
 from ..encoding import GENESIS, GENESIS_BLOCK, Output, Spelled, Transaction, read_transaction
 from ..errors import NodeDied, NotSaved, Owed
 from ..index import Kept
-from ..pool import Pool
+from ..pool import Move, Pool
 from .errors import INVALID_ADDRESS_OR_KEY, INVALID_PARAMETER, METHOD_NOT_FOUND, MISC_ERROR, RpcError
+from .mempool import MOST_BYTES, Mempool
 from .values import expect
 
 if TYPE_CHECKING:
@@ -24,8 +25,13 @@ class Node:
     """A pool of seats that calls are made on. A call waits for no other one, except for those that make blocks, and those
     that read all coins."""
 
-    def __init__(self, bench: Pool) -> None:
+    def __init__(self, bench: Pool, most_waiting: int = MOST_BYTES, has_index: bool = False) -> None:
         self.bench = bench
+        #: What waits to be mined.
+        self.mempool = Mempool(self, most_waiting)
+        #: Whether transactions are found by their ids alone (-txindex).
+        self.has_index = has_index
+        bench.moved = self._moved
         self.mocked = 0
         self.started = time.time()
         self.stopped = False
@@ -98,15 +104,25 @@ class Node:
     def now(self) -> int:
         return self.mocked or int(time.time())
 
+    def _moved(self, move: Move) -> None:
+        """Another block is the active one."""
+        self.mempool.follow(move)
+        if self.publisher is not None:
+            self.publisher.moved(self, move)
+
     # ---- commands
 
     def submit(self, spelled: Spelled) -> Reply:
         """Submits a block."""
-        return self.bench.try_submit_spelled(spelled, self.now())
+        reply = self.bench.try_submit_spelled(spelled, self.now())
+        self.mempool.settle()
+        return reply
 
     def mark(self, command: str, id: bytes) -> Reply:
         """Marks a block."""
-        return self.bench.try_mark(command, id)
+        reply = self.bench.try_mark(command, id)
+        self.mempool.settle()
+        return reply
 
     # ---- reads
 

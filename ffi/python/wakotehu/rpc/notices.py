@@ -1,4 +1,4 @@
-"""Notices of blocks: by ZeroMQ in the forms of Bitcoin Core 0.21 (doc/zmq.md), and by a command."""
+"""Notices of blocks and transactions: by ZeroMQ in the forms of Bitcoin Core 0.21 (doc/zmq.md), and by a command."""
 
 import importlib
 import ipaddress
@@ -6,7 +6,7 @@ import queue
 import re
 import subprocess
 import threading
-from typing import Any, Callable, Dict, List, NamedTuple, Optional, Sequence
+from typing import Any, Callable, Dict, List, NamedTuple, Optional, Sequence, Union
 
 from ..chainstate import show
 from ..encoding import block_at_front
@@ -42,6 +42,15 @@ class Step(NamedTuple):
     runs: bool
 
 
+class Waiting(NamedTuple):
+    """A transaction that came to the mempool (A) or left it without being mined (R), and how many came or left before."""
+
+    id: bytes
+    data: bytes
+    label: bytes
+    number: int
+
+
 def read_notice(topic: str, address: str, high_water: int) -> Notice:
     """A notice of the command line. Its address is on this machine."""
     found = re.fullmatch(r"tcp://(?:\[([0-9a-f:]+)\]|([0-9.]+|localhost)):([0-9]{1,5})", address)
@@ -62,7 +71,7 @@ class Publisher:
 
     def __init__(self, notices: Sequence[Notice], command: str = "") -> None:
         self.notices, self.command = list(notices), command
-        self._steps: "queue.SimpleQueue[Optional[List[Step]]]" = queue.SimpleQueue()
+        self._steps: "queue.SimpleQueue[Optional[Sequence[Union[Step, Waiting]]]]" = queue.SimpleQueue()
         self._counts: Dict[Notice, int] = dict.fromkeys(notices, 0)
         self._sockets: Dict[str, Any] = {}
         self._context: Any = None
@@ -89,15 +98,18 @@ class Publisher:
                 self._close()
                 raise BadNotice(f"-zmqpub{notice.topic}={notice.address}: {error}")
 
-    def follow(self, node: Node) -> None:
-        """From now on tells of the steps of a node."""
-        bench = node.bench
-        node.publisher = self
-        bench.moved = lambda move: self.tell(steps_of(bench.index, move, node.data))
+    def moved(self, node: Node, move: Move) -> None:
+        """Tells of a move of a node's active branch."""
+        self.tell(steps_of(node.bench.index, move, node.data))
 
-    def tell(self, steps: List[Step]) -> None:
+    def tell_of(self, id: bytes, label: bytes, data: bytes, number: int) -> None:
+        """Tells of a transaction that came to the mempool (A), with its bytes, or left it without being mined (R), and how many
+        came or left before."""
+        self._steps.put([Waiting(id, data, label, number)])
+
+    def tell(self, steps: Sequence[Step]) -> None:
         """Tells of these, sooner or later."""
-        self._steps.put(steps)
+        self._steps.put(list(steps))
 
     def close(self) -> None:
         """Ends when all was told."""
@@ -117,7 +129,15 @@ class Publisher:
             if steps is None:
                 return
             for step in steps:
-                self._tell(step)
+                if isinstance(step, Waiting):
+                    self._tell_of(step)
+                else:
+                    self._tell(step)
+
+    def _tell_of(self, it: Waiting) -> None:
+        if it.label == b"A":
+            self._send(hashtx=it.id[::-1], rawtx=it.data)
+        self._send(sequence=it.id[::-1] + it.label + it.number.to_bytes(8, "little"))
 
     def _tell(self, step: Step) -> None:
         if step.label:

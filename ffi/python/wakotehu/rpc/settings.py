@@ -10,7 +10,7 @@ from typing import Callable, Dict, List, NamedTuple, Optional, Tuple
 TOPICS = ("hashblock", "hashtx", "rawblock", "rawtx", "sequence")
 #: What the file may set that the server has flags for. Those of the second are read in its section [regtest] alone.
 READ = (
-    "rpcuser", "rpcpassword", "rpcauth", "rpccookiefile", "testactivationheight", "blocknotify",
+    "rpcuser", "rpcpassword", "rpcauth", "rpccookiefile", "testactivationheight", "blocknotify", "maxmempool", "txindex",
     *(f"zmqpub{topic}{end}" for topic in TOPICS for end in ("", "hwm")),
 )  # fmt: skip
 READ_IN_SECTION = ("rpcport", "rpcbind")
@@ -54,7 +54,7 @@ def _is_any(value: str) -> bool:
 
 
 Rule = Tuple[Callable[[str], bool], str]
-_NO_INDEX: Rule = _is_off, "there is no such index; getrawtransaction takes the block's hash"
+_NO_INDEX: Rule = _is_off, "there is no such index"
 _ONLY: Rule = _is_off, "there is regtest alone"
 
 #: Flags of bitcoind that change nothing here: the values that are taken, and why others aren't.
@@ -69,7 +69,7 @@ RULES: Dict[str, Rule] = {
     ),
     "connect": (_is_zero, "there are no peers"), "debuglogfile": (_is_zero, "nothing is logged"),
     "addnode": (lambda value: False, "there are no peers"),
-    "txindex": _NO_INDEX, "blockfilterindex": _NO_INDEX, "coinstatsindex": _NO_INDEX,
+    "blockfilterindex": _NO_INDEX, "coinstatsindex": _NO_INDEX,
     "rest": (_is_off, "there is no /rest/"), "prune": (_is_off, "nothing is pruned"),
     "rpcallowip": (_is_loopback, "the server answers this machine alone"),
     **dict.fromkeys(("rpcthreads", "rpcworkqueue", "rpcservertimeout", "dbcache"), (_is_number, "it is a number")),
@@ -78,7 +78,7 @@ RULES: Dict[str, Rule] = {
         (
             "printtoconsole debug debugexclude loglevel logips logtimestamps logtimemicros logthreadnames"
             " logsourcelocations shrinkdebugfile disablewallet keypool addresstype changetype minrelaytxfee"
-            " acceptnonstdtxn maxmempool persistmempool maxconnections"
+            " acceptnonstdtxn persistmempool maxconnections"
             " peertimeout blocksonly uacomment par checkblockindex checkmempool checkblocks checklevel rpcdoc"
         ).split(),
         (_is_any, ""),
@@ -96,7 +96,7 @@ def expect(name: str, value: str) -> None:
 def positive(word: str) -> str:
     """A word of the command line; `-noNAME` is `-NAME=0`, as at bitcoind."""
     found = re.fullmatch(r"-{1,2}no([a-z]+)(?:=(.*))?", word, re.DOTALL)
-    if found is None or found[1] not in RULES:
+    if found is None or found[1] not in (*RULES, "txindex"):
         return word
     return f"--{found[1]}={int(not is_on(found[2] or ''))}"
 

@@ -4,8 +4,9 @@ from typing import Any, Dict, Optional, Tuple
 
 from ..chainstate import show
 from ..encoding import (
-    GENESIS, EncodingError, Output, Transaction, hash160, read_block, read_transaction, write_transaction,
+    GENESIS, EncodingError, Output, Transaction, block_at_front, hash160, read_block, read_transaction, write_transaction,
 )  # fmt: skip
+from ..index import Kept
 from .errors import DESERIALIZATION_ERROR, INVALID_ADDRESS_OR_KEY, INVALID_PARAMETER, RpcError
 from .node import Node, call
 from ..addresses import spelled as address
@@ -58,37 +59,66 @@ def _input(tx: Transaction, place: int) -> Object:
 
 @call(GROUP, "txid", "verbose", "blockhash", needed=1)
 def getrawtransaction(node: Node, txid: Any, verbose: Any, blockhash: Any) -> Any:
-    """A transaction of a kept block, as digits or shown. There is no index of transactions and no mempool, so the block
-    has to be named."""
+    """A transaction, as digits or shown: of the block that is named, or that waits to be mined, or by -txindex of an active
+    block."""
     id = digits(txid, "parameter 1")
     if id == GENESIS.root:
         message = "The genesis block coinbase is not considered an ordinary transaction and cannot be retrieved"
         raise RpcError(INVALID_ADDRESS_OR_KEY, message)
     level = 0 if verbose is None else integer(verbose) if is_number(verbose) else int(boolean(verbose))
-    if blockhash is None:
-        raise RpcError(
-            INVALID_ADDRESS_OR_KEY,
-            "No such mempool transaction. Use -txindex or provide a block hash to enable blockchain transaction queries."
-            " Use gettransaction for wallet transactions.",
-        )
-    kept = node.kept(digits(blockhash, "parameter 3"), "Block hash not found")
-    for tx in read_block(node.data(kept.id)).transactions:
-        if tx.id == id:
-            break
-    else:
-        message = "No such transaction found in the provided block. Use gettransaction for wallet transactions."
-        raise RpcError(INVALID_ADDRESS_OR_KEY, message)
+    tx, kept = _found(node, id) if blockhash is None else _of_block(node, id, blockhash)
     if not level:
         return write_transaction(tx).hex()
+    if kept is None:
+        return transaction_fields(tx)
     active = node.bench.index.is_active(kept.id)
     moments: Object = {"time": kept.header.time, "blocktime": kept.header.time} if active else {}
     return {
-        "in_active_chain": active,
+        **({} if blockhash is None else {"in_active_chain": active}),
         **transaction_fields(tx),
         "blockhash": show(kept.id),
         "confirmations": node.tip().height - kept.height + 1 if active else 0,
         **moments,
     }
+
+
+def _of_block(node: Node, id: bytes, blockhash: Any) -> Tuple[Transaction, Kept]:
+    """A transaction of the block that is named."""
+    kept = node.kept(digits(blockhash, "parameter 3"), "Block hash not found")
+    for tx in read_block(node.data(kept.id)).transactions:
+        if tx.id == id:
+            return tx, kept
+    message = "No such transaction found in the provided block. Use gettransaction for wallet transactions."
+    raise RpcError(INVALID_ADDRESS_OR_KEY, message)
+
+
+def _found(node: Node, id: bytes) -> Tuple[Transaction, Optional[Kept]]:
+    """A transaction that waits, or by -txindex one of an active block, with that."""
+    with node.mempool.used():
+        entry = node.mempool.entries.get(id)
+    if entry is not None:
+        return entry.tx, None
+    why = "No such mempool transaction. Use -txindex or provide a block hash to enable blockchain transaction queries"
+    if node.has_index:
+        kept, tx = _active_block(node, id), node.bench.transaction(id)
+        if kept is not None and tx is not None:
+            return tx, kept
+        why = "No such mempool or blockchain transaction"
+    raise RpcError(INVALID_ADDRESS_OR_KEY, f"{why}. Use gettransaction for wallet transactions.")
+
+
+def _active_block(node: Node, id: bytes) -> Optional[Kept]:
+    """The active block that has a transaction. The index names one block of those that have it: another one is looked for among
+    the active blocks, which is slow, and only happens where branches share transactions."""
+    index = node.bench.index
+    if id not in index.transactions:
+        return None
+    first = index.transactions[id][0]
+    if index.is_active(first):
+        return index.blocks[first]
+    own = (it for it in reversed(index.active) if id in block_at_front(node.data(it)).ids)
+    found = next(own, None)
+    return None if found is None else index.blocks[found]
 
 
 @call(GROUP, "hexstring", "iswitness", needed=1, types=("string", "bool"))

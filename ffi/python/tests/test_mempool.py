@@ -1,0 +1,258 @@
+"""Transactions that wait to be mined: what calls answer beside Debian's litecoind 0.21.2.1 (litecoind.json, under "mempool": the
+steps of mempool_steps.py, with -segwitheight=-1, -acceptnonstdtxn=1 and -minrelaytxfee=0), and what follows from the rules."""
+
+import json
+import random
+import threading
+import unittest
+
+from blocks import block_id, spend
+from mempool_steps import COIN, played
+from test_pure import rows
+from test_rpc import CallsTest
+from wakotehu import read_id, show
+from wakotehu.encoding import GENESIS, Input, Output, Transaction, read_transaction, write_transaction
+from wakotehu.rpc.mempool import Mempool
+
+
+def told(answer):
+    """An answer as a list of JSON has it, amounts as their text."""
+    return json.loads(json.dumps(answer), parse_float=str)
+
+
+class BesideLitecoindTest(CallsTest):
+    def test_steps(self):
+        def call(*words):
+            status, body = self.running.posted({"method": words[0], "params": list(words[1:]), "id": 1})
+            reply = json.loads(body, parse_float=str)
+            return reply["error"] or reply["result"]
+
+        found, wanted = played(call), rows("mempool")
+        self.assertEqual(len(found), len(wanted))
+        for (what, answer), (name, other) in zip(found, wanted):
+            with self.subTest(what):
+                self.assertEqual((what, told(answer)), (name, other))
+
+
+class Waiting(CallsTest):
+    """A chain of 110 blocks, whose coinbases anyone spends."""
+
+    def setUp(self):
+        super().setUp()
+        self.call("setmocktime", GENESIS.time + 600 * 2000)
+        self.blocks = self.maker.chain(110)
+        for block in self.blocks:
+            self.assertIsNone(self.submit(block))
+        self.coins = [self.maker.coinbases[block_id(block)].id for block in self.blocks]
+
+    def send(self, tx):
+        return self.call("sendrawtransaction", write_transaction(tx).hex(), 0)
+
+    def waiting(self):
+        return set(self.call("getrawmempool"))
+
+    def spends(self, id, value=COIN, index=0, to=b"\x51"):
+        return spend(id, index, value, b"", to)
+
+
+class RulesTest(Waiting):
+    def test_what_a_block_spends_is_gone_with_what_hangs_on_it(self):
+        first = self.spends(self.coins[0])
+        second = self.spends(first.id, COIN - 1)
+        third = self.spends(self.coins[1])
+        for tx in (first, second, third):
+            self.assertEqual(self.send(tx), show(tx.id))
+        other = self.spends(self.coins[0], 2 * COIN)
+        self.assertIsNone(self.submit(self.maker.block(block_id(self.blocks[-1]), [other])))
+        self.assertEqual(self.waiting(), {show(third.id)})
+        self.assertIsNone(self.call("gettxout", show(first.id), 0))
+
+    def test_a_reorganisation_brings_transactions_back(self):
+        """What was mined on the branch that left waits again, unless the new branch has it, or spends the same coin."""
+        tip = block_id(self.blocks[-1])
+        kept, again, gone = (self.spends(self.coins[place]) for place in range(3))
+        mined = self.maker.block(tip, [kept, again, gone])
+        self.assertIsNone(self.submit(mined))
+        child = self.spends(gone.id, COIN - 5)
+        self.send(child)
+        self.assertEqual(self.waiting(), {show(child.id)})
+        low = self.maker.block(tip, [kept, self.spends(self.coins[2], 3 * COIN)], extra=b"\x01")
+        high = self.maker.block(block_id(low), extra=b"\x01")
+        self.submit(low), self.submit(high)
+        self.assertEqual(self.call("getbestblockhash"), show(block_id(high)))
+        self.assertEqual(self.waiting(), {show(again.id)})
+        self.assertFalse(self.call("getmempoolentry", show(again.id))["unbroadcast"])
+
+    def test_a_coinbase_that_is_early_again(self):
+        """A spend of a coinbase that is 100 deep leaves with the block that made it so deep."""
+        late = self.spends(self.coins[10])
+        self.assertEqual(self.send(late), show(late.id))
+        self.call("invalidateblock", show(block_id(self.blocks[-1])))
+        self.assertEqual(self.waiting(), set())
+        self.assertEqual(self.send(late)["message"], "bad-txns-premature-spend-of-coinbase, tried to spend coinbase at depth 99")
+        self.call("reconsiderblock", show(block_id(self.blocks[-1])))
+        self.assertEqual(self.send(late), show(late.id))
+
+    def test_scripts_run_before_it_waits(self):
+        first = self.spends(self.coins[0], to=b"\x00")
+        self.send(first)
+        error = self.send(self.spends(first.id, COIN - 1))
+        self.assertEqual((error["code"], error["message"].split(" ")[0]), (-26, "mandatory-script-verify-flag-failed"))
+        self.assertEqual(self.waiting(), {show(first.id)})
+
+    def test_a_block_takes_in_what_fits(self):
+        """Parents come first; what is too large for one block comes in the next one, with what hangs on it."""
+        data = bytes(300_000)
+        large = [self.spends(self.coins[place], to=b"\x6a\x4e" + len(data).to_bytes(4, "little") + data) for place in range(4)]
+        small = self.spends(self.coins[4])
+        child = self.spends(small.id, COIN - 1)
+        for tx in (*large, small, child):
+            self.assertEqual(self.send(tx), show(tx.id))
+        info = self.call("getmempoolinfo")
+        self.assertEqual((info["size"], info["bytes"]), (6, sum(len(write_transaction(tx)) for tx in (*large, small, child))))
+        [first] = self.mined(1)
+        ids = [show(tx.id) for tx in (*large[:3], small, child)]
+        self.assertEqual(self.call("getblock", first)["tx"][1:], ids)
+        self.assertEqual(self.waiting(), {show(large[3].id)})
+        [second] = self.mined(1)
+        self.assertEqual(self.call("getblock", second)["tx"][1:], [show(large[3].id)])
+
+    def test_signature_operations_of_a_block(self):
+        """20,000 at most, of which the coinbase is left 400: so of two with 10,000 one waits for the next block, and more than
+        fit no block are refused."""
+        many = [self.spends(self.coins[place], to=b"\xac" * 10_000) for place in range(2)]
+        for tx in many:
+            self.send(tx)
+        [first] = self.mined(1)
+        self.assertEqual(len(self.call("getblock", first)["tx"]), 2)
+        self.assertEqual(self.waiting(), {show(many[1].id)})
+        error = self.send(self.spends(self.coins[2], to=b"\xac" * 19_601))
+        self.assertEqual((error["code"], error["message"]), (-26, "bad-txns-too-many-sigops"))
+
+    def test_no_more_than_a_limit(self):
+        self.running.node.mempool.most = 200
+        first, second = (self.spends(self.coins[place], to=b"\x51" * 100) for place in range(2))
+        self.send(first)
+        self.assertEqual(self.send(second)["message"], "mempool full")
+        self.mined(1)
+        self.assertEqual(self.send(second), show(second.id))
+
+    def test_finality_is_by_the_median(self):
+        median = self.call("getblockheader", self.call("getbestblockhash"))["mediantime"]
+        for lock, final in ((median - 1, True), (median, False)):
+            tx = Transaction(1, [Input(self.coins[0], 0, b"", 0)], [Output(COIN, b"\x51")], lock)
+            [found] = self.call("testmempoolaccept", [write_transaction(tx).hex()], 0)
+            self.assertEqual((found["allowed"], found.get("reject-reason")), (final, None if final else "non-final"))
+
+
+class TemplateTest(Waiting):
+    def template(self):
+        return self.call("getblocktemplate", {"rules": ["segwit"]})
+
+    def test_a_block_that_is_made_of_it(self):
+        first = self.spends(self.coins[0], COIN)
+        second = self.spends(first.id, COIN - 7)
+        for tx in (first, second):
+            self.send(tx)
+        made = self.template()
+        self.assertEqual([(it["txid"], it["depends"], it["fee"]) for it in made["transactions"]],
+                         [(show(first.id), [], 49 * COIN), (show(second.id), [1], 7)])  # fmt: skip
+        self.assertEqual((made["height"], made["coinbasevalue"]), (111, 99 * COIN + 7))
+        self.assertEqual((made["previousblockhash"], made["bits"]), (show(block_id(self.blocks[-1])), "207fffff"))
+        txs = [read_transaction(bytes.fromhex(it["data"])) for it in made["transactions"]]
+        block = self.maker.block(read_id(made["previousblockhash"]), txs, more=made["coinbasevalue"] - 50 * COIN)
+        self.assertIsNone(self.call("getblocktemplate", {"mode": "proposal", "data": block.hex()}))
+        self.assertEqual(self.call("getblockcount"), 110)
+        self.assertIsNone(self.submit(block))
+        self.assertEqual(self.call("getblocktemplate", {"mode": "proposal", "data": block.hex()}), "duplicate")
+
+    def test_proposals_that_are_refused(self):
+        tip = block_id(self.blocks[-1])
+        missing = self.maker.block(tip, [self.spends(b"\x11" * 32)])
+        late = self.maker.block(block_id(self.blocks[-2]), extra=b"\x05")
+        for block, answer in ((missing, "bad-txns-inputs-missingorspent"), (late, "inconclusive-not-best-prevblk")):
+            self.assertEqual(self.call("getblocktemplate", {"mode": "proposal", "data": block.hex()}), answer)
+            self.assertNotIn(block_id(block), self.running.bench.index.blocks)
+
+    def test_faults(self):
+        rules = 'getblocktemplate must be called with the segwit rule set (call with {"rules": ["segwit"]})'
+        for words, code, message in (
+            ([], -8, rules), ([{}], -8, rules), ([{"mode": "x"}], -8, "Invalid mode"), ([{"mode": 5}], -8, "Invalid mode"),
+            ([{"mode": "proposal"}], -3, "Missing data String key for proposal"),
+            ([{"mode": "proposal", "data": "00"}], -22, "Block decode failed"),
+        ):  # fmt: skip
+            self.assertEqual(self.call("getblocktemplate", *words), {"code": code, "message": message})
+
+
+class IndexTest(Waiting):
+    def test_transactions_by_their_ids(self):
+        tx = self.spends(self.coins[0])
+        self.send(tx)
+        self.assertEqual(self.call("getrawtransaction", show(tx.id)), write_transaction(tx).hex())
+        self.assertNotIn("blockhash", self.call("getrawtransaction", show(tx.id), True))
+        [mined] = self.mined(1)
+        self.assertTrue(self.call("getrawtransaction", show(tx.id))["message"].startswith("No such mempool transaction. Use -txindex"))
+        self.running.node.has_index = True
+        self.assertEqual(self.call("getindexinfo"), {"txindex": {"synced": True, "best_block_height": 111}})
+        shown = self.call("getrawtransaction", show(tx.id), True)
+        self.assertEqual((shown["blockhash"], shown["confirmations"], "in_active_chain" in shown), (mined, 1, False))
+        self.call("invalidateblock", mined)
+        self.assertNotIn("blockhash", self.call("getrawtransaction", show(tx.id), True))
+        # Another block has it too, which isn't the one that the index names.
+        other = self.maker.block(block_id(self.blocks[-1]), [tx], extra=b"\x09")
+        self.submit(other)
+        self.assertEqual(self.call("getrawtransaction", show(tx.id), True)["blockhash"], show(block_id(other)))
+        unknown = self.call("getrawtransaction", "11" * 32)
+        self.assertEqual(unknown["message"], "No such mempool or blockchain transaction. Use gettransaction for wallet transactions.")
+
+
+class ThreadsTest(Waiting):
+    def test_beside_blocks(self):
+        """Four threads send chains of transactions while blocks are mined and taken back: what waits in the end can be mined in
+        one block, and every transaction is mined or waits."""
+        ends, faults = [], []
+
+        def sends(place):
+            at, value = self.coins[place], 50 * COIN
+            for _ in range(25):
+                value -= 1000
+                tx = self.spends(at, value)
+                while True:
+                    answer = self.send(tx)
+                    if answer == show(tx.id) or answer.get("message") == "Transaction already in block chain":
+                        break
+                    # What it spends was taken back and isn't looked at yet.
+                    if answer["message"] != "bad-txns-inputs-missingorspent":
+                        return faults.append(answer)
+                at = tx.id
+            ends.append(at)
+
+        threads = [threading.Thread(target=sends, args=(place,)) for place in range(4)]
+        for thread in threads:
+            thread.start()
+        draw = random.Random(5)
+        while any(thread.is_alive() for thread in threads):
+            self.mined(1)
+            if draw.random() < 0.4:
+                self.call("invalidateblock", self.call("getbestblockhash"))
+        for thread in threads:
+            thread.join()
+        self.assertEqual(faults, [])
+        self.mined(1)
+        self.assertEqual(self.waiting(), set())
+        for id in ends:
+            self.assertIsNotNone(self.call("gettxout", show(id), 0))
+
+
+class CountsTest(Waiting):
+    def test_no_entry_is_lost_in_the_counts(self):
+        for place in range(3):
+            self.send(self.spends(self.coins[place]))
+        self.mined(1)
+        pool = self.running.node.mempool
+        self.assertEqual((pool.entries, pool.spenders, pool.bytes), ({}, {}, 0))
+        self.assertIsInstance(pool, Mempool)
+
+
+if __name__ == "__main__":
+    unittest.main()

@@ -1,0 +1,79 @@
+"""Calls that send transactions to the mempool, or ask whether it would take them."""
+
+from typing import Any, List
+
+from .. import consensus
+from ..chainstate import show
+from ..encoding import Transaction, write_transaction
+from .errors import (
+    INVALID_PARAMETER, TRANSACTION_ALREADY_IN_CHAIN, TRANSACTION_ERROR, TRANSACTION_REJECTED, RpcError,
+)  # fmt: skip
+from .mempool import Entry, Refused
+from .node import Node, call
+from .txs import GROUP, raw_transaction
+from .values import Amount, Object, amount, array, text
+
+#: The most that a transaction may pay where a call doesn't say it, in satoshis for 1,000 bytes.
+MOST_RATE = 10_000_000
+MISSING = "bad-txns-inputs-missingorspent"
+
+
+def _raw(given: Any) -> Transaction:
+    return raw_transaction(text(given), "TX decode failed. Make sure the tx has at least one input.", True)
+
+
+def _most_fee(maxfeerate: Any, size: int) -> int:
+    """The most that a transaction of a size may pay, by a rate for 1,000 bytes; 0 for no limit."""
+    return (MOST_RATE if maxfeerate is None else amount(maxfeerate)) * size // 1000
+
+
+@call(GROUP, "hexstring", "maxfeerate", needed=1, types=("string",))
+def sendrawtransaction(node: Node, hexstring: Any, maxfeerate: Any) -> str:
+    """Puts a transaction among those that wait to be mined, by consensus rules alone: its id."""
+    tx = _raw(hexstring)
+    data = write_transaction(tx)
+    most = _most_fee(maxfeerate, len(data))
+    if _is_in_chain(node, tx):
+        raise RpcError(TRANSACTION_ALREADY_IN_CHAIN, "Transaction already in block chain")
+    with node.mempool.used():
+        if tx.id in node.mempool.entries:
+            return show(tx.id)
+        try:
+            entry = node.mempool.judge(data)
+        except Refused as refused:
+            code = TRANSACTION_ERROR if str(refused) == MISSING else TRANSACTION_REJECTED
+            raise RpcError(code, f"{refused}{refused.more}")
+        if 0 < most < entry.fee:
+            raise RpcError(TRANSACTION_ERROR, "Fee exceeds maximum configured by user (e.g. -maxtxfee, maxfeerate)")
+        node.mempool.add(entry)
+    return show(tx.id)
+
+
+def _is_in_chain(node: Node, tx: Transaction) -> bool:
+    """Whether an output of it is a coin."""
+    return tx.id in node.bench.index.transactions and any(
+        node.bench.unspent(tx.id, place) for place in range(len(tx.outputs))
+    )
+
+
+@call(GROUP, "rawtxs", "maxfeerate", needed=1, types=("array",))
+def testmempoolaccept(node: Node, rawtxs: Any, maxfeerate: Any) -> List[Object]:
+    """Whether a transaction would be put among those that wait, and why not. Nothing changes."""
+    if len(array(rawtxs)) != 1:
+        raise RpcError(INVALID_PARAMETER, "Array must contain exactly one raw transaction for now")
+    data = write_transaction(_raw(rawtxs[0]))
+    most = _most_fee(maxfeerate, len(data))
+    found: Object = {"txid": show(consensus.double_sha(data))}
+    try:
+        with node.mempool.used():
+            entry = node.mempool.judge(data)
+    except Refused as refused:
+        why = "missing-inputs" if str(refused) == MISSING else str(refused)
+        return [{**found, "allowed": False, "reject-reason": why}]
+    if 0 < most < entry.fee:
+        return [{**found, "allowed": False, "reject-reason": "max-fee-exceeded"}]
+    return [{**found, "allowed": True, **_accepted(entry)}]
+
+
+def _accepted(entry: Entry) -> Object:
+    return {"vsize": entry.size, "fees": {"base": Amount(entry.fee)}}

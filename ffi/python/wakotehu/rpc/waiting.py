@@ -1,0 +1,113 @@
+"""Calls that show the transactions that wait to be mined."""
+
+from typing import Any, List
+
+from ..chainstate import show
+from .errors import INVALID_ADDRESS_OR_KEY, INVALID_PARAMETER, RpcError
+from .mempool import Mempool
+from .node import Node, call
+from .values import Amount, Object, boolean, digits
+
+GROUP = "Blockchain"
+#: What Bitcoin Core asks for at least, in satoshis for 1,000 bytes. Nothing is asked for here.
+NO_FEE = Amount(0)
+
+
+@call(GROUP)
+def getmempoolinfo(node: Node) -> Object:
+    """How much waits to be mined. No fee is asked for."""
+    with node.mempool.used():
+        pool = node.mempool
+        sent = sum(entry.is_sent for entry in pool.entries.values())
+        return {"loaded": True, "size": len(pool.entries), "bytes": pool.bytes, "usage": pool.bytes, "maxmempool": pool.most,
+                "mempoolminfee": NO_FEE, "minrelaytxfee": NO_FEE, "unbroadcastcount": sent}  # fmt: skip
+
+
+@call(GROUP, "verbose", "mempool_sequence")
+def getrawmempool(node: Node, verbose: Any, mempool_sequence: Any) -> Any:
+    """The ids of what waits to be mined; with all that is known of each where verbose is true."""
+    sequence = mempool_sequence is not None and boolean(mempool_sequence)
+    with node.mempool.used():
+        pool = node.mempool
+        if verbose is not None and boolean(verbose):
+            if sequence:
+                raise RpcError(INVALID_PARAMETER, "Verbose results cannot contain mempool sequence values.")
+            return _all_fields(pool, list(pool.entries))
+        ids = [show(id) for id in _in_order(pool)]
+        return {"txids": ids, "mempool_sequence": pool.sequence} if sequence else ids
+
+
+def _in_order(pool: Mempool) -> List[bytes]:
+    """As Bitcoin Core lists them: those with fewer ancestors first, then by the fee for a byte, then by the id downwards."""
+
+    def key(id: bytes) -> Any:
+        entry = pool.entries[id]
+        return len(pool.ancestors(id)), -entry.fee / entry.size, [255 - byte for byte in id[::-1]]
+
+    return sorted(pool.entries, key=key)
+
+
+def _entry(pool: Mempool, txid: Any) -> bytes:
+    id = digits(txid, "parameter 1")
+    if id not in pool.entries:
+        raise RpcError(INVALID_ADDRESS_OR_KEY, "Transaction not in mempool")
+    return id
+
+
+@call(GROUP, "txid", needed=1)
+def getmempoolentry(node: Node, txid: Any) -> Object:
+    """What is known of a transaction that waits to be mined."""
+    with node.mempool.used():
+        return _fields(node.mempool, _entry(node.mempool, txid))
+
+
+@call(GROUP, "txid", "verbose", needed=1)
+def getmempoolancestors(node: Node, txid: Any, verbose: Any) -> Any:
+    """Those that have to be mined before one that waits."""
+    with node.mempool.used():
+        pool = node.mempool
+        found = pool.ancestors(_entry(pool, txid))
+        return _all_fields(pool, found) if verbose is not None and boolean(verbose) else [show(id) for id in found]
+
+
+@call(GROUP, "txid", "verbose", needed=1)
+def getmempooldescendants(node: Node, txid: Any, verbose: Any) -> Any:
+    """Those that can't be mined without one that waits."""
+    with node.mempool.used():
+        pool = node.mempool
+        found = pool.descendants(_entry(pool, txid))
+        return _all_fields(pool, found) if verbose is not None and boolean(verbose) else [show(id) for id in found]
+
+
+def _all_fields(pool: Mempool, ids: List[bytes]) -> Object:
+    return {show(id): _fields(pool, id) for id in ids}
+
+
+def _fields(pool: Mempool, id: bytes) -> Object:
+    """What is known of one, in Bitcoin Core's order."""
+    entry = pool.entries[id]
+    above = [entry, *(pool.entries[it] for it in pool.ancestors(id))]
+    below = [entry, *(pool.entries[it] for it in pool.descendants(id))]
+    fees = [sum(it.fee for it in some) for some in (above, below)]
+    return {
+        "fees": {
+            "base": Amount(entry.fee), "modified": Amount(entry.fee), "ancestor": Amount(fees[0]), "descendant": Amount(fees[1]),
+        },  # fmt: skip
+        "vsize": entry.size,
+        "weight": 4 * entry.size,
+        "fee": Amount(entry.fee),
+        "modifiedfee": Amount(entry.fee),
+        "time": entry.time,
+        "height": entry.height,
+        "descendantcount": len(below),
+        "descendantsize": sum(it.size for it in below),
+        "descendantfees": fees[1],
+        "ancestorcount": len(above),
+        "ancestorsize": sum(it.size for it in above),
+        "ancestorfees": fees[0],
+        "wtxid": show(id),
+        "depends": [show(it) for it in pool.parents(id)],
+        "spentby": [show(it) for it in pool.children(id)],
+        "bip125-replaceable": pool.is_replaceable(id),
+        "unbroadcast": entry.is_sent,
+    }
