@@ -7,6 +7,7 @@ import subprocess
 import sys
 import time
 
+import drawing
 from commit import named
 
 HERE = os.path.dirname(os.path.abspath(__file__))
@@ -51,7 +52,7 @@ WORKLOADS = [
     ("chain", "blocks without payments, submitted one on the other", "work", [10_000, 100_000]),
     ("chain-heavy", "the same with blocks of almost a megabyte", "work", [20, 60]),
     ("blocks-above", "a hundred blocks submitted above so many", "work", [100, 10_000]),
-    ("reorganise", "the block by which another branch of so many blocks becomes active, beside 10,000 blocks", "work", [10, 100, 1000]),
+    ("reorganise", "the block by which another branch of so many blocks becomes active, beside 10,000 blocks", "work", [10, 100, 288, 289, 1000]),
 ]
 
 READERS = [1, 2, 4, 8]
@@ -355,67 +356,6 @@ def lines_of(rows):
     return text
 
 
-def ratios(title, rows, top):
-    """Bars: how long ours takes where the baseline takes 1, in the colour of its goal, which is the short line."""
-    out = [f'<text x="10" y="{top + 20}" class="head">{title}</text>']
-    unit, left, y = 150, 248, top + 34
-    for name, size, _, times, most in drawn(rows):
-        ratio = times[0] / times[-1]
-        colour = "#4a8" if ratio <= most else "#d90" if ratio <= 1.25 * most else "#c44"
-        width = min(ratio, 3) * unit
-        out.append(f'<text x="{left - 8}" y="{y + 11}" text-anchor="end">{name} {size:,}</text>')
-        out.append(f'<rect x="{left}" y="{y}" width="{width:.0f}" height="13" fill="{colour}"/>')
-        out.append(f'<text x="{left + 6 + max(width, most * unit):.0f}" y="{y + 11}">{ratio:.2f}</text>')
-        goal_at = f"{left + most * unit:.0f}"
-        out.append(f'<line x1="{goal_at}" y1="{y - 2}" x2="{goal_at}" y2="{y + 15}" stroke="#000" stroke-width="2"/>')
-        y += 18
-    out.append(f'<line x1="{left + unit}" y1="{top + 28}" x2="{left + unit}" y2="{y}" stroke="#000" stroke-width="0.5"/>')
-    return out, y
-
-
-def growth(rows, top):
-    """Lines: seconds by size, both on doubling axes."""
-    several = [row for row in rows if len(row[3]) > 1]
-    if not several:
-        return [], top
-    left, width, height = 60, 600, 320
-    sizes = [math.log2(size) for row in several for size, _ in row[3]]
-    times = [math.log2(t) for row in several for _, costs in row[3] for t in (costs[0], costs[-1])]
-    low, high, least_time, most_time = min(sizes), max(sizes), min(times), max(times)
-
-    def point(size, seconds):
-        x = left + width * (math.log2(size) - low) / (high - low)
-        y = top + 40 + height * (most_time - math.log2(seconds)) / (most_time - least_time)
-        return f"{x:.1f},{y:.1f}"
-
-    out = [f'<text x="10" y="{top + 25}" class="head">Seconds by size, both axes doubling (full: ours, dashed: baseline)</text>']
-    for at, (name, _, _, costs) in enumerate(several):
-        colour = f"hsl({at * 360 // len(several)},65%,40%)"
-        for side, dash in ((0, ""), (-1, ' stroke-dasharray="5 4"')):
-            points = " ".join(point(size, t[side]) for size, t in costs)
-            out.append(f'<polyline points="{points}" fill="none" stroke="{colour}" stroke-width="1.5"{dash}/>')
-        x, y = point(costs[-1][0], costs[-1][1][0]).split(",")
-        out.append(f'<text x="{float(x) + 5:.0f}" y="{y}" fill="{colour}">{name}</text>')
-    for power in range(math.ceil(least_time), math.floor(most_time) + 1, 3):
-        y = point(2**low, 2**power).split(",")[1]
-        out.append(f'<text x="{left - 6}" y="{y}" text-anchor="end">2^{power} s</text>')
-    for power in range(math.ceil(low), math.floor(high) + 1, 2):
-        x = point(2**power, 2**least_time).split(",")[0]
-        out.append(f'<text x="{x}" y="{top + height + 60}" text-anchor="middle">{2**power:,}</text>')
-    return out, top + height + 80
-
-
-def plot(rows, node):
-    bars, end = ratios("Ours over the baseline (the long line is 1, each short one a goal)", rows, 0)
-    more, end = ratios("A node and its seats, likewise", node, end + 20)
-    bars += more
-    lines, end = growth(rows, end + 20)
-    head = f'<svg xmlns="http://www.w3.org/2000/svg" width="800" height="{end}" font-family="sans-serif" font-size="11">'
-    style = "<style>.head{font-size:14px;font-weight:bold}</style>"
-    ground = '<rect width="100%" height="100%" fill="#fff"/>'
-    return "\n".join([head, style, ground, *bars, *lines, "</svg>"]) + "\n"
-
-
 def main():
     names = sys.argv[1:]
     unknown = set(names) - {row[0] for row in WORKLOADS + NODE + OURS_ALONE} - {"memory"}
@@ -432,8 +372,7 @@ def main():
         return
     text = table(rows, has_sha) + table_of_node(node, has_sha, machine) + table_of_memory(memory) + table_alone(alone)
     write(head_of(commit, has_sha) + text)
-    with open(os.path.join(HERE, "results.svg"), "w", encoding="utf-8") as file:
-        file.write(plot(rows, node))
+    drawing.draw()
     print(f"of {len(VERDICTS)} goals {VERDICTS.count('met')} are met")
 
 

@@ -1,0 +1,115 @@
+#!/usr/bin/env python3
+"""Draws bench/results.svg from the tables of bench/results.md: how long ours takes where the baseline takes 1.
+
+    bench/drawing.py      draws it anew, of the results as they stand
+"""
+import math
+import os
+import re
+import sys
+
+if {"-h", "--help"} & set(sys.argv[1:]):
+    print(__doc__)
+    sys.exit()
+
+HERE = os.path.dirname(os.path.abspath(__file__))
+# The groups in their order: a title, and how the names of its rows begin.
+GROUPS = [
+    ("A node, as its callers see it", ("read-", "slowest", "seats-", "turns-", "publish-", "workers-")),
+    ("Blocks and the chain", ("connect-", "chain", "blocks-above", "reorganise", "alone", "decode", "write", "records")),
+    ("Coins", ("coins-",)),
+    ("Scripts and signatures", ("key-hash", "two-of-three", "swaps", "hashes", "long-code", "conditions", "digests", "each-input", "queue-")),
+    ("Hashes", ("double-sha", "ripemd", "merkle", "ids")),
+]
+LOW, HIGH = 0.05, 4.0
+LEFT, WIDTH, STEP = 250, 420, 19
+STYLE = """
+  .page { fill: #ffffff } text { fill: #14181c } .head { font-size: 14px; font-weight: bold } .small { fill: #51606e }
+  .axis { stroke: #c3ccd4; stroke-width: 1 } .one { stroke: #51606e; stroke-width: 1.5 } .goal { stroke: #14181c; stroke-width: 2 }
+  .met { fill: #2f7d3b } .near { fill: #b3681c } .missed { fill: #b3261e }
+  @media (prefers-color-scheme: dark) {
+    .page { fill: #14181c } text { fill: #f2f5f8 } .small { fill: #9fb0c0 } .axis { stroke: #3a4651 } .one { stroke: #9fb0c0 }
+    .goal { stroke: #f2f5f8 } .met { fill: #6cc07a } .near { fill: #e0a060 } .missed { fill: #f2837c }
+  }
+"""
+
+
+def rows(text):
+    """Name, size, ratio and goal of each row that has them."""
+    for line in text.splitlines():
+        cells = [cell.strip() for cell in line.strip("| ").split("|")]
+        goal = re.match(r"([0-9.]+), (?:met|missed)$", cells[-1])
+        ratios = [cell for cell in cells[3:-1] if re.fullmatch(r"[0-9]+\.[0-9]{2}", cell)]
+        if goal and ratios and len(cells) >= 7:
+            yield cells[0], cells[1], float(ratios[-1]), float(goal[1])
+
+
+def grouped(found):
+    left = list(found)
+    for title, begins in GROUPS:
+        own = [row for row in left if row[0].startswith(begins)]
+        left = [row for row in left if row not in own]
+        if own:
+            yield title, own
+    if left:
+        yield "Others", left
+
+
+def across(ratio):
+    """Where a ratio stands: each doubling is as wide."""
+    part = math.log(min(max(ratio, LOW), HIGH) / LOW) / math.log(HIGH / LOW)
+    return LEFT + part * WIDTH
+
+
+def bar(row, y):
+    name, size, ratio, goal = row
+    kind = "met" if ratio <= goal else "near" if ratio <= 1.25 * goal else "missed"
+    one, end, at = across(1), across(ratio), across(goal)
+    label = f'<text x="{LEFT - 10}" y="{y + 11}" text-anchor="end">{name} <tspan class="small">{size}</tspan></text>'
+    drawn = f'<rect class="{kind}" x="{min(one, end):.1f}" y="{y}" width="{max(abs(end - one), 1):.1f}" height="13"/>'
+    mark = f'<line class="goal" x1="{at:.1f}" y1="{y - 2}" x2="{at:.1f}" y2="{y + 15}"/>'
+    number = f'<text x="{LEFT + WIDTH + 14}" y="{y + 11}">{ratio:.2f}</text>'
+    return "\n".join([label, drawn, mark, number])
+
+
+def key(y):
+    kinds = (("met", "the goal is met"), ("near", "missed by a quarter at most"), ("missed", "missed by more"))
+    out, x = [], 20
+    for kind, said in kinds:
+        out.append(f'<rect class="{kind}" x="{x}" y="{y}" width="13" height="13"/><text x="{x + 20}" y="{y + 11}">{said}</text>')
+        x += 60 + 7 * len(said)
+    out.append(f'<line class="goal" x1="{x + 5}" y1="{y - 2}" x2="{x + 5}" y2="{y + 15}"/><text x="{x + 20}" y="{y + 11}">the goal</text>')
+    return out
+
+
+def axis(top, bottom):
+    out = []
+    for ratio in (0.05, 0.1, 0.25, 0.5, 1, 2, 4):
+        x = across(ratio)
+        out.append(f'<line class="{"one" if ratio == 1 else "axis"}" x1="{x:.1f}" y1="{top}" x2="{x:.1f}" y2="{bottom}"/>')
+        out.append(f'<text class="small" x="{x:.1f}" y="{top - 6}" text-anchor="middle">{ratio:g}</text>')
+    return out
+
+
+def picture(text):
+    """The drawing of what results.md says."""
+    out = ['<text class="head" x="20" y="28">Time over the C++ baseline: left of 1 ours is faster</text>', *key(44)]
+    y = 92
+    for title, own in grouped(rows(text)):
+        bottom = y + 30 + STEP * len(own)
+        out += [f'<text class="head" x="20" y="{y + 12}">{title}</text>', *axis(y + 22, bottom)]
+        out += [bar(row, y + 28 + STEP * place) for place, row in enumerate(own)]
+        y = bottom + 26
+    head = f'<svg xmlns="http://www.w3.org/2000/svg" viewBox="0 0 740 {y}" font-family="sans-serif" font-size="11.5">'
+    return "\n".join([head, f"<style>{STYLE}</style>", '<rect class="page" width="100%" height="100%"/>', *out, "</svg>"]) + "\n"
+
+
+def draw():
+    with open(f"{HERE}/results.md", encoding="utf-8") as file:
+        drawn = picture(file.read())
+    with open(f"{HERE}/results.svg", "w", encoding="utf-8") as file:
+        file.write(drawn)
+
+
+if __name__ == "__main__":
+    draw()
