@@ -249,6 +249,14 @@ def uses(crate: str) -> list[str]:
     return uses_by_crate()[crate]
 
 
+@lru_cache(None)
+def below(crate: str) -> "list[str]":
+    """The repository's crates below one, in the order of crates.txt."""
+    own = [it for it in uses(crate) if it in uses_by_crate()]
+    found = set(own).union(*(below(it) for it in own))
+    return [it for it in crates() if it in found]
+
+
 def edits_of(crate: str) -> list[Edit]:
     folder = f"{HERE}/{crate}"
     names = sorted(os.listdir(folder)) if os.path.isdir(folder) else []
