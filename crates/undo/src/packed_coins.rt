@@ -30,14 +30,17 @@ impl Model for PackedCoins {
 }
 
 impl PackedCoins {
-    /// No coins.
-    pub(crate) fn new(alloc: Global) -> PackedCoins
-        ensures { result ≡ [] }
+    /// No coins, with room for so many, and for scripts that are so long together.
+    pub(crate) fn with_room(
+        alloc: Global,
+        coins: usize,
+        scripts: usize,
+    ) -> Result<PackedCoins, Memory>
+        ensures { IfOk result (λ packed. packed ≡ []) }
     {
-        PackedCoins {
-            heads: Vec::new(alloc),
-            scripts: Vec::new(alloc),
-        }
+        let heads = Vec::with_capacity(alloc, coins)?;
+        let scripts = Vec::with_capacity(alloc, scripts)?;
+        Ok(PackedCoins { heads, scripts })
     }
 
     /// The same coins.
@@ -69,14 +72,6 @@ impl PackedCoins {
         self.scripts.extend_from_slice(coin.script.as_slice())?;
         self.heads.push_reserved(head);
         Ok(())
-    }
-
-    /// Gives back the room that it doesn't need.
-    pub(crate) fn shrink(&mut self)
-        ensures { self.new ≡ self.old }
-    {
-        self.heads.shrink_to_fit();
-        self.scripts.shrink_to_fit();
     }
 
     /// Its coins, to be read from the front.

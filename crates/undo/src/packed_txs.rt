@@ -8,6 +8,34 @@ use std::alloc::Global;
 use std::marker::Model;
 use wire::Memory;
 
+/// How many coins there are, and how long their scripts are together.
+#[derive(Clone, Copy)]
+struct Room {
+    coins: usize,
+    scripts: usize,
+}
+
+impl Room {
+    /// What these transactions' coins take, so that their lists have no room to give back.
+    fn of(txs: &[Spent]) -> Room {
+        let (mut coins, mut scripts) = (0usize, 0usize);
+        for spent in txs {
+            coins = coins.saturating_add(spent.len());
+            scripts = scripts.saturating_add(scripts_of(spent));
+        }
+        Room { coins, scripts }
+    }
+}
+
+/// How long the scripts of these coins are together.
+fn scripts_of(spent: &Spent) -> usize {
+    let (coins, mut bytes) = (spent.as_slice(), 0usize);
+    for coin in coins {
+        bytes = bytes.saturating_add(coin.script.as_slice().len());
+    }
+    bytes
+}
+
 /// The coins that transactions spent, in one list, with how many are of each. A clause sees the list of their lists.
 #[derive(Debug, Drop)]
 pub(crate) struct PackedTxs {
@@ -33,12 +61,12 @@ impl PackedTxs {
         ensures { IfOk result (λ packed. packed ≡ txs.now) }
     {
         let mut counts = Vec::with_capacity(alloc, txs.len())?;
-        let mut coins = PackedCoins::new(alloc);
+        let room = Room::of(txs);
+        let mut coins = PackedCoins::with_room(alloc, room.coins, room.scripts)?;
         for spent in txs {
             counts.push(spent.len())?;
             coins.add(spent)?;
         }
-        coins.shrink();
         Ok(PackedTxs { counts, coins })
     }
 

@@ -10,7 +10,7 @@ Lists = List (List Coin)
 
 pub loop-spent-init : goal.loop-spent-init
 unfolding flat
-loop-spent-init c = record { counts = c.in_ok-counts.ensures.items; coins = c.new-coins.ensures }
+loop-spent-init c = record { counts = c.in_ok-counts.ensures.items; coins = c.in_ok-coins.ensures }
 
 pub loop-spent-preserved : goal.loop-spent-preserved
 loop-spent-preserved c =
@@ -27,12 +27,12 @@ loop-spent-preserved c =
 pub invariant_of-result : goal.invariant_of-result
 invariant_of-result c =
     let some : Lists = take c.loop-spent.spent-index c.args.txs.now in
-    ap (λ (l : List ℕ). sum l) c.loop-spent.invariant.counts ∙ flat-long some ∙ sym (ap (λ (l : List Coin). length l) (c.shrink.ensures ∙ c.loop-spent.invariant.coins))
+    ap (λ (l : List ℕ). sum l) c.loop-spent.invariant.counts ∙ flat-long some ∙ sym (ap (λ (l : List Coin). length l) c.loop-spent.invariant.coins)
 
 pub returns : goal.returns
 returns c =
     let txs : Lists = c.args.txs.now in
     let i = c.loop-spent.spent-index in
     let some : Lists = take i txs in
-    ap (λ (l : List ℕ). grouped l c.shrink.new.self) c.loop-spent.invariant.counts ∙ ap (grouped (map length some)) (c.shrink.ensures ∙ c.loop-spent.invariant.coins) ∙ grouped-flat some
+    ap (λ (l : List ℕ). grouped l c.loop-spent.coins) c.loop-spent.invariant.counts ∙ ap (grouped (map length some)) c.loop-spent.invariant.coins ∙ grouped-flat some
     ∙ take_all i txs c.loop-spent-test.false
