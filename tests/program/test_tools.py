@@ -60,7 +60,7 @@ class Needs(unittest.TestCase):
         with open(f"{ROOT}/tools/needs", encoding="utf-8") as file:
             logic = re.search(r"LOGIC=(\w+)", file.read())
         assert logic is not None
-        for path in ("README.md", "crates/program/src/options.rt"):
+        for path in ("README.md", "crates/console/src/options.rt"):
             with open(f"{ROOT}/{path}", encoding="utf-8") as file:
                 self.assertIn(logic[1], file.read())
 

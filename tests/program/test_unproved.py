@@ -16,7 +16,7 @@ class Unproved(unittest.TestCase):
     def test_the_version_says_so(self) -> None:
         with tempfile.TemporaryDirectory() as room:
             copy = unproved.marked(ROOT, room)
-            with open(f"{copy}/crates/program/src/options.rt", encoding="utf-8") as file:
+            with open(f"{copy}/crates/console/src/options.rt", encoding="utf-8") as file:
                 self.assertRegex(file.read(), r'pub const VERSION: &str = "\d+\.\d+\.\d+ unproved \(')
 
     def test_each_export_is_kept(self) -> None:

@@ -1,8 +1,9 @@
 //! What clients ask of their seats, one after the other.
 
 use crate::answer::{Answer, asked, submitted};
-use crate::fault::{Fault, Stop};
 use block::BlkFault;
+use console::fault::{Fault, Stop};
+use console::options::STANDARD;
 use journal::Records;
 use node::{Naming, Node, Seat};
 use scenario::{Call, Definitions, Request};
@@ -47,6 +48,17 @@ impl From<BlkFault> for Ended {
             BlkFault::TooLong(offset) => Ended::BlkStopped(offset, Stop::TooLong),
             BlkFault::Memory => Ended::Memory,
             BlkFault::Read | BlkFault::Stopped => Ended::Closed,
+        }
+    }
+}
+
+impl From<Ended> for Fault<'_> {
+    fn from(ended: Ended) -> Self {
+        match ended {
+            Ended::Memory => Fault::Memory,
+            Ended::CannotWrite(error) => Fault::CannotWrite(STANDARD, error),
+            Ended::BlkStopped(offset, stop) => Fault::BlkStopped(offset, stop),
+            Ended::Closed => Fault::Closed,
         }
     }
 }

@@ -1,6 +1,6 @@
 //! An output beside the one that was expected.
 
-use crate::fault::{Difference, Fault};
+use console::fault::{Difference, Fault};
 use std::alloc::Global;
 use std::str;
 

@@ -2,29 +2,15 @@
 #![tactic(auto)]
 
 mod answer;
-mod audit;
 mod clients;
-mod command_line;
-mod datadir;
-mod drawing;
 mod expected;
-mod export;
-mod fault;
-mod files;
-mod history_tree;
+mod node_faults;
 mod objects;
-mod options;
 mod output;
 mod playing;
-mod progress;
-mod replay;
-mod report;
 mod run;
 mod running;
-mod saving;
 mod serve;
-mod showing;
-mod text;
 mod told;
 mod writer;
 

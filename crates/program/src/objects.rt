@@ -5,8 +5,8 @@ ghost use Rattle.serving.specs.Answers.{output_members};
 ghost use Rattle.program.specs.inside.Answering.{unspent_members};
 
 use crate::answer::Answer;
-use crate::fault::{Fault, Line, Reason};
 use crate::told::{Block, Tips, Told};
+use console::fault::{Fault, Line, Reason};
 use journal::Step;
 use node::{Reply, Stamped, Tip, UnspentOutput};
 use scenario::Label;

@@ -2,23 +2,15 @@
 
 use crate::answer::Answer;
 use crate::expected::compare;
-use crate::fault::Fault;
-use crate::files::print;
 use crate::objects;
+use console::fault::Fault;
+use console::files::print;
+use console::options::Form;
+use console::report::Report;
 use journal::Step;
 use scenario::Label;
 use std::alloc::Global;
 use std::io::Write;
-
-/// How a line is written.
-#[derive(Clone, Copy, PartialEq, Eq)]
-pub enum Form {
-    Text,
-    /// A JSON object for each answer and each line of the journal.
-    Json,
-    /// Not at all: the block tree alone is shown.
-    Tree,
-}
 
 /// The standard output of a run.
 #[derive(Drop)]
@@ -69,12 +61,17 @@ impl<'o, O: Write> Output<'o, O> {
         self.put(text.as_str())
     }
 
-    /// The line above the journal.
-    pub fn journal(&mut self) -> Result<(), Fault<'static>> {
-        match self.form {
-            Form::Text => self.put("journal\n"),
-            Form::Json | Form::Tree => Ok(()),
+    /// The journal of a history, with the names of blocks, below a line of its own.
+    pub fn journal(&mut self, report: &Report<'_, '_>) -> Result<(), Fault<'static>> {
+        if self.form == Form::Text {
+            self.put("journal\n")?;
         }
+        for place in 0..report.entries().len() {
+            if let Some(step) = report.labelled(place) {
+                self.step(&step)?;
+            }
+        }
+        Ok(())
     }
 
     /// The block tree, below a line of its own where there is more.
@@ -86,7 +83,7 @@ impl<'o, O: Write> Output<'o, O> {
     }
 
     /// A line of the journal.
-    pub fn step(&mut self, step: &Step<'_, Label<'_>>) -> Result<(), Fault<'static>> {
+    fn step(&mut self, step: &Step<'_, Label<'_>>) -> Result<(), Fault<'static>> {
         let text = match self.form {
             Form::Text => format!(in self.alloc; "{step}\n")?,
             Form::Json => objects::step(self.alloc, step)?,

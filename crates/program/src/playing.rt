@@ -2,19 +2,20 @@
 
 ghost use Rattle.std.specs.Prelude.{◌≡◌};
 
-use crate::drawing::{check_picture, write_picture};
-use crate::fault::Fault;
-use crate::files::{read_if_named, read_scenario, read_table};
-use crate::history_tree::history_tree;
-use crate::options::RunOptions;
+use crate::node_faults::unopened;
 use crate::output::Output;
-use crate::progress::Progress;
-use crate::report::{Clients, Report};
 use crate::running::{run_clients, run_records};
-use crate::saving::{check_folder, save};
-use crate::text::{Text, read_definitions};
 use crate::writer::Writer;
 use block::SliceSource;
+use console::drawing::{check_picture, write_picture};
+use console::fault::Fault;
+use console::files::{read_if_named, read_scenario, read_table};
+use console::history_tree::history_tree;
+use console::options::RunOptions;
+use console::progress::Progress;
+use console::report::{Clients, Report};
+use console::saving::{check_folder, save};
+use console::text::{Text, read_definitions};
 use curve::Table;
 use journal::{Records, read_heights, read_out};
 use node::{EndFault, Entry, Gate, Naming, Node, Opening, Params};
@@ -238,7 +239,7 @@ where
     R: Files + AllocGlobal,
     O: Write,
 {
-    report.write_journal(output)?;
+    output.journal(report)?;
     if !options.has_tree && options.svg.is_none() {
         return Ok(());
     }
@@ -354,7 +355,7 @@ where
     E: Write,
     requires { opening ≡ J.origin }
 {
-    let (node, mut seats) = Node::<J>::open(rt.alloc(), opening, workers, gate)?;
+    let (node, mut seats) = Node::<J>::open(rt.alloc(), opening, workers, gate).map_err(unopened)?;
     let lone = usize::from(blk.is_some()).min(seats.len());
     let (first, others) = seats.split_at_mut(lone);
     let submitted = match (blk, first) {

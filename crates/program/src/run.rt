@@ -2,17 +2,17 @@
 
 ghost use Rattle.std.specs.Prelude.{◌≡◌, ◌≤◌, IfOk, OnErr};
 
-use crate::audit::{Audited, audit};
-use crate::drawing::draw_saved;
-use crate::export::export;
-use crate::fault::Fault;
-use crate::files::print;
 use crate::objects;
-use crate::options::{AuditOptions, NAME, Options, STANDARD, no_text, text_asked_for};
-use crate::output::Form;
+use console::options::Form;
 use crate::playing::run;
 use crate::serve::serve;
-use crate::showing::show;
+use console::audit::{Audited, audit};
+use console::drawing::draw_saved;
+use console::export::export;
+use console::fault::Fault;
+use console::files::print;
+use console::options::{AuditOptions, NAME, Options, STANDARD, no_text, text_asked_for};
+use console::showing::show;
 use journal::Finding;
 use node::{Gate, Open, Reply};
 use std::alloc::{AllocError, Global};

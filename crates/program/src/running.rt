@@ -2,9 +2,9 @@
 
 use crate::answer::Answer;
 use crate::clients::{Ended, answer, answer_record, ended_by};
-use crate::fault::Fault;
 use crate::writer::Writer;
 use block::SliceSource;
+use console::fault::Fault;
 use journal::{Records, read_out};
 use node::{Naming, Node, Seat};
 use scenario::{BLK, Client, Definitions};

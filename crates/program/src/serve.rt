@@ -20,21 +20,22 @@ mod telling;
 mod turn;
 mod words;
 
-use crate::datadir::{
-    Datadir, FileHost, HostFault, LOG, Setting, Unpacked, Verdict, lock_for_node, open_datadir,
-    read_lines,
-};
-use crate::fault::Fault;
-use crate::files::{read_if_named, read_table_file};
-use crate::options::{HEIGHTS, Saved, ServeOptions};
-use crate::replay::{Inputs, commands, read_inputs};
-use crate::report::{Clients, Report};
-use crate::saving::{check_folder, heights_line, read_invalid, save, save_invalid};
+use crate::node_faults::unopened;
 use crate::serve::earlier::{Earlier, play_earlier};
 use crate::serve::learning::{Parted, without_verdicts};
 use crate::serve::service::{serve_requests, taken};
 use crate::serve::telling::tell_all;
 use crate::serve::words::{Facts, SEATS};
+use console::datadir::{
+    Datadir, FileHost, HostFault, LOG, Setting, Unpacked, Verdict, lock_for_node, open_datadir,
+    read_lines,
+};
+use console::fault::Fault;
+use console::files::{read_if_named, read_table_file};
+use console::options::{HEIGHTS, Saved, ServeOptions};
+use console::replay::{Inputs, commands, read_inputs};
+use console::report::{Clients, Report};
+use console::saving::{check_folder, heights_line, read_invalid, save, save_invalid};
 use curve::Table;
 use durable::{Host, KeptLog, Lost, whole_lines};
 use journal::{read_heights, read_journal, read_records};
@@ -383,7 +384,9 @@ where
     H: Host<Fault = HostFault> + Drop,
     requires { opening ≡ J.origin }
 {
-    let (node, mut seats) = Node::<J>::open(rt.alloc(), opening, facts.workers, gate)?;
+    let (node, mut seats) = Node::<J>::open(rt.alloc(), opening, facts.workers, gate).map_err(
+        unopened,
+    )?;
     let ended = serve_seats(rt, &node, seats.as_mut_slice(), earlier, facts, input, log);
     let (entries, fits) = match node.close(rt, seats.as_mut_slice()) {
         Ok(entries) => (entries, Ok(())),

@@ -1,9 +1,9 @@
 //! Who writes what clients are answered, and reports how far they are.
 
 use crate::answer::Answer;
-use crate::fault::Fault;
 use crate::output::Output;
-use crate::progress::Progress;
+use console::fault::Fault;
+use console::progress::Progress;
 use std::alloc::Global;
 use std::io::Write;
 use std::slice;

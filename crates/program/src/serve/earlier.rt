@@ -1,11 +1,12 @@
 //! What a node plays before its first request: an earlier run, and a blk file.
 
 use crate::clients::BLK_MOMENT;
-use crate::fault::Fault;
-use crate::report::Clients;
+use crate::node_faults::unanswered;
 use crate::serve::learning::{deny_wants, learn_lines};
 use crate::serve::words::SEATS;
 use block::SliceSource;
+use console::fault::Fault;
+use console::report::Clients;
 use hash::Id;
 use journal::{Records, Step};
 use node::{Command, MarkReply, Naming, Node, Reply, Seat, Stamped, SubmitReply};
@@ -40,8 +41,8 @@ pub fn play_earlier<J: Naming, R>(
 where
     R: AllocGlobal + Threads + Wait + Sync,
 {
-    learn_lines(rt, node, earlier.valid.as_bytes(), true, seat)?;
-    learn_lines(rt, node, earlier.invalid.as_slice(), false, seat)?;
+    learn_lines(rt, node, earlier.valid.as_bytes(), true, seat).map_err(unanswered)?;
+    learn_lines(rt, node, earlier.invalid.as_slice(), false, seat).map_err(unanswered)?;
     clients.put_in(0, seat.note().len(), SEATS[0])?;
     for (command, step) in earlier.commands.iter().zip(earlier.steps.iter()) {
         let before = seat.note().len();
@@ -51,7 +52,7 @@ where
                 return Err(Fault::NoStep(step.number));
             }
             Err(node::Fault::Unknown) => replied(rt, node, seat, command)?,
-            Err(fault) => return Err(Fault::from(fault)),
+            Err(fault) => return Err(unanswered(fault)),
         };
         let denied = seat.note().len().saturating_sub(before.saturating_add(1));
         clients.put_in(before, denied, SEATS[0])?;
@@ -82,11 +83,11 @@ where
     R: AllocGlobal + Threads + Wait + Sync,
 {
     for _ in 0..u64::MAX {
-        deny_wants(rt, node, seat)?;
+        deny_wants(rt, node, seat).map_err(unanswered)?;
         match asked(rt, node, seat, command) {
             Err(node::Fault::Unknown) => {}
             Ok(reply) => return Ok(reply),
-            Err(fault) => return Err(Fault::from(fault)),
+            Err(fault) => return Err(unanswered(fault)),
         }
     }
     Err(Fault::Closed)
@@ -147,7 +148,8 @@ where
         let Some(record) = records.next()? else {
             return Ok(());
         };
-        let reply = seat.submit(rt, node, record.as_slice(), BLK_MOMENT)?.value;
+        let told = seat.submit(rt, node, record.as_slice(), BLK_MOMENT);
+        let reply = told.map_err(unanswered)?.value;
         if reply != SubmitReply::DecodeFailed {
             clients.earlier.push(BLK)?;
         }

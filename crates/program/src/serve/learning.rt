@@ -4,10 +4,10 @@ ghost use Rattle.std.specs.Prelude.{length, IfOk};
 ghost use Rattle.serving.specs.Answers.{wants_members};
 ghost use Rattle.program.specs.inside.Answering.{IsReadLine};
 
-use crate::fault::Fault;
-use crate::report::Clients;
 use crate::serve::asking::refused;
 use crate::serve::turn::Blank;
+use console::fault::Fault;
+use console::report::Clients;
 use node::{Command, Entry, KeptTriple, Naming, Node, Seat};
 use serving::{Answer, read_triple};
 use std::alloc::{AllocError, Global};

@@ -1,10 +1,10 @@
 //! The lines of the input, and whose turn they wait for.
 
-use crate::fault::Fault;
-use crate::options::STANDARD;
 use crate::serve::outbox::Outbox;
 use crate::serve::tally::Tally;
 use crate::serve::turn::{Ask, Turn};
+use console::fault::Fault;
+use console::options::STANDARD;
 use crossbeam_channel::{Sender, TrySendError};
 use durable::Answer;
 use memchr::memchr;

@@ -1,7 +1,5 @@
 //! The threads of a served node: one for each seat, one that reads, and this one, which writes.
 
-use crate::datadir::HostFault;
-use crate::fault::Fault;
 use crate::serve::Ended;
 use crate::serve::asking::{Desk, answer_turns};
 use crate::serve::board::Board;
@@ -10,6 +8,8 @@ use crate::serve::outbox::Outbox;
 use crate::serve::reading::{Doors, read_requests, unread};
 use crate::serve::telling::{Lines, tell_as_they_come, tell_unsaved};
 use crate::serve::words::Facts;
+use console::datadir::HostFault;
+use console::fault::Fault;
 use durable::{Host, KeptLog};
 use node::{Naming, Node, Seat};
 use serving::RequestId;

@@ -4,10 +4,10 @@ ghost use Rattle.std.specs.Prelude.{◌≡◌, ◌++◌, ◌+◌, length, IfOk, 
 ghost use Rattle.durable.specs.Log.{history, heard, as_told};
 ghost use Rattle.program.specs.inside.Telling.{GoesOn, KeepsToTheEnd, Appends};
 
-use crate::datadir::{HostFault, entry_line};
-use crate::fault::Fault;
 use crate::serve::outbox::Outbox;
 use crate::serve::words::Facts;
+use console::datadir::{HostFault, entry_line};
+use console::fault::Fault;
 use crossbeam_channel::Receiver;
 use durable::{Answer, Host, KeptLog, Lost};
 use node::Entry;

@@ -1,7 +1,7 @@
 //! What is said of a served node and its seats.
 
-use crate::options::{NAME, VERSION};
-use crate::report::Clients;
+use console::options::{NAME, VERSION};
+use console::report::Clients;
 use node::Params;
 use serving::Info;
 

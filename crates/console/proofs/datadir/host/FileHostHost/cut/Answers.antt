@@ -1,6 +1,6 @@
 use Rattle.std.proofs.Common.{rules}
-use Rattle.program.proofs.Notes.{noted}
-use Rattle.program.proofs.datadir.host.FileHostHost.cut.Goals as goal
+use Rattle.console.proofs.Notes.{noted}
+use Rattle.console.proofs.datadir.host.FileHostHost.cut.Goals as goal
 
 pub returns : goal.returns
 returns g c = noted _ _ _ _ _ _ _ c.note.ensures c.is_ok.ensures.value (search rules)

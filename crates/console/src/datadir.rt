@@ -15,7 +15,7 @@ use curve::Table;
 pub use host::{FileHost, HostFault};
 use journal::read_heights;
 pub use lines::{Unpacked, Verdict, entry_line, read_lines, table_of, triple_lines};
-use node::Params;
+use rules::Params;
 use std::fs::{File, OpenOptions, TryLockError};
 use std::io::{Error, ErrorKind, Read, Write};
 use std::rt::Files;

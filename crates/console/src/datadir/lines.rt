@@ -3,11 +3,11 @@
 
 use crate::fault::Fault;
 use crate::report::Clients;
+use chain::{Command, Entry};
 use curve::{KeptTriple, Table};
 use durable::first_line;
 use journal::{Asked, RecordFault, Step, block_of, put_record};
 use memchr::memchr;
-use node::{Command, Entry};
 use serving::read_triple;
 use std::alloc::Global;
 

@@ -2,11 +2,12 @@
 
 use crate::fault::Fault;
 use block::GENESIS_ID;
+use chain::{Bytes, Command, Reply, SubmitReply};
 use curve::Table;
 use hash::Id;
 use journal::replayed_state;
-use node::{Bytes, Command, Params, Reply, SubmitReply};
 use picture::{BlockTree, Status, TreeBlock};
+use rules::Params;
 use scenario::{Definitions, Label};
 use std::alloc::{AllocError, Global};
 use std::collections::BTreeMap;

@@ -8,7 +8,7 @@ use crate::fault::Fault;
 use crate::report::Report;
 use curve::Table;
 use journal::{RecordFault, blk_file};
-use node::Params;
+use rules::Params;
 use std::alloc::{AllocError, Global};
 use std::fs::{File, OpenOptions, TryLockError};
 use std::io::{Error, ErrorKind, Write};

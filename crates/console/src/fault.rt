@@ -1,11 +1,9 @@
 //! Why a run ends without its whole output.
 
-use crate::clients::Ended;
-use crate::options::STANDARD;
 use arrayvec::ArrayString;
+use chain::Reply;
 use durable::AppendFault;
 use journal::JournalFault;
-use node::Reply;
 use scenario::{ScenarioFault, Why};
 use std::alloc::{AllocError, AllocFailed};
 use std::fmt;
@@ -232,17 +230,6 @@ impl From<clap::Error> for Fault<'_> {
     }
 }
 
-impl From<Ended> for Fault<'_> {
-    fn from(ended: Ended) -> Self {
-        match ended {
-            Ended::Memory => Fault::Memory,
-            Ended::CannotWrite(error) => Fault::CannotWrite(STANDARD, error),
-            Ended::BlkStopped(offset, stop) => Fault::BlkStopped(offset, stop),
-            Ended::Closed => Fault::Closed,
-        }
-    }
-}
-
 impl From<AppendFault> for Fault<'_> {
     fn from(fault: AppendFault) -> Self {
         match fault {
@@ -267,27 +254,6 @@ impl From<AllocError> for Fault<'_> {
 impl<T: Drop> From<AllocFailed<T>> for Fault<'_> {
     fn from(_error: AllocFailed<T>) -> Self {
         Fault::Memory
-    }
-}
-
-impl From<node::OpenFault> for Fault<'_> {
-    fn from(fault: node::OpenFault) -> Self {
-        match fault {
-            node::OpenFault::Memory => Fault::Memory,
-            _ => Fault::Closed,
-        }
-    }
-}
-
-impl From<node::Fault> for Fault<'_> {
-    fn from(fault: node::Fault) -> Self {
-        match fault {
-            node::Fault::Memory => Fault::Memory,
-            node::Fault::Owed => Fault::Owed,
-            node::Fault::Closed => Fault::Closed,
-            // The node has a table, so it knows each signature.
-            node::Fault::Unknown => Fault::Closed,
-        }
     }
 }
 

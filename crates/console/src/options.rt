@@ -1,10 +1,19 @@
 //! The command line.
 
 use crate::command_line::command;
-use crate::output::Form;
 use clap::error::ErrorKind;
 use clap::{ArgMatches, Error};
 use std::alloc::{AllocError, Global};
+
+/// How a line is written.
+#[derive(Clone, Copy, PartialEq, Eq)]
+pub enum Form {
+    Text,
+    /// A JSON object for each answer and each line of the journal.
+    Json,
+    /// Not at all: the block tree alone is shown.
+    Tree,
+}
 
 /// The program's name.
 pub const NAME: &str = "regchain";

@@ -1,13 +1,11 @@
 //! The history of a run.
 
 use crate::fault::Fault;
-use crate::output::Output;
+use chain::{Command, Entry};
 use hash::Id;
 use journal::{Asked, Step, block_of};
-use node::{Command, Entry};
-use scenario::Definitions;
+use scenario::{Definitions, Label};
 use std::alloc::{AllocError, Global};
-use std::io::Write;
 
 /// The names of a run's clients.
 #[derive(Drop)]
@@ -90,17 +88,10 @@ impl<'d, 't> Report<'d, 't> {
         Ok(text)
     }
 
-    /// Writes the journal, with the names of blocks.
-    pub fn write_journal<O: Write>(
-        &self,
-        output: &mut Output<'_, O>,
-    ) -> Result<(), Fault<'static>> {
-        output.journal()?;
-        for (place, (entry, id)) in self.entries.iter().zip(self.blocks.iter()).enumerate() {
-            let step = self.step(place + 1, entry, self.definitions.label(*id));
-            output.step(&step)?;
-        }
-        Ok(())
+    /// The step at this place, from 0, about the name of its block.
+    pub fn labelled(&self, place: usize) -> Option<Step<'t, Label<'_>>> {
+        let (entry, id) = (self.entries.get(place)?, self.blocks.get(place)?);
+        Some(self.step(place + 1, entry, self.definitions.label(*id)))
     }
 
     /// The step of this number, about this block.
