@@ -12,6 +12,8 @@ from running import ROOT
 from scenarios import MOMENT, Scenario, answers_of
 
 PLAYER = os.path.join(ROOT, "crates", "player", "out", "player")
+# The program that `regchain` is too, with a gate (crates/gated/README.md).
+GATED = os.path.join(ROOT, "crates", "gated", "out", "gated")
 
 SECONDS = 120  # for a play
 
@@ -37,7 +39,7 @@ def play_list(
 ) -> str:
     """As `play`, with a list by its name."""
     numbers = [f"{key.replace('_', '-')}={int(value) if isinstance(value, bool) else value}" for key, value in settings.items()]
-    words = [PLAYER, door, name, *numbers, *(["--", *rest] if rest else [])]
+    words = [GATED if door == "program" else PLAYER, door, name, *numbers, *(["--", *rest] if rest else [])]
     ended = subprocess.run(words, input=text, capture_output=True, text=True, cwd=folder, timeout=SECONDS)
     if ended.returncode or ended.stderr:
         raise AssertionError(f"{words[1:]}: status {ended.returncode}, {ended.stderr!r}, {ended.stdout[-400:]!r}")

@@ -18,6 +18,9 @@ use std::fs::File;
 use std::rt::Files;
 use std::{str, vec};
 
+/// The moment at which the blocks of a blk file are submitted: the last that a header's time can be.
+pub const BLK_MOMENT: u64 = 4_294_967_295;
+
 /// How a run was made, what was asked, in order, and the replies that were recorded.
 #[derive(Drop)]
 pub struct Replay {

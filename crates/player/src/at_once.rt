@@ -3,8 +3,8 @@
 
 use crate::board::Board;
 use crate::log::{Asked, Log};
-use crate::meeting::Meeting;
 use crate::seat_calls::ask_again;
+use doors::Meeting;
 use node::{Naming, Node, Seat};
 use scenario::Call;
 use std::alloc::{AllocError, Global};

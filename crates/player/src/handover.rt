@@ -8,10 +8,10 @@
 ghost use Rattle.std.specs.Prelude.{◌≡◌};
 
 use crate::log::{Asked, Log};
-use crate::meeting::Meeting;
 use crate::seat_calls::ask_again;
 use anyhow::bail;
 use crossbeam_channel::{Receiver, Sender};
+use doors::Meeting;
 use node::{Naming, Node, Note, Opening, Seat};
 use scenario::{Call, Definitions};
 use std::marker::Brand;

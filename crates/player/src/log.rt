@@ -1,6 +1,6 @@
 //! What is printed of a play.
 
-use crate::options::Options;
+use doors::Options;
 use rules::Params;
 use scenario::{Call, Client, Definitions};
 use std::alloc::Global;

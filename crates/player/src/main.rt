@@ -10,21 +10,16 @@ mod chainstates;
 mod handover;
 mod inside;
 mod log;
-mod meeting;
 mod node_play;
-mod options;
 mod play;
-mod program_play;
 mod round;
 mod seat_calls;
 mod state;
 mod texts;
 
 use anyhow::Context;
-use meeting::Meeting;
-use options::Options;
+use doors::{Meeting, Options};
 use play::play;
-use program_play::play_program;
 use std::env;
 use texts::print_texts;
 
@@ -38,7 +33,6 @@ fn main(rt: HostRuntime) -> anyhow::Result<()> {
     );
     match options.door {
         "texts" => print_texts(&rt)?,
-        "program" => play_program(&rt, &options, rt.stdin(), &gate)?,
         _ => play(&rt, &options, rt.stdin(), &gate)?,
     }
     if options.text("wanted").is_some() {

@@ -4,6 +4,7 @@ use crate::answer::{Answer, asked, submitted};
 use block::BlkFault;
 use console::fault::{Fault, Stop};
 use console::options::STANDARD;
+use console::replay::BLK_MOMENT;
 use journal::Records;
 use node::{Naming, Node, Seat};
 use scenario::{Call, Definitions, Request};
@@ -11,9 +12,6 @@ use std::alloc::{AllocError, AllocFailed};
 use std::io::Error;
 use std::sync::Wait;
 use std::thread::Threads;
-
-/// The moment at which the blocks of a blk file are submitted: the last that a header's time can be.
-pub const BLK_MOMENT: u64 = 4_294_967_295;
 
 /// Why a client ends before its commands do.
 #[derive(Clone, Copy)]

@@ -4,13 +4,11 @@
 mod answer;
 mod clients;
 mod expected;
-mod node_faults;
 mod objects;
 mod output;
 mod playing;
 mod run;
 mod running;
-mod serve;
 mod told;
 mod writer;
 

@@ -1,16 +1,13 @@
 //! Answers, lines of the journal, findings and faults as JSON objects, one a line.
 
-ghost use Rattle.std.specs.Prelude.{◌≡◌};
-ghost use Rattle.serving.specs.Answers.{output_members};
-ghost use Rattle.program.specs.inside.Answering.{unspent_members};
-
 use crate::answer::Answer;
 use crate::told::{Block, Tips, Told};
 use console::fault::{Fault, Line, Reason};
 use journal::Step;
 use node::{Reply, Stamped, Tip, UnspentOutput};
 use scenario::Label;
-use serving::{Object, Output};
+use server::spelled::{output_of, reply_text};
+use serving::Object;
 use std::alloc::{AllocError, Global};
 
 /// An answer: its client, what was asked, the answer, and its stamp if it has one. What is more than a word is told by
@@ -48,14 +45,6 @@ pub fn step(alloc: Global, step: &Step<'_, Label<'_>>) -> Result<String, AllocEr
         reply: reply.as_str(),
     })?;
     into_line(object)
-}
-
-/// The text of a step's reply.
-pub fn reply_text(alloc: Global, reply: Option<Reply>) -> Result<String, AllocError> {
-    match reply {
-        Some(reply) => reply.to_string(alloc),
-        None => String::from_str(alloc, "owed"),
-    }
 }
 
 /// That a journal agrees.
@@ -168,17 +157,4 @@ fn put_tip(
     put_block(alloc, object, block)?;
     object.tip(tip)?;
     object.end()
-}
-
-/// An output, as its object has it.
-pub fn output_of(output: &UnspentOutput) -> Output<'_>
-    ensures { output_members result ≡ unspent_members output.now }
-{
-    Output {
-        value: output.value,
-        script: output.script.as_slice(),
-        height: output.height,
-        coinbase: output.coinbase,
-        confirmations: output.confirmations,
-    }
 }

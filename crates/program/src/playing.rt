@@ -2,7 +2,6 @@
 
 ghost use Rattle.std.specs.Prelude.{◌≡◌};
 
-use crate::node_faults::unopened;
 use crate::output::Output;
 use crate::running::{run_clients, run_records};
 use crate::writer::Writer;
@@ -21,6 +20,7 @@ use journal::{Records, read_heights, read_out};
 use node::{EndFault, Entry, Gate, Naming, Node, Opening, Params};
 use picture::to_text;
 use scenario::{BLK, Client, Complaint, Definitions, Why, number_after, read_clients};
+use server::node_faults::unopened;
 use std::alloc::Global;
 use std::fs::File;
 use std::io::{IsTerminal, Read, Write};

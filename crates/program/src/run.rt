@@ -3,18 +3,17 @@
 ghost use Rattle.std.specs.Prelude.{◌≡◌, ◌≤◌, IfOk, OnErr};
 
 use crate::objects;
-use console::options::Form;
 use crate::playing::run;
-use crate::serve::serve;
 use console::audit::{Audited, audit};
 use console::drawing::draw_saved;
 use console::export::export;
 use console::fault::Fault;
 use console::files::print;
-use console::options::{AuditOptions, NAME, Options, STANDARD, no_text, text_asked_for};
+use console::options::{AuditOptions, Form, NAME, Options, STANDARD, no_text, text_asked_for};
 use console::showing::show;
 use journal::Finding;
 use node::{Gate, Open, Reply};
+use server::serve;
 use std::alloc::{AllocError, Global};
 use std::convert::AsStr;
 use std::env;

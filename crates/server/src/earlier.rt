@@ -1,0 +1,158 @@
+//! What a node plays before its first request: an earlier run, and a blk file.
+
+use crate::learning::{deny_wants, learn_lines};
+use crate::node_faults::unanswered;
+use crate::words::SEATS;
+use block::SliceSource;
+use console::fault::Fault;
+use console::replay::BLK_MOMENT;
+use console::report::Clients;
+use hash::Id;
+use journal::{Records, Step};
+use node::{Command, MarkReply, Naming, Node, Reply, Seat, Stamped, SubmitReply};
+use scenario::BLK;
+use std::sync::Wait;
+use std::thread::Threads;
+
+/// What is played before the first request.
+#[derive(Drop)]
+pub struct Earlier<'t> {
+    pub commands: Vec<Command>,
+    /// Their lines in the journal.
+    pub steps: Vec<Step<'t, Id>>,
+    /// The lines of the signatures that are told to be valid before, and not to be.
+    pub valid: String,
+    pub invalid: Vec<u8>,
+    /// Whether they are a kept history: each is a step of it, and it has each verdict that they want.
+    pub is_kept: bool,
+    /// Then the blocks of this file are submitted.
+    pub blk: Option<Vec<u8>>,
+}
+
+/// Plays it at a seat. The first reply that isn't the recorded one is a fault, and so is a blk file's end that is none. A
+/// signature that it wants of a node by need isn't valid where it isn't told to be; in a kept history it is a fault.
+pub fn play_earlier<J: Naming, R>(
+    rt: &R,
+    node: &Node<'_, J>,
+    seat: &mut Seat<'_, J>,
+    earlier: &Earlier<'_>,
+    clients: &mut Clients<'_>,
+) -> Result<(), Fault<'static>>
+where
+    R: AllocGlobal + Threads + Wait + Sync,
+{
+    learn_lines(rt, node, earlier.valid.as_bytes(), true, seat).map_err(unanswered)?;
+    learn_lines(rt, node, earlier.invalid.as_slice(), false, seat).map_err(unanswered)?;
+    clients.put_in(0, seat.note().len(), SEATS[0])?;
+    for (command, step) in earlier.commands.iter().zip(earlier.steps.iter()) {
+        let before = seat.note().len();
+        let reply = match asked(rt, node, seat, command) {
+            Ok(reply) => reply,
+            Err(node::Fault::Unknown) if earlier.is_kept => {
+                return Err(Fault::NoStep(step.number));
+            }
+            Err(node::Fault::Unknown) => replied(rt, node, seat, command)?,
+            Err(fault) => return Err(unanswered(fault)),
+        };
+        let denied = seat.note().len().saturating_sub(before.saturating_add(1));
+        clients.put_in(before, denied, SEATS[0])?;
+        match step.reply {
+            Some(recorded) if recorded != reply => {
+                return Err(Fault::OtherReply(step.number, reply));
+            }
+            _ if earlier.is_kept && seat.note().len() != step.number as u64 => {
+                return Err(Fault::NoStep(step.number));
+            }
+            _ => {}
+        }
+    }
+    match &earlier.blk {
+        Some(file) => submit_file(rt, node, seat, file.as_slice(), clients),
+        None => Ok(()),
+    }
+}
+
+/// The reply to a command that wants signatures, and is made again as long as it does.
+fn replied<J: Naming, R>(
+    rt: &R,
+    node: &Node<'_, J>,
+    seat: &mut Seat<'_, J>,
+    command: &Command,
+) -> Result<Reply, Fault<'static>>
+where
+    R: AllocGlobal + Threads + Wait + Sync,
+{
+    for _ in 0..u64::MAX {
+        deny_wants(rt, node, seat).map_err(unanswered)?;
+        match asked(rt, node, seat, command) {
+            Err(node::Fault::Unknown) => {}
+            Ok(reply) => return Ok(reply),
+            Err(fault) => return Err(unanswered(fault)),
+        }
+    }
+    Err(Fault::Closed)
+}
+
+/// What a seat answers to a command.
+fn asked<J: Naming, R>(
+    rt: &R,
+    node: &Node<'_, J>,
+    seat: &mut Seat<'_, J>,
+    command: &Command,
+) -> Result<Reply, node::Fault>
+where
+    R: AllocGlobal + Threads + Wait + Sync,
+{
+    match command {
+        Command::Submit(block, now) => {
+            match seat.submit_bytes(
+                rt,
+                node,
+                block.clone().map_err(|_| node::Fault::Memory)?,
+                *now,
+            ) {
+                Ok(reply) => Ok(Reply::Submit(reply.value)),
+                Err(fault) => Err(fault),
+            }
+        }
+        Command::Invalidate(id) => marked(seat.invalidate(rt, node, *id)),
+        Command::Reconsider(id) => marked(seat.reconsider(rt, node, *id)),
+        Command::Precious(id) => marked(seat.precious(rt, node, *id)),
+        Command::Learn(triple, valid) => match seat.learn(rt, node, triple.triple(), *valid) {
+            Ok(_) => Ok(Reply::Mark(MarkReply::Done)),
+            Err(fault) => Err(fault),
+        },
+    }
+}
+
+fn marked(reply: Result<Stamped<MarkReply>, node::Fault>) -> Result<Reply, node::Fault> {
+    match reply {
+        Ok(reply) => Ok(Reply::Mark(reply.value)),
+        Err(fault) => Err(fault),
+    }
+}
+
+/// Submits the records of a blk file in their order. The steps are a client's whose name no other has.
+fn submit_file<J: Naming, R>(
+    rt: &R,
+    node: &Node<'_, J>,
+    seat: &mut Seat<'_, J>,
+    file: &[u8],
+    clients: &mut Clients<'_>,
+) -> Result<(), Fault<'static>>
+where
+    R: AllocGlobal + Threads + Wait + Sync,
+{
+    let mut records = Records::new(rt.alloc(), SliceSource::new(file));
+    for _ in 0..u64::MAX {
+        let Some(record) = records.next()? else {
+            return Ok(());
+        };
+        let told = seat.submit(rt, node, record.as_slice(), BLK_MOMENT);
+        let reply = told.map_err(unanswered)?.value;
+        if reply != SubmitReply::DecodeFailed {
+            clients.earlier.push(BLK)?;
+        }
+    }
+    Ok(())
+}

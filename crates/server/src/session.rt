@@ -1,0 +1,471 @@
+//! A node that answers requests, a JSON object a line, until its input ends.
+
+ghost use Rattle.std.specs.Prelude.{◌≡◌};
+ghost use Rattle.durable.specs.Log.{opened};
+
+use console::datadir::{
+    Datadir, FileHost, HostFault, LOG, Setting, Unpacked, Verdict, lock_for_node, open_datadir,
+    read_lines,
+};
+use console::fault::Fault;
+use console::files::{read_if_named, read_table_file};
+use console::options::{HEIGHTS, Saved, ServeOptions};
+use console::replay::{Inputs, commands, read_inputs};
+use console::report::{Clients, Report};
+use console::saving::{check_folder, heights_line, read_invalid, save, save_invalid};
+use curve::Table;
+use durable::{Host, KeptLog, Lost, whole_lines};
+use journal::{read_heights, read_journal, read_records};
+use node::{EndFault, Entry, Gate, Naming, Node, Opening, Seat};
+use scenario::Definitions;
+use serving::{Answer, Refusal, RequestId, Stamped, answer_line, refusal_line};
+use std::alloc::{AllocError, Global};
+use std::fs::File;
+use std::io::{Read, Write};
+use std::marker::Brand;
+use std::rt::Files;
+use std::sync::{Arc, Mutex, Wait};
+use std::thread::Threads;
+
+/// Answers the requests of an input on an output until it ends or one asks to finish, and saves what happened where that
+/// is asked for. Where the history is kept, an answer goes out when its steps are on the disk.
+pub fn serve<'w, R, I, O, E>(
+    rt: &R,
+    options: &ServeOptions<'w>,
+    gate: &(dyn Gate + Sync),
+    input: &mut I,
+    out: &mut O,
+    err: &mut E,
+) -> Result<(), Fault<'w>>
+where
+    R: Files<File = File> + AllocGlobal + Threads + Wait + Sync,
+    I: Read + Send,
+    O: Write,
+    E: Write,
+{
+    let mut disk = open_disk(rt, options)?;
+    tell_opening(options, disk.bytes.as_slice(), err);
+    let log = disk.log.take();
+    let host = FileHost::open(rt.alloc(), log, &disk.bytes, !options.is_unsynced, out);
+    serve_over(rt, options, gate, host, disk, input)
+}
+
+/// Serves over a log that was opened.
+fn serve_over<'w, R, I, H>(
+    rt: &R,
+    options: &ServeOptions<'w>,
+    gate: &(dyn Gate + Sync),
+    host: H,
+    disk: Disk,
+    input: &mut I,
+) -> Result<(), Fault<'w>>
+where
+    R: Files<File = File> + AllocGlobal + Threads + Wait + Sync,
+    I: Read + Send,
+    H: Host<Fault = HostFault> + Drop,
+    requires { H.calls host ≡ opened disk.bytes.items }
+{
+    let alloc = rt.alloc();
+    let Disk {
+        inputs: Inputs {
+            params,
+            journal,
+            blk,
+            verdicts,
+            table,
+        },
+        bytes,
+        lock: _lock,
+        ..
+    } = disk;
+    let (log, _) = KeptLog::open(alloc, host, &bytes)?;
+    let log = Mutex::new(Some(log));
+    let known = read_known(rt, options, &table)?;
+    let (journal, blk) = (journal.as_slice(), blk.as_slice());
+    let earlier = read_earlier(rt, options, journal, blk, verdicts, known)?;
+    let facts = Facts {
+        params,
+        seats: options.seats,
+        workers: options.workers,
+        loaded: earlier.steps.len(),
+        is_kept: options.datadir.is_some(),
+        is_unsynced: options.is_unsynced,
+        is_by_need: options.is_by_need,
+        is_busy: options.is_busy,
+        clients: clients(alloc, &earlier)?,
+    };
+    let table = Arc::new(alloc, table)?;
+    serve_and_save(rt, options, gate, &earlier, facts, &table, input, &log)
+}
+
+/// What a node begins with.
+#[derive(Drop)]
+struct Disk {
+    inputs: Inputs,
+    /// Where the history is kept.
+    log: Option<File>,
+    /// What the log holds.
+    bytes: Vec<u8>,
+    /// What keeps other nodes from the folder.
+    lock: Option<File>,
+}
+
+/// Reads what a node begins with, and locks the folder that is its own.
+fn open_disk<'w, R>(rt: &R, options: &ServeOptions<'w>) -> Result<Disk, Fault<'w>>
+where
+    R: Files<File = File> + AllocGlobal,
+{
+    if let Some(folder) = options.datadir {
+        return open_kept(rt, open_datadir(rt, folder, options)?);
+    }
+    let lock = match options.save {
+        Some(folder) => Some(lock_to_save(rt, folder)?),
+        None => None,
+    };
+    Ok(Disk {
+        inputs: inputs(rt, options)?,
+        log: None,
+        bytes: Vec::new(rt.alloc()),
+        lock,
+    })
+}
+
+/// What a node begins with whose history is kept.
+fn open_kept<'w, R: AllocGlobal>(rt: &R, datadir: Datadir) -> Result<Disk, Fault<'w>> {
+    let Datadir {
+        setting: Setting { params, table },
+        log,
+        bytes,
+        lock,
+    } = datadir;
+    let Unpacked {
+        journal,
+        blk,
+        verdicts,
+    } = read_lines(rt.alloc(), bytes.as_slice())?;
+    Ok(Disk {
+        inputs: Inputs {
+            params,
+            journal,
+            blk,
+            verdicts,
+            table: table.unwrap_or(Table::new(rt.alloc())),
+        },
+        log: Some(log),
+        bytes,
+        lock: Some(lock),
+    })
+}
+
+/// Locks the folder into which a node saves at its end.
+fn lock_to_save<'w, R>(rt: &R, folder: &'w str) -> Result<File, Fault<'w>>
+where
+    R: Files<File = File> + AllocGlobal,
+{
+    check_folder(rt, folder)?;
+    lock_for_node(rt, folder)
+}
+
+/// Says what the one who started the node has to know of its folder.
+fn tell_opening<E: Write>(options: &ServeOptions<'_>, bytes: &[u8], err: &mut E) {
+    let cut = (bytes.len() as u64).saturating_sub(whole_lines(bytes).end);
+    if cut > 0 {
+        let _ = writeln!(
+            err,
+            "regchain: {LOG}: {cut} bytes of an unfinished line were cut off"
+        );
+    }
+    if options.datadir.is_some() && options.is_unsynced {
+        let _ = writeln!(
+            err,
+            "regchain: --no-sync: a crash of the machine may lose what was answered"
+        );
+    }
+}
+
+/// What is played before the first request: what is known of signatures, then what the lines of a journal ask over these
+/// records and verdicts, and a blk file.
+fn read_earlier<'w, 't, R>(
+    rt: &R,
+    options: &ServeOptions<'w>,
+    journal: &'t [u8],
+    records: &[u8],
+    verdicts: Vec<Verdict>,
+    (valid, invalid): (String, Vec<u8>),
+) -> Result<Earlier<'t>, Fault<'w>>
+where
+    R: Files<File = File> + AllocGlobal,
+{
+    let blk = read_if_named(rt, options.blk)?;
+    let steps = read_journal(rt.alloc(), journal)?;
+    let records = read_records(rt.alloc(), records)?;
+    Ok(Earlier {
+        commands: commands(rt.alloc(), steps.as_slice(), records, verdicts)?,
+        steps,
+        valid,
+        invalid,
+        is_kept: options.datadir.is_some(),
+        blk,
+    })
+}
+
+/// The lines of the signatures that a node by need is told to be valid first, and not to be.
+fn read_known<'w, R>(
+    rt: &R,
+    options: &ServeOptions<'w>,
+    table: &Table,
+) -> Result<(String, Vec<u8>), Fault<'w>>
+where
+    R: Files<File = File> + AllocGlobal,
+{
+    if !options.is_by_need {
+        return Ok((String::new(rt.alloc()), Vec::new(rt.alloc())));
+    }
+    let invalid = match options.load {
+        Some(folder) => read_invalid(rt, folder)?,
+        None => Vec::new(rt.alloc()),
+    };
+    Ok((table.to_string(rt.alloc())?, invalid))
+}
+
+/// Serves under this table, and saves then what happened.
+fn serve_and_save<'w, R, I, H>(
+    rt: &R,
+    options: &ServeOptions<'w>,
+    gate: &(dyn Gate + Sync),
+    earlier: &Earlier<'_>,
+    facts: Facts<'_>,
+    table: &Arc<Table>,
+    input: &mut I,
+    log: &Mutex<Option<KeptLog<H>>>,
+) -> Result<(), Fault<'w>>
+where
+    R: Files<File = File> + AllocGlobal + Threads + Wait + Sync,
+    I: Read + Send,
+    H: Host<Fault = HostFault> + Drop,
+{
+    let mut facts = facts;
+    let opening = if facts.is_by_need {
+        Opening::by_need(facts.params, facts.seats)
+    } else {
+        Opening::new(facts.params, table, facts.seats)
+    };
+    let Served {
+        entries,
+        fits,
+        ended,
+    } = serve_at_node::<Brand, R, I, H>(rt, opening, gate, earlier, &mut facts, input, log)?;
+    let Ended { finish, served } = ended?;
+    let steps = entries.len() as u64;
+    let kept = keep_rest(rt, &facts, entries.as_slice(), log);
+    let saved = match options.save {
+        Some(folder) => save_served(rt, folder, table, facts, entries),
+        None => Ok(()),
+    };
+    let told = tell_end(rt.alloc(), finish, steps, saved.is_ok(), kept);
+    served?;
+    fits?;
+    saved?;
+    told
+}
+
+/// Brings what no answer told of onto the disk.
+fn keep_rest<R, H>(
+    rt: &R,
+    facts: &Facts<'_>,
+    entries: &[Entry],
+    log: &Mutex<Option<KeptLog<H>>>,
+) -> Result<KeptLog<H>, Fault<'static>>
+where
+    R: AllocGlobal + Wait,
+    H: Host<Fault = HostFault> + Drop,
+{
+    let Some(log) = taken(rt, log) else {
+        return Err(Fault::Closed);
+    };
+    if !facts.is_kept {
+        return Ok(log);
+    }
+    let rest = entries.get(log.count() as usize..).unwrap_or(&[]);
+    match tell_all(rt.alloc(), facts, rest, &[], log) {
+        Ok(log) => Ok(log),
+        Err(Lost { fault, host: _host }) => Err(fault),
+    }
+}
+
+/// The folder of an earlier run, or none of its steps under these heights and this table.
+fn inputs<'w, R>(rt: &R, options: &ServeOptions<'w>) -> Result<Inputs, Fault<'w>>
+where
+    R: Files<File = File> + AllocGlobal,
+{
+    if let Some(folder) = options.load {
+        return read_inputs(rt, &Saved::Folder(folder));
+    }
+    let params = read_heights(options.heights.unwrap_or(HEIGHTS)).ok_or(Fault::Heights)?;
+    let table = read_table_file(rt, options.table)?;
+    Ok(Inputs {
+        params,
+        journal: Vec::new(rt.alloc()),
+        blk: Vec::new(rt.alloc()),
+        verdicts: Vec::new(rt.alloc()),
+        table,
+    })
+}
+
+/// The clients of an earlier run, and the seats.
+fn clients<'t>(alloc: Global, earlier: &Earlier<'t>) -> Result<Clients<'t>, Fault<'static>> {
+    let mut names = Vec::new(alloc);
+    for step in earlier.steps.as_slice() {
+        names.push(step.client)?;
+    }
+    let mut seats = Vec::new(alloc);
+    for name in &SEATS {
+        seats.push(*name)?;
+    }
+    Ok(Clients {
+        earlier: names,
+        seats,
+    })
+}
+
+/// What was served, and the whole history.
+#[derive(Drop)]
+struct Served<'f> {
+    entries: Vec<Entry>,
+    /// That a seat doesn't fit them, if one doesn't.
+    fits: Result<(), Fault<'f>>,
+    ended: Result<Ended<'f>, Fault<'f>>,
+}
+
+/// How the service ended that had begun.
+#[derive(Drop)]
+pub struct Ended<'f> {
+    /// The request that asked for the end.
+    pub finish: Option<RequestId>,
+    pub served: Result<(), Fault<'f>>,
+}
+
+/// Serves at a node of this opening. The prover picks the node's name where this is called.
+fn serve_at_node<'f, J: Naming, R, I, H>(
+    rt: &R,
+    opening: Opening<'_>,
+    gate: &(dyn Gate + Sync),
+    earlier: &Earlier<'_>,
+    facts: &mut Facts<'_>,
+    input: &mut I,
+    log: &Mutex<Option<KeptLog<H>>>,
+) -> Result<Served<'f>, Fault<'f>>
+where
+    R: AllocGlobal + Threads + Wait + Sync,
+    I: Read + Send,
+    H: Host<Fault = HostFault> + Drop,
+    requires { opening ≡ J.origin }
+{
+    let (node, mut seats) = Node::<J>::open(rt.alloc(), opening, facts.workers, gate).map_err(
+        unopened,
+    )?;
+    let ended = serve_seats(rt, &node, seats.as_mut_slice(), earlier, facts, input, log);
+    let (entries, fits) = match node.close(rt, seats.as_mut_slice()) {
+        Ok(entries) => (entries, Ok(())),
+        Err(EndFault { history }) => (history, Err(Fault::Closed)),
+    };
+    Ok(Served {
+        entries,
+        fits,
+        ended,
+    })
+}
+
+/// Plays what was earlier, and serves then.
+fn serve_seats<J: Naming, R, I, H>(
+    rt: &R,
+    node: &Node<'_, J>,
+    seats: &mut [Seat<'_, J>],
+    earlier: &Earlier<'_>,
+    facts: &mut Facts<'_>,
+    input: &mut I,
+    log: &Mutex<Option<KeptLog<H>>>,
+) -> Result<Ended<'static>, Fault<'static>>
+where
+    R: AllocGlobal + Threads + Wait + Sync,
+    I: Read + Send,
+    H: Host<Fault = HostFault> + Drop,
+{
+    if let Some(seat) = seats.first_mut() {
+        play_earlier(rt, node, seat, earlier, &mut facts.clients)?;
+    }
+    serve_requests(rt, node, seats, facts, input, log)
+}
+
+/// Saves what happened: a history without verdicts, beside the signatures that these say are valid, and that they aren't.
+fn save_served<'w, R>(
+    rt: &R,
+    folder: &'w str,
+    table: &Table,
+    facts: Facts<'_>,
+    entries: Vec<Entry>,
+) -> Result<(), Fault<'w>>
+where
+    R: Files<File = File> + AllocGlobal,
+{
+    let Facts {
+        params,
+        clients,
+        ..
+    } = facts;
+    let heights = heights_line(rt.alloc(), &params)?;
+    let Parted {
+        clients,
+        entries,
+        valid,
+        invalid,
+    } = without_verdicts(rt.alloc(), clients, entries)?;
+    let found = Table::from_lines(rt.alloc(), valid.as_bytes())?;
+    let table = if valid.is_empty() { table } else { &found };
+    let definitions = Definitions::read(rt.alloc(), &[], Table::new(rt.alloc()))?;
+    let report = Report::new(rt.alloc(), &definitions, clients, entries)?;
+    save(rt, folder, &report, table, heights.trim_end())?;
+    save_invalid(rt, folder, invalid.as_str())
+}
+
+/// Answers the request that asked for the end, if one did, where the history is kept.
+fn tell_end<H>(
+    alloc: Global,
+    finish: Option<RequestId>,
+    steps: u64,
+    is_saved: bool,
+    kept: Result<KeptLog<H>, Fault<'static>>,
+) -> Result<(), Fault<'static>>
+where
+    H: Host<Fault = HostFault> + Drop,
+{
+    let log = kept?;
+    let Some(id) = finish else {
+        return Ok(());
+    };
+    let line = end_line(alloc, &id, steps, is_saved)?;
+    let stamp = log.count();
+    let answers = vec![in alloc; durable::Answer { stamp, line }]?;
+    match log.round(&answers) {
+        Ok((_log, _went)) => Ok(()),
+        Err(Lost { fault, host: _host }) => Err(Fault::from(fault)),
+    }
+}
+
+/// The line of the answer to the request that asked for the end: with how many entries the history has, or that it wasn't
+/// saved.
+fn end_line(
+    alloc: Global,
+    id: &RequestId,
+    steps: u64,
+    is_saved: bool,
+) -> Result<Vec<u8>, AllocError> {
+    if !is_saved {
+        return refusal_line(Vec::new(alloc), id, Refusal::Unsaved);
+    }
+    let stamped = Stamped {
+        at: steps,
+        answer: Answer::Place,
+    };
+    answer_line(alloc, Vec::new(alloc), id, &stamped)
+}
