@@ -74,7 +74,7 @@ pub(crate) fn connect_up<'b, 'm, B: Base, S: RunsScripts>(
     let mut ascent = start;
     for passed in 0..up.len() {
         let place = up[up.len() - 1 - passed];
-        match connect_next(alloc, active_branch, ascent, place, env, gate)? {
+        match connect_tip(alloc, active_branch, ascent, place, env, gate)? {
             Ok(next) => ascent = next,
             Err(reason) => return Ok(Err(Stop { passed, reason })),
         }
@@ -83,7 +83,7 @@ pub(crate) fn connect_up<'b, 'm, B: Base, S: RunsScripts>(
 }
 
 /// Connects the block at a place to the coins of its parent's branch.
-fn connect_next<'b, 'm, B: Base, S: RunsScripts>(
+fn connect_tip<'b, 'm, B: Base, S: RunsScripts>(
     alloc: Global,
     active_branch: &ActiveBranch<'_>,
     start: Ascent<'b, 'm, B>,

@@ -40,7 +40,7 @@ impl<'a> ActiveBranch<'a> {
         ensures wants { let b = self.now in IfErr result (λ stop. IfSome (S.told stop)
             (AreWantedOnWay b.params.now b.tree.now.blocks b.active place (S.known env.now))) }
     {
-        let (path, answer) = self.climb(alloc, base, place, env, gate)?;
+        let (path, answer) = self.activate_best_chain_step(alloc, base, place, env, gate)?;
         match answer {
             Ok(ascent) => {
                 let changes = ascent.layer.into_changes();
@@ -88,7 +88,7 @@ impl<'a> ActiveBranch<'a> {
             (one_more t submitted.now.block parent) b.active (suc (length t))
             (S.known env.now))) }
     {
-        let (mut path, answer) = self.climb(alloc, base, parent, env, gate)?;
+        let (mut path, answer) = self.activate_best_chain_step(alloc, base, parent, env, gate)?;
         let below = path.up.len();
         put_first(&mut path.up, self.tree.len())?;
         let ascent = match answer {
@@ -131,7 +131,7 @@ impl<'a> ActiveBranch<'a> {
 
     /// The walk from the active block to another one: the active branch is taken back down to the fork, on a layer, and
     /// the other one's branch is connected up from there.
-    fn climb<'b, B: Base, S: RunsScripts>(
+    fn activate_best_chain_step<'b, B: Base, S: RunsScripts>(
         &self,
         alloc: Global,
         base: &'b B,

@@ -107,7 +107,7 @@ impl Chainstate {
         let prepared = self
             .core
             .prepare(alloc, self.coins.map(), command, env, gate)?;
-        Ok(self.core.commit(alloc, prepared, &mut self.coins)?)
+        Ok(self.core.flush(alloc, prepared, &mut self.coins)?)
     }
 
     /// The reply that [`Chainstate::step`] would give now, or the signatures that it would list. Nothing changes.

@@ -34,13 +34,13 @@ pub(crate) fn disconnect_to_fork<'b, B: Base>(
     let (low, top) = (tree.height(fork), tree.height(active_branch.active));
     let mut left = layer;
     for done in 0..top - low {
-        left = disconnect_at(alloc, active_branch, left, top - done)?;
+        left = disconnect_tip(alloc, active_branch, left, top - done)?;
     }
     Ok(left)
 }
 
 /// Takes the active block at a height back.
-fn disconnect_at<'b, B: Base>(
+fn disconnect_tip<'b, B: Base>(
     alloc: Global,
     active_branch: &ActiveBranch<'_>,
     layer: Cache<'b, B>,

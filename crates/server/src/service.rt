@@ -1,11 +1,11 @@
 //! The threads of a served node: one for each seat, one that reads, and this one, which writes.
 
-use crate::Ended;
 use crate::asking::{Desk, answer_turns};
 use crate::board::Board;
 use crate::growth::Growth;
 use crate::outbox::Outbox;
 use crate::reading::{Doors, read_requests, unread};
+use crate::session::Ended;
 use crate::telling::{Lines, tell_as_they_come, tell_unsaved};
 use crate::words::Facts;
 use console::datadir::HostFault;

@@ -3,6 +3,12 @@
 ghost use Rattle.std.specs.Prelude.{◌≡◌};
 ghost use Rattle.durable.specs.Log.{opened};
 
+use crate::earlier::{Earlier, play_earlier};
+use crate::learning::{Parted, without_verdicts};
+use crate::node_faults::unopened;
+use crate::service::{serve_requests, taken};
+use crate::telling::tell_all;
+use crate::words::{Facts, SEATS};
 use console::datadir::{
     Datadir, FileHost, HostFault, LOG, Setting, Unpacked, Verdict, lock_for_node, open_datadir,
     read_lines,

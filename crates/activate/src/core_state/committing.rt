@@ -26,7 +26,7 @@ use wire::Memory;
 impl Core {
     /// Puts a prepared command in place, where the coins take their changes too. Room comes first, then the coins, and
     /// then what can't fail; so a refusal leaves both, and nothing is taken back.
-    pub(crate) fn commit<L: Lays<Changes>>(
+    pub(crate) fn flush<L: Lays<Changes>>(
         &mut self,
         alloc: Global,
         prepared: Prepared,

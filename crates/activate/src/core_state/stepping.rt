@@ -72,7 +72,7 @@ impl Core {
         let mut changes = ChangesToLay {
             list: Changes::new(alloc),
         };
-        let reply = self.commit(alloc, prepared, &mut changes)?;
+        let reply = self.flush(alloc, prepared, &mut changes)?;
         Ok((reply, changes.list))
     }
 }

@@ -28,22 +28,22 @@ loop-passed-init g c =
       applied = subst (λ (l : List ℕ). IsApplied t (top_of f l) c.args.start.layer.base c.args.start.layer c.args.start.medians) (sym none) start.applied;
     }
 
-pub connect_next-requires-clause-above : goal.connect_next-requires-clause-above
-connect_next-requires-clause-above g c =
+pub connect_tip-requires-clause-above : goal.connect_tip-requires-clause-above
+connect_tip-requires-clause-above g c =
     let t = c.args.active_branch.now.tree.now.blocks in
     let up = c.as_slice-up.result.now in
     let w = subst (LeadsUp t c.args.path.now.fork) (sym c.as_slice-up.ensures.value) c.requires.path in
     (is-next t c.args.path.now.fork up w c.loop-passed.passed c.loop-passed-test.true (get_or up (length up - 1 - c.loop-passed.passed) 0) refl).above_genesis
 
-pub connect_next-requires-clause-place : goal.connect_next-requires-clause-place
-connect_next-requires-clause-place g c =
+pub connect_tip-requires-clause-place : goal.connect_tip-requires-clause-place
+connect_tip-requires-clause-place g c =
     let t = c.args.active_branch.now.tree.now.blocks in
     let up = c.as_slice-up.result.now in
     let w = subst (LeadsUp t c.args.path.now.fork) (sym c.as_slice-up.ensures.value) c.requires.path in
     (is-next t c.args.path.now.fork up w c.loop-passed.passed c.loop-passed-test.true (get_or up (length up - 1 - c.loop-passed.passed) 0) refl).kept
 
-pub connect_next-requires-clause-start : goal.connect_next-requires-clause-start
-connect_next-requires-clause-start g c =
+pub connect_tip-requires-clause-start : goal.connect_tip-requires-clause-start
+connect_tip-requires-clause-start g c =
     let t = c.args.active_branch.now.tree.now.blocks in
     let up = c.as_slice-up.result.now in
     let w = subst (LeadsUp t c.args.path.now.fork) (sym c.as_slice-up.ensures.value) c.requires.path in

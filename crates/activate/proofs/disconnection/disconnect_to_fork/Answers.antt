@@ -68,11 +68,11 @@ loop-done-init g c =
           ∙ ap (λ j. coins_after t (place_at c.args.active_branch.now.branch.now j)) {x = height t c.args.active_branch.now.active} {y = c.height-top.result - 0} (omega (arith, c.height-top.ensures.value));
     }
 
-pub disconnect_at-requires-clause-branch : goal.disconnect_at-requires-clause-branch
-disconnect_at-requires-clause-branch g c = (stands c.args.active_branch.now c.args.fork c.requires.active c.requires.on c.requires.connected).can
+pub disconnect_tip-requires-clause-branch : goal.disconnect_tip-requires-clause-branch
+disconnect_tip-requires-clause-branch g c = (stands c.args.active_branch.now c.args.fork c.requires.active c.requires.on c.requires.connected).can
 
-pub disconnect_at-requires-clause-inside : goal.disconnect_at-requires-clause-inside
-disconnect_at-requires-clause-inside g c =
+pub disconnect_tip-requires-clause-inside : goal.disconnect_tip-requires-clause-inside
+disconnect_tip-requires-clause-inside g c =
     let s = stands c.args.active_branch.now c.args.fork c.requires.active c.requires.on c.requires.connected in
     omega (arith, s.long, c.height-top.ensures.value)
 

@@ -32,8 +32,8 @@ prepare-requires-clause-coins g c =
     let triples = g.S.RunsScripts.agreeing c.args.env.now in
     c.map.ensures ∙ (inside triples c.self.view_is (c.requires.is_chainstate triples (g.met.S.RunsScripts.agrees c.args.env.now))).coins_are
 
-pub commit-requires : goal.commit-requires
-commit-requires g c =
+pub flush-requires : goal.flush-requires
+flush-requires g c =
     let triples = g.S.RunsScripts.agreeing c.args.env.now in
     (triples, (c.in_ok-prepared.ensures.prepared triples (g.met.S.RunsScripts.agrees c.args.env.now)).ready)
 
@@ -42,7 +42,7 @@ returns-clause-outcome g c triples agrees =
     let a : CoreState = c.self.inside.core in
     let plan = c.in_ok-prepared.ensures.prepared triples agrees in
     let end : CoreState = core_after_commit (regtest a.params triples) a c.in_ok-prepared.prepared in
-    ap (λ (x : CoreState). (x.state, c.in_ok-commit.field-0)) (c.in_ok-commit.ensures.ok triples plan.ready) ∙ ap (λ (x : Reply). (end.state, x)) c.in_ok-commit.ensures.reply ∙ plan.outcome_is
+    ap (λ (x : CoreState). (x.state, c.in_ok-flush.field-0)) (c.in_ok-flush.ensures.ok triples plan.ready) ∙ ap (λ (x : Reply). (end.state, x)) c.in_ok-flush.ensures.reply ∙ plan.outcome_is
     ∙ ap (λ (x : WithCoins). outcome (regtest x.core.params triples) x.core.state (command_of c.args.command.now)) c.self.view_is
 
 pub returns-clause-is_chainstate : goal.returns-clause-is_chainstate
@@ -52,11 +52,11 @@ returns-clause-is_chainstate g c triples agrees =
     let was = inside triples c.self.view_is (c.requires.is_chainstate triples agrees) in
     let plan = c.in_ok-prepared.ensures.prepared triples agrees in
     let end : CoreState = core_after_commit (regtest a.params triples) a prepared in
-    let done = c.in_ok-commit.ensures.ok triples plan.ready in
+    let done = c.in_ok-flush.ensures.ok triples plan.ready in
     record {
       follows = subst (λ (x : CoreState). Follows x triples) (sym done) (follows-plan a triples (command_of c.args.command.now) prepared was.follows plan).1;
       coins_are =
-          c.in_ok-commit.ensures.laid ∙ ap (λ (m : Coins). after_changes m prepared.changes) was.coins_are ∙ laid-changes (coins_of a) (coins_of end) prepared.changes plan.changes_are
+          c.in_ok-flush.ensures.laid ∙ ap (λ (m : Coins). after_changes m prepared.changes) was.coins_are ∙ laid-changes (coins_of a) (coins_of end) prepared.changes plan.changes_are
           ∙ sym (ap coins_of done);
     }
 
@@ -66,7 +66,7 @@ returns-clause-params g c =
     let agrees = g.met.S.RunsScripts.agrees c.args.env.now in
     let was = inside triples c.self.view_is (c.requires.is_chainstate triples agrees) in
     let plan = c.in_ok-prepared.ensures.prepared triples agrees in
-    ap (λ (x : CoreState). x.params) (c.in_ok-commit.ensures.ok triples plan.ready)
+    ap (λ (x : CoreState). x.params) (c.in_ok-flush.ensures.ok triples plan.ready)
     ∙ (follows-plan c.self.inside.core triples (command_of c.args.command.now) c.in_ok-prepared.prepared was.follows plan).0 ∙ ap (λ (x : WithCoins). x.core.params) c.self.view_is
 
 pub returns-clause-undo : goal.returns-clause-undo
@@ -78,12 +78,12 @@ returns-clause-undo g c =
     let was = inside triples c.self.view_is (c.requires.is_chainstate triples agrees) in
     let plan = c.in_ok-prepared.ensures.prepared triples agrees in
     let few = few-of c.undo_kept-few.result a.undo_kept c.undo_kept-few.ensures.value c.undo_kept-few.ensures.few in
-    let both : KeepsUndo a c.commit.new.self = subst (λ (x : CoreState). KeepsUndo a x) (sym (c.in_ok-commit.ensures.ok triples plan.ready)) (record {
+    let both : KeepsUndo a c.flush.new.self = subst (λ (x : CoreState). KeepsUndo a x) (sym (c.in_ok-flush.ensures.ok triples plan.ready)) (record {
       one_more = more-undo (regtest a.params triples) a _ prepared plan;
       follows = undo-follows a triples (command_of c.args.command.now) prepared was.follows plan few;
     }) in
-    subst (λ (x : WithCoins). KeepsUndo x.core c.commit.new.self) c.self.view_is both
+    subst (λ (x : WithCoins). KeepsUndo x.core c.flush.new.self) c.self.view_is both
 
-pub returns-in_err-commit-clause-is_chainstate : goal.returns-in_err-commit-clause-is_chainstate
-returns-in_err-commit-clause-is_chainstate g c triples agrees =
-    inside triples (both_same c.in_err-commit.ensures.err c.in_err-commit.ensures.not_laid ∙ c.self.view_is) (c.requires.is_chainstate triples agrees)
+pub returns-in_err-flush-clause-is_chainstate : goal.returns-in_err-flush-clause-is_chainstate
+returns-in_err-flush-clause-is_chainstate g c triples agrees =
+    inside triples (both_same c.in_err-flush.ensures.err c.in_err-flush.ensures.not_laid ∙ c.self.view_is) (c.requires.is_chainstate triples agrees)

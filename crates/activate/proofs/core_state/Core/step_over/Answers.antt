@@ -11,8 +11,8 @@ use Rattle.activate.proofs.Undo.{few-of, more-undo, undo-follows}
 use Rattle.activate.proofs.Outcomes.{follows-plan}
 use Rattle.activate.proofs.core_state.Core.step_over.Goals as goal
 
-pub commit-requires : goal.commit-requires
-commit-requires g c =
+pub flush-requires : goal.flush-requires
+flush-requires g c =
     let triples = g.S.RunsScripts.agreeing c.args.env.now in
     (triples, (c.in_ok-prepared.ensures.prepared triples (g.met.S.RunsScripts.agrees c.args.env.now)).ready)
 
@@ -28,7 +28,7 @@ returns-clause-step g c triples agrees =
     record {
       outcome_is = ap (λ (x : CoreState). (x.state, c.in_ok-reply.reply)) done ∙ ap (λ (x : Reply). (end.state, x)) c.in_ok-reply.ensures.reply ∙ plan.outcome_is;
       changes_are =
-          subst (λ (l : Changes). AreChanges (coins_of a) (coins_of c.commit.new.self) l) (ap (λ (x : ChangesToLay). x.list) (sym c.in_ok-reply.ensures.laid))
+          subst (λ (l : Changes). AreChanges (coins_of a) (coins_of c.flush.new.self) l) (ap (λ (x : ChangesToLay). x.list) (sym c.in_ok-reply.ensures.laid))
           (subst (λ (x : CoreState). AreChanges (coins_of a) (coins_of x) prepared.changes) (sym done) plan.changes_are);
       params_are = ap (λ (x : CoreState). x.params) done ∙ (follows-plan a triples (command_of c.args.command.now) prepared (c.requires.follows triples agrees) plan).0;
       undo_is = subst (λ (x : CoreState). KeepsUndo a x) (sym done) (record {

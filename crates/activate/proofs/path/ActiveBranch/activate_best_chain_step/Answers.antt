@@ -12,7 +12,7 @@ use Rattle.activate.specs.laws.Climbing.{top-above, height-below, length-branch,
 use Rattle.std.proofs.lemmas.List.{length-take-le}
 use Rattle.std.proofs.lemmas.Result.{err_from_is_err_and}
 use Rattle.activate.proofs.Wanted.{wanted_on-way}
-use Rattle.activate.proofs.path.ActiveBranch.climb.Goals as goal
+use Rattle.activate.proofs.path.ActiveBranch.activate_best_chain_step.Goals as goal
 
 -- a path leads to its block, from a block of the active branch
 module _ (t : Blocks Block) (a p : ℕ) (path : BranchPath) (w : IsPath t a p path) (h : p ≤ length t) where

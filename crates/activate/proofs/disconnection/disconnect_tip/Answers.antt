@@ -11,7 +11,7 @@ use Rattle.activate.specs.CoreState.{coins_after}
 use Rattle.activate.specs.inside.Keeping.{undo_at}
 use Rattle.activate.specs.inside.Disconnection.{place_at, CanDisconnect, IsConnectedBranch}
 use Rattle.activate.specs.laws.ByHeight.{step-setting, step-connected}
-use Rattle.activate.proofs.disconnection.disconnect_at.Goals as goal
+use Rattle.activate.proofs.disconnection.disconnect_tip.Goals as goal
 
 -- the block at a height was connected to the coins of the one below it
 next_back : (t : Blocks Block) (places : List ℕ) → IsConnectedBranch t places → (h : ℕ) → 0 < h → h < length places → (m : Coins) (block : Block) (spent : List (List Coin)) → m ≡ coins_after t (place_at places h)

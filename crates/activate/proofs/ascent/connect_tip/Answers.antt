@@ -21,7 +21,7 @@ use Rattle.chain.specs.laws.Medians.{length-medians}
 use Rattle.std.proofs.lemmas.Result.{err_from_is_err_and}
 use Rattle.activate.specs.Wants.{AreWantedAt}
 use Rattle.activate.proofs.Wanted.{wanted_at}
-use Rattle.activate.proofs.ascent.connect_next.Goals as goal
+use Rattle.activate.proofs.ascent.connect_tip.Goals as goal
 
 -- there is a median below
 some : (t : Blocks Block) (p : ℕ) (medians : List ℕ) → length (branch_blocks t (parent_at t p)) ≡ height t p → 1 ≤ height t p → medians ≡ reverse (medians_of (branch_blocks t (parent_at t p))) → 1 ≤ length medians
