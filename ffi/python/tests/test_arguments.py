@@ -214,7 +214,7 @@ CHAIN = [
     ("invalidate", {"id": ID}), ("reconsider", {"id": ID}), ("precious", {"id": ID}),
     ("try_mark", {"command": ("command", "precious"), "id": ID}), ("best", {}), ("height", {}), ("tips", {}),
     ("coin", {"id": ID, "index": ("number32", 0)}), ("block", {"id": ID}), ("coins", {}), ("is_kept", {"id": ID}),
-    ("close", {}),
+    ("judge", {"block": BLOCK, "now": MOMENT}), ("copy", {}), ("close", {}),
 ]  # fmt: skip
 ROWS = [
     row("consensus.transaction", data=DATA), row("consensus.transaction_parts", data=DATA),

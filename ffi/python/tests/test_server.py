@@ -62,7 +62,10 @@ class ServerTest(unittest.TestCase):
         self.assertEqual(self.submit(other[0]), "inconclusive")
         self.assertIsNone(self.submit(other[1]))
         self.assertEqual(self.proxy.getbestblockhash(), block_id(other[1]))
-        self.assertEqual(str(self.proxy.call("gettxout", show(coin), 0)["value"]), "50.00000000")
+        # What the block had waits again, and spends the coin.
+        self.assertEqual(self.proxy.call("getrawmempool"), [show(tx.id)])
+        self.assertIsNone(self.proxy.call("gettxout", show(coin), 0))
+        self.assertEqual(str(self.proxy.call("gettxout", show(coin), 0, False)["value"]), "50.00000000")
         tips = self.proxy.call("getchaintips")
         self.assertEqual(
             [(tip["hash"], tip["height"], tip["branchlen"], tip["status"]) for tip in tips],
