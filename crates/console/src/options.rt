@@ -244,7 +244,7 @@ fn read_run<'w>(run: &ArgMatches<'w>) -> Option<Options<'w>> {
         heights: run.get_str("heights").unwrap_or(HEIGHTS),
         save: run.get_str("save"),
         expect: run.get_str("expect"),
-        form: form(run),
+        form: form_asked_for(run),
         has_tree: run.get_flag("tree"),
         svg: run.get_str("svg"),
     }))
@@ -280,7 +280,7 @@ fn read_audit<'w>(audit: &ArgMatches<'w>) -> Option<Options<'w>> {
         is_quick: audit.get_flag("quick"),
         is_explained: audit.get_flag("explain"),
         limit: audit.get_one("to").unwrap_or(usize::MAX),
-        form: form(audit),
+        form: form_asked_for(audit),
     }))
 }
 
@@ -330,7 +330,7 @@ fn read_export<'w>(export: &ArgMatches<'w>) -> Option<Options<'w>> {
     }))
 }
 
-fn form(matches: &ArgMatches<'_>) -> Form {
+fn form_asked_for(matches: &ArgMatches<'_>) -> Form {
     if matches.get_flag("json") {
         return Form::Json;
     }
