@@ -97,7 +97,7 @@ class WaitingTest(unittest.TestCase):
     # ---- for how long
 
     def test_a_call_waits_no_longer_than_it_may(self):
-        node = self.node(SILENT, timeout=2.0)
+        node = self.node(SILENT, timeout=4.0)
         self.assertRaises(wakotehu.TimedOut, node.seat(0).note)
         self.assertEqual(node.seat(0).getbestblockhash().value, bytes(32))
         self.assertTrue(issubclass(wakotehu.TimedOut, TimeoutError))
@@ -115,7 +115,7 @@ class WaitingTest(unittest.TestCase):
         self.assertRaises(wakotehu.TimedOut, asyncio.run, opened.__aenter__())
 
     def test_a_line_that_nobody_reads(self):
-        node = self.node(DEAF, timeout=2.0)
+        node = self.node(DEAF, timeout=4.0)
         self.assertRaises(wakotehu.TimedOut, node.seat(0).note)
         for _ in range(2):
             self.assertRaises(wakotehu.TimedOut, node.seat(0).submit, bytes(10**6), NOW)
@@ -134,11 +134,11 @@ class WaitingTest(unittest.TestCase):
 
     def test_the_places_of_calls_that_were_not_answered(self):
         """Not more than the program lets wait are under way, also of those of which nobody waits any more."""
-        node = self.node(HOLDS, timeout=1.0)
+        node = self.node(HOLDS, timeout=4.0)
         seat = node.seat(0)
         calls = [self.thread(seat.note) for _ in range(UNDER_WAY + 5)]
         for thread, _ in calls:
-            thread.join(10)
+            thread.join(30)
         self.assertEqual({type(found) for _, [found] in calls}, {wakotehu.TimedOut})
         self.assertEqual(len({id(found) for _, [found] in calls}), UNDER_WAY + 5)
         self.assertRaises(wakotehu.TimedOut, seat.getchaintips)
@@ -325,7 +325,7 @@ class AsyncWaitingTest(unittest.IsolatedAsyncioTestCase):
         return AsyncNode(seats=1, program=fake(self.room, body), **more)
 
     async def test_a_call_waits_no_longer_than_it_may(self):
-        node = await self.node(SILENT, timeout=2.0).__aenter__()
+        node = await self.node(SILENT, timeout=4.0).__aenter__()
         with self.assertRaises(wakotehu.TimedOut):
             await node.seat(0).note()
         self.assertEqual((await node.seat(0).getbestblockhash()).value, bytes(32))
@@ -339,7 +339,7 @@ class AsyncWaitingTest(unittest.IsolatedAsyncioTestCase):
             await node.seat(0).note()
 
     async def test_a_line_that_nobody_reads(self):
-        node = await self.node(DEAF, timeout=2.0).__aenter__()
+        node = await self.node(DEAF, timeout=4.0).__aenter__()
         for call in (node.seat(0).note(), node.seat(0).submit(bytes(10**6), NOW), node.seat(0).note()):
             with self.assertRaises(wakotehu.TimedOut):
                 await call
