@@ -7,6 +7,7 @@ pub mod Kept
 pub mod Lasts
 pub mod Knowing
 pub mod Growing
+pub mod DryRuns
 pub mod Owing
 pub mod Owning
 pub mod Publications

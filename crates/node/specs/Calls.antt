@@ -60,6 +60,13 @@ IsReadFault p q Owed = ⊥
 IsReadFault p q Unknown = ⊥
 IsReadFault p q Closed = q ≡ p
 
+-- a dry run is never owed; what the seat has seen stays, but where signatures are wanted
+abbrev pub IsJudgeFault : Pass → Pass → Command → Fault → Type 0
+IsJudgeFault p q c Memory = q ≡ p
+IsJudgeFault p q c Owed = ⊥
+IsJudgeFault p q c Closed = q ≡ p
+IsJudgeFault p q c Unknown = (q.mine ≡ p.mine) × AreWanted p.origin q.seen c q.wants
+
 -- one that takes no memory doesn't lack it either
 abbrev pub IsClosedFault : Pass → Pass → Fault → Type 0
 IsClosedFault p q Memory = ⊥

@@ -8,7 +8,10 @@ use Rattle.coins.specs.declared.coin.Coin.{Coin}
 use Rattle.coins.specs.Next.{IsNext}
 use Rattle.tree.specs.declared.tip.Tip.{Tip}
 use Rattle.tree.specs.Tips.{tip_of_id}
+use Rattle.chain.specs.Commands.{outcome}
 use Rattle.chain.specs.Regtest.{ledger, regtest}
+use Rattle.chain.specs.declared.command.Command.{Command}
+use Rattle.chain.specs.declared.reply.Reply.{Reply}
 use Rattle.chain.specs.Replay.{coins}
 use Rattle.view.specs.Origin.{Origin, machine}
 use Rattle.node.specs.declared.answer.UnspentOutput.{UnspentOutput}
@@ -38,6 +41,10 @@ coins_in o valid s = coins (regtest o.params valid) ledger s
 -- the id of the best block
 abbrev pub best_in : (o : Origin) → (valid : Triples) → (machine o valid).State → Id
 best_in o valid s = (machine o valid).best s
+
+-- the reply that a command would get
+abbrev pub reply_to : (o : Origin) → Command → (valid : Triples) → (machine o valid).State → Reply
+reply_to o c valid s = (outcome (regtest o.params valid) s c).1
 
 -- the coins above an outpoint by rising outpoints, so many of them: fewer only where there are no more
 abbrev pub AreNext : Coins → Option OutPoint → ℕ → List (OutPoint × Coin) → Type 0

@@ -14,7 +14,7 @@ ghost use Rattle.view.specs.Origin.{Origin, known_in};
 ghost use Rattle.view.specs.ViewState.{IsLegal};
 ghost use Rattle.node.specs.Pass.{Pass, IsStanding, opening_pass, opening_passes};
 ghost use Rattle.node.specs.Runs.{Call, Submit, Mark, GetTxOut, CoinsFrom, GetBestBlockHash};
-ghost use Rattle.node.specs.Runs.{GetChainTips};
+ghost use Rattle.node.specs.Runs.{GetChainTips, Judge};
 ghost use Rattle.node.specs.Runs.{Journal, Note as Noted, Told, heard};
 ghost use Rattle.node.specs.Runs.{Makes, IsStep, ExplainsAll, steps_of};
 
@@ -113,6 +113,19 @@ pub fn writes_are_calls<J: Naming, R: Threads + Wait + Sync>(
         reconsider: seat.reconsider(rt, node, id),
         precious: seat.precious(rt, node, id),
     }
+}
+
+/// And so of a dry run.
+pub fn dry_runs_are_calls<J: Naming, R: Threads + Wait + Sync>(
+    rt: &R,
+    node: &Node<'_, J>,
+    seat: &mut Seat<'_, J>,
+    bytes: &[u8],
+    now: u64,
+) -> Result<Stamped<SubmitReply>, Fault>
+    ensures { Makes seat.old (Judge bytes.now now result ∷ []) seat.new }
+{
+    seat.judge(rt, node, bytes, now)
 }
 
 /// And so of a reading call.

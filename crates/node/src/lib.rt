@@ -5,6 +5,7 @@ mod answer;
 mod early;
 mod entries;
 mod fault;
+mod judging;
 pub mod laws;
 mod learnt;
 mod naming;

@@ -13,7 +13,7 @@ ghost use Rattle.view.specs.Origin.{known_in};
 ghost use Rattle.view.specs.ViewState.{IsLegal};
 ghost use Rattle.node.specs.Pass.{owed_entry};
 ghost use Rattle.node.specs.inside.LastPlaces.{AreLastPlaces};
-ghost use Rattle.node.specs.inside.PublishedState.{IsLockedAt, IsReady, IsStepAnswer, Shows, opening_state, entry_with_reply};
+ghost use Rattle.node.specs.inside.PublishedState.{IsLockedAt, IsReady, IsReplyAfter, IsStepAnswer, Shows, opening_state, entry_with_reply};
 ghost use Rattle.node.specs.inside.Refused.{IsWantAfter};
 
 mod attempt;
@@ -309,6 +309,27 @@ impl<J: Naming> PublishedHistory<J> {
             return Ok(Some(reply));
         }
         Ok(None)
+    }
+
+    /// The reply that a command would get now. No step is taken.
+    pub(crate) fn judge<A: Crew<Table>, B: Crew<KnownSignatures>>(
+        &mut self,
+        command: &PreparedCommand,
+        crews: &Crews<'_, A, B>,
+        gate: &(dyn Gate + Sync),
+    ) -> Result<Reply, Refusal>
+        requires shown { self.old.owed ≡ false }
+        requires crews { A.is_ready crews.now.by_table.now × B.is_ready crews.now.by_need.now
+            × (1 ≤ crews.now.workers) × (crews.now.workers ≤ 16) }
+        requires early { let known = known_in J.origin self.old.journal in
+            All (IsEarly known) crews.now.early.now }
+        ensures reply { let c = command_of command.now in
+            IfOk result (IsReplyAfter J.origin self.old.journal c) }
+        ensures same { self.new ≡ self.old }
+        ensures wants { let c = command_of command.now in
+            IfErr result (IsWantAfter J.origin self.old.journal c) }
+    {
+        self.chain.judge(self.alloc, command, crews, gate)
     }
 }
 

@@ -34,7 +34,7 @@ use view::Naming;
 use wire::Memory;
 
 /// The command that submits these bytes.
-fn submitting(alloc: Global, bytes: Bytes, now: u64) -> Result<PreparedCommand, Memory>
+pub(crate) fn submitting(alloc: Global, bytes: Bytes, now: u64) -> Result<PreparedCommand, Memory>
     ensures { IfOk result (λ asked. command_of asked ≡ command.Submit bytes now) }
 {
     let submission = Submission::read(alloc, bytes)?;
@@ -53,7 +53,7 @@ fn is_undecodable(command: &PreparedCommand) -> bool
 }
 
 /// The verdicts as a list.
-fn listed<'a>(early: &'a Option<Verdicts<'a>>) -> &'a [Verdicts<'a>]
+pub(crate) fn listed<'a>(early: &'a Option<Verdicts<'a>>) -> &'a [Verdicts<'a>]
     ensures { (known : Known) → IfSome early.now (IsEarly known)
         → All (IsEarly known) result.now }
 {
@@ -88,7 +88,7 @@ fn ready_command<J: Naming, R: Wait>(
 }
 
 impl<'t, J: Naming> Seat<'t, J> {
-    ghost use Rattle.node.specs.Calls.{AreWanted, IsLearnAnswer, IsSubmitAnswer, IsWriteFault};
+    ghost use Rattle.node.specs.Calls.{AreWanted, IsJudgeFault, IsLearnAnswer, IsSubmitAnswer, IsWriteFault};
     ghost use Rattle.node.specs.Runs.{IsLearnAllAnswer, IsLearnAllFault};
     ghost use Rattle.node.specs.Pass.{IsLater, IsOwn, IsWrite};
     ghost use Rattle.node.specs.inside.PublishedState.{PublishedState};
@@ -326,7 +326,7 @@ impl<'t, J: Naming> Seat<'t, J> {
 
     /// Has seen all that there is: how many entries that is.
     #[tactic(auto, using(crate::proofs::Owning::own_begins))]
-    fn see_all(&mut self, history: &PublishedHistory<J>) -> Result<u64, Fault>
+    pub(crate) fn see_all(&mut self, history: &PublishedHistory<J>) -> Result<u64, Fault>
         requires shown { history.now.owed ≡ false }
         ensures later { IsLater self.old self.new }
         ensures mine { self.new.mine ≡ self.old.mine }
@@ -345,12 +345,12 @@ impl<'t, J: Naming> Seat<'t, J> {
 
     /// Wants these signatures after all that there is, which it has then seen.
     #[tactic(auto, using(crate::proofs::Owning::own_begins))]
-    fn want(&mut self, history: &PublishedHistory<J>, wants: Vec<KeptTriple>) -> Fault
+    pub(crate) fn want(&mut self, history: &PublishedHistory<J>, wants: Vec<KeptTriple>) -> Fault
         requires shown { history.now.owed ≡ false }
         ensures later { IsLater self.old self.new }
         ensures own { IsOwn self.new }
         ensures fault { (c : CommandValue) → AreWanted J.origin history.now.journal c wants.items
-            → IsWriteFault self.old self.new c result }
+            → IsJudgeFault self.old self.new c result }
         ensures left { (h k : PublishedState) (number : ℕ) (c : CommandValue) →
             IsSettledAtMost h k → IsLeftBy h k number c result }
     {

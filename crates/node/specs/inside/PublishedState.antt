@@ -14,12 +14,13 @@ use Rattle.activate.specs.CoreState.{CoreState, WithCoins}
 use Rattle.activate.specs.CoreState as core_state
 use Rattle.view.specs.Beginning.{Beginning}
 use Rattle.view.specs.Origin.{Origin, known_in}
-use Rattle.view.specs.ViewState.{ViewState, IsExact, IsLegal, coins_after}
+use Rattle.view.specs.ViewState.{ViewState, IsExact, IsLegal, coins_after, state_after}
 use Rattle.view.specs.Following.{AllFollow}
 use Rattle.view.specs.declared.publication.Publication.{Publication}
 use Rattle.node.specs.declared.published_history.knowledge.Knowledge.{Knowledge}
 use Rattle.node.specs.declared.published_history.pending.Pending.{Pending}
 use Rattle.node.specs.declared.published_history.pending.Pending.TheVariants as pending
+use Rattle.node.specs.Told.{reply_to}
 use Rattle.node.specs.inside.Keeping.{KeepsHistory, IsReplyTo, IsUndecodable, is_step}
 use Rattle.node.specs.inside.Knowledge.{IsKnowledge}
 
@@ -47,6 +48,14 @@ pub record IsCoreStep (triples : Triples) (old new : CoreState) (c : Command) (r
 -- so it is under every set that agrees with what is known
 abbrev pub AreCoreSteps : Known → CoreState → CoreState → Command → Reply → Changes → Type 0
 AreCoreSteps known old new c r changes = Under known (λ valid. IsCoreStep valid old new c r changes)
+
+-- the core gives this reply to a command, under every set that agrees with what is known
+abbrev pub IsCoreReply : Known → CoreState → Command → Reply → Type 0
+IsCoreReply known core c r = Under known (λ valid. r ≡ (outcome (regtest core.params valid) core.state c).1)
+
+-- these entries lead to where a command gets this reply
+abbrev pub IsReplyAfter : Origin → List Entry → Command → Reply → Type 0
+IsReplyAfter o es c r = Under (known_in o es) (λ valid. r ≡ reply_to o c valid (state_after o valid es))
 
 -- a core, what is known of signatures, and the history that both are after
 pub record IsLockedAt (o : Origin) (core : CoreState) (known : Knowledge) (note : Beginning) : Type 0 where

@@ -17,6 +17,11 @@ IsWriteAnswer p q (command.Submit bytes now) at (reply.Mark value) = ⊥
 IsWriteAnswer p q c at (reply.Submit value) = ⊥
 IsWriteAnswer p q c at (reply.Mark value) = IsWrite p q c at (reply.Mark value)
 
+-- the command submits bytes
+abbrev pub IsSubmission : Command → Type 0
+IsSubmission (command.Submit bytes now) = Unit {0}
+IsSubmission c = ⊥
+
 -- the command marks a block, or prefers one
 abbrev pub IsMark : Command → Type 0
 IsMark (command.Submit bytes now) = ⊥

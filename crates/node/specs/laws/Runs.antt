@@ -25,9 +25,9 @@ use Rattle.node.specs.declared.answer.Learning.TheVariants as learning
 use Rattle.node.specs.declared.fault.Fault.{Fault}
 use Rattle.node.specs.declared.fault.Fault.TheVariants.{Memory, Owed, Closed, Unknown}
 use Rattle.node.specs.Pass.{Pass, Heard, opening_pass, IsLater, IsLonger, IsWrite, IsRead, AreCoins, IsListed, IsStanding}
-use Rattle.node.specs.Calls.{IsSubmitAnswer, IsLearnAnswer, IsVerdict, IsWriteFault, IsReadFault, IsClosedFault}
+use Rattle.node.specs.Calls.{IsSubmitAnswer, IsLearnAnswer, IsVerdict, IsWriteFault, IsJudgeFault, IsReadFault, IsClosedFault}
 use Rattle.node.specs.Told.{AreNext, coins_in}
-use Rattle.node.specs.Runs.{Call, Submit, Mark, Learn, GetTxOut, CoinsFrom, GetBestBlockHash, GetChainTips, Journal, Note, Told, Ensures, Makes, step_of_reply, step_of_learning, step_of_fault, step_of, steps_of, IsStep, IsSubmission, IsLearnt, IsLeft, Explains, ExplainsAll}
+use Rattle.node.specs.Runs.{Call, Submit, Mark, Learn, Judge, GetTxOut, CoinsFrom, GetBestBlockHash, GetChainTips, Journal, Note, Told, Ensures, Makes, step_of_reply, step_of_learning, step_of_fault, step_of, steps_of, IsStep, IsSubmission, IsLearnt, IsLeft, Explains, ExplainsAll}
 
 -- beginnings of a list
 begins_all : {A : Type 0} (xs ys zs : List A) → IsPrefix xs ys → IsPrefix ys zs → IsPrefix xs zs
@@ -97,6 +97,7 @@ moves : (p q : Pass) (c : Call) → Ensures p q c → Moves p q
 moves p q (Submit bytes now r) e = of_later p q e.later
 moves p q (Mark c r) e = of_later p q e.later
 moves p q (Learn t v r) e = of_later p q e.later
+moves p q (Judge bytes now r) e = of_later p q e.later
 moves p q (GetTxOut outpoint r) e = of_later p q e.later
 moves p q (GetBestBlockHash r) e = of_later p q e.later
 moves p q (CoinsFrom above most r) e = of_later p q e.later
@@ -119,6 +120,12 @@ module _ (p q : Pass) where
   write_fault c Owed b e = ap length e.0
   write_fault c Closed b e = ap (λ (x : Pass). length x.seen) e
   write_fault c Unknown b e = length_begun p.seen q.seen b
+
+  judge_fault : (c : Command) (f : Fault) → IsPrefix p.seen q.seen → IsJudgeFault p q c f → IsLeft (length p.seen) (length q.seen) f
+  judge_fault c Memory b e = ap (λ (x : Pass). length x.seen) e
+  judge_fault c Owed b e = absurd e
+  judge_fault c Closed b e = ap (λ (x : Pass). length x.seen) e
+  judge_fault c Unknown b e = length_begun p.seen q.seen b
 
   read_fault : (f : Fault) → IsReadFault p q f → q ≡ p
   read_fault Memory e = e
@@ -227,6 +234,8 @@ module _ (h : List Entry) (p q : Pass) (legal : IsLegal p.origin h) (begins : Is
   explained (Mark c (Err f)) e = write_fault p q c f grows e.fault
   explained (Learn t v (Ok r)) e = learnt t v r.at r.value e.answer
   explained (Learn t v (Err f)) e = write_fault p q (command.Learn t v) f grows e.fault
+  explained (Judge bytes now (Ok r)) e = read _ r.at (reply.Submit r.value) e.answer
+  explained (Judge bytes now (Err f)) e = judge_fault p q (command.Submit bytes now) f grows e.fault
   explained (GetTxOut outpoint (Ok r)) e = read _ r.at r.value e.answer
   explained (GetTxOut outpoint (Err f)) e = stays f (read_fault p q f e.fault)
   explained (GetBestBlockHash (Ok r)) e = read _ r.at r.value e.answer
@@ -269,6 +278,12 @@ module _ (p q : Pass) where
   left_unanswered c Closed e = same_mine e
   left_unanswered c Unknown e = kept e.0
 
+  left_unjudged : (c : Command) (f : Fault) → IsJudgeFault p q c f → q.mine ≡ p.mine ++ []
+  left_unjudged c Memory e = same_mine e
+  left_unjudged c Owed e = absurd e
+  left_unjudged c Closed e = same_mine e
+  left_unjudged c Unknown e = kept e.0
+
   left_by_submission : (bytes : List ℕ) (now at : ℕ) (v : SubmitReply) → IsSubmitAnswer p q bytes now at v → q.mine ≡ p.mine ++ step_of_reply p.number (command.Submit bytes now) (reply.Submit v)
   left_by_submission bytes now at DecodeFailed a = same_mine a.1.same
   left_by_submission bytes now at Accepted a = a.mine_is
@@ -291,6 +306,8 @@ module _ (p q : Pass) where
   left (Mark c (Err f)) e = left_unanswered c f e.fault
   left (Learn t v (Ok r)) e = left_by_learning t v r.at r.value e.answer
   left (Learn t v (Err f)) e = left_unanswered (command.Learn t v) f e.fault
+  left (Judge bytes now (Ok r)) e = kept e.answer.mine_is
+  left (Judge bytes now (Err f)) e = left_unjudged (command.Submit bytes now) f e.fault
   left (GetTxOut outpoint (Ok r)) e = kept e.answer.mine_is
   left (GetTxOut outpoint (Err f)) e = same_mine (read_fault p q f e.fault)
   left (GetBestBlockHash (Ok r)) e = kept e.answer.mine_is

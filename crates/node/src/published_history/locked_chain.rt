@@ -5,7 +5,7 @@ ghost use Rattle.queue.specs.Jobs.{IsEarly};
 ghost use Rattle.chain.specs.Learnt.{IsNews};
 ghost use Rattle.chain.specs.Prepared.{command_of};
 ghost use Rattle.node.specs.inside.Knowledge.{known_behind, known_of};
-ghost use Rattle.node.specs.inside.PublishedState.{AreCoreSteps, IsLockedAt};
+ghost use Rattle.node.specs.inside.PublishedState.{AreCoreSteps, IsCoreReply, IsLockedAt};
 ghost use Rattle.node.specs.inside.Refused.{IsWantOf};
 
 use crate::published_history::knowledge::Knowledge;
@@ -94,6 +94,55 @@ impl<J: Naming> LockedChain<J> {
                 let done = self.core.step_over(alloc, coins, command, &env, gate);
                 self.reader.leave(reading);
                 Ok(done?)
+            }
+        }
+    }
+
+    /// The reply that a command would get over the coins that the reader finds, if just this history is published. Nothing
+    /// changes.
+    pub(crate) fn judge<A: Crew<Table>, B: Crew<KnownSignatures>>(
+        &mut self,
+        alloc: Global,
+        command: &PreparedCommand,
+        crews: &Crews<'_, A, B>,
+        gate: &(dyn Gate + Sync),
+    ) -> Result<Reply, Refusal>
+        requires at { IsLockedAt J.origin self.old.core self.old.known self.old.note }
+        requires crews { A.is_ready crews.now.by_table.now × B.is_ready crews.now.by_need.now
+            × (1 ≤ crews.now.workers) × (crews.now.workers ≤ 16) }
+        requires early { All (IsEarly (known_of self.old.known)) crews.now.early.now }
+        ensures reply { let c = command_of command.now in let known = known_of self.old.known in
+            IfOk result (IsCoreReply known self.old.core c) }
+        ensures same { self.new ≡ self.old }
+        ensures wants { let c = command_of command.now in
+            IfErr result (IsWantOf self.old.core (known_of self.old.known) c) }
+    {
+        let Some(reading) = self.reader.enter_at(&self.note) else {
+            return Err(Refusal::Closed);
+        };
+        let (workers, coins) = (crews.workers, reading.get().coins());
+        match &self.known {
+            Knowledge::Table(table) => {
+                let env = Env {
+                    signatures: &**table,
+                    workers,
+                    early: crews.early,
+                    crew: crews.by_table,
+                };
+                let reply = self.core.judge_over(alloc, coins, command, &env, gate);
+                self.reader.leave(reading);
+                Ok(reply?)
+            }
+            Knowledge::Found(verdicts) => {
+                let env = Env {
+                    signatures: verdicts,
+                    workers,
+                    early: crews.early,
+                    crew: crews.by_need,
+                };
+                let reply = self.core.judge_over(alloc, coins, command, &env, gate);
+                self.reader.leave(reading);
+                Ok(reply?)
             }
         }
     }
