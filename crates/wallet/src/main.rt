@@ -7,7 +7,8 @@ mod sample;
 
 use crossbeam_channel::{Receiver, Sender};
 use node::{
-    Fault, Gate, Naming, Node, Note, Open, Opening, Params, Seat, Stamped, Table, UnspentOutput,
+    Fault, Gate, Naming, Node, Note, Open, Opening, Params, Seat, Stamped, SubmitReply, Table,
+    UnspentOutput,
 };
 use sample::{BLOCK, COIN, NOW};
 use std::alloc::Global;
@@ -73,13 +74,17 @@ where
     Ok(())
 }
 
-/// Submits the block, and sends a note of all that the seat has seen then.
+/// Submits the block if it would be accepted, and sends a note of all that the seat has seen then.
 fn submit<J: Naming, R: Threads + Wait + Sync>(
     rt: &R,
     node: &Node<'_, J>,
     seat: &mut Seat<'_, J>,
     to: Sender<Note<J>>,
 ) -> Result<(), Fault> {
+    // A dry run takes no step: a block that it refuses is nowhere in the history.
+    if seat.judge(rt, node, BLOCK, NOW)?.value != SubmitReply::Accepted {
+        return Ok(());
+    }
     seat.submit(rt, node, BLOCK, NOW)?;
     let _ = to.send(rt, seat.note()); // nobody may wait for it any more
     Ok(())
