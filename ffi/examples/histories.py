@@ -54,7 +54,7 @@ class Scripts:
     def fault(self, tx: Transaction) -> str:
         """Why the next block can't have a transaction on top of those that wait; "" where it can."""
         height, parent = len(self.active), self.bench.index.blocks[self.active[-1]]
-        first = coinbase(height, subsidy(height))
+        first = coinbase(height, subsidy(height), extra=b"judged")
         block = mine(parent.id, parent.header.time + 1, [first, *self.waiting.values(), tx])
         reply = self.bench.judge(block, max(int(time.time()), parent.header.time))
         return "" if reply.reply == "accepted" else reply.reason or reply.reply
