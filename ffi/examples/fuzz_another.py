@@ -4,9 +4,13 @@ spends, broken blocks and marks. The first reply or best block that differs is p
     fuzz_another.py                                     a wakotehu-server that it starts, from which nothing differs
     fuzz_another.py http://u:p@127.0.0.1:19443 1000     the node that answers there, with 1,000 trees
 
-Debian's `litecoind -regtest -segwitheight=-1 -rpcport=19443 -rpcuser=u -rpcpassword=p -listen=0 -connect=0` is such a node; it
-gets the same transactions under headers of its own. The trees keep away from the differences that docs/CORE.md names: one mark
-of `invalidate` at a time and no block on it, no block on a broken one, and two marks of `precious` in a tree."""
+The node has to answer as Bitcoin Core 0.21 does, and to begin on genesis alone. Debian's litecoind is such a node; it gets the
+same transactions under headers of its own:
+
+    litecoind -regtest -segwitheight=-1 -rpcport=19443 -rpcuser=u -rpcpassword=p -listen=0 -connect=0
+
+The trees keep away from the differences that docs/CORE.md names: one mark of `invalidate` at a time and no block on it, no block
+on a broken one, and two marks of `precious` in a tree."""
 
 import base64
 import http.client

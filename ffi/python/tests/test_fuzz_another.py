@@ -69,9 +69,9 @@ class FuzzAnotherTest(unittest.TestCase):
 
         self.addCleanup(setattr, fuzz_another.Fuzzer, "_ours", own)
         fuzz_another.Fuzzer._ours = ours
-        found = self.fuzzed(fuzz_another.Peer(self.url), 6)
+        found = self.fuzzed(fuzz_another.Peer(self.url), 4)
         self.assertTrue(self.is_same)
-        self.assertRegex(found, r"\A6 trees, 96 commands, \d+ blocks: no difference\n\Z")
+        self.assertRegex(found, r"\A4 trees, 64 commands, \d+ blocks: no difference\n\Z")
         self.assertLessEqual(KINDS, seen)
 
     def differs(self, peer, theirs, command):
@@ -110,7 +110,7 @@ class LitecoindTest(unittest.TestCase):
             try:
                 peer = self.reached(f"http://u:p@127.0.0.1:{port}")
                 with contextlib.redirect_stdout(io.StringIO()) as out:
-                    self.assertTrue(fuzz_another.fuzz(peer, 6, seed=3), out.getvalue())
+                    self.assertTrue(fuzz_another.fuzz(peer, 4, seed=3), out.getvalue())
                 peer.link.close()
             finally:
                 process.kill()

@@ -7,7 +7,6 @@ import re
 import shutil
 import time
 import unittest
-import urllib.error
 import urllib.parse
 import urllib.request
 
@@ -36,8 +35,10 @@ class Served(unittest.TestCase):
         self.maker = Maker()
 
     def submit(self, *blocks):
-        for block in blocks:
-            self.assertIn(self.running.call("submitblock", block.hex()), (None, "inconclusive"))
+        """Submits blocks by one request."""
+        calls = [{"id": 1, "method": "submitblock", "params": [block.hex()]} for block in blocks]
+        for reply in json.loads(self.running.posted(calls)[1]):
+            self.assertIn(reply["result"], (None, "inconclusive"), reply)
 
 
 class PageTest(Served):
@@ -84,18 +85,11 @@ class PageTest(Served):
             self.assertEqual(self.got(path)[0], status, path)
 
     def test_command_line(self):
-        for words, status in (([], 404), (["-page"], 200)):
-            server = benches.Server([*words, "-no-fsync"])
-            try:
-                request = urllib.request.Request(f"http://127.0.0.1:{server.port}/page/tree", headers=server._headers)
-                with urllib.request.urlopen(request) as answer:
-                    found = answer.status
-            except urllib.error.HTTPError as error:
-                found = error.code
-                error.close()
-            finally:
-                server.stop()
-            self.assertEqual(found, status)
+        server = benches.Server(["-page"])
+        self.addCleanup(server.stop)
+        with urllib.request.urlopen(urllib.request.Request(f"http://127.0.0.1:{server.port}/page", headers=server._headers)) as answer:
+            self.assertIn(b"<title>wakotehu: regtest</title>", answer.read())
+        self.assertEqual(server._process.stdout.readline(), f"the page is http://127.0.0.1:{server.port}/page\n")
 
     # ---- what it is made of
 
