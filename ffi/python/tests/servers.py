@@ -10,6 +10,7 @@ from wakotehu import errors, secp256k1
 from wakotehu.pool import Pool
 from wakotehu.rpc.auth import Gate
 from wakotehu.rpc.node import Node
+from wakotehu.rpc.page import Page
 from wakotehu.server import serve
 
 ROOT = os.path.realpath(os.path.join(os.path.dirname(__file__), "..", "..", ".."))
@@ -25,9 +26,10 @@ def seats(*words, verify=secp256k1, **more):
 class Running:
     """A server on a port that is free, which lets in `name` by `password`."""
 
-    def __init__(self, bench=None, gate=None, hosts=("127.0.0.1",)):
+    def __init__(self, bench=None, gate=None, hosts=("127.0.0.1",), has_page=False):
         self.bench = bench or seats()
         self.node = Node(self.bench)
+        page = Page(self.node) if has_page else None
         if gate is None:
             gate = Gate()
             gate.add("name", "password")
@@ -37,7 +39,7 @@ class Running:
             ports.append(port)
             ready.set()
 
-        self.thread = threading.Thread(target=serve, args=(self.node, gate, hosts, 0, told))
+        self.thread = threading.Thread(target=serve, args=(self.node, gate, hosts, 0, told, page))
         self.thread.start()
         assert ready.wait(10)
         self.port = ports[0]

@@ -103,7 +103,8 @@ class InstallTest(unittest.TestCase):
         self.assertTrue(os.path.exists(f"{self.folder}/made/journal.txt"))
         for command in ("wakotehu-server", "wakotehu-replica"):
             self.assertIn("usage", run(f"{self.folder}/venv/bin/{command}", "--help", cwd=self.folder, env=names))
-        self.assertTrue(os.path.exists(f"{package}/replica.sql"))
+        for name in ("replica.sql", "rpc/page.html"):
+            self.assertTrue(os.path.exists(f"{package}/{name}"), name)
         # pytest finds its plugin.
         asked = "from importlib.metadata import distribution as of; print(*of('wakotehu').entry_points)"
         told = run(python, "-c", asked, cwd=self.folder, env=names)

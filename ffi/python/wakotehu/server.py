@@ -28,6 +28,7 @@ from .rpc.datadir import BadFolder, Folder, Opening
 from .rpc.http import LOOPBACK, Server
 from .rpc.jsonrpc import answer
 from .rpc.node import Node, run
+from .rpc.page import PATH, Page
 from .signatures import Verifier
 from .version import __version__
 
@@ -44,7 +45,7 @@ FORKS = {"bip34": 0, "cltv": 1, "bip65": 1, "dersig": 2, "bip66": 2, "csv": 3}
 
 def serve(
     node: Node, gate: Gate, hosts: Sequence[str] = ("127.0.0.1",), port: int = 0,
-    ready: Optional[Callable[[int], None]] = None,
+    ready: Optional[Callable[[int], None]] = None, page: Optional[Page] = None,
 ) -> None:  # fmt: skip
     """Serves until `stop` is called. Port 0 is any that is free; `ready` is called with it once it is bound."""
 
@@ -56,7 +57,7 @@ def serve(
     threads: List[threading.Thread] = []
     try:
         for host in hosts:
-            servers.append(Server(host, port or (servers[0].server_address[1] if servers else 0), gate, answered))
+            servers.append(Server(host, port or (servers[0].server_address[1] if servers else 0), gate, answered, page))
             servers[-1].stopping = lambda: node.stopped
             servers[-1].left = node.leave
         # Who connects from now on waits until the servers run.
@@ -152,6 +153,8 @@ def _parser() -> _Parser:
         add(f"--zmqpub{topic}hwm", metavar="N", help=argparse.SUPPRESS)
     add("--maxmempool", metavar="N", help="how many MB of transactions may wait to be mined; 300 by default")
     add("--txindex", nargs="?", const="1", default="0", help="getrawtransaction finds transactions of active blocks by their ids alone")
+    add("--page", action="store_true", help="shows the block tree, blocks, transactions and coins in a browser, at /page of the same"
+        " port, with the same password")  # fmt: skip
     add("--blocknotify", metavar="COMMAND", help="is run when another block is the active one, with its hash for %%s")
     add("--version", action="version", version=__version__)
     for name in settings.RULES:
@@ -335,10 +338,12 @@ def _run(given: argparse.Namespace, folder: Optional[Folder], cookies: List[Tupl
                 with _held():
                     cookies.append(_bake(given, gate, port))
             print(f"127.0.0.1:{port}" + "".join(f" cookie {path}" for path, _ in cookies), flush=True)
+            if given.page:
+                print(f"the page is http://127.0.0.1:{port}{PATH}", flush=True)
 
         node = Node(bench, given.maxmempool * 1_000_000, given.txindex)
         node.publisher = publisher
-        serve(node, gate, hosts, given.rpcport, ready)
+        serve(node, gate, hosts, given.rpcport, ready, Page(node) if given.page else None)
         if node.broken:
             raise Error(node.broken)
 

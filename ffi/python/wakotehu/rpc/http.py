@@ -10,7 +10,7 @@ import time
 from collections import OrderedDict
 from http import HTTPStatus
 from http.server import BaseHTTPRequestHandler
-from typing import Any, Callable, List, Optional, Set, Tuple
+from typing import Any, Callable, List, Optional, Sequence, Set, Tuple
 
 from .auth import Gate
 
@@ -26,6 +26,8 @@ MAX_BODY = 32 * 1024 * 1024
 WRONG_PASSWORD_WAIT = 0.25
 
 LOOPBACK = ("127.0.0.1", "localhost", "::1")
+#: The path of the page of -page, and of what it asks for, where a slash ends a path.
+PAGE = "/page/"
 #: The methods that bitcoind knows; it answers all but POST by 405, and others by 501.
 METHODS = ("GET", "POST", "HEAD", "PUT", "DELETE")
 _FIRST = re.compile(rb"([!-~]+) ([!-~\x80-\xff]+) HTTP/1\.[0-9]\r?\n")
@@ -35,6 +37,8 @@ _HOST = re.compile(r"(?:\[([0-9a-f:.]+)\]|([a-z0-9.-]+))(?::[0-9]{0,5})?")
 
 #: Answers a request's body by an HTTP status and a body; asks whether the client is gone.
 Answers = Callable[[bytes, Callable[[], bool]], Tuple[int, bytes]]
+#: Answers a GET's path by a status, a body, its type and headers, where that path is the page's.
+Pages = Callable[[str, Callable[[], bool]], Tuple[int, bytes, str, Sequence[str]]]
 
 
 class _Timed(io.RawIOBase):
@@ -141,8 +145,12 @@ class Handler(BaseHTTPRequestHandler):
             self.close_connection = True
             return
         self.server.takes(self.connection)
-        status, reply = self.server.answer(body, self._is_gone)
-        self._answer(status, reply, last=self.server.stopping())
+        if self.command == "POST":
+            status, reply = self.server.answer(body, self._is_gone)
+            self._answer(status, reply, last=self.server.stopping())
+        elif self.server.page is not None:
+            status, reply, kind, more = self.server.page(self.path, self._is_gone)
+            self._answer(status, reply, last=self.server.stopping(), kind=kind, more=more)
         self.server.waits(self.connection)
 
     def _refusal(self) -> Optional[Tuple[int, bytes]]:
@@ -151,10 +159,13 @@ class Handler(BaseHTTPRequestHandler):
             return 403, b""
         if self.command == "DELETE":
             return 405, b""
-        if self.path != "/" and not self.path.startswith("/wallet/"):
+        is_page = self.server.page is not None and (self.path + "/").startswith(PAGE)
+        if self.path != "/" and not self.path.startswith("/wallet/") and not is_page:
             return 404, b""
-        if self.command != "POST":
-            return 405, b"JSONRPC server handles only POST requests"
+        if is_page and self.headers.get("Sec-Fetch-Site", "none") not in ("none", "same-origin"):
+            return 403, b""
+        if self.command != ("GET" if is_page else "POST"):
+            return 405, b"" if is_page else b"JSONRPC server handles only POST requests"
         if not self.server.gate.lets_in(self.headers.get("Authorization")):
             if self.headers.get("Authorization") is not None:
                 time.sleep(WRONG_PASSWORD_WAIT)
@@ -175,11 +186,13 @@ class Handler(BaseHTTPRequestHandler):
         watched.register(self.connection, getattr(select, "POLLRDHUP", 0))
         return bool(watched.poll(0))
 
-    def _answer(self, status: int, body: bytes, last: bool = False, kind: Optional[str] = None) -> None:
+    def _answer(
+        self, status: int, body: bytes, last: bool = False, kind: Optional[str] = None, more: Sequence[str] = ()
+    ) -> None:  # fmt: skip
         self.connection.settimeout(TIMEOUT)
         if kind is None:
             kind = "application/json" if body and status in (200, 400, 404, 500) else "text/plain"
-        lines = [f"HTTP/1.1 {status} {HTTPStatus(status).phrase}", f"Content-Type: {kind}"]
+        lines = [f"HTTP/1.1 {status} {HTTPStatus(status).phrase}", f"Content-Type: {kind}", *more]
         if status == 401:
             lines.append('WWW-Authenticate: Basic realm="jsonrpc"')
         if status != 204:
@@ -209,8 +222,8 @@ class Server(socketserver.TCPServer):
     allow_reuse_address = True
     request_queue_size = 128
 
-    def __init__(self, host: str, port: int, gate: Gate, answer: Answers) -> None:
-        self.gate, self.answer = gate, answer
+    def __init__(self, host: str, port: int, gate: Gate, answer: Answers, page: Optional[Pages] = None) -> None:
+        self.gate, self.answer, self.page = gate, answer, page
         self.stopping: Callable[[], bool] = lambda: False
         #: Called by a connection's thread as it ends.
         self.left: Callable[[], None] = lambda: None

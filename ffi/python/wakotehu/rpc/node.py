@@ -236,9 +236,9 @@ def call(
     return put
 
 
-def run(node: Node, method: str, params: Any) -> Any:
-    """The result of a call, or an `RpcError`."""
-    found = CALLS.get(method)
+def run(node: Node, method: str, params: Any, calls: Optional[Dict[str, Call]] = None) -> Any:
+    """The result of a call of a table, by default of bitcoind's, or an `RpcError`."""
+    found = (CALLS if calls is None else calls).get(method)
     if found is None:
         raise RpcError(METHOD_NOT_FOUND, "Method not found")
     with node.turn:

@@ -100,14 +100,14 @@ def _found(node: Node, id: bytes) -> Tuple[Transaction, Optional[Kept]]:
         return entry.tx, None
     why = "No such mempool transaction. Use -txindex or provide a block hash to enable blockchain transaction queries"
     if node.has_index:
-        kept, tx = _active_block(node, id), node.bench.transaction(id)
+        kept, tx = active_block(node, id), node.bench.transaction(id)
         if kept is not None and tx is not None:
             return tx, kept
         why = "No such mempool or blockchain transaction"
     raise RpcError(INVALID_ADDRESS_OR_KEY, f"{why}. Use gettransaction for wallet transactions.")
 
 
-def _active_block(node: Node, id: bytes) -> Optional[Kept]:
+def active_block(node: Node, id: bytes) -> Optional[Kept]:
     """The active block that has a transaction. The index names one block of those that have it: another one is looked for among
     the active blocks, which is slow, and only happens where branches share transactions."""
     index = node.bench.index
