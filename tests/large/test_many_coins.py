@@ -124,14 +124,11 @@ SECOND = MANY - 1 - (104 - 1 + 1 + FIRST) - 1 + 2
 READS = ["txout A:1", "txout A:3", "txout B:0", "txout X:0", "best"]
 # How many lines a call and the reads after it have.
 CALL = 1 + len(READS)
-# How many lists give back room in a step (crates/undo).
-SHRUNK = 2
 
 
 class RefusedCoins(ProgramTest):
     """One coin is lacking to MANY. The block x brings four and takes three, so in its step both published copies open many
-    maps and bring coins over. It is submitted twice: what was refused is taken or shown by the second call. Two lists of what
-    x spends give back room: where that is refused they keep it, and the step is taken."""
+    maps and bring coins over. It is submitted twice: what was refused is taken or shown by the second call."""
 
     def setUp(self) -> None:
         super().setUp()
@@ -189,7 +186,6 @@ class RefusedCoins(ProgramTest):
             met[word] += 1
         self.assertEqual(faults, 0)
         self.assertEqual(sorted(met), sorted(answers))
-        self.assertEqual(met["accepted @107"], SHRUNK)
         self.assertGreater(sum(met.values()), 2 * ENDS + (number - 2 * ENDS) // APART - 20)
 
     def expect_stacks(self, number: int, refused: int) -> None:
@@ -225,6 +221,5 @@ class RefusedCoins(ProgramTest):
             {
                 "memory": ["submit x = memory", *before, "submit x = accepted @107", *after(107)],
                 "owed": ["submit x = owed", *before, "submit x = duplicate @108", *after(108)],
-                "accepted @107": ["submit x = accepted @107", *after(107), "submit x = duplicate @108", *after(108)],
             },
         )
