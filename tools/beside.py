@@ -5,7 +5,7 @@
 
 A `+` begins a list that runs beside those before it; the parts of a list run one after the other, and one that fails ends
 its list. What a part prints is shown when it has ended. FILE gets a line for each: its name, its seconds by the clock and
-its thousandths of a second of a processor, with tabs between. The status is 1 where a part failed, whose name is told.
+its thousandths of a second of a processor, with tabs between. The status is 1 where a part failed, and the failed parts are named.
 """
 import argparse
 import os

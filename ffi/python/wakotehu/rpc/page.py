@@ -108,7 +108,7 @@ def find(node: Node, text: Any) -> Object:
         try:
             return {"coins": output_script(text).hex()}
         except RpcError:
-            pass  # It is told below.
+            pass  # The error is raised below.
     raise RpcError(INVALID_ADDRESS_OR_KEY, "There is no such height, block, transaction or address")
 
 
