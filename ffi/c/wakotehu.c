@@ -1,11 +1,12 @@
 /*
- * The calls that users make. This file is trusted: nothing proves it. It checks its arguments, names chainstates by
- * numbers, and lets one call at a time into each; the work is done by the proved functions ffi_*, of crates/ffi.
+ * The calls that users make. This file is trusted: nothing proves it. It checks its arguments, names chainstates and
+ * transactions by numbers, and lets one call at a time into each; the work is done by the proved functions ffi_*, of
+ * crates/ffi.
  *
  * What it owes them: each pointer points to what its type says and to nothing that another argument points to; a slot
  * is zero bytes at first and is written by them alone; one call at a time uses a slot, and the next one sees all that
- * it wrote (the words below are read and written in one order by all threads). A session may go from thread to thread:
- * crates/ffi has the prover show it.
+ * it wrote (the words below are read and written in one order by all threads). A session and a transaction may go from
+ * thread to thread: crates/ffi has the prover show it.
  */
 #include "wakotehu.h"
 
@@ -24,6 +25,23 @@ struct slot {
 struct place {
     uint8_t id[32];
     uint32_t index;
+};
+
+struct bytes {
+    const void *at;
+    size_t length;
+};
+
+/* What is asked of an input, and what is told of it. */
+struct question {
+    uint64_t input;
+    struct bytes spent, valid, invalid;
+    uint32_t flags;
+};
+
+struct told {
+    uint64_t line, count;
+    uint32_t error;
 };
 
 uint32_t ffi_open(struct slot *slot, const wakotehu_heights *heights, const uint8_t *table, size_t length,
@@ -45,15 +63,32 @@ uint32_t ffi_coin(struct slot *slot, const struct place *at, wakotehu_coin *coin
 uint32_t ffi_coin_after(struct slot *slot, uint32_t above, struct place *at, wakotehu_coin *coin, uint8_t *script,
                         size_t length);
 uint32_t ffi_kept_block(struct slot *slot, const uint8_t *id, uint8_t *bytes, size_t length, uint64_t *needed);
+uint32_t ffi_id_at(struct slot *slot, uint64_t height, uint8_t *id);
+uint32_t ffi_ancestor(struct slot *slot, const uint8_t *id, uint64_t height, uint8_t *ancestor);
+uint32_t ffi_fork(struct slot *slot, const uint8_t *one, const uint8_t *other, uint8_t *fork);
+uint32_t ffi_header(struct slot *slot, const uint8_t *id, wakotehu_header_shown *shown);
+uint32_t ffi_spent(struct slot *slot, const uint8_t *id, wakotehu_coin *coins, size_t most, uint8_t *scripts,
+                   size_t room, wakotehu_spent_size *size);
 
-_Static_assert(sizeof(struct slot) == 16 && offsetof(struct slot, at) == 8, "as Slot of crates/ffi lies in memory");
+uint32_t ffi_tx_read(struct slot *slot, const uint8_t *bytes, size_t length, uint64_t *used);
+uint32_t ffi_tx_read_whole(struct slot *slot, const uint8_t *bytes, size_t length);
+uint32_t ffi_tx_free(struct slot *slot);
+uint32_t ffi_tx_verify_input(struct slot *slot, const struct question *question, struct told *told, uint8_t *asked,
+                             size_t room);
+
+_Static_assert(sizeof(struct slot) == 16 && offsetof(struct slot, at) == 8, "as Slot and TxSlot of crates/ffi");
+_Static_assert(sizeof(struct question) == 64 && offsetof(struct question, flags) == 56, "as InputQuestion");
+_Static_assert(sizeof(struct told) == 24 && offsetof(struct told, error) == 16, "as InputTold");
 _Static_assert(sizeof(struct place) == 36, "as Place");
 _Static_assert(sizeof(wakotehu_answer) == 24, "as Answer");
 _Static_assert(sizeof(wakotehu_tip) == 56 && offsetof(wakotehu_tip, status) == 48, "as ShownTip");
 _Static_assert(sizeof(wakotehu_coin) == 24, "as ShownCoin");
+_Static_assert(sizeof(wakotehu_header_shown) == 96 && offsetof(wakotehu_header_shown, height) == 80, "as ShownHeader");
+_Static_assert(sizeof(wakotehu_spent_size) == 16, "as ShownSpent");
 
-/* ---- handles. A handle is the number of an opening, and below it in one byte the place. The word of a place is the
- * number of its last opening, and below it in two bits what it is. Places are never given back. */
+/* ---- handles. A handle is the number of an opening, and below it the place: in one byte that of a chainstate, in two
+ * that of a transaction. The word of a place is the number of its last opening, and below it in two bits what it is.
+ * Places are never given back. */
 
 enum { FREE = 0, OPEN = 1, IN_USE = 2 };
 
@@ -62,23 +97,26 @@ static struct chain {
     struct slot slot;
 } chains[WAKOTEHU_MOST];
 
-static uint64_t word_of(wakotehu_handle handle, uint64_t state) { return handle >> 8 << 2 | state; }
+static uint64_t word_of(uint64_t number, uint64_t state) { return number << 2 | state; }
 
-/* Lets this call into the chainstate of a handle, or says why not. */
-static wakotehu_code enter(wakotehu_handle handle) {
-    uint64_t found = word_of(handle, OPEN);
-    if (handle >> 8 == 0 || handle >> 62 != 0)
+/* Lets this call into a place that was opened by this number, or says why not. */
+static wakotehu_code enter_place(_Atomic uint64_t *word, uint64_t number) {
+    uint64_t found = word_of(number, OPEN);
+    if (number == 0 || number >> 54 != 0)
         return WAKOTEHU_CLOSED;
-    if (atomic_compare_exchange_strong(&chains[handle & 255].word, &found, word_of(handle, IN_USE)))
+    if (atomic_compare_exchange_strong(word, &found, word_of(number, IN_USE)))
         return WAKOTEHU_OK;
-    return found == word_of(handle, IN_USE) ? WAKOTEHU_BUSY : WAKOTEHU_CLOSED;
+    return found == word_of(number, IN_USE) ? WAKOTEHU_BUSY : WAKOTEHU_CLOSED;
 }
+
+/* Lets this call into the chainstate of a handle. */
+static wakotehu_code enter(wakotehu_handle handle) { return enter_place(&chains[handle & 255].word, handle >> 8); }
 
 static struct slot *slot_of(wakotehu_handle handle) { return &chains[handle & 255].slot; }
 
 /* Lets the next call in, and hands the code on. */
 static wakotehu_code leave(wakotehu_handle handle, uint32_t code) {
-    atomic_store(&chains[handle & 255].word, word_of(handle, OPEN));
+    atomic_store(&chains[handle & 255].word, word_of(handle >> 8, OPEN));
     return (wakotehu_code)code;
 }
 
@@ -116,12 +154,12 @@ static wakotehu_code open_place(wakotehu_handle *handle, const struct opening *a
         wakotehu_handle made = ((word >> 2) + 1) << 8 | place;
         if ((word & 3) != FREE || made >> 62 != 0)
             continue;
-        if (!atomic_compare_exchange_strong(&chains[place].word, &word, word_of(made, IN_USE)))
+        if (!atomic_compare_exchange_strong(&chains[place].word, &word, word_of(made >> 8, IN_USE)))
             continue;
         uint32_t code = open_slot(&chains[place].slot, asked);
         if (code == WAKOTEHU_OK)
             *handle = made;
-        atomic_store(&chains[place].word, word_of(made, code == WAKOTEHU_OK ? OPEN : FREE));
+        atomic_store(&chains[place].word, word_of(made >> 8, code == WAKOTEHU_OK ? OPEN : FREE));
         return (wakotehu_code)code;
     }
     return WAKOTEHU_TOO_MANY;
@@ -156,7 +194,7 @@ wakotehu_code wakotehu_close(wakotehu_handle handle) {
     if (code != WAKOTEHU_OK)
         return code;
     code = (wakotehu_code)ffi_close(slot_of(handle));
-    atomic_store(&chains[handle & 255].word, word_of(handle, FREE));
+    atomic_store(&chains[handle & 255].word, word_of(handle >> 8, FREE));
     return code;
 }
 
@@ -332,6 +370,49 @@ wakotehu_code wakotehu_block(wakotehu_handle handle, const uint8_t *id, uint8_t 
     return leave(handle, found);
 }
 
+/* ---- where blocks stand, and what they spent */
+
+wakotehu_code wakotehu_id_at(wakotehu_handle handle, uint64_t height, uint8_t *id) {
+    if (!id)
+        return WAKOTEHU_NULL;
+    wakotehu_code code = enter(handle);
+    return code != WAKOTEHU_OK ? code : leave(handle, ffi_id_at(slot_of(handle), height, id));
+}
+
+wakotehu_code wakotehu_header(wakotehu_handle handle, const uint8_t *id, wakotehu_header_shown *header) {
+    if (!id || !header)
+        return WAKOTEHU_NULL;
+    wakotehu_code code = enter(handle);
+    return code != WAKOTEHU_OK ? code : leave(handle, ffi_header(slot_of(handle), id, header));
+}
+
+wakotehu_code wakotehu_ancestor(wakotehu_handle handle, const uint8_t *id, uint64_t height, uint8_t *ancestor) {
+    if (!id || !ancestor)
+        return WAKOTEHU_NULL;
+    wakotehu_code code = enter(handle);
+    return code != WAKOTEHU_OK ? code : leave(handle, ffi_ancestor(slot_of(handle), id, height, ancestor));
+}
+
+wakotehu_code wakotehu_fork(wakotehu_handle handle, const uint8_t *one, const uint8_t *other, uint8_t *fork) {
+    if (!one || !other || !fork)
+        return WAKOTEHU_NULL;
+    wakotehu_code code = enter(handle);
+    return code != WAKOTEHU_OK ? code : leave(handle, ffi_fork(slot_of(handle), one, other, fork));
+}
+
+wakotehu_code wakotehu_spent(wakotehu_handle handle, const uint8_t *id, wakotehu_coin *coins, size_t most,
+                             uint8_t *scripts, size_t room, wakotehu_spent_size *size) {
+    wakotehu_coin no_coins[1];
+    uint8_t none[1];
+    if (!id || !size || !readable(coins, most) || most > PTRDIFF_MAX / sizeof *coins || !readable(scripts, room))
+        return WAKOTEHU_NULL;
+    wakotehu_code code = enter(handle);
+    if (code != WAKOTEHU_OK)
+        return code;
+    return leave(handle, ffi_spent(slot_of(handle), id, most ? coins : no_coins, most, room ? scripts : none, room,
+                                   size));
+}
+
 /* ---- all coins */
 
 /* A coin, with room for its script. */
@@ -374,6 +455,91 @@ wakotehu_code wakotehu_coins(wakotehu_handle handle, wakotehu_coin_call call, vo
     return leave(handle, found);
 }
 
+/* ---- transactions that are read once */
+
+static struct parsed {
+    _Atomic uint64_t word;
+    struct slot slot;
+} parsed[WAKOTEHU_MOST_TRANSACTIONS];
+
+/* Where a free place is looked for first: it was freed last, or stands behind the one that was taken last. */
+static _Atomic uint64_t next_parsed;
+
+static struct parsed *parsed_at(wakotehu_tx tx) { return &parsed[tx & (WAKOTEHU_MOST_TRANSACTIONS - 1)]; }
+
+_Static_assert(WAKOTEHU_MOST_TRANSACTIONS == 1 << 16, "a place is two bytes of a handle");
+
+static uint32_t read_tx(struct slot *slot, const uint8_t *bytes, size_t length, size_t *used) {
+    uint64_t told = 0;
+    if (!used)
+        return ffi_tx_read_whole(slot, bytes, length);
+    uint32_t code = ffi_tx_read(slot, bytes, length, &told);
+    if (code == WAKOTEHU_OK)
+        *used = (size_t)told;
+    return code;
+}
+
+wakotehu_code wakotehu_tx_read(const uint8_t *bytes, size_t length, size_t *used, wakotehu_tx *tx) {
+    if (!readable(bytes, length) || !tx)
+        return WAKOTEHU_NULL;
+    uint64_t first = atomic_load(&next_parsed);
+    for (uint64_t n = 0; n < WAKOTEHU_MOST_TRANSACTIONS; n++) {
+        uint64_t place = (first + n) % WAKOTEHU_MOST_TRANSACTIONS, word = atomic_load(&parsed[place].word);
+        uint64_t number = (word >> 2) + 1;
+        if ((word & 3) != FREE || number >> 46 != 0)
+            continue;
+        if (!atomic_compare_exchange_strong(&parsed[place].word, &word, word_of(number, IN_USE)))
+            continue;
+        uint32_t code = read_tx(&parsed[place].slot, length ? bytes : no_bytes, length, used);
+        if (code == WAKOTEHU_OK) {
+            atomic_store(&next_parsed, place + 1);
+            *tx = number << 16 | place;
+        }
+        atomic_store(&parsed[place].word, word_of(number, code == WAKOTEHU_OK ? OPEN : FREE));
+        return (wakotehu_code)code;
+    }
+    return WAKOTEHU_TOO_MANY;
+}
+
+wakotehu_code wakotehu_tx_free(wakotehu_tx tx) {
+    struct parsed *own = parsed_at(tx);
+    wakotehu_code code = enter_place(&own->word, tx >> 16);
+    if (code != WAKOTEHU_OK)
+        return code;
+    code = (wakotehu_code)ffi_tx_free(&own->slot);
+    atomic_store(&own->word, word_of(tx >> 16, FREE));
+    atomic_store(&next_parsed, tx & (WAKOTEHU_MOST_TRANSACTIONS - 1));
+    return code;
+}
+
+static struct bytes bytes_of(const void *at, size_t length) { return (struct bytes){length ? at : no_bytes, length}; }
+
+wakotehu_code wakotehu_tx_verify_input(wakotehu_tx tx, uint64_t input, const uint8_t *spent, size_t spent_length,
+                                       uint32_t flags, const char *valid, size_t valid_length, const char *invalid,
+                                       size_t invalid_length, uint64_t *line, uint32_t *error, char *asked, size_t room,
+                                       uint64_t *needed) {
+    struct question question = {input, bytes_of(spent, spent_length), bytes_of(valid, valid_length),
+                                bytes_of(invalid, invalid_length), flags};
+    struct told told = {0, 0, 0};
+    uint8_t none[1];
+    if (!readable(spent, spent_length) || !readable(valid, valid_length) || !readable(invalid, invalid_length) || !error
+        || !readable(asked, room) || !needed)
+        return WAKOTEHU_NULL;
+    struct parsed *own = parsed_at(tx);
+    wakotehu_code code = enter_place(&own->word, tx >> 16);
+    if (code != WAKOTEHU_OK)
+        return code;
+    code = (wakotehu_code)ffi_tx_verify_input(&own->slot, &question, &told, room ? (uint8_t *)asked : none, room);
+    atomic_store(&own->word, word_of(tx >> 16, OPEN));
+    if (code == WAKOTEHU_OK)
+        *error = told.error;
+    if (code == WAKOTEHU_UNKNOWN || code == WAKOTEHU_TOO_SMALL)
+        *needed = told.count;
+    if (code == WAKOTEHU_BAD_TABLE && line)
+        *line = told.line;
+    return code;
+}
+
 /* ---- words */
 
 const char *wakotehu_reason_text(uint32_t reason) {
@@ -412,17 +578,17 @@ const char *wakotehu_code_text(wakotehu_code code) {
     switch (code) {
     case WAKOTEHU_OK: return "it is done";
     case WAKOTEHU_MEMORY: return "there was no memory, and nothing changed";
-    case WAKOTEHU_CLOSED: return "no chainstate has this handle";
+    case WAKOTEHU_CLOSED: return "no chainstate or transaction has this handle";
     case WAKOTEHU_BAD_TABLE: return "a line of the table can't be read";
     case WAKOTEHU_NONE: return "there is no such thing";
     case WAKOTEHU_TOO_SMALL: return "the room is too small";
     case WAKOTEHU_BUSY: return "another call is using the handle";
     case WAKOTEHU_NULL: return "a pointer is null, or a length is too large";
-    case WAKOTEHU_TOO_MANY: return "too many chainstates are open";
+    case WAKOTEHU_TOO_MANY: return "too many chainstates or transactions are open";
     case WAKOTEHU_SHORT: return "the bytes end too early";
     case WAKOTEHU_LONG_FORM: return "a count is spelled in more bytes than it needs";
     case WAKOTEHU_TOO_LARGE: return "a count is above 33554432";
-    case WAKOTEHU_EXTRA: return "bytes stand after the block";
+    case WAKOTEHU_EXTRA: return "bytes stand after the block or the transaction";
     case WAKOTEHU_NO_INPUT: return "there is no such input";
     case WAKOTEHU_MISMATCH: return "another number of them is wanted";
     case WAKOTEHU_FOREIGN: return "there is no record";

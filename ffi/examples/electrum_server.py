@@ -12,9 +12,9 @@ import sys
 from typing import Any, Callable, Dict, List, Optional, Set
 
 from histories import Scripts
-from wakotehu import Bench, read_id, show
+from wakotehu import Bench, DecodeFailed, NotAccepted, read_id, show
 from wakotehu.benches import BenchMiner
-from wakotehu.encoding import GENESIS, GENESIS_BLOCK, EncodingError, double_sha, read_transaction, write_transaction
+from wakotehu.encoding import GENESIS, GENESIS_BLOCK, double_sha, write_transaction
 
 VERSION = "1.4"
 #: How many headers an answer has at most, and how long a line may be.
@@ -122,15 +122,13 @@ class Electrum:
 
     def broadcast(self, wallet: Wallet, data: str) -> str:
         try:
-            tx = read_transaction(bytes.fromhex(data))
-        except EncodingError:
+            id = self.scripts.pool.add(bytes.fromhex(data))
+        except DecodeFailed:
             raise Refused("the transaction was rejected: it doesn't decode")
-        fault = self.scripts.fault(tx)
-        if fault:
-            raise Refused(f"the transaction was rejected: {fault}")
-        self.scripts.waiting[tx.id] = tx
+        except NotAccepted as error:
+            raise Refused(f"the transaction was rejected: {error.reason}")
         self.changed()
-        return show(tx.id)
+        return show(id)
 
     def features(self, wallet: Wallet) -> Dict[str, Any]:
         names = {"hosts": {}, "protocol_min": VERSION, "protocol_max": VERSION, "pruning": None, "hash_function": "sha256"}
@@ -167,14 +165,13 @@ CALLS: Dict[str, Callable[..., Any]] = {
 async def main(port: int, address: str) -> None:
     """Serves wallets. Every ten seconds a block is mined, if something waits."""
     with Bench() as bench:
-        miner = BenchMiner(bench)
-        miner.mine(101, address)
+        BenchMiner(bench).mine(101, address)
         electrum = Electrum(bench)
         async with await asyncio.start_server(electrum.serve, "127.0.0.1", port, limit=MOST_LINE):
             while True:
                 await asyncio.sleep(10)
-                if electrum.scripts.waiting:
-                    miner.mine(1, address, list(electrum.scripts.waiting.values()))
+                if electrum.scripts.pool:
+                    electrum.scripts.pool.mine(to=address)
                     electrum.changed()
 
 

@@ -1,12 +1,11 @@
-"""The history of each script, for the example of an Electrum server: it follows the active branch of a `Bench`, and has the
-transactions that wait to be mined."""
+"""The history of each script, for the example of an Electrum server: it follows the active branch of a `Bench`, and has a `Pool`
+of the transactions that wait to be mined."""
 
 import hashlib
-import time
 from typing import Any, Dict, List, Optional, Set, Tuple
 
-from wakotehu import Bench, read_id, show
-from wakotehu.encoding import GENESIS, GENESIS_BLOCK, Output, Transaction, coinbase, mine, read_block, subsidy
+from wakotehu import Bench, Pool, read_id, show
+from wakotehu.encoding import GENESIS, GENESIS_BLOCK, Output, Transaction, read_block
 
 
 def hashed(script: bytes) -> str:
@@ -18,30 +17,23 @@ class Scripts:
     """The history of each script on the active branch of a bench, and the transactions that wait to be mined."""
 
     def __init__(self, bench: Bench) -> None:
-        self.bench, self.active = bench, [GENESIS.id]
+        self.bench, self.pool, self.active = bench, Pool(bench), [GENESIS.id]
         self.found: Dict[str, List[Tuple[int, bytes]]] = {}
-        self.waiting: Dict[bytes, Transaction] = {}
         self.look()
 
     def look(self) -> None:
-        """Takes up what the active branch has become. What blocks that left had waits again, if it still may be mined."""
+        """Takes up what the active branch has become."""
         active, fork = list(self.bench.index.active), min(len(self.active), len(self.bench.index.active))
         while self.active[fork - 1] != active[fork - 1]:
             fork -= 1
-        returned: List[Transaction] = []
         for id in reversed(self.active[fork:]):
-            txs = self.transactions(id)
-            for name in [name for tx in txs for name in self.names(tx)]:
+            for name in [name for tx in self.transactions(id) for name in self.names(tx)]:
                 self.found[name].pop()
-            returned = txs[1:] + returned
         for height, id in enumerate(active[fork:], fork):
             for tx in self.transactions(id):
                 for name in self.names(tx):
                     self.found.setdefault(name, []).append((height, tx.id))
-        self.active, waited, self.waiting = active, [*returned, *self.waiting.values()], {}
-        for tx in waited:
-            if not self.fault(tx):
-                self.waiting[tx.id] = tx
+        self.active = active
 
     def transactions(self, id: bytes) -> List[Transaction]:
         """Those of a block."""
@@ -49,15 +41,7 @@ class Scripts:
 
     def transaction(self, id: bytes) -> Optional[Transaction]:
         """One that waits, or of a kept block."""
-        return self.waiting.get(id) or self.bench.transaction(id)
-
-    def fault(self, tx: Transaction) -> str:
-        """Why the next block can't have a transaction on top of those that wait; "" where it can."""
-        height, parent = len(self.active), self.bench.index.blocks[self.active[-1]]
-        first = coinbase(height, subsidy(height), extra=b"judged")
-        block = mine(parent.id, parent.header.time + 1, [first, *self.waiting.values(), tx])
-        reply = self.bench.judge(block, max(int(time.time()), parent.header.time))
-        return "" if reply.reply == "accepted" else reply.reason or reply.reply
+        return self.pool.entry(id).tx if id in self.pool else self.bench.transaction(id)
 
     def spent(self, tx: Transaction) -> List[Output]:
         """What a transaction spends; of a coinbase nothing."""
@@ -71,11 +55,10 @@ class Scripts:
     def history(self, name: str) -> List[Dict[str, Any]]:
         """In the order of blocks; then what waits, at height 0, or -1 where it spends what waits."""
         found: List[Dict[str, Any]] = [{"tx_hash": show(id), "height": height} for height, id in self.found.get(name, [])]
-        for tx in self.waiting.values():
-            if name in self.names(tx):
-                fee = sum(it.value for it in self.spent(tx)) - sum(it.value for it in tx.outputs)
-                depth = -1 if any(it.id in self.waiting for it in tx.inputs) else 0
-                found.append({"tx_hash": show(tx.id), "height": depth, "fee": fee})
+        for entry in self.pool:
+            if name in self.names(entry.tx):
+                depth = -1 if self.pool.parents(entry.id) else 0
+                found.append({"tx_hash": show(entry.id), "height": depth, "fee": entry.fee})
         return found
 
     def status(self, name: str) -> Optional[str]:
@@ -85,8 +68,7 @@ class Scripts:
 
     def unspent(self, name: str) -> List[Dict[str, Any]]:
         """The coins of a script, without those that a waiting transaction spends."""
-        gone = {(it.id, it.index) for tx in self.waiting.values() for it in tx.inputs}
-        return [it for it in self._coins(name) if (read_id(it["tx_hash"]), it["tx_pos"]) not in gone]
+        return [it for it in self._coins(name) if self.pool.spender(read_id(it["tx_hash"]), it["tx_pos"]) is None]
 
     def balance(self, name: str) -> Dict[str, int]:
         """In satoshis; "unconfirmed" is what waiting transactions change."""
@@ -99,6 +81,6 @@ class Scripts:
             id, height = read_id(line["tx_hash"]), max(0, line["height"])
             tx = self.transaction(id)
             for number, output in enumerate(tx.outputs if tx else []):
-                if hashed(output.script) == name and (id in self.waiting or self.bench.coin(id, number)):
+                if hashed(output.script) == name and (id in self.pool or self.bench.coin(id, number)):
                     found.append({"tx_hash": line["tx_hash"], "tx_pos": number, "height": height, "value": output.value})
         return found

@@ -1,5 +1,6 @@
-/* A libFuzzer target: the bytes as a script, a transaction, a block, a blk file, a table and a text, for faults that the
- * sanitizers see and for answers that contradict each other. ffi/check builds it and runs it for some seconds:
+/* A libFuzzer target: the bytes as a script, a transaction, a block, a blk file, a table, a text, and ids and heights that a
+ * chainstate is asked about, for faults that the sanitizers see and for answers that contradict each other. ffi/check builds
+ * it and runs it for some seconds:
  *     CC=clang CFLAGS="-g -fsanitize=fuzzer-no-link,address,undefined" OUT=/tmp/fuzz ffi/build --again
  *     clang -g -fsanitize=fuzzer,address,undefined -Iffi/include ffi/fuzz/fuzz.c /tmp/fuzz/libwakotehu.a -lpthread -o fuzz
  *     ./fuzz CORPUS */
@@ -7,6 +8,8 @@
 
 #include <stdlib.h>
 #include <string.h>
+
+#include "../examples/blocks.h"
 
 int LLVMFuzzerTestOneInput(const uint8_t *bytes, size_t length);
 
@@ -51,6 +54,27 @@ static void as_parts(const uint8_t *bytes, const wakotehu_transaction *shown) {
     free(inputs), free(outputs), free(scripts), free(again);
 }
 
+/* Read once, a transaction has the same length, and each input the same answer. */
+static void as_read_once(const uint8_t *bytes, size_t length, const wakotehu_transaction *shown) {
+    wakotehu_tx own = 0, whole = 0;
+    size_t used = 0;
+    EXPECT(wakotehu_tx_read(bytes, length, &used, &own) == WAKOTEHU_OK && used == shown->size);
+    EXPECT(wakotehu_tx_read(bytes, length, NULL, &whole) == (used == length ? WAKOTEHU_OK : WAKOTEHU_EXTRA));
+    EXPECT(!whole || wakotehu_tx_free(whole) == WAKOTEHU_OK);
+    for (uint64_t n = 0; n <= shown->inputs && n < 4; n++) {
+        char asked[2][WAKOTEHU_MOST_ASKED];
+        uint64_t needed[2] = {0, 0}, line;
+        uint32_t error[2] = {99, 99};
+        wakotehu_code code = wakotehu_verify_script(bytes, length, n, bytes, length, 5, NULL, 0, NULL, 0, &line, &error[0],
+                                                    asked[0], sizeof asked[0], &needed[0]);
+        EXPECT(wakotehu_tx_verify_input(own, n, bytes, length, 5, NULL, 0, NULL, 0, &line, &error[1], asked[1],
+                                        sizeof asked[1], &needed[1]) == code);
+        EXPECT(error[0] == error[1] && needed[0] == needed[1]);
+        EXPECT(code != WAKOTEHU_UNKNOWN || memcmp(asked[0], asked[1], needed[0]) == 0);
+    }
+    EXPECT(wakotehu_tx_free(own) == WAKOTEHU_OK && wakotehu_tx_free(own) == WAKOTEHU_CLOSED);
+}
+
 static void as_transaction(const uint8_t *bytes, size_t length) {
     static const wakotehu_flags flags = {1, 1, 1};
     wakotehu_transaction shown;
@@ -62,6 +86,7 @@ static void as_transaction(const uint8_t *bytes, size_t length) {
         return;
     EXPECT(shown.size <= length);
     as_parts(bytes, &shown);
+    as_read_once(bytes, length, &shown);
     wakotehu_is_final(bytes, length, 1, 1, &yes);
     wakotehu_locks_met(bytes, length, &start, 1, 1, 1, &yes);
     wakotehu_signature_digest(bytes, length, 0, bytes, length, 1, digest);
@@ -121,7 +146,62 @@ static void as_texts(const uint8_t *bytes, size_t length) {
         EXPECT(length == 64 && wakotehu_show_id(id, digits) == WAKOTEHU_OK);
 }
 
+/* A chainstate with two branches, which lives as long as the process, and the ids of its blocks: genesis, b1, c1 and c2. */
+static wakotehu_handle chain;
+static uint8_t kept[4][32];
+
+static void open_chain(void) {
+    static const wakotehu_heights regtest = {1, 1, 1, 1};
+    static const uint8_t *const blocks[] = {b1, c1, c2};
+    wakotehu_answer answer;
+    EXPECT(wakotehu_open(&chain, &regtest, NULL, 0, NULL) == WAKOTEHU_OK && wakotehu_best(chain, kept[0]) == WAKOTEHU_OK);
+    for (size_t n = 0; n < 3; n++) {
+        EXPECT(wakotehu_submit(chain, blocks[n], sizeof b1, 1296690000, &answer) == WAKOTEHU_OK && answer.reply <= 2);
+        EXPECT(wakotehu_double_sha(blocks[n], 80, kept[n + 1]) == WAKOTEHU_OK);
+    }
+}
+
+/* An id that the bytes name: of a kept block, or another one. */
+static void take_id(const uint8_t **bytes, size_t *length, uint8_t *id) {
+    memset(id, 0, 32);
+    if (!*length)
+        return;
+    uint8_t which = *(*bytes)++;
+    size_t most = --*length < 32 ? *length : 32;
+    if (which % 5 < 4)
+        memcpy(id, kept[which % 5], 32);
+    else
+        memcpy(id, *bytes, most), *bytes += most, *length -= most;
+}
+
+/* Where blocks stand: the answers about two ids and a height don't contradict each other. */
+static void as_lookups(const uint8_t *bytes, size_t length) {
+    wakotehu_header_shown header, below;
+    wakotehu_spent_size size;
+    uint8_t one[32], other[32], found[32], again[32];
+    uint64_t height = 0;
+    if (!chain)
+        open_chain();
+    take_id(&bytes, &length, one), take_id(&bytes, &length, other);
+    for (size_t n = 0; n < length && n < 8; n++)
+        height |= (uint64_t)bytes[n] << 8 * n;
+    wakotehu_code there = wakotehu_header(chain, one, &header), code = wakotehu_fork(chain, one, other, found);
+    EXPECT(there == WAKOTEHU_OK || there == WAKOTEHU_NONE);
+    EXPECT(code == (there ? there : wakotehu_header(chain, other, &below)));
+    EXPECT(wakotehu_fork(chain, other, one, again) == code && (code || memcmp(found, again, 32) == 0));
+    code = wakotehu_ancestor(chain, one, height, found);
+    EXPECT(code == (there == WAKOTEHU_OK && height <= header.height ? WAKOTEHU_OK : WAKOTEHU_NONE));
+    EXPECT(code || (wakotehu_header(chain, found, &below) == WAKOTEHU_OK && below.height == height));
+    EXPECT(code || (wakotehu_fork(chain, one, found, again) == WAKOTEHU_OK && memcmp(found, again, 32) == 0));
+    int is_active = there == WAKOTEHU_OK && wakotehu_id_at(chain, header.height, found) == WAKOTEHU_OK
+                    && memcmp(one, found, 32) == 0;
+    EXPECT(there || header.confirmations == (is_active ? 3 - (int64_t)header.height : -1));
+    EXPECT(wakotehu_spent(chain, one, NULL, 0, NULL, 0, &size) == (is_active ? WAKOTEHU_OK : WAKOTEHU_NONE));
+    EXPECT(wakotehu_id_at(chain, height, found) == (height < 3 ? WAKOTEHU_OK : WAKOTEHU_NONE));
+}
+
 int LLVMFuzzerTestOneInput(const uint8_t *bytes, size_t length) {
+    as_lookups(bytes, length);
     as_script(bytes, length);
     as_transaction(bytes, length);
     as_block(bytes, length);

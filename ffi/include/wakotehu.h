@@ -12,7 +12,7 @@
  *   - WAKOTEHU_MEMORY: there was no memory, and nothing changed.
  *   - Where a call doesn't answer WAKOTEHU_OK, what its pointers lead to stays as it was, but for what is said of a code.
  *   - All memory that the caller gives stays the caller's. The library hands out none: there is nothing to free but the
- *     handle, by wakotehu_close.
+ *     handles, by wakotehu_close and wakotehu_tx_free.
  *   - An id is 32 bytes in the order in which they are hashed and sent; programs print them the other way round.
  *   - Moments are seconds since 1970, values are satoshis.
  *   - No call may be made by a signal handler, or by the child of a fork of a process with threads.
@@ -29,9 +29,9 @@ extern "C" {
 
 /* The version of this header. The library of another WAKOTEHU_VERSION_MAJOR has another soname. */
 #define WAKOTEHU_VERSION_MAJOR 0
-#define WAKOTEHU_VERSION_MINOR 1
+#define WAKOTEHU_VERSION_MINOR 2
 
-/* The library's version, as "0.1". A library that was compiled without its proofs has the word "unproved" behind it. */
+/* The library's version, as "0.2". A library that was compiled without its proofs has the word "unproved" behind it. */
 const char *wakotehu_version(void);
 
 /* A chainstate. 0 is never one. */
@@ -41,17 +41,17 @@ typedef uint64_t wakotehu_handle;
 typedef enum {
     WAKOTEHU_OK = 0,
     WAKOTEHU_MEMORY = 1,    /* there was no memory, and nothing changed */
-    WAKOTEHU_CLOSED = 2,    /* no chainstate has this handle */
+    WAKOTEHU_CLOSED = 2,    /* no chainstate, or no transaction, has this handle */
     WAKOTEHU_BAD_TABLE = 3, /* a line of the table can't be read */
     WAKOTEHU_NONE = 4,      /* there is no such coin, tip or block */
     WAKOTEHU_TOO_SMALL = 5, /* the room is too small; what is needed was told */
     WAKOTEHU_BUSY = 7,      /* another call is using the handle */
     WAKOTEHU_NULL = 8,      /* a pointer is null, or a length is above 2^63 - 1 */
-    WAKOTEHU_TOO_MANY = 9,  /* WAKOTEHU_MOST chainstates are open */
+    WAKOTEHU_TOO_MANY = 9,  /* WAKOTEHU_MOST chainstates are open, or WAKOTEHU_MOST_TRANSACTIONS transactions kept */
     WAKOTEHU_SHORT = 20,    /* the bytes end too early */
     WAKOTEHU_LONG_FORM = 21, /* a count is spelled in more bytes than it needs */
     WAKOTEHU_TOO_LARGE = 22, /* a count is above 33,554,432 */
-    WAKOTEHU_EXTRA = 23,    /* bytes stand behind the block */
+    WAKOTEHU_EXTRA = 23,    /* bytes stand behind the block, or behind the transaction */
     WAKOTEHU_NO_INPUT = 24, /* the transaction has no input of this number */
     WAKOTEHU_MISMATCH = 25, /* another number of them is wanted */
     WAKOTEHU_FOREIGN = 26,  /* no record of a blk file, and not zero bytes alone */
@@ -117,6 +117,19 @@ typedef struct {
     uint32_t height;
     uint32_t coinbase;
 } wakotehu_coin;
+
+/* A block that is kept: its header as it is hashed, its height, and its confirmations: 1 of the active block, one more of
+ * each block below it, and -1 of a block that isn't on the active branch (Bitcoin Core's getblockheader). */
+typedef struct {
+    uint8_t header[80];
+    uint64_t height;
+    int64_t confirmations;
+} wakotehu_header_shown;
+
+/* How many coins a block spent, and how many bytes their scripts have together. */
+typedef struct {
+    uint64_t coins, scripts;
+} wakotehu_spent_size;
 
 /* Opens a chainstate that has the genesis block alone, and writes its handle.
  * table: lines of valid signatures, each a key, a signature without its hash type and a digest of 64 digits (not
@@ -199,6 +212,38 @@ wakotehu_code wakotehu_coin_at(wakotehu_handle handle, const uint8_t *id, uint32
  * block that was refused by itself or by its place nothing is kept. */
 wakotehu_code wakotehu_block(wakotehu_handle handle, const uint8_t *id, uint8_t *bytes, size_t length, size_t *needed);
 
+/* Where blocks stand. These calls take every block that is kept, on whatever branch it is: valid, invalid, or never looked at
+ * whole; the genesis block too, at height 0. WAKOTEHU_NONE of an id that isn't kept. No call of these takes memory.
+ *
+ * Which blocks a step took back and which it connected needs no call of its own: with the best block of before and the one
+ * of now, wakotehu_fork gives the last block of both branches. Those of the old branch above it were taken back, the
+ * highest first, and those of the new one connected, the lowest first; bytes 4 to 35 of a header are the id of the block
+ * below it. A kept block never goes, and its branch never changes. */
+
+/* The id (32 bytes) of the active branch's block at a height (getblockhash). WAKOTEHU_NONE above the active block. It takes
+ * the same time at each height. */
+wakotehu_code wakotehu_id_at(wakotehu_handle handle, uint64_t height, uint8_t *id);
+
+/* The header of a block, its height and its confirmations. */
+wakotehu_code wakotehu_header(wakotehu_handle handle, const uint8_t *id, wakotehu_header_shown *header);
+
+/* The id of the block at a height of the branch of another block, which is on its own branch. WAKOTEHU_NONE above that block.
+ * It walks down the branch. */
+wakotehu_code wakotehu_ancestor(wakotehu_handle handle, const uint8_t *id, uint64_t height, uint8_t *ancestor);
+
+/* The id of the last block that the branches of two blocks share: of one block twice that block, and never more than
+ * either. It walks down both branches. */
+wakotehu_code wakotehu_fork(wakotehu_handle handle, const uint8_t *one, const uint8_t *other, uint8_t *fork);
+
+/* The coins that a block of the active branch spent, in the order of its transactions and of their inputs (what Bitcoin
+ * Core's rev files have); the coinbase spends none. The first of `coins`, with room for `most`, become the coins, and the
+ * first of `scripts`, of `room` bytes, their scripts, one after the other: coins[0].script bytes, coins[1].script bytes, ..
+ * `size` is how many there are; where a room is too small nothing but that is written, and the answer is
+ * WAKOTEHU_TOO_SMALL. coins and scripts may be null where most and room are 0. Of the genesis block there are none.
+ * WAKOTEHU_NONE of a block that isn't on the active branch, whatever it spent before, and of an id that isn't kept. */
+wakotehu_code wakotehu_spent(wakotehu_handle handle, const uint8_t *id, wakotehu_coin *coins, size_t most,
+                             uint8_t *scripts, size_t room, wakotehu_spent_size *size);
+
 /* Who is called for a coin: with the id of its transaction (32 bytes), the output's number, the coin, and coin->script
  * bytes of its script. What is pointed to lives as long as the call. Any other answer than 0 ends the walk. The handle
  * is in use meanwhile: a call on it answers WAKOTEHU_BUSY, and calls on other handles go on. It has to return: one that
@@ -222,7 +267,8 @@ const char *wakotehu_reply_text(uint32_t reply);
 /* A sentence for a code. */
 const char *wakotehu_code_text(wakotehu_code code);
 
-/* ---- The rules by themselves. These calls need no chainstate, keep nothing, and may be made from any threads at once.
+/* ---- The rules by themselves. These calls need no chainstate, and may be made from any threads at once. They keep nothing,
+ * except for a transaction that wakotehu_tx_read reads.
  * `yes` and flags are 1 or 0. */
 
 /* A transaction, but for its parts: its id, its bytes, how many inputs and outputs it has, its signature operations
@@ -439,6 +485,29 @@ wakotehu_code wakotehu_verify_script(const uint8_t *bytes, size_t length, uint64
                                      size_t spent_length, uint32_t flags, const char *valid, size_t valid_length,
                                      const char *invalid, size_t invalid_length, uint64_t *line, uint32_t *error,
                                      char *asked, size_t room, uint64_t *needed);
+
+/* A transaction that is read once, so that each of its inputs can be asked for without reading it again. It is named by a
+ * handle, a number; 0 is never one. It never changes. A call on a handle that another call is using answers WAKOTEHU_BUSY,
+ * one on a handle that was freed, or is none, WAKOTEHU_CLOSED. It is no wakotehu_handle: a
+ * chainstate may have the same number. */
+typedef uint64_t wakotehu_tx;
+
+/* So many can be kept at once. */
+#define WAKOTEHU_MOST_TRANSACTIONS 65536
+
+/* Reads a transaction and writes its handle. Where `used` is null, all the bytes have to be the transaction:
+ * WAKOTEHU_EXTRA where some stand behind it (Bitcoin Core's TX_SIZE_MISMATCH). Else it is the one at the front, and `used`
+ * becomes the number of its bytes. The bytes are copied. Each transaction has to be given back by wakotehu_tx_free. */
+wakotehu_code wakotehu_tx_read(const uint8_t *bytes, size_t length, size_t *used, wakotehu_tx *tx);
+
+/* wakotehu_verify_script for an input of a transaction that was read. */
+wakotehu_code wakotehu_tx_verify_input(wakotehu_tx tx, uint64_t input, const uint8_t *spent, size_t spent_length,
+                                       uint32_t flags, const char *valid, size_t valid_length, const char *invalid,
+                                       size_t invalid_length, uint64_t *line, uint32_t *error, char *asked, size_t room,
+                                       uint64_t *needed);
+
+/* Gives a transaction's memory back. */
+wakotehu_code wakotehu_tx_free(wakotehu_tx tx);
 
 /* What a script left: how many elements its stack has, and how many bytes these have together; `error` is why it failed,
  * and then the others are 0. */

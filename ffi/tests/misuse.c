@@ -1,5 +1,5 @@
-/* Every allocation refused in turn, handles misused, blocks and coins read back, and threads that fight for a handle.
- * Prints nothing where all is well. malloc, calloc and realloc go by the wrappers below (the linker's --wrap). */
+/* Every allocation refused in turn, handles misused, blocks and coins read back, where blocks stand, and threads that fight
+ * for a handle. Prints nothing where all is well. malloc, calloc and realloc go by the wrappers below (the linker's --wrap). */
 #include <pthread.h>
 #include <stdio.h>
 #include <stdlib.h>
@@ -347,6 +347,158 @@ static void verdicts(void) {
     EXPECT(wakotehu_want_lines(chain, lines, sizeof lines, &needed) == WAKOTEHU_CLOSED);
 }
 
+/* Blocks of one chain, each of a coinbase; the last one also spends the first one's, by another transaction. */
+enum { BLOCKS = 101, SPENDING = 81 + 64 + 61 };
+
+static void put_number(uint8_t *at, uint64_t number, size_t bytes) {
+    for (size_t n = 0; n < bytes; n++)
+        at[n] = (uint8_t)(number >> 8 * n);
+}
+
+/* Searches the work of a block on another one, and writes its id. */
+static void mined(uint8_t *block, const uint8_t *parent, const uint8_t *root, uint32_t number, uint8_t *id) {
+    memcpy(block + 4, parent, 32), memcpy(block + 36, root, 32), put_number(block + 68, 1296688602 + number, 4);
+    uint32_t yes = 0;
+    for (uint64_t nonce = 0; !yes; nonce++) {
+        put_number(block + 76, nonce, 4);
+        EXPECT(wakotehu_double_sha(block, 80, id) == WAKOTEHU_OK && wakotehu_meets_target(id, &yes) == WAKOTEHU_OK);
+    }
+}
+
+/* The block of this number on another one, with its id and its coinbase's. Branches differ by their number. */
+static void make_block(uint8_t *block, const uint8_t *parent, uint32_t number, uint8_t branch, uint8_t *id,
+                       uint8_t *coinbase) {
+    memcpy(block, b1, sizeof b1);
+    block[123] = branch, put_number(block + 124, number, 2);
+    EXPECT(wakotehu_double_sha(block + 81, 64, coinbase) == WAKOTEHU_OK);
+    mined(block, parent, coinbase, number, id);
+}
+
+/* The same with a transaction that spends this coin. */
+static void make_spending(uint8_t *block, const uint8_t *parent, uint32_t number, const uint8_t *coin, uint8_t *id) {
+    uint8_t ids[64], root[32], *tx = block + 81 + 64;
+    make_block(block, parent, number, 3, id, ids);
+    block[80] = 2;
+    memset(tx, 0, 61);
+    tx[0] = tx[4] = 1, memcpy(tx + 5, coin, 32), memset(tx + 42, 0xff, 4);
+    tx[46] = 1, put_number(tx + 47, 4000000000, 8), tx[55] = 1, tx[56] = 0x51;
+    EXPECT(wakotehu_double_sha(tx, 61, ids + 32) == WAKOTEHU_OK && wakotehu_double_sha(ids, 64, root) == WAKOTEHU_OK);
+    mined(block, parent, root, number, id);
+}
+
+/* The calls that say where blocks stand take no memory, and nothing but what they tell is written. */
+static void places(wakotehu_handle chain, uint8_t ids[][32], const uint8_t *stale) {
+    wakotehu_header_shown header, header_before;
+    uint8_t id[32], none[32] = {7}, nothing[32];
+    memset(nothing, 0xa5, sizeof nothing), memset(&header, 0xa5, sizeof header), header_before = header;
+    left = 0;
+    for (uint64_t height = 0; height <= BLOCKS + 1; height++) {
+        EXPECT(wakotehu_id_at(chain, height, id) == WAKOTEHU_OK && memcmp(id, ids[height], 32) == 0);
+        EXPECT(wakotehu_ancestor(chain, ids[BLOCKS + 1], height, id) == WAKOTEHU_OK);
+        EXPECT(memcmp(id, ids[height], 32) == 0);
+        EXPECT(wakotehu_header(chain, ids[height], &header) == WAKOTEHU_OK && header.height == height);
+        EXPECT(header.confirmations == (int64_t)(BLOCKS + 2 - height));
+        EXPECT(wakotehu_double_sha(header.header, 80, id) == WAKOTEHU_OK && memcmp(id, ids[height], 32) == 0);
+        EXPECT(wakotehu_fork(chain, ids[height], ids[BLOCKS], id) == WAKOTEHU_OK);
+        EXPECT(memcmp(id, ids[height < BLOCKS ? height : BLOCKS], 32) == 0);
+        EXPECT(wakotehu_fork(chain, stale, ids[height], id) == WAKOTEHU_OK);
+        EXPECT(memcmp(id, ids[height < 2 ? height : 2], 32) == 0);
+    }
+    EXPECT(wakotehu_header(chain, stale, &header) == WAKOTEHU_OK && header.height == 3 && header.confirmations == -1);
+    EXPECT(wakotehu_ancestor(chain, stale, 2, id) == WAKOTEHU_OK && memcmp(id, ids[2], 32) == 0);
+    EXPECT(wakotehu_ancestor(chain, stale, 3, id) == WAKOTEHU_OK && memcmp(id, stale, 32) == 0);
+    memset(id, 0xa5, sizeof id), header = header_before;
+    EXPECT(wakotehu_id_at(chain, BLOCKS + 2, id) == WAKOTEHU_NONE);
+    EXPECT(wakotehu_id_at(chain, UINT64_MAX, id) == WAKOTEHU_NONE);
+    EXPECT(wakotehu_ancestor(chain, stale, 4, id) == WAKOTEHU_NONE);
+    EXPECT(wakotehu_ancestor(chain, stale, UINT64_MAX, id) == WAKOTEHU_NONE);
+    EXPECT(wakotehu_ancestor(chain, none, 0, id) == WAKOTEHU_NONE);
+    EXPECT(wakotehu_header(chain, none, &header) == WAKOTEHU_NONE);
+    EXPECT(wakotehu_fork(chain, none, stale, id) == WAKOTEHU_NONE);
+    EXPECT(wakotehu_fork(chain, stale, none, id) == WAKOTEHU_NONE);
+    EXPECT(memcmp(id, nothing, sizeof id) == 0 && memcmp(&header, &header_before, sizeof header) == 0 && left == 0);
+    left = -1;
+    EXPECT(wakotehu_id_at(chain, 0, NULL) == WAKOTEHU_NULL && wakotehu_header(chain, none, NULL) == WAKOTEHU_NULL);
+    EXPECT(wakotehu_header(chain, NULL, &header) == WAKOTEHU_NULL);
+    EXPECT(wakotehu_ancestor(chain, NULL, 0, id) == WAKOTEHU_NULL);
+    EXPECT(wakotehu_ancestor(chain, none, 0, NULL) == WAKOTEHU_NULL);
+    EXPECT(wakotehu_fork(chain, NULL, none, id) == WAKOTEHU_NULL);
+    EXPECT(wakotehu_fork(chain, none, NULL, id) == WAKOTEHU_NULL);
+    EXPECT(wakotehu_fork(chain, none, none, NULL) == WAKOTEHU_NULL);
+}
+
+/* What a block spent, with each allocation refused, and rooms that are too small. */
+static void coins_of_blocks(wakotehu_handle chain, uint8_t ids[][32], const uint8_t *stale) {
+    wakotehu_spent_size size = {7, 7};
+    wakotehu_coin coins[2] = {{0}, {9, 9, 9, 9}};
+    uint8_t scripts[2] = {8, 9}, none[32] = {7};
+    int met = 1;
+    long n = 0;
+    for (; met; n++) {
+        left = n;
+        wakotehu_code code = wakotehu_spent(chain, ids[BLOCKS + 1], coins, 2, scripts, 2, &size);
+        met = left < 0;
+        left = -1;
+        EXPECT(code == (met ? WAKOTEHU_MEMORY : WAKOTEHU_OK) && size.coins == (met ? 7 : 1) && scripts[0] == (met ? 8 : 0x51));
+    }
+    EXPECT(n > 1 && size.scripts == 1 && coins[0].value == 5000000000 && coins[0].script == 1 && coins[0].height == 1);
+    EXPECT(coins[0].coinbase == 1 && coins[1].value == 9 && scripts[1] == 9);
+    scripts[0] = 8, coins[0].value = 9, size.coins = 7;
+    EXPECT(wakotehu_spent(chain, ids[BLOCKS + 1], NULL, 0, NULL, 0, &size) == WAKOTEHU_TOO_SMALL && size.coins == 1);
+    EXPECT(wakotehu_spent(chain, ids[BLOCKS + 1], coins, 0, scripts, 1, &size) == WAKOTEHU_TOO_SMALL);
+    EXPECT(wakotehu_spent(chain, ids[BLOCKS + 1], coins, 1, scripts, 0, &size) == WAKOTEHU_TOO_SMALL);
+    EXPECT(size.scripts == 1);
+    EXPECT(coins[0].value == 9 && scripts[0] == 8);
+    EXPECT(wakotehu_spent(chain, ids[BLOCKS + 1], coins, 1, scripts, 1, &size) == WAKOTEHU_OK && scripts[0] == 0x51);
+    EXPECT(wakotehu_spent(chain, ids[BLOCKS], NULL, 0, NULL, 0, &size) == WAKOTEHU_OK);
+    EXPECT(size.coins + size.scripts == 0);
+    EXPECT(wakotehu_spent(chain, ids[0], NULL, 0, NULL, 0, &size) == WAKOTEHU_OK && size.coins + size.scripts == 0);
+    size.coins = 7;
+    EXPECT(wakotehu_spent(chain, stale, coins, 2, scripts, 2, &size) == WAKOTEHU_NONE && size.coins == 7);
+    EXPECT(wakotehu_spent(chain, none, coins, 2, scripts, 2, &size) == WAKOTEHU_NONE && size.coins == 7);
+    EXPECT(wakotehu_spent(chain, NULL, coins, 2, scripts, 2, &size) == WAKOTEHU_NULL);
+    EXPECT(wakotehu_spent(chain, none, NULL, 1, scripts, 2, &size) == WAKOTEHU_NULL);
+    EXPECT(wakotehu_spent(chain, none, coins, SIZE_MAX / 24, scripts, 2, &size) == WAKOTEHU_NULL);
+    EXPECT(wakotehu_spent(chain, none, coins, 2, NULL, 1, &size) == WAKOTEHU_NULL);
+    EXPECT(wakotehu_spent(chain, none, coins, 2, scripts, 2, NULL) == WAKOTEHU_NULL);
+}
+
+static void lookups(void) {
+    static uint8_t ids[BLOCKS + 2][32];
+    const wakotehu_heights none_in_force = {1000, 1000, 1000, 1000};
+    wakotehu_handle chain = 0;
+    wakotehu_answer answer;
+    wakotehu_header_shown header;
+    wakotehu_spent_size size;
+    uint8_t block[SPENDING], coinbase[32], first[32], stale[32], unused[32];
+    EXPECT(wakotehu_open(&chain, &none_in_force, NULL, 0, NULL) == WAKOTEHU_OK);
+    EXPECT(wakotehu_best(chain, ids[0]) == WAKOTEHU_OK);
+    for (uint32_t number = 1; number <= BLOCKS; number++) {
+        make_block(block, ids[number - 1], number, 1, ids[number], number == 1 ? first : coinbase);
+        EXPECT(submitted(chain, block, sizeof b1) == WAKOTEHU_ACCEPTED);
+    }
+    make_spending(block, ids[BLOCKS], BLOCKS + 1, first, ids[BLOCKS + 1]);
+    EXPECT(submitted(chain, block, SPENDING) == WAKOTEHU_ACCEPTED);
+    make_block(block, ids[2], 3, 2, stale, unused);
+    EXPECT(submitted(chain, block, sizeof b1) == WAKOTEHU_INCONCLUSIVE);
+    places(chain, ids, stale);
+    coins_of_blocks(chain, ids, stale);
+    /* Of a block that was taken back nothing is told, and of one that came back all is. */
+    EXPECT(wakotehu_invalidate(chain, ids[BLOCKS + 1], &answer) == WAKOTEHU_OK && answer.reply == WAKOTEHU_DONE);
+    EXPECT(wakotehu_spent(chain, ids[BLOCKS + 1], NULL, 0, NULL, 0, &size) == WAKOTEHU_NONE);
+    EXPECT(wakotehu_id_at(chain, BLOCKS + 1, unused) == WAKOTEHU_NONE);
+    EXPECT(wakotehu_header(chain, ids[BLOCKS + 1], &header) == WAKOTEHU_OK && header.confirmations == -1);
+    EXPECT(wakotehu_reconsider(chain, ids[BLOCKS + 1], &answer) == WAKOTEHU_OK);
+    places(chain, ids, stale);
+    coins_of_blocks(chain, ids, stale);
+    EXPECT(wakotehu_close(chain) == WAKOTEHU_OK);
+    EXPECT(wakotehu_id_at(chain, 0, unused) == WAKOTEHU_CLOSED);
+    EXPECT(wakotehu_header(chain, stale, &header) == WAKOTEHU_CLOSED);
+    EXPECT(wakotehu_ancestor(chain, stale, 0, unused) == WAKOTEHU_CLOSED);
+    EXPECT(wakotehu_fork(chain, stale, stale, unused) == WAKOTEHU_CLOSED);
+    EXPECT(wakotehu_spent(chain, stale, NULL, 0, NULL, 0, &size) == WAKOTEHU_CLOSED);
+}
+
 static wakotehu_handle shared;
 
 /* Stops at once: what other threads submit isn't known. */
@@ -358,6 +510,7 @@ static int see(void *context, const uint8_t *id, uint32_t index, const wakotehu_
 /* Submits, reads and closes, whatever the others do. */
 static void *fight(void *unused) {
     wakotehu_answer answer;
+    wakotehu_spent_size size;
     uint8_t id[32], bytes[sizeof b1];
     size_t needed;
     (void)unused;
@@ -368,6 +521,12 @@ static void *fight(void *unused) {
         EXPECT(code == WAKOTEHU_OK || code == WAKOTEHU_BUSY || code == WAKOTEHU_CLOSED);
         if (code == WAKOTEHU_OK) {
             code = wakotehu_block(shared, id, bytes, sizeof bytes, &needed);
+            EXPECT(code == WAKOTEHU_OK || code == WAKOTEHU_NONE || code == WAKOTEHU_BUSY || code == WAKOTEHU_CLOSED);
+        }
+        code = wakotehu_id_at(shared, 1, id);
+        EXPECT(code == WAKOTEHU_OK || code == WAKOTEHU_NONE || code == WAKOTEHU_BUSY || code == WAKOTEHU_CLOSED);
+        if (code == WAKOTEHU_OK) {
+            code = wakotehu_spent(shared, id, NULL, 0, NULL, 0, &size);
             EXPECT(code == WAKOTEHU_OK || code == WAKOTEHU_NONE || code == WAKOTEHU_BUSY || code == WAKOTEHU_CLOSED);
         }
         code = wakotehu_coins(shared, see, NULL);
@@ -395,6 +554,7 @@ int main(void) {
     misused_handles();
     nothing_else_is_written();
     blocks_and_coins();
+    lookups();
     too_many();
     verdicts();
     threads_that_fight();

@@ -7,7 +7,7 @@ import socket
 import threading
 
 from wakotehu import errors, secp256k1
-from wakotehu.pool import Pool
+from wakotehu.nodebench import NodeBench
 from wakotehu.rpc.auth import Gate
 from wakotehu.rpc.node import Node
 from wakotehu.rpc.page import Page
@@ -20,7 +20,7 @@ AUTHORIZATION = "Basic " + base64.b64encode(b"name:password").decode()
 
 def seats(*words, verify=secp256k1, **more):
     """The seats of a node with real signatures, as the server has them by default."""
-    return Pool(*words, program=PROGRAM, verify=verify, **more)
+    return NodeBench(*words, program=PROGRAM, verify=verify, **more)
 
 
 class Running:
@@ -72,7 +72,8 @@ class Running:
                  "Connection": "close"}  # fmt: skip
         named.update({name.replace("_", "-"): value for name, value in headers.items()})
         lines = "".join(f"{name}: {value}\r\n" for name, value in named.items() if value is not None)
-        answer = self.raw(f"POST {path} HTTP/1.1\r\n{lines}\r\n".encode() + body, close=False)
+        # Some calls make a thousand blocks, perhaps while other tests run.
+        answer = self.raw(f"POST {path} HTTP/1.1\r\n{lines}\r\n".encode() + body, timeout=60, close=False)
         head, _, rest = answer.partition(b"\r\n\r\n")
         return int(head.split()[1]), rest
 

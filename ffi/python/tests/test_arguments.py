@@ -79,6 +79,8 @@ WRONG: Dict[str, List[Any]] = {
     "bytes": BYTES,
     "id": [*BYTES, *LENGTHS],
     "optional id": [*BYTES[1:], *LENGTHS],
+    "payee": [None, *NOTHING, *NUMBERS, *FRACTIONS, *TEXTS, *LISTS, *BUFFERS],
+    "optional ids": [*SEQUENCE[1:], [1], [bytes(31)], [None], ["00" * 32], [], [bytes(32)] * 2],
     "ids": [*SEQUENCE, [1], [bytes(31)], [None], ["00" * 32], [bytes(32), 3]],
     "number": NUMBER,
     "number32": [*NUMBER, 1 << 32],
@@ -153,6 +155,7 @@ RAW = encoding.write_transaction(TX)
 PARTS = consensus.transaction_parts(RAW)
 TRIPLE = consensus.Triple(b"\2" * 33, b"\3" * 9, bytes(32))
 SECRET = b"\1" * 32
+POOLED = bench.Bench()
 KINDS = {"id": "id", "script": "bytes", "index": "number32", "sequence": "number32", "value": "signed64"}
 ENDS = {"version": "signed32", "lock_time": "number32"}
 HEADERS = {"version": "signed32", "parent": "id", "root": "id", "time": "number32", "bits": "number32", "nonce": "number32"}
@@ -198,9 +201,11 @@ OPENED = {
     "table": ("optional lines", None), "program": ("optional path", PROGRAM), "blk": ("optional path", None),
     "load": ("optional path", None), "save": ("optional path", None), "datadir": ("optional path", None),
     "sync": ("flag", True), "timeout": ("seconds", 60.0), "verify": ("optional function", None),
+    "history_memory": ("moment", None),
 }  # fmt: skip
 SEAT = [
     ("submit", {"block": BLOCK, "now": MOMENT}), ("try_submit", {"block": BLOCK, "now": MOMENT}),
+    ("judge", {"block": BLOCK, "now": MOMENT}),
     ("invalidate", {"id": ID}), ("reconsider", {"id": ID}), ("precious", {"id": ID}),
     ("try_mark", {"command": ("command", "precious"), "id": ID}),
     ("gettxout", {"txid": ID, "n": ("number32", 0)}), ("gettxouts", {"outpoints": ("outpoints", [(bytes(32), 0)])}),
@@ -214,7 +219,9 @@ CHAIN = [
     ("invalidate", {"id": ID}), ("reconsider", {"id": ID}), ("precious", {"id": ID}),
     ("try_mark", {"command": ("command", "precious"), "id": ID}), ("best", {}), ("height", {}), ("tips", {}),
     ("coin", {"id": ID, "index": ("number32", 0)}), ("block", {"id": ID}), ("coins", {}), ("is_kept", {"id": ID}),
-    ("judge", {"block": BLOCK, "now": MOMENT}), ("copy", {}), ("close", {}),
+    ("judge", {"block": BLOCK, "now": MOMENT}), ("id_at", {"height": ("number", 0)}), ("header", {"id": ID}),
+    ("ancestor", {"id": ID, "height": ("number", 0)}), ("fork", {"one": ID, "other": ID}), ("spent", {"id": ID}),
+    ("moved", {"before": ("id", GENESIS.id)}), ("copy", {}), ("close", {}),
 ]  # fmt: skip
 ROWS = [
     row("consensus.transaction", data=DATA), row("consensus.transaction_parts", data=DATA),
@@ -240,6 +247,11 @@ ROWS = [
         valid=("lines", ""), invalid=("lines", b"")),
     row("consensus.eval_script", data=DATA, input=("number", 0), script=("bytes", b""), stack=("stack", [b"\1"]),
         flags=("rules", ["CSV"]), valid=("lines", ""), invalid=("lines", b"")),
+    row("consensus.ParsedTransaction", data=DATA, whole=("flag", True)), row("consensus.ParsedTransaction.close"),
+    row("consensus.ParsedTransaction.verify_input", input=("number", 0), spent=("bytes", b""), flags=("rules", {"P2SH"}),
+        valid=("lines", ""), invalid=("lines", b"")),
+    row("consensus.ParsedTransaction.verify", input=("number", 0), spent=("bytes", b""), flags=("flags", ["CSV"]),
+        table=("lines", b""), signatures=("optional source", "secp256k1")),
     row("consensus.triple_of", triple=("triple", TRIPLE)), row("consensus.Triple.of_line", line=("line", TRIPLE.line)),
     row("consensus.Triple.of_lines", lines=("list of lines", [TRIPLE.line])), row("consensus.Table", text=("lines", "")),
     row("consensus.Table.add", key=("bytes", b""), signature=("bytes", b""), digest=ID),
@@ -256,6 +268,7 @@ ROWS = [
     *(row(f"bench.Bench.{name}", **words) for name, words in CHAIN),
     row("bench.Bench.table_from", place=("number", 0)), row("bench.Bench.fresh"),
     row("bench.Bench.try_submit_spelled", spelled=("own", encoding.block_at_front(FIRST)), now=("number", NOW)),
+    row("bench.Bench.judge_spelled", spelled=("own", encoding.block_at_front(FIRST)), now=("number", NOW)),
     row("bench.Bench.unspent", id=ID, index=("number32", 0)), row("bench.Bench.parent", id=("id", block_id(FIRST))),
     row("bench.Bench.branch", id=("optional id", GENESIS.id)), row("bench.Bench.output", id=ID, index=("number32", 0)),
     row("bench.Bench.transaction", id=ID),
@@ -268,7 +281,14 @@ ROWS = [
     row("encoding.subsidy", height=("number32", 1)),
     row("encoding.coinbase", height=("number32", 1), value=("signed64", 1), script=("bytes", b""), extra=("bytes", b"")),
     row("encoding.mine", parent=ID, when=("number32", 1), transactions=("transactions", [TX]), version=("signed32", 4)),
-    row("encoding.operations", script=("bytes", b"")), row("encoding.without_separators", script=("bytes", b"")),
+    row("encoding.mine_spelled", parent=ID, when=("number32", 1), transactions=("stack", [RAW]), version=("signed32", 4),
+        ids=("optional ids", [TX.id])),
+    row("encoding.meeting_target", header=("header", HEADER)), row("pool.Pool", bench=("own", POOLED), most=("number", 10**9)),
+    *(row(f"pool.Pool.{name}", tx=DATA) for name in ("add", "test")),
+    *(row(f"pool.Pool.{name}", id=ID) for name in ("entry", "parents", "children", "ancestors", "descendants")),
+    *(row(f"pool.Pool.{name}", id=ID, index=("number32", 0)) for name in ("spender", "coin")),
+    *(row(f"pool.Pool.{name}", to=("payee", b"\x51")) for name in ("selection", "template")),
+    row("pool.Pool.mine", count=("number32", 1), to=("payee", b"\x51")), row("encoding.operations", script=("bytes", b"")), row("encoding.without_separators", script=("bytes", b"")),
     row("encoding.signature_digest", tx=("kind of transaction", TX), input=("number", 0), code=("bytes", b""),
         kind=("number32", 1)),
     row("signatures.Secp256k1"), row("signatures.Secp256k1.valid", triple=("triple", TRIPLE)),
@@ -299,8 +319,9 @@ ROWS = [
 #: Modules that are no part of this: what takes the arguments, exceptions, what a server has, and what it is started by; what
 #: needs a database (tests/replicas has its arguments); what pytest calls (test_testing has its own).
 OTHER = {
-    "ahead", "arguments", "asyncreplica", "benches", "errors", "following", "history", "index", "pipe", "pool", "replica",
-    "replicacommand", "replicalog", "replicapool", "replication", "server", "testing", "vectors", "version", "__main__",
+    "ahead", "arguments", "asyncreplica", "benches", "errors", "following", "history", "index", "mempool", "nodebench", "pipe",
+    "replica", "replicabench", "replicacommand", "replicalog", "replication", "server", "stage", "testing", "vectors", "version",
+    "__main__",
 }  # fmt: skip
 #: What other modules of the package call with what was taken before.
 INSIDE = {"addresses.base58", "addresses.data_of", "chainstate.reply_of"} | {
@@ -309,7 +330,7 @@ INSIDE = {"addresses.base58", "addresses.data_of", "chainstate.reply_of"} | {
     )
 } | {
     f"served.{name}" for name in (
-        "Call", "Opening", "Wanted", "verdicts", "learning", "submission", "mark", "output", "outputs", "block_of", "header_of", "hash_at", "coins_above", "longer_than",
+        "Call", "Opening", "Wanted", "verdicts", "learning", "submission", "dry_run", "mark", "output", "outputs", "block_of", "header_of", "hash_at", "coins_above", "longer_than",
         "entries", "told", "request", "checked", "outcome",
         "died", "read_answer",
     )
@@ -321,9 +342,9 @@ ANSWERS = {
     "chainstate.Tip", "chainstate.Reply", "chainstate.Reply.check", "bench.Entry", "encoding.EncodingError",
     "encoding.Merkle", "encoding.Target",
     "encoding.Input", "encoding.Output", "encoding.Transaction", "encoding.Header", "encoding.Block", "encoding.Spelled",
-    "served.Stamped", "served.UnspentOutput", "served.BlockHeader", "served.Entry", "served.Info", "node.Seat",
+    "chainstate.BlockHeader", "chainstate.Moved", "served.Stamped", "served.UnspentOutput", "served.Entry", "served.Info", "node.Seat",
     "asyncnode.AsyncSeat", "library.Heights",
-    "library.Answer", "library.Tip", "library.Coin", "library.CoinCall",
+    "library.Answer", "library.Tip", "library.Coin", "library.CoinCall", "library.Header", "library.SpentSize",
 }  # fmt: skip
 
 
@@ -379,9 +400,11 @@ class WrongTest(unittest.TestCase):
     def owner(self, name: str) -> Any:
         """Something that has the methods of a class."""
         made = {
-            "consensus.Table": consensus.Table, "chainstate.Chainstate": lambda: chainstate.Chainstate(by_need=True),
+            "consensus.Table": consensus.Table, "consensus.ParsedTransaction": lambda: consensus.ParsedTransaction(RAW),
+            "chainstate.Chainstate": lambda: chainstate.Chainstate(by_need=True),
             "bench.Bench": bench.Bench, "encoding.Spelled": lambda: encoding.block_at_front(FIRST),
             "signatures.Secp256k1": signatures.Secp256k1, "signatures.Verifier": signatures.Verifier,
+            "pool.Pool": lambda: wakotehu.Pool(POOLED),
         }  # fmt: skip
         if name in made:
             found: Any = made[name]()

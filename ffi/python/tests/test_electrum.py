@@ -192,7 +192,7 @@ class ElectrumTest(Served):
         ask = self.client.ask
         tx = self.payment(3, ONE)
         await self.broadcast(tx)
-        self.assertEqual(await self.broadcast(self.payment(3, TWO)), "the transaction was rejected: bad-txns-inputs-missingorspent")
+        self.assertEqual(await self.broadcast(self.payment(3, TWO)), "the transaction was rejected: txn-mempool-conflict")
         self.assertEqual(await self.broadcast(self.payment(50, TWO)), "the transaction was rejected: bad-txns-premature-spend-of-coinbase")
         self.assertEqual(await self.broadcast(self.payment(4, ONE, 10**10)), "the transaction was rejected: bad-txns-in-belowout")
         self.assertEqual(await ask("blockchain.transaction.broadcast", "00"), "the transaction was rejected: it doesn't decode")

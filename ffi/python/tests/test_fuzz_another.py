@@ -3,14 +3,11 @@
 import contextlib
 import io
 import os
-import shutil
-import socket
 import subprocess
 import sys
-import tempfile
-import time
 import unittest
 
+import peers
 from servers import PROGRAM, Running
 
 sys.path.append(os.path.join(os.path.dirname(os.path.abspath(__file__)), "..", "..", "examples"))
@@ -98,36 +95,11 @@ class FuzzAnotherTest(unittest.TestCase):
             fuzz_another.Fuzzer(peer)
 
 
-@unittest.skipUnless(shutil.which("litecoind"), "litecoind isn't installed")
+@unittest.skipUnless(peers.IS_THERE, "litecoind isn't installed")
 class LitecoindTest(unittest.TestCase):
     def test_no_difference(self):
-        with socket.create_server(("127.0.0.1", 0)) as probe:
-            port = probe.getsockname()[1]
-        with tempfile.TemporaryDirectory() as folder:
-            words = ["litecoind", "-regtest", f"-datadir={folder}", "-segwitheight=-1", f"-rpcport={port}", "-rpcuser=u",
-                     "-rpcpassword=p", "-listen=0", "-connect=0", "-dnsseed=0", "-printtoconsole=0"]  # fmt: skip
-            process = subprocess.Popen(words, stdout=subprocess.DEVNULL, stderr=subprocess.DEVNULL)
-            try:
-                peer = self.reached(f"http://u:p@127.0.0.1:{port}")
-                with contextlib.redirect_stdout(io.StringIO()) as out:
-                    self.assertTrue(fuzz_another.fuzz(peer, 4, seed=3), out.getvalue())
-                peer.link.close()
-            finally:
-                process.kill()
-                process.wait()
-
-    def reached(self, url):
-        end = time.monotonic() + 60
-        while time.monotonic() < end:
-            peer = fuzz_another.Peer(url)
-            try:
-                if peer.call("getblockcount") == 0:
-                    return peer
-            except OSError:
-                pass
-            peer.link.close()
-            time.sleep(0.1)
-        raise AssertionError("litecoind doesn't answer")
+        with peers.Litecoind() as peer, contextlib.redirect_stdout(io.StringIO()) as out:
+            self.assertTrue(fuzz_another.fuzz(peer, 4, seed=3), out.getvalue())
 
 
 if __name__ == "__main__":

@@ -19,7 +19,8 @@ UNUSED = {"wakotehu_version", "wakotehu_wants", "wakotehu_secp256k1_verify"}
 #: Python's types of the header's structs and callbacks.
 STRUCTS: Dict[str, Any] = {
     "wakotehu_heights": library.Heights, "wakotehu_answer": library.Answer, "wakotehu_tip": library.Tip,
-    "wakotehu_coin": library.Coin, "wakotehu_transaction": consensus._Transaction, "wakotehu_input": consensus._Input,
+    "wakotehu_coin": library.Coin, "wakotehu_header_shown": library.Header, "wakotehu_spent_size": library.SpentSize,
+    "wakotehu_transaction": consensus._Transaction, "wakotehu_input": consensus._Input,
     "wakotehu_output": consensus._Output, "wakotehu_start": consensus._Start, "wakotehu_block_shown": consensus._Block,
     "wakotehu_made": consensus._Made, "wakotehu_opcode": consensus._Opcode, "wakotehu_script_shown": consensus._Script,
     "wakotehu_flags": consensus._Flags, "wakotehu_evaluated": consensus._Evaluated,
@@ -27,6 +28,7 @@ STRUCTS: Dict[str, Any] = {
 SCALARS: Dict[str, Any] = {
     "uint8_t": ctypes.c_uint8, "uint32_t": ctypes.c_uint32, "uint64_t": ctypes.c_uint64, "int32_t": ctypes.c_int32,
     "int64_t": ctypes.c_int64, "size_t": ctypes.c_size_t, "int": ctypes.c_int, "wakotehu_handle": ctypes.c_uint64,
+    "wakotehu_tx": ctypes.c_uint64,
     # An enum without negative values.
     "wakotehu_code": ctypes.c_uint32,
 }  # fmt: skip

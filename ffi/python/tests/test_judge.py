@@ -5,8 +5,9 @@ import time
 import unittest
 
 from blocks import NOW, Maker, block_id, signed, spend, with_script
+from servers import PROGRAM
 from test_bench import KEYS, SECP, SECRETS, pay_to_key
-from wakotehu import Bench, Chainstate, errors
+from wakotehu import AsyncNode, Bench, Chainstate, Node, Stamped, errors, secp256k1
 
 
 def seen(chain):
@@ -74,6 +75,65 @@ class JudgeTest(unittest.TestCase):
         chain.close()
         for call in (lambda: chain.judge(b"", NOW), chain.copy):
             self.assertRaises(errors.Closed, call)
+
+
+class ServedTest(unittest.IsolatedAsyncioTestCase):
+    """The same at seats of a node, and of one for asyncio: a stamped reply, and no step."""
+
+    def made(self):
+        """101 blocks of a key, and blocks on them with the replies that they get: a payment by another key and one by this, too
+        much for the coinbase, a block beside, one of no parent, one that is there, and bytes that are no block."""
+        maker = Maker(pay_to_key(KEYS[0]))
+        blocks = maker.chain(101)
+        tx, tip = spend(maker.coinbases[block_id(blocks[0])].id, 0, 10**8, b""), block_id(blocks[-1])
+        wrong, right = (signed(SECP, SECRETS[place : place + 1], tx, 0, maker.script) for place in (1, 0))
+        beside = maker.block(block_id(blocks[-2]), extra=b"b")
+        return blocks, [
+            (maker.block(tip, [with_script(tx, 0, *wrong)], extra=b"w"), "blk-bad-inputs 1:0"),
+            (maker.block(tip, [with_script(tx, 0, *right)], extra=b"r"), "accepted"),
+            (maker.block(tip, more=1), "bad-cb-amount"), (beside, "inconclusive"),
+            (maker.block(block_id(beside), extra=b"c"), "prev-blk-not-found"), (blocks[5], "duplicate"), (blocks[5][:-1], "decode-failed"),
+        ]  # fmt: skip
+
+    def test_of_a_node(self):
+        blocks, rows = self.made()
+        with Node(seats=2, program=PROGRAM, verify=secp256k1) as node:
+            for block in blocks:
+                node.seat(0).submit(block, NOW)
+            node.seat(1).told(node.seat(0))
+            for block, reply in rows:
+                before = [node.seat(0).getchaintips().value, node.seat(0).coins().value]
+                told = node.seat(1).judge(block, NOW)
+                self.assertEqual((type(told), told.value.text), (Stamped, reply))
+                self.assertEqual([node.seat(0).getchaintips().value, node.seat(0).coins().value], before)
+                self.assertEqual(node.seat(1).judge(block, NOW).value, told.value)
+            commands = [entry.command for entry in node.seat(1).journal().value]
+            # A signature that was found out is a step, and a dry run isn't.
+            self.assertEqual((commands.count("submit"), commands[101:]), (101, ["invalid", "valid"]))
+            self.assertEqual(node.seat(0).submit(rows[1][0], NOW).value, "accepted")
+            self.assertEqual([entry.command for entry in node.seat(0).journal().value][101:], ["invalid", "valid", "submit"])
+            self.assertRaises(ValueError, node.seat(0).judge, bytes(33_554_433), NOW)
+            node.close()
+            self.assertRaises(errors.Closed, node.seat(0).judge, blocks[0], NOW)
+
+    async def test_of_an_asyncnode(self):
+        blocks, rows = self.made()
+        async with AsyncNode(seats=2, program=PROGRAM, verify=secp256k1) as node:
+            for block in blocks:
+                await node.seat(0).submit(block, NOW)
+            told = [await node.seat(0).judge(block, NOW) for block, _ in rows]
+            self.assertEqual([(each.value.text, each.at) for each in told], [
+                (reply, 101 + min(place + 1, 2)) for place, (_, reply) in enumerate(rows)
+            ])  # fmt: skip
+
+    def test_of_a_table(self):
+        blocks, rows = self.made()
+        with Node(seats=1, program=PROGRAM) as node:
+            for block in blocks:
+                node.seat(0).submit(block, NOW)
+            told = [node.seat(0).judge(block, NOW) for block, _ in rows]
+            self.assertEqual({each.at for each in told}, {101})
+            self.assertEqual([each.value.text for each in told[:3]], ["blk-bad-inputs 1:0"] * 2 + ["bad-cb-amount"])
 
 
 class CopyTest(unittest.TestCase):

@@ -5,14 +5,22 @@ import json
 import random
 import threading
 import unittest
+from unittest import mock
 
-from blocks import block_id, spend
+from blocks import block_id, signed, spend, with_script
 from mempool_steps import COIN, played
+from servers import PROGRAM, Running
+from test_bench import KEYS, SECP, SECRETS
 from test_pure import rows
 from test_rpc import CallsTest
-from wakotehu import read_id, show
-from wakotehu.encoding import GENESIS, Input, Output, Transaction, read_transaction, write_transaction
-from wakotehu.rpc.mempool import Mempool
+from wakotehu import mempool, read_id, show
+from wakotehu.consensus import Triple
+from wakotehu.encoding import (
+    GENESIS, Input, Output, Transaction, block_at_front, hash160, push, read_transaction, signature_digest, write_header,
+    write_transaction,
+)  # fmt: skip
+from wakotehu.nodebench import NodeBench
+from wakotehu.rpc.mempool import ServedMempool
 
 
 def told(answer):
@@ -174,6 +182,22 @@ class TemplateTest(Waiting):
             self.assertEqual(self.call("getblocktemplate", {"mode": "proposal", "data": block.hex()}), answer)
             self.assertNotIn(block_id(block), self.running.bench.index.blocks)
 
+    def test_a_proposal_needs_no_proof_of_work(self):
+        """Of each nonce null, as from litecoind; other bits are refused there too."""
+        header = block_at_front(self.maker.block(block_id(self.blocks[-1]))).header
+        data = self.maker.block(block_id(self.blocks[-1]))
+        for nonce in range(20):
+            proposed = write_header(header._replace(nonce=nonce)) + data[80:]
+            self.assertIsNone(self.call("getblocktemplate", {"mode": "proposal", "data": proposed.hex()}))
+        other = write_header(header._replace(bits=0x1F7FFFFF)) + data[80:]
+        self.assertEqual(self.call("getblocktemplate", {"mode": "proposal", "data": other.hex()}), "bad-diffbits")
+        self.assertEqual(self.call("getblockcount"), 110)
+
+    def test_proposals_that_cannot_be_read(self):
+        data = self.maker.block(block_id(self.blocks[-1]))
+        longer = data[:80] + b"\xfd\1\0" + data[81:]
+        self.assertEqual(self.call("getblocktemplate", {"mode": "proposal", "data": longer.hex()})["message"], "Block decode failed")
+
     def test_faults(self):
         rules = 'getblocktemplate must be called with the segwit rule set (call with {"rules": ["segwit"]})'
         for words, code, message in (
@@ -182,6 +206,24 @@ class TemplateTest(Waiting):
             ([{"mode": "proposal", "data": "00"}], -22, "Block decode failed"),
         ):  # fmt: skip
             self.assertEqual(self.call("getblocktemplate", *words), {"code": code, "message": message})
+
+
+class TraceTest(Waiting):
+    def test_a_refused_one_leaves_no_trace(self):
+        """Neither in the history nor among the blocks."""
+        def seen():
+            bench = self.running.bench
+            with bench.turn:
+                return bench.tips(), dict(bench.index.blocks), bench.coins(), bench.node.seat(0).journal().value
+
+        before = seen()
+        for tx in (self.spends(b"\x11" * 32), self.spends(self.coins[-1]), self.spends(self.coins[0], 51 * COIN),
+                   spend(self.coins[0], 0, COIN, b"\x6a")):  # fmt: skip
+            self.assertIn("code", self.send(tx))
+            self.call("testmempoolaccept", [write_transaction(tx).hex()], 0)
+            self.assertIn("code", self.call("generateblock", "raw(51)", [write_transaction(tx).hex()]))
+        self.assertEqual(self.send(self.spends(self.coins[1])), show(self.spends(self.coins[1]).id))
+        self.assertEqual(seen(), before)
 
 
 class IndexTest(Waiting):
@@ -244,6 +286,164 @@ class ThreadsTest(Waiting):
             self.assertIsNotNone(self.call("gettxout", show(id), 0))
 
 
+class OnStages:
+    """The same where each that hangs on another is judged on a stage, if it may be: on a chainstate of the server's process."""
+
+    def setUp(self):
+        patched = mock.patch.object(mempool, "DEEP", 0)
+        patched.start()
+        self.addCleanup(patched.stop)
+        super().setUp()
+
+
+class RulesOnStagesTest(OnStages, RulesTest):
+    pass
+
+
+class ThreadsOnStagesTest(OnStages, ThreadsTest):
+    pass
+
+
+class BesideLitecoindOnStagesTest(OnStages, BesideLitecoindTest):
+    pass
+
+
+class LongChainTest(Waiting):
+    """60 transactions, each of which spends the one before: with real signatures, or those of a table."""
+
+    def chain(self, count=60):
+        script, secret = b"\x76\xa9" + push(hash160(KEYS[0])) + b"\x88\xac", SECRETS[:1]
+        txs, triples, at = [self.spends(self.coins[0], 50 * COIN, to=script)], [], None
+        for place in range(count - 1):
+            at = self.spends(txs[-1].id, 50 * COIN - 10 * place - 10, to=script)
+            [signature] = signed(SECP, secret, at, 0, script)
+            triples.append(Triple(KEYS[0], signature[:-1], signature_digest(at, 0, script, 1)))
+            txs.append(with_script(at, 0, signature, KEYS[0]))
+        return txs, triples
+
+    def play(self, txs, forged):
+        judged, made = [], NodeBench.judge_spelled
+
+        def judge(bench, spelled, now):
+            judged.append(len(spelled.ids))
+            return made(bench, spelled, now)
+
+        with mock.patch.object(NodeBench, "judge_spelled", judge):
+            for tx in txs[:30]:
+                self.assertEqual(self.send(tx), show(tx.id))
+            self.assertEqual(self.send(forged)["code"], -26)
+            # The stage is of the block that comes now, and then of another branch.
+            block = self.maker.block(block_id(self.blocks[-1]), txs[:3], extra=b"c")
+            self.assertIsNone(self.submit(block))
+            for tx in txs[30:45]:
+                self.assertEqual(self.send(tx), show(tx.id))
+            self.call("invalidateblock", show(block_id(block)))
+            for tx in txs[45:]:
+                self.assertEqual(self.send(tx), show(tx.id))
+        # What hangs on more than 24 isn't judged as a whole; all that came back is, once.
+        self.assertEqual(sorted(judged)[-2:], [26, 46])
+        self.assertEqual(len(self.call("getrawmempool")), 60)
+        [mined] = self.mined(1)
+        self.assertEqual(self.call("getblock", mined)["tx"][1:], [show(tx.id) for tx in txs])
+
+    def test_real_signatures(self):
+        txs, _ = self.chain()
+        [wrong] = signed(SECP, SECRETS[1:2], txs[30], 0, txs[0].outputs[0].script)
+        self.play(txs, with_script(txs[30], 0, wrong, KEYS[0]))
+
+    def test_signatures_of_a_table(self):
+        txs, triples = self.chain()
+        lines = b"".join(triple.line for triple in triples)
+        self.running = Running(NodeBench(table=lines, program=PROGRAM))
+        self.addCleanup(self.running.stop)
+        self.call = self.running.call
+        self.call("setmocktime", GENESIS.time + 600 * 2000)
+        for block in self.blocks:
+            self.assertIsNone(self.submit(block))
+        # Another signature of the same key, which is right and isn't in the table.
+        other = txs[30]._replace(outputs=[Output(5, b"\x51")])
+        [right] = signed(SECP, SECRETS[:1], other, 0, txs[0].outputs[0].script)
+        self.play(txs, with_script(other, 0, right, KEYS[0]))
+
+
+class MeanwhileTest(OnStages, Waiting):
+    """Blocks that come while a transaction is judged."""
+
+    def test_while_a_stage_is_made(self):
+        """That stage is of the block before: it isn't used again."""
+        first, other = self.spends(self.coins[0]), self.spends(self.coins[1])
+        second = self.spends(first.id, COIN - 1)
+        self.send(first)
+        block = self.maker.block(block_id(self.blocks[-1]), [other], extra=b"m")
+        stage, told = NodeBench.stage, []
+
+        def slow(bench):
+            found = stage(bench)
+            if not told:
+                with bench.others():
+                    told.append(self.submit(block))
+            return found
+
+        with mock.patch.object(NodeBench, "stage", slow):
+            self.assertEqual(self.send(second), show(second.id))
+        both = Transaction(1, [Input(it, 0, b"", 0xFFFFFFFF) for it in (second.id, other.id)], [Output(COIN, b"\x51")], 0)
+        self.assertEqual((told, self.send(both)), ([None], show(both.id)))
+        self.assertEqual(self.waiting(), {show(tx.id) for tx in (first, second, both)})
+
+    def behind_a_dry_run(self, block):
+        """A block comes once, just when a dry run was answered. Its call is answered when what waits was looked at again."""
+        judge, submits = NodeBench.judge_spelled, threading.Thread(target=self.submit, args=(block,))
+        self.addCleanup(submits.join, 20)
+
+        def slow(bench, spelled, now):
+            reply = judge(bench, spelled, now)
+            if not submits.ident:
+                submits.start()
+                while bench.best() != block_id(block):
+                    bench.turn.wait(20)
+            return reply
+
+        return mock.patch.object(NodeBench, "judge_spelled", slow)
+
+    def test_a_block_that_spends_the_same_coin(self):
+        tx, other = self.spends(self.coins[0]), self.spends(self.coins[0], 2 * COIN)
+        with self.behind_a_dry_run(self.maker.block(block_id(self.blocks[-1]), [other], extra=b"m")):
+            self.assertEqual(self.send(tx), {"code": -25, "message": "bad-txns-inputs-missingorspent"})
+        self.assertEqual(self.waiting(), set())
+
+    def test_a_block_that_comes_while_all_is_looked_at_again(self):
+        one, two = self.spends(self.coins[0]), self.spends(self.coins[1])
+        self.send(one), self.send(two)
+        block = self.maker.block(block_id(self.blocks[-2]), [one], extra=b"m")
+        with self.behind_a_dry_run(block):
+            self.call("invalidateblock", show(block_id(self.blocks[-1])))
+        self.assertEqual((self.call("getbestblockhash"), self.waiting()), (show(block_id(block)), {show(two.id)}))
+
+    def test_a_block_that_is_not_taken_up_yet(self):
+        """The node has it, and the server doesn't know it: what is judged then is judged again."""
+        block = self.maker.block(block_id(self.blocks[-1]), extra=b"m")
+        best_after, entered, released = NodeBench._best_after, threading.Event(), threading.Event()
+
+        def slow(bench, answered, spelled):
+            entered.set()
+            with bench.others():
+                released.wait(20)
+            return best_after(bench, answered, spelled)
+
+        tx, told = self.spends(self.coins[0]), []
+        with mock.patch.object(NodeBench, "_best_after", slow):
+            submits = threading.Thread(target=self.submit, args=(block,))
+            sends = threading.Thread(target=lambda: told.append(self.send(tx)))
+            submits.start()
+            self.assertTrue(entered.wait(20))
+            sends.start()
+            sends.join(1)
+            self.assertEqual(told, [])
+            released.set()
+            submits.join(20), sends.join(20)
+        self.assertEqual((told, self.call("getblockcount")), ([show(tx.id)], 111))
+
+
 class CountsTest(Waiting):
     def test_no_entry_is_lost_in_the_counts(self):
         for place in range(3):
@@ -251,7 +451,7 @@ class CountsTest(Waiting):
         self.mined(1)
         pool = self.running.node.mempool
         self.assertEqual((pool.entries, pool.spenders, pool.bytes), ({}, {}, 0))
-        self.assertIsInstance(pool, Mempool)
+        self.assertIsInstance(pool, ServedMempool)
 
 
 if __name__ == "__main__":

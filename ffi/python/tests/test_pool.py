@@ -1,713 +1,734 @@
-"""The server over the seats of a node: calls that run beside one another, with a table and with real signatures; and the
-calls of the other tests with a table."""
+"""Transactions that wait to be mined on a `Bench`: what is said of them beside Debian's litecoind 0.21.2.1 (litecoind.json, under
+"mempool"), what follows from the rules, and that whatever waits may be mined, by blocks that are made otherwise."""
 
-import contextlib
-import io
-import json
-import os
-import signal
-import socket
-import threading
-import time
+import random
 import unittest
-import unittest.mock
+from unittest import mock
 
-import test_datadir
-import test_http
-import test_rpc
-from blocks import Maker, block_id, signed, spend, with_script
-from servers import AUTHORIZATION, PROGRAM, Running, seats
-from test_bench import KEYS, SECP, SECRETS, pay_to_key
-from test_node_by_need import Mined, then
-from wakotehu import Node, errors, secp256k1, server, show, signatures
-from wakotehu.consensus import Triple
-from wakotehu.encoding import GENESIS, Input, Output, Transaction, push, signature_digest, write_transaction
-from wakotehu.history import VERDICTS
-from wakotehu.node import Seat
-from wakotehu.pool import Pool
-from wakotehu.signatures import KnownSignatures
-
-#: A moment at which no block of these tests is too new.
-LATER = GENESIS.time + 600 * 2000
-
-
-def with_a_table(*words, **more):
-    """A server whose table says which signatures are valid."""
-    return Running(Pool(program=PROGRAM), *words, **more)
-
-
-# ---- the calls of the other tests, with a table
-
-CASES = (
-    test_rpc.FaultsTest, test_rpc.RequestsTest, test_rpc.SubmitTest, test_rpc.MarksTest, test_rpc.StopTest,
-    test_rpc.ShownTest, test_rpc.CommandLineTest, test_http.HeldUpTest,
+from blocks import NOW, Maker, block_id, signed, spend, with_script
+from mempool_steps import played
+from test_bench import KEYS, SECP, SECRETS, pay_to_key_hash
+from test_pure import rows
+from wakotehu import Bench, DecodeFailed, NotAccepted, NotFound, Pool, errors, mempool, read_id, show, stage
+from wakotehu.encoding import (
+    Input, Output, Transaction, block_at_front, hash160, push, read_block, read_transaction, write_transaction,
 )  # fmt: skip
-for case in CASES:
-    name = f"{case.__name__}WithATable"
-    globals()[name] = type(name, (case,), {"start": staticmethod(with_a_table), "__module__": __name__})
-del case
+
+COIN, LAST = 100_000_000, 0xFFFFFFFF
+MISSING, LOCKED, CONFLICT = "bad-txns-inputs-missingorspent", "non-BIP68-final", "txn-mempool-conflict"
 
 
-# ---- callers beside one another
+def spends(id, value=50 * COIN, index=0, to=b"\x51", sequence=LAST, version=1, lock=0, script=b""):
+    return Transaction(version, [Input(id, index, script, sequence)], [Output(value, to)], lock)
 
 
-class Connection:
-    """A connection that is kept."""
-
-    def __init__(self, port, timeout=30):
-        self.socket = socket.create_connection(("127.0.0.1", port), timeout)
-        self.socket.setsockopt(socket.IPPROTO_TCP, socket.TCP_NODELAY, True)
-
-    def call(self, method, *params):
-        body = json.dumps({"method": method, "params": params, "id": 1}).encode()
-        head = f"POST / HTTP/1.1\r\nHost: 127.0.0.1\r\nAuthorization: {AUTHORIZATION}\r\nContent-Length: {len(body)}\r\n\r\n"
-        self.socket.sendall(head.encode() + body)
-        got = b""
-        while not got.endswith(b"}\n"):
-            piece = self.socket.recv(1 << 20)
-            if not piece:
-                raise OSError("closed")
-            got += piece
-        reply = json.loads(got.partition(b"\r\n\r\n")[2])
-        return reply["error"] or reply["result"]
+def money(satoshis):
+    return f"{satoshis // COIN}.{satoshis % COIN:08}"
 
 
-class Callers(unittest.TestCase):
-    """A server, and those who call beside one another."""
+class Calls:
+    """A few of bitcoind's calls over a pool, so that litecoind's steps can be played. Of others the answer is None."""
 
-    def started(self, **more):
-        running = Running(Pool(program=PROGRAM, **more))
-        self.addCleanup(running.stop)
-        running.call("setmocktime", LATER)
-        return running
+    def __init__(self, bench):
+        self.bench, self.pool = bench, Pool(bench)
 
-    def connected(self, running, timeout=30):
-        connection = Connection(running.port, timeout)
-        self.addCleanup(connection.socket.close)
-        return connection
+    def __call__(self, name, *words):
+        return getattr(self, name, lambda *words: None)(*words)
 
-    def run_all(self, *bodies):
-        """Runs these at once; a fault in one is raised here."""
-        faults = []
+    def generatetodescriptor(self, count, _):
+        return [show(id) for id in self.pool.mine(count)]
 
-        def run(body):
-            try:
-                body()
-            except BaseException as fault:
-                faults.append(fault)
+    def getblock(self, id):
+        return {"tx": [show(id) for id in block_at_front(self.bench.block(read_id(id))).ids]}
 
-        threads = [threading.Thread(target=run, args=(body,)) for body in bodies]
-        for thread in threads:
-            thread.start()
-        for thread in threads:
-            thread.join(60)
-        if faults:
-            raise faults[0]
+    def invalidateblock(self, id):
+        self.bench.invalidate(read_id(id))
 
-
-class SeatsTest(Callers):
-    def test_sixteen_writers_and_readers(self):
-        """Each connection submits a branch of its own and reads what it wrote, or reads what another wrote."""
-        running, branches = self.started(), []
-        for number in range(16):
-            branches.append(Maker().chain(10 + number, extra=bytes([number + 1])))
-        written = [None] * 16
-
-        def writer(number):
-            connection = self.connected(running)
-            for height, block in enumerate(branches[number], 1):
-                told = connection.call("submitblock", block.hex())
-                self.assertIn(told, (None, "inconclusive"))
-                self.assertGreaterEqual(connection.call("getblockcount"), height)
-                self.assertEqual(connection.call("getblockheader", show(block_id(block)))["height"], height)
-                written[number] = block
-
-        def reader(number):
-            connection, least = self.connected(running), 0
-            while written[number] is not branches[number][-1]:
-                seen = written[number]
-                tips = connection.call("getchaintips")
-                if seen is not None:
-                    # What was answered to another connection is there.
-                    self.assertEqual(connection.call("getblock", show(block_id(seen)), 0), seen.hex())
-                best = tips[0]["height"]
-                self.assertGreaterEqual(best, least)
-                least = best
-
-        self.run_all(*(lambda n=n: writer(n) for n in range(16)), *(lambda n=n: reader(n) for n in range(16)))
-        self.assertEqual(running.call("getblockcount"), 25)
-        self.assertEqual(running.call("getbestblockhash"), show(block_id(branches[15][-1])))
-        tips = {tip["hash"]: tip["status"] for tip in running.call("getchaintips")}
-        self.assertEqual(sorted(tips), sorted(show(block_id(branch[-1])) for branch in branches))
-        self.assertEqual(running.bench.steps, sum(map(len, branches)))
-        self.assertEqual(running.call("gettxoutsetinfo")["txouts"], 25)
-
-    def test_blocks_made_by_eight_at_once_stand_on_one_another(self):
-        running, found = self.started(), []
-        self.run_all(*[lambda: found.extend(self.connected(running).call("generatetodescriptor", 10, "raw(51)"))] * 8)
-        self.assertEqual((len(set(found)), running.call("getblockcount")), (80, 80))
-
-    def test_reads_beside_a_writer(self):
-        """Blocks of 2,000 payments come in, and another connection reads on: no block is answered before five reads that
-        began behind its submission are. The slowest read is told."""
-        running, maker = self.started(), Maker()
-        blocks = maker.chain(110)
-        for block in blocks:
-            self.assertIsNone(running.call("submitblock", block.hex()))
-        coins, at, payments = [maker.coinbases[block_id(block)].id for block in blocks], block_id(blocks[-1]), []
-        for coin in coins[:5]:
-            first = Transaction(1, [Input(coin, 0, b"", 0xFFFFFFFF)], [Output(2_000_000, b"\x51")] * 2000, 0)
-            more = [spend(first.id, place, 1_000_000, b"") for place in range(2000)]
-            payments.append(maker.block(at, [first, *more]))
-            at = block_id(payments[-1])
-        ended, submitted, read, answered = threading.Event(), [], [], threading.Condition()
-        submit = Seat.try_submit
-
-        def held(seat, block, now):
-            # One read may have begun before. A read that waited for the submission would wait for as long as this does.
-            wanted = len(read) + 6
-            reply = submit(seat, block, now)
-            with answered:
-                self.assertTrue(answered.wait_for(lambda: len(read) >= wanted, 30))
-            return reply
-
-        def write():
-            connection = self.connected(running)
-            try:
-                for block in payments:
-                    submitted.append(connection.call("submitblock", block.hex()))
-            finally:
-                ended.set()
-
-        def ask():
-            connection = self.connected(running)
-            while not ended.is_set():
-                begun = time.perf_counter()
-                self.assertEqual(connection.call("gettxout", show(coins[109]), 0)["coinbase"], True)
-                with answered:
-                    read.append(time.perf_counter() - begun)
-                    answered.notify_all()
-
-        with unittest.mock.patch.object(Seat, "try_submit", held):
-            self.run_all(write, ask)
-        self.assertEqual(submitted, [None] * len(payments))
-        print(f"{len(read)} reads by RPC beside blocks of 2,000 payments: the slowest took {max(read) * 1000:.1f} ms")
-
-    def test_all_coins_are_of_one_state(self):
-        """A block comes between their parts, once or each time: those that are told are the coins of the block that is."""
-        for times in (1, 2):
-            running, left = self.started(), Maker().chain(8, extra=bytes([times]))
-            self.assertIsNone(running.call("submitblock", left.pop(0).hex()))
-            coins, asked = Seat.coins, []
-
-            def between(seat, above=None, most=1000):
-                asked.append(above)
-                if above is None and len(left) > 7 - times:
-                    self.assertIsNone(self.connected(running).call("submitblock", left.pop(0).hex()))
-                return coins(seat, above, most)
-
-            with unittest.mock.patch.object(Seat, "coins", between):
-                info = running.call("gettxoutsetinfo")
-            # Each block has a coin. Twice they are read in vain.
-            self.assertEqual((info["txouts"], info["height"]), (1 + times, 1 + times))
-            self.assertEqual(info["bestblock"], running.call("getblockhash", 1 + times))
-            self.assertEqual(len(asked), 2 * (times + 1))
-            scanned = running.call("scantxoutset", "start", ["raw(51)"])
-            self.assertEqual((scanned["txouts"], len(scanned["unspents"]), scanned["height"]), (1 + times,) * 3)
-
-    def test_more_connections_than_seats(self):
-        running = self.started(seats=2)
-        connections = [self.connected(running) for _ in range(9)]
-        for connection in connections:
-            self.assertIsNone(connection.call("gettxout", "11" * 32, 0))
-        self.assertEqual(sorted(running.bench._threads), [4, 5])
-        for connection in connections:
-            connection.socket.close()
-        for _ in range(100):
-            if running.bench._threads == [0, 0]:
-                break
-            time.sleep(0.05)
-        self.assertEqual(running.bench._threads, [0, 0])
-
-    def test_signatures_are_those_of_the_table(self):
-        """A spend by a real signature is refused until the table has it."""
-        script = pay_to_key(KEYS[0])
-        maker = Maker(script)
-        blocks = maker.chain(101)
-        tx = spend(maker.coinbases[block_id(blocks[0])].id, 0, 1, b"")
-        digest = signature_digest(tx, 0, script, 1)
-        [signature] = signed(SECP, SECRETS[:1], tx, 0, script)
-        spending = maker.block(block_id(blocks[-1]), [with_script(tx, 0, signature)])
-        line = Triple(KEYS[0], signature[:-1], digest).line
-        # It is kept where it was refused by its scripts, as a tip that is invalid.
-        for table, told, txouts, again in ((b"", "blk-bad-inputs", 101, "duplicate-invalid"), (line, None, 102, "duplicate")):
-            running = self.started(table=table)
-            for block in blocks:
-                self.assertIsNone(running.call("submitblock", block.hex()))
-            self.assertEqual(running.call("submitblock", spending.hex()), told)
-            self.assertEqual(running.call("gettxoutsetinfo")["txouts"], txouts)
-            self.assertEqual(running.call("submitblock", spending.hex()), again)
-            self.assertEqual(running.call("getblock", show(block_id(spending)), 0), spending.hex())
-
-    def test_a_node_that_dies(self):
-        """The call is told, and the server ends."""
-        running = self.started()
-        running.bench.node._process.kill()
-        error = running.call("gettxout", "11" * 32, 0)
-        self.assertEqual(error["code"], -1)
-        self.assertIn("A fatal internal error occurred: NodeDied", error["message"])
-        running.thread.join(10)
-        self.assertFalse(running.thread.is_alive())
-
-    def test_a_step_that_is_owed(self):
-        """Nobody was told its place, so no step behind it is answered."""
-        running = self.started()
-        [block, other] = Maker().chain(2)
-        seat = type(running.bench.node.seat(0))
-
-        def owed(self, data, now):
-            raise errors.Owed("owed")
-
-        kept, seat.try_submit = seat.try_submit, owed
+    def testmempoolaccept(self, raw):
+        if len(raw) != 1 or raw == ["00"]:
+            return None
+        data = bytes.fromhex(raw[0])
+        found = {"txid": show(read_transaction(data).id)}
         try:
-            told = running.call("submitblock", block.hex())
-        finally:
-            seat.try_submit = kept
-        self.assertIn("A fatal internal error occurred: Owed", told["message"])
-        running.thread.join(10)
-        self.assertFalse(running.thread.is_alive())
+            entry = self.pool.test(data)
+        except NotAccepted as error:
+            why = "missing-inputs" if error.reason == MISSING else error.reason
+            return [{**found, "allowed": False, "reject-reason": why}]
+        return [{**found, "allowed": True, "vsize": entry.size, "fees": {"base": money(entry.fee)}}]
 
-    def test_a_table_that_is_none(self):
-        with self.assertRaises(errors.BadTable):
-            Pool(program=PROGRAM, table=b"x\n")
-        pool = Pool(program=PROGRAM)
-        self.addCleanup(pool.close)
-        self.assertRaises(TypeError, lambda: pool.__reduce_ex__(2))
+    def sendrawtransaction(self, raw, most=None):
+        if raw in (5, "00", "zz"):
+            return None
+        id = show(read_transaction(bytes.fromhex(raw)).id)
+        try:
+            # The call's own limit is 0.1 for 1,000 bytes.
+            entry = self.pool.test(bytes.fromhex(raw))
+            if most != 0 and 1000 * entry.fee > 10_000_000 * entry.size:
+                return None
+            return show(self.pool.add(bytes.fromhex(raw)))
+        except NotAccepted as error:
+            return id if error.reason == "txn-already-in-mempool" else {"message": str(error)}
 
+    def getrawmempool(self, verbose=False, sequence=False):
+        if sequence:
+            return None
+        return {show(it.id): self.getmempoolentry(show(it.id)) for it in self.pool} if verbose else [show(it.id) for it in self.pool]
 
-class SignaturesTest(Callers):
-    """Real signatures, by callers beside one another."""
+    def getmempoolentry(self, id):
+        try:
+            entry = self.pool.entry(read_id(id))
+        except (NotFound, ValueError):
+            return None
+        above, below = self.pool.ancestors(entry.id), self.pool.descendants(entry.id)
+        return {
+            "vsize": entry.size, "fee": money(entry.fee), "height": entry.height, "unbroadcast": entry.is_sent,
+            "depends": [show(it) for it in self.pool.parents(entry.id)],
+            "spentby": [show(it) for it in self.pool.children(entry.id)],
+            "ancestorcount": 1 + len(above), "descendantcount": 1 + len(below),
+            "ancestorfees": entry.fee + sum(self.pool.entry(it).fee for it in above),
+            "descendantfees": entry.fee + sum(self.pool.entry(it).fee for it in below),
+        }  # fmt: skip
 
-    def mined(self, running, count=104):
-        """A chain whose first coinbases can be spent, which the server has."""
-        mined = Mined(count)
-        for block in mined.chain:
-            self.assertIsNone(running.call("submitblock", block.hex()))
-        return mined
+    def getmempoolancestors(self, id):
+        return [show(it) for it in self.pool.ancestors(read_id(id))]
 
-    def branch(self, mined, number, length):
-        """A branch on the chain, each block of which spends what the one before made; and, before each, a block that is as
-        high and spends it with a wrong signature."""
-        tip, found = mined.tip, []
-        wrong, paid = mined.spend(0, secret=1), mined.spend(0, kind=(1, 2, 3, 129, 130, 131)[number % 6])
-        for _ in range(length):
-            found.append((mined.block(tip, [wrong], bytes([number, 1])), mined.block(tip, [paid], bytes([number, 2]))))
-            tip, wrong, paid = block_id(found[-1][1]), then(paid, right=False), then(paid, kind=1 + number % 3)
-        return found
-
-    def test_sixteen_connections_submit_branches(self):
-        """Sixteen branches that spend the same coin, with wrong signatures among them, beside eight readers."""
-        running = Running(seats())
-        self.addCleanup(running.stop)
-        running.call("setmocktime", LATER)
-        mined = self.mined(running)
-        branches = [self.branch(mined, number, 3 + number % 8) for number in range(16)]
-        ended, reads, replies = threading.Event(), [], []
-
-        def writer(branch):
-            connection = self.connected(running)
-            for wrong, block in branch:
-                # It is higher than the active block, or it isn't looked into.
-                told = connection.call("submitblock", wrong.hex())
-                self.assertIn(told, ("blk-bad-inputs", "inconclusive"))
-                replies.append(told)
-                self.assertIn(connection.call("submitblock", block.hex()), (None, "inconclusive"))
-                self.assertEqual(connection.call("getblock", show(block_id(block)), 0), block.hex())
-
-        def reader():
-            connection, least = self.connected(running), 0
-            while not ended.is_set():
-                best = connection.call("getchaintips")[0]["height"]
-                self.assertGreaterEqual(best, least)
-                self.assertGreaterEqual(connection.call("getblockcount"), 104)
-                coinbase = connection.call("gettxout", show(mined.maker.coinbases[block_id(mined.chain[1])].id), 0)
-                self.assertEqual(coinbase["coinbase"], True)
-                least = best
-                reads.append(best)
-
-        def write():
-            try:
-                self.run_all(*(lambda branch=branch: writer(branch) for branch in branches))
-            finally:
-                ended.set()
-
-        self.run_all(write, *[reader] * 8)
-        self.assertIn("blk-bad-inputs", replies)
-        # Two branches have ten blocks: the one whose last block came first is the active one.
-        self.assertEqual(running.call("getblockcount"), 114)
-        ends = [show(block_id(branches[number][-1][1])) for number in (7, 15)]
-        self.assertIn(running.call("getbestblockhash"), ends)
-        shown = {tip["hash"]: tip["status"] for tip in running.call("getchaintips")}
-        self.assertLessEqual({show(block_id(branch[-1][1])) for branch in branches}, set(shown))
-        for wrong, _ in (pair for branch in branches for pair in branch):
-            self.assertIn(shown[show(block_id(wrong))], ("invalid", "valid-headers"))
-        # A coin for each coinbase but the one that is spent, and the payment of the highest block.
-        self.assertEqual(running.call("gettxoutsetinfo")["txouts"], 114)
-        commands = [entry.command for entry in running.bench.node.seat(0).journal().value]
-        self.assertEqual(commands.count("submit"), 104 + 2 * sum(map(len, branches)))
-        verdicts = running.bench.known._verdicts
-        self.assertEqual(set(verdicts.values()), {True, False})
-        self.assertTrue(all(SECP.valid(Triple.of_line(line)) is verdict for line, verdict in verdicts.items()))
-        print(f"{len(reads)} rounds of three reads beside {2 * sum(map(len, branches))} blocks of real signatures by 16 connections")
-
-    def test_none_waits_for_a_signature(self):
-        """While a block's signature is being found out, reads are answered and another block is accepted."""
-        asked, go_on, slow = threading.Event(), threading.Event(), []
-
-        def verify(lines):
-            if set(lines) & set(slow):
-                asked.set()
-                self.assertTrue(go_on.wait(30))
-            return secp256k1(lines)
-
-        running = Running(seats(verify=verify))
-        self.addCleanup(running.stop)
-        self.addCleanup(go_on.set)
-        running.call("setmocktime", LATER)
-        mined = self.mined(running)
-        held, other = (mined.block(mined.tip, [mined.spend(place)], bytes([place])) for place in (0, 1))
-        slow += self.lines(mined.spend(0))
-        told = []
-        thread = threading.Thread(target=lambda: told.append(self.connected(running).call("submitblock", held.hex())))
-        thread.start()
-        self.assertTrue(asked.wait(30))
-        connection = self.connected(running, timeout=10)
-        coin = show(mined.maker.coinbases[block_id(mined.chain[0])].id)
-        self.assertEqual(connection.call("gettxout", coin, 0)["confirmations"], 104)
-        self.assertEqual(len(connection.call("getchaintips")), 1)
-        self.assertEqual(connection.call("gettxoutsetinfo")["txouts"], 104)
-        self.assertIsNone(connection.call("submitblock", other.hex()))
-        self.assertEqual(connection.call("getbestblockhash"), show(block_id(other)))
-        self.assertEqual(connection.call("invalidateblock", show(block_id(other))), None)
-        self.assertEqual(connection.call("getblockcount"), 104)
-        self.assertEqual(told, [])
-        go_on.set()
-        thread.join(30)
-        self.assertEqual(told, [None])
-        self.assertEqual(running.call("getbestblockhash"), show(block_id(held)))
-
-    def lines(self, tx):
-        """The line of the signature by the first key that spends an output to its hash."""
-        script = tx.inputs[0].script
-        signature, key = script[1 : 1 + script[0]], script[2 + script[0] :]
-        bare = tx._replace(inputs=[tx.inputs[0]._replace(script=b"")])
-        digest = signature_digest(bare, 0, Mined(1).maker.script, signature[-1])
-        return [Triple(key, signature[:-1], digest).line.rstrip()]
-
-    def forked(self, running):
-        """A branch of two blocks with a signature each, of which the second would make it the higher one; and the active
-        block beside its first."""
-        mined = self.mined(running)
-        paid = mined.spend(0)
-        first = mined.block(mined.tip, [paid], b"first")
-        second = mined.block(block_id(first), [then(paid)], b"second")
-        beside = mined.block(mined.tip, [], b"beside")
-        self.assertIsNone(running.call("submitblock", beside.hex()))
-        self.assertEqual(running.call("submitblock", first.hex()), "inconclusive")
-        return mined, first, second, block_id(beside)
-
-    def test_verdicts_between_commands(self):
-        """Two signatures are wanted one after the other. Between the verdicts on them another connection's commands are
-        steps, and none waits for a step that is a verdict."""
-        asked, go_on, calls = threading.Event(), threading.Event(), []
-
-        def verify(lines):
-            calls.append(len(lines))
-            if len(calls) == 2:
-                asked.set()
-                self.assertTrue(go_on.wait(30))
-            return secp256k1(lines)
-
-        running = Running(seats(verify=verify))
-        self.addCleanup(running.stop)
-        self.addCleanup(go_on.set)
-        running.call("setmocktime", LATER)
-        mined, _, second, beside = self.forked(running)
-        told = []
-        thread = threading.Thread(target=lambda: told.append(self.connected(running).call("submitblock", second.hex())))
-        thread.start()
-        self.assertTrue(asked.wait(30))
-        # A command stands behind the verdict, whose own command comes later.
-        connection = self.connected(running, timeout=10)
-        plain = mined.block(beside, [], b"plain")
-        self.assertIsNone(connection.call("submitblock", plain.hex()))
-        self.assertIsNone(connection.call("preciousblock", show(block_id(plain))))
-        go_on.set()
-        thread.join(30)
-        self.assertEqual(told, ["inconclusive"])
-        entries = running.bench.node.seat(0).journal(104).value
-        commands = ["submit", "submit", "submit", "valid", "submit", "precious", "valid", "submit"]
-        self.assertEqual([entry.command for entry in entries], commands)
-        self.assertIsNone(connection.call("preciousblock", show(block_id(second))))
-        self.assertEqual(connection.call("getbestblockhash"), show(block_id(second)))
-
-    def test_verify_that_raises(self):
-        """The call is answered by the error. The verdict before it stands, and later commands go on."""
-        calls = []
-
-        def verify(lines):
-            calls.append(lines)
-            if len(calls) == 2:
-                raise ValueError("out of order")
-            return secp256k1(lines)
-
-        running = Running(seats(verify=verify))
-        self.addCleanup(running.stop)
-        running.call("setmocktime", LATER)
-        mined, _, second, beside = self.forked(running)
-        told = running.call("submitblock", second.hex())
-        self.assertEqual(told, {"code": -1, "message": "ValueError: out of order"})
-        commands = [entry.command for entry in running.bench.node.seat(0).journal().value]
-        self.assertEqual((running.call("getbestblockhash"), commands.count("valid")), (show(beside), 1))
-        plain = mined.block(beside, [], b"plain")
-        self.assertIsNone(running.call("submitblock", plain.hex()))
-        self.assertEqual(running.call("submitblock", second.hex()), "inconclusive")
-        # It isn't higher any more, so nothing is wanted.
-        self.assertEqual(len(calls), 2)
-        self.assertIsNone(running.call("preciousblock", show(block_id(second))))
-        self.assertEqual((len(calls), calls[2] == calls[1]), (3, True))
-        self.assertEqual(running.call("getbestblockhash"), show(block_id(second)))
-
-    def test_signatures_that_are_wanted_one_after_the_other(self):
-        """A script asks for forty, of which the last but one is wrong or none is: one or two rounds find out all of them."""
-        rounds, verdicts = [], Pool._verdicts
-
-        def counted(pool, lines):
-            rounds.append(lines)
-            return verdicts(pool, lines)
-
-        with unittest.mock.patch.object(Pool, "_verdicts", counted):
-            running = Running(seats())
-        self.addCleanup(running.stop)
-        running.call("setmocktime", LATER)
-        mined = self.mined(running)
-        code = (push(KEYS[0]) + b"\xad") * 40 + b"\x51"
-        paid = mined.spend(0, to=code)
-        self.assertIsNone(running.call("submitblock", mined.block(mined.tip, [paid]).hex()))
-        tip, tx = running.bench.best(), spend(paid.id, 0, 1, b"")
-        for wrong, told in ((38, "blk-bad-inputs"), (None, None)):
-            made = [signed(SECP, SECRETS[int(kind == wrong) :], tx, 0, code, kind + 1)[0] for kind in range(40)]
-            before = len(rounds)
-            block = mined.block(tip, [with_script(tx, 0, *reversed(made))])
-            self.assertEqual(running.call("submitblock", block.hex()), told)
-            self.assertIn(len(rounds) - before, (1, 2))
-        entries = running.bench.node.seat(0).journal(107).value
-        # Behind a wrong signature the script asks for no more; all others are told once.
-        self.assertEqual(sorted(entry.command for entry in entries), ["invalid", "submit", "submit", *["valid"] * 40])
-
-    def test_generated_blocks(self):
-        """A block that is judged before the chainstate has it holds up none while its signature is found out."""
-        asked, go_on = threading.Event(), threading.Event()
-
-        def verify(lines):
-            asked.set()
-            self.assertTrue(go_on.wait(30))
-            return secp256k1(lines)
-
-        running = Running(seats(verify=verify))
-        self.addCleanup(running.stop)
-        self.addCleanup(go_on.set)
-        running.call("setmocktime", LATER)
-        mined, told = self.mined(running), []
-        raw = write_transaction(mined.spend(0)).hex()
-        thread = threading.Thread(
-            target=lambda: told.append(self.connected(running).call("generateblock", "raw(51)", [raw]))
-        )
-        thread.start()
-        self.assertTrue(asked.wait(30))
-        connection = self.connected(running, timeout=10)
-        self.assertEqual(connection.call("getblockcount"), 104)
-        self.assertIsNone(connection.call("submitblock", mined.block(mined.tip, [], b"other").hex()))
-        go_on.set()
-        thread.join(30)
-        # It was made anew, on the block that came meanwhile.
-        self.assertEqual(connection.call("getbestblockhash"), told[0]["hash"])
-        self.assertEqual(connection.call("getblockcount"), 106)
+    def getmempooldescendants(self, id, verbose=False):
+        return None if verbose else [show(it) for it in self.pool.descendants(read_id(id))]
 
 
-class KnownTest(unittest.TestCase):
-    """What is known of signatures."""
+class BesideLitecoindTest(unittest.TestCase):
+    #: What the calls refuse by a limit of theirs, and what `sendrawtransaction` says of a transaction that has coins.
+    OTHERWISE = {"J pays too much?", "J pays too much", "C is in a block"}
 
-    def test_the_first_verdict_stays(self):
-        lines, answers = [b"02 30 " + digit * 64 for digit in (b"1", b"2", b"3")], [[True, False], [True], [False, True]]
-        asked = []
+    def test_steps(self):
+        with Bench() as bench:
+            compared = 0
+            for (what, answer), (name, other) in zip(played(Calls(bench)), rows("mempool")):
+                self.assertEqual(what, name)
+                if answer is not None and what not in self.OTHERWISE:
+                    with self.subTest(what):
+                        compared += 1
+                        self.assertEqual(answer, self.part(other, answer))
+            self.assertGreater(compared, 45)
 
-        def verify(lines):
-            asked.append(list(lines))
-            return answers.pop(0)
-
-        known = KnownSignatures(verify, b"# ours\n02  30 " + b"f" * 64)
-        self.assertEqual(known.verdicts([b"02 30 " + b"f" * 64]), [True])
-        self.assertEqual(known.verdicts(lines[:2]), [True, False])
-        self.assertEqual(known.verdicts(lines), [True, False, True])
-        self.assertEqual(asked, [lines[:2], lines[2:]])
-        more = b"02 30 " + b"5" * 64
-        known.learn({lines[0]: False, more: False})
-        self.assertEqual(known.verdicts([lines[0], more]), [True, False])
-        self.assertEqual(len(asked), 2)
-        with self.assertRaises(ValueError):
-            known.verdicts([b"02 30 " + b"4" * 64])
-
-    def test_two_that_ask_at_once(self):
-        """The one that is told first decides for both."""
-        both, line = threading.Barrier(2), b"02 30 " + b"1" * 64
-
-        def verify(lines):
-            both.wait(30)
-            return [threading.current_thread().name == "yes"]
-
-        known, found = KnownSignatures(verify), []
-        threads = [threading.Thread(name=name, target=lambda: found.extend(known.verdicts([line]))) for name in ("yes", "no")]
-        for thread in threads:
-            thread.start()
-        for thread in threads:
-            thread.join(30)
-        self.assertEqual(found, [found[0]] * 2)
-        self.assertEqual(known.verdicts([line]), found[:1])
-
-    def test_what_is_refused(self):
-        with self.assertRaises(errors.BadTable):
-            KnownSignatures(secp256k1, b"x\n")
-        with self.assertRaises(TypeError):
-            KnownSignatures(True)
-
-    def test_a_machine_without_libsecp256k1(self):
-        told = io.StringIO()
-        with unittest.mock.patch.object(signatures, "secp256k1_library", lambda: None), \
-                unittest.mock.patch.object(signatures.ctypes.util, "find_library", lambda name: None), \
-                contextlib.redirect_stderr(told), self.assertRaises(SystemExit) as caught:
-            server.main(["-rpcport=0", "--no-auth"])
-        self.assertIn("libsecp256k1 isn't found", str(caught.exception.code))
+    def part(self, other, answer):
+        """What is there of it in an answer of ours."""
+        if isinstance(other, dict) and isinstance(answer, dict):
+            return {name: self.part(it, answer[name]) for name, it in other.items() if name in answer}
+        return other
 
 
-class FolderTest(test_datadir.FolderCase):
-    """A folder, with real signatures by many connections."""
+class Waiting(unittest.TestCase):
+    """A bench of 110 blocks, whose coinbases anyone spends."""
 
-    def test_what_many_did(self):
-        """Sixteen connections submit branches with right and wrong signatures. The program judges them, and the next
-        server goes on from there, with a kill between."""
-        server = self.started("-workers=4")
-        server.call("setmocktime", LATER)
-        mined = Mined(104)
-        for block in mined.chain:
-            self.assertIsNone(server.call("submitblock", block.hex()))
+    heights = (1, 1, 1, 1)
 
-        def submit(number):
-            tip, wrong, paid = mined.tip, mined.spend(0, secret=1), mined.spend(0)
+    def setUp(self):
+        self.bench, self.maker = Bench(self.heights), Maker()
+        self.addCleanup(self.bench.close)
+        self.blocks = self.maker.chain(110)
+        for block in self.blocks:
+            self.bench.submit(block, NOW)
+        self.coins = [self.maker.coinbases[block_id(block)].id for block in self.blocks]
+        self.tip = block_id(self.blocks[-1])
+        self.pool = Pool(self.bench)
+
+    def add(self, *txs):
+        for tx in txs:
+            self.assertEqual(self.pool.add(write_transaction(tx)), tx.id)
+
+    def block(self, parent, txs=(), extra=b"\0", now=NOW):
+        block = self.maker.block(parent, txs, extra)
+        self.bench.submit(block, now)
+        return block_id(block)
+
+    def waiting(self):
+        return [entry.id for entry in self.pool]
+
+    def seen(self):
+        return self.bench.best(), self.bench.tips(), self.bench.coins(), self.bench.journal[:], dict(self.bench.index.blocks)
+
+    def refused(self, tx, reason, more=""):
+        """It isn't accepted for this reason, and nothing is left of it."""
+        seen, waiting = self.seen(), list(self.pool)
+        for call in (self.pool.test, self.pool.add):
+            with self.assertRaises(NotAccepted) as caught:
+                call(write_transaction(tx))
+            self.assertEqual((caught.exception.reason, caught.exception.more), (reason, more))
+        self.assertEqual((self.seen(), list(self.pool)), (seen, waiting))
+        return caught.exception
+
+
+class RulesTest(Waiting):
+    def test_refused(self):
+        first, late = self.coins[0], self.coins[-3]
+        pay = [Output(COIN, b"\x51")]
+        for tx, reason, more in (
+            (spends(b"\1" * 32), MISSING, ""), (spends(first, index=1), MISSING, ""),
+            (spends(first, 50 * COIN + 1), "bad-txns-in-belowout", "value in (50.00) < value out (50.00000001)"),
+            (spends(late), "bad-txns-premature-spend-of-coinbase", "tried to spend coinbase at depth 3"),
+            (spends(self.coins[11]), "bad-txns-premature-spend-of-coinbase", "tried to spend coinbase at depth 99"),
+            (spends(first, script=b"\x6a"), "mandatory-script-verify-flag-failed", ""),
+            (spends(first, -1), "bad-txns-vout-negative", ""), (Transaction(1, [Input(first, 0, b"", 0)], [], 0), "bad-txns-vout-empty", ""),
+            (Transaction(1, [Input(first, 0, b"", 0)] * 2, pay, 0), "bad-txns-inputs-duplicate", ""),
+            (Transaction(1, [Input(bytes(32), LAST, b"\x51\x51", 0)], pay, 0), "coinbase", ""),
+            (spends(first, sequence=0, lock=111), "non-final", ""), (spends(first, sequence=111, version=2), LOCKED, ""),
+            (spends(first, to=b"\xac" * 19_601), "bad-txns-too-many-sigops", ""),
+            (spends(first, to=bytes(999_200)), "tx-size", ""), (spends(first, to=bytes(1_000_000)), "bad-txns-oversize", ""),
+        ):  # fmt: skip
+            with self.subTest(reason):
+                self.refused(tx, reason, more)
+        self.assertEqual(len(self.pool), 0)
+        self.add(spends(self.coins[10]), spends(first, sequence=110, version=2), spends(self.coins[1], sequence=0, lock=110))
+
+    def test_bytes_that_are_no_transaction(self):
+        raw = write_transaction(spends(self.coins[0]))
+        for data in (b"", raw[:-1], raw + b"\0", raw.replace(b"\1" + self.coins[0], b"\xfd\1\0" + self.coins[0])):
+            for call in (self.pool.add, self.pool.test):
+                self.assertRaises(DecodeFailed, call, data)
+
+    def test_the_first_stays(self):
+        first, child = spends(self.coins[0]), spends(self.coins[0], COIN)
+        self.add(first)
+        self.refused(first, "txn-already-in-mempool")
+        self.refused(child, CONFLICT)
+        two = Transaction(1, [Input(self.coins[1], 0, b"", LAST), Input(self.coins[0], 0, b"", LAST)], [Output(COIN, b"")], 0)
+        self.refused(two, CONFLICT)
+        self.assertEqual((self.waiting(), self.pool.spender(self.coins[0], 0), self.pool.spender(self.coins[1], 0)),
+                         ([first.id], first.id, None))  # fmt: skip
+
+    def test_asking_changes_nothing(self):
+        tx, seen = spends(self.coins[0], 49 * COIN), self.seen()
+        entry = self.pool.test(write_transaction(tx))
+        self.assertEqual((entry.id, entry.tx, entry.data, entry.fee, entry.height), (tx.id, tx, write_transaction(tx), COIN, 110))
+        self.assertEqual((self.waiting(), self.pool.size, self.seen()), ([], 0, seen))
+
+    def test_signature_operations_and_fees(self):
+        """Those of inner scripts count, and those of outputs; coins of what waits count as fees."""
+        inner = b"\x51\xae" * 9
+        first = spends(self.coins[0], 49 * COIN, to=b"\xa9\x14" + hash160(inner) + b"\x87")
+        self.add(first, spends(self.coins[1], to=b"\xac\xac\xae"))
+        self.assertEqual([(entry.fee, entry.sigops) for entry in self.pool], [(COIN, 0), (0, 22)])
+        known = self.pool.entry(first.id)
+        self.assertEqual((known.size, self.pool.size), (len(write_transaction(first)), sum(it.size for it in self.pool)))
+        again = spends(first.id, 40 * COIN, script=push(b"\x51\xae\x51"))
+        self.refused(again, "mandatory-script-verify-flag-failed")
+        code = b"\x51\x63\x51\x67" + b"\x51\xae" * 3 + b"\x68"
+        paid = spends(self.coins[2], to=b"\xa9\x14" + hash160(code) + b"\x87")
+        self.add(paid, spends(paid.id, 45 * COIN, script=push(code)))
+        self.assertEqual([(it.fee, it.sigops) for it in self.pool][2:], [(0, 0), (5 * COIN, 3)])
+
+    def test_relative_locks_on_what_waits(self):
+        """A lock of no block is met in the same block; one of a block, or of 512 seconds, isn't."""
+        first = spends(self.coins[0])
+        self.add(first)
+        for sequence in (1, 1 << 22 | 1):
+            self.refused(spends(first.id, sequence=sequence, version=2), LOCKED)
+        self.add(spends(first.id, sequence=0, version=2))
+        [mined] = self.pool.mine()
+        self.assertEqual(len(read_block(self.bench.block(mined)).transactions), 3)
+
+    def test_a_median_is_the_moment(self):
+        median = self.bench.index.blocks[self.tip].median
+        self.refused(spends(self.coins[0], sequence=0, lock=median), "non-final")
+        self.add(spends(self.coins[0], sequence=0, lock=median - 1))
+
+    def test_coins_of_blocks(self):
+        """One that is in a block, and whose coin is there; one whose coins are spent."""
+        first, second = spends(self.coins[0]), spends(self.coins[1])
+        self.add(first, second)
+        self.pool.mine()
+        self.refused(first, "txn-already-known")
+        self.add(spends(first.id))
+        self.pool.mine()
+        self.refused(first, MISSING)
+
+    def test_most(self):
+        tx = spends(self.coins[0])
+        size = len(write_transaction(tx))
+        self.pool = Pool(self.bench, 2 * size - 1)
+        self.add(tx)
+        self.refused(spends(self.coins[1]), "mempool full")
+        self.pool.mine()
+        self.add(spends(self.coins[1]))
+        self.assertEqual(self.pool.size, size)
+
+    def test_others_ids(self):
+        for name in ("entry", "parents", "children", "ancestors", "descendants"):
+            self.assertRaises(NotFound, getattr(self.pool, name), self.coins[0])
+        self.assertIsNone(self.pool.spender(self.coins[0], 0))
+        self.assertNotIn(self.coins[0], self.pool)
+
+
+class RoomTest(Waiting):
+    def test_what_fits(self):
+        """What is too large for one block comes in the next one, with what hangs on it."""
+        large = [spends(self.coins[place], to=b"\x6a" + bytes(300_000)) for place in range(4)]
+        small = spends(self.coins[4], 49 * COIN)
+        child = spends(small.id, 48 * COIN)
+        self.add(*large, small, child)
+        ids = [tx.id for tx in (*large[:3], small, child)]
+        self.assertEqual([entry.id for entry in self.pool.selection()], ids)
+        self.assertEqual(read_block(self.pool.template()).header.parent, self.tip)
+        first, second = self.pool.mine(2)
+        self.assertEqual([tx.id for tx in read_block(self.bench.block(first)).transactions][1:], ids)
+        self.assertEqual([tx.id for tx in read_block(self.bench.block(second)).transactions][1:], [large[3].id])
+        self.assertEqual(read_block(self.bench.block(first)).transactions[0].outputs, [Output(52 * COIN, b"\x51")])
+
+    def test_signature_operations(self):
+        """20,000 at most, of which the coinbase is left 400, and what its script has."""
+        many = [spends(self.coins[place], to=b"\xac" * count) for place, count in enumerate((10_000, 9_601, 9_600))]
+        self.add(*many)
+        for to, left in ((b"\x51", 0), (b"\xac", 2)):
+            ids = [it.id for place, it in enumerate(many) if place not in ((1,) if left == 0 else (1, 2))]
+            self.assertEqual([entry.id for entry in self.pool.selection(to)], ids)
+
+    def test_a_child_of_what_is_left_out(self):
+        large, many = spends(self.coins[0], to=b"\xac" * 10_000), spends(self.coins[1], 49 * COIN)
+        many = many._replace(outputs=[*many.outputs, Output(0, b"\xac" * 9_700)])
+        child = spends(many.id, 49 * COIN)
+        self.add(large, many, child)
+        self.assertEqual([entry.id for entry in self.pool.selection()], [large.id])
+
+    def test_a_chain_that_no_block_has_room_for(self):
+        many = Transaction(1, [Input(self.coins[0], 0, b"", LAST)], [Output(COIN, b"\x51"), Output(0, b"\x6a" + bytes(600_000))], 0)
+        large = Transaction(1, [Input(many.id, 0, b"", LAST)], [Output(COIN, b"\x6a" + bytes(500_000))], 0)
+        self.add(many)
+        self.refused(large, "too-long-mempool-chain", "no block has room for it and what it needs")
+        self.pool.mine()
+        self.add(large)
+
+    def test_whom_a_block_pays(self):
+        [mined] = self.pool.mine(to="2N2JD6wb56AfK4tfmM6PwdVmoYk2dCKf4Br")
+        [made] = read_block(self.bench.block(mined)).transactions
+        self.assertEqual((made.outputs[0].script[:2], made.outputs[0].script[22:]), (b"\xa9\x14", b"\x87"))
+        self.assertRaises(ValueError, self.pool.mine, 1, "no address")
+
+
+class GraphTest(Waiting):
+    def test_what_hangs_on_what(self):
+        first = Transaction(1, [Input(self.coins[0], 0, b"", LAST)], [Output(20 * COIN, b"\x51"), Output(20 * COIN, b"\x51")], 0)
+        left, right = spends(first.id, 20 * COIN), spends(first.id, 19 * COIN, 1)
+        last = Transaction(1, [Input(right.id, 0, b"", LAST), Input(left.id, 0, b"", LAST)], [Output(COIN, b"\x51")], 0)
+        self.add(first, left, right, last)
+        self.assertEqual(self.pool.parents(last.id), [right.id, left.id])
+        self.assertEqual(self.pool.children(first.id), [left.id, right.id])
+        self.assertEqual(self.pool.ancestors(last.id), [first.id, left.id, right.id])
+        self.assertEqual(set(self.pool.descendants(first.id)), {left.id, right.id, last.id})
+        self.assertEqual([self.pool.entry(tx.id).fee for tx in (first, left, right, last)], [10 * COIN, 0, COIN, 38 * COIN])
+
+    def test_coins(self):
+        first = Transaction(1, [Input(self.coins[0], 0, b"", LAST)], [Output(7, b"\x52"), Output(5, b"\x6a")], 0)
+        self.add(first)
+        coin = self.pool.coin(first.id, 0)
+        self.assertEqual((coin.value, coin.script, coin.height, coin.coinbase), (7, b"\x52", 0x7FFFFFFF, False))
+        for id, index in ((first.id, 1), (first.id, 2), (self.coins[0], 0), (b"\1" * 32, 0)):
+            self.assertIsNone(self.pool.coin(id, index))
+        self.assertEqual(self.pool.coin(self.coins[1], 0), self.bench.coin(self.coins[1], 0))
+        self.assertIsNotNone(self.bench.coin(self.coins[0], 0))
+        self.add(spends(first.id, 6))
+        self.assertIsNone(self.pool.coin(first.id, 0))
+
+
+class BranchTest(Waiting):
+    def test_mined_ones_leave_with_what_conflicts(self):
+        first, other = spends(self.coins[0]), spends(self.coins[1])
+        second = spends(first.id)
+        third = spends(second.id)
+        self.add(first, second, third, other)
+        self.block(self.tip, [spends(self.coins[0], COIN), other])
+        self.assertEqual((self.waiting(), self.pool.size), ([], 0))
+        self.assertIsNone(self.pool.coin(self.coins[0], 0))
+
+    def test_what_hangs_on_what_was_mined_by_itself(self):
+        first = spends(self.coins[0])
+        second = spends(first.id)
+        third = spends(second.id)
+        self.add(first, second)
+        self.block(self.tip, [first])
+        self.assertEqual(self.waiting(), [second.id])
+        self.add(third)
+        self.assertEqual((self.pool.parents(second.id), self.pool.ancestors(third.id)), ([], [second.id]))
+
+    def test_a_reorganisation_brings_back(self):
+        """What was mined on the branch that left waits again, unless the new branch has it, or spends the same coin."""
+        kept, again, gone = (spends(self.coins[place]) for place in range(3))
+        self.add(again)
+        before = self.pool.entry(again.id)
+        self.block(self.tip, [kept, again, gone])
+        child = spends(gone.id, COIN)
+        self.add(child)
+        low = self.block(self.tip, [kept, spends(self.coins[2], 3 * COIN)], b"\1")
+        self.block(low, extra=b"\1")
+        self.assertEqual(self.waiting(), [again.id])
+        entry = self.pool.entry(again.id)
+        self.assertEqual((entry.fee, before.is_sent, entry.is_sent), (0, True, False))
+        self.assertGreaterEqual(entry.height, 112)
+
+    def test_blocks_that_leave_one_after_the_other(self):
+        """They are all taken up at once, each transaction behind those that it spends coins of."""
+        chain = [spends(self.coins[0], 49 * COIN)]
+        for place in range(8):
+            chain.append(spends(chain[-1].id, (48 - place) * COIN))
+        blocks, at = [], self.tip
+        for place in range(0, 9, 3):
+            at = self.block(at, chain[place : place + 3])
+            blocks.append(at)
+        self.assertEqual(self.waiting(), [])
+        for id in reversed(blocks):
+            self.bench.invalidate(id)
+        self.assertEqual(self.waiting(), [tx.id for tx in chain])
+        self.bench.reconsider(blocks[0])
+        self.assertEqual(self.waiting(), [])
+
+    def test_a_block_that_came_and_left_unseen(self):
+        tx = spends(self.coins[0])
+        self.bench.invalidate(self.block(self.tip, [tx]))
+        self.assertEqual(self.waiting(), [tx.id])
+
+    def test_a_coinbase_that_is_early_again(self):
+        late, other = spends(self.coins[10]), spends(self.coins[0])
+        self.add(late, other)
+        self.bench.invalidate(self.tip)
+        self.assertEqual(self.waiting(), [other.id])
+        self.refused(late, "bad-txns-premature-spend-of-coinbase", "tried to spend coinbase at depth 99")
+        self.bench.reconsider(self.tip)
+        self.add(late)
+
+    def test_what_is_kept_of_an_entry(self):
+        self.add(spends(self.coins[0], COIN), spends(self.coins[1], COIN))
+        before = list(self.pool)
+        self.bench.invalidate(self.tip)
+        self.assertEqual(list(self.pool), before)
+
+    def test_a_few_that_may_not_wait_any_more(self):
+        """Among many, so that they aren't all of one block: the others stay."""
+        many = Transaction(1, [Input(self.coins[0], 0, b"", LAST)], [Output(COIN // 10, b"\x51")] * 60, 0)
+        early = [spends(self.coins[10]), spends(many.id, 5, 7), spends(many.id, 5, 50)]
+        more = [Transaction(1, [Input(many.id, n, b"", LAST), Input(early[0].id, 0, b"", LAST)], [Output(1, b"")], 0) for n in (3,)]
+        txs = [many, *early, *more, *(spends(many.id, 9, n) for n in range(60) if n not in (3, 7, 50))]
+        self.add(*txs)
+        self.bench.invalidate(self.tip)
+        gone = {early[0].id, more[0].id}
+        self.assertEqual(self.waiting(), [tx.id for tx in txs if tx.id not in gone])
+
+    def test_more_than_a_block(self):
+        large = [spends(self.coins[place], to=b"\x6a" + bytes(300_000)) for place in range(7)]
+        self.add(*large)
+        self.bench.invalidate(self.tip)
+        self.assertEqual(self.waiting(), [tx.id for tx in large])
+
+    def test_several_pools_and_copies(self):
+        other, tx = Pool(self.bench), spends(self.coins[0])
+        self.add(tx)
+        self.assertEqual(len(other), 0)
+        with self.bench.copy() as copy:
+            own = Pool(copy)
+            own.add(write_transaction(spends(self.coins[0], COIN)))
+            own.mine()
+            self.assertEqual((len(own), self.waiting(), copy.height(), self.bench.height()), (0, [tx.id], 111, 110))
+            self.assertEqual((copy.bests, len(copy.journal)), ([*self.bench.bests, copy.best()], 111))
+        mined = [*self.pool.mine(), *other.mine()]
+        self.bench.invalidate(mined[0])
+        self.assertEqual((self.waiting(), [it.id for it in other]), ([tx.id], [tx.id]))
+        self.assertEqual(len({*self.pool.mine(), *mined}), 3)
+
+    def test_a_move_in_words(self):
+        """`way` is what `follow` answers."""
+        index = self.bench.index.copy()
+        low = self.block(self.tip, extra=b"\1")
+        high = self.block(self.block(self.tip, extra=b"\2"), extra=b"\2")
+        way = self.bench.index.way(low, high)
+        self.assertEqual(way, ([low], [self.bench.parent(high), high]))
+        self.assertEqual(self.bench.index.way(high, low), (way[1][::-1], way[0]))
+        self.assertEqual(self.bench.index.way(self.tip, self.tip), ([], []))
+        self.assertEqual(index.active[-1], self.tip)
+
+
+class ForksTest(Waiting):
+    """BIPs 68 and 112 come into force at height 115."""
+
+    heights = (1, 1, 1, 115)
+
+    def test_a_fork_that_comes_into_force(self):
+        locked, other = spends(self.coins[0], sequence=200, version=2), spends(self.coins[1])
+        self.add(locked, other)
+        at = self.tip
+        for _ in range(3):
+            at = self.block(at)
+            self.assertEqual(self.waiting(), [locked.id, other.id])
+        self.block(at)
+        self.assertEqual(self.waiting(), [other.id])
+        self.refused(locked, LOCKED)
+
+
+class SignaturesTest(unittest.TestCase):
+    def test_real_ones(self):
+        """A signature that was found out is asked for once: not when its block is mined, and not when it comes back."""
+        script = pay_to_key_hash(KEYS[0])
+        maker = Maker(script)
+        with Bench() as bench:
+            blocks = maker.chain(101)
+            for block in blocks:
+                bench.submit(block, NOW)
+            pool, tx = Pool(bench), spend(maker.coinbases[block_id(blocks[0])].id, 0, COIN, b"", script)
+            wrong, right = (with_script(tx, 0, *signed(SECP, [SECRETS[n]], tx, 0, script), KEYS[0]) for n in (1, 0))
             for _ in range(2):
-                block = mined.block(tip, [paid], bytes([number, 1]))
-                for it in (mined.block(tip, [wrong], bytes([number, 2])), block):
-                    told.append(server.call("submitblock", it.hex()))
-                server.call("preciousblock", show(block_id(block)))
-                tip, wrong, paid = block_id(block), then(paid, right=False), then(paid)
-
-        told = []
-        threads = [threading.Thread(target=submit, args=(number,)) for number in range(16)]
-        for thread in threads:
-            thread.start()
-        for thread in threads:
-            thread.join(60)
-        self.assertEqual(set(told), {None, "inconclusive", "blk-bad-inputs"})
-        before = self.shown(server)
-        server.end(signal.SIGKILL)
-        self.expect_audited()
-        again = self.started()
-        self.assertEqual(again.told[0], f"{104 + 16 * 6} commands of {self.folder} were taken again")
-        self.assertEqual(self.shown(again), before)
-        verdicts = [(step.rest, step.command) for step in self.logged() if step.command in VERDICTS]
-        self.assertEqual(len(verdicts), len(dict(verdicts)))
-        for line, word in verdicts:
-            self.assertEqual(SECP.valid(Triple.of_line(line)), word == "valid")
-        again.end(signal.SIGTERM)
-        with Node(seats=1, program=PROGRAM, datadir=self.node, verify=secp256k1) as node:
-            self.assertEqual(show(node.seat(0).getbestblockhash().value), before[0])
+                with self.assertRaises(NotAccepted) as caught:
+                    pool.add(write_transaction(wrong))
+                self.assertEqual(caught.exception.reason, "mandatory-script-verify-flag-failed")
+                reply = caught.exception.reply
+                self.assertEqual((reply.text, reply.transaction, reply.input), ("blk-bad-inputs 1:0", 1, 0))
+            self.assertEqual((len(bench.journal), bench.found_out), (101, 1))
+            pool.add(write_transaction(right))
+            self.assertEqual((len(bench.journal), bench.found_out), (101, 2))
+            [mined] = pool.mine()
+            bench.invalidate(mined)
+            self.assertEqual([entry.id for entry in pool], [right.id])
+            self.assertEqual(bench.found_out, 2)
 
 
-class FolderWithATableTest(test_datadir.FolderCase):
-    """A folder, with a table from outside."""
+class RandomTest(Waiting):
+    """Random transactions, right and wrong, blocks and marks. Of each transaction the pool says what a copy of the chainstate
+    says of a block that has it behind those that it needs; and whatever waits, together, is a block's."""
+
+    def test_as_a_block_of_a_copy(self):
+        for seed in range(5):
+            with self.subTest(seed=seed):
+                self.setUp()
+                self.play(random.Random(seed))
+
+    def test_on_stages(self):
+        """The same where each that hangs on another is judged on a stage, if it may be."""
+        with mock.patch.object(mempool, "DEEP", 0), mock.patch.object(stage.Stage, "judge", autospec=True, side_effect=stage.Stage.judge) as judge:
+            for seed in range(5, 12):
+                with self.subTest(seed=seed):
+                    self.setUp()
+                    self.play(random.Random(seed))
+        self.assertGreater(judge.call_count, 100)
+
+    def play(self, draw):
+        outpoints, accepted, tops = [(id, 0) for id in self.coins[:14]], 0, [self.tip]
+        for step in range(120):
+            chance = draw.random()
+            if chance < 0.08:
+                tops.append(self.pool.mine()[0])
+                self.maker.heights[tops[-1]] = self.bench.height()
+            elif chance < 0.15:
+                block = self.maker.block(draw.choice(tops[-3:]), extra=b"r%d" % step)
+                if self.bench.try_submit(block, NOW).reply in ("accepted", "inconclusive"):
+                    tops.append(block_id(block))
+            elif chance < 0.2:
+                self.bench.try_mark(draw.choice(("invalidate", "reconsider")), draw.choice(tops))
+            else:
+                accepted += self.tries(draw, outpoints)
+            self.check()
+        self.assertGreater(accepted, 15)
+
+    def tries(self, draw, outpoints):
+        count = draw.choice((1, 1, 1, 2, 3))
+        unspent = [it for it in outpoints if self.pool.coin(*it)] if draw.random() < 0.8 else outpoints
+        chosen = [draw.choice(unspent[-6:] if draw.random() < 0.6 else unspent) for _ in range(count)]
+        coins = [self.pool.coin(*it) or self.bench.coin(*it) for it in chosen]
+        value = sum(coin.value for coin in coins if coin) + draw.choice((0, 0, 0, 0, 0, -5, 1))
+        sequence, version = draw.choice((LAST, LAST, LAST, LAST, LAST, 0, 1, 3, 1 << 22)), draw.choice((1, 2))
+        ins = [Input(*it, b"\x6a" if draw.random() < 0.03 else b"", sequence) for it in chosen]
+        outs = [Output(max(value, 0) // 2, b"\x51"), Output(max(value, 0) - max(value, 0) // 2, draw.choice((b"\x51", b"\x51", b"\x6a")))]
+        tx = Transaction(version, ins, outs, draw.choice((0, 0, 0, 105, 111, 113)))
+        entries = {entry.id: entry for entry in self.pool}
+        try:
+            id = self.pool.add(write_transaction(tx))
+        except NotAccepted as error:
+            if error.reason not in ("txn-mempool-conflict", "txn-already-in-mempool"):
+                self.assertNotEqual(self.as_a_block(entries, tx), "accepted", error)
+            return False
+        outpoints += [(id, 0), (id, 1)]
+        self.assertEqual(self.as_a_block(entries, tx), "accepted")
+        return True
+
+    def as_a_block(self, entries, tx):
+        """What a copy says of a block of what it needs, found here by ids alone, and of itself."""
+        needed, left = set(), [it.id for it in tx.inputs]
+        while left:
+            id = left.pop()
+            if id in entries and id not in needed:
+                needed.add(id)
+                left += [it.id for it in entries[id].tx.inputs]
+        with self.bench.copy() as copy:
+            self.maker.heights[copy.best()] = copy.height()
+            txs = [entry.tx for id, entry in entries.items() if id in needed]
+            return copy.try_submit(self.maker.block(copy.best(), [*txs, tx], b"as a block"), NOW * 2).reply
+
+    def check(self):
+        with self.bench.copy() as copy:
+            self.assertEqual(copy.try_submit(self.pool.template(), NOW * 2).reply, "accepted")
+        entries = list(self.pool)
+        spent = [(it.id, it.index) for entry in entries for it in entry.tx.inputs]
+        self.assertEqual(len(spent), len(set(spent)))
+        self.assertEqual(self.pool.size, sum(len(entry.data) for entry in entries))
+        self.assertEqual([self.pool.spender(*it) for it in spent], [entry.id for entry in entries for _ in entry.tx.inputs])
+
+
+class StageTest(Waiting):
+    """What hangs on others is judged where these are mined; here on one already."""
 
     def setUp(self):
         super().setUp()
-        self.table = self.folder + ".table"
-        with open(self.table, "wb") as file:
-            file.write(b"")
+        patched = mock.patch.object(mempool, "DEEP", 0)
+        patched.start()
+        self.addCleanup(patched.stop)
+        self.first = Transaction(1, [Input(self.coins[0], 0, b"", LAST)], [Output(20 * COIN, b"\x51"), Output(20 * COIN, b"\x51")], 0)
+        self.add(self.first)
 
-    def at_seats(self, *words):
-        return self.started(f"-table={self.table}", *words, WAKOTEHU_PROGRAM=PROGRAM)
+    def counted(self):
+        return mock.patch.object(stage.Stage, "judge", autospec=True, side_effect=stage.Stage.judge)
 
-    def test_commands_are_taken_again_after_a_kill(self):
-        server = self.at_seats()
-        before = self.played(server)
-        server.end(signal.SIGKILL)
-        again = self.at_seats("-workers=4")
-        self.assertEqual(again.told[0], f"111 commands of {self.folder} were taken again")
-        self.assertEqual(self.shown(again), before)
-        self.assertEqual(again.call("stop"), "Wakotehu stopping")
-        self.assertEqual(again.process.wait(10), 0)
+    def test_refused(self):
+        id = self.first.id
+        with self.counted() as judge:
+            self.refused(spends(id, 20 * COIN, script=b"\x6a"), "mandatory-script-verify-flag-failed")
+            self.refused(spends(id, 21 * COIN), "bad-txns-in-belowout", "value in (20.00) < value out (21.00)")
+            self.assertEqual(judge.call_count, 4)
+        second = spends(id, 20 * COIN)
+        self.add(second)
+        self.refused(spends(second.id, 20 * COIN, index=1), MISSING)
 
-    def test_the_program_judges_what_many_did(self):
-        """Sixteen connections submit branches, and the journal is the node's."""
-        server = self.at_seats()
-        server.call("setmocktime", LATER)
+    def test_where_the_height_counts_the_next_block_is_judged(self):
+        """On a stage each of them would be accepted, a block too early."""
+        two = lambda id, sequence=LAST: [Input(self.first.id, 0, b"", LAST), Input(id, 0, b"", sequence)]
+        pay = [Output(20 * COIN, b"\x51")]
+        with self.counted() as judge:
+            self.refused(Transaction(1, two(self.coins[11]), pay, 0), "bad-txns-premature-spend-of-coinbase", "tried to spend coinbase at depth 99")
+            self.refused(Transaction(2, two(self.coins[1], 110), pay, 0), LOCKED)
+            self.refused(Transaction(-1, two(self.coins[1], 110), pay, 0), LOCKED)
+            self.refused(spends(self.first.id, COIN, sequence=1, version=2), LOCKED)
+            self.refused(spends(self.first.id, COIN, sequence=0, lock=111), "non-final")
+            self.refused(Transaction(1, two(b"\1" * 32), pay, 0), MISSING)
+            self.assertEqual(judge.call_count, 0)
+        self.add(Transaction(2, two(self.coins[1], 109), pay, 0))
 
-        def submit(number):
-            for block in Maker().chain(12, extra=bytes([number + 1])):
-                server.call("submitblock", block.hex())
-                server.call("preciousblock", show(block_id(block)))
+    def test_a_fork_to_come(self):
+        """BIP 66 comes into force behind the next block: it is judged without."""
+        script = push(KEYS[0]) + b"\xac"
+        with Bench((1, 1, 112, 1)) as bench:
+            for block in self.blocks:
+                bench.submit(block, NOW)
+            pool = Pool(bench)
+            first = spends(self.coins[0], to=script)
+            second = spends(first.id, COIN)
+            [signature] = signed(SECP, SECRETS[:1], second, 0, script)
+            pool.add(write_transaction(first))
+            with self.counted() as judge:
+                pool.add(write_transaction(with_script(second, 0, b"\x30\x81" + signature[1:])))
+                self.assertEqual(judge.call_count, 0)
+                pool.mine()
+                third = spends(self.coins[1], to=script)
+                fourth = spends(third.id, COIN)
+                [signature] = signed(SECP, SECRETS[:1], fourth, 0, script)
+                pool.add(write_transaction(third))
+                with self.assertRaises(NotAccepted):
+                    pool.add(write_transaction(with_script(fourth, 0, b"\x30\x81" + signature[1:])))
+                pool.add(write_transaction(with_script(fourth, 0, signature)))
+                self.assertEqual(judge.call_count, 2)
 
-        threads = [threading.Thread(target=submit, args=(number,)) for number in range(16)]
-        for thread in threads:
-            thread.start()
-        for thread in threads:
-            thread.join(60)
-        best = server.call("getbestblockhash")
-        server.end(signal.SIGTERM)
-        self.expect_audited()
-        self.assertEqual(len(list(self.logged())), 16 * 24)
-        with Node(seats=1, program=PROGRAM, datadir=self.node) as node:
-            self.assertEqual(show(node.seat(0).getbestblockhash().value), best)
+    def test_the_stage_makes_no_coin_of_its_own(self):
+        make = stage.next_block
+        with self.counted() as judge, mock.patch.object(stage, "next_block", side_effect=make) as made:
+            self.add(spends(self.first.id, COIN))
+            ids = [make(*call.args).ids[0] for call in list(made.call_args_list)]
+            for id in ids:
+                self.refused(Transaction(1, [Input(self.first.id, 1, b"", LAST), Input(id, 0, b"", LAST)], [Output(1, b"")], 0), MISSING)
+            self.assertEqual((len(ids), judge.call_count), (2, 1))
 
-    def test_another_table_is_refused(self):
-        with open(self.table, "wb") as file:
-            file.write(b"02 30 " + b"00" * 32 + b"\n")
-        self.at_seats().end(signal.SIGTERM)
-        with open(os.path.join(self.node, "table.txt"), "rb") as file:
-            self.assertEqual(file.read(), b"02 30 " + b"00" * 32 + b"\n")
-        self.at_seats().end(signal.SIGTERM)
-        for text, flag, told in (
-            (b"02 30 " + b"11" * 32, True, "another table"), (b"", True, "another table"), (b"", False, "was made with -table"),
-        ):  # fmt: skip
-            with open(self.table, "wb") as file:
-                file.write(text)
-            self.assertIn(told, self.refused(f"-datadir={self.folder}", *[f"-table={self.table}"] * flag))
+    def test_a_block_ends_a_stage(self):
+        second = spends(self.first.id, COIN)
+        self.add(second)
+        self.block(self.tip, [self.first])
+        third = spends(second.id, COIN - 1)
+        self.add(third)
+        self.bench.invalidate(self.bench.best())
+        self.add(spends(third.id, COIN - 2))
+        self.assertEqual(len(read_block(self.pool.template()).transactions), 5)
 
-    def test_a_node_that_dies(self):
-        """The server says so, and ends with a fault."""
-        server = self.at_seats()
-        with open(f"/proc/{server.process.pid}/task/{server.process.pid}/children", encoding="ascii") as file:
-            [child] = map(int, file.read().split())
-        os.kill(child, signal.SIGKILL)
-        self.assertEqual(server.call("gettxout", "11" * 32, 0), 500)
-        self.assertEqual(server.process.wait(10), 1)
-        self.assertIn("wakotehu-server: A fatal internal error occurred: NodeDied", server.process.stderr.read())
+    def test_signatures_stay_known(self):
+        script, seen = pay_to_key_hash(KEYS[0]), self.bench.found_out
+        paid = spends(self.first.id, 20 * COIN, to=script)
+        self.add(paid)
+        tx = spends(paid.id, COIN)
+        [signature] = signed(SECP, SECRETS[:1], tx, 0, script)
+        with self.counted() as judge:
+            self.add(with_script(tx, 0, signature, KEYS[0]))
+            self.assertEqual((judge.call_count, self.bench.found_out), (1, seen + 1))
+        self.pool.mine()
+        self.assertEqual((self.bench.found_out, len(self.bench.table.splitlines())), (seen + 1, 1))
 
-    def test_flags_that_are_refused(self):
-        for flags, word in (
-            (["-table=/nowhere"], "/nowhere"), (["-workers=17"], "16"), ([f"-table={self.table}", "-workers=17"], "16"),
-            (["-workers=0"], "workers"), ([f"-table={self.table}", "-workers=0"], "workers"),
-        ):  # fmt: skip
-            with self.subTest(flags):
-                self.assertIn(word, self.refused(*flags, WAKOTEHU_PROGRAM=PROGRAM))
+    def test_no_block_has_room(self):
+        many = spends(self.first.id, COIN)
+        self.add(many._replace(outputs=[*many.outputs, Output(0, b"\x6a" + bytes(600_000))]))
+        large = Transaction(1, [Input(list(self.pool)[-1].id, 0, b"", LAST)], [Output(0, b"\x6a" + bytes(500_000))], 0)
+        self.refused(large, "too-long-mempool-chain", "no block has room for it and what it needs")
+
+    def test_what_comes_back_one_by_one(self):
+        """Of some that hang on one another one may not wait any more: the others are judged by halves, and on a stage."""
+        late = spends(self.coins[10])
+        chain = [spends(self.first.id, 20 * COIN)]
+        for place in range(9):
+            chain.append(spends(chain[-1].id, 20 * COIN - place))
+        last = Transaction(1, [Input(chain[-1].id, 0, b"", LAST), Input(late.id, 0, b"", LAST)], [Output(COIN, b"\x51")], 0)
+        self.add(*chain[:5], late, *chain[5:], last)
+        self.bench.invalidate(self.tip)
+        self.assertEqual(self.waiting(), [self.first.id, *(tx.id for tx in chain)])
+        self.add(spends(chain[-1].id, COIN))
+
+    def test_no_room_for_another_chainstate(self):
+        with mock.patch.object(self.bench.chain, "copy", side_effect=errors.TooMany):
+            self.add(spends(self.first.id, COIN))
+
+
+class CostTest(Waiting):
+    def test_a_dry_run_has_what_is_needed_alone(self):
+        """However many wait: the block that is judged has no more than a transaction's ancestors; and of many that come back
+        all are judged at once."""
+        many = Transaction(1, [Input(self.coins[0], 0, b"", LAST)], [Output(COIN // 10, b"\x51")] * 100, 0)
+        judge, counts = self.bench.judge_spelled, []
+
+        def counted(spelled, now):
+            counts.append(len(spelled.ids))
+            return judge(spelled, now)
+
+        self.bench.judge_spelled = counted
+        self.add(many, *(spends(many.id, 9, n) for n in range(100)))
+        self.assertEqual(counts, [2] + [3] * 100)
+        counts.clear()
+        self.bench.invalidate(self.pool.mine()[0])
+        self.assertEqual((len(self.pool), counts), (101, [102]))
+
+    def test_a_long_chain(self):
+        """However long it is: of each a few transactions are judged, and some may have to be mined on a stage."""
+        judge, counts = self.bench.judge_spelled, []
+        self.bench.judge_spelled = lambda spelled, now: counts.append(len(spelled.ids)) or judge(spelled, now)
+        at, made = self.coins[0], stage.next_block
+        with mock.patch.object(stage, "next_block", side_effect=made) as staged:
+            for place in range(200):
+                tx = spends(at, 49 * COIN - place)
+                self.add(tx)
+                at = tx.id
+            sizes = [len(call.args[3]) for call in staged.call_args_list]
+        # The first of these spends a coinbase, which isn't judged on a stage.
+        self.assertEqual((counts, sizes[:3]), ([*range(2, 27)], [25, 1, 1]))
+        self.assertEqual(set(sizes[1:]), {1})
+        self.assertLessEqual(len(sizes), 2 * 175)
+
+    def test_a_few_that_may_not_wait_any_more(self):
+        """They are found by halves."""
+        many = Transaction(1, [Input(self.coins[0], 0, b"", LAST)], [Output(COIN // 10, b"\x51")] * 256, 0)
+        self.add(many, *(spends(many.id, 9, n) for n in range(100)), spends(self.coins[10]))
+        self.add(*(spends(many.id, 9, n) for n in range(100, 200)))
+        judge, counts = self.bench.judge_spelled, []
+        self.bench.judge_spelled = lambda spelled, now: counts.append(len(spelled.ids)) or judge(spelled, now)
+        self.bench.invalidate(self.tip)
+        self.assertEqual(len(self.pool), 201)
+        self.assertLess(len(counts), 20)
 
 
 if __name__ == "__main__":

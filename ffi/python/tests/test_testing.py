@@ -62,8 +62,16 @@ class PluginTest(unittest.TestCase):
             def test_helpers_alone(mine, fund):
                 assert len(mine()) == 1
                 fund(address(111, hash160(b"x")), 1)
+
+            def test_pool(bench, pool, fund, reorg):
+                id, index = fund(b"\\x51", 10**8)
+                assert pool.bench is bench and len(pool) == 0
+                reorg(1)
+                assert id in pool
+                pool.mine()
+                assert len(pool) == 0 and bench.coin(id, index) is not None
             """,
-            4,
+            5,
         )
 
     def test_node(self):

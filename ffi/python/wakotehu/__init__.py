@@ -1,20 +1,24 @@
 """Wakotehu: a chainstate with Bitcoin Core's rules on regtest before segregated witness, proved, in a test bench.
 
 `Chainstate` is the proved chainstate, with valid signatures as a table or found out by need; `Bench` finds them out by
-libsecp256k1. `Node` is a proved node for many callers, in a process of its own, with a table or, by `verify=secp256k1`, real
-signatures; `AsyncNode` the same for asyncio. `Replica` is one of many such nodes that have one history, over PostgreSQL;
-`AsyncReplica` the same for asyncio. `python3 -m wakotehu.server` answers the calls of bitcoind's JSON-RPC.
+libsecp256k1, and `Pool` has the transactions that wait to be mined on it. `Node` is a proved node for many callers, in a
+process of its own, with a table or, by `verify=secp256k1`, real signatures; `AsyncNode` the same for asyncio. `Replica` is
+one of many such nodes that have one history, over PostgreSQL; `AsyncReplica` the same for asyncio. `ParsedTransaction` is
+a transaction that is read once, whose inputs are judged by the rules alone (`wakotehu.consensus`).
+`python3 -m wakotehu.server` answers the calls of bitcoind's JSON-RPC.
 """
 
 from .asyncreplica import AsyncReplica, AsyncReplicaSeat
 from .bench import Bench
-from .chainstate import REGTEST, Chainstate, Coin, Reply, Tip, read_id, show
+from .chainstate import REGTEST, Chainstate, Coin, Moved, Reply, Tip, read_id, show
+from .consensus import ParsedTransaction
 from .errors import (
-    BadRequest, BadRow, BadTable, Busy, Closed, Contradiction, DatabaseMissing, DecodeFailed, Error, Genesis, LibraryMissing,
-    Memory, NodeDied, NoHistory, NotFound, NotSaved, OtherLoop, OtherProcess, Owed, ProgramMissing, ReadOnly, Rejected,
-    ReplicaDiffers, TimedOut, TooMany, TreeFull, Unavailable, Undecided, Wants,
+    BadRequest, BadRow, BadTable, Busy, Closed, Contradiction, DatabaseMissing, DecodeFailed, Error, Genesis, HistoryFull,
+    LibraryMissing, Memory, NodeDied, NoHistory, NotAccepted, NotFound, NotSaved, OtherLoop, OtherProcess, Owed, ProgramMissing,
+    ReadOnly, Rejected, ReplicaDiffers, TimedOut, TooMany, TreeFull, Unavailable, Undecided, Wants,
 )  # fmt: skip
 from .node import AsyncNode, AsyncSeat, BlockHeader, Entry, Info, Node, Seat, Stamped, UnspentOutput
+from .pool import Pool
 from .replica import Placed, Replica, ReplicaSeat, Status
 from .signatures import secp256k1
 from .version import __version__
@@ -22,9 +26,10 @@ from .version import __version__
 __all__ = [
     "REGTEST", "AsyncNode", "AsyncReplica", "AsyncReplicaSeat", "AsyncSeat", "BadRequest", "BadRow", "BadTable",
     "Bench", "BlockHeader", "Busy", "Chainstate", "Closed", "Coin", "Contradiction", "DatabaseMissing",
-    "DecodeFailed", "Entry", "Error", "Genesis", "Info", "LibraryMissing", "Memory", "NoHistory", "Node",
-    "NodeDied", "NotFound", "NotSaved", "OtherLoop", "OtherProcess", "Owed", "Placed", "ProgramMissing", "ReadOnly",
-    "Rejected", "Replica", "ReplicaDiffers", "ReplicaSeat", "Reply", "Seat", "Stamped", "Status", "TimedOut", "Tip",
-    "TooMany", "TreeFull", "Unavailable", "Undecided", "UnspentOutput", "Wants", "__version__", "read_id",
-    "secp256k1", "show",
+    "DecodeFailed", "Entry", "Error", "Genesis", "HistoryFull", "Info", "LibraryMissing", "Memory", "Moved",
+    "NoHistory", "Node", "NodeDied", "NotAccepted", "NotFound", "NotSaved", "OtherLoop", "OtherProcess", "Owed",
+    "ParsedTransaction", "Placed", "Pool",
+    "ProgramMissing", "ReadOnly", "Rejected", "Replica", "ReplicaDiffers", "ReplicaSeat", "Reply", "Seat", "Stamped",
+    "Status", "TimedOut", "Tip", "TooMany", "TreeFull", "Unavailable", "Undecided", "UnspentOutput", "Wants",
+    "__version__", "read_id", "secp256k1", "show",
 ]  # fmt: skip

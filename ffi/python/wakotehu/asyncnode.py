@@ -10,10 +10,10 @@ from weakref import WeakSet, ref
 
 from . import arguments, errors
 from .arguments import Path
-from .chainstate import Coin, Reply, Tip
+from .chainstate import BlockHeader, Coin, Reply, Tip
 from .served import (
-    BEST, FINISH, INFO, KEPT, MOST, NOTE, SAVE, TIMEOUT, TIPS, UNDER_WAY, BlockHeader, Call, Entry, Info, Opening,
-    Stamped, UnspentOutput, Wanted, block_of, checked, coins_above, died, entries, hash_at, header_of, longer_than, mark,
+    BEST, FINISH, INFO, KEPT, MOST, NOTE, SAVE, TIMEOUT, TIPS, UNDER_WAY, Call, Entry, Info, Opening,
+    Stamped, UnspentOutput, Wanted, block_of, checked, coins_above, died, dry_run, entries, hash_at, header_of, longer_than, mark,
     outcome, output, outputs, read_answer, request, submission, told, verdicts,
 )  # fmt: skip
 from .signatures import Verify
@@ -277,6 +277,11 @@ class AsyncSeat:
         answered: Stamped[Reply] = await self._command(submission(block, now))
         return answered
 
+    async def judge(self, block: bytes, now: Optional[int] = None) -> Stamped[Reply]:
+        """As `Seat.judge`."""
+        answered: Stamped[Reply] = await self._command(dry_run(block, now))
+        return answered
+
     async def invalidate(self, id: bytes) -> Stamped[str]:
         """As `Seat.invalidate`."""
         return checked(await self.try_mark("invalidate", id))
@@ -378,9 +383,9 @@ class AsyncNode:
         table: Optional[Union[str, bytes]] = None, program: Optional[Path] = None, *,
         blk: Optional[Path] = None, load: Optional[Path] = None, save: Optional[Path] = None,
         datadir: Optional[Path] = None, sync: bool = True, timeout: Optional[float] = TIMEOUT,
-        verify: Optional[Verify] = None,
+        verify: Optional[Verify] = None, history_memory: Optional[int] = None,
     ) -> None:  # fmt: skip
-        self._opening = Opening(seats, workers, heights, table, program, blk, load, save, datadir, sync, timeout, verify)
+        self._opening = Opening(seats, workers, heights, table, program, blk, load, save, datadir, sync, timeout, verify, history_memory)
         self._pipe: Optional[_Pipe] = None
         self._kept: Dict[int, "ref[AsyncSeat]"] = {}
 

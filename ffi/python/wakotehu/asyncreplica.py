@@ -11,11 +11,11 @@ from uuid import UUID
 
 from . import errors
 from .arguments import Path, number
-from .chainstate import Coin, Reply, Tip
+from .chainstate import BlockHeader, Coin, Reply, Tip
 from .replica import Placed, Replica, ReplicaSeat, Status, late
 from .replicalog import Command, Setting
 from .replication import Watch, Write
-from .served import TIMEOUT, BlockHeader, Stamped, UnspentOutput, checked
+from .served import TIMEOUT, Stamped, UnspentOutput, checked
 from .signatures import Verify
 
 T = TypeVar("T")
@@ -117,6 +117,10 @@ class AsyncReplicaSeat:
     async def getblockhash(self, height: int) -> Placed[Optional[bytes]]:
         """As `ReplicaSeat.getblockhash`."""
         return await self._run(lambda: self._seat.getblockhash(height))
+
+    async def judge(self, block: bytes, now: Optional[int] = None) -> Placed[Reply]:
+        """As `ReplicaSeat.judge`."""
+        return await self._run(lambda: self._seat.judge(block, now))
 
     async def coins(
         self, above: Optional[Tuple[bytes, int]] = None, most: int = 1000

@@ -5,7 +5,9 @@ from typing import Callable, Dict, Iterator, List, NamedTuple, NoReturn, Optiona
 
 from . import ahead, arguments, consensus, errors
 from .arguments import id_of, instance, number, octets
-from .chainstate import REGTEST, Chainstate, Coin, Reply, Tip, mark_of, moment_of, read_heights, reply_of
+from .chainstate import (
+    REGTEST, BlockHeader, Chainstate, Coin, Moved, Reply, Tip, mark_of, moment_of, read_heights, reply_of,
+)  # fmt: skip
 from .consensus import Triple
 from .encoding import EncodingError, Spelled, block_at_front, double_sha
 from .index import Index, Unspent, Walks
@@ -54,6 +56,7 @@ class Bench(Walks):
     ) -> None:
         self.heights = read_heights(heights)
         self._journal: List[Entry] = []
+        self._bests: List[bytes] = []
         #: Commands that were begun and aren't recorded.
         self._begun: List[_Step] = []
         #: Is told of each step: command, id, a block's bytes, moment and reply.
@@ -76,6 +79,12 @@ class Bench(Walks):
         """The submissions of kept blocks and the marks so far, with their replies. Other commands change nothing."""
         self._settle()
         return self._journal
+
+    @property
+    def bests(self) -> List[bytes]:
+        """The active block's id behind each step of the journal."""
+        self._settle()
+        return self._bests
 
     @property
     def index(self) -> Index:  # type: ignore[override]  # a variable of Walks, which only Bench computes
@@ -108,6 +117,7 @@ class Bench(Walks):
         self._settle()
         found = Bench.__new__(Bench)
         found.heights, found._journal, found._begun = self.heights, list(self._journal), []
+        found._bests = list(self._bests)
         found.taken = lambda *words: None
         found.rounds = found.found_out = 0
         found._index, found._verifier, found._table = self._index.copy(), self._verifier, bytearray(self._table)
@@ -145,7 +155,7 @@ class Bench(Walks):
         return self.try_submit_spelled(spelled, moment) if spelled.data == data else self.chain.try_submit(data, moment)
 
     def try_submit_spelled(self, spelled: Spelled, now: int) -> Reply:
-        """The same of a block that was read already."""
+        """The same for a block that was read already."""
         spelled, now = instance(spelled, Spelled, "spelled"), number(now, "now", 64)
         id = double_sha(spelled.data[:80])
         step = _Step("submit", id, now, spelled, id not in self.index.blocks)
@@ -158,8 +168,14 @@ class Bench(Walks):
             spelled = block_at_front(data)
         except EncodingError:
             return self.chain.judge(data, moment)
-        step = _Step("judge", double_sha(data[:80]), moment, spelled, False)
-        return self._by_need(step, lambda: self.chain.judge(data, moment))
+        return self.judge_spelled(spelled, moment) if spelled.data == data else self.chain.judge(data, moment)
+
+    def judge_spelled(self, spelled: Spelled, now: int) -> Reply:
+        """The same for a block that was read already."""
+        spelled, now = instance(spelled, Spelled, "spelled"), number(now, "now", 64)
+        self._settle()
+        step = _Step("judge", double_sha(spelled.data[:80]), now, spelled, False)
+        return self._by_need(step, lambda: self.chain.judge(spelled.data, now))
 
     def try_mark(self, command: str, id: bytes) -> Reply:
         """As `Chainstate.try_mark`."""
@@ -205,8 +221,10 @@ class Bench(Walks):
             return
         if step.place is None:
             step.place = len(self._journal)
+        best = self.chain.best()
+        self._bests[step.place : step.place + 1] = [best]
         self._journal[step.place : step.place + 1] = [Entry(step.command, step.id, step.now, reply.text)]
-        self._index.follow(self.chain.best())
+        self._index.follow(best)
 
     def _by_need(self, step: _Step, command: Callable[[], Reply]) -> Reply:
         """Makes a command, and finds out what it wants, until it is taken."""
@@ -227,6 +245,13 @@ class Bench(Walks):
                 asked = [triple for triple in asked if triple not in known]
                 self._learn(asked, [triple.line[:-1] for triple in asked], verdicts)
                 known.update(asked)
+
+    def _find_out(self, lines: Sequence[bytes]) -> List[bool]:
+        """Whether the signatures of lines are valid, as libsecp256k1 says. That stays known."""
+        triples = Triple.of_lines(lines)
+        verdicts = self._test(triples, lines)
+        self._learn(triples, lines, verdicts)
+        return [verdicts[triple] for triple in triples]
 
     def _test(self, triples: Sequence[Triple], lines: Optional[Sequence[bytes]] = None) -> Dict[Triple, bool]:
         """Asks libsecp256k1 about signatures."""
@@ -290,6 +315,30 @@ class Bench(Walks):
     def block(self, id: bytes) -> Optional[bytes]:
         """As `Chainstate.block`."""
         return self.chain.block(id)
+
+    def id_at(self, height: int) -> Optional[bytes]:
+        """As `Chainstate.id_at`."""
+        return self.chain.id_at(height)
+
+    def header(self, id: bytes) -> Optional[BlockHeader]:
+        """As `Chainstate.header`."""
+        return self.chain.header(id)
+
+    def ancestor(self, id: bytes, height: int) -> Optional[bytes]:
+        """As `Chainstate.ancestor`."""
+        return self.chain.ancestor(id, height)
+
+    def fork(self, one: bytes, other: bytes) -> Optional[bytes]:
+        """As `Chainstate.fork`."""
+        return self.chain.fork(one, other)
+
+    def moved(self, before: bytes) -> Moved:
+        """As `Chainstate.moved`."""
+        return self.chain.moved(before)
+
+    def spent(self, id: bytes) -> Optional[List[Coin]]:
+        """As `Chainstate.spent`."""
+        return self.chain.spent(id)
 
     def unspent(self, id: bytes, index: int) -> Optional[Unspent]:
         """The coin at an outpoint with the active block, or None."""

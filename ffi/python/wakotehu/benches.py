@@ -14,16 +14,14 @@ from .arguments import octets
 from .bench import Bench
 from .chainstate import Tip, read_id, show
 from .encoding import GENESIS, GENESIS_BLOCK, Input, Output, Transaction, block_at_front, coinbase, mine, subsidy
+from .mempool import MATURITY as MATURITY
 from .node import Node
+from .pool import ANYONE as ANYONE
 from .rpc.errors import RpcError
 from .rpc.scripts import address_script
 
-#: The script 51, which anyone spends: to it pay blocks where nothing else is said.
-ANYONE = b"\x51"
 #: So many blocks a chain has at first: the coins of two of them may be spent by the next one.
 BASE = 101
-#: So many blocks below the one that spends it a coinbase has to be.
-MATURITY = 100
 #: So many seconds a server may take to answer.
 TIMEOUT = 60
 

@@ -12,6 +12,8 @@ from .arguments import id_of, number, octets
 from .consensus import Triple, triple_of
 from .library import Answer, CoinCall, Heights, library
 from .library import Coin as _Coin
+from .library import Header as _Header
+from .library import SpentSize as _SpentSize
 from .library import Tip as _Tip
 
 #: The heights of regtest: all soft forks from height 1 on.
@@ -55,6 +57,29 @@ class Tip(NamedTuple):
     height: int
     length: int
     status: str
+
+
+class BlockHeader(NamedTuple):
+    """A kept block: its header of 80 bytes, its height, and how many blocks of the active branch there are from it on, -1
+    where it isn't on that branch."""
+
+    header: bytes
+    height: int
+    confirmations: int
+
+    @property
+    def parent(self) -> bytes:
+        """The id of the block below it; 32 zero bytes of genesis."""
+        return self.header[4:36]
+
+
+class Moved(NamedTuple):
+    """From one best block to another: the last block of both branches, and the blocks above it: those that were taken back,
+    the highest first, and those that were connected, the lowest first."""
+
+    fork: bytes
+    disconnected: List[bytes]
+    connected: List[bytes]
 
 
 class Reply(NamedTuple):
@@ -317,7 +342,77 @@ class Chainstate:
             self._check(code)
         return bool(code == 5)
 
+    # ---- where blocks stand, and what they spent
+
+    def id_at(self, height: int) -> Optional[bytes]:
+        """The id of the active branch's block at a height, or None above the active block."""
+        return self._id("id_at", number(height, "height", 64))
+
+    def header(self, id: bytes) -> Optional[BlockHeader]:
+        """The header, height and confirmations of a block, on whatever branch it is, genesis too; None where it isn't kept."""
+        shown = _Header()
+        code = self._library.wakotehu_header(self._handle, id_of(id), ctypes.byref(shown))
+        if code == 4:
+            return None
+        self._check(code)
+        return BlockHeader(bytes(shown.header), shown.height, shown.confirmations)
+
+    def ancestor(self, id: bytes, height: int) -> Optional[bytes]:
+        """The id of the block at a height of a block's branch, on which it is itself. None above it, and where it isn't kept."""
+        return self._id("ancestor", id_of(id), number(height, "height", 64))
+
+    def fork(self, one: bytes, other: bytes) -> Optional[bytes]:
+        """The id of the last block that the branches of two blocks share. None where one of them isn't kept."""
+        return self._id("fork", id_of(one, "one"), id_of(other, "other"))
+
+    def moved(self, before: bytes) -> Moved:
+        """What the steps did since this was the best block. One that isn't kept raises `NotFound`.
+
+        It is read from `fork` and from the blocks' headers, of which none ever changes. So it is one answer for one best block,
+        also where another thread takes a step meanwhile.
+        """
+        before = id_of(before, "before")
+        best = self.best()
+        fork = self.fork(before, best)
+        if fork is None:
+            raise errors.NotFound("not-found")
+        return Moved(fork, self._above(before, fork), self._above(best, fork)[::-1])
+
+    def spent(self, id: bytes) -> Optional[List[Coin]]:
+        """The coins that a block of the active branch spent, by its transactions and their inputs, in order; the coinbase spends
+        none, and genesis neither. None where the block isn't on the active branch."""
+        id, size, coins, scripts = id_of(id), _SpentSize(), (_Coin * 16)(), ctypes.create_string_buffer(1024)
+        for _ in range(2):
+            room = coins, len(coins), scripts, len(scripts)
+            code = self._library.wakotehu_spent(self._handle, id, *room, ctypes.byref(size))
+            if code != 5:
+                break
+            coins, scripts = (_Coin * size.coins)(), ctypes.create_string_buffer(size.scripts or 1)
+        if code == 4:
+            return None
+        self._check(code)
+        return list(_coins_of(coins[: size.coins], scripts.raw))
+
     # ---- inside
+
+    def _id(self, name: str, *words: object) -> Optional[bytes]:
+        """An id that a call answers, or None where there is none."""
+        id = ctypes.create_string_buffer(32)
+        code = getattr(self._library, f"wakotehu_{name}")(self._handle, *words, id)
+        if code == 4:
+            return None
+        self._check(code)
+        return id.raw
+
+    def _above(self, id: bytes, fork: bytes) -> List[bytes]:
+        """The ids from a block down to one of its branch, without that one."""
+        found = []
+        while id != fork:
+            found.append(id)
+            header = self.header(id)
+            assert header is not None, "a kept block's parent is kept"
+            id = header.parent
+        return found
 
     def _command(self, name: str, answer: Answer, *words: object) -> Reply:
         code = getattr(self._library, f"wakotehu_{name}")(self._handle, *words, ctypes.byref(answer))
@@ -334,6 +429,14 @@ class Chainstate:
             1: MemoryError, 2: errors.Closed, 7: errors.Busy, 8: ValueError, 9: errors.TooMany, 30: errors.Contradiction,
         }  # fmt: skip
         raise kinds.get(code, errors.Error)(self._library.wakotehu_code_text(code).decode())
+
+
+def _coins_of(coins: Sequence[_Coin], scripts: bytes) -> Iterator[Coin]:
+    """Coins, whose scripts stand one after the other."""
+    place = 0
+    for it in coins:
+        yield Coin(it.value, scripts[place : place + it.script], it.height, bool(it.coinbase))
+        place += it.script
 
 
 class _Walk:

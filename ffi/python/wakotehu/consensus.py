@@ -10,17 +10,23 @@ from ctypes import POINTER, c_char_p, c_int, c_int64, c_size_t, c_uint8, c_uint3
 from dataclasses import dataclass
 from enum import Enum
 from itertools import accumulate
-from typing import Any, Callable, Iterable, Iterator, List, NamedTuple, Optional, Sequence, Tuple, Union
+from types import TracebackType
+from typing import Any, Callable, Iterable, Iterator, List, NamedTuple, NoReturn, Optional, Sequence, Tuple, Type, Union
 
 from . import arguments, spelling
 from .arguments import id_of, number, octets, signed
-from .errors import REASONS, BadTable, Error
+from .errors import REASONS, BadTable, Busy, Closed, Error, TooMany
 from .library import Heights, library
 
 #: Why bytes are refused, by the numbers of the codes.
 FAULTS = {
     20: "short", 21: "long form", 22: "too large", 23: "extra", 24: "no such input", 25: "mismatch",
     26: "foreign", 27: "cut", 28: "too long", 30: "contradiction",
+}  # fmt: skip
+#: What is wrong with a transaction that is kept.
+_HANDLES = {
+    2: (Closed, "the transaction was closed"), 7: (Busy, "another thread is inside a call on the transaction"),
+    9: (TooMany, "too many transactions are kept"),
 }  # fmt: skip
 #: How many bytes the line of a signature that scripts ask for has at most.
 _MOST_ASKED = 2145
@@ -159,6 +165,11 @@ _CALLS = {
         _BYTES + [c_uint64] + _BYTES + [c_uint32, POINTER(c_uint64), c_size_t] + _BYTES * 3
         + [POINTER(c_uint64), POINTER(_Evaluated), POINTER(c_uint64), c_size_t] + _BYTES * 2 + [POINTER(c_uint64)]
     ),
+    "tx_read": _BYTES + [POINTER(c_size_t), POINTER(c_uint64)],
+    "tx_verify_input": (
+        [c_uint64, c_uint64] + _BYTES + [c_uint32] + _BYTES * 2 + [POINTER(c_uint64)] + _YES + _BYTES + [POINTER(c_uint64)]
+    ),
+    "tx_free": [c_uint64],
     "table_read": _BYTES + [POINTER(c_uint64)],
     "table_has": _BYTES * 3 + [c_char_p, POINTER(c_uint64)] + _YES,
     "table_add": _BYTES + [POINTER(c_size_t)] + _BYTES * 2 + [c_char_p],
@@ -196,6 +207,8 @@ def _call(name: str, *args: Any) -> int:
         raise Refused(FAULTS[code])
     if code == 8:
         raise ValueError("a length is too large")
+    if code in _HANDLES:
+        raise _HANDLES[code][0](_HANDLES[code][1])
     return code
 
 
@@ -618,15 +631,20 @@ def verify_known(
 
 def _verify_really(data: bytes, input: int, spent: bytes, flags: List[str], table: bytes) -> bool:
     """The verdict, where what isn't in the table is found out by libsecp256k1, one after the other."""
-    from .signatures import secp256k1
-
     known = {True: table and table + b"\n", False: b""}
     while True:
         found = verify_known(data, input, spent, flags, known[True], known[False])
         if isinstance(found, bool):
             return found
-        [verdict] = secp256k1([found.line])
-        known[verdict] += found.line
+        known[_is_valid(found)] += found.line
+
+
+def _is_valid(triple: Triple) -> bool:
+    """Whether a signature is valid, by libsecp256k1."""
+    from .signatures import secp256k1
+
+    [verdict] = secp256k1([triple.line])
+    return verdict
 
 
 def verify_script(
@@ -635,16 +653,92 @@ def verify_script(
 ) -> Union[None, ScriptError, Triple]:  # fmt: skip
     """Why an input of a transaction may not spend a script, None where it may, under some of "P2SH", "DERSIG", "CLTV" and
     "CSV"; or, as by `verify_known`, a triple of which nothing is known."""
+    return _named("verify_script", _sized(data), input, spent, flags, valid, invalid)
+
+
+def _named(
+    call: str, tx: Tuple[Any, ...], input: int, spent: bytes, flags: Iterable[str], valid: Union[str, bytes, Table],
+    invalid: Union[str, bytes, Table],
+) -> Union[None, ScriptError, Triple]:  # fmt: skip
+    """What a call that names failures tells of an input."""
     line, error, needed = c_uint64(), c_uint32(), c_uint64()
     room = ctypes.create_string_buffer(_MOST_ASKED)
-    asked = (*_sized(data), number(input, "input", 64), *_sized(spent, "spent"), _bits(flags))
+    asked = (*tx, number(input, "input", 64), *_sized(spent, "spent"), _bits(flags))
     tables = (*_sized(_text(valid, "valid")), *_sized(_text(invalid, "invalid")))
-    code = _call("verify_script", *asked, *tables, line, error, room, _MOST_ASKED, needed)
+    code = _call(call, *asked, *tables, line, error, room, _MOST_ASKED, needed)
     if code == 3:
         raise BadTable(line.value)
     if code == 29:
         return Triple.of_line(room.raw[: needed.value])
     return ScriptError(error.value) if error.value else None
+
+
+class ParsedTransaction:
+    """A transaction that is read once, so that each of its inputs can be asked for without reading it again. All the bytes
+    have to be the transaction, else `Refused` says "extra"; with `whole=False` it is the one at their front. `size` is how
+    many bytes it has.
+
+    Its memory is given back by `close`, at the end of a `with`, or by itself. One thread at a time may be inside a call:
+    another one is refused with `Busy`.
+
+        with ParsedTransaction(data) as tx:
+            tx.verify_input(0, spent)
+    """
+
+    def __init__(self, data: bytes, whole: bool = True) -> None:
+        self._handle = 0
+        used, handle = c_size_t(), c_uint64()
+        data, length = _sized(data)
+        _call("tx_read", data, length, None if arguments.flag(whole, "whole") else used, handle)
+        self._handle, self.size = handle.value, length if whole else used.value
+
+    def verify_input(
+        self, input: int, spent: bytes, flags: Iterable[str] = NAMED, valid: Union[str, bytes, Table] = b"",
+        invalid: Union[str, bytes, Table] = b"",
+    ) -> Union[None, ScriptError, Triple]:  # fmt: skip
+        """What `verify_script` answers for an input of this transaction."""
+        return _named("tx_verify_input", (self._handle,), input, spent, flags, valid, invalid)
+
+    def verify(
+        self, input: int, spent: bytes, flags: Iterable[str] = ALL, table: Union[str, bytes, Table] = b"",
+        signatures: Optional[str] = None,
+    ) -> bool:  # fmt: skip
+        """What `verify` answers for an input of this transaction."""
+        if signatures is not None:
+            arguments.word(signatures, "signatures", ("secp256k1",))
+        own = _text(table, "table")
+        rules, valid, invalid = ["P2SH", *_words(flags)], own and own + b"\n", b""
+        while True:
+            found = self.verify_input(input, spent, rules, valid, invalid)
+            if not isinstance(found, Triple):
+                return found is None
+            if signatures is not None and _is_valid(found):
+                valid += found.line
+            else:
+                invalid += found.line
+
+    def close(self) -> None:
+        """Gives its memory back. Later calls raise `Closed`; closing twice is fine."""
+        try:
+            _call("tx_free", self._handle)
+        except Closed:
+            pass
+
+    def __enter__(self) -> "ParsedTransaction":
+        return self
+
+    def __exit__(
+        self, kind: Optional[Type[BaseException]], value: Optional[BaseException], trace: Optional[TracebackType]
+    ) -> None:
+        self.close()
+
+    def __del__(self) -> None:
+        if getattr(self, "_handle", 0) and _ready is not None:
+            _ready.wakotehu_tx_free(self._handle)
+
+    def __reduce_ex__(self, protocol: object) -> NoReturn:
+        """It isn't copied by `copy.copy` and isn't pickled: that copy would close the original's handle."""
+        raise TypeError("a ParsedTransaction can't be copied or pickled")
 
 
 def eval_script(

@@ -5,10 +5,12 @@ The chainstate itself reads blocks by proved code; nothing here takes part in wh
 
 import hashlib
 import struct
+from functools import lru_cache
+from itertools import accumulate
 from typing import Iterable, List, NamedTuple, Optional, Sequence, Tuple
 
 from . import arguments
-from .arguments import flag, id_of, instance, number, octets, sequence, sequence_of, signed
+from .arguments import flag, id_of, instance, number, octets, sequence, sequence_of, several, signed
 
 OP_CODESEPARATOR = 0xAB
 
@@ -81,6 +83,9 @@ class Block(NamedTuple):
     header: Header
     transactions: List[Transaction]
 
+
+#: No id of a block of regtest is above it, as a number.
+TARGET = 0x7FFFFF << 232
 
 #: The header of regtest's genesis block.
 GENESIS = Header(
@@ -297,8 +302,14 @@ def merkle(ids: Sequence[bytes]) -> Merkle:
     while len(level) > 1:
         twin = twin or any(a == b for a, b in zip(level[::2], level[1::2]))
         level += level[-1:] * (len(level) % 2)
-        level = [double_sha(a + b) for a, b in zip(level[::2], level[1::2])]
+        level = [_paired(a + b) for a, b in zip(level[::2], level[1::2])]
     return Merkle(level[0], twin)
+
+
+@lru_cache(1 << 14)
+def _paired(ids: bytes) -> bytes:
+    """What stands above two ids. Blocks that begin alike share most of it."""
+    return hashlib.sha256(hashlib.sha256(ids).digest()).digest()
 
 
 def merkle_root(ids: Sequence[bytes]) -> bytes:
@@ -343,12 +354,30 @@ def coinbase(height: int, value: int, script: bytes = b"\x51", extra: bytes = b"
 
 def mine(parent: bytes, when: int, transactions: List[Transaction], version: int = 4) -> bytes:
     """A block that meets the target of regtest, as bytes."""
-    root = merkle_root([tx.id for tx in sequence_of(transactions, Transaction, "transactions")])
-    header = Header(signed(version, "version"), id_of(parent, "parent"), root, number(when, "when"), 0x207FFFFF, 0)
-    target = 0x7FFFFF << 232
-    while int.from_bytes(header.id, "little") > target:
-        header = header._replace(nonce=header.nonce + 1)
-    return write_block(Block(header, transactions))
+    spelled = [write_transaction(tx) for tx in sequence_of(transactions, Transaction, "transactions")]
+    return mine_spelled(parent, when, spelled, version).data
+
+
+def mine_spelled(
+    parent: bytes, when: int, transactions: Sequence[bytes], version: int = 4, ids: Optional[Sequence[bytes]] = None
+) -> Spelled:
+    """The same for transactions that are spelled already, and whose ids may be known."""
+    spelled = [octets(tx, "transactions") for tx in sequence(transactions, "transactions")]
+    ids = [double_sha(tx) for tx in spelled] if ids is None else list(several(ids, "ids", len(spelled)))
+    time, root = number(when, "when"), merkle_root(ids)
+    header = meeting_target(Header(signed(version, "version"), id_of(parent, "parent"), root, time, 0x207FFFFF, 0))
+    front = write_header(header) + _count(len(spelled))
+    ends = list(accumulate(map(len, spelled), initial=len(front)))
+    return Spelled(b"".join([front, *spelled]), header, ids, list(zip(ends, ends[1:])))
+
+
+def meeting_target(header: Header) -> Header:
+    """The header with the first nonce, from its own on, by which it meets the target of regtest."""
+    spelled = write_header(header)
+    begins, nonce = spelled[:76], header.nonce
+    while int.from_bytes(double_sha(begins + struct.pack("<I", nonce)), "little") > TARGET:
+        nonce = (nonce + 1) % (1 << 32)
+    return header._replace(nonce=nonce)
 
 
 # ---- targets

@@ -5,6 +5,7 @@ from typing import TYPE_CHECKING, Dict, List, Optional, Sequence, Type
 if TYPE_CHECKING:
     from uuid import UUID
 
+    from .chainstate import Reply
     from .consensus import Triple
 
 
@@ -23,7 +24,7 @@ class ProgramMissing(Error):
 
 
 class Closed(Error):
-    """The chainstate or the node was closed."""
+    """The chainstate, the transaction or the node was closed."""
 
 
 class Memory(Error):
@@ -32,6 +33,10 @@ class Memory(Error):
 
 class Owed(Error):
     """A step was taken, and can't be shown yet: the next command of any seat shows it first."""
+
+
+class HistoryFull(Error):
+    """The submission wouldn't be kept, and such ones have taken what `history_memory` gives them. No step was taken."""
 
 
 class BadRequest(Error):
@@ -109,11 +114,11 @@ class OtherLoop(Error):
 
 
 class Busy(Error):
-    """Another thread is inside a call on the same chainstate."""
+    """Another thread is inside a call on the same chainstate or transaction."""
 
 
 class TooMany(Error):
-    """The library has no room for one more chainstate."""
+    """The library has no room for one more chainstate or transaction."""
 
 
 class Wants(Error):
@@ -140,11 +145,11 @@ class BadTable(Error):
 
 
 class DecodeFailed(Error):
-    """The bytes are no block."""
+    """The bytes are no block, or no transaction."""
 
 
 class NotFound(Error):
-    """No such block is kept."""
+    """No such block is kept, or no such transaction waits."""
 
 
 class Genesis(Error):
@@ -153,6 +158,15 @@ class Genesis(Error):
 
 class TreeFull(Error):
     """No more blocks can be kept."""
+
+
+class NotAccepted(Error):
+    """A transaction may not wait to be mined. `reason` is Bitcoin Core's word, as "txn-mempool-conflict", and `more` what
+    Bitcoin Core adds, or "". `reply` is what a block would be answered that has it, where that says why."""
+
+    def __init__(self, reason: str, more: str = "", reply: Optional["Reply"] = None) -> None:
+        super().__init__(f"{reason}, {more}" if more else reason)
+        self.reason, self.more, self.reply = reason, more, reply
 
 
 class Rejected(Error):

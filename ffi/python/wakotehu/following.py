@@ -1,6 +1,7 @@
 """How a replica follows the log: it takes the rows on its node, in their order, and compares the replies."""
 
 import random
+import threading
 import time
 from collections import deque
 from itertools import islice
@@ -41,6 +42,10 @@ class Follower(Connected):
         self._untold: Dict[int, Tuple[float, Told]] = {}
         #: At which moments the log had which places, as far as they aren't taken yet.
         self._seen: Deque[Fresh] = deque()
+        #: Held while the node is given rows, or verdicts: their steps are counted.
+        self._turn = threading.Lock()
+        #: Verdicts for which dry runs asked, as long as no row has them.
+        self._early: Dict[str, bool] = {}
         #: Whether rows that want signatures wait for the verdicts of the replica that appended them.
         self._holds = False
         self._chance = random.Random()
@@ -106,6 +111,11 @@ class Follower(Connected):
         for place, row in enumerate(rows, self._state.taken + 1):
             if row.place != place:
                 raise errors.BadRow(f"the log has place {row.place} where {place} is next")
+        with self._turn:
+            self._take_next(rows)
+
+    def _take_next(self, rows: Sequence[Row]) -> None:
+        """Takes rows whose places are next."""
         if len(rows) > 1 and self._watch is None and all(row.told is not None and row.told.reply != "decode-failed" for row in rows):
             self._state.places.note(range(self._steps + 1, self._steps + len(rows) + 1))
             answers: List[Stamped[Reply]] = self._ask_all([_call(row) for row in rows])
@@ -115,7 +125,8 @@ class Follower(Connected):
             return
         for row in rows:
             found: Dict[str, bool] = {}
-            self._taken(row, self._reply(row, found), _verdict_lines(found))
+            answered = self._reply(row, found)
+            self._taken(row, answered, _verdict_lines({**self._early, **found}))
 
     def _reply(self, row: Row, found: Dict[str, bool]) -> Stamped[Reply]:
         """Has the node take a row's command; `found` gets the verdicts for which it asks."""
@@ -162,6 +173,14 @@ class Follower(Connected):
         self._steps = max([self._steps, *self._ask_all(verdicts(lines, lambda _: list(given.values())))])
         found.update(given)
 
+    def learn(self, lines: Sequence[bytes]) -> None:
+        """Finds out signatures for which a dry run asks, on its caller's thread, and tells the node. The next row of which this
+        replica tells has the verdicts too, so that who has the rows has all that a reply rests on."""
+        assert self._verify is not None, "a node with a table asks for none"
+        found = dict(zip([line.decode() for line in lines], map(bool, self._verify(lines))))
+        with self._turn:
+            self._learn(found, self._early)
+
     def _ask_all(self, calls: Sequence[Call]) -> List[Any]:
         return self._seat.node._pipe.ask_all(calls, self._seat.number)
 
@@ -186,6 +205,9 @@ class Follower(Connected):
         places = list(islice(self._untold, _MANY))
         for place, told in log.told(places).items() if places else ():
             self._expect(place, self._untold.pop(place)[1], told)
+            with self._turn:
+                for line in read_verdicts(told.verdicts) if self._early else ():
+                    self._early.pop(line, None)
         late = time.monotonic() - _GRACE
         self._write_replies([place for place in places if place in self._untold and self._untold[place][0] < late])
         differs = log.difference(self._state.name)

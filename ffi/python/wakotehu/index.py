@@ -84,6 +84,19 @@ class Index:
         self.active[at.height + 1 :] = new
         return gone, new
 
+    def way(self, old: bytes, new: bytes) -> Tuple[List[bytes], List[bytes]]:
+        """From the branch of a block to that of another: the ids of the blocks that are left, the highest first, and of those
+        that come, the lowest first."""
+        gone, come, at, other = [], [], self.blocks[old], self.blocks[new]
+        while at.id != other.id:
+            if at.height < other.height:
+                come.append(other.id)
+                other = self.blocks[other.header.parent]
+            else:
+                gone.append(at.id)
+                at = self.blocks[at.header.parent]
+        return gone, come[::-1]
+
     def is_active(self, id: bytes) -> bool:
         """Whether a block is on the active branch."""
         found = self.blocks.get(id)

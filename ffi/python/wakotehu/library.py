@@ -26,6 +26,14 @@ class Coin(ctypes.Structure):
     _fields_ = [("value", c_int64), ("script", c_uint64), ("height", c_uint32), ("coinbase", c_uint32)]
 
 
+class Header(ctypes.Structure):
+    _fields_ = [("header", c_uint8 * 80), ("height", c_uint64), ("confirmations", c_int64)]
+
+
+class SpentSize(ctypes.Structure):
+    _fields_ = [("coins", c_uint64), ("scripts", c_uint64)]
+
+
 CoinCall = CFUNCTYPE(c_int, c_void_p, POINTER(c_uint8), c_uint32, POINTER(Coin), POINTER(c_uint8))
 
 _CALLS = {
@@ -46,6 +54,11 @@ _CALLS = {
     "coin_at": [c_uint64, c_char_p, c_uint32, POINTER(Coin), c_char_p, c_size_t],
     "block": [c_uint64, c_char_p, c_char_p, c_size_t, POINTER(c_size_t)],
     "coins": [c_uint64, CoinCall, c_void_p],
+    "id_at": [c_uint64, c_uint64, c_char_p],
+    "header": [c_uint64, c_char_p, POINTER(Header)],
+    "ancestor": [c_uint64, c_char_p, c_uint64, c_char_p],
+    "fork": [c_uint64, c_char_p, c_char_p, c_char_p],
+    "spent": [c_uint64, c_char_p, POINTER(Coin), c_size_t, c_char_p, c_size_t, POINTER(SpentSize)],
 }
 
 

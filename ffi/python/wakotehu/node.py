@@ -12,11 +12,11 @@ from weakref import ref
 from . import arguments
 from .arguments import Path
 from .asyncnode import AsyncNode, AsyncSeat
-from .chainstate import Coin, Reply, Tip
+from .chainstate import BlockHeader, Coin, Reply, Tip
 from .pipe import Pipe
 from .served import (
-    BEST, FINISH, INFO, NOTE, SAVE, TIMEOUT, TIPS, UNDER_WAY, BlockHeader, Call, Entry, Info, Opening, Stamped,
-    UnspentOutput, Wanted, block_of, checked, coins_above, entries, hash_at, header_of, learning, longer_than, mark, output, outputs,
+    BEST, FINISH, INFO, NOTE, SAVE, TIMEOUT, TIPS, UNDER_WAY, Call, Entry, Info, Opening, Stamped,
+    UnspentOutput, Wanted, block_of, checked, coins_above, dry_run, entries, hash_at, header_of, learning, longer_than, mark, output, outputs,
     program_path, submission, told, verdicts,
 )  # fmt: skip
 from .signatures import Verify
@@ -67,6 +67,11 @@ class Seat:
     def try_submit(self, block: bytes, now: Optional[int] = None) -> Stamped[Reply]:
         """The same, and a refusal is answered, not raised."""
         answered: Stamped[Reply] = self._command(submission(block, now))
+        return answered
+
+    def judge(self, block: bytes, now: Optional[int] = None) -> Stamped[Reply]:
+        """The reply that `submit` would get now, a refusal too, after so many steps. No step is taken."""
+        answered: Stamped[Reply] = self._command(dry_run(block, now))
         return answered
 
     def invalidate(self, id: bytes) -> Stamped[str]:
@@ -172,6 +177,8 @@ class Node:
         and this table; else the node goes on from it, and None of them stands for what it has. An answer comes when its
         steps are on the disk: however the process or the machine ends, nothing that was answered is lost.
     sync: False answers without waiting for the disk; a crash of the machine may then lose what was answered.
+    history_memory: how many megabytes submissions may take that aren't kept, but repeated or refused. Beyond, such a
+        submission raises `HistoryFull`, and is no step. None is without a bound.
     timeout: how many seconds a call waits for its answer, `close` and the opening with `blk`, `load` or `datadir` included; None is
         for ever. Then it raises `TimedOut`.
 
@@ -187,9 +194,9 @@ class Node:
         table: Optional[Union[str, bytes]] = None, program: Optional[Path] = None, *,
         blk: Optional[Path] = None, load: Optional[Path] = None, save: Optional[Path] = None,
         datadir: Optional[Path] = None, sync: bool = True, timeout: Optional[float] = TIMEOUT,
-        verify: Optional[Verify] = None,
+        verify: Optional[Verify] = None, history_memory: Optional[int] = None,
     ) -> None:  # fmt: skip
-        opening = Opening(seats, workers, heights, table, program, blk, load, save, datadir, sync, timeout, verify)
+        opening = Opening(seats, workers, heights, table, program, blk, load, save, datadir, sync, timeout, verify, history_memory)
         self._verify = opening.verify
         self._count = opening.seats
         # Seats keep their node, not the other way round: so it is seen at once that nobody has it any more.
@@ -223,9 +230,9 @@ class Node:
     # ---- its life
 
     def save(self) -> int:
-        """Waits until every step that any call was answered is on the disk, of `datadir`: how many steps that are. They are there
-        behind each answer already. Without `datadir`, or with `sync=False`, it raises `NotSaved`. It is answered in the turn of
-        seat 0."""
+        """Waits until every step that any call was answered is in the folder of `datadir` or `save`: how many steps that are. With
+        `datadir` they are there behind each answer already. Where the folder of `save` can't be written, without either, and with
+        `sync=False`, it raises `NotSaved`, and the node goes on."""
         return int(self._pipe.ask(SAVE, None))
 
     def close(self) -> Optional[int]:

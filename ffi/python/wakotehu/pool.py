@@ -1,378 +1,164 @@
-"""A node of many seats as one bench, for a server whose connections call beside one another."""
+"""Transactions that wait to be mined on a `Bench`."""
 
-import os
-import threading
-from contextlib import contextmanager
-from types import TracebackType
-from typing import Callable, Dict, Iterator, List, NamedTuple, NoReturn, Optional, Sequence, Tuple, Type, TypeVar, Union
+import time
+from typing import Iterator, List, Optional, Union
 
-from . import ahead, errors
-from .arguments import Path, id_of, lines, octets, path
-from .chainstate import Coin, Reply, Tip
-from .encoding import EncodingError, Spelled, block_at_front, double_sha
-from .history import LOG, VERDICTS, past_of
-from .index import Index, Unspent, Walks
-from .node import Node, Seat, Stamped
-from .signatures import KnownSignatures, Verify
+from .addresses import script_of
+from .arguments import id_of, instance, number, octets, text
+from .bench import Bench
+from .chainstate import Coin
+from .encoding import coinbase, mine_spelled, subsidy, write_transaction
+from .errors import NotFound, TooMany
+from .mempool import MOST_BYTES, Entry, Mempool
+from .stage import Stage
 
-T = TypeVar("T")
-#: Coins with their outpoints.
-Coins = List[Tuple[bytes, int, Coin]]
-
-#: As many as a node may have.
-SEATS = 16
+#: The script 51, which anyone spends: to it pay blocks where nothing else is said.
+ANYONE = b"\x51"
 
 
-class Move(NamedTuple):
-    """A move of the active branch: the ids of the blocks that left it, the highest first, and of those that came, the lowest
-    first; the height of its best block before, and of the parent of a block that was marked as invalid on it."""
+class _Mempool(Mempool):
+    def __init__(self, bench: Bench, most: int) -> None:
+        super().__init__(bench, most)
+        self._own = bench
 
-    gone: List[bytes]
-    come: List[bytes]
-    top: int
-    cut: Optional[int]
+    def now(self) -> int:
+        return int(time.time())
+
+    def stage(self) -> Optional[Stage]:
+        try:
+            return Stage(self._own.chain.copy(), self.tip().header.time, self._own._find_out)
+        except TooMany:
+            return None
 
 
-class Pool(Walks):
-    """What `Bench` has, over the seats of a `Node`.
+class Pool:
+    """Transactions that wait to be mined on the active branch of a `Bench`, in the order in which they came, by consensus rules
+    alone: there is no policy. A block takes those away that it has, with what spends the same coins; what blocks that leave
+    the active branch had waits again.
 
-    table: the valid signatures, as lines; no others are.
-    verify: finds out which others are valid, as scripts ask for them: a function as `Node`'s. It runs on the thread that
-        submits, which holds no lock then.
-    datadir, sync: as `Node`'s. What is known of blocks and signatures begins with what the folder's log tells.
+    Whether one may wait is for the chainstate to say, by a dry run: its journal and its blocks stay as they are. Signatures
+    that this asks for are found out, and stay known.
 
-    A thread has a seat from its first call until `leave`; where all are taken it shares the one that the fewest threads
-    have. Who calls holds `turn`, and it is let go while the node answers: so a read waits for no submission of another
-    thread, and two submissions are judged at once.
-
-    What is known of blocks (`index`) follows the history. Each thread takes its own command up, in the order of the
-    steps, and returns when the active branch is known as it was after that step or a later one. Steps that are verdicts
-    are nobody's to take up: the journal says which those are. A seat that has seen less than the one that took the last
-    step hears of it before it reads: so a read comes after every step that was answered.
+    bench: each step that it takes is taken up when the pool is used next.
+    most: how many bytes may wait.
     """
 
-    def __init__(
-        self, heights: Optional[Sequence[int]] = None, table: Union[str, bytes] = b"", seats: int = SEATS,
-        workers: int = 2, program: Optional[str] = None, verify: Optional[Verify] = None,
-        datadir: Optional[Path] = None, sync: bool = True,
-    ) -> None:  # fmt: skip
-        #: What was found out of signatures; None where the table says which are valid.
-        self.known = None if verify is None else KnownSignatures(verify, table)
-        #: The signatures that are valid where nothing is found out of others.
-        self.table = lines(table, "table")
-        self.index = Index()
-        #: Held by who calls; told when a step was taken up.
-        self.turn = threading.Condition(threading.Lock())
-        #: The place of the last command that was taken up, and after which step the active branch is known.
-        self.steps = 0
-        self._followed = 0
-        #: How many commands the folder had.
-        self.loaded = 0
-        self._made = 0
-        self._under_way = 0
-        self._broken: Optional[errors.Error] = None
-        #: Is told of each move of the active branch.
-        self.moved: Callable[[Move], None] = lambda move: None
-        self._cut: Optional[int] = None
-        self._data: Dict[bytes, bytes] = {}
-        self._own = threading.local()
-        self._threads = [0] * seats
-        self._seen = [0] * seats
-        self._newest = 0
-        # A block may take longer than callers of a node wait, and a step that nobody takes up would hold up all others.
-        given, verify = (self.table, None) if self.known is None else (None, self._verdicts)
-        self.node = Node(
-            seats, workers, heights, given, program, datadir=datadir, sync=sync, timeout=None, verify=verify
-        )
-        self.heights = self.node.info.heights
-        if datadir is not None:
-            try:
-                self._go_on(os.path.join(path(datadir, "datadir"), LOG))
-            except BaseException:
-                self.close()
-                raise
+    def __init__(self, bench: Bench, most: int = MOST_BYTES) -> None:
+        self.bench = instance(bench, Bench, "bench")
+        self._seen, self._best = len(bench.bests), bench.best()
+        self._all = _Mempool(bench, number(most, "most", 64))
 
-    def _go_on(self, log: str) -> None:
-        """Takes up what a log has, which the node has played."""
-        seat = self.node.seat(0)
-        past = past_of(log, seat.getchaintips().value, seat.getbestblockhash().value)
-        self.index, self._data, self.loaded = past.index, past.data, past.commands
-        if self.known is not None:
-            self.known.learn(past.verdicts)
-        self.steps = self._followed = self._seen[0] = seat.note()
+    def _now(self) -> Mempool:
+        """What waits, after all steps of the bench so far."""
+        bests = self.bench.bests
+        while self._seen < len(bests):
+            best = bests[self._seen]
+            if best != self._best:
+                self._all.follow(*self.bench.index.way(self._best, best))
+            self._best, self._seen = best, self._seen + 1
+        self._all.look_again()
+        return self._all
 
-    def close(self) -> None:
-        """Ends the node."""
-        self.node.kill()
+    def _with(self, id: bytes) -> Mempool:
+        """The same, where the transaction of an id is among it."""
+        found = self._now()
+        if id_of(id) not in found.entries:
+            raise NotFound("no such transaction waits")
+        return found
 
-    def __enter__(self) -> "Pool":
-        return self
+    # ---- what comes
 
-    def __exit__(
-        self, kind: Optional[Type[BaseException]], value: Optional[BaseException], trace: Optional[TracebackType]
-    ) -> None:
-        self.close()
+    def add(self, tx: bytes) -> bytes:
+        """Puts a transaction among those that wait: its id. One that may not wait raises `NotAccepted` with Bitcoin Core's word
+        as `reason`; bytes that are no transaction raise `DecodeFailed`."""
+        entry = self.test(tx)
+        self._all.add(entry)
+        return entry.id
 
-    def __reduce_ex__(self, protocol: object) -> NoReturn:
-        """As of a `Node`."""
-        raise TypeError("a Pool can't be copied or pickled")
+    def test(self, tx: bytes) -> Entry:
+        """What `add` would put, or its exception; nothing changes."""
+        data = octets(tx, "tx")
+        return self._now().judge(data)
 
-    # ---- threads and their seats
+    # ---- what waits
 
-    @contextmanager
-    def others(self) -> Iterator[None]:
-        """Lets other threads call meanwhile."""
-        self.turn.release()
-        try:
-            yield
-        finally:
-            self.turn.acquire()
+    def __len__(self) -> int:
+        return len(self._now().entries)
 
-    def _number(self) -> int:
-        """The number of this thread's seat."""
-        number: Optional[int] = getattr(self._own, "number", None)
-        if number is None:
-            number = self._threads.index(min(self._threads))
-            self._threads[number] += 1
-            self._own.number = number
-        return number
+    def __contains__(self, id: object) -> bool:
+        return id in self._now().entries
 
-    def leave(self) -> None:
-        """This thread calls no more."""
-        number = getattr(self._own, "number", None)
-        if number is not None:
-            self._threads[number] -= 1
-            del self._own.number
+    def __iter__(self) -> Iterator[Entry]:
+        """All of it, in the order in which it is mined."""
+        return iter(list(self._now().entries.values()))
 
-    def settle(self) -> None:
-        """Waits until no step is under way."""
-        while self._under_way and not self._broken:
-            self.turn.wait()
+    @property
+    def size(self) -> int:
+        """How many bytes wait."""
+        return self._now().bytes
 
-    def _asked(self, ask: Callable[[Seat], Stamped[T]]) -> Stamped[T]:
-        """What this thread's seat answers, while other threads call."""
-        number = self._number()
-        try:
-            with self.others():
-                answered = ask(self.node.seat(number))
-        except (errors.Owed, errors.NodeDied) as error:
-            # A step of which nobody was told: those behind it can't be taken up.
-            raise self._break(error)
-        except errors.NotSaved as error:
-            raise self._break(self._why(error))
-        self._saw(number, answered.at)
-        return answered
+    def entry(self, id: bytes) -> Entry:
+        """One of those that wait. Another id raises `NotFound`, here and in the next four calls."""
+        return self._with(id).entries[id_of(id)]
 
-    def _why(self, error: errors.NotSaved) -> errors.Error:
-        """The same fault with its reason: the node ends, and says it."""
-        try:
-            with self.others():
-                self.node.seat(0).note()
-        except errors.NodeDied as died:
-            return errors.NotSaved(error.code, "not saved", died.stderr.strip().rpartition("\n")[2])
-        except errors.Error:
-            pass
-        return error
+    def parents(self, id: bytes) -> List[bytes]:
+        """Those that one spends coins of."""
+        return self._with(id).parents(id_of(id))
 
-    def _break(self, error: errors.Error) -> errors.Error:
-        """No more steps can be taken up."""
-        self._broken = error
-        self.turn.notify_all()
-        return error
+    def children(self, id: bytes) -> List[bytes]:
+        """Those that spend coins of one."""
+        return self._with(id).children(id_of(id))
 
-    def _saw(self, number: int, at: int) -> None:
-        self._seen[number] = max(self._seen[number], at)
-        if at > self._seen[self._newest]:
-            self._newest = number
+    def ancestors(self, id: bytes) -> List[bytes]:
+        """Those that have to be mined before one, in their order."""
+        found = self._with(id)
+        return [it.id for it in found.with_ancestors(found.entries[id_of(id)])[:-1]]
 
-    def _read(self, ask: Callable[[Seat], Stamped[T]]) -> Stamped[T]:
-        """Makes a read, which comes after each step that was answered."""
-        number, newest = self._number(), self._newest
-        if self._seen[number] < self._seen[newest]:
-            self._asked(lambda seat: Stamped(seat.told(self.node.seat(newest)), None))
-        return self._asked(ask)
+    def descendants(self, id: bytes) -> List[bytes]:
+        """Those that can't be mined without one."""
+        return self._with(id).descendants(id_of(id))
 
-    # ---- commands
+    def spender(self, id: bytes, index: int) -> Optional[bytes]:
+        """Which of them spends an outpoint, or None."""
+        return self._now().spenders.get((id_of(id), number(index, "index")))
 
-    def try_submit(self, block: bytes, now: int) -> Reply:
-        """As `Bench.try_submit`."""
-        data = octets(block, "block")
-        try:
-            spelled = block_at_front(data)
-        except EncodingError:
-            spelled = None
-        if spelled is None or spelled.data != data:
-            # No block, so no step.
-            return self._asked(lambda seat: seat.try_submit(data, now)).value
-        return self.try_submit_spelled(spelled, now)
+    def coin(self, id: bytes, index: int) -> Optional[Coin]:
+        """The coin at an outpoint as all that waits leaves it, or None. One that isn't mined has the height 0x7FFFFFFF, as at
+        Bitcoin Core."""
+        all, outpoint = self._now(), (id_of(id), number(index, "index"))
+        if outpoint in all.spenders:
+            return None
+        return all.coin(*outpoint) or self.bench.coin(*outpoint)
 
-    def try_submit_spelled(self, spelled: Spelled, now: int) -> Reply:
-        """As `Bench.try_submit_spelled`."""
-        id, data = double_sha(spelled.data[:80]), spelled.data
+    # ---- blocks
 
-        def take_up(reply: Reply) -> None:
-            if id not in self.index.blocks and self._is_kept(id, spelled, reply):
-                self._data[id] = data
-                self.index.add(id, spelled)
+    def selection(self, to: Union[bytes, str] = ANYONE) -> List[Entry]:
+        """What a block that pays to a script or an address has room for, in order."""
+        return self._now().selection(_script(to))
 
-        return self._step(lambda seat: seat.try_submit(data, now), take_up, spelled)
+    def template(self, to: Union[bytes, str] = ANYONE) -> bytes:
+        """The block that `mine` would submit."""
+        script, tip = _script(to), self._now().tip()
+        chosen, height = self._all.selection(script), tip.height + 1
+        paid = subsidy(height) + sum(entry.fee for entry in chosen)
+        made = coinbase(height, paid, script, b"pool" + self.bench.fresh().to_bytes(4, "little"))
+        data = [write_transaction(made), *(entry.data for entry in chosen)]
+        return mine_spelled(tip.id, tip.header.time + 1, data).data
 
-    def try_mark(self, command: str, id: bytes) -> Reply:
-        """As `Bench.try_mark`."""
-        return self._step(lambda seat: seat.try_mark(command, id), lambda reply: self._cut_at(command, id))
+    def mine(self, count: int = 1, to: Union[bytes, str] = ANYONE) -> List[bytes]:
+        """Mines blocks on the active one, each of the selection: their ids. They pay the subsidy and the fees to a script or an
+        address. A block's time is a second behind its parent's, as with `wakotehu.benches.Miner`."""
+        script, found = _script(to), []
+        for _ in range(number(count, "count")):
+            self.bench.submit(self.template(script))
+            found.append(self.bench.best())
+        self._now()
+        return found
 
-    def _is_kept(self, id: bytes, spelled: Spelled, reply: Reply) -> bool:
-        """Whether a block is kept that wasn't there before. One that breaks a rule as it is connected is kept, as a tip
-        that nothing stands on."""
-        if reply.reply != "rejected":
-            return reply.reply in ("accepted", "inconclusive")
-        known = spelled.header.parent in self.index.blocks
-        return known and any(tip.id == id for tip in self._asked(Seat.getchaintips).value)
 
-    def _step(
-        self, ask: Callable[[Seat], Stamped[Reply]], take_up: Callable[[Reply], None], spelled: Optional[Spelled] = None
-    ) -> Reply:
-        """Has a command taken as a step, a submission or a mark, and takes it up in its turn."""
-        self._under_way += 1
-        try:
-            if self.known is not None:
-                self._own.rounds = self._rounds(self.known, self.node.seat(self._number()), spelled)
-            answered = self._asked(ask)
-            if answered.value.reply != "decode-failed":
-                self._take_up(answered, take_up, spelled)
-        finally:
-            self._own.rounds = None
-            self._under_way -= 1
-            self.turn.notify_all()
-        return answered.value
-
-    def _take_up(
-        self, answered: Stamped[Reply], take_up: Callable[[Reply], None], spelled: Optional[Spelled]
-    ) -> None:  # fmt: skip
-        self._wait_for(answered.at - 1)
-        try:
-            take_up(answered.value)
-        finally:
-            self.steps = answered.at
-            self.turn.notify_all()
-        best = self._best_after(answered, spelled)
-        if self._followed < best.at:
-            self._followed = best.at
-            self._follow(best.value)
-        self._cut = None
-
-    def _follow(self, best: bytes) -> None:
-        """Makes the branch of a block the active one, and tells of that."""
-        top, cut = len(self.index.active) - 1, self._cut
-        self._cut = None
-        gone, come = self.index.follow(best)
-        if gone or come:
-            self.moved(Move(gone, come, top, cut))
-
-    def _cut_at(self, command: str, id: bytes) -> None:
-        """Notes where an active block is marked as invalid: its parent is the best one before others come."""
-        found = self.index.blocks.get(id)
-        if command == "invalidate" and found is not None and self.index.is_active(id):
-            self._cut = found.height - 1
-
-    def _best_after(self, answered: Stamped[Reply], spelled: Optional[Spelled]) -> Stamped[bytes]:
-        """The active block after a command, or after a later one; all up to it were taken up."""
-        if spelled and answered.value.reply == "accepted":
-            return Stamped(answered.at, double_sha(spelled.data[:80]))
-        best = self._asked(Seat.getbestblockhash)
-        self._wait_for(best.at)
-        return best
-
-    def _wait_for(self, step: int) -> None:
-        """Waits until all commands among so many steps were taken up."""
-        try:
-            last = max(self._commands(self.steps + 1, step), default=0)
-        except errors.Memory as error:
-            raise self._break(errors.Owed(f"a step can't be taken up: {error}")) from error
-        while self.steps < last:
-            if self._broken:
-                raise self._broken
-            self.turn.wait()
-
-    def _commands(self, first: int, last: int) -> Sequence[int]:
-        """Which of these steps, which this thread's seat has seen, are commands. The others are verdicts."""
-        if self.known is None or first > last:
-            return range(first, last + 1)
-        entries = self._asked(lambda seat: seat.journal(first, last)).value
-        return [entry.step for entry in entries if entry.command not in VERDICTS]
-
-    # ---- signatures
-
-    def _verdicts(self, lines: Sequence[bytes]) -> List[bool]:
-        """Which signatures are valid that this thread's command wants. Other threads call meanwhile."""
-        rounds: Optional[ahead.Rounds] = self._own.rounds
-        assert rounds is not None, "commands alone want signatures"
-        return rounds.verdicts(lines)
-
-    def _rounds(self, known: KnownSignatures, seat: Seat, spelled: Optional[Spelled]) -> ahead.Rounds:
-        return ahead.Rounds(known, lambda: self._places(seat, spelled), self.transaction, seat._learn)
-
-    def _places(self, seat: Seat, spelled: Optional[Spelled]) -> Iterator[ahead.Place]:
-        """The blocks whose scripts a command may run: those of a branch that aren't active, the lowest first."""
-        tips = [spelled.header.parent] if spelled else [tip.id for tip in seat.getchaintips().value]
-        with self.turn:
-            found = [self.index.blocks[id] for tip in tips for id in self.index.beside(tip)]
-            parent = self.index.blocks.get(tips[0])
-        for kept in found:
-            yield ahead.Place(block_at_front(self._data[kept.id]), ahead.Flags.at(kept.height, self.heights))
-        if spelled and parent:
-            yield ahead.Place(spelled, ahead.Flags.at(parent.height + 1, self.heights))
-
-    # ---- reads
-
-    def best(self) -> bytes:
-        """The active block's id."""
-        return self.index.active[-1]
-
-    def tips(self) -> List[Tip]:
-        """As `Bench.tips`."""
-        return self._read(Seat.getchaintips).value
-
-    def unspent(self, id: bytes, index: int) -> Optional[Unspent]:
-        """As `Bench.unspent`."""
-        while True:
-            found = self._read(lambda seat: seat.gettxout(id, index))
-            if found.value is None:
-                return None
-            best = self._asked(Seat.getbestblockhash)
-            if not self._commands(found.at + 1, best.at):
-                value, script, height, coinbase, confirmations = found.value
-                return Unspent(Coin(value, script, height, coinbase), best.value, confirmations)
-
-    def coins(self) -> Tuple[bytes, Coins]:
-        """The active block's id, and all coins by rising outpoints, of one state. They come in parts: where a command
-        comes between these they are read again; the third time other threads wait."""
-        for _ in range(2):
-            best = self._read(Seat.getbestblockhash)
-            found = self._all_coins(self._asked)
-            if not self._commands(best.at + 1, found.at):
-                self._wait_for(best.at)
-                return best.value, found.value
-        self.settle()
-        seat = self.node.seat(self._number())
-        seat.told(self.node.seat(self._newest))
-        return seat.getbestblockhash().value, self._all_coins(lambda ask: ask(seat)).value
-
-    @staticmethod
-    def _all_coins(asked: Callable[[Callable[[Seat], Stamped[Coins]]], Stamped[Coins]]) -> Stamped[Coins]:
-        """All coins, and the place of the last part."""
-        found: Coins = []
-        while True:
-            part = asked(lambda seat: seat.coins(found[-1][:2] if found else None))
-            if not part.value:
-                return Stamped(part.at, found)
-            found += part.value
-
-    def block(self, id: bytes) -> Optional[bytes]:
-        """The bytes of a kept block, or None."""
-        return self._data.get(id_of(id))
-
-    def fresh(self) -> int:
-        """As `Bench.fresh`."""
-        self._made = max(self._made + 1, self.steps)
-        return self._made
+def _script(to: Union[bytes, str]) -> bytes:
+    """A script, or that of an address."""
+    found = script_of(text(to, "to")) if isinstance(to, str) else octets(to, "to")
+    if found is None:
+        raise ValueError(f"to must be a script or an address of regtest, not {to!r}")
+    return found

@@ -14,12 +14,12 @@ from uuid import UUID, uuid4
 
 from . import arguments, errors
 from .arguments import Path, number
-from .chainstate import Coin, Reply, Tip
+from .chainstate import BlockHeader, Coin, Reply, Tip
 from .following import Follower
 from .node import Node, Seat
 from .replicalog import Command, Log, Lost
 from .replication import Appender, Fresh, State, Watch, Watcher, Write
-from .served import MOST, TIMEOUT, BlockHeader, Stamped, UnspentOutput, checked, mark, submission
+from .served import MOST, TIMEOUT, Stamped, UnspentOutput, Wanted, checked, dry_run, mark, submission
 from .signatures import Verify, secp256k1
 
 T = TypeVar("T")
@@ -141,6 +141,21 @@ class ReplicaSeat:
         """As `Seat.getblockhash`."""
         return self._read(lambda seat: seat.getblockhash(height))
 
+    def judge(self, block: bytes, now: Optional[int] = None) -> Placed[Reply]:
+        """As `Seat.judge`. It has no row; the signatures for which it asks are found out here."""
+        call = dry_run(block, now)
+
+        def ask(seat: Seat) -> Stamped[Reply]:
+            answered: Stamped[Reply] = seat._ask(call)
+            return answered
+
+        while True:
+            try:
+                return self._read(ask)
+            except Wanted as wanted:
+                lines = wanted.lines
+            self.replica._follower.learn(lines)
+
     def coins(
         self, above: Optional[Tuple[bytes, int]] = None, most: int = 1000
     ) -> Placed[List[Tuple[bytes, int, Coin]]]:
@@ -223,8 +238,11 @@ class Replica:
             for log in logs:
                 log.close()
             raise
+        self._follower: Follower = Follower(
+            self._state, self.url, logs[0], self._follower_seat, used, recheck, poll, self._may_write, watch
+        )
         self._threads: List[Union[Follower, Appender]] = [
-            Follower(self._state, self.url, logs[0], self._follower_seat, used, recheck, poll, self._may_write, watch),
+            self._follower,
             *(Appender(self._state, self.url, log) for log in logs[1:]),
         ]
         for thread in (*self._threads, Watcher(self._state, self._threads)):

@@ -9,7 +9,7 @@ from typing import IO, Any, Callable, Dict, Generic, List, NamedTuple, Optional,
 
 from . import arguments, errors
 from .arguments import Path, id_of, number, octets
-from .chainstate import REGTEST, Coin, Reply, Tip, mark_of, moment_of, read_heights, show
+from .chainstate import REGTEST, BlockHeader, Coin, Reply, Tip, mark_of, moment_of, read_heights, show
 from .signatures import Verify
 
 T = TypeVar("T")
@@ -54,15 +54,6 @@ class UnspentOutput(NamedTuple):
     script: bytes
     height: int
     coinbase: bool
-    confirmations: int
-
-
-class BlockHeader(NamedTuple):
-    """A block's header of 80 bytes, its height, and how many blocks of the active branch there are from it on: -1 where it
-    isn't on that branch."""
-
-    header: bytes
-    height: int
     confirmations: int
 
 
@@ -201,10 +192,18 @@ def _read_info(result: Dict[str, Any]) -> Info:
 
 
 def submission(block: bytes, now: Optional[int]) -> Call:
+    return _of_block("submit", block, now)
+
+
+def dry_run(block: bytes, now: Optional[int]) -> Call:
+    return _of_block("judge", block, now)
+
+
+def _of_block(method: str, block: bytes, now: Optional[int]) -> Call:
     data = octets(block, "block")
     if len(data) > LONGEST_BLOCK:
         raise ValueError(f"block must have at most {LONGEST_BLOCK} bytes, not {len(data)}")
-    return Call("submit", f',"block":"{data.hex()}","now":{moment_of(now)}', _read_reply)
+    return Call(method, f',"block":"{data.hex()}","now":{moment_of(now)}', _read_reply)
 
 
 def mark(command: str, id: bytes) -> Call:
@@ -315,7 +314,9 @@ def checked(answered: Stamped[Reply]) -> Stamped[str]:
         raise
 
 
-_FAULTS: Dict[int, Type[errors.Error]] = {-32001: errors.Memory, -32002: errors.Owed, -32003: errors.Closed}
+_FAULTS: Dict[int, Type[errors.Error]] = {
+    -32001: errors.Memory, -32002: errors.Owed, -32003: errors.Closed, -32006: errors.HistoryFull,
+}  # fmt: skip
 #: The history couldn't be saved.
 _UNSAVED = -32004
 
@@ -362,6 +363,7 @@ class Opening:
         self, seats: int, workers: int, heights: Optional[Sequence[int]], table: Optional[Union[str, bytes]],
         program: Optional[Path], blk: Optional[Path], load: Optional[Path], save: Optional[Path],
         datadir: Optional[Path], sync: bool, timeout: Optional[float], verify: Optional[Verify],
+        history_memory: Optional[int] = None,
     ) -> None:  # fmt: skip
         self.seats, workers = _count(seats, "seats"), _count(workers, "workers")
         self.timeout = arguments.seconds(timeout, "timeout")
@@ -378,6 +380,8 @@ class Opening:
             self.words += ["--heights", ",".join(map(str, chosen))]
         if not sync:
             self.words += ["--no-sync"]
+        if history_memory is not None:
+            self.words += ["--history-memory", str(number(history_memory, "history_memory", 64))]
         for name, value in (("blk", blk), ("load", load), ("save", save), ("datadir", datadir)):
             if value is not None:
                 self.words += [f"--{name}", arguments.path(value, name)]

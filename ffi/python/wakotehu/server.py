@@ -17,8 +17,8 @@ from typing import Callable, Iterator, List, Optional, Sequence, Tuple
 
 from .chainstate import REGTEST
 from .errors import Error
-from .pool import SEATS, Pool
-from .replicapool import ReplicaPool
+from .nodebench import SEATS, NodeBench
+from .replicabench import ReplicaBench
 from .rpc import (
     addresses, blockchain, chain, control, descriptors, making, mining, notices, proofs, sending, settings, signing, stats,
     template, txs, waiting,
@@ -271,18 +271,18 @@ def _link_cookie(folder: str) -> None:
         os.symlink(os.path.join("..", ".cookie"), link)
 
 
-def _pool(given: argparse.Namespace, folder: Optional[Folder]) -> Pool:
+def _bench(given: argparse.Namespace, folder: Optional[Folder]) -> NodeBench:
     if given.replica is not None:
-        return ReplicaPool(given.replica, workers=given.workers)
+        return ReplicaBench(given.replica, workers=given.workers)
     verify = Verifier().verdicts if given.table is None else None
     table = None
     if given.table is not None:
         with open(given.table, "rb") as file:
             table = file.read()
 
-    def opened(heights: Optional[Sequence[int]], known: bytes, datadir: Optional[str], sync: bool) -> Pool:
+    def opened(heights: Optional[Sequence[int]], known: bytes, datadir: Optional[str], sync: bool) -> NodeBench:
         signatures = known if table is None else table
-        return Pool(heights, signatures, workers=given.workers, verify=verify, datadir=datadir, sync=sync)
+        return NodeBench(heights, signatures, workers=given.workers, verify=verify, datadir=datadir, sync=sync)
 
     if folder is None:
         return opened(given.heights, b"", None, True)
@@ -328,7 +328,7 @@ def _published(given: argparse.Namespace) -> Iterator[Optional[notices.Publisher
 def _run(given: argparse.Namespace, folder: Optional[Folder], cookies: List[Tuple[str, str]]) -> None:
     """Serves until the end. The cookies that are written are added."""
     gate, has_cookie = _gate(given)
-    with _published(given) as publisher, _pool(given, folder) as bench:
+    with _published(given) as publisher, _bench(given, folder) as bench:
         if folder:
             print(f"{bench.loaded} commands of {given.datadir} were taken again", flush=True)
         hosts = list(dict.fromkeys(host.strip("[]") for host in given.rpcbind)) or ["127.0.0.1"]

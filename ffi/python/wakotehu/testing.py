@@ -6,8 +6,8 @@
         reorg(1)
         assert bench.coin(id, index) is None
 
-Fixtures: `bench` is a `Bench` of 101 blocks, `node` a `Node` of them, and `bitcoind` a server that answers bitcoind's
-calls, one for all tests, which is set back behind each. `mine`, `fund` and `reorg` are the helpers of `wakotehu.benches.Miner` on the
+Fixtures: `bench` is a `Bench` of 101 blocks, `pool` a `Pool` over it, `node` a `Node` of them, and `bitcoind` a server that
+answers bitcoind's calls, one for all tests, which is set back behind each. `mine`, `fund` and `reorg` are the helpers of `wakotehu.benches.Miner` on the
 one that the test asks for, the first of several, or else on `bench`. `--wakotehu-table` shows the block tree of a test
 that fails.
 """
@@ -20,6 +20,7 @@ from .bench import Bench
 from .benches import BASE, BenchMiner, Miner, NodeMiner, Server, ServerMiner
 from .encoding import Spelled, block_at_front
 from .node import Node
+from .pool import Pool
 from .signatures import secp256k1
 
 #: The fixtures that are chains.
@@ -63,6 +64,12 @@ def bench(_wakotehu_base: Bench, _wakotehu_miners: _Miners) -> Iterator[Bench]:
     with _wakotehu_base.copy() as found:
         _wakotehu_miners["bench"] = BenchMiner(found)
         yield found
+
+
+@pytest.fixture
+def pool(bench: Bench) -> Pool:
+    """What waits to be mined on `bench`."""
+    return Pool(bench)
 
 
 @pytest.fixture

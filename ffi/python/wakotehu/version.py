@@ -1,3 +1,3 @@
 """The version of the package and of the library inside it."""
 
-__version__ = "0.1"
+__version__ = "0.2"

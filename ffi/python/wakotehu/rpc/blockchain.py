@@ -6,7 +6,7 @@ from typing import Any, Callable, Dict, List, Optional
 from ..chainstate import show
 from ..encoding import double_sha, read_block, write_header
 from ..index import Kept, Unspent
-from ..pool import Coins
+from ..nodebench import Coins
 from .errors import INVALID_ADDRESS_OR_KEY, INVALID_PARAMETER, MISC_ERROR, RpcError
 from .node import Node, call
 from .scripts import checksum, compact, descriptor_script, shown

@@ -9,7 +9,7 @@ from typing import BinaryIO, Callable, NamedTuple, Optional, Sequence
 
 from ..errors import NodeDied
 from ..history import LOG
-from ..pool import Pool
+from ..nodebench import NodeBench
 from .oldfiles import TABLE, BadFolder, OldFiles
 
 __all__ = ["BadFolder", "Folder", "Opening"]
@@ -23,12 +23,12 @@ PATIENCE = 60.0
 
 class Opening(NamedTuple):
     """How the server was told to open a node: the heights and the table that were given, whether answers wait for the disk,
-    and what opens a pool: by heights, signatures that are known to be valid, a folder, and whether answers wait."""
+    and what opens a bench: by heights, signatures that are known to be valid, a folder, and whether answers wait."""
 
     heights: Optional[Sequence[int]]
     table: Optional[bytes]
     sync: bool
-    pool: Callable[[Optional[Sequence[int]], bytes, str, bool], Pool]
+    bench: Callable[[Optional[Sequence[int]], bytes, str, bool], NodeBench]
 
 
 class Folder:
@@ -55,8 +55,8 @@ class Folder:
     def __exit__(self, *raised: object) -> None:
         self.close()
 
-    def open(self, opening: Opening) -> Pool:
-        """A pool over the node's folder."""
+    def open(self, opening: Opening) -> NodeBench:
+        """A bench over the node's folder."""
         old = OldFiles(self.path)
         if os.path.exists(self._old + BEGUN) and os.path.exists(self.node):
             self._move(old)
@@ -70,10 +70,10 @@ class Folder:
 
     def _opened(
         self, opening: Opening, heights: Optional[Sequence[int]], known: bytes, node: str, sync: bool
-    ) -> Pool:  # fmt: skip
+    ) -> NodeBench:  # fmt: skip
         _wait_for_end(node)
         try:
-            return opening.pool(heights, known, node, sync)
+            return opening.bench(heights, known, node, sync)
         except NodeDied as died:
             why = died.stderr.strip().rpartition("\n")[2]
             raise BadFolder(f"{node}: {why}" if why else str(died))
@@ -90,9 +90,9 @@ class Folder:
         if os.path.exists(begun):
             shutil.rmtree(begun)
         heights, table = old.heights(opening.heights), old.table(opening.table)
-        with self._opened(opening, heights, table, begun, False) as pool:
-            old.replay(pool)
-            pool.node.close()
+        with self._opened(opening, heights, table, begun, False) as bench:
+            old.replay(bench)
+            bench.node.close()
         _sync(os.path.join(begun, LOG))
         os.makedirs(self._old + BEGUN, mode=0o700, exist_ok=True)
         os.rename(begun, self.node)

@@ -14,7 +14,6 @@ from .errors import (
 )  # fmt: skip
 from .node import Node, call
 from .scripts import address_script, descriptor_script, output_script
-from .trial import fault
 from .txs import MAX_SIZE, raw_transaction
 from .values import MAX_MONEY, Object, array, boolean, digits, hexadecimal, integer, text
 
@@ -180,9 +179,9 @@ def _tried(node: Node, script: bytes, transactions: Sequence[Transaction]) -> Tu
     while True:
         tip = node.tip()
         block = _made(node, script, transactions)
-        broken = fault(node, block)
+        reply = node.judge(block_at_front(block))
         if node.tip() is tip:
-            return block, broken
+            return block, "" if reply.reply == "accepted" else reply.text
 
 
 def _raw_transaction(node: Node, raw: Any) -> Transaction:

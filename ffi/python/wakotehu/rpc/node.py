@@ -1,4 +1,4 @@
-"""What all calls share: the pool of seats, its clock, and the table of calls."""
+"""What all calls share: the seats of a node, its clock, and the table of calls."""
 
 import threading
 import time
@@ -9,9 +9,9 @@ from ..chainstate import Reply
 from ..encoding import GENESIS, GENESIS_BLOCK, Output, Spelled, Transaction, read_transaction
 from ..errors import NodeDied, NotSaved, Owed
 from ..index import Kept
-from ..pool import Move, Pool
+from ..nodebench import Move, NodeBench
 from .errors import INVALID_ADDRESS_OR_KEY, INVALID_PARAMETER, METHOD_NOT_FOUND, MISC_ERROR, RpcError
-from .mempool import MOST_BYTES, Mempool
+from .mempool import MOST_BYTES, ServedMempool
 from .values import expect
 
 if TYPE_CHECKING:
@@ -22,13 +22,13 @@ LOOK = 0.5
 
 
 class Node:
-    """A pool of seats that calls are made on. A call waits for no other one, except for those that make blocks, and those
+    """The seats that calls are made on. A call waits for no other one, except for those that make blocks, and those
     that read all coins."""
 
-    def __init__(self, bench: Pool, most_waiting: int = MOST_BYTES, has_index: bool = False) -> None:
+    def __init__(self, bench: NodeBench, most_waiting: int = MOST_BYTES, has_index: bool = False) -> None:
         self.bench = bench
         #: What waits to be mined.
-        self.mempool = Mempool(self, most_waiting)
+        self.mempool = ServedMempool(self, most_waiting)
         #: Whether transactions are found by their ids alone (-txindex).
         self.has_index = has_index
         bench.moved = self._moved
@@ -106,7 +106,7 @@ class Node:
 
     def _moved(self, move: Move) -> None:
         """Another block is the active one."""
-        self.mempool.follow(move)
+        self.mempool.moved(move)
         if self.publisher is not None:
             self.publisher.moved(self, move)
 
@@ -117,6 +117,10 @@ class Node:
         reply = self.bench.try_submit_spelled(spelled, self.now())
         self.mempool.settle()
         return reply
+
+    def judge(self, spelled: Spelled) -> Reply:
+        """What a submission of a block would be answered, which isn't kept."""
+        return self.bench.judge_spelled(spelled, self.now())
 
     def mark(self, command: str, id: bytes) -> Reply:
         """Marks a block."""

@@ -11,7 +11,7 @@ from typing import Any, Callable, Dict, List, NamedTuple, Optional, Sequence, Un
 from ..chainstate import show
 from ..encoding import block_at_front
 from ..index import Index
-from ..pool import Move
+from ..nodebench import Move
 from .node import Node, call
 from .values import Object
 

@@ -6,7 +6,7 @@ import re
 from typing import BinaryIO, NamedTuple, Optional, Sequence, Set
 
 from ..chainstate import read_id
-from ..pool import Pool
+from ..nodebench import NodeBench
 
 JOURNAL, BLOCKS, TABLE, HEIGHTS = "journal.txt", "blocks.blk", "table.txt", "heights.txt"
 MAGIC = bytes.fromhex("fabfb5da")
@@ -56,17 +56,17 @@ class OldFiles:
             raise BadFolder(f"{self.path} was made with another table")
         return saved
 
-    def replay(self, pool: Pool) -> None:
+    def replay(self, bench: NodeBench) -> None:
         """Takes all commands again. A reply that differs is refused."""
-        with self._open(JOURNAL) as journal, self._open(BLOCKS) as blocks, pool.turn:
+        with self._open(JOURNAL) as journal, self._open(BLOCKS) as blocks, bench.turn:
             for place, line in enumerate(journal, 1):
                 if not line.endswith(b"\n"):
                     return
                 step = _step(line.decode("ascii", "replace").rstrip("\n"), place)
                 if step.command == "submit":
-                    reply = pool.try_submit(_record(blocks, place), step.now).text
+                    reply = bench.try_submit(_record(blocks, place), step.now).text
                 else:
-                    reply = pool.try_mark(step.command, step.id).text
+                    reply = bench.try_mark(step.command, step.id).text
                 if reply != step.reply:
                     raise BadFolder(f"{JOURNAL} line {place}: {step.reply!r} was answered, and {reply!r} now")
 

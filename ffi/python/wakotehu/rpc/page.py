@@ -11,7 +11,7 @@ from urllib.parse import parse_qsl, urlsplit
 
 from ..chainstate import read_id, show
 from ..encoding import Output, Transaction, read_block
-from ..pool import Coins
+from ..nodebench import Coins
 from .blockchain import header_fields
 from .errors import INVALID_ADDRESS_OR_KEY, METHOD_NOT_FOUND, RpcError
 from .jsonrpc import written

@@ -5,10 +5,11 @@ from typing import Any, List
 from .. import consensus
 from ..chainstate import show
 from ..encoding import Transaction, write_transaction
+from ..errors import NotAccepted
+from ..mempool import Entry
 from .errors import (
     INVALID_PARAMETER, TRANSACTION_ALREADY_IN_CHAIN, TRANSACTION_ERROR, TRANSACTION_REJECTED, RpcError,
 )  # fmt: skip
-from .mempool import Entry, Refused
 from .node import Node, call
 from .txs import GROUP, raw_transaction
 from .values import Amount, Object, amount, array, text
@@ -40,9 +41,9 @@ def sendrawtransaction(node: Node, hexstring: Any, maxfeerate: Any) -> str:
             return show(tx.id)
         try:
             entry = node.mempool.judge(data)
-        except Refused as refused:
-            code = TRANSACTION_ERROR if str(refused) == MISSING else TRANSACTION_REJECTED
-            raise RpcError(code, f"{refused}{refused.more}")
+        except NotAccepted as error:
+            code = TRANSACTION_ERROR if error.reason == MISSING else TRANSACTION_REJECTED
+            raise RpcError(code, str(error))
         if 0 < most < entry.fee:
             raise RpcError(TRANSACTION_ERROR, "Fee exceeds maximum configured by user (e.g. -maxtxfee, maxfeerate)")
         node.mempool.add(entry)
@@ -67,8 +68,8 @@ def testmempoolaccept(node: Node, rawtxs: Any, maxfeerate: Any) -> List[Object]:
     try:
         with node.mempool.used():
             entry = node.mempool.judge(data)
-    except Refused as refused:
-        why = "missing-inputs" if str(refused) == MISSING else str(refused)
+    except NotAccepted as error:
+        why = "missing-inputs" if error.reason == MISSING else error.reason
         return [{**found, "allowed": False, "reject-reason": why}]
     if 0 < most < entry.fee:
         return [{**found, "allowed": False, "reject-reason": "max-fee-exceeded"}]

@@ -3,12 +3,11 @@
 from typing import Any, List
 
 from ..chainstate import show
-from ..encoding import EncodingError, block_at_front, double_sha, subsidy
+from ..encoding import EncodingError, block_at_front, double_sha, meeting_target, subsidy, write_header
+from ..mempool import MAX_BLOCK, MAX_SIGOPS, Entry
 from .errors import DESERIALIZATION_ERROR, INVALID_PARAMETER, RpcError
-from .mempool import MAX_BLOCK, Entry
 from .mining import GROUP
 from .node import Node, call
-from .trial import MAX_SIGOPS, fault
 from .values import Object, hexadecimal, object_of, text
 
 #: Each block of regtest has it.
@@ -45,14 +44,20 @@ def _proposed(node: Node, given: Any) -> Any:
     if id in node.bench.index.blocks:
         active = node.bench.index.is_active(id)
         return "duplicate" if active else "duplicate-inconclusive"
+    # A proposal needs no proof of work.
+    header = meeting_target(block.header)
+    block = block._replace(header=header, data=write_header(header) + block.data[80:])
     while True:
         tip = node.tip()
-        if block.header.parent != tip.id:
+        if header.parent != tip.id:
             return "inconclusive-not-best-prevblk"
-        found = fault(node, block.data)
+        reply = node.judge(block)
         if node.tip() is tip:
-            # Bitcoin Core names no input.
-            return found.partition(" ")[0] or None
+            break
+    if reply.reply == "decode-failed":
+        raise RpcError(DESERIALIZATION_ERROR, "Block decode failed")
+    # Bitcoin Core names no input.
+    return None if reply.reply == "accepted" else reply.reason or reply.reply
 
 
 def _template(node: Node) -> Object:

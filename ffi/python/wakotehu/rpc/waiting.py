@@ -3,8 +3,8 @@
 from typing import Any, List
 
 from ..chainstate import show
+from ..mempool import Mempool
 from .errors import INVALID_ADDRESS_OR_KEY, INVALID_PARAMETER, RpcError
-from .mempool import Mempool
 from .node import Node, call
 from .values import Amount, Object, boolean, digits
 

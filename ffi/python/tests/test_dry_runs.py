@@ -10,15 +10,14 @@ from unittest import mock
 from blocks import Maker, block_id, signed, spend, with_script
 from servers import PROGRAM, Running, seats
 from test_bench import KEYS, SECP, SECRETS, pay_to_key
-from wakotehu import consensus, show
+from wakotehu import show
 from wakotehu.consensus import Triple
 from wakotehu.encoding import (
     GENESIS, Input, Output, Transaction, block_at_front, coinbase, hash160, mine, push, signature_digest,
     write_transaction,
 )  # fmt: skip
-from wakotehu.pool import Pool
+from wakotehu.nodebench import NodeBench
 from wakotehu.rpc import node as rpc_node
-from wakotehu.rpc.trial import fault
 
 COIN, LAST = 50 * 100_000_000, 0xFFFFFFFF
 MISSING, LOCKED = "bad-txns-inputs-missingorspent", "bad-txns-nonfinal"
@@ -127,16 +126,16 @@ class Blocks(unittest.TestCase):
                 state = self.call("getchaintips"), len(self.running.bench.index.blocks)
 
     def expect_as_submitted(self, block, reason):
-        """The trial's word is that of the chainstate."""
+        """The dry run gives the submission's word."""
         with self.node.turn:
-            found = fault(self.node, block)
+            found = self.node.judge(block_at_front(block))
             reply = self.node.submit(block_at_front(block))
-        self.assertEqual((found, "" if reply.text == "accepted" else reply.text), (reason, reason))
+        self.assertEqual((found, "" if reply.text == "accepted" else reply.text), (reply, reason))
         if reply.text == "accepted":
             self.call("invalidateblock", show(block_id(block)))
 
 
-class TrialTest(Blocks):
+class DryRunTest(Blocks):
     def test_table(self):
         for name, transactions, reason in [*self.rows(), *self.signature_rows()]:
             with self.subTest(name):
@@ -190,29 +189,29 @@ class TableTest(Blocks):
         tx = spend(maker.coinbases[block_id(second[0])].id, 0, COIN - 5, b"")
         [signature] = signed(SECP, SECRETS[:1], tx, 0, script)
         line = Triple(KEYS[0], signature[:-1], signature_digest(tx, 0, script, 1)).line
-        return Running(Pool(self.heights, table=line, program=PROGRAM))
+        return Running(NodeBench(self.heights, table=line, program=PROGRAM))
 
     def test_table(self):
         for name, transactions, reason in [*self.rows(), *self.signature_rows()]:
             with self.subTest(name):
                 self.expect(transactions, reason)
 
-
     def test_a_block_that_comes_meanwhile(self):
         """The block is made anew, on that one."""
         other = self.maker.block(block_id(self.blocks[-1]), extra=b"other")
-        unspent, told = Pool.unspent, []
+        judge, told, judged = NodeBench.judge_spelled, [], []
 
-        def slow(pool, id, index):
+        def slow(bench, spelled, now):
             if not told:
-                with pool.others():
+                with bench.others():
                     told.append(self.call("submitblock", other.hex()))
-            return unspent(pool, id, index)
+            judged.append(spelled.header.parent)
+            return judge(bench, spelled, now)
 
         raw = write_transaction(of([(self.coins[0],)], [(1, b"\x51")])).hex()
-        with mock.patch.object(Pool, "unspent", slow):
+        with mock.patch.object(NodeBench, "judge_spelled", slow):
             found = self.call("generateblock", "raw(51)", [raw])
-        self.assertEqual(told, [None])
+        self.assertEqual((told, judged), ([None], [block_id(self.blocks[-1]), block_id(other)]))
         shown = self.call("getblockheader", found["hash"])
         self.assertEqual((shown["previousblockhash"], shown["confirmations"]), (show(block_id(other)), 1))
 
@@ -259,17 +258,6 @@ class ReadOnceTest(Blocks):
             self.assertEqual(read.call_count, 1)
         self.assertEqual([tx.get("fee") for tx in shown["tx"]], [None] + [0.00000999] * 1000)
         self.assertEqual((stats["totalfee"], stats["ins"]), (999_000, 1000))
-
-    def test_many_inputs_of_one_transaction(self):
-        """No script has the whole transaction read, where it asks for no signature."""
-        many = of([(self.coins[0],)], [(1000, b"\x51")] * 1000)
-        self.call("generateblock", "raw(51)", [write_transaction(many).hex()])
-        id = many.id
-        spending = write_transaction(of([(id, b"", LAST, n) for n in range(1000)], [(1, b"\x51")]))
-        with mock.patch.object(consensus, "verify_known", wraps=consensus.verify_known) as verify:
-            self.assertIn("hash", self.call("generateblock", "raw(51)", [spending.hex()]))
-        self.assertEqual(verify.call_count, 1000)
-        self.assertLess(sum(len(call.args[0]) for call in verify.call_args_list), 3 * len(spending))
 
     def test_outputs_of_blocks_and_of_one_another(self):
         """Coinbases of ten blocks, and a chain of payments within the block."""

@@ -10,7 +10,7 @@ from .encoding import EncodingError, Spelled, block_at_front, double_sha
 from .errors import Error
 from .index import Index, Unspent
 from .node import Seat
-from .pool import Coins, Pool
+from .nodebench import Coins, NodeBench
 from .replica import Placed, Replica, ReplicaSeat
 from .replicalog import Row
 from .served import MOST
@@ -24,8 +24,8 @@ SEATS = MOST - 1
 _TRIES = 20
 
 
-class ReplicaPool(Pool):
-    """What `Pool` has, over the seats of a `Replica`. The heights and the signatures are those of the database.
+class ReplicaBench(NodeBench):
+    """What `NodeBench` has, over the seats of a `Replica`. The database has the heights and the signatures.
 
     What is known of blocks (`index`) follows the rows, whichever machine appended them: the thread that takes them holds `turn`
     for each. So a call that holds `turn` and asks nothing sees one place, and a read comes after every row that was taken.
@@ -46,6 +46,7 @@ class ReplicaPool(Pool):
         self.heights = self.replica.setting.heights
         self.table = self.replica.setting.signatures
         self.known = KnownSignatures(secp256k1, b"") if self.replica.setting.by_need else None
+        self._shadow = None
 
     def close(self) -> None:
         """Ends the replica."""
@@ -76,7 +77,7 @@ class ReplicaPool(Pool):
             self.turn.notify_all()
 
     def _is_kept_by(self, seat: Seat, id: bytes, spelled: Spelled, reply: Reply) -> bool:
-        """Whether a block is kept, as `Pool._is_kept`."""
+        """Whether a block is kept, as `NodeBench._is_kept`."""
         if reply.reply != "rejected":
             return reply.reply in ("accepted", "inconclusive")
         return spelled.header.parent in self.index.blocks and any(tip.id == id for tip in seat.getchaintips().value)
@@ -102,6 +103,17 @@ class ReplicaPool(Pool):
             answered = ask(self.replica.seat(number))
         self._seen[number] = max(self._seen[number], answered.at)
         return answered.value
+
+    # ---- dry runs
+
+    def judge_spelled(self, spelled: Spelled, now: int) -> Reply:
+        """As `NodeBench.judge_spelled`."""
+        found = self._ask(lambda seat: seat.judge(spelled.data, now))
+        while found.value.reply != "accepted" and self.steps < found.at:
+            # The node took rows that aren't taken up here; where the replica has stopped none will be.
+            self.turn.wait(0.5)
+            self.replica.status()
+        return found.value
 
     # ---- reads
 
@@ -132,7 +144,7 @@ class ReplicaPool(Pool):
                 return Unspent(Coin(value, script, height, coinbase), best.value, confirmations)
 
     def coins(self) -> Tuple[bytes, Coins]:
-        """As `Pool.coins`. The thread that takes rows waits, so that all parts of the list are of one place."""
+        """As `NodeBench.coins`. The thread that takes rows waits, so that all parts of the list are of one place."""
         seat = self.replica.seat(self._number())
         seat.told(self.steps)
         for _ in range(_TRIES):

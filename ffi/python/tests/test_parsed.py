@@ -1,0 +1,124 @@
+"""A transaction that is read once: each answer compared with the call that reads its bytes, its life, and misuse."""
+
+import copy
+import gc
+import pickle
+import threading
+import unittest
+from typing import List, Union
+
+import wakotehu
+from wakotehu import consensus as c
+from wakotehu.encoding import push
+from wakotehu.errors import BadTable, Busy, Closed
+from wakotehu.signatures import Secp256k1
+
+
+def spending(scripts: List[bytes]) -> bytes:
+    """A transaction with an input for each script."""
+    inputs = tuple(c.Input(bytes([n % 251]) * 32, n, script, 0) for n, script in enumerate(scripts))
+    return c.write_transaction(c.Parts(1, inputs, (c.Output(1, b""),), 0))
+
+
+class ParsedTest(unittest.TestCase):
+    def test_a_thousand_inputs(self) -> None:
+        """Each input pushes its number, and each script is right for one of them."""
+        data = spending([push(n.to_bytes(2, "little")) for n in range(1000)])
+        with wakotehu.ParsedTransaction(data) as tx:
+            self.assertEqual(tx.size, len(data))
+            for n in range(1000):
+                spent = push((n ^ (n % 3 == 0)).to_bytes(2, "little")) + b"\x87"
+                found = tx.verify_input(n, spent)
+                self.assertEqual(found, c.ScriptError.EVAL_FALSE if n % 3 == 0 else None)
+                if n % 100 < 3:
+                    self.assertEqual(found, c.verify_script(data, n, spent))
+                    self.assertEqual(tx.verify(n, spent), c.verify(data, n, spent))
+            for beyond in (1000, (1 << 64) - 1):
+                with self.assertRaisesRegex(c.Refused, "no such input"):
+                    tx.verify_input(beyond, b"\x51")
+
+    def test_flags_of_each_call_alone_count(self) -> None:
+        data = spending([b"\x51", b"\x01\x00"])
+        inner = b"\xa9\x14" + c.hash160(b"\x00") + b"\x87"
+        with c.ParsedTransaction(data) as tx:
+            for _ in range(3):
+                self.assertEqual(tx.verify_input(0, b"\x01\x7f\xb1"), c.ScriptError.UNSATISFIED_LOCKTIME)
+                self.assertIsNone(tx.verify_input(0, b"\x01\x7f\xb1", ["P2SH"]))
+                self.assertEqual(tx.verify_input(1, inner), c.ScriptError.EVAL_FALSE)
+                self.assertIsNone(tx.verify_input(1, inner, []))
+                self.assertEqual(tx.verify(0, b"\x01\x7f\xb1", flags=[]), True)
+                self.assertEqual(tx.verify(1, inner, flags=[]), False)
+
+    def test_real_signatures(self) -> None:
+        secp, secret = Secp256k1(), bytes(31) + b"\x07"
+        spent = push(secp.public_key(secret)) + b"\xac"
+        bare = spending([b""] * 3)
+        own = [push(secp.sign(secret, c.signature_digest(bare, n, spent, 1)) + b"\x01") for n in range(3)]
+        with c.ParsedTransaction(spending([own[0], own[1], own[0]])) as tx:
+            for n, right in enumerate((True, True, False)):
+                self.assertEqual(tx.verify(n, spent, signatures="secp256k1"), right)
+                self.assertFalse(tx.verify(n, spent))
+                asked = tx.verify_input(n, spent)
+                assert isinstance(asked, c.Triple)
+                self.assertTrue(tx.verify(n, spent, table=asked.line))
+                self.assertIsNone(tx.verify_input(n, spent, valid=asked.line))
+                self.assertEqual(tx.verify_input(n, spent, invalid=asked.line), c.ScriptError.EVAL_FALSE)
+                with self.assertRaisesRegex(c.Refused, "contradiction"):
+                    tx.verify_input(n, spent, valid=asked.line, invalid=asked.line)
+            tables: List[Union[str, bytes]] = ["# fine\nnonsense", b"\n\xff"]
+            for wrong in tables:
+                with self.assertRaises(BadTable) as caught:
+                    tx.verify(0, spent, table=wrong)
+                self.assertEqual(caught.exception.line, 2)
+
+    def test_what_is_read(self) -> None:
+        data = spending([b"\x51"])
+        for wrong, fault in ((data[:-1], "short"), (b"", "short"), (data + b"\0", "extra"), (data + data, "extra")):
+            with self.assertRaises(c.Refused) as caught:
+                c.ParsedTransaction(wrong)
+            self.assertEqual(caught.exception.fault, fault)
+        with c.ParsedTransaction(data + b"more", whole=False) as tx:
+            self.assertEqual(tx.size, len(data))
+            self.assertTrue(tx.verify(0, b"\x61"))
+        with self.assertRaisesRegex(c.Refused, "short"):
+            c.ParsedTransaction(data[:-1], whole=False)
+
+    def test_its_life(self) -> None:
+        tx, other = c.ParsedTransaction(spending([b"\x51"])), c.ParsedTransaction(spending([b"\x00"]))
+        self.assertRaises(TypeError, copy.copy, tx)
+        self.assertRaises(TypeError, pickle.dumps, tx)
+        tx.close()
+        tx.close()
+        for call in (tx.verify, tx.verify_input):
+            with self.assertRaisesRegex(Closed, "transaction"):
+                call(0, b"\x61")
+        self.assertFalse(other.verify(0, b"\x61"))
+        # More than can be kept at once: each is given back by itself.
+        for n in range(70_000):
+            self.assertEqual(c.ParsedTransaction(spending([b"\x51"])).size, 61)
+        gc.collect()
+        other.close()
+
+    def test_threads_share_one(self) -> None:
+        """Each call is answered rightly, or refused with Busy."""
+        data, wrong = spending([b"\x51", b"\x00"]), []
+
+        def ask(tx: c.ParsedTransaction) -> None:
+            for n in range(2000):
+                try:
+                    if tx.verify(n & 1, b"\x61" * 50) != (n & 1 == 0):
+                        wrong.append(n)
+                except Busy:
+                    pass
+
+        with c.ParsedTransaction(data) as tx:
+            threads = [threading.Thread(target=ask, args=(tx,)) for _ in range(4)]
+            for thread in threads:
+                thread.start()
+            for thread in threads:
+                thread.join()
+        self.assertEqual(wrong, [])
+
+
+if __name__ == "__main__":
+    unittest.main()

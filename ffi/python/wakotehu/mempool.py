@@ -1,0 +1,455 @@
+"""Which transactions may wait to be mined (Bitcoin Core's `CTxMemPool`), by consensus rules alone: there is no policy, so what a
+block may have is accepted. Of two that spend one coin the first stays.
+
+Whether the next block may have a transaction is for the chainstate to say: a block of it, and of what waits and has to be mined
+before it, is judged by a dry run, so nothing of it is left behind, and no rule is written here a second time. Where much has to
+be mined before it, and no rule looks at its block's height, that is mined on a stage, and the transaction alone is judged."""
+
+from contextlib import contextmanager
+from typing import Dict, Iterable, Iterator, List, NamedTuple, Optional, Protocol, Sequence, Set, Tuple
+
+from . import consensus
+from .chainstate import Coin, Reply
+from .encoding import Spelled, Transaction, block_at_front, read_transaction
+from .errors import DecodeFailed, NotAccepted
+from .index import Index, Kept, Unspent
+from .stage import Stage, next_block
+
+Outpoint = Tuple[bytes, int]
+#: The most bytes of all that wait, where nobody says it: Bitcoin Core's -maxmempool.
+MOST_BYTES = 300_000_000
+#: The most bytes and signature operations of a block, and those that its header and its coinbase may take.
+MAX_BLOCK, MAX_SIGOPS = 1_000_000, 20_000
+HEAD_SIZE, HEAD_SIGOPS = 1_000, 400
+#: How many blocks above a coinbase its coins may be spent.
+MATURITY = 100
+#: Where more than these have to be mined before a transaction, it is judged on a stage. Bitcoin Core lets no more wait.
+DEEP = 24
+#: An input with a higher sequence number doesn't signal that it may be replaced (BIP 125).
+REPLACEABLE = 0xFFFFFFFD
+
+#: What Bitcoin Core's mempool says of a transaction that isn't accepted where a block is refused by these.
+_WORDS = {
+    "bad-blk-sigops": "bad-txns-too-many-sigops", "bad-txns-nonfinal": "non-BIP68-final", "bad-txns-BIP30": "txn-already-known",
+    "blk-bad-inputs": "mandatory-script-verify-flag-failed",
+}  # fmt: skip
+#: What is said where no block has room, so that none is judged.
+_NO_ROOM = Reply("no room", "no room", "", 0, 0)
+
+
+class Entry(NamedTuple):
+    """A transaction that waits: its bytes, its fee in satoshis, its signature operations, when it came, the height of the best
+    block then, and whether it was sent: else a block had it that left the active branch."""
+
+    id: bytes
+    tx: Transaction
+    data: bytes
+    fee: int
+    sigops: int
+    time: int
+    height: int
+    is_sent: bool
+
+    @property
+    def size(self) -> int:
+        return len(self.data)
+
+
+class _Room:
+    """What a block has room for beside its header and its coinbase, which pays to a script."""
+
+    def __init__(self, script: bytes = b"") -> None:
+        self.size = MAX_BLOCK - HEAD_SIZE - len(script)
+        self.sigops = MAX_SIGOPS - HEAD_SIGOPS - consensus.script(script).plain
+
+    def take(self, *entries: Entry) -> bool:
+        """Whether there is room for more, which is taken then."""
+        size, sigops = sum(len(entry.data) for entry in entries), sum(entry.sigops for entry in entries)
+        if size > self.size or sigops > self.sigops:
+            return False
+        self.size, self.sigops = self.size - size, self.sigops - sigops
+        return True
+
+
+class Waiting:
+    """Transactions, and which of them spends what."""
+
+    def __init__(self) -> None:
+        #: In the order in which they are mined: parents come before their children.
+        self.entries: Dict[bytes, Entry] = {}
+        #: The transaction that spends an outpoint.
+        self.spenders: Dict[Outpoint, bytes] = {}
+        self.bytes = 0
+        #: The place of each in that order.
+        self._places: Dict[bytes, int] = {}
+        self._last = 0
+        #: The one that was put last, behind those that have to be mined before it: the next one often hangs on it.
+        self._line: List[Entry] = []
+
+    def put(self, entry: Entry) -> None:
+        """Puts one behind all others."""
+        self._line = self.with_ancestors(entry)
+        self._last += 1
+        self.entries[entry.id], self._places[entry.id] = entry, self._last
+        self.spenders.update(((it.id, it.index), entry.id) for it in entry.tx.inputs)
+        self.bytes += entry.size
+
+    def drop(self, id: bytes) -> None:
+        """One goes by itself."""
+        entry, self._line = self.entries.pop(id), []
+        del self._places[id]
+        self.bytes -= entry.size
+        for spends in entry.tx.inputs:
+            del self.spenders[spends.id, spends.index]
+
+    def coin(self, id: bytes, index: int) -> Optional[Coin]:
+        """The coin that one of them would make."""
+        entry = self.entries.get(id)
+        if entry is None or index >= len(entry.tx.outputs):
+            return None
+        out = entry.tx.outputs[index]
+        return None if consensus.script(out.script).unspendable else Coin(out.value, out.script, 0x7FFFFFFF, False)
+
+    # ---- what hangs on what
+
+    def parents(self, id: bytes) -> List[bytes]:
+        """Those that one spends coins of."""
+        return self._made_by(self.entries[id].tx)
+
+    def _made_by(self, tx: Transaction) -> List[bytes]:
+        found = [it.id for it in tx.inputs if it.id in self.entries]
+        return found if len(found) < 2 else list(dict.fromkeys(found))
+
+    def children(self, id: bytes) -> List[bytes]:
+        """Those that spend coins of one."""
+        count = len(self.entries[id].tx.outputs)
+        found = (self.spenders.get((id, index)) for index in range(count))
+        return list(dict.fromkeys(it for it in found if it is not None))
+
+    def ancestors(self, id: bytes) -> List[bytes]:
+        """Those that have to be mined before one."""
+        return self._reached(self.parents(id), up=True)
+
+    def descendants(self, id: bytes) -> List[bytes]:
+        """Those that can't be mined without one."""
+        return self._reached(self.children(id), up=False)
+
+    def _reached(self, first: Iterable[bytes], up: bool) -> List[bytes]:
+        found: Set[bytes] = set()
+        left = list(first)
+        while left:
+            it = left.pop()
+            if it not in found:
+                found.add(it)
+                left += self.parents(it) if up else self.children(it)
+        return list(found)
+
+    def with_ancestors(self, *entries: Entry) -> List[Entry]:
+        """Some, which needn't wait yet, behind those that have to be mined before them."""
+        own = {entry.id for entry in entries}
+        parents = list(dict.fromkeys(it for entry in entries for it in self._made_by(entry.tx)))
+        if self._line and parents == [self._line[-1].id] and parents[0] not in own:
+            return [*self._line, *entries]
+        above = self._reached(parents, up=True)
+        return [*(self.entries[it] for it in sorted(above, key=self._places.__getitem__) if it not in own), *entries]
+
+    def is_replaceable(self, id: bytes) -> bool:
+        """Whether it, or what has to be mined before it, signals by BIP 125 that it may be replaced. Nothing is replaced."""
+        return any(
+            spends.sequence <= REPLACEABLE for it in [id, *self.ancestors(id)] for spends in self.entries[it].tx.inputs
+        )
+
+    def selection(self, script: bytes) -> List[Entry]:
+        """What a block that pays to a script has room for, in order; what hangs on one that is left out is left out."""
+        found: Dict[bytes, Entry] = {}
+        room = _Room(script)
+        for entry in self.entries.values():
+            if all(it in found for it in self.parents(entry.id)) and room.take(entry):
+                found[entry.id] = entry
+        return list(found.values())
+
+
+class Chain(Protocol):
+    """What the rules ask of a chainstate: a `Bench`, or the seats of a node."""
+
+    @property
+    def index(self) -> Index: ...
+
+    @property
+    def heights(self) -> Sequence[int]: ...
+
+    def judge_spelled(self, spelled: Spelled, now: int) -> Reply: ...
+
+    def unspent(self, id: bytes, index: int) -> Optional[Unspent]: ...
+
+    def block(self, id: bytes) -> Optional[bytes]: ...
+
+
+class Mempool(Waiting):
+    """What waits on the active branch of a chainstate."""
+
+    def __init__(self, bench: Chain, most: int = MOST_BYTES) -> None:
+        super().__init__()
+        self.bench, self.most = bench, most
+        #: Transactions of blocks that left the active branch, to be looked at again.
+        self._returning: Dict[bytes, Tuple[Transaction, bytes]] = {}
+        #: Whether what waits has to be judged again; and the soft forks that are in force in the next block.
+        self.is_stale = False
+        self._forks = self._in_force()
+        #: Counts the moves of the active branch.
+        self._moves = 0
+        #: A stage on the active block, where one was needed.
+        self._stage: Optional[Stage] = None
+
+    # ---- what is another thing at a bench and at a server
+
+    def now(self) -> int:
+        """The moment at which a transaction comes."""
+        raise NotImplementedError
+
+    @contextmanager
+    def others(self) -> Iterator[None]:
+        """Lets other threads go on meanwhile."""
+        yield
+
+    def told(self, label: bytes, id: bytes, data: bytes = b"") -> None:
+        """One came (A), with its bytes, or went without being mined (R)."""
+
+    def stage(self) -> Optional[Stage]:
+        """A stage on the active block, or None."""
+        raise NotImplementedError
+
+    # ---- the active branch
+
+    def tip(self) -> Kept:
+        """The active block."""
+        index = self.bench.index
+        return index.blocks[index.active[-1]]
+
+    def follow(self, gone: Sequence[bytes], come: Sequence[bytes]) -> None:
+        """Takes up a move of the active branch: the ids of the blocks that left it, the highest first, and of those that came,
+        the lowest first. What was mined is gone, with what spends the same coins; what blocks that left had comes back when it
+        is looked at again."""
+        self._moves += 1
+        self._stage = None
+        before, self._forks = self._forks, self._in_force()
+        for id in gone:
+            self._returning.update(self._transactions(id))
+        if not self.entries and not self._returning:
+            return
+        for id in come:
+            for own, (tx, _) in self._transactions(id).items():
+                self._returning.pop(own, None)
+                self._mined(own, tx)
+        self.is_stale |= bool(gone) or self._forks != before
+
+    def _in_force(self) -> Tuple[bool, ...]:
+        return tuple(self.tip().height + 1 >= height for height in self.bench.heights)
+
+    def _transactions(self, id: bytes) -> Dict[bytes, Tuple[Transaction, bytes]]:
+        """The transactions of a block but its coinbase, with their bytes."""
+        data = self.bench.block(id)
+        assert data is not None, "blocks of the index are kept"
+        block = block_at_front(data)
+        places = range(1, len(block.ids))
+        return {block.ids[at]: (block.transaction(at), data[slice(*block.places[at])]) for at in places}
+
+    def _mined(self, id: bytes, tx: Transaction) -> None:
+        if id in self.entries:
+            self.drop(id)
+        for spends in tx.inputs:
+            other = self.spenders.get((spends.id, spends.index))
+            if other is not None:
+                self._remove(other)
+
+    def _remove(self, id: bytes) -> None:
+        """One goes, and all that hang on it."""
+        for it in [id, *self.descendants(id)]:
+            self.drop(it)
+            self.told(b"R", it)
+
+    def look_again(self) -> None:
+        """What still may be mined of what blocks that left had and of what waits. Another block may come meanwhile: then all
+        is looked at once more."""
+        while self.is_stale:
+            moves, fresh = self._moves, Waiting()
+            rows = {**self._returning, **{it.id: (it.tx, it.data) for it in self.entries.values()}}
+            self._sift([rows[id][1] for id in _parents_first(rows)], fresh)
+            if self._moves == moves:
+                self._take(fresh)
+
+    def _take(self, fresh: Waiting) -> None:
+        before, self.entries = self.entries, {id: self.entries.get(id, entry) for id, entry in fresh.entries.items()}
+        self.spenders, self.bytes, self._line = fresh.spenders, fresh.bytes, []
+        self._places, self._last = fresh._places, fresh._last
+        self._returning, self.is_stale = {}, False
+        for id in before:
+            if id not in self.entries:
+                self.told(b"R", id)
+        for entry in self.entries.values():
+            if entry.id not in before:
+                self.told(b"A", entry.id, entry.data)
+
+    def _sift(self, rows: Sequence[bytes], among: Waiting) -> None:
+        """Puts those among others that may wait: all of them where one block may have them, else of each half."""
+        if len(rows) > 1 and not self._put_all(rows, among):
+            self._sift(rows[: len(rows) // 2], among)
+            self._sift(rows[len(rows) // 2 :], among)
+        elif len(rows) == 1:
+            try:
+                among.put(self._judged(rows[0], among))
+            except NotAccepted:
+                pass
+
+    def _put_all(self, rows: Sequence[bytes], among: Waiting) -> bool:
+        """Puts all of them among others, or none."""
+        entries: List[Entry] = []
+        try:
+            for data in rows:
+                entries.append(self._weighed(data, among))
+                among.put(entries[-1])
+            if self._is_refused(among.with_ancestors(*entries)) is None:
+                return True
+        except NotAccepted:
+            pass
+        for entry in reversed(entries):
+            among.drop(entry.id)
+        return False
+
+    # ---- what comes
+
+    def judge(self, data: bytes) -> Entry:
+        """What a transaction would be that is sent now; `NotAccepted` where it may not wait."""
+        while True:
+            moves = self._moves
+            try:
+                found = self._judged(data, self)
+            except NotAccepted:
+                if self._moves == moves:
+                    raise
+            else:
+                if self._moves == moves:
+                    return found._replace(is_sent=True)
+            self.look_again()
+
+    def add(self, entry: Entry) -> None:
+        """Adds what was judged on this active branch."""
+        self.put(entry)
+        self.told(b"A", entry.id, entry.data)
+
+    def _judged(self, data: bytes, among: Waiting) -> Entry:
+        """What a transaction would be among others; `NotAccepted` where the next block may not have it behind them."""
+        entry = self._weighed(data, among)
+        block = among.with_ancestors(entry)
+        is_deep = len(block) > DEEP + 1 and self._may_come_later(entry, among)
+        reply = self._is_refused_on_stage(block) if is_deep else self._is_refused(block)
+        if reply is not None:
+            raise self._not_accepted(reply, entry, among)
+        return entry
+
+    def _weighed(self, data: bytes, among: Waiting) -> Entry:
+        """A transaction with what its coins make of it, in so far as they are there; what it breaks by itself, and by what waits,
+        is refused, in Bitcoin Core's order."""
+        tip = self.tip()
+        with self.others():
+            try:
+                own = consensus.transaction(data)
+                tx = read_transaction(data)
+            except (consensus.Refused, ValueError):
+                raise DecodeFailed("the bytes are no transaction") from None
+            is_final = not own.reason and consensus.is_final(data, tip.height + 1, tip.median)
+        if own.reason or own.coinbase:
+            raise NotAccepted(own.reason or "coinbase")
+        if not is_final:
+            raise NotAccepted("non-final")
+        if own.id in among.entries:
+            raise NotAccepted("txn-already-in-mempool")
+        if any((it.id, it.index) in among.spenders for it in tx.inputs):
+            raise NotAccepted("txn-mempool-conflict")
+        if among.bytes + len(data) > self.most:
+            raise NotAccepted("mempool full")
+        coins = self._coins(tx, among)
+        fee = sum(coin.value for coin in coins if coin) - sum(out.value for out in tx.outputs)
+        inner = sum(consensus.p2sh_sigops(it.script, coin.script) for it, coin in zip(tx.inputs, coins) if coin)
+        return Entry(own.id, tx, data, fee, own.sigops + inner, self.now(), tip.height, False)
+
+    def _coins(self, tx: Transaction, among: Waiting) -> List[Optional[Coin]]:
+        """The coins that a transaction spends, of what waits and of the active branch; None for one that isn't there."""
+        found = []
+        for spends in tx.inputs:
+            coin = among.coin(spends.id, spends.index)
+            unspent = None if coin else self.bench.unspent(spends.id, spends.index)
+            found.append(unspent.coin if unspent else coin)
+        return found
+
+    def _is_refused(self, entries: Sequence[Entry]) -> Optional[Reply]:
+        """What the next block would be answered that has these; None where it would be accepted."""
+        if not _Room().take(*entries):
+            return _NO_ROOM
+        tip = self.tip()
+        # The least time that it may have: what is final then is final later.
+        when = min(tip.median + 1, 0xFFFFFFFF)
+        with self.others():
+            block = next_block(tip.id, tip.height + 1, when, entries, b"a dry run")
+        reply = self.bench.judge_spelled(block, when)
+        if reply.reply == "tree-full":
+            reply.check()
+        return None if reply.reply == "accepted" else reply
+
+    def _may_come_later(self, entry: Entry, among: Waiting) -> bool:
+        """Whether each later block may have a transaction that is final where the next one may: it spends no coinbase, it has no
+        relative lock (BIP 68), and no soft fork is to come."""
+        coins, locks = self._coins(entry.tx, among), [it.sequence >> 31 == 0 for it in entry.tx.inputs]
+        return all(self._forks) and not any(locks) and all(coin is not None and not coin.coinbase for coin in coins)
+
+    def _is_refused_on_stage(self, entries: Sequence[Entry]) -> Optional[Reply]:
+        """The same for one that may come later, the last of these, behind blocks of the others."""
+        if not _Room().take(*entries):
+            return _NO_ROOM
+        moves, reply = self._moves, None
+        stage = self._stage or self.stage()
+        if stage is not None:
+            with self.others():
+                reply = stage.judge(entries[:-1], entries[-1])
+        if self._moves == moves:
+            self._stage = stage if reply else None
+        if reply is None:
+            return self._is_refused(entries)
+        return None if reply.reply == "accepted" else reply
+
+    def _not_accepted(self, reply: Reply, entry: Entry, among: Waiting) -> NotAccepted:
+        """Why a transaction isn't accepted, by what a block was answered that has it; as Bitcoin Core says it."""
+        if reply is _NO_ROOM:
+            if _Room().take(entry):
+                return NotAccepted("too-long-mempool-chain", "no block has room for it and what it needs")
+            if entry.size <= MAX_BLOCK - HEAD_SIZE:
+                return NotAccepted("bad-txns-too-many-sigops")
+            return NotAccepted("tx-size" if entry.size <= MAX_BLOCK else "bad-txns-oversize")
+        reason = reply.reason or reply.reply
+        more, coins = "", [coin for coin in self._coins(entry.tx, among) if coin]
+        if reason == "bad-txns-in-belowout":
+            spent, paid = sum(it.value for it in coins), sum(it.value for it in entry.tx.outputs)
+            more = f"value in ({_money(spent)}) < value out ({_money(paid)})"
+        if reason == "bad-txns-premature-spend-of-coinbase":
+            deep = [self.tip().height + 1 - coin.height for coin in coins if coin.coinbase]
+            more = f"tried to spend coinbase at depth {next((it for it in deep if it < MATURITY), 0)}"
+        return NotAccepted(_WORDS.get(reason, reason), more, reply)
+
+
+def _money(satoshis: int) -> str:
+    """An amount in bitcoin, with two digits behind the point at least."""
+    whole, part = divmod(satoshis, 100_000_000)
+    return f"{whole}.{f'{part:08}'.rstrip('0').ljust(2, '0')}"
+
+
+def _parents_first(rows: Dict[bytes, Tuple[Transaction, bytes]]) -> List[bytes]:
+    """The ids of transactions in their order, but each behind those that it spends coins of."""
+    found: Dict[bytes, None] = {}
+    for id in rows:
+        left = [id]
+        while left:
+            above = [it.id for it in rows[left[-1]][0].inputs if it.id in rows and it.id not in found]
+            left += above
+            if not above:
+                found[left.pop()] = None
+    return list(found)

@@ -1,0 +1,285 @@
+/* Transactions that are read once: each allocation refused in turn, handles misused and fought for by threads, and each
+ * answer beside that of the call that reads the bytes. Prints nothing where all is well. malloc, calloc, realloc and free go
+ * by the wrappers below (the linker's --wrap). */
+#include <pthread.h>
+#include <stdatomic.h>
+#include <stdio.h>
+#include <stdlib.h>
+#include <string.h>
+#include <wakotehu.h>
+
+static _Atomic long left = -1; /* so many allocations until one is refused; below 0: none is */
+static _Atomic long live;      /* so many pieces of memory are in use */
+
+void *__real_malloc(size_t size);
+void *__real_calloc(size_t count, size_t size);
+void *__real_realloc(void *old, size_t size);
+void __real_free(void *old);
+
+static int is_refused(void) { return left >= 0 && left-- == 0; }
+
+static void *counted(void *made) {
+    live += made != NULL;
+    return made;
+}
+
+void *__wrap_malloc(size_t size) { return is_refused() ? NULL : counted(__real_malloc(size)); }
+
+void *__wrap_calloc(size_t count, size_t size) { return is_refused() ? NULL : counted(__real_calloc(count, size)); }
+
+void *__wrap_realloc(void *old, size_t size) {
+    if (is_refused())
+        return NULL;
+    return old ? __real_realloc(old, size) : counted(__real_realloc(old, size));
+}
+
+void __wrap_free(void *old) {
+    live -= old != NULL;
+    __real_free(old);
+}
+
+#define EXPECT(holds)                                                          \
+    do {                                                                       \
+        if (!(holds)) {                                                        \
+            fprintf(stderr, "%s:%d: %s\n", __FILE__, __LINE__, #holds);        \
+            exit(1);                                                           \
+        }                                                                      \
+    } while (0)
+
+/* Three inputs with the scripts 51, 52 and (a signature that is a hash type alone, a key) 01 01 01 02, and an output. */
+enum { INPUTS = 3, TX = 4 + 1 + 42 + 42 + 45 + 1 + 9 + 4 };
+static uint8_t *tx;
+static const uint8_t adds[] = {0x52, 0x93, 0x54, 0x9c}; /* 2 ADD 4 NUMEQUAL: 2 alone is right */
+static const uint8_t checksig[] = {0xac};
+
+static void make_transaction(void) {
+    static const uint8_t scripts[INPUTS][5] = {{1, 0x51}, {1, 0x52}, {4, 1, 1, 1, 2}};
+    uint8_t *at = tx = calloc(1, TX);
+    EXPECT(tx);
+    *at = 1, at += 4, *at++ = INPUTS;
+    for (int n = 0; n < INPUTS; n++) {
+        memset(at, 7 + n, 32), at += 36;
+        memcpy(at, scripts[n], 1 + scripts[n][0]), at += 1 + scripts[n][0] + 4;
+    }
+    *at++ = 1, *at = 1;
+    EXPECT(at + 9 + 4 - tx == TX);
+}
+
+static wakotehu_tx opened(void) {
+    wakotehu_tx own = 0;
+    EXPECT(wakotehu_tx_read(tx, TX, NULL, &own) == WAKOTEHU_OK && own != 0);
+    return own;
+}
+
+/* All that is told of an input. */
+struct told {
+    uint64_t line, needed;
+    uint32_t error;
+    char asked[256];
+};
+
+static struct told nothing_told(void) {
+    struct told it;
+    memset(&it, 0xa5, sizeof it);
+    return it;
+}
+
+/* What is asked: the input, what it spends, the rules, two tables, and the room for a line. */
+struct question {
+    uint64_t input;
+    const uint8_t *spent;
+    size_t length;
+    uint32_t flags;
+    const char *valid, *invalid;
+    size_t room;
+};
+
+static wakotehu_code by_handle(wakotehu_tx own, const struct question *q, struct told *it) {
+    return wakotehu_tx_verify_input(own, q->input, q->spent, q->length, q->flags, q->valid, strlen(q->valid), q->invalid,
+                                    strlen(q->invalid), &it->line, &it->error, it->asked, q->room, &it->needed);
+}
+
+static wakotehu_code by_bytes(const struct question *q, struct told *it) {
+    return wakotehu_verify_script(tx, TX, q->input, q->spent, q->length, q->flags, q->valid, strlen(q->valid), q->invalid,
+                                  strlen(q->invalid), &it->line, &it->error, it->asked, q->room, &it->needed);
+}
+
+#define DIGEST "0100000000000000000000000000000000000000000000000000000000000000"
+
+static const struct question questions[] = {
+    {0, adds, sizeof adds, 5, "", "", 256},
+    {1, adds, sizeof adds, 5, "", "", 256},
+    {1, adds, 2, 5, "# none\n", "", 256},
+    {1, adds, 0, 0, "", "", 0},
+    {2, checksig, 1, 0, "", "", 256},
+    {2, checksig, 1, 0, "", "", 69},
+    {2, checksig, 1, 4, "", "", 256},
+    {3, adds, sizeof adds, 5, "", "", 256},
+    {UINT64_MAX, adds, sizeof adds, 5, "", "", 256},
+    {0, adds, sizeof adds, 5, "aa bb " DIGEST, "#\naa bb " DIGEST, 256},
+    {0, adds, sizeof adds, 5, "\n1 2 3", "", 256},
+    {0, adds, sizeof adds, 5, "", "\n\n1 2 3", 256},
+};
+enum { QUESTIONS = sizeof questions / sizeof *questions };
+
+/* Both calls answer the same, in any order and again, and write the same. */
+static void same_answers(void) {
+    wakotehu_tx own = opened();
+    int met[32] = {0};
+    for (int n = 0; n < 3 * QUESTIONS; n++) {
+        const struct question *q = &questions[n * 5 % QUESTIONS];
+        struct told one = nothing_told(), other = nothing_told();
+        wakotehu_code code = by_bytes(q, &one);
+        EXPECT(by_handle(own, q, &other) == code && memcmp(&one, &other, sizeof one) == 0);
+        met[code] = 1;
+    }
+    EXPECT(met[WAKOTEHU_OK] && met[WAKOTEHU_UNKNOWN] && met[WAKOTEHU_TOO_SMALL] && met[WAKOTEHU_NO_INPUT]);
+    EXPECT(met[WAKOTEHU_CONTRADICTION] && met[WAKOTEHU_BAD_TABLE]);
+    struct told it = nothing_told();
+    EXPECT(by_handle(own, &questions[0], &it) == WAKOTEHU_OK && it.error == WAKOTEHU_SCRIPT_EVAL_FALSE);
+    EXPECT(by_handle(own, &questions[1], &it) == WAKOTEHU_OK && it.error == WAKOTEHU_SCRIPT_OK);
+    /* The line that is asked for, behind a table. */
+    EXPECT(by_handle(own, &questions[4], &it) == WAKOTEHU_UNKNOWN && it.needed < 256);
+    it.asked[it.needed] = 0;
+    struct question known = questions[4];
+    known.valid = it.asked, known.room = 0;
+    struct told told = nothing_told();
+    EXPECT(by_handle(own, &known, &told) == WAKOTEHU_OK && told.error == WAKOTEHU_SCRIPT_OK);
+    known.valid = "", known.invalid = it.asked;
+    EXPECT(by_handle(own, &known, &told) == WAKOTEHU_OK && told.error == WAKOTEHU_SCRIPT_EVAL_FALSE);
+    EXPECT(wakotehu_tx_free(own) == WAKOTEHU_OK);
+}
+
+static void readings(void) {
+    wakotehu_tx own = 7;
+    size_t used = 9;
+    uint8_t more[TX + 3];
+    memcpy(more, tx, TX), memset(more + TX, 0, 3);
+    EXPECT(wakotehu_tx_read(more, TX + 3, NULL, &own) == WAKOTEHU_EXTRA && own == 7);
+    for (size_t length = 0; length < TX; length++) {
+        wakotehu_transaction shown;
+        EXPECT(wakotehu_tx_read(tx, length, NULL, &own) == wakotehu_read_transaction(tx, length, &shown));
+        EXPECT(wakotehu_tx_read(tx, length, &used, &own) == WAKOTEHU_SHORT && used == 9 && own == 7);
+    }
+    EXPECT(wakotehu_tx_read(NULL, 0, &used, &own) == WAKOTEHU_SHORT);
+    EXPECT(wakotehu_tx_read(NULL, 1, &used, &own) == WAKOTEHU_NULL);
+    EXPECT(wakotehu_tx_read(tx, SIZE_MAX, &used, &own) == WAKOTEHU_NULL);
+    EXPECT(wakotehu_tx_read(tx, TX, &used, NULL) == WAKOTEHU_NULL && used == 9 && own == 7);
+    EXPECT(wakotehu_tx_read(more, TX + 3, &used, &own) == WAKOTEHU_OK && used == TX && own != 7);
+    /* What was read doesn't hang on the bytes. */
+    memset(more, 0xff, sizeof more);
+    struct told it = nothing_told();
+    EXPECT(by_handle(own, &questions[1], &it) == WAKOTEHU_OK && it.error == WAKOTEHU_SCRIPT_OK);
+    EXPECT(wakotehu_tx_free(own) == WAKOTEHU_OK);
+}
+
+static void refused_allocations(void) {
+    long before = live, n;
+    wakotehu_tx own = 0;
+    size_t used = 9;
+    for (n = 0; own == 0; n++) {
+        left = n;
+        wakotehu_code code = wakotehu_tx_read(tx, TX, &used, &own);
+        int met = left < 0;
+        left = -1;
+        EXPECT(code == (met ? WAKOTEHU_MEMORY : WAKOTEHU_OK));
+        EXPECT(met ? own == 0 && used == 9 && live == before : used == TX);
+    }
+    EXPECT(n > 3);
+    long kept = live;
+    for (int each = 0; each < QUESTIONS; each++) {
+        struct told right = nothing_told(), clean = nothing_told();
+        wakotehu_code done = by_handle(own, &questions[each], &right);
+        int met = 1;
+        for (n = 0; met; n++) {
+            struct told it = nothing_told();
+            left = n;
+            wakotehu_code code = by_handle(own, &questions[each], &it);
+            met = left < 0;
+            left = -1;
+            EXPECT(code == (met ? WAKOTEHU_MEMORY : done));
+            EXPECT(memcmp(&it, met ? &clean : &right, sizeof it) == 0 && live == kept);
+        }
+    }
+    EXPECT(wakotehu_tx_free(own) == WAKOTEHU_OK && live == before);
+}
+
+static void misused(void) {
+    wakotehu_tx own = opened(), wrong[] = {0, 1, 65535, UINT64_MAX, own + 1, own + 65536, own << 32, 0};
+    struct told it = nothing_told(), clean = nothing_told();
+    const struct question *q = &questions[1];
+    uint64_t needed = 7;
+    uint32_t error = 7;
+    EXPECT(wakotehu_tx_verify_input(own, 1, NULL, 1, 5, NULL, 0, NULL, 0, NULL, &error, NULL, 0, &needed) == WAKOTEHU_NULL);
+    EXPECT(wakotehu_tx_verify_input(own, 1, adds, 4, 5, NULL, 1, NULL, 0, NULL, &error, NULL, 0, &needed) == WAKOTEHU_NULL);
+    EXPECT(wakotehu_tx_verify_input(own, 1, adds, 4, 5, NULL, 0, NULL, 1, NULL, &error, NULL, 0, &needed) == WAKOTEHU_NULL);
+    EXPECT(wakotehu_tx_verify_input(own, 1, adds, 4, 5, NULL, 0, NULL, 0, NULL, NULL, NULL, 0, &needed) == WAKOTEHU_NULL);
+    EXPECT(wakotehu_tx_verify_input(own, 1, adds, 4, 5, NULL, 0, NULL, 0, NULL, &error, NULL, 1, &needed) == WAKOTEHU_NULL);
+    EXPECT(wakotehu_tx_verify_input(own, 1, adds, 4, 5, NULL, 0, NULL, 0, NULL, &error, NULL, 0, NULL) == WAKOTEHU_NULL);
+    EXPECT(wakotehu_tx_verify_input(own, 1, adds, SIZE_MAX, 5, NULL, 0, NULL, 0, NULL, &error, NULL, 0, &needed)
+           == WAKOTEHU_NULL);
+    EXPECT(error == 7 && needed == 7);
+    EXPECT(wakotehu_tx_verify_input(own, 1, adds, 4, 5, NULL, 0, NULL, 0, NULL, &error, NULL, 0, &needed) == WAKOTEHU_OK);
+    EXPECT(error == 0 && needed == 7);
+    EXPECT(wakotehu_tx_free(own) == WAKOTEHU_OK);
+    wrong[7] = own;
+    for (size_t n = 0; n < sizeof wrong / sizeof *wrong; n++) {
+        EXPECT(by_handle(wrong[n], q, &it) == WAKOTEHU_CLOSED && memcmp(&it, &clean, sizeof it) == 0);
+        EXPECT(wakotehu_tx_free(wrong[n]) == WAKOTEHU_CLOSED);
+    }
+    wakotehu_tx again = opened();
+    EXPECT(again != own && wakotehu_tx_free(own) == WAKOTEHU_CLOSED && wakotehu_tx_free(again) == WAKOTEHU_OK);
+}
+
+static void too_many(void) {
+    static wakotehu_tx all[WAKOTEHU_MOST_TRANSACTIONS];
+    wakotehu_tx more = 7;
+    long before = live;
+    for (size_t n = 0; n < WAKOTEHU_MOST_TRANSACTIONS; n++)
+        all[n] = opened();
+    EXPECT(wakotehu_tx_read(tx, TX, NULL, &more) == WAKOTEHU_TOO_MANY && more == 7);
+    EXPECT(wakotehu_tx_free(all[99]) == WAKOTEHU_OK && (all[99] = opened()) != 0);
+    for (size_t n = 0; n < WAKOTEHU_MOST_TRANSACTIONS; n++)
+        EXPECT(wakotehu_tx_free(all[n]) == WAKOTEHU_OK);
+    EXPECT(live == before);
+}
+
+/* Threads that ask one transaction, of which each call is done or busy, and each read and free others. */
+static wakotehu_tx shared;
+
+static void *asks(void *unused) {
+    long done = 0;
+    for (int n = 0; n < 20000; n++) {
+        struct told it = nothing_told();
+        wakotehu_code code = by_handle(shared, &questions[n & 1], &it);
+        EXPECT(code == WAKOTEHU_OK || code == WAKOTEHU_BUSY);
+        EXPECT(code == WAKOTEHU_BUSY || it.error == (n & 1 ? WAKOTEHU_SCRIPT_OK : WAKOTEHU_SCRIPT_EVAL_FALSE));
+        done += code == WAKOTEHU_OK;
+        wakotehu_tx own = opened();
+        EXPECT(by_handle(own, &questions[1], &it) == WAKOTEHU_OK && wakotehu_tx_free(own) == WAKOTEHU_OK);
+    }
+    EXPECT(done > 0);
+    return unused;
+}
+
+static void threads(void) {
+    pthread_t all[4];
+    shared = opened();
+    for (int n = 0; n < 4; n++)
+        EXPECT(pthread_create(&all[n], NULL, asks, NULL) == 0);
+    for (int n = 0; n < 4; n++)
+        EXPECT(pthread_join(all[n], NULL) == 0);
+    EXPECT(wakotehu_tx_free(shared) == WAKOTEHU_OK);
+}
+
+int main(void) {
+    make_transaction();
+    readings();
+    same_answers();
+    refused_allocations();
+    misused();
+    too_many();
+    threads();
+    free(tx);
+    return 0;
+}
