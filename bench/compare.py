@@ -24,56 +24,56 @@ HIDDEN = {"OPENSSL_ia32cap": ":~0x20000000"}
 WORKLOADS = [
     ("double-sha", "double SHA-256 of 80 bytes", "hash", [1_000_000]),
     ("ripemd", "RIPEMD-160 of 32 bytes", "hash", [1_000_000]),
-    ("ripemd-long", "RIPEMD-160 of one message, by its bytes", "hash", [1_000_000]),
+    ("ripemd-long", "one message, by its bytes", "hash", [1_000_000]),
     ("merkle", "Merkle root of ids", "hash", [500, 1000, 2000, 4000]),
     ("ids", "ids of payments", "hash", [550, 1100, 2200, 4400]),
-    ("alone", "a block of payments judged by itself", "hash", [550, 1100, 2200, 4400]),
-    ("decode", "reading a block of payments", "work", [550, 1100, 2200, 4400]),
-    ("write", "writing a block of payments", "work", [550, 1100, 2200, 4400]),
+    ("alone", "judging a block by itself", "hash", [550, 1100, 2200, 4400]),
+    ("decode", "reading a block", "work", [550, 1100, 2200, 4400]),
+    ("write", "writing a block", "work", [550, 1100, 2200, 4400]),
     ("records", "records of a blk file", "work", [1250, 2500, 5000, 10_000]),
-    ("key-hash", "inputs that spend a key's hash", "work", [1250, 2500, 5000, 10_000]),
-    ("two-of-three", "inputs that spend two of three keys", "work", [1250, 2500, 5000, 10_000]),
-    ("swaps", "scripts of 201 SWAP on 520 bytes", "work", [1000]),
-    ("hashes", "scripts of 200 HASH256", "hash", [200]),
-    ("long-code", "scripts of 66 CHECKSIG over 9,600 opcodes", "work", [20]),
-    ("conditions", "scripts of 9,700 opcodes under 100 open conditions", "work", [500]),
-    ("digests", "what a signature signs in a transaction of 1,000 inputs", "hash", [1000]),
-    ("each-input", "CHECKSIG of each input of one transaction", "hash", [625, 1250, 2500, 5000]),
-    ("queue-1", "the same as key-hash, by the queue with 1 worker", "work", [10_000]),
-    ("queue-2", "with 2 workers", "work", [10_000]),
-    ("queue-4", "with 4 workers", "work", [10_000]),
-    ("queue-8", "with 8 workers", "work", [10_000]),
-    ("queue-start", "four inputs by four workers, again and again", "work", [1000]),
-    ("coins-insert", "coins into a map", "work", [125_000, 250_000, 500_000, 1_000_000]),
-    ("coins-look-up", "coins looked up through a layer", "work", [125_000, 250_000, 500_000, 1_000_000]),
-    ("coins-spend", "coins spent in a layer", "work", [125_000, 250_000, 500_000, 1_000_000]),
-    ("connect-1", "a block of 2,000 payments connected over coins, 1 worker", "work", [125_000, 250_000, 500_000, 1_000_000]),
-    ("connect-4", "the same with 4 workers", "work", [125_000, 250_000, 500_000, 1_000_000]),
-    ("chain", "blocks without payments, submitted one on the other", "work", [10_000, 100_000]),
-    ("chain-heavy", "the same with blocks of almost a megabyte", "work", [20, 60]),
-    ("blocks-above", "a hundred blocks submitted above so many", "work", [100, 10_000]),
-    ("reorganise", "the block by which another branch of so many blocks becomes active, beside 10,000 blocks", "work", [10, 100, 288, 289, 1000]),
+    ("key-hash", "inputs of a key's hash", "work", [1250, 2500, 5000, 10_000]),
+    ("two-of-three", "inputs of two of three keys", "work", [1250, 2500, 5000, 10_000]),
+    ("swaps", "201 SWAP on 520 bytes", "work", [1000]),
+    ("hashes", "200 HASH256", "hash", [200]),
+    ("long-code", "66 CHECKSIG over 9,600 opcodes", "work", [20]),
+    ("conditions", "9,700 opcodes under 100 conditions", "work", [500]),
+    ("digests", "digests of 1,000 inputs", "hash", [1000]),
+    ("each-input", "CHECKSIG of each input", "hash", [625, 1250, 2500, 5000]),
+    ("queue-1", "key-hash with 1 worker", "work", [10_000]),
+    ("queue-2", "2 workers", "work", [10_000]),
+    ("queue-4", "4 workers", "work", [10_000]),
+    ("queue-8", "8 workers", "work", [10_000]),
+    ("queue-start", "four inputs, four workers", "work", [1000]),
+    ("coins-insert", "into a map", "work", [125_000, 250_000, 500_000, 1_000_000]),
+    ("coins-look-up", "through a layer", "work", [125_000, 250_000, 500_000, 1_000_000]),
+    ("coins-spend", "in a layer", "work", [125_000, 250_000, 500_000, 1_000_000]),
+    ("connect-1", "a block of 2,000 payments, 1 worker", "work", [125_000, 250_000, 500_000, 1_000_000]),
+    ("connect-4", "4 workers", "work", [125_000, 250_000, 500_000, 1_000_000]),
+    ("chain", "blocks without payments", "work", [10_000, 100_000]),
+    ("chain-heavy", "blocks of almost a megabyte", "work", [20, 60]),
+    ("blocks-above", "a hundred blocks", "work", [100, 10_000]),
+    ("reorganise", "activating a branch", "work", [10, 100, 288, 289, 1000]),
 ]
 
 READERS = [1, 2, 4, 8]
 
 # Those of a node and its seats, likewise.
 NODE = [
-    ("read-map", "so many coins looked up in a plain map", [100_000]),
-    *[(f"read-coin-{n}", f"each of so many coins read by each of {n} seats (`gettxout`)", [100_000]) for n in READERS],
-    *[(f"read-best-{n}", f"`getbestblockhash` so often by each of {n} seats", [100_000]) for n in READERS],
-    *[(f"read-beside-{n}", f"as read-coin-{n}, beside a seat that submits blocks of 2,000 payments", [100_000]) for n in READERS],
-    ("slowest", "the slowest of a million reads beside a seat that submits blocks of so many payments", [500, 4000]),
-    ("publish-1", "ten blocks over so many coins, behind ten empty ones; each changes one coin", [10_000, 1_000_000]),
-    ("publish-100", "the same, 101 coins", [10_000, 1_000_000]),
-    ("publish-10000", "the same, 10,001 coins", [10_000, 1_000_000]),
-    ("seats-1", "four branches of so many blocks of 1,000 payments on one base, beside a longer one, by one seat", [100]),
-    ("seats-2", "the same by two seats at once", [100]),
-    ("seats-4", "the same by four seats at once", [100]),
-    ("turns-1", "one branch of so many blocks of 1,000 payments, by one seat", [50]),
-    ("turns-4", "the same by four seats in turn", [50]),
-    ("workers-1", "a block of so many payments, each of 66 CHECKSIG over 9,600 opcodes, submitted to a node of one worker", [100]),
-    ("workers-4", "the same, four workers", [100]),
+    ("read-map", "a plain map's look-ups", [100_000]),
+    *[(f"read-coin-{n}", "`gettxout`", [100_000]) for n in READERS],
+    *[(f"read-best-{n}", "`getbestblockhash`", [100_000]) for n in READERS],
+    *[(f"read-beside-{n}", "next to a writer", [100_000]) for n in READERS],
+    ("slowest", "of a million reads", [500, 4000]),
+    ("publish-1", "ten blocks, one coin each", [10_000, 1_000_000]),
+    ("publish-100", "101 coins each", [10_000, 1_000_000]),
+    ("publish-10000", "10,001 coins each", [10_000, 1_000_000]),
+    ("seats-1", "four branches, one seat", [100]),
+    ("seats-2", "two seats", [100]),
+    ("seats-4", "four seats", [100]),
+    ("turns-1", "one branch, one seat", [50]),
+    ("turns-4", "four seats in turn", [50]),
+    ("workers-1", "long-code payments, one worker", [100]),
+    ("workers-4", "four workers", [100]),
 ]
 
 # What the machine itself has, by workloads of the baseline: so many hashes by each of one thread and of four, and the
@@ -85,19 +85,19 @@ EACH_SIZE = {"chain", "blocks-above", "reorganise"} | {row[0] for row in NODE}
 
 # Those that the baseline hasn't: it keeps no verdicts.
 OURS_ALONE = [
-    ("early-wide", "a block of one transaction with so many inputs, connected with verdicts of all", [6000, 24_000]),
+    ("early-wide", "inputs with early verdicts", [6000, 24_000]),
 ]
 
 # Name, what is kept, the bytes that it has of a block, what it may take at most, and two sizes, whose difference tells
 # what one more takes.
 MEMORY = [
-    ("chain", "a block without payments, in a chainstate of one thread", 190, 2 * 190 + 300, [50_000, 100_000]),
-    ("chain-heavy", "a block of almost a megabyte, likewise", 999_205, 2 * 999_205 + 300, [20, 60]),
-    ("chain-beside", "a block beside the active branch, likewise", 190, 2 * 190 + 300, [50_000, 100_000]),
-    ("keep", "a block without payments, in a node", 190, 800, [50_000, 100_000]),
-    ("keep-heavy", "a block of almost a megabyte, in a node", 999_205, 2 * 999_205 + 300, [20, 60]),
-    ("hold-coins", "a coin with a script of 25 bytes, in a map", 0, 170, [500_000, 1_000_000]),
-    ("keep-coins", "a coin with a script of one byte, in a node, without its share of its block", 27, 340, [100_000, 200_000]),
+    ("chain", "a block without payments, one thread", 190, 2 * 190 + 300, [50_000, 100_000]),
+    ("chain-heavy", "of almost a megabyte, one thread", 999_205, 2 * 999_205 + 300, [20, 60]),
+    ("chain-beside", "off the active branch, one thread", 190, 2 * 190 + 300, [50_000, 100_000]),
+    ("keep", "a block without payments, a node", 190, 800, [50_000, 100_000]),
+    ("keep-heavy", "of almost a megabyte, a node", 999_205, 2 * 999_205 + 300, [20, 60]),
+    ("hold-coins", "a coin of 25 script bytes, a map", 0, 170, [500_000, 1_000_000]),
+    ("keep-coins", "a coin of one script byte, a node", 27, 340, [100_000, 200_000]),
 ]
 
 # How long ours may take where the baseline takes 1, without SHA instructions where it has them hidden; 1 where no other
@@ -154,7 +154,7 @@ def measure_memory():
 def table_of_memory(rows):
     text = [
         "",
-        "Bytes that one more takes, by the allocator's own count, of a block with its coin, its undo and its command:",
+        "Bytes that one more takes (the allocator's count; a block with its coin, undo and command):",
         "",
         "| workload | what | its bytes | ours | baseline | goal at most |",
         "|---|---|---:|---:|---:|---:|",
@@ -226,7 +226,7 @@ def measure_node(names, has_sha):
 def goal(text, ratio, bound, is_most=True):
     """A line of a list, with what a ratio should be and whether it is."""
     holds = ratio <= bound if is_most else ratio >= bound
-    return f"- {text}: {ratio:.2f}; goal at {'most' if is_most else 'least'} {bound}, {verdict(holds)}."
+    return f"- {text}: {ratio:.2f}; at {'most' if is_most else 'least'} {bound}, {verdict(holds)}."
 
 
 def measure_machine():
@@ -244,31 +244,27 @@ def goals_of_a_node(rows, machine):
     def ask(text, over, under, bound, is_most=True):
         if over in found and under in found:
             other = theirs[over] / theirs[under]
-            lines.append(goal(text, found[over] / found[under], bound, is_most)[:-1] + f" (the baseline: {other:.2f}).")
+            lines.append(goal(text, found[over] / found[under], bound, is_most)[:-1] + f" (baseline: {other:.2f}).")
 
     size = 100_000
-    ask("a read of a coin over a plain map's look-up", ("read-coin-1", size), ("read-map", size), 3)
+    ask("read-coin-1 over read-map", ("read-coin-1", size), ("read-map", size), 3)
     for n in READERS:
         over, under = (f"read-coin-{n}", size), (f"read-beside-{n}", size)
-        ask(f"look-ups a second by {n} beside a writer, over those alone", over, under, 0.9, False)
-    ask("the slowest read beside blocks of 4,000 payments, over that beside blocks of 500", ("slowest", 4000), ("slowest", 500), 1.5)
+        ask(f"read-coin-{n} over read-beside-{n}", over, under, 0.9, False)
+    ask("slowest 4,000 over 500", ("slowest", 4000), ("slowest", 500), 1.5)
     for n in (1, 100, 10_000):
-        ask(f"a step of {n:,} changes over a million coins, over one over ten thousand", (f"publish-{n}", 1_000_000), (f"publish-{n}", 10_000), 1.2)
-    ask("blocks a second by 4 seats, over those by one", ("seats-1", 100), ("seats-4", 100), 2.5, False)
-    ask("one branch by four seats in turn, over one seat", ("turns-4", 50), ("turns-1", 50), 1.1)
-    ask("a block by four workers, times faster than by one", ("workers-1", 100), ("workers-4", 100), 3.2, False)
+        ask(f"publish-{n} 1,000,000 over 10,000", (f"publish-{n}", 1_000_000), (f"publish-{n}", 10_000), 1.2)
+    ask("seats-1 over seats-4", ("seats-1", 100), ("seats-4", 100), 2.5, False)
+    ask("turns-4 over turns-1", ("turns-4", 50), ("turns-1", 50), 1.1)
+    ask("workers-1 over workers-4", ("workers-1", 100), ("workers-4", 100), 3.2, False)
     if machine:
-        lines.append(f"- the machine itself: four threads that only hash do {machine[0]:.2f} times as much as one, and of a million hashes beside another thread the longest takes {1000 * machine[1]:.2f} ms.")
+        lines.append(f"- the machine: four hashing threads do {machine[0]:.2f} times as much as one; of a million hashes next to another thread the longest takes {1000 * machine[1]:.2f} ms.")
     for coins in (10_000, 1_000_000):
         # ten blocks, of which the first workload has all but the changes
         one, few, many = (found.get((f"publish-{n}", coins), 0) for n in (1, 100, 10_000))
         if one and few and many:
             each = [1e6 * (few - one) / 1000, 1e6 * (many - one) / 100_000]
-            lines.append(f"- a change over {coins:,} coins costs {each[0]:.2f} microseconds among 100, and {each[1]:.2f} among 10,000.")
-    for name in [f"read-{what}-{n}" for what in ("coin", "best", "beside") for n in READERS]:
-        if (name, size) in found:
-            reads = size * int(name.rsplit("-", 1)[1]) / 1e6
-            lines.append(f"- {name}: {reads / found[name, size]:.2f} million a second (the baseline: {reads / theirs[name, size]:.2f}).")
+            lines.append(f"- a change over {coins:,} coins: {each[0]:.2f} microseconds among 100, {each[1]:.2f} among 10,000.")
     return "\n".join(lines)
 
 
@@ -276,7 +272,7 @@ def table_of_node(rows, has_sha, machine):
     without = " | baseline without SHA instructions | ratio" if has_sha else ""
     text = [
         "",
-        "A node and its seats, least of 3 to 15 runs:",
+        "A node and its seats:",
         "",
         f"| workload | size | what | ours | baseline | ratio{without} | goal at most |",
         "|---|---:|---|---:|---:|---:|" + ("---:|---:|" if has_sha else "") + "---|",
@@ -312,8 +308,8 @@ def growth_of_a_block(rows):
         if name == "blocks-above":
             (low, before), (high, after) = costs
             other = after[1] / before[1]
-            text = goal(f"a block above {high:,} blocks, over one above {low:,}", after[0] / before[0], MOST_GROWTH)
-            return f"{text[:-1]} (the baseline: {other:.2f})."
+            text = goal(f"blocks-above {high:,} over {low:,}", after[0] / before[0], MOST_GROWTH)
+            return f"{text[:-1]} (baseline: {other:.2f})."
     return ""
 
 
@@ -323,10 +319,9 @@ def head_of(commit, has_sha):
     return (
         "# Results\n\n"
         f"One run by {commit}, on {name}, {cores} cores, {platform.system()}; {'with' if has_sha else 'without'} SHA "
-        f"instructions. Ours is built for {BUILD}. Least of 3 to 15 runs, in seconds; a ratio below 1 means that ours is "
-        f"faster. The machine's load at the end was {os.getloadavg()[2]:.0f} on {cores} cores, the run's own among it. "
-        f"Of {len(VERDICTS)} goals {VERDICTS.count('met')} are met; each stands beside its figure. What the workloads are: "
-        "[README](README.md).\n\n"
+        f"instructions. Ours is built for {BUILD}. Least of 3 to 15 runs, in seconds; below 1 ours is faster. Load at the "
+        f"end, with the run's own: {os.getloadavg()[2]:.0f} on {cores} cores. {VERDICTS.count('met')} of {len(VERDICTS)} "
+        "goals are met. [README](README.md) explains the workloads.\n\n"
     )
 
 
@@ -347,12 +342,14 @@ def drawn(rows):
 
 
 def lines_of(rows):
-    text = []
+    text, last = [], ""
     for name, size, what, times, most in drawn(rows):
+        # What a workload is stands in the first of its lines.
+        words, last = "" if what == last else f"{what} ", what
         cells = [f"{times[0]:.6f}"]
         for other in times[1:]:
             cells += [f"{other:.6f}", f"{times[0] / other:.2f}"]
-        text.append(f"| {name} | {size:,} | {what} | " + " | ".join(cells) + f" | {most:g}, {verdict(times[0] / times[-1] <= most)} |")
+        text.append(f"| {name} | {size:,} | {words}| " + " | ".join(cells) + f" | {most:g}, {verdict(times[0] / times[-1] <= most)} |")
     return text
 
 
