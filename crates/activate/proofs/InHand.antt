@@ -34,7 +34,7 @@ use Rattle.activate.specs.declared.path.BranchPath.{BranchPath}
 use Rattle.activate.specs.declared.path.Reorganisation.{Reorganisation}
 use Rattle.activate.specs.CoreState.{branch_blocks, coins_after}
 use Rattle.activate.specs.Wants.{AreWantedAt}
-use Rattle.activate.specs.inside.Keeping.{undo_at}
+use Rattle.activate.specs.Lookups.{undo_at}
 use Rattle.activate.specs.inside.Paths.{AreWantedOnWay, IsPath, IsStop, LeadsTo}
 use Rattle.activate.specs.laws.Climbing.{length-branch}
 use Rattle.activate.specs.laws.Growing.{kept-parent, map_agree, undo-new, undo-old}

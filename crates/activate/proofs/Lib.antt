@@ -1,4 +1,5 @@
 pub mod Cores
+pub mod FirstBytes
 pub mod InHand
 pub mod NewBlock
 pub mod Openings

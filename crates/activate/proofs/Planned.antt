@@ -45,7 +45,7 @@ use Rattle.chain.specs.laws.Preferring.{usable-called}
 use Rattle.chain.specs.laws.Settled.{active-settle, settle-blocks, best_usable}
 use Rattle.chain.specs.laws.OneTry.{active-added_bad, active-called_bad, settle-added, settle-called}
 use Rattle.chain.specs.laws.Tries.{active-best, settle-best, tried-blocks}
-use Rattle.activate.specs.inside.Keeping.{undo_at}
+use Rattle.activate.specs.Lookups.{undo_at}
 use Rattle.activate.specs.inside.Paths.{IsPath, LeadsTo}
 use Rattle.activate.proofs.Plans.{no_changes}
 

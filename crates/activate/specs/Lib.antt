@@ -1,4 +1,5 @@
 pub mod CoreState
+pub mod Lookups
 pub mod Steps
 pub mod Wants
 pub mod inside

@@ -2,6 +2,8 @@
 pub mod ActiveBranch
 pub mod Ascents
 pub mod Disconnection
+pub mod Headers
 pub mod Keeping
+pub mod Looking
 pub mod Paths
 pub mod Preparation

@@ -3,5 +3,6 @@ pub mod ByHeight
 pub mod Climbing
 pub mod Fork
 pub mod Growing
+pub mod Lookups
 pub mod Noting
 pub mod Turning

@@ -7,7 +7,7 @@ ghost use Rattle.chain.specs.Valid.{fault};
 ghost use Rattle.chain.specs.Regtest.{regtest};
 ghost use Rattle.chain.specs.Settled.{AllKept};
 ghost use Rattle.activate.specs.Wants.{AreWantedAt};
-ghost use Rattle.activate.specs.inside.Keeping.{undo_at};
+ghost use Rattle.activate.specs.Lookups.{undo_at};
 ghost use Rattle.activate.specs.inside.Ascents.{top_of, IsApplied, IsTop, AreWantedAbove, LeadsUp};
 ghost use Rattle.activate.specs.inside.Paths.{IsStop};
 ghost use Rattle.curve.specs.Known.{Under};

@@ -17,6 +17,8 @@ ghost use Rattle.chain.specs.Settle.{active, best, tips};
 ghost use Rattle.activate.specs.CoreState.{IsBlockOf, IsChainstate, KeepsUndo, most_undo, opened_core};
 ghost use Rattle.activate.specs.Wants.{AreWantedByStep};
 
+mod looking;
+
 use crate::active_branch::MOST_UNDO;
 use crate::core_state::Core;
 use crate::laying::OwnCoins;

@@ -14,6 +14,7 @@ ghost use Rattle.activate.specs.CoreState.{Follows, IsBlockOf, coins_of, opened_
 
 mod committing;
 mod copying;
+mod looking;
 mod marking;
 pub(crate) mod preparing;
 pub(crate) mod settling;

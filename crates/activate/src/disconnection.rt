@@ -3,7 +3,7 @@
 ghost use Rattle.std.specs.Prelude.{◌≡◌, ◌<◌, ◌-◌, true, length, IfOk, IfSome};
 ghost use Rattle.tree.specs.Branches.{on};
 ghost use Rattle.activate.specs.CoreState.{coins_after};
-ghost use Rattle.activate.specs.inside.Keeping.{undo_at};
+ghost use Rattle.activate.specs.Lookups.{undo_at};
 ghost use Rattle.activate.specs.inside.Paths.{AreConnected, IsActiveBranch};
 ghost use Rattle.activate.specs.inside.Disconnection.{place_at, CanDisconnect};
 

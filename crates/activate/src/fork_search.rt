@@ -43,7 +43,7 @@ pub(crate) fn path_to(
 }
 
 /// Whether this block is at this height of a branch.
-fn stands_at(branch: &[usize], height: usize, place: usize) -> bool
+pub(crate) fn stands_at(branch: &[usize], height: usize, place: usize) -> bool
     ensures { result
         ≡ (nat_lt height (length branch.now) && (slice_index branch.now height == place)) }
 {

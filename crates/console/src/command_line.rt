@@ -1,6 +1,7 @@
 //! The words of the command line: its subcommands and their options, as a table.
 
 use crate::options::{NAME, VERSION};
+use clap::builder::ValueParser;
 use clap::{Arg, ArgAction, Command, value_parser};
 use std::alloc::{AllocError, Global};
 
@@ -20,6 +21,10 @@ enum Takes {
     /// A number from 1 to 16.
     Few,
     Number,
+    /// A number from 1 on.
+    Count,
+    /// A word of `WHEN`.
+    When,
     /// Any number of words, which stand by themselves.
     Words,
 }
@@ -86,7 +91,7 @@ const SUBCOMMANDS: [Subcommand; 7] = [
     },
 ];
 
-const RUN: [Opt; 10] = [
+const RUN: [Opt; 15] = [
     SCENARIO,
     BLK,
     TABLE,
@@ -106,6 +111,11 @@ const RUN: [Opt; 10] = [
         ..FLAG
     },
     SVG,
+    FROM,
+    LAST,
+    FOLD,
+    COLOR,
+    LEGEND,
 ];
 
 const AUDIT: [Opt; 10] = [
@@ -150,7 +160,7 @@ const AUDIT: [Opt; 10] = [
     JSON,
 ];
 
-const TREE: [Opt; 6] = [
+const TREE: [Opt; 11] = [
     Opt {
         help: "The scenario that is run; of --saved, the one that gives names; - is the standard input",
         needed: Needed::UnlessSaved,
@@ -161,6 +171,11 @@ const TREE: [Opt; 6] = [
     TABLE,
     HEIGHTS,
     SVG,
+    FROM,
+    LAST,
+    FOLD,
+    COLOR,
+    LEGEND,
 ];
 
 const SHOW: [Opt; 2] = [
@@ -174,7 +189,7 @@ const SHOW: [Opt; 2] = [
     },
 ];
 
-const SERVE: [Opt; 11] = [
+const SERVE: [Opt; 12] = [
     Opt {
         name: "seats",
         help: "How many callers the node has places for, 1 to 16 [default: 4]",
@@ -212,6 +227,13 @@ const SERVE: [Opt; 11] = [
         name: "busy",
         help: "Refuses a request where 64 wait for its seat, and reads on",
         ..FLAG
+    },
+    Opt {
+        name: "history-memory",
+        takes: Takes::Number,
+        value: "MB",
+        help: "Refuses submissions that aren't kept, once such ones have taken so many megabytes",
+        ..FILE
     },
 ];
 
@@ -305,6 +327,51 @@ const SVG: Opt = Opt {
     ..FILE
 };
 
+const FROM: Opt = Opt {
+    name: "from",
+    takes: Takes::Number,
+    value: "HEIGHT",
+    help: "The block tree from this height on",
+    ..FILE
+};
+
+const LAST: Opt = Opt {
+    name: "last",
+    takes: Takes::Count,
+    value: "N",
+    help: "The last N heights of the block tree",
+    not_beside: &["from"],
+    ..FILE
+};
+
+/// When something is done.
+const WHEN: [&str; 3] = ["auto", "always", "never"];
+
+const FOLD: Opt = Opt {
+    name: "fold",
+    help: "When a branch beside the active one is drawn as one shape; auto: in a large picture",
+    ..WHEN_OPTION
+};
+
+const COLOR: Opt = Opt {
+    name: "color",
+    help: "When the block tree has colours; auto: on a terminal",
+    ..WHEN_OPTION
+};
+
+/// An option that takes a word of `WHEN`.
+const WHEN_OPTION: Opt = Opt {
+    takes: Takes::When,
+    value: "WHEN",
+    ..FILE
+};
+
+const LEGEND: Opt = Opt {
+    name: "legend",
+    help: "Explains the shapes and colours behind the block tree",
+    ..FLAG
+};
+
 const JSON: Opt = Opt {
     name: "json",
     help: "Writes a JSON object a line",
@@ -356,6 +423,8 @@ fn arg_that_takes<'w>(alloc: Global, option: &Opt) -> Arg<'w> {
         Takes::Text => arg_of_a_value(option, arg),
         Takes::Few => arg_of_a_value(option, arg).value_parser(value_parser!(u8).range(1..=16)),
         Takes::Number => arg_of_a_value(option, arg).value_parser(value_parser!(u64)),
+        Takes::Count => arg_of_a_value(option, arg).value_parser(value_parser!(u64).range(1..)),
+        Takes::When => arg_of_a_value(option, arg).value_parser(ValueParser::Names(&WHEN)),
         Takes::Words => arg
             .value_name(option.value)
             .num_args(0..)

@@ -7,8 +7,9 @@ use crate::options::{Saved, TreeOptions};
 use crate::replay::{Replay, read_replay};
 use crate::text::read_definitions;
 use curve::Table;
-use picture::{BlockTree, to_svg, to_text};
+use picture::{BlockTree, View, to_svg, to_text};
 use scenario::Definitions;
+use std::alloc::Global;
 use std::fs::File;
 use std::io::{Error, ErrorKind, Read, Write};
 use std::rt::Files;
@@ -39,8 +40,8 @@ where
         }
         None => tree_after(rt, options, &replay, None)?,
     };
-    print(out, to_text(rt.alloc(), &tree)?.as_str())?;
-    write_picture(rt, options.svg, &tree)
+    print(out, tree_text(rt.alloc(), &tree, &options.view)?.as_str())?;
+    write_picture(rt, options.svg, &tree, &options.view)
 }
 
 /// The tree after a replay's commands, once it is known that its picture can be written.
@@ -90,11 +91,26 @@ fn check_is_writable<R: Files>(rt: &R, file: &str) -> io::Result<()> {
     }
 }
 
-/// Writes a picture of a tree, where one is asked for.
+/// A tree as text. One without a block of the first height to show is refused.
+pub fn tree_text(alloc: Global, tree: &BlockTree, view: &View) -> Result<String, Fault<'static>> {
+    check_height(tree, view)?;
+    Ok(to_text(alloc, tree, view)?)
+}
+
+fn check_height(tree: &BlockTree, view: &View) -> Result<(), Fault<'static>> {
+    let height = view.first_height(tree);
+    if height > tree.top() {
+        return Err(Fault::NoHeight(height, tree.top()));
+    }
+    Ok(())
+}
+
+/// Writes a picture of a tree, where one is asked for. A tree without a block of the first height to show is refused.
 pub fn write_picture<'w, R>(
     rt: &R,
     file: Option<&'w str>,
     tree: &BlockTree,
+    view: &View,
 ) -> Result<(), Fault<'w>>
 where
     R: Files + AllocGlobal,
@@ -102,7 +118,8 @@ where
     let Some(file) = file else {
         return Ok(());
     };
-    let picture = to_svg(rt.alloc(), tree)?;
+    check_height(tree, view)?;
+    let picture = to_svg(rt.alloc(), tree, view)?;
     match fs::write(rt, file, picture.as_bytes()) {
         Ok(()) => Ok(()),
         Err(error) => Err(Fault::CannotWrite(file, error)),

@@ -47,6 +47,8 @@ pub enum Fault<'w> {
     CannotOpen(&'w str, &'static str, Error),
     /// The scenario defines no block and no transaction of this name.
     NoName(&'w str),
+    /// No block has this height; the highest has the second.
+    NoHeight(usize, usize),
     /// The output isn't the one that was expected: the first line that differs, counted from 1, and both.
     Differs(Difference),
     /// The node gives another reply than this line of the journal, counted from 1.
@@ -154,6 +156,7 @@ impl fmt::Display for Line<'_, '_> {
             Fault::CannotRead(file, _) => write!(f, "cannot read {file}"),
             Fault::CannotOpen(folder, file, _) => write!(f, "cannot read {folder}/{file}"),
             Fault::NoName(name) => write!(f, "no name {name}"),
+            Fault::NoHeight(height, _) => write!(f, "no height {height}"),
             Fault::Differs(difference) => difference.fmt(f),
             Fault::CannotWrite(file, _) => write!(f, "cannot write {file}"),
             Fault::CannotSave(folder, file, _) => write!(f, "cannot write {folder}/{file}"),
@@ -188,6 +191,7 @@ impl fmt::Display for Reason<'_, '_> {
             }
             Fault::NoStep(_) => f.write_str("it is no step behind those before it"),
             Fault::OtherReply(_, reply) => write!(f, "the node replies {reply}"),
+            Fault::NoHeight(_, top) => write!(f, "the highest block is at {top}"),
             Fault::BlkStopped(_, stop) => f.write_str(stop.text()),
             Fault::BlkRecords => f.write_str("there isn't one for each submit line"),
             Fault::CannotRead(_, error) => write_error(error, f),

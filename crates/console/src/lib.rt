@@ -17,3 +17,4 @@ pub mod report;
 pub mod saving;
 pub mod showing;
 pub mod text;
+pub mod view_options;

@@ -1,8 +1,10 @@
 //! The command line.
 
 use crate::command_line::command;
+use crate::view_options::read_view;
 use clap::error::ErrorKind;
 use clap::{ArgMatches, Error};
+use picture::View;
 use std::alloc::{AllocError, Global};
 
 /// How a line is written.
@@ -65,6 +67,7 @@ pub struct RunOptions<'w> {
     pub has_tree: bool,
     /// The file for a picture of the block tree.
     pub svg: Option<&'w str>,
+    pub view: View,
 }
 
 /// Where a saved run is.
@@ -106,6 +109,7 @@ pub struct TreeOptions<'w> {
     pub scenario: Option<&'w str>,
     /// The file for a picture.
     pub svg: Option<&'w str>,
+    pub view: View,
 }
 
 /// To answer requests until the standard input ends.
@@ -133,6 +137,8 @@ pub struct ServeOptions<'w> {
     pub is_by_need: bool,
     /// Whether a request is refused for whose seat as many wait as may.
     pub is_busy: bool,
+    /// How many megabytes of the history submissions that aren't kept may take.
+    pub history_memory: Option<u64>,
 }
 
 /// To save what a node's log says.
@@ -154,13 +160,17 @@ pub struct ShowOptions<'w> {
 
 impl<'w> Options<'w> {
     /// What these words ask for, of which the first is the program's name. With no others it is to run the
-    /// scenario on the standard input.
-    pub fn read(alloc: Global, words: &'w [&'w str]) -> Result<Options<'w>, Error> {
+    /// scenario on the standard input. A tree that is printed on a terminal has colours, where nothing else is said.
+    pub fn read(
+        alloc: Global,
+        words: &'w [&'w str],
+        is_terminal: bool,
+    ) -> Result<Options<'w>, Error> {
         if words.len() <= 1 {
             return Ok(Options::Run(STANDARD_RUN));
         }
         let matches = matches(alloc, words)?;
-        match options_of(alloc, &matches)? {
+        match options_of(alloc, &matches, is_terminal)? {
             Some(options) => Ok(options),
             None => Err(error(alloc, ErrorKind::InvalidSubcommand, "no such command line")?),
         }
@@ -179,6 +189,7 @@ const STANDARD_RUN: RunOptions<'static> = RunOptions {
     form: Form::Text,
     has_tree: false,
     svg: None,
+    view: View::ALL,
 };
 
 fn matches<'w>(alloc: Global, words: &'w [&'w str]) -> Result<ArgMatches<'w>, Error> {
@@ -223,11 +234,12 @@ fn error(alloc: Global, kind: ErrorKind, message: &str) -> Result<Error, AllocEr
 fn options_of<'w>(
     alloc: Global,
     matches: &ArgMatches<'w>,
+    is_terminal: bool,
 ) -> Result<Option<Options<'w>>, AllocError> {
     match matches.subcommand() {
-        Some(("run", run)) => Ok(read_run(run)),
+        Some(("run", run)) => Ok(read_run(run, is_terminal)),
         Some(("audit", audit)) => Ok(read_audit(audit)),
-        Some(("tree", tree)) => Ok(read_tree(tree)),
+        Some(("tree", tree)) => Ok(read_tree(tree, is_terminal)),
         Some(("show", show)) => read_show(alloc, show),
         Some(("serve", serve)) => Ok(Some(read_serve(serve))),
         Some(("export", export)) => Ok(read_export(export)),
@@ -235,7 +247,9 @@ fn options_of<'w>(
     }
 }
 
-fn read_run<'w>(run: &ArgMatches<'w>) -> Option<Options<'w>> {
+/// An output that is compared has colours only where they are asked for.
+fn read_run<'w>(run: &ArgMatches<'w>, is_terminal: bool) -> Option<Options<'w>> {
+    let expect = run.get_str("expect");
     Some(Options::Run(RunOptions {
         scenario: run.get_str("scenario")?,
         blk: run.get_str("blk"),
@@ -243,21 +257,24 @@ fn read_run<'w>(run: &ArgMatches<'w>) -> Option<Options<'w>> {
         workers: run.get_one("workers").unwrap_or(WORKERS),
         heights: run.get_str("heights").unwrap_or(HEIGHTS),
         save: run.get_str("save"),
-        expect: run.get_str("expect"),
+        expect,
         form: form_asked_for(run),
         has_tree: run.get_flag("tree"),
         svg: run.get_str("svg"),
+        view: read_view(run, is_terminal && expect.is_none()),
     }))
 }
 
 /// Without a folder the scenario is run, and the block tree alone is shown.
-fn read_tree<'w>(tree: &ArgMatches<'w>) -> Option<Options<'w>> {
+fn read_tree<'w>(tree: &ArgMatches<'w>, is_terminal: bool) -> Option<Options<'w>> {
+    let view = read_view(tree, is_terminal);
     let (scenario, svg) = (tree.get_str("scenario"), tree.get_str("svg"));
     if let Some(saved) = tree.get_str("saved") {
         return Some(Options::Tree(TreeOptions {
             saved,
             scenario,
             svg,
+            view,
         }));
     }
     Some(Options::Run(RunOptions {
@@ -271,6 +288,7 @@ fn read_tree<'w>(tree: &ArgMatches<'w>) -> Option<Options<'w>> {
         form: Form::Tree,
         has_tree: true,
         svg,
+        view,
     }))
 }
 
@@ -320,6 +338,7 @@ fn read_serve<'w>(serve: &ArgMatches<'w>) -> Options<'w> {
         is_unsynced: serve.get_flag("no-sync"),
         is_by_need: serve.get_flag("by-need"),
         is_busy: serve.get_flag("busy"),
+        history_memory: serve.get_one("history-memory"),
     })
 }
 

@@ -11,8 +11,7 @@ use Rattle.std.proofs.lemmas.List.Quantifiers.{Any-push}
 use Rattle.hex.proofs.HexLemmas.{decode_of-same}
 use Rattle.curve.specs.Triple.{Triple, Triples, triple_of, triple_cmp}
 use Rattle.curve.specs.laws.Order.{triple_cmp-total, triple_cmp-exact}
-use Rattle.curve.specs.Lines.{words, is_skipped, is_digit, IsHex, StandsFor, Spells, IsReadable, IsTableOf, IsFaultOf}
-use Rattle.curve.specs.inside.Lines.{IsRefusal}
+use Rattle.curve.specs.Lines.{words, is_skipped, is_digit, IsHex, StandsFor, Spells, IsReadable, IsTableOf, IsFaultOf, IsLineFault}
 use Rattle.curve.specs.declared.fault.TableFault.{TableFault}
 use Rattle.curve.specs.declared.fault.TableFault.TheVariants.{BadLine, Memory}
 
@@ -118,7 +117,7 @@ pub one_more : (ls : List (List ℕ)) (n m : ℕ) (line : List ℕ) → (n < len
 one_more ls n m line at e = ap (λ k. take k ls) e ∙ take_more ls n line at.0 ∙ ap (λ l. take n ls ++ l ∷ []) (sym at.1)
 
 -- a line that is refused is the first that can't be read
-pub fault_from : (ls : List (List ℕ)) (n number : ℕ) (line : List ℕ) (fault : TableFault) → (n < length ls) × (line ≡ get_or ls n line) → number ≡ n + 1 → All IsReadable (take n ls) → IsRefusal line number fault → IsFaultOf ls fault
+pub fault_from : (ls : List (List ℕ)) (n number : ℕ) (line : List ℕ) (fault : TableFault) → (n < length ls) × (line ≡ get_or ls n line) → number ≡ n + 1 → All IsReadable (take n ls) → IsLineFault line number fault → IsFaultOf ls fault
 fault_from ls n number line (BadLine k) at e all refused = record {
   before = take n ls;
   line = line;

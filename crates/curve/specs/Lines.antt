@@ -64,3 +64,8 @@ pub record IsFirstBad (ls : List (List ℕ)) (n : ℕ) : Type 0 where
 abbrev pub IsFaultOf : List (List ℕ) → TableFault → Type 0
 IsFaultOf ls (BadLine n) = IsFirstBad ls n
 IsFaultOf ls Memory = Unit {0}
+
+-- why a line of this number isn't read; of running out of memory nothing is said
+abbrev pub IsLineFault : List ℕ → ℕ → TableFault → Type 0
+IsLineFault line number (BadLine n) = (n ≡ number) × ¬ IsReadable line
+IsLineFault line number Memory = Unit {0}

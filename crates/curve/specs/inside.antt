@@ -1,3 +1,2 @@
 -- What private functions and invariants alone cite.
-pub mod Lines
 pub mod Parts

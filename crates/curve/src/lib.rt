@@ -16,6 +16,7 @@ pub use fault::TableFault;
 pub use found_tables::FoundTables;
 pub use known_signatures::KnownSignatures;
 pub use knows_signatures::KnowsSignatures;
+pub use lines::read as read_line;
 pub use shape::der_shape;
 pub use table::Table;
 pub use triple::KeptTriple;

@@ -3,19 +3,19 @@
 ghost use Rattle.std.specs.Prelude.{◌≡◌, ◌==◌, not, ◌<◌, ◌∷◌, [], ◌↔◌, ℕ, List, length, IsTrue, IfOk, IfErr, MatchOption};
 ghost use Rattle.std.specs.List.{AllPass, position};
 ghost use Rattle.curve.specs.Triple.{Triple};
-ghost use Rattle.curve.specs.Lines.{words, is_digit, is_skipped, IsDigest, StandsFor, Spells};
-ghost use Rattle.curve.specs.inside.Lines.{IsRefusal};
+ghost use Rattle.curve.specs.Lines.{words, is_digit, is_skipped, IsDigest, IsLineFault, StandsFor, Spells};
 
 use crate::fault::TableFault;
 use crate::triple::KeptTriple;
 use hex::{FromHex, FromHexError};
 use std::alloc::{AllocError, Global};
 
-/// The triple of a table's line, or nothing where the line has no word or begins with `#`.
+/// The triple of a table's line, or nothing where the line has no word or begins with `#`. The number is told where the
+/// line can't be read.
 pub fn read(alloc: Global, line: &[u8], number: usize) -> Result<Option<KeptTriple>, TableFault>
     ensures found { IfOk result (λ triple. let ws = words line.now in
         MatchOption triple (IsTrue (is_skipped ws)) (Spells ws)) }
-    ensures refused { IfErr result (IsRefusal line.now number) }
+    ensures refused { IfErr result (IsLineFault line.now number) }
 {
     let unreadable = Err(TableFault::BadLine(number));
     let Some((key, rest)) = first_word(line) else {

@@ -1,7 +1,9 @@
 pub mod Asked
 pub mod AsBox
+pub mod AsTxBox
 pub mod Fronts
 pub mod Opcodes
+pub mod Places
 pub mod Rows
 pub mod Slots
 pub mod TableLines

@@ -68,9 +68,9 @@ IsOpenedByNeed params None after result =
     ((result ≡ 0) × (after ≡ Some (new_session params set.empty true))) ⊎ ((result ≡ 1) × (after ≡ None))
 
 -- a slot is closed exactly once
-abbrev pub close_number : Option SessionState → ℕ
+abbrev pub close_number : {A : Type 0} → Option A → ℕ
 close_number None = 2
-close_number (Some s) = 0
+close_number (Some x) = 0
 
 -- ---- steps
 
@@ -172,16 +172,14 @@ IsTipTold None index shown kept result = (result ≡ 2) × kept
 IsTipTold (Some s) index shown kept result =
     IsTipShown (slice_get (map tip_of_id (tips (rules_of s) (tree_of s))) index) shown kept result
 
-pub record ShowsCoin (coin : Coin) (shown : ShownCoin) : Type 0 where
-  pub value : shown.value ≡ coin.value
-  pub height : shown.height ≡ coin.height
-  pub coinbase : shown.coinbase ≡ coinbase_number coin.coinbase
-  pub script : shown.script ≡ length coin.script
+-- a coin without its script
+abbrev pub coin_row : Coin → ShownCoin
+coin_row coin = record { value = coin.value; script = length coin.script; height = coin.height; coinbase = coinbase_number coin.coinbase }
 
 -- the coin is shown, and its script where there is room for it; or there is none
 abbrev pub IsCoinShown : Option Coin → ShownCoin → ShownCoin → List ℕ → List ℕ → ℕ → Type 0
 IsCoinShown None before shown room script result = (result ≡ 4) × (shown ≡ before) × (script ≡ room)
-IsCoinShown (Some coin) before shown room script result = ShowsCoin coin shown × IsFilled coin.script room script result
+IsCoinShown (Some coin) before shown room script result = (shown ≡ coin_row coin) × IsFilled coin.script room script result
 
 -- what C has of a coin: its outpoint, what is shown of it, and its script at the front of the room
 pub record Listed : Type 0 where
@@ -191,7 +189,7 @@ pub record Listed : Type 0 where
 
 -- it is shown, and where there is room for its script that is there too and its outpoint; else the outpoint stays
 pub record ShowsNext (e : OutPoint × Coin) (before after : Listed) (result : ℕ) : Type 0 where
-  pub coin : ShowsCoin e.1 after.shown
+  pub coin : after.shown ≡ coin_row e.1
   pub filled : IsFilled e.1.script before.script after.script result
   pub found : result ≡ 0 → outpoint_of after.at ≡ e.0
   pub stays : result ≡ 5 → after.at ≡ before.at

@@ -5,7 +5,9 @@ pub mod Codes
 pub mod Hashes
 pub mod Keeping
 pub mod Known
+pub mod Lookups
 pub mod Named
+pub mod Parsed
 pub mod Parts
 pub mod Refusals
 pub mod Room

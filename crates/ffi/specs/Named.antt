@@ -2,16 +2,18 @@
 use Rattle.std.specs.Prelude.{◌≡◌, ◌≢◌, ◌⊎◌, ℕ, ◌^◌, ◌/◌, ◌%◌, ◌==◌, ◌<◌, Bool, List, length, map, reverse, sum_by, Result, Ok, Err}
 use Rattle.std.specs.List.{flat_map}
 use Rattle.txn.specs.declared.tx.Tx.{Tx}
-use Rattle.curve.specs.Known.{Verdicts, AreApart}
+use Rattle.curve.specs.Known.{Verdicts, AreApart, verdict_in}
 use Rattle.curve.specs.Lines.{IsFirstBad}
 use Rattle.curve.specs.Triple.{Triple}
 use Rattle.interp.specs.Answer.{Answer, Says, Wants}
+use Rattle.interp.specs.Question.{question}
 use Rattle.interp.specs.Stack.{Stack}
+use Rattle.interp.specs.computed.Named.{verify_script}
 use Rattle.interp.specs.declared.flags.Flags.{Flags}
 use Rattle.interp.specs.declared.script_error.ScriptError.{ScriptError}
 use Rattle.interp.specs.declared.script_error.ScriptError.TheVariants.{UnknownError, EvalFalse, OpReturn, ScriptSize, PushSize, OpCount, StackSize, SigCount, PubkeyCount, Verify, EqualVerify, CheckMultisigVerify, CheckSigVerify, NumEqualVerify, BadOpcode, DisabledOpcode, InvalidStackOperation, InvalidAltstackOperation, UnbalancedConditional, NegativeLocktime, UnsatisfiedLocktime, SigDer, SigPushOnly}
 use Rattle.ffi.specs.declared.shown.ShownStack.{ShownStack}
-use Rattle.ffi.specs.Known.{AreOf, Asked, IsLineTold}
+use Rattle.ffi.specs.Known.{AreOf, Asked, IsLineTold, asked_of}
 use Rattle.ffi.specs.Room.{IsAtFront}
 
 -- Bitcoin Core's numbers (`script_error.h`)
@@ -73,6 +75,32 @@ IsByTables valid invalid told before line kept result =
 -- of an input that there is; of another one nothing is told
 abbrev pub IsOfOne : Tx → ℕ → Type 0 → Type 0 → ℕ → Type 0
 IsOfOne tx input told kept result = ((input < length tx.inputs) × told) ⊎ (((input < length tx.inputs) → ⊥) × (result ≡ 24) × kept)
+
+-- ---- an input
+
+-- what is told of an input: the line of a table that can't be read, the number of a failure, and the line that is asked for
+pub record Told : Type 0 where
+  pub line : ℕ
+  pub error : ℕ
+  pub asked : Asked
+
+abbrev pub told_of : ℕ → ℕ → List ℕ → ℕ → Told
+told_of line error room count = record { line = line; error = error; asked = asked_of room count }
+
+-- why an input may not spend a script, by what is known of signatures: the number of the failure, 0 where it may
+abbrev pub IsNamed : Tx → ℕ → List ℕ → ℕ → Verdicts → Told → Told → ℕ → Type 0
+IsNamed tx input spent flags found before after result =
+    IsAnswered (verify_script (verdict_in found) (question tx input spent (flags_in flags)))
+    (λ failed. (result ≡ 0) × (after.error ≡ failure_number failed))
+    (after.error ≡ before.error) before.asked after.asked result
+
+-- the same by two tables, of an input that there is; of another one nothing is told
+abbrev pub IsInputNamed : Tx → ℕ → List ℕ → ℕ → List (List ℕ) → List (List ℕ) → Told → Told → ℕ → Type 0
+IsInputNamed tx input spent flags valid invalid before after result =
+    let kept = (after.asked ≡ before.asked) × (after.error ≡ before.error) in
+    IsOfOne tx input
+    (IsByTables valid invalid (λ found. IsNamed tx input spent flags found before after result) before.line after.line kept result)
+    ((after.line ≡ before.line) × kept) result
 
 -- ---- stacks: the lengths of the elements from the bottom up, and their bytes together
 

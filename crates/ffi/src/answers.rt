@@ -21,6 +21,8 @@ pub(crate) const NONE: u32 = 4;
 pub(crate) const TOO_SMALL: u32 = 5;
 /// The slot holds a session already.
 pub(crate) const FULL: u32 = 6;
+/// Bytes stand behind the transaction.
+pub(crate) const EXTRA: u32 = 23;
 /// The transaction has no input of this number.
 pub(crate) const NO_INPUT: u32 = 24;
 /// As many are wanted as there are inputs, or 1 to 11 times.
@@ -95,6 +97,24 @@ pub struct ShownCoin {
     pub script: u64,
     pub height: u32,
     pub coinbase: u32,
+}
+
+/// The 80 bytes of a block's header, its height, and how many active blocks there are from it on, -1 where it isn't
+/// active.
+#[repr(C)]
+#[derive(Clone, Copy, Drop)]
+pub struct ShownHeader {
+    pub header: [u8; 80],
+    pub height: u64,
+    pub confirmations: i64,
+}
+
+/// How many coins a block spent, and how many bytes their scripts are together.
+#[repr(C)]
+#[derive(Clone, Copy, Drop)]
+pub struct ShownSpent {
+    pub coins: u64,
+    pub scripts: u64,
 }
 
 fn number_of_submission(reply: SubmitReply) -> u32

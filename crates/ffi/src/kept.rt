@@ -1,7 +1,7 @@
 //! A session as C keeps it: by the address of its box.
 //!
 //! C sees an address without a type, since what crosses to C may not lead to a type with parts that are shared. Only
-//! the five functions of this file and of `unboxed.rt` name the address; they are proved by hand.
+//! functions of this file, of `kept_tx.rt` and of `unboxed.rt` name the address; those are proved by hand.
 
 ghost use Rattle.std.specs.Prelude.{◌≡◌, Option, None, Some, IsSome};
 ghost use Rattle.ffi.specs.SessionState.{SessionState};

@@ -9,10 +9,13 @@ mod exports;
 mod front;
 mod hashes;
 mod kept;
+mod kept_tx;
 mod known;
 pub mod laws;
 mod listing;
+mod lookups;
 mod named;
+mod parsed;
 mod parts;
 mod room;
 mod scripts;
@@ -22,9 +25,14 @@ mod signatures;
 mod slot;
 mod tables;
 mod transactions;
+mod tx_slot;
 mod unboxed;
 
-pub use answers::{Answer, Heights, Made, Name, Place, ShownCoin, ShownTip};
+pub use answers::{
+    Answer, Heights, Made, Name, Place, ShownCoin, ShownHeader, ShownSpent, ShownTip,
+};
 pub use kept::Kept;
+pub use kept_tx::KeptTx;
 pub use session::Session;
 pub use slot::Slot;
+pub use tx_slot::TxSlot;

@@ -5,7 +5,7 @@ ghost use Rattle.std.specs.Map.Iter.{deref_pair};
 ghost use Rattle.std.specs.Option.{option_copied, option_map};
 ghost use Rattle.tree.specs.Branches.{place_of};
 ghost use Rattle.tree.specs.Names.{names};
-ghost use Rattle.ffi.specs.Answers.{IsBlockShown, IsBlockTold, IsNextOf, IsNextTold, ShowsCoin, above_of, id_of, outpoint_of};
+ghost use Rattle.ffi.specs.Answers.{IsBlockShown, IsBlockTold, IsNextOf, IsNextTold, above_of, coin_row, id_of, outpoint_of};
 ghost use Rattle.ffi.specs.Room.{IsFilled};
 
 use crate::answers::{CLOSED, DONE, NONE, Name, Place, ShownCoin};
@@ -30,17 +30,23 @@ pub(crate) fn outpoint(at: &Place) -> OutPoint
 
 /// Shows a coin, and its script where there is room for it.
 pub(crate) fn tell_coin(coin: &Coin, shown: &mut ShownCoin, script: &mut [u8]) -> u32
-    ensures shows { ShowsCoin coin.now shown.new }
+    ensures shows { shown.new ≡ coin_row coin.now }
     ensures filled { IsFilled coin.now.script script.old script.new result }
 {
-    let bytes = coin.script.as_slice();
-    *shown = ShownCoin {
+    *shown = coin_row(coin);
+    fill(coin.script.as_slice(), script)
+}
+
+/// A coin without its script.
+pub(crate) fn coin_row(coin: &Coin) -> ShownCoin
+    ensures { result ≡ coin_row coin.now }
+{
+    ShownCoin {
         value: coin.value,
-        script: bytes.len() as u64,
+        script: coin.script.len() as u64,
         height: coin.height,
         coinbase: coin.coinbase as u32,
-    };
-    fill(bytes, script)
+    }
 }
 
 /// The coin at the least outpoint above `at`, or the least of all where `above` is 0, and its outpoint in the place of

@@ -8,7 +8,7 @@ ghost use Rattle.interp.specs.Question.{question};
 ghost use Rattle.interp.specs.computed.Named.{verify_script};
 ghost use Rattle.txn.specs.computed.Reading.{tx_at};
 ghost use Rattle.ffi.specs.Known.{asked_of};
-ghost use Rattle.ffi.specs.Named.{number_of, failure_number, has_bit, flags_in, IsAnswered, IsByTables, IsOfOne};
+ghost use Rattle.ffi.specs.Named.{number_of, failure_number, has_bit, flags_in, IsAnswered, IsInputNamed, told_of};
 ghost use Rattle.ffi.specs.Refusals.{IsTold};
 
 use crate::answers::{DONE, MEMORY, NO_INPUT};
@@ -38,15 +38,10 @@ pub extern "C" fn ffi_verify_script(
     asked: &mut [u8],
     count: &mut u64,
 ) -> u32
-    ensures { let before = asked_of asked.old count.old in
-        let after = asked_of asked.new count.new in
-        let kept = (line.new ≡ line.old) × (after ≡ before) × (error.new ≡ error.old) in
-        IsTold (tx_at bytes.now) (λ tx. IsOfOne tx input (IsByTables (lines valid.now)
-        (lines invalid.now) (λ found. IsAnswered (verify_script (verdict_in found)
-        (question tx input spent.now (flags_in flags))) (λ named. (result ≡ 0)
-        × (error.new ≡ failure_number named)) (error.new ≡ error.old) before after result)
-        line.old line.new ((after ≡ before) × (error.new ≡ error.old)) result) kept result)
-        kept result }
+    ensures { let before = told_of line.old error.old asked.old count.old in
+        let after = told_of line.new error.new asked.new count.new in
+        IsTold (tx_at bytes.now) (λ tx. IsInputNamed tx input spent.now flags (lines valid.now)
+        (lines invalid.now) before after result) (after ≡ before) result }
 {
     let mut cursor = Cursor::new(bytes);
     match front(alloc, &mut cursor) {
@@ -73,7 +68,8 @@ pub extern "C" fn ffi_verify_script(
     }
 }
 
-fn tell_failure(
+/// Why an input may not spend a script, by what is known of signatures.
+pub(crate) fn tell_failure(
     alloc: Global,
     tx: &Tx,
     input: usize,

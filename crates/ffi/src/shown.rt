@@ -127,3 +127,25 @@ pub struct KeyName {
 pub struct Digits {
     pub bytes: [u8; 64],
 }
+
+/// What is asked of an input: its number, the script that it spends, the rules that are in force by Bitcoin Core's bits,
+/// and two tables: of signatures that are valid and of others that aren't.
+#[repr(C)]
+#[derive(Clone, Copy)]
+pub struct InputQuestion<'a> {
+    pub input: u64,
+    pub spent: &'a [u8],
+    pub valid: &'a [u8],
+    pub invalid: &'a [u8],
+    pub flags: u32,
+}
+
+/// What is told of an input: the number of the line that can't be read, how many bytes the line has that is asked for, and
+/// the number of the failure.
+#[repr(C)]
+#[derive(Clone, Copy, Drop)]
+pub struct InputTold {
+    pub line: u64,
+    pub count: u64,
+    pub error: u32,
+}

@@ -1,112 +1,235 @@
-//! The pieces of a picture: blocks by themselves, and runs of blocks that are drawn as one.
+//! The pieces of a picture: blocks by themselves, and blocks that are drawn as one.
 
 use crate::block_tree::{BlockTree, Node};
-use crate::status::Status;
+use crate::starts::{Branching, Order, Start, What, add_roots, add_starts, stub_of};
+use crate::status::{Look, Status};
+use crate::subtrees::{Subtree, all_subtrees};
 use std::alloc::{AllocError, Global};
 
 /// Fewer blocks than these are drawn each by itself.
 const MIN_RUN: usize = 4;
 
-/// A block, or a run: blocks one on the other, without another child, of one status and none marked.
+/// A block; a run: blocks one on the other, without another child, of one status and none marked; a branch that is
+/// folded, with all that is on it; or a stub.
 #[derive(Drop)]
 pub struct Piece<'t> {
     pub first: &'t Node,
+    /// The highest of its blocks.
     pub last: &'t Node,
     /// How many blocks it has.
     pub count: usize,
-    /// The line that it is in, from 0, which is the active branch's.
-    pub row: usize,
-    /// The place of the piece that it is built on.
-    pub below: Option<usize>,
+    /// On how many of them nothing is built, of a folded branch; of others 1.
+    pub tips: usize,
+    pub look: Look,
+    pub is_marked: bool,
     /// Whether it is the highest of the active branch.
     pub is_best: bool,
+    pub at: At,
     /// What is written before it on a terminal.
     pub lead: String,
 }
 
-impl Piece<'_> {
-    /// Whether it is on the active branch.
-    pub fn is_active(&self) -> bool {
-        self.first.block.status == Status::Active
-    }
-}
-
-/// In which order pieces come: a piece, and then those on it.
+/// Where a piece is.
 #[derive(Clone, Copy)]
-pub enum Order {
-    /// What goes on in the same row comes first, and then the other branches, the highest first: so no branch is
-    /// crossed by one that begins lower.
-    MainFirst,
-    /// The other branches come first, as on a terminal, where a row is a column.
-    MainLast,
+pub struct At {
+    /// The heights of the columns in which it begins and ends.
+    pub first: usize,
+    pub last: usize,
+    /// The line of pieces that it is in; they are counted as they begin.
+    pub line: usize,
+    /// The place of the piece that it is built on, of which it is drawn.
+    pub below: Option<usize>,
 }
 
-/// A piece that is to come.
+/// How the pieces of a tree are found.
+#[derive(Clone, Copy)]
+pub struct Finding {
+    /// From which height on.
+    pub from: usize,
+    /// Whether a branch beside the active one is one piece, and each piece is in one column.
+    pub is_folded: bool,
+    pub order: Order,
+}
+
+/// The pieces that were found, and those to come.
 #[derive(Drop)]
-struct Start {
-    place: usize,
-    below: Option<usize>,
-    /// None where it begins a row.
-    row: Option<usize>,
-    lead: String,
-    /// What is written before the pieces of its row that follow.
-    rest: String,
+struct Finder<'t> {
+    alloc: Global,
+    tree: &'t BlockTree,
+    finding: Finding,
+    subtrees: Vec<Subtree>,
+    pieces: Vec<Piece<'t>>,
+    starts: Vec<Start>,
+    /// How many lines of pieces have begun.
+    lines: usize,
 }
 
 /// The pieces of a tree.
 pub fn pieces<'t>(
     alloc: Global,
     tree: &'t BlockTree,
-    order: Order,
+    finding: Finding,
 ) -> Result<Vec<Piece<'t>>, AllocError> {
-    let mut pieces: Vec<Piece<'t>> = Vec::new(alloc);
-    let mut starts = Vec::new(alloc);
-    starts.push(Start {
-        place: 0,
-        below: None,
-        row: None,
-        lead: String::new(alloc),
-        rest: String::new(alloc),
-    })?;
-    let mut rows = 0usize;
-    // Each piece has a block at least.
-    for _ in 0..tree.len() {
-        let Some(start) = starts.pop() else {
+    let mut finder = Finder {
+        alloc,
+        tree,
+        finding,
+        subtrees: all_subtrees(alloc, tree)?,
+        pieces: Vec::new(alloc),
+        starts: Vec::new(alloc),
+        lines: 0,
+    };
+    add_roots(alloc, tree, finding.from, finding.order, &mut finder.starts)?;
+    // Each piece has a block at least, or is the stub of one.
+    for _ in 0..tree.len().saturating_mul(2) {
+        let Some(start) = finder.starts.pop() else {
             break;
         };
-        let end = end_of(tree, start.place);
-        let row = start.row.unwrap_or(rows);
-        rows = rows.max(row.saturating_add(1));
-        let (Some(first), Some(last)) = (tree.node(start.place), tree.node(end)) else {
-            break;
+        finder.take(start)?;
+    }
+    let Finder { pieces, .. } = finder;
+    Ok(pieces)
+}
+
+impl<'t> Finder<'t> {
+    /// Takes a piece, and adds those on it to those to come.
+    fn take(&mut self, start: Start) -> Result<(), AllocError> {
+        let line = start.line.unwrap_or(self.lines);
+        self.lines = self.lines.max(line.saturating_add(1));
+        match start.what {
+            What::Blocks(place) => self.take_blocks(place, line, start),
+            What::Stub(place) => self.take_stub(place, line, start, true),
+            What::ActiveStub(place) => self.take_stub(place, line, start, false),
+        }
+    }
+
+    /// Takes the piece whose first block is that of a place.
+    fn take_blocks(&mut self, place: usize, line: usize, start: Start) -> Result<(), AllocError> {
+        let Some(first) = self.tree.node(place) else {
+            return Ok(());
         };
-        let children = tree.children(alloc, end)?;
-        let main = main_of(tree, last, children.as_slice());
-        let branching = Branching {
-            below: pieces.len(),
-            row,
-            main,
-            is_active: last.block.status == Status::Active,
+        if self.finding.is_folded && first.block.status != Status::Active {
+            return self.take_folded(place, line, start);
+        }
+        let end = end_of(self.tree, place);
+        let Some(last) = self.tree.node(end) else {
+            return Ok(());
         };
-        add_starts(
-            alloc,
-            &branching,
-            children.as_slice(),
-            start.rest.as_str(),
-            order,
-            &mut starts,
-        )?;
-        pieces.push(Piece {
+        let is_best = self.add_on(end, last, line, start.rest.as_str())?;
+        let width = if self.finding.is_folded { first } else { last };
+        self.pieces.push(Piece {
             first,
             last,
             count: last.height.saturating_sub(first.height).saturating_add(1),
-            row,
-            below: start.below,
-            is_best: last.block.status == Status::Active && main.is_none(),
+            tips: 1,
+            look: Look::of(Some(first.block.status)),
+            is_marked: first.block.is_marked,
+            is_best,
+            at: At {
+                first: first.height,
+                last: width.height,
+                line,
+                below: start.below,
+            },
             lead: start.lead,
         })?;
+        Ok(())
     }
-    Ok(pieces)
+
+    /// Adds what is on the block of a place to what is to come: whether that block is the highest of the active branch.
+    fn add_on(
+        &mut self,
+        place: usize,
+        block: &Node,
+        line: usize,
+        rest: &str,
+    ) -> Result<bool, AllocError> {
+        let children = self.tree.children(self.alloc, place)?;
+        let is_active = block.block.status == Status::Active;
+        let main = main_of(self.tree, block, children.as_slice());
+        let branching = Branching {
+            below: self.pieces.len(),
+            line,
+            main,
+            is_active,
+            order: self.finding.order,
+        };
+        add_starts(
+            self.alloc,
+            &branching,
+            children.as_slice(),
+            rest,
+            &mut self.starts,
+        )?;
+        Ok(is_active && main.is_none())
+    }
+
+    /// Takes the block of a place with all that is on it as one piece.
+    fn take_folded(&mut self, place: usize, line: usize, start: Start) -> Result<(), AllocError> {
+        let Some(all) = self.subtrees.get(place).copied() else {
+            return Ok(());
+        };
+        let (Some(first), Some(last)) = (self.tree.node(place), self.tree.node(all.top)) else {
+            return Ok(());
+        };
+        self.pieces.push(Piece {
+            first,
+            last,
+            count: all.count,
+            tips: all.tips,
+            look: Look::of(all.status),
+            is_marked: all.is_marked,
+            is_best: false,
+            at: At {
+                first: first.height,
+                last: first.height,
+                line,
+                below: start.below,
+            },
+            lead: start.lead,
+        })?;
+        Ok(())
+    }
+
+    /// Takes the stub of the branch of a place, and adds the branch to what is to come, where it doesn't come by itself.
+    fn take_stub(
+        &mut self,
+        place: usize,
+        line: usize,
+        start: Start,
+        is_with_branch: bool,
+    ) -> Result<(), AllocError> {
+        let Some(block) = stub_of(self.tree, place) else {
+            return Ok(());
+        };
+        if is_with_branch {
+            self.starts.push(Start {
+                what: What::Blocks(place),
+                below: Some(self.pieces.len()),
+                line: Some(line),
+                lead: String::from_str(self.alloc, start.rest.as_str())?,
+                rest: String::from_str(self.alloc, start.rest.as_str())?,
+            })?;
+        }
+        let height = self.finding.from.saturating_sub(1);
+        self.pieces.push(Piece {
+            first: block,
+            last: block,
+            count: 1,
+            tips: 1,
+            look: Look::Stub,
+            is_marked: false,
+            is_best: false,
+            at: At {
+                first: height,
+                last: height,
+                line,
+                below: None,
+            },
+            lead: start.lead,
+        })?;
+        Ok(())
+    }
 }
 
 /// Where a piece ends that begins at a place: there, unless a run does that is long enough.
@@ -137,7 +260,7 @@ fn only_like(tree: &BlockTree, place: usize) -> Option<usize> {
     None
 }
 
-/// Which of the blocks on one goes on in its row: on an active one the active one, else the first.
+/// Which of the blocks on one goes on in its line: on an active one the active one, else the first.
 fn main_of(tree: &BlockTree, node: &Node, children: &[usize]) -> Option<usize> {
     if node.block.status != Status::Active {
         return children.first().copied();
@@ -150,76 +273,4 @@ fn main_of(tree: &BlockTree, node: &Node, children: &[usize]) -> Option<usize> {
         }
     }
     None
-}
-
-/// Where the pieces on one begin.
-#[derive(Clone, Copy)]
-struct Branching {
-    /// The place of that piece.
-    below: usize,
-    row: usize,
-    main: Option<usize>,
-    is_active: bool,
-}
-
-/// Adds the pieces on one to those to come; the last that is added comes first.
-fn add_starts(
-    alloc: Global,
-    branching: &Branching,
-    children: &[usize],
-    rest: &str,
-    order: Order,
-    starts: &mut Vec<Start>,
-) -> Result<(), AllocError> {
-    if matches!(order, Order::MainLast) {
-        add_main(alloc, branching, rest, starts)?;
-    }
-    let mut is_last = branching.main.is_none();
-    for child in children.iter().rev() {
-        if branching.main != Some(*child) {
-            let (turn, line) = columns(branching.is_active, is_last);
-            starts.push(Start {
-                place: *child,
-                below: Some(branching.below),
-                row: None,
-                lead: format!(in alloc; "{rest}{turn}")?,
-                rest: format!(in alloc; "{rest}{line}")?,
-            })?;
-            is_last = false;
-        }
-    }
-    if matches!(order, Order::MainFirst) {
-        add_main(alloc, branching, rest, starts)?;
-    }
-    Ok(())
-}
-
-/// Adds what goes on in the same row.
-fn add_main(
-    alloc: Global,
-    branching: &Branching,
-    rest: &str,
-    starts: &mut Vec<Start>,
-) -> Result<(), AllocError> {
-    if let Some(place) = branching.main {
-        starts.push(Start {
-            place,
-            below: Some(branching.below),
-            row: Some(branching.row),
-            lead: String::from_str(alloc, rest)?,
-            rest: String::from_str(alloc, rest)?,
-        })?;
-    }
-    Ok(())
-}
-
-/// What is written on a terminal before a branch, and before what follows in it: thick on the active branch, and open
-/// where nothing more is built on the block.
-fn columns(is_active: bool, is_last: bool) -> (&'static str, &'static str) {
-    match (is_active, is_last) {
-        (true, false) => ("┠─", "┃ "),
-        (true, true) => ("┖─", "  "),
-        (false, false) => ("├─", "│ "),
-        (false, true) => ("└─", "  "),
-    }
 }

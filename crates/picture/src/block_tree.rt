@@ -18,6 +18,8 @@ pub struct TreeBlock {
 pub(crate) struct Node {
     pub block: TreeBlock,
     pub height: usize,
+    /// None for the block that all others are built on.
+    pub parent: Option<usize>,
     pub first_child: Option<usize>,
     last_child: Option<usize>,
     pub next_sibling: Option<usize>,
@@ -27,14 +29,15 @@ pub(crate) struct Node {
 #[derive(Drop)]
 pub struct BlockTree {
     nodes: Vec<Node>,
+    top: usize,
 }
 
 impl BlockTree {
     /// The block that all others are built on, at place 0 and height 0.
     pub fn new(alloc: Global, genesis: TreeBlock) -> Result<BlockTree, AllocError> {
         let mut nodes = Vec::new(alloc);
-        nodes.push(Node::new(genesis, 0))?;
-        Ok(BlockTree { nodes })
+        nodes.push(Node::new(genesis, 0, None))?;
+        Ok(BlockTree { nodes, top: 0 })
     }
 
     /// Adds a block on the one of a place, and gives its own; none, where there is no such block.
@@ -45,7 +48,8 @@ impl BlockTree {
         };
         let before = below.last_child;
         let height = below.height.saturating_add(1);
-        self.nodes.push(Node::new(block, height))?;
+        self.nodes.push(Node::new(block, height, Some(parent)))?;
+        self.top = self.top.max(height);
         if let Some(below) = self.nodes.get_mut(parent) {
             below.last_child = Some(place);
             if before.is_none() {
@@ -63,6 +67,11 @@ impl BlockTree {
     /// How many blocks there are.
     pub fn len(&self) -> usize {
         self.nodes.len()
+    }
+
+    /// The height of its highest block, of whatever status.
+    pub fn top(&self) -> usize {
+        self.top
     }
 
     pub(crate) fn node(&self, place: usize) -> Option<&Node> {
@@ -91,10 +100,11 @@ impl BlockTree {
 }
 
 impl Node {
-    fn new(block: TreeBlock, height: usize) -> Node {
+    fn new(block: TreeBlock, height: usize, parent: Option<usize>) -> Node {
         Node {
             block,
             height,
+            parent,
             first_child: None,
             last_child: None,
             next_sibling: None,

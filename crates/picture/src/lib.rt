@@ -5,12 +5,18 @@ mod arrangement;
 mod block_tree;
 mod escaped;
 mod geometry;
+mod legend;
+mod rows;
 mod shapes;
+mod starts;
 mod status;
+mod subtrees;
 mod svg;
 mod text;
+mod view;
 
 pub use block_tree::{BlockTree, TreeBlock};
 pub use status::Status;
 pub use svg::to_svg;
 pub use text::to_text;
+pub use view::{Fold, Part, View};

@@ -1,30 +1,40 @@
 //! A tree on a terminal.
 
-use crate::arrangement::{Order, Piece, pieces};
+use crate::arrangement::{Finding, Piece, pieces};
 use crate::block_tree::BlockTree;
+use crate::legend::write_legend;
+use crate::starts::Order;
+use crate::view::{Fold, View};
 use std::alloc::{AllocError, Global};
 
-/// A tree as lines, from genesis on: a line for each block or run, with its shape, names, heights and status. Branches
-/// beside the active one stand to the right.
-pub fn to_text(alloc: Global, tree: &BlockTree) -> Result<String, AllocError> {
+/// A tree as lines, from the lowest height on: a line for each block or run, with its shape, names, heights and status.
+/// Branches beside the active one stand to the right.
+pub fn to_text(alloc: Global, tree: &BlockTree, view: &View) -> Result<String, AllocError> {
     let mut text = String::new(alloc);
-    for piece in pieces(alloc, tree, Order::MainLast)?.as_slice() {
+    let finding = Finding {
+        from: view.first_height(tree),
+        is_folded: matches!(view.fold, Fold::Always),
+        order: Order::MainLast,
+    };
+    for piece in pieces(alloc, tree, finding)?.as_slice() {
+        let (on, off) = piece.look.color(view.is_colored);
+        let symbol = piece.look.symbol(piece.is_marked);
+        write!(text, "{}{on}{symbol}{off} ", piece.lead)?;
         write_names(piece, &mut text)?;
         write_heights(piece, &mut text)?;
+        write!(text, " {on}")?;
         write_status(piece, &mut text)?;
+        writeln!(text, "{off}")?;
+    }
+    if view.has_legend {
+        write_legend(view.is_colored, &mut text)?;
     }
     Ok(text)
 }
 
-/// What leads to a piece, its shape, and its name, or the first and the last of a run.
+/// The name of a piece, or the first and the last of several blocks.
 fn write_names(piece: &Piece<'_>, text: &mut String) -> Result<(), AllocError> {
-    let first = &piece.first.block;
-    let symbol = if first.is_marked {
-        "◆"
-    } else {
-        first.status.symbol()
-    };
-    write!(text, "{}{symbol} {}", piece.lead, first.label)?;
+    write!(text, "{}", piece.first.block.label)?;
     if piece.count > 1 {
         return write!(text, " .. {}", piece.last.block.label);
     }
@@ -33,17 +43,23 @@ fn write_names(piece: &Piece<'_>, text: &mut String) -> Result<(), AllocError> {
 
 fn write_heights(piece: &Piece<'_>, text: &mut String) -> Result<(), AllocError> {
     let (first, last, count) = (piece.first.height, piece.last.height, piece.count);
+    if piece.tips > 1 {
+        return write!(
+            text,
+            " ({first} to {last}, {count} blocks, {} tips)",
+            piece.tips
+        );
+    }
     if count > 1 {
         return write!(text, " ({first} to {last}, {count} blocks)");
     }
     write!(text, " ({first})")
 }
 
-/// What is known of a piece, and the end of its line.
+/// What is known of a piece.
 fn write_status(piece: &Piece<'_>, text: &mut String) -> Result<(), AllocError> {
-    let first = &piece.first.block;
-    let word = first.status.word();
-    let marked = if first.is_marked { ", marked" } else { "" };
+    let word = piece.look.word();
+    let marked = if piece.is_marked { ", marked" } else { "" };
     let best = if piece.is_best { ", best" } else { "" };
-    writeln!(text, " {word}{marked}{best}")
+    write!(text, "{word}{marked}{best}")
 }

@@ -6,7 +6,7 @@ use crate::output::Output;
 use crate::running::{run_clients, run_records};
 use crate::writer::Writer;
 use block::SliceSource;
-use console::drawing::{check_picture, write_picture};
+use console::drawing::{check_picture, tree_text, write_picture};
 use console::fault::Fault;
 use console::files::{read_if_named, read_scenario, read_table};
 use console::history_tree::history_tree;
@@ -18,7 +18,6 @@ use console::text::{Text, read_definitions};
 use curve::Table;
 use journal::{Records, read_heights, read_out};
 use node::{EndFault, Entry, Gate, Naming, Node, Opening, Params};
-use picture::to_text;
 use scenario::{BLK, Client, Complaint, Definitions, Why, number_after, read_clients};
 use server::node_faults::unopened;
 use std::alloc::Global;
@@ -248,9 +247,9 @@ where
     let table = definitions.table();
     let tree = history_tree(alloc, params, commands.as_slice(), table, Some(definitions))?;
     if options.has_tree {
-        output.tree(to_text(alloc, &tree)?.as_str())?;
+        output.tree(tree_text(alloc, &tree, &options.view)?.as_str())?;
     }
-    write_picture(rt, options.svg, &tree)
+    write_picture(rt, options.svg, &tree, &options.view)
 }
 
 /// The files of a run, in the order in which one that can't be read is told.
@@ -366,7 +365,7 @@ where
         Ok(()) => run_clients(rt, definitions, clients, &node, others, writer),
         Err(fault) => Err(fault),
     };
-    match node.close(rt, seats.as_mut_slice()) {
+    match node.finish(seats.as_mut_slice()) {
         Ok(entries) => Ok(Ran { entries, written }),
         // What was played is told and saved, since there is no other copy.
         Err(EndFault { history }) => Ok(Ran {

@@ -48,13 +48,13 @@ where
 
 /// Runs the command line of these words, without the program's name: 0; or 1 with a fault on the standard error, or
 /// with a line on the standard output that the journal differs. Where `err` is a terminal it is told how far the
-/// work is.
+/// work is; where `out` is one a block tree has colours.
 pub fn program<R, S, I, O, E>(rt: &R, words: &[S], input: &mut I, out: &mut O, err: &mut E) -> u8
 where
     R: Files<File = File> + AllocGlobal + Clock + Threads + Wait + Sync,
     S: AsStr,
     I: Read + Send,
-    O: Write,
+    O: Write + IsTerminal,
     E: Write + IsTerminal,
     ensures { result ≤ 1 }
 {
@@ -86,7 +86,7 @@ where
     R: Files<File = File> + AllocGlobal + Clock + Threads + Wait + Sync,
     S: AsStr,
     I: Read + Send,
-    O: Write,
+    O: Write + IsTerminal,
     E: Write + IsTerminal,
     ensures { result ≤ 1 }
 {
@@ -166,7 +166,7 @@ fn attempt<'w, R, I, O, E>(
 where
     R: Files<File = File> + AllocGlobal + Clock + Threads + Wait + Sync,
     I: Read + Send,
-    O: Write,
+    O: Write + IsTerminal,
     E: Write + IsTerminal,
     ensures { IfOk result (λ status. status ≤ 1) }
 {
@@ -187,11 +187,11 @@ fn act<'w, R, I, O, E>(
 where
     R: Files<File = File> + AllocGlobal + Clock + Threads + Wait + Sync,
     I: Read + Send,
-    O: Write,
+    O: Write + IsTerminal,
     E: Write + IsTerminal,
     ensures { IfOk result (λ status. status ≤ 1) }
 {
-    match Options::read(rt.alloc(), words)? {
+    match Options::read(rt.alloc(), words, out.is_terminal())? {
         Options::Run(options) => done(run(rt, &options, gate, input, out, err)),
         Options::Audit(options) => tell_audit(rt, &options, out, err),
         Options::Tree(options) => done(draw_saved(rt, &options, input, out)),

@@ -1,2 +1,5 @@
 mod Answering
+mod Brought
 mod Going
+mod Steps
+mod Verdicts

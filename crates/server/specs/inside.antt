@@ -1,2 +1,5 @@
 pub mod Answering
+pub mod Brought
+pub mod Learning
+pub mod Listing
 pub mod Telling

@@ -1,31 +1,30 @@
 //! What a seat's thread answers.
 
 ghost use Rattle.std.specs.Prelude.{◌≡◌, IfOk, IfErr};
-ghost use Rattle.chain.specs.declared.command.Command.TheVariants as command;
-ghost use Rattle.node.specs.Calls.{IsClosedFault, IsSubmitAnswer, IsWriteFault};
+ghost use Rattle.node.specs.Calls.{IsClosedFault};
 ghost use Rattle.node.specs.Pass.{IsRead};
 ghost use Rattle.node.specs.Told.{best_in};
-ghost use Rattle.server.specs.inside.Answering.{IsAnswered, IsPlaceTold, IsReadTold, IsSubmitTold, TellsRead, TellsStep, best_answer, no_answer, output_answer, refusal_of, tips_answer};
+ghost use Rattle.server.specs.inside.Answering.{IsAnswered, IsPlaceTold, IsReadTold, TellsRead, TellsStep, best_answer, no_answer, output_answer, refusal_of, tips_answer};
 
 use crate::board::Board;
 use crate::learning::{learnt, wanted};
+use crate::listing::steps;
 use crate::looking;
+use crate::submitting::{Submission, judged, submitted};
 use crate::saved::saved;
-use crate::spelled::{output_of, reply_text};
+use crate::spelled::output_of;
 use crate::turn::{Ask, Blank, Turn};
 use crate::words::Facts;
 use arrayvec::ArrayString;
 use crossbeam_channel::{Receiver, Sender};
 use hash::Id;
-use journal::{Asked, block_of};
-use node::{Bytes, Entry, Naming, Node, Seat, SubmitReply, Tip, UnspentOutput};
-use serving::{Answer, Call, Refusal, Step};
+use node::{Naming, Node, Seat, Tip, UnspentOutput};
+use serving::{Answer, Call, Refusal};
 use std::alloc::{AllocError, Global};
 use std::fmt;
 use std::fmt::Write as _;
 use std::sync::Wait;
 use std::thread::Threads;
-use wire::{LIMIT, Memory};
 
 /// How long a reply's text is at most.
 const MAX_REPLY: usize = 128;
@@ -103,7 +102,11 @@ where
         Ask::Refused(refusal) => return blank.refuse(refusal),
     };
     match call {
-        Call::Submit(block, now) => submitted(rt, node, blank, block, now, seat),
+        Call::Submit(block, now) => {
+            let submission = Submission { block, now };
+            submitted(rt, node, &board.waste, blank, submission, seat)
+        }
+        Call::Judge(block, now) => judged(rt, node, blank, block.as_slice(), now, seat),
         Call::Invalidate(block) => replied(alloc, blank, seat.invalidate(rt, node, block), seat),
         Call::Reconsider(block) => replied(alloc, blank, seat.reconsider(rt, node, block), seat),
         Call::Precious(block) => replied(alloc, blank, seat.precious(rt, node, block), seat),
@@ -116,65 +119,15 @@ where
         Call::Wants => wanted(alloc, blank, seat),
         Call::Learn(valid, invalid) => learnt(rt, node, blank, valid, invalid, seat),
         Call::Journal(from, to) => steps(alloc, facts, blank, from, to, seat),
-        Call::Block(block) => {
-            let line = looking::block(rt, board, blank.id(), &block, seat);
-            blank.give(line)
-        }
-        Call::Header(block) => {
-            let line = looking::header(rt, board, blank.id(), &block, seat);
-            blank.give(line)
-        }
-        Call::Hash(height) => {
-            let line = looking::hash(rt, board, blank.id(), height, seat);
-            blank.give(line)
-        }
-        Call::Coins(above, most) => {
-            let line = looking::coins(alloc, blank.id(), above.as_ref(), most, seat);
-            blank.give(line)
-        }
+        Call::Block(id) => looking::block(rt, board, blank, &id, seat),
+        Call::Header(id) => looking::header(rt, board, blank, &id, seat),
+        Call::Hash(height) => looking::hash(rt, board, blank, height, seat),
+        Call::Coins(above, most) => looking::coins(alloc, blank, above.as_ref(), most, seat),
     }
-}
-
-/// The line of a submission's reply. A block that no record can hold is no step.
-fn submitted<J: Naming, R>(
-    rt: &R,
-    node: &Node<'_, J>,
-    blank: Blank,
-    block: Vec<u8>,
-    now: u64,
-    seat: &mut Seat<'_, J>,
-) -> Result<Vec<u8>, AllocError>
-where
-    R: AllocGlobal + Threads + Wait + Sync,
-    ensures { IfOk result (λ line.
-        IsSubmitTold seat.old seat.new block.items now blank line.items) }
-{
-    if block.len() as u64 > LIMIT {
-        return blank.refuse(Refusal::Param("block"));
-    }
-    let reply = submit(rt, node, block, now, seat);
-    replied(rt.alloc(), blank, reply, seat)
-}
-
-fn submit<J: Naming, R>(
-    rt: &R,
-    node: &Node<'_, J>,
-    block: Vec<u8>,
-    now: u64,
-    seat: &mut Seat<'_, J>,
-) -> Result<node::Stamped<SubmitReply>, node::Fault>
-where
-    R: AllocGlobal + Threads + Wait + Sync,
-    ensures answer { let IsAnswer = IsSubmitAnswer seat.old seat.new block.items now in
-        IfOk result (λ r. IsAnswer r.at r.value) }
-    ensures fault { let asked = command.Submit block.items now in
-        IfErr result (IsWriteFault seat.old seat.new asked) }
-{
-    seat.submit_bytes(rt, node, Bytes::from_vec(rt.alloc(), block)?, now)
 }
 
 /// The line of a reply to a step, or of the signatures that it wants.
-fn replied<J: Naming, T: fmt::Display + Copy>(
+pub fn replied<J: Naming, T: fmt::Display + Copy>(
     alloc: Global,
     blank: Blank,
     reply: Result<node::Stamped<T>, node::Fault>,
@@ -285,106 +238,6 @@ where
 {
     board.tell(rt, from, seat);
     blank.answer(rt.alloc(), seat.note().len(), Answer::Place)
-}
-
-/// The line of the entries between these numbers.
-fn steps<J: Naming>(
-    alloc: Global,
-    facts: &Facts<'_>,
-    blank: Blank,
-    first: u64,
-    last: u64,
-    seat: &mut Seat<'_, J>,
-) -> Result<Vec<u8>, AllocError> {
-    match seat.journal(alloc, first.saturating_sub(1), last) {
-        Ok(node::Stamped { at, value }) => listed(alloc, facts, blank, at, first, value.as_slice()),
-        Err(fault) => blank.refuse(refused(fault)),
-    }
-}
-
-/// The line of some entries, of which the first has this number.
-fn listed(
-    alloc: Global,
-    facts: &Facts<'_>,
-    blank: Blank,
-    at: u64,
-    first: u64,
-    entries: &[Entry],
-) -> Result<Vec<u8>, AllocError> {
-    let Ok(texts) = texts_of(alloc, facts, first, entries) else {
-        return blank.refuse(Refusal::Memory);
-    };
-    let Ok(steps) = steps_of(alloc, texts.as_slice()) else {
-        return blank.refuse(Refusal::Memory);
-    };
-    blank.read(alloc, at, Answer::Steps(steps.as_slice()))
-}
-
-/// The texts of entries, of which the first has this number.
-fn texts_of(
-    alloc: Global,
-    facts: &Facts<'_>,
-    first: u64,
-    entries: &[Entry],
-) -> Result<Vec<EntryText>, Memory> {
-    let mut texts = Vec::new(alloc);
-    for (place, entry) in entries.iter().enumerate() {
-        let number = first.saturating_add(place as u64);
-        texts.push(entry_text(alloc, facts, number, entry)?)?;
-    }
-    Ok(texts)
-}
-
-fn steps_of<'e>(alloc: Global, texts: &'e [EntryText]) -> Result<Vec<Step<'e>>, AllocError> {
-    let mut steps = Vec::new(alloc);
-    for text in texts {
-        steps.push(text.step())?;
-    }
-    Ok(steps)
-}
-
-/// An entry by its texts.
-#[derive(Drop)]
-struct EntryText {
-    number: u64,
-    client: String,
-    asked: Asked,
-    block: String,
-    reply: String,
-}
-
-impl EntryText {
-    fn step(&self) -> Step<'_> {
-        Step {
-            number: self.number,
-            client: self.client.as_str(),
-            command: self.asked.word(),
-            block: self.block.as_str(),
-            moment: self.asked.moment(),
-            reply: self.reply.as_str(),
-        }
-    }
-}
-
-/// The texts of the entry of this number.
-fn entry_text(
-    alloc: Global,
-    facts: &Facts<'_>,
-    number: u64,
-    entry: &Entry,
-) -> Result<EntryText, Memory> {
-    let place = number.saturating_sub(1) as usize;
-    let client = facts.clients.name(place, entry.seat);
-    let Ok(block) = block_of(alloc, entry) else {
-        return Err(Memory);
-    };
-    Ok(EntryText {
-        number,
-        client: String::from_str(alloc, client)?,
-        asked: Asked::from_command(&entry.command),
-        block: block.to_string(alloc)?,
-        reply: reply_text(alloc, entry.reply)?,
-    })
 }
 
 /// What a fault of a seat is told as.

@@ -1,128 +1,194 @@
-//! The blocks of a history, by their ids: at which step each came, and where it stands.
+//! The blocks that a history's submissions brought, by their ids: where each stands, and its bytes.
 
-use block::{GENESIS_ID, header_of};
+ghost use Rattle.std.specs.Prelude.{◌≡◌, ◌<◌, suc, length, drop, take, get_or, [], IfOk, IfErr, MatchOption, OnErr, OnOk};
+ghost use mathlib.Core.List.{IsPrefix};
+ghost use Rattle.node.specs.Pass.{IsLater};
+ghost use Rattle.tree.specs.Nodes.{CanKeep};
+ghost use Rattle.server.specs.inside.Brought.{AreBrought, BringsNothing, IsBrought, IsTreeAfter, may_be_kept as may_be_kept_by};
+
+use crate::waste::is_kept;
+use block::{ReadFault, StoredBlock, read};
 use hash::Id;
-use node::{Command, Entry, Reply, SubmitReply};
+use node::{Command, Entry, Fault, Naming, Note, Reply, Seat, Stamped};
 use std::alloc::{AllocError, Global};
-use std::collections::BTreeMap;
+use std::marker::Model;
+use tree::{Lays, MAX_BLOCKS, NewBlock, Tree};
 use wire::Memory;
 
-/// A block, and where it stands.
-#[derive(Clone, Copy)]
-pub struct Placed {
-    pub id: Id,
-    /// The step that brought it, from 1: 0 of genesis.
-    pub step: u64,
-    pub height: u64,
-    /// The place of its parent.
-    parent: usize,
-}
-
-/// The blocks that a history's steps brought, each behind its parent.
+/// An index of the blocks that a history's submissions brought, as far as somebody asked.
 #[derive(Drop)]
-pub struct Blocks {
-    list: Vec<Placed>,
-    places: BTreeMap<Id, usize>,
-    /// How many steps were looked at.
+pub struct Blocks<J: Naming> {
+    /// The beginning of the history that it is of. None before anything was asked.
+    note: Option<Note<J>>,
+    /// How many of its entries were looked at.
     steps: u64,
+    tree: Tree,
 }
 
-impl Blocks {
+impl<J: Naming> Model for Blocks<J> {
+    ghost use Rattle.std.specs.Prelude.{◌≤◌, [], length, take};
+    ghost use Rattle.server.specs.inside.Brought.{AreBrought, Index, seen_by};
+
+    ghost Value = { Index };
+
+    ghost view = { λ b. record { seen = seen_by b.note; steps = b.steps; blocks = b.tree.blocks } };
+
+    ghost invariant = { λ b. (b.steps ≤ length (seen_by b.note))
+        × AreBrought [] (take b.steps (seen_by b.note)) b.tree.blocks };
+}
+
+/// Who takes no step.
+#[derive(Drop)]
+struct Nobody {}
+
+impl Lays<()> for Nobody {
+    ghost laid = { λ nobody _. nobody };
+
+    fn lay(&mut self, _: Global, _: ()) -> Result<(), Memory> {
+        Ok(())
+    }
+}
+
+impl<J: Naming> Blocks<J> {
+    ghost use Rattle.server.specs.inside.Answering.{IsLookFault, IsLookedAt};
+
     /// Genesis alone.
-    pub fn new(alloc: Global) -> Result<Blocks, AllocError> {
-        let mut blocks = Blocks {
-            list: Vec::new(alloc),
-            places: BTreeMap::new(alloc),
-            steps: 0,
-        };
-        blocks.put(Placed {
-            id: GENESIS_ID,
-            step: 0,
-            height: 0,
-            parent: 0,
-        })?;
-        Ok(blocks)
-    }
-
-    /// How many steps were looked at.
-    pub fn steps(&self) -> u64 {
-        self.steps
-    }
-
-    /// Looks at the next steps.
-    pub fn add(&mut self, entries: &[Entry]) -> Result<(), AllocError> {
-        for entry in entries {
-            let step = self.steps.saturating_add(1);
-            self.add_step(entry, step)?;
-            self.steps = step;
+    pub fn new(alloc: Global) -> Result<Blocks<J>, AllocError> {
+        match Tree::new(alloc) {
+            Ok(tree) => Ok(Blocks {
+                note: None,
+                steps: 0,
+                tree,
+            }),
+            Err(Memory) => Err(AllocError),
         }
+    }
+
+    /// The blocks.
+    pub fn tree(&self) -> &Tree
+        ensures tree { result.now.blocks ≡ self.now.blocks }
+        ensures brought { AreBrought [] (take self.now.steps self.now.seen) self.now.blocks }
+    {
+        &self.tree
+    }
+
+    /// The best block at a moment, after the blocks are those that the seat has then seen.
+    pub fn catch_up(
+        &mut self,
+        alloc: Global,
+        seat: &mut Seat<'_, J>,
+    ) -> Result<Stamped<Id>, Fault>
+        ensures looked { IfOk result (λ r.
+            IsLookedAt seat.old seat.new self.new.blocks r.at r.value) }
+        ensures fault { IfErr result (IsLookFault seat.old seat.new) }
+    {
+        self.tell(seat);
+        let best = seat.getbestblockhash()?;
+        let note = seat.note();
+        let found = seat.journal(alloc, self.steps, best.at)?;
+        self.set_note(note);
+        self.add_all(alloc, found.value.as_slice())?;
+        Ok(best)
+    }
+
+    /// Has a seat hear what the index is of.
+    fn tell(&self, seat: &mut Seat<'_, J>)
+        ensures later { IsLater seat.old seat.new }
+        ensures mine { seat.new.mine ≡ seat.old.mine }
+        ensures seen { IsPrefix self.now.seen seat.new.seen }
+    {
+        match &self.note {
+            Some(note) => seat.told(note),
+            None => {
+                let own = seat.note();
+                seat.told(&own);
+            }
+        }
+    }
+
+    /// The index is of this beginning of the history, which goes on from the one it was of.
+    fn set_note(&mut self, note: Note<J>)
+        requires { IsPrefix self.old.seen note.seen }
+        ensures { self.new ≡ record self.old { seen = note.seen } }
+    {
+        self.note = Some(note);
+    }
+
+    /// Looks at all entries that it hasn't looked at.
+    fn add_all(&mut self, alloc: Global, entries: &[Entry]) -> Result<(), Memory>
+        requires { entries.now ≡ drop self.old.steps self.old.seen }
+        ensures { OnOk result ((self.new.seen ≡ self.old.seen)
+            × AreBrought [] self.new.seen self.new.blocks) }
+    {
+        for place in 0..entries.len() {
+            self.add(alloc, &entries[place])?;
+        }
+        self.tree();
         Ok(())
     }
 
-    fn add_step(&mut self, entry: &Entry, step: u64) -> Result<(), AllocError> {
-        let Command::Submit(bytes, _) = &entry.command else {
-            return Ok(());
+    /// Looks at the next entry.
+    fn add(&mut self, alloc: Global, entry: &Entry) -> Result<(), Memory>
+        requires within { self.old.steps < length self.old.seen }
+        requires next { entry.now ≡ get_or self.old.seen self.old.steps entry.now }
+        ensures { OnOk result ((self.new.seen ≡ self.old.seen)
+            × (self.new.steps ≡ suc self.old.steps)) }
+    {
+        // No history has as many steps.
+        let Some(steps) = self.steps.checked_add(1) else {
+            return Err(Memory);
         };
-        if !may_be_kept(entry.reply) {
-            return Ok(());
-        }
-        let Ok(header) = header_of(bytes.as_slice()) else {
-            return Ok(());
-        };
-        match (self.places.get(&header.id()), self.places.get(&header.prev)) {
-            (None, Some(parent)) => {
-                let parent = *parent;
-                self.put(Placed {
-                    id: header.id(),
-                    step,
-                    height: self.height_of(parent).saturating_add(1),
-                    parent,
-                })
-            }
-            _ => Ok(()),
-        }
-    }
-
-    fn put(&mut self, block: Placed) -> Result<(), AllocError> {
-        self.list.reserve(1)?;
-        self.places.insert(block.id, self.list.len())?;
-        self.list.push_reserved(block);
+        add_brought(alloc, &mut self.tree, entry)?;
+        self.steps = steps;
         Ok(())
     }
+}
 
-    fn height_of(&self, place: usize) -> u64 {
-        match self.list.get(place) {
-            Some(block) => block.height,
-            None => 0,
-        }
+/// Adds the block that an entry brings, if it brings one.
+fn add_brought(alloc: Global, tree: &mut Tree, entry: &Entry) -> Result<(), Memory>
+    ensures ok { OnOk result (IsTreeAfter tree.old.blocks entry.now tree.new.blocks) }
+    ensures err { OnErr result (tree.new ≡ tree.old) }
+{
+    match brought_by(alloc, tree, entry)? {
+        Some(new) => tree.add(alloc, new, &mut Nobody {}, ()),
+        None => Ok(()),
     }
+}
 
-    /// The block of this id.
-    pub fn get(&self, id: &Id) -> Option<Placed> {
-        let place = self.places.get(id)?;
-        self.list.get(*place).copied()
+/// The block that an entry brings, if it brings one.
+fn brought_by(alloc: Global, tree: &Tree, entry: &Entry) -> Result<Option<NewBlock>, Memory>
+    ensures { IfOk result (λ found. MatchOption found (BringsNothing tree.now.blocks entry.now)
+        (λ new. IsBrought tree.now.blocks entry.now new.block new.parent × CanKeep tree.now new)) }
+{
+    let Command::Submit(bytes, _) = &entry.command else {
+        return Ok(None);
+    };
+    if !may_be_kept(entry.reply) || tree.len() >= MAX_BLOCKS {
+        return Ok(None);
     }
-
-    /// The block at this height of the branch of a block.
-    pub fn ancestor(&self, tip: &Id, height: u64) -> Option<Placed> {
-        let mut block = self.get(tip)?;
-        for _ in 0..self.list.len() {
-            if block.height == height {
-                return Some(block);
-            }
-            if block.height < height {
-                return None;
-            }
-            block = self.list.get(block.parent).copied()?;
-        }
-        None
+    let block = match read(alloc, bytes.as_slice()) {
+        Ok(block) => block,
+        Err(ReadFault::Memory) => return Err(Memory),
+        Err(_) => return Ok(None),
+    };
+    let id = block.header.id();
+    if tree.find(&id).is_some() {
+        return Ok(None);
     }
+    let Some(parent) = tree.find(&block.header.prev) else {
+        return Ok(None);
+    };
+    let block = StoredBlock::of(bytes.copy()?, &block);
+    Ok(Some(NewBlock { block, id, parent }))
 }
 
 /// Whether a submission with this reply can have brought a block: it wasn't refused. Of an owed reply nothing is known.
-fn may_be_kept(reply: Option<Reply>) -> bool {
-    matches!(
-        reply,
-        None | Some(Reply::Submit(SubmitReply::Accepted | SubmitReply::Inconclusive))
-    )
+fn may_be_kept(reply: Option<Reply>) -> bool
+    ensures { result ≡ may_be_kept_by reply }
+{
+    match reply {
+        None => true,
+        Some(Reply::Submit(reply)) => is_kept(reply),
+        Some(Reply::Mark(_)) => false,
+    }
 }

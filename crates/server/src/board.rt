@@ -5,6 +5,7 @@ ghost use Rattle.std.specs.Prelude.{◌≡◌};
 use crate::blocks::Blocks;
 use crate::growth::Growth;
 use crate::outbox::Outbox;
+use crate::waste::Waste;
 use crate::words::Facts;
 use node::{Naming, Note, Seat};
 use std::alloc::{AllocError, Global};
@@ -18,10 +19,11 @@ pub struct Board<J: Naming> {
     notes: Vec<Mutex<Note<J>>>,
     is_short: AtomicBool,
     /// The blocks of the history, as far as a request asked for them.
-    pub blocks: Mutex<Blocks>,
+    pub blocks: Mutex<Blocks<J>>,
     /// How long the history is, for who waits.
     pub growth: Growth,
     pub outbox: Outbox,
+    pub waste: Waste,
 }
 
 impl<J: Naming> Board<J> {
@@ -41,6 +43,7 @@ impl<J: Naming> Board<J> {
             blocks: Mutex::new(Blocks::new(alloc)?),
             growth: Growth::new(),
             outbox: Outbox::new(alloc, facts),
+            waste: Waste::new(facts.history_memory, facts.wasted),
         })
     }
 

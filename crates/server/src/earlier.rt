@@ -2,17 +2,21 @@
 
 use crate::learning::{deny_wants, learn_lines};
 use crate::node_faults::unanswered;
+use crate::waste::taken_by;
 use crate::words::SEATS;
 use block::SliceSource;
 use console::fault::Fault;
+use console::progress::Progress;
 use console::replay::BLK_MOMENT;
 use console::report::Clients;
 use hash::Id;
 use journal::{Records, Step};
 use node::{Command, MarkReply, Naming, Node, Reply, Seat, Stamped, SubmitReply};
 use scenario::BLK;
+use std::io::Write;
 use std::sync::Wait;
 use std::thread::Threads;
+use std::time::Clock;
 
 /// What is played before the first request.
 #[derive(Drop)]
@@ -31,15 +35,17 @@ pub struct Earlier<'t> {
 
 /// Plays it at a seat. The first reply that isn't the recorded one is a fault, and so is a blk file's end that is none. A
 /// signature that it wants of a node by need isn't valid where it isn't told to be; in a kept history it is a fault.
-pub fn play_earlier<J: Naming, R>(
+pub fn play_earlier<J: Naming, R, E>(
     rt: &R,
     node: &Node<'_, J>,
     seat: &mut Seat<'_, J>,
     earlier: &Earlier<'_>,
     clients: &mut Clients<'_>,
+    progress: &mut Progress<'_, '_, R, E>,
 ) -> Result<(), Fault<'static>>
 where
-    R: AllocGlobal + Threads + Wait + Sync,
+    R: AllocGlobal + Clock + Threads + Wait + Sync,
+    E: Write,
 {
     learn_lines(rt, node, earlier.valid.as_bytes(), true, seat).map_err(unanswered)?;
     learn_lines(rt, node, earlier.invalid.as_slice(), false, seat).map_err(unanswered)?;
@@ -56,6 +62,7 @@ where
         };
         let denied = seat.note().len().saturating_sub(before.saturating_add(1));
         clients.put_in(before, denied, SEATS[0])?;
+        progress.count(matches!(command, Command::Submit(..)));
         match step.reply {
             Some(recorded) if recorded != reply => {
                 return Err(Fault::OtherReply(step.number, reply));
@@ -70,6 +77,17 @@ where
         Some(file) => submit_file(rt, node, seat, file.as_slice(), clients),
         None => Ok(()),
     }
+}
+
+/// How many bytes of it submissions take that aren't kept.
+pub fn wasted(earlier: &Earlier<'_>) -> u64 {
+    let mut bytes = 0_u64;
+    for (command, step) in earlier.commands.iter().zip(earlier.steps.iter()) {
+        if let (Command::Submit(block, _), Some(Reply::Submit(reply))) = (command, step.reply) {
+            bytes = bytes.saturating_add(taken_by(reply, block.len()));
+        }
+    }
+    bytes
 }
 
 /// The reply to a command that wants signatures, and is made again as long as it does.

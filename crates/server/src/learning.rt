@@ -1,15 +1,18 @@
 //! Signatures by need: what a call wants, and verdicts that are told.
 
-ghost use Rattle.std.specs.Prelude.{length, IfOk};
+ghost use Rattle.std.specs.Prelude.{◌≡◌, length, slice_get, IfOk};
+ghost use Rattle.curve.specs.Lines.{lines};
 ghost use Rattle.serving.specs.Answers.{wants_members};
-ghost use Rattle.server.specs.inside.Answering.{IsReadLine};
+ghost use Rattle.server.specs.inside.Answering.{IsLearnTold, IsReadLine, TellsLearnt};
+ghost use Rattle.server.specs.inside.Learning.{AreLearnt, AreSpelled, IsSpelled};
 
 use crate::asking::refused;
 use crate::turn::Blank;
 use console::fault::Fault;
 use console::report::Clients;
+use curve::{TableFault, read_line};
 use node::{Command, Entry, KeptTriple, Naming, Node, Seat};
-use serving::{Answer, read_triple};
+use serving::Answer;
 use std::alloc::{AllocError, Global};
 use std::sync::Wait;
 use std::thread::Threads;
@@ -39,12 +42,28 @@ pub fn learnt<J: Naming, R>(
 ) -> Result<Vec<u8>, AllocError>
 where
     R: AllocGlobal + Threads + Wait + Sync,
+    ensures { IfOk result (λ line.
+        IsLearnTold seat.old seat.new valid.items invalid.items blank line.items) }
 {
     let alloc = rt.alloc();
-    let told = match learn_lines(rt, node, valid.as_slice(), true, seat) {
-        Ok(None) => learn_lines(rt, node, invalid.as_slice(), false, seat),
-        told => told,
-    };
+    match learn_lines(rt, node, valid.as_slice(), true, seat) {
+        Ok(None) => {
+            let told = learn_lines(rt, node, invalid.as_slice(), false, seat);
+            told_of(alloc, blank, told, seat)
+        }
+        told => told_of(alloc, blank, told, seat),
+    }
+}
+
+/// The line of what came of verdicts.
+fn told_of<J: Naming>(
+    alloc: Global,
+    blank: Blank,
+    told: Result<Option<KeptTriple>, node::Fault>,
+    seat: &Seat<'_, J>,
+) -> Result<Vec<u8>, AllocError>
+    ensures { IfOk result (λ line. TellsLearnt told seat.now blank line.items) }
+{
     let at = seat.note().len();
     match told {
         Ok(None) => blank.answer(alloc, at, Answer::Reply("done")),
@@ -64,21 +83,48 @@ pub fn learn_lines<J: Naming, R>(
 ) -> Result<Option<KeptTriple>, node::Fault>
 where
     R: AllocGlobal + Threads + Wait + Sync,
+    ensures { AreLearnt seat.old seat.new (lines text.now) valid result }
 {
     let triples = triples_of(rt.alloc(), text)?;
-    let taken = seat.learn_all(rt, node, triples.as_slice(), valid)?.value;
-    Ok(triples.into_iter().nth(taken))
+    match seat.learn_all(rt, node, triples.as_slice(), valid) {
+        Ok(taken) => Ok(taken_from(triples, taken.value)),
+        Err(fault) => Err(fault),
+    }
+}
+
+/// The triple at a place, if there is one.
+fn taken_from(mut triples: Vec<KeptTriple>, place: usize) -> Option<KeptTriple>
+    ensures { result ≡ slice_get triples.items place }
+{
+    if place < triples.len() {
+        Some(triples.swap_remove(place))
+    } else {
+        None
+    }
 }
 
 /// The triples of a table's lines.
-fn triples_of(alloc: Global, text: &[u8]) -> Result<Vec<KeptTriple>, Memory> {
+fn triples_of(alloc: Global, text: &[u8]) -> Result<Vec<KeptTriple>, Memory>
+    ensures { IfOk result (λ triples. AreSpelled (lines text.now) triples.items) }
+{
     let mut triples = Vec::new(alloc);
     for line in text.split(|byte| *byte == b'\n') {
-        if let Some(triple) = read_triple(alloc, line)? {
+        if let Some(triple) = triple_of(alloc, line)? {
             triples.push(triple)?;
         }
     }
     Ok(triples)
+}
+
+/// The triple that a line spells, if it spells one.
+fn triple_of(alloc: Global, line: &[u8]) -> Result<Option<KeptTriple>, Memory>
+    ensures { IfOk result (IsSpelled line.now) }
+{
+    match read_line(alloc, line, 0) {
+        Ok(triple) => Ok(triple),
+        Err(TableFault::BadLine(_)) => Ok(None),
+        Err(TableFault::Memory) => Err(Memory),
+    }
 }
 
 /// Tells a node that the signatures which a seat wants aren't valid.

@@ -1,64 +1,79 @@
 //! Requests that look blocks and coins up.
 
+ghost use Rattle.std.specs.Prelude.{◌≡◌, ◌≤◌, Some, length, map, IfOk, IfSome};
+ghost use Rattle.std.specs.Bool.{Decides};
+ghost use Rattle.std.specs.Option.{option_copied};
+ghost use Rattle.json.specs.Json.{object};
+ghost use Rattle.tree.specs.Branches.{height};
+ghost use Rattle.tree.specs.Limits.{max_blocks};
+ghost use Rattle.activate.specs.Lookups.{ancestor_of};
+ghost use Rattle.serving.specs.Answers.{coin_members};
+ghost use Rattle.server.specs.inside.Listing.{coin_json};
+ghost use Rattle.server.specs.inside.Answering.{AreCoinsTold, IsDeep, IsLookTold, SpellsKept, TellsBlock, TellsHash, TellsHeader, TellsRead, coins_answer, confirmations_of};
+
 use crate::asking::refused;
-use crate::blocks::Placed;
 use crate::board::Board;
-use crate::turn::read_line;
-use block::GENESIS;
+use crate::turn::Blank;
+use activate::{ancestor_of, header_of};
+use block::laws::genesis_is_its_parts;
+use block::{GENESIS, StoredBlock};
 use coins::Coin;
 use hash::Id;
-use node::{Command, Entry, Naming, Node, Seat, Stamped};
-use serving::{Answer, CoinAt, Header, Refusal, RequestId};
+use node::{Naming, Seat, Stamped};
+use serving::{Answer, CoinAt, Header, Refusal};
 use std::alloc::{AllocError, Global};
 use std::sync::Wait;
-use std::thread::Threads;
+use tree::Tree;
 use txn::OutPoint;
-
-/// How many bytes a header has.
-const HEADER: usize = 80;
 
 /// How many coins are listed at once. A list holds up writing calls while it is made.
 const MOST_COINS: u64 = 1_000;
-
-/// The seat's number of steps, after the blocks of all of them are known.
-fn caught_up<J: Naming, R>(rt: &R, board: &Board<J>, seat: &mut Seat<'_, J>) -> Result<u64, Refusal>
-where
-    R: AllocGlobal + Threads + Wait + Sync,
-{
-    let mut blocks = board.blocks.lock(rt);
-    match seat.journal(rt.alloc(), blocks.steps(), u64::MAX) {
-        Ok(Stamped { at, value }) => match blocks.add(value.as_slice()) {
-            Ok(()) => Ok(at),
-            Err(AllocError) => Err(Refusal::Memory),
-        },
-        Err(fault) => Err(refused(fault)),
-    }
-}
-
-/// What is written of a block.
-#[derive(Clone, Copy)]
-enum Part {
-    Whole,
-    /// The header, with this number of confirmations.
-    Header(i64),
-}
 
 /// The line of a block's bytes.
 pub fn block<J: Naming, R>(
     rt: &R,
     board: &Board<J>,
-    id: &RequestId,
-    block: &Id,
+    blank: Blank,
+    id: &Id,
     seat: &mut Seat<'_, J>,
-) -> Result<Vec<u8>, Refusal>
+) -> Result<Vec<u8>, AllocError>
 where
-    R: AllocGlobal + Threads + Wait + Sync,
+    R: AllocGlobal + Wait,
+    ensures { IfOk result (λ line. IsLookTold seat.old seat.new
+        (λ t best. TellsBlock t id.now blank) blank line.items) }
 {
-    let at = caught_up(rt, board, seat)?;
-    let found = board.blocks.lock(rt).get(block);
-    match found {
-        Some(block) => part_line(rt.alloc(), id, at, block, Part::Whole, seat),
-        None => read_line(rt.alloc(), id, at, Answer::Absent),
+    let mut blocks = board.blocks.lock(rt);
+    match blocks.catch_up(rt.alloc(), seat) {
+        Ok(Stamped { at, .. }) => block_line(rt.alloc(), blank, at, blocks.tree(), id),
+        Err(fault) => blank.refuse(refused(fault)),
+    }
+}
+
+fn block_line(
+    alloc: Global,
+    blank: Blank,
+    at: u64,
+    tree: &Tree,
+    id: &Id,
+) -> Result<Vec<u8>, AllocError>
+    ensures { IfOk result (λ line. TellsBlock tree.now.blocks id.now blank at line.items) }
+{
+    match tree.find(id) {
+        Some(place) => blank.read(alloc, at, Answer::Block(bytes_of(tree.block(place)))),
+        None => blank.read(alloc, at, Answer::Absent),
+    }
+}
+
+/// The bytes that spell a kept block.
+fn bytes_of(block: &StoredBlock) -> &[u8]
+    ensures { SpellsKept result.now block.now }
+{
+    match block.bytes() {
+        Some(bytes) => bytes.as_slice(),
+        None => {
+            genesis_is_its_parts();
+            &GENESIS
+        }
     }
 }
 
@@ -66,42 +81,85 @@ where
 pub fn header<J: Naming, R>(
     rt: &R,
     board: &Board<J>,
-    id: &RequestId,
-    block: &Id,
+    blank: Blank,
+    id: &Id,
     seat: &mut Seat<'_, J>,
-) -> Result<Vec<u8>, Refusal>
+) -> Result<Vec<u8>, AllocError>
 where
-    R: AllocGlobal + Threads + Wait + Sync,
+    R: AllocGlobal + Wait,
+    ensures { IfOk result (λ line. IsLookTold seat.old seat.new
+        (λ t best. TellsHeader t best id.now blank) blank line.items) }
 {
-    let Stamped { at, value: best } = seat.getbestblockhash().map_err(refused)?;
-    caught_up(rt, board, seat)?;
-    let found = placed_under(rt, board, block, &best);
-    match found {
-        Some((block, confirmations)) => {
-            let part = Part::Header(confirmations);
-            part_line(rt.alloc(), id, at, block, part, seat)
-        }
-        None => read_line(rt.alloc(), id, at, Answer::Absent),
+    let mut blocks = board.blocks.lock(rt);
+    match blocks.catch_up(rt.alloc(), seat) {
+        Ok(best) => header_line(rt.alloc(), blank, &best, blocks.tree(), id),
+        Err(fault) => blank.refuse(refused(fault)),
     }
 }
 
-/// A block, and how many blocks of the best one's branch there are from it on: -1 where it isn't on that branch.
-fn placed_under<J: Naming, R: Wait>(
-    rt: &R,
-    board: &Board<J>,
-    block: &Id,
-    best: &Id,
-) -> Option<(Placed, i64)> {
-    let blocks = board.blocks.lock(rt);
-    let block = blocks.get(block)?;
-    let tip = blocks.get(best)?;
-    match blocks.ancestor(best, block.height) {
-        Some(active) if active.id == block.id => {
-            let above = tip.height.saturating_sub(block.height);
-            let above = i64::try_from(above).unwrap_or(i64::MAX);
-            Some((block, above.saturating_add(1)))
-        }
-        _ => Some((block, -1)),
+fn header_line(
+    alloc: Global,
+    blank: Blank,
+    best: &Stamped<Id>,
+    tree: &Tree,
+    id: &Id,
+) -> Result<Vec<u8>, AllocError>
+    ensures { IfOk result (λ line.
+        TellsHeader tree.now.blocks best.now.value id.now blank best.now.at line.items) }
+{
+    let Some(place) = tree.find(id) else {
+        return blank.read(alloc, best.at, Answer::Absent);
+    };
+    let Some(bytes) = header_of(tree, id) else {
+        return blank.read(alloc, best.at, Answer::Absent);
+    };
+    let count = confirmations(tree, &best.value, id, place);
+    let header = shown_header(&bytes, tree.height(place), count);
+    blank.read(alloc, best.at, Answer::Header(header))
+}
+
+/// A header with its height and its confirmations.
+fn shown_header(bytes: &[u8], height: usize, count: Option<usize>) -> Header<'_>
+    requires { IfSome count (λ n. n ≤ max_blocks) }
+    ensures bytes { result.bytes.now ≡ bytes.now }
+    ensures height { result.height ≡ height }
+    ensures confirmations { result.confirmations ≡ confirmations_of count }
+{
+    let mut shown = Header {
+        bytes,
+        height: height as u64,
+        confirmations: -1,
+    };
+    if let Some(n) = count {
+        shown.confirmations = n as i64;
+    }
+    shown
+}
+
+/// How many blocks of the best one's branch there are from the block at a place on. None where it isn't on that branch.
+fn confirmations(tree: &Tree, best: &Id, id: &Id, place: usize) -> Option<usize>
+    requires { place ≤ length tree.now.blocks }
+    ensures deep { let t = tree.now.blocks in
+        IsDeep t best.now id.now (height t place) result }
+    ensures few { IfSome result (λ n. n ≤ max_blocks) }
+{
+    let height = tree.height(place);
+    let Some(top) = tree.find(best) else {
+        return None;
+    };
+    if !is_at(tree, best, height, id) {
+        return None;
+    }
+    Some(tree.height(top).saturating_sub(height) + 1)
+}
+
+/// Whether the block with an id stands at a height of the best one's branch.
+fn is_at(tree: &Tree, best: &Id, height: usize, id: &Id) -> bool
+    ensures { Decides result (ancestor_of tree.now.blocks best.now height ≡ Some id.now) }
+{
+    match ancestor_of(tree, best, height) {
+        Some(active) => active == *id,
+        None => false,
     }
 }
 
@@ -109,94 +167,92 @@ fn placed_under<J: Naming, R: Wait>(
 pub fn hash<J: Naming, R>(
     rt: &R,
     board: &Board<J>,
-    id: &RequestId,
+    blank: Blank,
     height: u64,
     seat: &mut Seat<'_, J>,
-) -> Result<Vec<u8>, Refusal>
+) -> Result<Vec<u8>, AllocError>
 where
-    R: AllocGlobal + Threads + Wait + Sync,
+    R: AllocGlobal + Wait,
+    ensures { IfOk result (λ line. IsLookTold seat.old seat.new
+        (λ t best. TellsHash t best height blank) blank line.items) }
 {
-    let Stamped { at, value: best } = seat.getbestblockhash().map_err(refused)?;
-    caught_up(rt, board, seat)?;
-    let found = board.blocks.lock(rt).ancestor(&best, height);
-    match found {
-        Some(block) => read_line(rt.alloc(), id, at, Answer::Best(block.id)),
-        None => read_line(rt.alloc(), id, at, Answer::Absent),
+    let mut blocks = board.blocks.lock(rt);
+    match blocks.catch_up(rt.alloc(), seat) {
+        Ok(best) => hash_line(rt.alloc(), blank, &best, blocks.tree(), height),
+        Err(fault) => blank.refuse(refused(fault)),
     }
 }
 
-/// The line of a part of a block, whose bytes are the history's.
-fn part_line<J: Naming>(
+fn hash_line(
     alloc: Global,
-    id: &RequestId,
-    at: u64,
-    block: Placed,
-    part: Part,
-    seat: &mut Seat<'_, J>,
-) -> Result<Vec<u8>, Refusal> {
-    let Some(before) = block.step.checked_sub(1) else {
-        return bytes_line(alloc, id, at, &GENESIS, block, part);
-    };
-    let entries = seat.journal(alloc, before, block.step).map_err(refused)?;
-    match entries.value.first() {
-        Some(
-            Entry {
-                command: Command::Submit(bytes, _),
-                ..
-            },
-        ) => bytes_line(alloc, id, at, bytes.as_slice(), block, part),
-        _ => read_line(alloc, id, at, Answer::Absent),
-    }
-}
-
-fn bytes_line(
-    alloc: Global,
-    id: &RequestId,
-    at: u64,
-    bytes: &[u8],
-    block: Placed,
-    part: Part,
-) -> Result<Vec<u8>, Refusal> {
-    match part {
-        Part::Whole => read_line(alloc, id, at, Answer::Block(bytes)),
-        Part::Header(confirmations) => {
-            let header = Header {
-                bytes: bytes.get(..HEADER).unwrap_or(bytes),
-                height: block.height,
-                confirmations,
-            };
-            read_line(alloc, id, at, Answer::Header(header))
-        }
+    blank: Blank,
+    best: &Stamped<Id>,
+    tree: &Tree,
+    height: u64,
+) -> Result<Vec<u8>, AllocError>
+    ensures { IfOk result (λ line.
+        TellsHash tree.now.blocks best.now.value height blank best.now.at line.items) }
+{
+    match ancestor_of(tree, &best.value, height as usize) {
+        Some(id) => blank.read(alloc, best.at, Answer::Best(id)),
+        None => blank.read(alloc, best.at, Answer::Absent),
     }
 }
 
 /// The line of the coins at the outpoints above one.
 pub fn coins<J: Naming>(
     alloc: Global,
-    id: &RequestId,
+    blank: Blank,
     above: Option<&OutPoint>,
     most: u64,
     seat: &mut Seat<'_, J>,
-) -> Result<Vec<u8>, Refusal> {
+) -> Result<Vec<u8>, AllocError>
+    ensures { IfOk result (λ line. AreCoinsTold
+        seat.old seat.new (option_copied above.entry) most blank line.items) }
+{
     let most = most.min(MOST_COINS) as usize;
-    let found = seat.coins_from(alloc, above, most).map_err(refused)?;
-    match rows(alloc, found.value.as_slice()) {
-        Ok(rows) => read_line(alloc, id, found.at, Answer::Coins(rows.as_slice())),
-        Err(AllocError) => Err(Refusal::Memory),
+    let found = seat.coins_from(alloc, above, most);
+    listed_coins(alloc, blank, found)
+}
+
+fn listed_coins(
+    alloc: Global,
+    blank: Blank,
+    found: Result<Stamped<Vec<(OutPoint, Coin)>>, node::Fault>,
+) -> Result<Vec<u8>, AllocError>
+    ensures { IfOk result (λ line. TellsRead coins_answer blank found line.items) }
+{
+    match found {
+        Ok(Stamped { at, value }) => match rows(alloc, value.as_slice()) {
+            Ok(rows) => blank.read(alloc, at, Answer::Coins(rows.as_slice())),
+            Err(AllocError) => blank.refuse(Refusal::Memory),
+        },
+        Err(fault) => blank.refuse(refused(fault)),
     }
 }
 
-fn rows(alloc: Global, coins: &[(OutPoint, Coin)]) -> Result<Vec<CoinAt<'_>>, AllocError> {
+fn rows(alloc: Global, coins: &[(OutPoint, Coin)]) -> Result<Vec<CoinAt<'_>>, AllocError>
+    ensures { IfOk result (λ rows.
+        map (λ row. object (coin_members row)) rows.items ≡ map coin_json coins.now) }
+{
     let mut rows = Vec::new(alloc);
-    for (outpoint, coin) in coins {
-        rows.push(CoinAt {
-            txid: outpoint.id,
-            n: outpoint.index,
-            value: coin.value,
-            script: coin.script.as_slice(),
-            height: coin.height,
-            coinbase: coin.coinbase,
-        })?;
+    for coin in coins {
+        rows.push(row(coin))?;
     }
     Ok(rows)
+}
+
+/// A coin, as its object has it.
+fn row(coin: &(OutPoint, Coin)) -> CoinAt<'_>
+    ensures { object (coin_members result) ≡ coin_json coin.now }
+{
+    let (outpoint, coin) = coin;
+    CoinAt {
+        txid: outpoint.id,
+        n: outpoint.index,
+        value: coin.value,
+        script: coin.script.as_slice(),
+        height: coin.height,
+        coinbase: coin.coinbase,
+    }
 }

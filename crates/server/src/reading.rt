@@ -2,7 +2,7 @@
 
 use crate::outbox::Outbox;
 use crate::tally::Tally;
-use crate::turn::{Ask, Turn};
+use crate::turn::{Ask, Blank, Turn};
 use console::fault::Fault;
 use console::options::STANDARD;
 use crossbeam_channel::{Sender, TrySendError};
@@ -18,11 +18,11 @@ use std::sync::Wait;
 const MAX_LINE: usize = 70_000_000;
 
 /// How many bytes are read at once.
-const READ_AHEAD: usize = 65_536;
+pub const READ_AHEAD: usize = 65_536;
 
 /// A line of the input.
 #[derive(Drop)]
-enum Line {
+pub enum Line {
     Whole(Vec<u8>),
     /// More than a line may have. It is skipped.
     TooMuch(Refusal),
@@ -43,10 +43,19 @@ enum Piece {
 #[derive(Drop)]
 enum Next {
     Line,
-    /// The end, for which this request asked.
-    Finish(RequestId),
+    /// Nothing, before this was done.
+    Stop(Stop),
     /// The end, since nobody takes what comes.
     Left,
+}
+
+/// What is done when no request is under way.
+#[derive(Drop)]
+pub enum Stop {
+    /// To end, for which this request asked.
+    Finish(RequestId),
+    /// To save what happened so far, and to go on.
+    Save(Blank),
 }
 
 /// Where requests wait for each seat, and where lines wait for being written.
@@ -56,26 +65,39 @@ pub struct Doors {
     pub to: Sender<Answer>,
     /// Whether a request is refused for whose seat as many wait as may. Else it is waited for room.
     pub is_busy: bool,
+    /// Whether what happens is saved into a folder.
+    pub is_saved: bool,
     /// How the node was opened.
     pub info: Info<'static>,
 }
 
-/// Reads requests to the end of the input, and has each wait for its seat. The request that asked for the end, if one did.
+/// Where requests come from, a line each.
+pub trait Requests {
+    /// The next line, without its end; the last may lack it. One that has too much is skipped.
+    fn next_line(&mut self, alloc: Global) -> io::Result<Option<Line>>;
+}
+
+impl<I: Read> Requests for BufReader<I> {
+    fn next_line(&mut self, alloc: Global) -> io::Result<Option<Line>> {
+        read_line(alloc, self)
+    }
+}
+
+/// Reads requests and has each wait for its seat, to the end of the input, or to one for which nothing may be under way.
 pub fn read_requests<R, I>(
     rt: &R,
     outbox: &Outbox,
     doors: &Doors,
     input: &mut I,
-) -> io::Result<Option<RequestId>>
+) -> io::Result<Option<Stop>>
 where
     R: AllocGlobal + Wait,
-    I: Read,
+    I: Requests,
 {
-    let mut input = BufReader::with_capacity(rt.alloc(), READ_AHEAD, input)?;
     for _ in 0..u64::MAX {
-        match read_next(rt, outbox, doors, &mut input)? {
+        match read_next(rt, outbox, doors, input)? {
             Next::Line => {}
-            Next::Finish(id) => return Ok(Some(id)),
+            Next::Stop(stop) => return Ok(Some(stop)),
             Next::Left => return Ok(None),
         }
     }
@@ -86,9 +108,9 @@ where
 fn read_next<R, I>(rt: &R, outbox: &Outbox, doors: &Doors, input: &mut I) -> io::Result<Next>
 where
     R: AllocGlobal + Wait,
-    I: BufRead,
+    I: Requests,
 {
-    match read_line(rt.alloc(), input)? {
+    match input.next_line(rt.alloc())? {
         Some(_) if outbox.is_over() => Ok(Next::Left),
         Some(line) => pass_on(rt, doors, line),
         None => Ok(Next::Left),
@@ -166,11 +188,12 @@ where
             let turn = Turn::new(rt.alloc(), id, Ask::Refused(refusal))?;
             Ok(doors.wait(rt, seat, turn)?)
         }
+        Asked::Save if doors.is_saved => Ok(Next::Stop(Stop::Save(Blank::new(rt.alloc(), id)?))),
         Asked::Save => {
             let turn = Turn::new(rt.alloc(), id, Ask::Save)?;
             Ok(doors.wait(rt, 0, turn)?)
         }
-        Asked::Finish => Ok(Next::Finish(id)),
+        Asked::Finish => Ok(Next::Stop(Stop::Finish(id))),
         Asked::Info => {
             let line = info_line(Vec::new(rt.alloc()), &id, &doors.info)?;
             Ok(doors.tell(rt, line))

@@ -4,7 +4,7 @@ use crate::asking::{Desk, answer_turns};
 use crate::board::Board;
 use crate::growth::Growth;
 use crate::outbox::Outbox;
-use crate::reading::{Doors, read_requests, unread};
+use crate::reading::{Doors, Requests, Stop, read_requests, unread};
 use crate::session::Ended;
 use crate::telling::{Lines, tell_as_they_come, tell_unsaved};
 use crate::words::Facts;
@@ -12,9 +12,7 @@ use console::datadir::HostFault;
 use console::fault::Fault;
 use durable::{Host, KeptLog};
 use node::{Naming, Node, Seat};
-use serving::RequestId;
 use std::alloc::Global;
-use std::io::Read;
 use std::sync::{Mutex, Wait};
 use std::thread::{JoinHandle, Scope, Threads};
 use std::{io, thread};
@@ -22,8 +20,8 @@ use std::{io, thread};
 /// How many requests wait for a seat at most, and how many lines for being written.
 const WAITING: usize = 64;
 
-/// The request that asked for the end, if one did, or why no more is read.
-type Asked = io::Result<Option<RequestId>>;
+/// What a request asked for that stopped the reading, if one did, or why no more is read.
+type Asked = io::Result<Option<Stop>>;
 
 /// What was read, and whether all lines were written, where the threads could be made.
 type Done = Result<(Asked, Result<(), Fault<'static>>), Fault<'static>>;
@@ -38,7 +36,7 @@ struct Place<'s, 't, J: Naming> {
 /// What each thread takes when it begins.
 type Places<'s, 't, J> = Vec<Mutex<Option<Place<'s, 't, J>>>>;
 
-/// Answers the requests of an input on an output until it ends or one asks for the end.
+/// Answers the requests of an input on an output until it ends, or until one asks for what is done when none is under way.
 pub fn serve_requests<'t, J: Naming, R, I, H>(
     rt: &R,
     node: &Node<'_, J>,
@@ -49,7 +47,7 @@ pub fn serve_requests<'t, J: Naming, R, I, H>(
 ) -> Result<Ended<'static>, Fault<'static>>
 where
     R: AllocGlobal + Threads + Wait + Sync,
-    I: Read + Send,
+    I: Requests + Send,
     H: Host<Fault = HostFault> + Drop,
 {
     let alloc = rt.alloc();
@@ -60,6 +58,7 @@ where
         seats: Vec::new(alloc),
         to,
         is_busy: facts.is_busy,
+        is_saved: facts.save.is_some(),
         info: facts.info(),
     };
     let mut places: Places<'_, 't, J> = Vec::new(alloc);
@@ -102,7 +101,7 @@ fn serve_places<'t, J: Naming, R, I, H>(
 ) -> Result<Ended<'static>, Fault<'static>>
 where
     R: AllocGlobal + Threads + Wait + Sync,
-    I: Read + Send,
+    I: Requests + Send,
     H: Host<Fault = HostFault> + Drop,
 {
     let doors = Mutex::new(Some(doors));
@@ -126,7 +125,7 @@ fn run_threads<'t, J: Naming, R, I, H>(
 ) -> Done
 where
     R: AllocGlobal + Threads + Wait + Sync,
-    I: Read + Send,
+    I: Requests + Send,
     H: Host<Fault = HostFault> + Drop,
 {
     let outbox = &board.outbox;
@@ -168,7 +167,7 @@ fn start_reader<'s, E, R, I>(
 ) -> Option<JoinHandle<Asked>>
 where
     R: AllocGlobal + Threads + Wait + Sync,
-    I: Read + Send,
+    I: Requests + Send,
 {
     scope
         .spawn(move || run_reader(rt, outbox, growth, doors, input))
@@ -210,7 +209,7 @@ fn run_reader<R, I>(
 ) -> Asked
 where
     R: AllocGlobal + Wait,
-    I: Read,
+    I: Requests,
 {
     let Some(doors) = taken(rt, doors) else {
         return Ok(None);
@@ -255,8 +254,8 @@ where
 
 /// How it ended, by who read, who wrote, and whether a seat had no memory.
 fn ended(read: Asked, written: Result<(), Fault<'static>>, is_short: bool) -> Ended<'static> {
-    let (finish, served) = match read {
-        Ok(finish) => (finish, Ok(())),
+    let (stop, served) = match read {
+        Ok(stop) => (stop, Ok(())),
         Err(error) => (None, Err(unread(error))),
     };
     let served = match (written, is_short) {
@@ -264,5 +263,5 @@ fn ended(read: Asked, written: Result<(), Fault<'static>>, is_short: bool) -> En
         (Ok(()), true) => Err(Fault::Memory),
         (Ok(()), false) => served,
     };
-    Ended { finish, served }
+    Ended { stop, served }
 }

@@ -3,9 +3,10 @@
 ghost use Rattle.std.specs.Prelude.{◌≡◌};
 ghost use Rattle.durable.specs.Log.{opened};
 
-use crate::earlier::{Earlier, play_earlier};
-use crate::learning::{Parted, without_verdicts};
+use crate::earlier::{Earlier, play_earlier, wasted};
 use crate::node_faults::unopened;
+use crate::reading::{READ_AHEAD, Stop};
+use crate::saving::{answer_saved, save_served};
 use crate::service::{serve_requests, taken};
 use crate::telling::tell_all;
 use crate::words::{Facts, SEATS};
@@ -17,21 +18,22 @@ use console::fault::Fault;
 use console::files::{read_if_named, read_table_file};
 use console::options::{HEIGHTS, Saved, ServeOptions};
 use console::replay::{Inputs, commands, read_inputs};
-use console::report::{Clients, Report};
-use console::saving::{check_folder, heights_line, read_invalid, save, save_invalid};
+use console::progress::Progress;
+use console::report::Clients;
+use console::saving::{check_folder, read_invalid};
 use curve::Table;
 use durable::{Host, KeptLog, Lost, whole_lines};
 use journal::{read_heights, read_journal, read_records};
 use node::{EndFault, Entry, Gate, Naming, Node, Opening, Seat};
-use scenario::Definitions;
 use serving::{Answer, Refusal, RequestId, Stamped, answer_line, refusal_line};
 use std::alloc::{AllocError, Global};
 use std::fs::File;
-use std::io::{Read, Write};
+use std::io::{BufReader, IsTerminal, Read, Write};
 use std::marker::Brand;
 use std::rt::Files;
 use std::sync::{Arc, Mutex, Wait};
 use std::thread::Threads;
+use std::time::Clock;
 
 /// Answers the requests of an input on an output until it ends or one asks to finish, and saves what happened where that
 /// is asked for. Where the history is kept, an answer goes out when its steps are on the disk.
@@ -44,30 +46,38 @@ pub fn serve<'w, R, I, O, E>(
     err: &mut E,
 ) -> Result<(), Fault<'w>>
 where
-    R: Files<File = File> + AllocGlobal + Threads + Wait + Sync,
+    R: Files<File = File> + AllocGlobal + Clock + Threads + Wait + Sync,
     I: Read + Send,
     O: Write,
-    E: Write,
+    E: Write + IsTerminal,
 {
     let mut disk = open_disk(rt, options)?;
     tell_opening(options, disk.bytes.as_slice(), err);
     let log = disk.log.take();
     let host = FileHost::open(rt.alloc(), log, &disk.bytes, !options.is_unsynced, out);
-    serve_over(rt, options, gate, host, disk, input)
+    serve_over(rt, options, gate, host, disk, Streams { input, err })
+}
+
+/// What a served node reads, and where it says what the one who started it has to know.
+#[derive(Drop)]
+struct Streams<'s, I, E> {
+    input: &'s mut I,
+    err: &'s mut E,
 }
 
 /// Serves over a log that was opened.
-fn serve_over<'w, R, I, H>(
+fn serve_over<'w, R, I, E, H>(
     rt: &R,
     options: &ServeOptions<'w>,
     gate: &(dyn Gate + Sync),
     host: H,
     disk: Disk,
-    input: &mut I,
+    streams: Streams<'_, I, E>,
 ) -> Result<(), Fault<'w>>
 where
-    R: Files<File = File> + AllocGlobal + Threads + Wait + Sync,
+    R: Files<File = File> + AllocGlobal + Clock + Threads + Wait + Sync,
     I: Read + Send,
+    E: Write + IsTerminal,
     H: Host<Fault = HostFault> + Drop,
     requires { H.calls host ≡ opened disk.bytes.items }
 {
@@ -89,6 +99,7 @@ where
     let known = read_known(rt, options, &table)?;
     let (journal, blk) = (journal.as_slice(), blk.as_slice());
     let earlier = read_earlier(rt, options, journal, blk, verdicts, known)?;
+    let table = Arc::new(alloc, table)?;
     let facts = Facts {
         params,
         seats: options.seats,
@@ -98,10 +109,13 @@ where
         is_unsynced: options.is_unsynced,
         is_by_need: options.is_by_need,
         is_busy: options.is_busy,
+        history_memory: options.history_memory,
+        wasted: wasted(&earlier),
+        save: options.save,
+        table: Arc::clone(&table)?,
         clients: clients(alloc, &earlier)?,
     };
-    let table = Arc::new(alloc, table)?;
-    serve_and_save(rt, options, gate, &earlier, facts, &table, input, &log)
+    serve_and_save(rt, options, gate, &earlier, facts, &table, streams, &log)
 }
 
 /// What a node begins with.
@@ -235,19 +249,20 @@ where
 }
 
 /// Serves under this table, and saves then what happened.
-fn serve_and_save<'w, R, I, H>(
+fn serve_and_save<'w, R, I, E, H>(
     rt: &R,
     options: &ServeOptions<'w>,
     gate: &(dyn Gate + Sync),
     earlier: &Earlier<'_>,
     facts: Facts<'_>,
     table: &Arc<Table>,
-    input: &mut I,
+    streams: Streams<'_, I, E>,
     log: &Mutex<Option<KeptLog<H>>>,
 ) -> Result<(), Fault<'w>>
 where
-    R: Files<File = File> + AllocGlobal + Threads + Wait + Sync,
+    R: Files<File = File> + AllocGlobal + Clock + Threads + Wait + Sync,
     I: Read + Send,
+    E: Write + IsTerminal,
     H: Host<Fault = HostFault> + Drop,
 {
     let mut facts = facts;
@@ -260,15 +275,15 @@ where
         entries,
         fits,
         ended,
-    } = serve_at_node::<Brand, R, I, H>(rt, opening, gate, earlier, &mut facts, input, log)?;
-    let Ended { finish, served } = ended?;
+    } = serve_at_node::<Brand, R, I, E, H>(rt, opening, gate, earlier, &mut facts, streams, log)?;
+    let Ended { stop, served } = ended?;
     let steps = entries.len() as u64;
     let kept = keep_rest(rt, &facts, entries.as_slice(), log);
     let saved = match options.save {
-        Some(folder) => save_served(rt, folder, table, facts, entries),
+        Some(folder) => save_served(rt, folder, &facts, entries),
         None => Ok(()),
     };
-    let told = tell_end(rt.alloc(), finish, steps, saved.is_ok(), kept);
+    let told = tell_end(rt.alloc(), stop, steps, saved.is_ok(), kept);
     served?;
     fits?;
     saved?;
@@ -346,32 +361,41 @@ struct Served<'f> {
 /// How the service ended that had begun.
 #[derive(Drop)]
 pub struct Ended<'f> {
-    /// The request that asked for the end.
-    pub finish: Option<RequestId>,
+    /// What was asked for that stopped it.
+    pub stop: Option<Stop>,
     pub served: Result<(), Fault<'f>>,
 }
 
 /// Serves at a node of this opening. The prover picks the node's name where this is called.
-fn serve_at_node<'f, J: Naming, R, I, H>(
+fn serve_at_node<'f, J: Naming, R, I, E, H>(
     rt: &R,
     opening: Opening<'_>,
     gate: &(dyn Gate + Sync),
     earlier: &Earlier<'_>,
     facts: &mut Facts<'_>,
-    input: &mut I,
+    streams: Streams<'_, I, E>,
     log: &Mutex<Option<KeptLog<H>>>,
 ) -> Result<Served<'f>, Fault<'f>>
 where
-    R: AllocGlobal + Threads + Wait + Sync,
+    R: Files<File = File> + AllocGlobal + Clock + Threads + Wait + Sync,
     I: Read + Send,
+    E: Write + IsTerminal,
     H: Host<Fault = HostFault> + Drop,
     requires { opening ≡ J.origin }
 {
     let (node, mut seats) = Node::<J>::open(rt.alloc(), opening, facts.workers, gate).map_err(
         unopened,
     )?;
-    let ended = serve_seats(rt, &node, seats.as_mut_slice(), earlier, facts, input, log);
-    let (entries, fits) = match node.close(rt, seats.as_mut_slice()) {
+    let played = match seats.first_mut() {
+        Some(seat) => play_watched(rt, &node, seat, earlier, &mut facts.clients, streams.err),
+        None => Ok(()),
+    };
+    let ended = match played {
+        Ok(()) => serve_seats(rt, &node, seats.as_mut_slice(), facts, streams.input, log),
+        Err(fault) => Err(fault),
+    };
+    // The process ends soon: what is published isn't freed.
+    let (entries, fits) = match node.finish(seats.as_mut_slice()) {
         Ok(entries) => (entries, Ok(())),
         Err(EndFault { history }) => (history, Err(Fault::Closed)),
     };
@@ -382,62 +406,60 @@ where
     })
 }
 
-/// Plays what was earlier, and serves then.
+/// Serves until the end. Where a request asks to save, that is done while none is under way.
 fn serve_seats<J: Naming, R, I, H>(
     rt: &R,
     node: &Node<'_, J>,
     seats: &mut [Seat<'_, J>],
-    earlier: &Earlier<'_>,
-    facts: &mut Facts<'_>,
+    facts: &Facts<'_>,
     input: &mut I,
     log: &Mutex<Option<KeptLog<H>>>,
 ) -> Result<Ended<'static>, Fault<'static>>
 where
-    R: AllocGlobal + Threads + Wait + Sync,
+    R: Files<File = File> + AllocGlobal + Threads + Wait + Sync,
     I: Read + Send,
     H: Host<Fault = HostFault> + Drop,
 {
-    if let Some(seat) = seats.first_mut() {
-        play_earlier(rt, node, seat, earlier, &mut facts.clients)?;
+    let Ok(mut lines) = BufReader::with_capacity(rt.alloc(), READ_AHEAD, &mut *input) else {
+        return Err(Fault::Memory);
+    };
+    for _ in 0..u64::MAX {
+        let Ended { stop, served } = serve_requests(rt, node, seats, facts, &mut lines, log)?;
+        if served.is_err() {
+            return Ok(Ended { stop, served });
+        }
+        match stop {
+            Some(Stop::Save(blank)) => answer_saved(rt, facts, seats, blank, log)?,
+            stop => return Ok(Ended { stop, served }),
+        }
     }
-    serve_requests(rt, node, seats, facts, input, log)
+    Err(Fault::Closed)
 }
 
-/// Saves what happened: a history without verdicts, beside the signatures that these say are valid, and that they aren't.
-fn save_served<'w, R>(
+/// Plays what was earlier at a seat, and says on a terminal how far it is.
+fn play_watched<J: Naming, R, E>(
     rt: &R,
-    folder: &'w str,
-    table: &Table,
-    facts: Facts<'_>,
-    entries: Vec<Entry>,
-) -> Result<(), Fault<'w>>
+    node: &Node<'_, J>,
+    seat: &mut Seat<'_, J>,
+    earlier: &Earlier<'_>,
+    clients: &mut Clients<'_>,
+    err: &mut E,
+) -> Result<(), Fault<'static>>
 where
-    R: Files<File = File> + AllocGlobal,
+    R: AllocGlobal + Clock + Threads + Wait + Sync,
+    E: Write + IsTerminal,
 {
-    let Facts {
-        params,
-        clients,
-        ..
-    } = facts;
-    let heights = heights_line(rt.alloc(), &params)?;
-    let Parted {
-        clients,
-        entries,
-        valid,
-        invalid,
-    } = without_verdicts(rt.alloc(), clients, entries)?;
-    let found = Table::from_lines(rt.alloc(), valid.as_bytes())?;
-    let table = if valid.is_empty() { table } else { &found };
-    let definitions = Definitions::read(rt.alloc(), &[], Table::new(rt.alloc()))?;
-    let report = Report::new(rt.alloc(), &definitions, clients, entries)?;
-    save(rt, folder, &report, table, heights.trim_end())?;
-    save_invalid(rt, folder, invalid.as_str())
+    let is_wanted = err.is_terminal() && !earlier.commands.is_empty();
+    let mut progress = Progress::new(rt, err, is_wanted);
+    play_earlier(rt, node, seat, earlier, clients, &mut progress)?;
+    progress.end();
+    Ok(())
 }
 
 /// Answers the request that asked for the end, if one did, where the history is kept.
 fn tell_end<H>(
     alloc: Global,
-    finish: Option<RequestId>,
+    stop: Option<Stop>,
     steps: u64,
     is_saved: bool,
     kept: Result<KeptLog<H>, Fault<'static>>,
@@ -446,7 +468,7 @@ where
     H: Host<Fault = HostFault> + Drop,
 {
     let log = kept?;
-    let Some(id) = finish else {
+    let Some(Stop::Finish(id)) = stop else {
         return Ok(());
     };
     let line = end_line(alloc, &id, steps, is_saved)?;

@@ -3,7 +3,7 @@
 ghost use Rattle.std.specs.Prelude.{◌≡◌, [], IfOk, IfErr};
 ghost use Rattle.serving.specs.Answers.{answer_members};
 ghost use Rattle.serving.specs.declared.refusal.Refusal.TheVariants as refusals;
-ghost use Rattle.server.specs.inside.Answering.{GivesRead, IsError, IsReadLine, answer_at, error_of};
+ghost use Rattle.server.specs.inside.Answering.{IsError, IsReadLine, answer_at, error_of};
 
 use serving::{Answer, Call, Refusal, RequestId, Stamped, answer_line, refusal_line};
 use std::alloc::{AllocError, Global};
@@ -64,13 +64,6 @@ impl Blank {
         Ok(Blank { id, room })
     }
 
-    /// The id of the request.
-    pub fn id(&self) -> &RequestId
-        ensures { result.now ≡ self.now }
-    {
-        &self.id
-    }
-
     /// The line of an answer.
     pub fn answer(self, alloc: Global, at: u64, answer: Answer<'_>) -> Result<Vec<u8>, AllocError>
         ensures { IfOk result (λ line.
@@ -91,16 +84,6 @@ impl Blank {
         }
     }
 
-    /// The line of a read, or the one that says why there is none.
-    pub fn give(self, read: Result<Vec<u8>, Refusal>) -> Result<Vec<u8>, AllocError>
-        ensures { IfOk result (λ line. GivesRead read self line.items) }
-    {
-        match read {
-            Ok(line) => Ok(line),
-            Err(refusal) => self.refuse(refusal),
-        }
-    }
-
     /// The line that says why there is no answer.
     pub fn refuse(self, refusal: Refusal) -> Result<Vec<u8>, AllocError>
         ensures line { IfOk result (λ line. line.items ≡ error_of self refusal) }
@@ -112,7 +95,7 @@ impl Blank {
 }
 
 /// The line of an answer to the request of this id.
-pub fn read_line(
+fn read_line(
     alloc: Global,
     id: &RequestId,
     at: u64,

@@ -2,8 +2,10 @@
 
 use console::options::{NAME, VERSION};
 use console::report::Clients;
+use curve::Table;
 use node::Params;
 use serving::Info;
+use std::sync::Arc;
 
 /// The names of the seats in a journal.
 pub const SEATS: [&str; 16] = [
@@ -27,6 +29,14 @@ pub struct Facts<'t> {
     pub is_by_need: bool,
     /// Whether a request is refused for whose seat as many wait as may.
     pub is_busy: bool,
+    /// How many megabytes of the history submissions that aren't kept may take.
+    pub history_memory: Option<u64>,
+    /// How many bytes of what was loaded such submissions take.
+    pub wasted: u64,
+    /// The folder into which what happened is saved.
+    pub save: Option<&'t str>,
+    /// The signatures that are valid from the start.
+    pub table: Arc<Table>,
     pub clients: Clients<'t>,
 }
 

@@ -28,6 +28,7 @@ is-param {why} {name} e = subst IsParam (sym e) _
 -- what the parameters of a method have where they mean a call
 abbrev pub Takes : ℕ → Method → Option Json → Type 0
 Takes seats method.Submit p = ((bytes : List ℕ) × AreBytes (codes "block") p bytes) × ((n : ℕ) × IsNumber (codes "now") p n)
+Takes seats method.Judge p = ((bytes : List ℕ) × AreBytes (codes "block") p bytes) × ((n : ℕ) × IsNumber (codes "now") p n)
 Takes seats method.Invalidate p = (id : Id) × IsId (codes "id") p id
 Takes seats method.Reconsider p = (id : Id) × IsId (codes "id") p id
 Takes seats method.Precious p = (id : Id) × IsId (codes "id") p id
@@ -50,6 +51,7 @@ Takes seats method.Finish p = ⊤
 
 pub takes : (seats : ℕ) (m : Method) (p : Option Json) (c : Call) → IsCall seats m p c → Takes seats m p
 takes seats m p (call.Submit block now) h = subst (λ n. Takes seats n p) (sym h.0) ((block.items, h.1), (now, h.2))
+takes seats m p (call.Judge block now) h = subst (λ n. Takes seats n p) (sym h.0) ((block.items, h.1), (now, h.2))
 takes seats m p (call.Invalidate id) h = subst (λ n. Takes seats n p) (sym h.0) (id, h.1)
 takes seats m p (call.Reconsider id) h = subst (λ n. Takes seats n p) (sym h.0) (id, h.1)
 takes seats m p (call.Precious id) h = subst (λ n. Takes seats n p) (sym h.0) (id, h.1)
@@ -92,6 +94,7 @@ asked-refused seats j m seat refusal.Closed is by none = by
 asked-refused seats j m seat refusal.Unsaved is by none = by
 asked-refused seats j m seat (refusal.NotSaved reason) is by none = by
 asked-refused seats j m seat refusal.Busy is by none = by
+asked-refused seats j m seat refusal.HistoryFull is by none = by
 
 -- a request of no method is refused in the turn of the seat that it names
 pub refused-in-turn : (seats : ℕ) (j : Json) (p : Option Json) (Other : Refusal → Type 0) → p ≡ get (codes "params") j → (r : Result ℕ Refusal) → IfOk r (λ n. IsSeat seats (codes "seat") p n)

@@ -170,6 +170,7 @@ about refusal.Closed = no_members
 about refusal.Unsaved = no_members
 about (refusal.NotSaved why) = text (codes "data") why.now no_members
 about refusal.Busy = no_members
+about refusal.HistoryFull = no_members
 
 -- its code, without the minus: JSON-RPC's, and from 32001 on a node's
 abbrev pub code_of : Refusal → ℕ
@@ -185,6 +186,7 @@ code_of refusal.Closed = 32003
 code_of refusal.Unsaved = 32004
 code_of (refusal.NotSaved why) = 32004
 code_of refusal.Busy = 32005
+code_of refusal.HistoryFull = 32006
 
 -- its name
 abbrev pub name_of : Refusal → List ℕ
@@ -200,6 +202,7 @@ name_of refusal.Closed = codes "closed"
 name_of refusal.Unsaved = codes "not saved"
 name_of (refusal.NotSaved why) = codes "not saved"
 name_of refusal.Busy = codes "busy"
+name_of refusal.HistoryFull = codes "history-full"
 
 abbrev pub refusal_members : Refusal → Members
 refusal_members r = member (codes "code") (number (signed_decimal (neg_ℤ (pos (code_of r)))))

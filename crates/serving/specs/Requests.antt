@@ -81,6 +81,7 @@ IsAbove params (Some outpoint) = AreOutPoint params outpoint
 -- the names of the methods
 abbrev pub method_name : Method → List ℕ
 method_name method.Submit = codes "submit"
+method_name method.Judge = codes "judge"
 method_name method.Invalidate = codes "invalidate"
 method_name method.Reconsider = codes "reconsider"
 method_name method.Precious = codes "precious"
@@ -105,6 +106,8 @@ method_name method.Finish = codes "finish"
 abbrev pub IsCall : ℕ → Method → Option Json → Call → Type 0
 IsCall seats m params (call.Submit block now) =
     (m ≡ method.Submit) × AreBytes (codes "block") params block.items × IsNumber (codes "now") params now
+IsCall seats m params (call.Judge block now) =
+    (m ≡ method.Judge) × AreBytes (codes "block") params block.items × IsNumber (codes "now") params now
 IsCall seats m params (call.Invalidate id) = (m ≡ method.Invalidate) × IsId (codes "id") params id
 IsCall seats m params (call.Reconsider id) = (m ≡ method.Reconsider) × IsId (codes "id") params id
 IsCall seats m params (call.Precious id) = (m ≡ method.Precious) × IsId (codes "id") params id
@@ -158,6 +161,7 @@ IsAsked seats j (asked.Refused seat refusal.Closed) = ⊥
 IsAsked seats j (asked.Refused seat refusal.Unsaved) = ⊥
 IsAsked seats j (asked.Refused seat (refusal.NotSaved why)) = ⊥
 IsAsked seats j (asked.Refused seat refusal.Busy) = ⊥
+IsAsked seats j (asked.Refused seat refusal.HistoryFull) = ⊥
 
 -- the value names no seat of the node, or is no request
 abbrev pub NamesNoSeat : ℕ → Json → Type 0

@@ -20,4 +20,3 @@ pub use object::Object;
 pub use refusal::Refusal;
 pub use request::{Asked, Call, Request, read_request};
 pub use request_id::RequestId;
-pub use triple_line::read_triple;

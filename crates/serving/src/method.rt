@@ -8,6 +8,7 @@ ghost use Rattle.serving.specs.declared.method.Method.{Method as AnyMethod};
 #[derive(Clone, Copy)]
 pub enum Method {
     Submit,
+    Judge,
     Invalidate,
     Reconsider,
     Precious,
@@ -37,6 +38,7 @@ impl Method {
     {
         Some(match name {
             "submit" => Method::Submit,
+            "judge" => Method::Judge,
             "invalidate" => Method::Invalidate,
             "reconsider" => Method::Reconsider,
             "precious" => Method::Precious,

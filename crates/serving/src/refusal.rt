@@ -30,6 +30,8 @@ pub enum Refusal {
     NotSaved(&'static str),
     /// As many requests wait for the seat as may. No step was taken.
     Busy,
+    /// The submission would be refused, and the history has no more room for such. No step was taken.
+    HistoryFull,
 }
 
 impl Refusal {
@@ -47,6 +49,7 @@ impl Refusal {
             Refusal::Closed => -32003,
             Refusal::Unsaved | Refusal::NotSaved(_) => -32004,
             Refusal::Busy => -32005,
+            Refusal::HistoryFull => -32006,
         }
     }
 
@@ -64,6 +67,7 @@ impl Refusal {
             Refusal::Closed => "closed",
             Refusal::Unsaved | Refusal::NotSaved(_) => "not saved",
             Refusal::Busy => "busy",
+            Refusal::HistoryFull => "history-full",
         }
     }
 }

@@ -43,6 +43,8 @@ pub enum Asked {
 pub enum Call {
     /// To take the block of these bytes, at this moment in seconds since 1970.
     Submit(Vec<u8>, u64),
+    /// What its reply would be.
+    Judge(Vec<u8>, u64),
     Invalidate(Id),
     Reconsider(Id),
     Precious(Id),
@@ -162,6 +164,7 @@ fn call_of(
 {
     match method {
         Method::Submit => submission(alloc, params),
+        Method::Judge => dry_run(alloc, params),
         Method::Invalidate => match params.id("id") {
             Ok(id) => Ok(Call::Invalidate(id)),
             Err(refusal) => Err(refusal),
@@ -203,6 +206,19 @@ fn submission(alloc: Global, params: &Params<'_, '_>) -> Result<Call, Refusal>
             Err(refusal) => Err(refusal),
         },
         Err(refusal) => Err(refusal),
+    }
+}
+
+fn dry_run(alloc: Global, params: &Params<'_, '_>) -> Result<Call, Refusal>
+    ensures ok { (seats : ℕ) → IfOk result (λ call.
+        IsCall seats methods.Judge (given params.now) call) }
+    ensures err { (seats : ℕ) → IfErr result (λ why.
+        IsNoCall seats methods.Judge (given params.now) why) }
+{
+    match (params.bytes(alloc, "block"), params.number("now")) {
+        (Ok(block), Ok(now)) => Ok(Call::Judge(block, now)),
+        (Err(refusal), _) => Err(refusal),
+        (_, Err(refusal)) => Err(refusal),
     }
 }
 

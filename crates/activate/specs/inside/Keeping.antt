@@ -2,15 +2,10 @@
 use Rattle.std.specs.Prelude.{◌≡◌, ℕ, suc, List, [], ◌∷◌, length, map, reverse, take, ◌≤◌}
 use Rattle.block.specs.declared.block.Block.{Block}
 use Rattle.coins.specs.declared.coin.Coin.{Coin}
-use Rattle.connect.specs.Turns.{undo_of}
-use Rattle.tree.specs.Branches.{Blocks, branch, height, parent_at, block_at}
-use Rattle.tree.specs.Names.{names}
+use Rattle.tree.specs.Branches.{Blocks, branch, height}
 use Rattle.chain.specs.Regtest.{medians_of}
-use Rattle.activate.specs.CoreState.{branch_blocks, coins_after, most_undo}
-
--- what the transactions of the block at a place spend
-unfoldable pub undo_at : Blocks Block → ℕ → List (List Coin)
-undo_at t p = undo_of (height t p) (coins_after t (parent_at t p)) (block_at names t p).txs
+use Rattle.activate.specs.CoreState.{branch_blocks, most_undo}
+use Rattle.activate.specs.Lookups.{undo_at}
 
 -- of so many of the highest blocks of the branch of a place, the lowest first
 unfoldable pub highest_undo : Blocks Block → ℕ → ℕ → List (List (List Coin))

@@ -21,7 +21,8 @@ use Rattle.chain.specs.Faults.{IsFirstFault}
 use Rattle.activate.specs.CoreState.{coins_after}
 use Rattle.chain.specs.Settled.{AllKept}
 use Rattle.activate.specs.declared.path.ActiveBranch.{ActiveBranch}
-use Rattle.activate.specs.inside.Keeping.{IsBranch, undo_at}
+use Rattle.activate.specs.Lookups.{undo_at}
+use Rattle.activate.specs.inside.Keeping.{IsBranch}
 use Rattle.activate.specs.Wants.{AreWantedAt}
 use Rattle.curve.specs.Known.{Known}
 use Rattle.curve.specs.Triple.{Triple}

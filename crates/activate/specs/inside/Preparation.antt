@@ -32,7 +32,7 @@ use Rattle.chain.specs.Settled.{AllKept}
 use Rattle.chain.specs.Commands.{outcome}
 use Rattle.chain.specs.Submission.{Outcome, answer_added}
 use Rattle.activate.specs.CoreState.{CoreState, coins_of, lesser_of, most_undo}
-use Rattle.activate.specs.inside.Keeping.{undo_at}
+use Rattle.activate.specs.Lookups.{undo_at}
 use Rattle.activate.specs.inside.Paths.{FailsAt, IsAttempt, IsPath}
 
 -- the command submits nothing

@@ -13,7 +13,8 @@ use Rattle.tree.specs.laws.Branches.{branch_head, branch-genesis, on-bounds, on-
 use Rattle.tree.specs.laws.Parents.{branch-parent, height-parent, climb}
 use Rattle.tree.specs.laws.Walks.{has_at, on_by_height}
 use Rattle.activate.specs.CoreState.{coins_after}
-use Rattle.activate.specs.inside.Keeping.{undo_at, highest_undo}
+use Rattle.activate.specs.Lookups.{undo_at}
+use Rattle.activate.specs.inside.Keeping.{highest_undo}
 use Rattle.activate.specs.inside.Paths.{AreConnected}
 use Rattle.activate.specs.inside.Disconnection.{place_at, IsConnectedBranch, IsUndoAbove}
 

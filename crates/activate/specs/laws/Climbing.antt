@@ -28,7 +28,7 @@ use Rattle.chain.specs.Settled.{AllKept}
 use Rattle.chain.specs.laws.Medians.{length-medians}
 use Rattle.chain.specs.Regtest.{medians_of, setting_on, ledger, regtest}
 use Rattle.activate.specs.CoreState.{branch_blocks, coins_after}
-use Rattle.activate.specs.inside.Keeping.{undo_at}
+use Rattle.activate.specs.Lookups.{undo_at}
 use Rattle.activate.specs.inside.Paths.{AreConnected}
 use Rattle.activate.specs.inside.Ascents.{top_of, LeadsUp}
 use Rattle.chain.specs.laws.Candidates.{valid_gives}

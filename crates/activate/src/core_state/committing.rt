@@ -8,7 +8,7 @@ ghost use Rattle.activate.specs.inside.Preparation.{undo_after, CanActivate, Can
 ghost use Rattle.curve.specs.Triple.{Triples};
 ghost use Rattle.tree.specs.Nodes.{CanKeep};
 ghost use Rattle.chain.specs.Regtest.{regtest};
-ghost use Rattle.activate.specs.inside.Keeping.{undo_at};
+ghost use Rattle.activate.specs.Lookups.{undo_at};
 ghost use Rattle.activate.specs.inside.Paths.{IsPath};
 
 use crate::active_branch::{append_packed, append_places, keep_undo};

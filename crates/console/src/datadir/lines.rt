@@ -4,11 +4,10 @@
 use crate::fault::Fault;
 use crate::report::Clients;
 use chain::{Command, Entry};
-use curve::{KeptTriple, Table};
+use curve::{KeptTriple, Table, TableFault, read_line};
 use durable::first_line;
 use journal::{Asked, RecordFault, Step, block_of, put_record};
 use memchr::memchr;
-use serving::read_triple;
 use std::alloc::Global;
 
 /// The line of an entry of this number, from 1, without its end.
@@ -110,11 +109,14 @@ impl Unpacked {
         valid: bool,
         number: usize,
     ) -> Result<(), Fault<'static>> {
-        let Some(triple) = read_triple(alloc, line)? else {
-            return Err(Fault::JournalLine(number));
-        };
-        self.verdicts.push(Verdict { triple, valid })?;
-        Ok(())
+        match read_line(alloc, line, number) {
+            Ok(Some(triple)) => {
+                self.verdicts.push(Verdict { triple, valid })?;
+                Ok(())
+            }
+            Ok(None) | Err(TableFault::BadLine(_)) => Err(Fault::JournalLine(number)),
+            Err(TableFault::Memory) => Err(Fault::Memory),
+        }
     }
 
     fn add_step(&mut self, step: &[u8]) -> Result<(), Fault<'static>> {

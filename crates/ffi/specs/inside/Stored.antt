@@ -2,8 +2,13 @@
 use base.Stored.{Coded}
 use Rattle.std.specs.Prelude.{Option}
 use Rattle.std.specs.Coded.{coded_option}
+use Rattle.txn.specs.contracts.tx.Tx as tx
 use Rattle.ffi.specs.contracts.session.Session.{the_row}
 
 -- nothing, or a session
 abbrev pub kept_coded : Coded (Option the_row.Denot)
 kept_coded = coded_option the_row.coded
+
+-- nothing, or a transaction
+abbrev pub kept_tx_coded : Coded (Option tx.the_row.Denot)
+kept_tx_coded = coded_option tx.the_row.coded

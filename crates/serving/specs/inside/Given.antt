@@ -27,6 +27,7 @@ IsParam refusal.Closed = ⊥
 IsParam refusal.Unsaved = ⊥
 IsParam (refusal.NotSaved why) = ⊥
 IsParam refusal.Busy = ⊥
+IsParam refusal.HistoryFull = ⊥
 
 -- there was no memory, or a parameter says that no call is meant
 abbrev pub IsNoCall : ℕ → Method → Option Json → Refusal → Type 0

@@ -5,7 +5,7 @@ use Rattle.coins.specs.declared.coin.Coin.{Coin}
 use Rattle.chain.specs.Valid.{fault, branch_connects}
 use Rattle.chain.specs.Regtest.{medians_of, regtest}
 use Rattle.activate.specs.CoreState.{branch_blocks, coins_after}
-use Rattle.activate.specs.inside.Keeping.{undo_at}
+use Rattle.activate.specs.Lookups.{undo_at}
 use Rattle.activate.specs.declared.ascent.Ascent.{Ascent}
 use Rattle.activate.specs.inside.Ascents.{top_of, IsApplied, LeadsUp}
 use Rattle.activate.specs.laws.Climbing.{is-next, rest-next, parts-back, counted-back, valid-next, first-next}

@@ -2,7 +2,7 @@ use Rattle.std.proofs.Common.{◌≡◌, ◌-◌, true, length, map, reverse, dr
 use Rattle.curve.specs.Known.{Under}
 use Rattle.chain.specs.Valid.{branch_connects}
 use Rattle.chain.specs.Regtest.{regtest}
-use Rattle.activate.specs.inside.Keeping.{undo_at}
+use Rattle.activate.specs.Lookups.{undo_at}
 use Rattle.activate.specs.inside.Ascents.{top_of, IsApplied}
 use Rattle.activate.proofs.ascent.connect_up.Given as goal
 

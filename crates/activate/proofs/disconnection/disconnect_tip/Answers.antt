@@ -8,7 +8,7 @@ use Rattle.connect.specs.Connecting.{IsConnected}
 use Rattle.tree.specs.Branches.{Blocks, block_at}
 use Rattle.tree.specs.Names.{names}
 use Rattle.activate.specs.CoreState.{coins_after}
-use Rattle.activate.specs.inside.Keeping.{undo_at}
+use Rattle.activate.specs.Lookups.{undo_at}
 use Rattle.activate.specs.inside.Disconnection.{place_at, CanDisconnect, IsConnectedBranch}
 use Rattle.activate.specs.laws.ByHeight.{step-setting, step-connected}
 use Rattle.activate.proofs.disconnection.disconnect_tip.Goals as goal

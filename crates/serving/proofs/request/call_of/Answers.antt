@@ -16,6 +16,16 @@ returns-in-Submit-clause-err c =
     subst (λ m. IfErr c.submission.result (λ why. IsNoCall c.args.seats m (given c.args.params.now) why))
     (sym c.in-Submit.is) (c.submission.ensures.err c.args.seats)
 
+pub returns-in-Judge-clause-ok : goal.returns-in-Judge-clause-ok
+returns-in-Judge-clause-ok c =
+    subst (λ m. IfOk c.dry_run.result (λ call. IsCall c.args.seats m (given c.args.params.now) call))
+    (sym c.in-Judge.is) (c.dry_run.ensures.ok c.args.seats)
+
+pub returns-in-Judge-clause-err : goal.returns-in-Judge-clause-err
+returns-in-Judge-clause-err c =
+    subst (λ m. IfErr c.dry_run.result (λ why. IsNoCall c.args.seats m (given c.args.params.now) why))
+    (sym c.in-Judge.is) (c.dry_run.ensures.err c.args.seats)
+
 pub returns-in-GetTxOut-clause-ok : goal.returns-in-GetTxOut-clause-ok
 returns-in-GetTxOut-clause-ok c =
     subst (λ m. IfOk c.output.result (λ call. IsCall c.args.seats m (given c.args.params.now) call))

@@ -10,7 +10,7 @@ use Rattle.chain.specs.Try.{state_after_try}
 use Rattle.chain.specs.laws.Tries.{tried-blocks}
 use Rattle.activate.specs.declared.path.BranchPath.{BranchPath}
 use Rattle.activate.specs.CoreState.{CoreState}
-use Rattle.activate.specs.inside.Keeping.{undo_at}
+use Rattle.activate.specs.Lookups.{undo_at}
 use Rattle.activate.specs.inside.Paths.{IsPath}
 use Rattle.activate.specs.inside.Preparation.{CanActivate, IsValidPath, undo_after}
 use Rattle.activate.proofs.Cores.{branch_of_same, room_of_same}

@@ -10,7 +10,7 @@ use Rattle.tree.specs.laws.Parents.{height-place}
 use Rattle.coins.specs.declared.coin.Coin.{Coin}
 use Rattle.activate.specs.declared.path.BranchPath.{BranchPath}
 use Rattle.activate.specs.CoreState.{CoreState, lesser_of, most_undo}
-use Rattle.activate.specs.inside.Keeping.{undo_at}
+use Rattle.activate.specs.Lookups.{undo_at}
 use Rattle.activate.specs.inside.Preparation.{undo_after}
 use Rattle.activate.proofs.Trails.{length-newest}
 use Rattle.activate.specs.inside.ActiveBranch.{median_at, last_of}

@@ -1,0 +1,17 @@
+use Rattle.serving.proofs.request.dry_run.Goals as goal
+use Rattle.std.proofs.Common.{inl, inr}
+use Rattle.serving.specs.declared.method.Method.TheVariants as method
+use Rattle.serving.specs.inside.Given.{given}
+use Rattle.serving.proofs.Refusing.{is-param, takes}
+
+pub returns-in_default-Err-clause-err : goal.returns-in_default-Err-clause-err
+returns-in_default-Err-clause-err c seats =
+    let none = c.in_default-Err.ensures.err in
+    inr (is-param none.0, λ call h. let now = (takes seats method.Judge (given c.args.params.now) call h).1 in none.1 now.0 now.1)
+
+pub returns-in-Err-default-clause-err : goal.returns-in-Err-default-clause-err
+returns-in-Err-default-clause-err c seats =
+    elim c.in-Err-default.ensures.err [
+      | inl e ↦ inl e
+      | inr none ↦ inr (is-param none.0, λ call h. let block = (takes seats method.Judge (given c.args.params.now) call h).0 in none.1 block.0 block.1)
+    ]
