@@ -91,6 +91,11 @@ Options:
       --json               Writes a JSON object a line
       --tree               Shows the block tree after the journal
       --svg <F>            The file for a picture of the block tree
+      --from <HEIGHT>      The block tree from this height on
+      --last <N>           The last N heights of the block tree
+      --fold <WHEN>        When a branch beside the active one is drawn as one shape; auto: in a large picture [possible values: auto, always, never]
+      --color <WHEN>       When the block tree has colours; auto: on a terminal [possible values: auto, always, never]
+      --legend             Explains the shapes and colours behind the block tree
   -h, --help               Print help
 """,
     ),
@@ -131,6 +136,11 @@ Options:
       --heights <A,B,C,D>  From which heights the rules of BIP 34, 65, 66, and of BIPs \
 68, 112 and 113 are in force [default: 1,1,1,1]
       --svg <F>            The file for a picture of the block tree
+      --from <HEIGHT>      The block tree from this height on
+      --last <N>           The last N heights of the block tree
+      --fold <WHEN>        When a branch beside the active one is drawn as one shape; auto: in a large picture [possible values: auto, always, never]
+      --color <WHEN>       When the block tree has colours; auto: on a terminal [possible values: auto, always, never]
+      --legend             Explains the shapes and colours behind the block tree
   -h, --help               Print help
 """,
     ),
@@ -157,19 +167,20 @@ Answers requests, a JSON object a line, from the standard input
 Usage: regchain serve [OPTIONS]
 
 Options:
-      --seats <N>          How many callers the node has places for, 1 to 16 [default: 4]
-      --workers <N>        How many threads check scripts, 1 to 16 [default: 2]
-      --heights <A,B,C,D>  From which heights the rules of BIP 34, 65, 66, and of BIPs 68, 112 and 113 are in force \
+      --seats <N>            How many callers the node has places for, 1 to 16 [default: 4]
+      --workers <N>          How many threads check scripts, 1 to 16 [default: 2]
+      --heights <A,B,C,D>    From which heights the rules of BIP 34, 65, 66, and of BIPs 68, 112 and 113 are in force \
 [default: 1,1,1,1]
-      --table <F>          The signatures that are valid
-      --blk <F>            Blocks that are submitted first, as a blk file of Bitcoin Core has them
-      --load <D>           The folder of an earlier --save, which is played again first, with its table and heights
-      --save <D>           The folder for journal.txt, blocks.blk, table.txt and heights.txt
-      --datadir <D>        The folder in which the history is kept: an answer goes out when its steps are on the disk there
-      --no-sync            With --datadir: answers without waiting for the disk; a crash of the machine may lose what was answered
-      --by-need            Has callers tell which signatures are valid, as blocks ask for them
-      --busy               Refuses a request where 64 wait for its seat, and reads on
-  -h, --help               Print help
+      --table <F>            The signatures that are valid
+      --blk <F>              Blocks that are submitted first, as a blk file of Bitcoin Core has them
+      --load <D>             The folder of an earlier --save, which is played again first, with its table and heights
+      --save <D>             The folder for journal.txt, blocks.blk, table.txt and heights.txt
+      --datadir <D>          The folder in which the history is kept: an answer goes out when its steps are on the disk there
+      --no-sync              With --datadir: answers without waiting for the disk; a crash of the machine may lose what was answered
+      --by-need              Has callers tell which signatures are valid, as blocks ask for them
+      --busy                 Refuses a request where 64 wait for its seat, and reads on
+      --history-memory <MB>  Refuses submissions that aren't kept, once such ones have taken so many megabytes
+  -h, --help                 Print help
 """,
     ),
     (

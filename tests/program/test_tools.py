@@ -1,5 +1,8 @@
-"""What the scripts at the top say first, and how they end: without the kit, with another kit, and by a signal."""
+"""What the scripts at the top say first, and how they end: without the kit, with another kit, and by a signal; and what those that
+compare documents and code notice."""
 
+import importlib.machinery
+import importlib.util
 import io
 import os
 import re
@@ -10,9 +13,11 @@ import tempfile
 import time
 import unittest
 from contextlib import redirect_stderr, redirect_stdout
+from typing import Any
 
 ROOT = os.path.dirname(os.path.dirname(os.path.dirname(os.path.realpath(__file__))))
 sys.path.insert(0, f"{ROOT}/tools")
+import book
 import progress
 import style
 
@@ -47,7 +52,7 @@ class Needs(unittest.TestCase):
                 self.assertEqual(status, 1)
                 self.assertIn("rt is missing", told)
                 self.assertIn("rattle-kit-", told)
-                self.assertIn("Python 3.8", told)
+                self.assertIn("Python 3.9", told)
 
     def test_another_kit(self) -> None:
         os.symlink(sys.executable, f"{self.path}/python3")
@@ -106,10 +111,6 @@ class Progress(unittest.TestCase):
         told = progress.Progress({"a": 2.0, "b": 2.0, "c": 6.0}, ["a", "b", "c"])
         told.finish("a", is_kept=True)
         self.assertAlmostEqual(told.left(), 8.0, places=1)
-
-
-if __name__ == "__main__":
-    unittest.main()
 
 
 class Style(unittest.TestCase):
@@ -174,3 +175,222 @@ pub fn plain(n: u8) -> u8 {
             with self.subTest(rows), redirect_stdout(io.StringIO()), redirect_stderr(io.StringIO()):
                 sys.argv = ["style.py"]
                 self.assertEqual(style.main(), status)
+
+
+def script(name: str) -> Any:
+    """A script of docs/ as a module."""
+    loader = importlib.machinery.SourceFileLoader(name, f"{ROOT}/docs/{name}")
+    spec = importlib.util.spec_from_loader(name, loader)
+    assert spec is not None
+    module = importlib.util.module_from_spec(spec)
+    loader.exec_module(module)
+    return module
+
+
+class Book(unittest.TestCase):
+    """The book of rules and the links to definitions, in a small repository and in this one."""
+
+    FILES = {
+        "crates.txt": "bytes:\nnode: bytes\n",
+        "crates/bytes/src/lib.rt": "//! Bytes, and how many.\n",
+        "crates/bytes/src/part.rt": """//! Parts.
+
+/// Some bytes.
+#[derive(Clone)]
+pub struct Part {
+    pub bytes: Bytes,
+}
+""",
+        "crates/bytes/specs/Fits.antt": """-- What fits.
+use Rattle.std.specs.Prelude.{ℕ, ◌≤◌, length}
+use Rattle.bytes.specs.declared.part.Part.{Part}
+use Rattle.bytes.specs.Limit.{most}
+
+-- a part isn't too long (BIP 34)
+abbrev pub Fits : Part → Type 0
+Fits part = length part.bytes ≤ most
+
+-- nothing public needs it
+abbrev pub unneeded : ℕ
+unneeded = 1
+""",
+        "crates/bytes/specs/Limit.antt": """-- How long a part may be.
+use Rattle.std.specs.Prelude.{ℕ}
+
+-- (`MAX_PART`)
+abbrev pub most : ℕ
+most = 4
+""",
+        "crates/node/src/lib.rt": "//! Seats.\npub use seat::Seat;\n",
+        "crates/node/src/seat.rt": """ghost use Rattle.bytes.specs.Fits.{Fits};
+
+impl Seat {
+    pub fn put(&self, part: Part)
+        requires { Fits part }
+    {
+    }
+}
+""",
+        "docs/RULES.md": "# Rules\n\n## How long\n\nDefined as `Fits` in `crates/bytes/specs/Fits.antt`.\n",
+        "docs/trace.json": "[]",
+    }
+
+    SHOWN = """## bytes
+
+Bytes, and how many. ([README](../crates/bytes/README.md))
+
+### bytes: Limit
+
+[bytes/specs/Limit.antt](../crates/bytes/specs/Limit.antt): How long a part may be.
+
+[`most`](../crates/bytes/specs/Limit.antt#L5) (Core's `MAX_PART`)
+
+```antt
+-- (`MAX_PART`)
+abbrev pub most : ℕ
+most = 4
+```
+
+### bytes: types of `part.rt`
+
+[bytes/src/part.rt](../crates/bytes/src/part.rt): Parts.
+
+[`Part`](../crates/bytes/src/part.rt#L5)
+
+```rust
+/// Some bytes.
+pub struct Part {
+    pub bytes: Bytes,
+}
+```
+
+### bytes: Fits
+
+[bytes/specs/Fits.antt](../crates/bytes/specs/Fits.antt): What fits.
+
+[`Fits`](../crates/bytes/specs/Fits.antt#L7) (BIP 34; [How long](RULES.md#how-long))
+
+```antt
+-- a part isn't too long (BIP 34)
+abbrev pub Fits : Part → Type 0
+Fits part = length part.bytes ≤ most
+```
+
+## By standard
+"""
+
+    def setUp(self) -> None:
+        self.believe = script("believe")
+
+    def begin(self) -> None:
+        """Makes the small repository the one that is read."""
+        room = tempfile.TemporaryDirectory()
+        self.addCleanup(room.cleanup)
+        self.addCleanup(setattr, book, "ROOT", book.ROOT)
+        book.ROOT = room.name
+        for path, text in self.FILES.items():
+            self.put(path, text)
+
+    def put(self, path: str, text: str) -> None:
+        os.makedirs(os.path.dirname(f"{book.ROOT}/{path}"), exist_ok=True)
+        with open(f"{book.ROOT}/{path}", "w", encoding="utf-8") as file:
+            file.write(text)
+
+    def faults(self) -> "list[str]":
+        order = list(self.believe.crates())
+        return list(self.believe.book_faults(order, self.believe.read_specs(order)))
+
+    def page(self) -> str:
+        order = list(self.believe.crates())
+        return str(self.believe.book_of(order, self.believe.read_specs(order), "node"))
+
+    def test_what_is_shown_and_in_which_order(self) -> None:
+        self.begin()
+        page = self.page()
+        self.assertIn(self.SHOWN.strip("\n"), page)
+        self.assertIn("2 definitions in 2 files, 4 lines without comments, and 1 types", page)
+        self.assertNotIn("unneeded", page)
+        self.assertIn("| BIP 34 | [`Fits`](#bytes-fits) |\n| `MAX_PART` | [`most`](#bytes-limit) |\n", page)
+
+    def test_a_page_that_lacks_or_changes_a_line_is_seen(self) -> None:
+        self.begin()
+        page = self.page()
+        self.assertEqual(len(self.faults()), 1, "there is no page")
+        for was, now in (
+            ("most = 4", "most = 5"), ("abbrev pub most : ℕ\nmost = 4\n", ""), ("Limit.antt#L5", "Limit.antt#L6"),
+            ("-- a part isn't too long (BIP 34)\n", ""), ("# The book", "# A book"), ("\n", "\n\n"),
+        ):
+            with self.subTest(was):
+                self.put("docs/BOOK.md", page)
+                self.assertEqual(self.faults(), [])
+                self.assertIn(was, page)
+                self.put("docs/BOOK.md", page.replace(was, now, 1))
+                self.assertRegex(" ".join(self.faults()), "^docs/BOOK.md .*docs/believe --book")
+
+    def test_a_definition_that_changes_is_seen(self) -> None:
+        self.begin()
+        self.put("docs/BOOK.md", self.page())
+        for path, was, now, status in (
+            ("crates/bytes/specs/Fits.antt", "≤ most", "≤ most + unneeded", 1), ("crates/bytes/specs/Limit.antt", "= 4", "= 5", 1),
+            ("crates/bytes/specs/Limit.antt", "-- (", "-- the most (", 1), ("crates/bytes/src/part.rt", "bytes: B", "words: B", 1),
+            ("crates/bytes/specs/Fits.antt", "unneeded = 1", "unneeded = 2", 0), ("docs/RULES.md", "How long", "How short", 1),
+        ):
+            with self.subTest(now):
+                self.assertIn(was, self.FILES[path])
+                self.put(path, self.FILES[path].replace(was, now))
+                self.assertEqual(len(self.faults()), status)
+                self.put(path, self.FILES[path])
+        self.assertEqual(self.faults(), [])
+
+    def test_each_definition_of_a_node_stands_in_the_page(self) -> None:
+        with open(f"{ROOT}/docs/BOOK.md", encoding="utf-8") as file:
+            page = file.read()
+        shown = self.bare(page)
+        specs = self.believe.read_specs(list(self.believe.crates()))
+        names = self.believe.door_names(specs, "node")
+        self.assertGreater(len(names), 400)
+        for path, name in names:
+            with self.subTest(name):
+                spec, at = specs[path], f"crates/{'/'.join(path)}.antt"
+                self.assertIn(f"[`{name}`](../{at}#L{spec.heads[name] + 1})", page)
+                head = book.read(at).split("\n")[spec.heads[name]]
+                self.assertIn(self.bare("\n".join([head, *spec.defs[name].split("\n")[1:]])), shown)
+
+    def bare(self, text: str) -> str:
+        """A text without comments and empty lines."""
+        lines = (re.sub(r"(^|\s)--.*", "", line).strip() for line in text.split("\n"))
+        return "\n".join(line for line in lines if line)
+
+    def test_no_link_of_the_page_is_dead(self) -> None:
+        page = book.read("docs/BOOK.md")
+        places = {name: self.places(book.read(f"docs/{name}.md")) for name in ("BOOK", "RULES", "MAP")}
+        links = re.findall(r"\]\(([^)]+)\)", re.sub(r"(?ms)^```.*?^```$", "", page))
+        self.assertGreater(len(links), 500)
+        for link in links:
+            with self.subTest(link):
+                path, _, place = link.partition("#")
+                if path[-3:] == ".md" and place or not path:
+                    self.assertIn(place, places[path[:-3] or "BOOK"])
+                else:
+                    self.assertTrue(os.path.isfile(f"{ROOT}/docs/{path}"))
+
+    def places(self, page: str) -> "set[str]":
+        """The places in a page that links may name."""
+        return {book.slug(it) for it in re.findall(r"(?m)^#+ (.*)$", page)} | set(re.findall(r'<a id="([^"]+)">', page))
+
+    def test_links_to_definitions(self) -> None:
+        trace = script("trace")
+        specs = self.believe.read_specs(list(self.believe.crates()))
+        line = specs["txn", "specs", "Coinbase"].heads["is_null"] + 1
+        path = "crates/txn/specs/Coinbase.antt"
+        whole = f"Defined as [`is_null`](../{path}#L{line}) in `{path}`, by [`{path}`](../{path})."
+        for text in (f"Defined as `is_null` in `{path}`, by `{path}`.", whole, whole.replace(f"#L{line}", "#L1")):
+            with self.subTest(text):
+                self.assertEqual(trace.linked(text, specs), (whole, []))
+        for text in (whole.replace("is_null", "is_nil"), "As in `crates/txn/specs/Coinbases.antt`."):
+            with self.subTest(text):
+                self.assertEqual(len(trace.linked(text, specs)[1]), 1)
+
+
+if __name__ == "__main__":
+    unittest.main()

@@ -1,10 +1,11 @@
 """The block tree of a run and of a saved folder, on a terminal and as a picture."""
 from __future__ import annotations
 
+import re
 import xml.etree.ElementTree as xml
 
 from blocks import FIRST, FIRST_HEAD, FIRST_ID, child_of_genesis
-from running import Played, ProgramTest, lines
+from running import PIPE, Played, ProgramTest, Terminal, lines
 
 # A branch that fails: x2 pays too much, which is found when x3 makes it the highest.
 FAILING = lines(
@@ -63,6 +64,45 @@ LONG_TREE = lines(
     "  ◇ f4 (103) invalid",
 )
 
+# The branches of both, folded.
+FAILING_FOLDED = lines(
+    "● genesis (0) active",
+    "┠─▣ x1 .. x3 (1 to 3, 4 blocks, 2 tips) mixed, marked",
+    "● b1 (1) active",
+    "● b2 (2) active, best",
+)
+
+LONG_FOLDED = lines(
+    "● genesis (0) active",
+    "● c1 .. c10 (1 to 10, 10 blocks) active",
+    "┠─□ e1 (11) valid-headers",
+    "● c11 .. c99 (11 to 99, 89 blocks) active, best",
+    "┠─◆ c100 .. d3 (100 to 103, 4 blocks) invalid, marked",
+    "┖─◆ f1 .. f4 (100 to 103, 4 blocks) invalid, marked",
+)
+
+# From the height at which a branch begins, so that it hangs on a stub too, and from one above the active block.
+LONG_FROM_11 = lines(
+    "┊ c10 (10) below",
+    "┠┄┊ c10 (10) below",
+    "┃ □ e1 (11) valid-headers",
+    *LONG_TREE.splitlines()[3:],
+)
+
+LONG_FROM_101 = lines(
+    "┊ c99 (99) below",
+    "◇ d1 (101) invalid",
+    "◇ d2 (102) invalid",
+    "◇ d3 (103) invalid",
+    "┊ c99 (99) below",
+    "◇ f2 (101) invalid",
+    "◇ f3 (102) invalid",
+    "◇ f4 (103) invalid",
+)
+
+# The colours of ECMA-48 by the words of a line.
+COLORS = {"active": 32, "valid-fork": 94, "valid-headers": 90, "invalid": 31, "mixed": 35, "below": 90}
+
 SVG = "{http://www.w3.org/2000/svg}"
 
 
@@ -87,6 +127,74 @@ class Tree(ProgramTest):
 
     def test_runs_and_marks_above_the_best_block(self) -> None:
         self.expect_tree(["tree", "--scenario", "-"], LONG, LONG_TREE)
+
+    def test_a_part(self) -> None:
+        """From a height on, or the last heights up to the highest block; all where there are fewer."""
+        words = ["tree", "--scenario", "-"]
+        for more, tree in [
+            (["--from", "0"], LONG_TREE),
+            (["--from", "11"], LONG_FROM_11),
+            (["--last", "93"], LONG_FROM_11),
+            (["--from", "101"], LONG_FROM_101),
+            (["--last", "3"], LONG_FROM_101),
+            (["--last", "104"], LONG_TREE),
+            (["--last", "18446744073709551615"], LONG_TREE),
+        ]:
+            self.expect_tree([*words, *more], LONG, tree)
+        told = "no height 104"
+        for more in ([], ["--svg", "tree.svg"]):
+            self.expect_fault([*words, "--from", "104", *more], LONG, f"regchain: {told}\n{told}: the highest block is at 103\n")
+        self.assertFalse(self.exists("tree.svg"))
+
+    def test_folded(self) -> None:
+        words = ["tree", "--scenario", "-", "--fold"]
+        self.expect_tree([*words, "always"], FAILING, FAILING_FOLDED)
+        self.expect_tree([*words, "always"], LONG, LONG_FOLDED)
+        for when in ("never", "auto"):
+            self.expect_tree([*words, when], LONG, LONG_TREE)
+
+    def test_options_that_are_refused(self) -> None:
+        for words in (["--last", "0"], ["--from", "1", "--last", "1"], ["--fold", "yes"], ["--color", ""], ["--from", "-1"]):
+            with self.subTest(words=words):
+                played = self.play(["tree", "--scenario", "-", *words], FAILING)
+                self.assertEqual((played.status, played.out, played.err[:7]), (1, "", "error: "))
+
+    def test_colors(self) -> None:
+        """The shape and the words of each line have the colour of its status. On a terminal they come unasked, elsewhere not."""
+        tree = ["tree", "--scenario", "-"]
+        for text, plain in [(FAILING, FAILING_TREE), (LONG, LONG_TREE)]:
+            out = self.play([*tree, "--color", "always"], text).out
+            self.assertEqual(re.sub("\x1b\\[\\d+m", "", out), self.utf8(plain))
+            for line in out.splitlines():
+                word = re.search(r"\) (?:\x1b\[\d+m)?([a-z-]+)", line)[1]
+                self.assertEqual(re.findall("\x1b\\[(\\d+)m", line), [str(COLORS[word]), "0"] * 2)
+        for words, is_colored in [([], True), (["--color", "never"], False), (["--color", "auto"], True)]:
+            with Terminal() as terminal:
+                self.play_on([*tree, *words], input=FAILING.encode(), stdout=terminal.side, stderr=PIPE)
+                self.assertEqual("\x1b[" in terminal.shown(), is_colored)
+
+    def test_an_output_that_is_compared_has_no_colors(self) -> None:
+        words = ["run", "--scenario", "-", "--tree"]
+        self.write("expected.txt", self.play(words, FAILING).out)
+        with Terminal() as terminal:
+            played = self.play_on([*words, "--expect", "expected.txt"], input=FAILING.encode(), stdout=terminal.side, stderr=PIPE)
+            self.assertEqual((played.status, played.err), (0, ""))
+            self.assertNotIn("\x1b[", terminal.shown())
+
+    def test_the_legend_of_a_text(self) -> None:
+        """Behind the tree there is a line for each shape, with its status."""
+        out = self.play(["tree", "--scenario", "-", "--legend"], FAILING).out.encode("latin-1").decode()
+        self.assertEqual(out[: len(FAILING_TREE)], FAILING_TREE)
+        told = [line.split(" ")[:2] for line in out[len(FAILING_TREE) :].splitlines()]
+        wanted = [("●", "active"), ("○", "valid-fork"), ("□", "valid-headers"), ("◇", "invalid"), ("◆", "marked"), ("▣", "folded"), ("┊", "stub")]
+        self.assertEqual(told, [list(each) for each in wanted])
+
+    def test_options_of_a_run(self) -> None:
+        words = ["run", "--scenario", "-"]
+        plain = self.play(words, LONG).out
+        more = ["--tree", "--from", "11", "--fold", "always", "--color", "never"]
+        tree = lines(*LONG_FROM_11.splitlines()[:4], *LONG_FOLDED.splitlines()[4:])
+        self.expect_tree([*words, *more], LONG, plain + "tree\n" + tree)
 
     def test_genesis_alone(self) -> None:
         self.expect_tree(["tree", "--scenario", "-"], "client a\n", "● genesis (0) active, best\n")
@@ -159,28 +267,6 @@ class Tree(ProgramTest):
         words = ["tree", "--saved", "saved", "--scenario", "scenario.txt", "--svg", "saved.svg"]
         self.assertEqual(self.play(words).status, 0)
         self.assertEqual(self.read("run.svg"), self.read("saved.svg"))
-
-    def test_no_two_shapes_at_one_place(self) -> None:
-        """In a picture of many branches each block or run has a place of its own, and runs cross no other."""
-        text = ["chain c 60 genesis"]
-        text += [f"chain d{fork}_ {fork % 7 + 1} c{fork}" for fork in range(1, 60)]
-        text += ["client a", "each c 1 60"]
-        text += [f"each d{fork}_ 1 {fork % 7 + 1}" for fork in range(1, 60)]
-        self.assertEqual(self.play(["tree", "--scenario", "-", "--svg", "tree.svg"], lines(*text)).status, 0)
-        spans = []
-        for group in self.picture("tree.svg").iter(f"{SVG}g"):
-            if group.find(f"{SVG}title") is None:
-                continue
-            shape = group[1]
-            if shape.tag == f"{SVG}circle":
-                x, y, width = int(shape.get("cx")) - 9, int(shape.get("cy")), 18
-            else:
-                x, y, width = int(shape.get("x")), int(shape.get("y")) + 9, int(shape.get("width"))
-            spans.append((y, x, x + width))
-        self.assertGreater(len(spans), 100)
-        spans.sort()
-        for (y, _, end), (other, x, _) in zip(spans, spans[1:]):
-            self.assertTrue(y != other or end < x)
 
     def test_a_picture_that_cannot_be_written(self) -> None:
         """It is told before the run."""

@@ -3,8 +3,8 @@
  *   library NUMBER     the number of the allocation, from 1; 0 for none
  *
  * A line of the standard input is a command: `now N`, `submit HEX`, `invalidate HEX`, `reconsider HEX`, `precious HEX`, or a
- * read: `coin HEX N`, `block HEX`. After each command best block, height and tips are printed; at the end all coins. A call
- * that is answered WAKOTEHU_MEMORY is made again. The last line has how many allocations were refused, and how many calls
+ * read: `coin HEX N`, `block HEX`. After each command best block, height and tips are printed, with what the best block spent,
+ * headers and forks; at the end all coins. A call that is answered WAKOTEHU_MEMORY is made again. The last line has how many allocations were refused, and how many calls
  * were answered so. Only what the library asks for counts.
  */
 #include <stdio.h>
@@ -40,6 +40,41 @@ static void print_hex(const uint8_t *from, size_t length)
         printf("%02x", from[n]);
 }
 
+/* What the best block spent, and what stands at its height and at half of it. */
+static void print_best(const uint8_t *id, uint64_t height)
+{
+    wakotehu_code code;
+    wakotehu_coin coins[8];
+    wakotehu_spent_size size;
+    uint8_t found[32];
+    CALL(wakotehu_spent(chain, id, coins, 8, bytes, sizeof bytes, &size));
+    printf("spent %d %llu", code, (unsigned long long)size.coins);
+    for (uint64_t n = 0; n < size.coins; n++)
+        printf(" %lld %llu %u %u", (long long)coins[n].value, (unsigned long long)coins[n].script, coins[n].height,
+               coins[n].coinbase);
+    printf(" ");
+    print_hex(bytes, size.scripts);
+    CALL(wakotehu_id_at(chain, height, found));
+    printf(" %d ", memcmp(found, id, sizeof found));
+    CALL(wakotehu_ancestor(chain, id, height / 2, found));
+    print_hex(found, sizeof found);
+    printf("\n");
+}
+
+/* Where a block stands beside the best one. */
+static void print_place(const uint8_t *id, const uint8_t *best)
+{
+    wakotehu_code code;
+    wakotehu_header_shown header;
+    uint8_t found[32];
+    CALL(wakotehu_header(chain, id, &header));
+    print_hex(header.header, sizeof header.header);
+    printf(" %llu %lld ", (unsigned long long)header.height, (long long)header.confirmations);
+    CALL(wakotehu_fork(chain, id, best, found));
+    print_hex(found, sizeof found);
+    printf("\n");
+}
+
 static void print_state(void)
 {
     wakotehu_code code;
@@ -50,12 +85,14 @@ static void print_state(void)
     print_hex(id, sizeof id);
     CALL(wakotehu_height(chain, &height));
     printf(" %llu\n", (unsigned long long)height);
+    print_best(id, height);
     for (size_t place = 0;; place++) {
         CALL(wakotehu_tip_at(chain, place, &tip));
         if (code != WAKOTEHU_OK)
             break;
         print_hex(tip.id, sizeof tip.id);
-        printf(" %llu %llu %u\n", (unsigned long long)tip.height, (unsigned long long)tip.length, tip.status);
+        printf(" %llu %llu %u ", (unsigned long long)tip.height, (unsigned long long)tip.length, tip.status);
+        print_place(tip.id, id);
     }
 }
 

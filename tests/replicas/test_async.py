@@ -77,6 +77,8 @@ class AsyncReplicaTest(ReplicaTest):
                 self.assertEqual((await seat.getblock(block_id(other))).value, other)
                 self.assertEqual((await seat.getblockheader(block_id(other))).value.confirmations, -1)
                 self.assertEqual([tip.height for tip in (await seat.getchaintips()).value], [2, 1])
+                told = await seat.judge(maker.block(block_id(second), more=1), NOW)
+                self.assertEqual((told.at, told.value.text), (7, "bad-cb-amount"))
                 token = uuid.uuid4()
                 self.assertEqual((await seat.try_mark("precious", GENESIS.id, token)).at, 8)
                 self.assertEqual((await replica.find(token), await replica.find(token, after=8)), (8, None))

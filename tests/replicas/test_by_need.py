@@ -87,6 +87,35 @@ class ByNeed(ReplicaTest):
             with open(f"{folder}/{name}.txt", encoding="ascii") as file:
                 self.assertEqual(len(file.read().splitlines()), count)
 
+    def test_dry_runs(self) -> None:
+        """They have no rows. Verdicts that one found out stand in the next row of which its replica tells: so others know
+        them, and so does the audit."""
+        writer, follower = Counted(), Counted()
+        one, two = self.replica("one", verify=writer), self.replica("two", verify=follower)
+        self.mined(one, two)
+        good, forged = (self.maker.block(self.tip, [self.paid(0, secret)], extra=bytes([secret])) for secret in (1, 2))
+        for _ in range(2):
+            for block, reply in ((good, "accepted"), (forged, "blk-bad-inputs 1:0"), (b"", "decode-failed")):
+                told = one.seat(0).judge(block, NOW)
+                self.assertEqual((told.at, told.value.text), (BLOCKS, reply))
+        self.assertEqual((one.seat(0).getbestblockhash().value, len(writer.asked)), (self.tip, 2))
+        self.assertEqual((one.seat(0).submit(good, NOW).at, len(writer.asked)), (BLOCKS + 1, 2))
+        two.seat(0).told(BLOCKS + 1)
+        self.assertEqual(follower.asked, [])
+        # A row of another replica, which asks for what a dry run found out here: it has it, and no later row does.
+        second = self.maker.block(block_id(good), [self.paid(1)])
+        self.assertEqual((two.seat(0).judge(second, NOW).value.text, len(follower.asked)), ("accepted", 1))
+        self.assertEqual((one.seat(0).submit(second, NOW).at, len(writer.asked)), (BLOCKS + 2, 3))
+        two.seat(0).told(BLOCKS + 2)
+        self.until(lambda: not two._follower._early and not one._follower._early)
+        two.seat(0).submit(self.maker.block(block_id(second)), NOW)
+        wrote = "SELECT verdicts FROM wakotehu.replies WHERE place > 105 ORDER BY place"
+        self.until(lambda: len(self.database.run(self.url, wrote)) == 3)
+        self.assertEqual([len(text.splitlines()) for text, in self.database.run(self.url, wrote)], [2, 1, 0])
+        late = Counted()
+        self.assertEqual((self.replica("three", verify=late).place, late.asked), (BLOCKS + 3, []))
+        self.assertEqual(self.audited("--quick"), f"{BLOCKS + 3} of {BLOCKS + 3} places have their replies, 0 are no steps\nagrees\n")
+
     def test_a_lie_is_found(self) -> None:
         """A replica that calls a forged signature valid is found by one that tests it again."""
         liar, careful = self.replica("liar", verify=Counted(lies=True)), self.replica("careful", recheck=1.0)

@@ -52,6 +52,8 @@ class Calls(ReplicaTest):
         self.assertEqual(wallet.getblockheader(block_id(other)).value.confirmations, -1)
         self.assertEqual([tip.height for tip in wallet.getchaintips().value], [2, 1])
         self.assertEqual(wallet.gettxouts([]), [])
+        told = [wallet.judge(block, NOW) for block in (maker.block(block_id(second)), maker.block(block_id(second), more=1), other)]
+        self.assertEqual([(own.at, own.value.text) for own in told], [(7, "accepted"), (7, "bad-cb-amount"), (7, "duplicate")])
         rows = self.database.run(self.url, "SELECT place, seat, command, now FROM wakotehu.commands ORDER BY place")
         names = ["one_0", "one_0", "two_3", "two_3", "two_3", "one_0", "one_0"]
         self.assertEqual([row[0] for row in rows], list(range(1, 8)))

@@ -11,16 +11,21 @@ from urllib.request import Request, urlopen
 
 import psycopg
 import running
-from blocks import NOW, block_id
+from blocks import NOW, Maker, block_id, signed, spend, with_script
 from cases import HERE, ReplicaTest
 from database import Database
 from servers import Running
 from wakotehu import show
+from wakotehu.encoding import push, write_transaction
 
 try:
+    import test_mempool
     import test_rpc
     from wakotehu import consensus
-    from wakotehu.replicapool import ReplicaPool
+    from wakotehu.replicabench import ReplicaBench
+    from wakotehu.signatures import Secp256k1
+
+    SECP = Secp256k1()
 
     consensus.library()
     LACKS = ""
@@ -31,11 +36,14 @@ except Exception as error:
 def over_a_replica(*words, **more):
     """A server over a replica with a history of its own."""
     url = Database.shared().make(f"server{next(ReplicaTest._numbers)}")
-    return Running(ReplicaPool(url, program=running.PROGRAM), *words, **more)
+    return Running(ReplicaBench(url, program=running.PROGRAM), *words, **more)
 
 
 if not LACKS:
-    for case in (test_rpc.FaultsTest, test_rpc.RequestsTest, test_rpc.SubmitTest, test_rpc.MarksTest, test_rpc.ShownTest):
+    for case in (
+        test_rpc.FaultsTest, test_rpc.RequestsTest, test_rpc.SubmitTest, test_rpc.MarksTest, test_rpc.ShownTest,
+        test_mempool.RulesTest, test_mempool.RulesOnStagesTest,
+    ):  # fmt: skip
         name = f"{case.__name__}OverAReplica"
         globals()[name] = type(name, (case,), {"start": staticmethod(over_a_replica), "__module__": __name__})
     del case
@@ -44,7 +52,7 @@ if not LACKS:
 @unittest.skipIf(LACKS, LACKS)
 class TwoServers(ReplicaTest):
     def started(self):
-        server = Running(ReplicaPool(self.url, program=running.PROGRAM))
+        server = Running(ReplicaBench(self.url, program=running.PROGRAM))
         self.addCleanup(server.stop)
         return server
 
@@ -65,6 +73,29 @@ class TwoServers(ReplicaTest):
         # One that opens later knows all of it.
         three = self.started()
         self.assertEqual((three.call("getbestblockhash"), three.call("getblockhash", 2)), (more[-1], mined[1]))
+
+    def test_what_waits(self) -> None:
+        """At each server by itself, with real signatures: a block of one takes it away at the other."""
+        self.history(by_need=True)
+        one, two = self.started(), self.started()
+        secret = bytes([5]) * 32
+        maker = Maker(push(SECP.public_key(secret)) + b"\xac")
+        for block in maker.chain(102):
+            self.assertIsNone(one.call("submitblock", block.hex()))
+        coin = maker.coinbases[next(iter(maker.coinbases))].id
+        tx = spend(coin, 0, 10**8, b"")
+        wrong, right = (with_script(tx, 0, *signed(SECP, [key], tx, 0, maker.script)) for key in (bytes([6]) * 32, secret))
+        self.until(lambda: two.call("getblockcount") == 102)
+        for server in (one, two):
+            self.assertEqual(server.call("sendrawtransaction", write_transaction(wrong).hex(), 0)["code"], -26)
+            self.assertEqual(server.call("sendrawtransaction", write_transaction(right).hex(), 0), show(right.id))
+        [mined] = one.call("generatetodescriptor", 1, "raw(51)")
+        self.assertEqual(one.call("getblock", mined)["tx"][1:], [show(right.id)])
+        self.until(lambda: two.call("getblockcount") == 103)
+        self.assertEqual((one.call("getrawmempool"), two.call("getrawmempool")), ([], []))
+        two.call("invalidateblock", mined)
+        self.until(lambda: one.call("getblockcount") == 102)
+        self.assertEqual((one.call("getrawmempool"), two.call("getrawmempool")), ([show(right.id)],) * 2)
 
     def test_a_long_history(self) -> None:
         """More rows than are read one after the other: each block is known, and the last one is the best."""

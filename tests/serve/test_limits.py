@@ -9,7 +9,7 @@ from subprocess import PIPE
 
 import running
 from running import ProgramTest
-from serving import GENESIS, Served, play, request
+from serving import GENESIS, Names, Served, double_sha, play, request
 from test_lines import TOO_MANY
 
 #: So many answers wait for being written, so many requests for their seat (docs/SERVE.md), and some are under way.
@@ -156,6 +156,94 @@ class Busy(ProgramTest):
         ended = play(self.folder, data, "--seats", "2")
         self.assertEqual([(it["id"], it["result"]["at"]) for it in ended.answers], [(n, n + 1) for n in range(1_000)])
         self.assertEqual((ended.status, ended.err), (0, ""))
+
+
+#: Three blocks; each submission that isn't kept is counted with some 300 bytes beside its block's.
+BLOCKS = "block b1 genesis\nblock b2 b1\nblock b3 b2\n"
+FULL = {"code": -32006, "message": "history-full"}
+NOW = 1_296_688_602
+#: Bytes of a block that is refused, `high-hash`: a coinbase whose script is large.
+LARGE = 400_000
+
+
+class HistoryMemory(ProgramTest):
+    def served(self, *words: str) -> Served:
+        served = Served(self.folder, "--seats", "2", *words)
+        self.addCleanup(served.kill)
+        return served
+
+    def submit(self, served: Served, data: bytes, seat: int = 0) -> dict:
+        return served.answer("submit", seat=seat, block=data.hex(), now=NOW)
+
+    def refused_block(self) -> bytes:
+        """A block that is refused for its header alone, of many bytes behind it."""
+        coinbase = b"\1\0\0\0\1" + bytes(32) + b"\xff" * 4 + b"\2ab" + b"\xff" * 4 + b"\1" + bytes(8)
+        coinbase += b"\xfe" + LARGE.to_bytes(4, "little") + bytes(LARGE) + bytes(4)
+        # Regtest's target begins with a bit that isn't set.
+        headers = (bytes(76) + nonce.to_bytes(4, "little") for nonce in range(100))
+        return next(it for it in headers if double_sha(it)[31] >= 0x80) + b"\1" + coinbase
+
+    def test_submissions_that_are_not_kept(self) -> None:
+        """Beyond the bound a submission that wouldn't be kept is no step; one that is goes on, and a mark does."""
+        names = Names(self.folder, BLOCKS)
+        served = self.served("--history-memory", "1")
+        self.assertEqual(self.submit(served, names.data["b1"])["result"], {"at": 1, "answer": "accepted"})
+        refused = self.refused_block()
+        for step in (2, 3, 4):
+            self.assertEqual(self.submit(served, refused)["result"], {"at": step, "answer": "high-hash"})
+        for data in (refused, names.data["b1"], names.data["b3"], b"\0"):
+            self.assertEqual(self.submit(served, data)["error"], FULL)
+        self.assertEqual(served.ask("judge", seat=0, block=refused.hex(), now=NOW), {"at": 4, "answer": "high-hash"})
+        self.assertEqual(self.submit(served, names.data["b2"])["result"], {"at": 5, "answer": "accepted"})
+        self.assertEqual(served.ask("invalidate", seat=1, id=names.ids["b2"])["answer"], "done")
+        self.assertEqual(self.submit(served, names.data["b3"], 1)["error"], FULL)
+        self.assertEqual(served.ask("reconsider", seat=1, id=names.ids["b2"])["answer"], "done")
+        self.assertEqual(self.submit(served, names.data["b3"], 1)["result"], {"at": 8, "answer": "accepted"})
+        self.assertEqual(served.answer("finish")["result"], {"at": 8})
+        self.assertEqual(served.end(), (0, ""))
+
+    def test_none_at_all(self) -> None:
+        """With 0 only blocks that are kept are steps; without the option all are."""
+        names = Names(self.folder, BLOCKS)
+        served, other = self.served("--history-memory", "0"), self.served()
+        for name in ("b1", "b2"):
+            self.assertEqual(self.submit(served, names.data[name])["result"]["answer"], "accepted")
+            self.assertEqual(self.submit(served, names.data[name])["error"], FULL)
+            self.assertEqual(self.submit(other, names.data[name])["result"]["answer"], "accepted")
+            self.assertEqual(self.submit(other, names.data[name])["result"]["answer"], "duplicate")
+        self.assertEqual((served.ask("note", seat=0)["at"], other.ask("note", seat=0)["at"]), (2, 4))
+        self.assertEqual((served.end(), other.end()), ((0, ""), (0, "")))
+
+    def test_what_was_loaded_counts(self) -> None:
+        self.make_folder("kept")
+        refused = self.refused_block()
+        first = self.served("--datadir", "kept")
+        for step in (1, 2, 3):
+            self.assertEqual(self.submit(first, refused)["result"]["at"], step)
+        self.assertEqual(first.end(), (0, ""))
+        again = self.served("--datadir", "kept", "--history-memory", "1")
+        self.assertEqual(self.submit(again, refused)["error"], FULL)
+        self.assertEqual(again.end(), (0, ""))
+        more = self.served("--datadir", "kept", "--history-memory", "2")
+        self.assertEqual(self.submit(more, refused)["result"]["at"], 4)
+        self.assertEqual(more.end(), (0, ""))
+
+    def test_memory_of_many_that_are_refused(self) -> None:
+        """A node takes no more for 400 such blocks than for those within the bound."""
+        served = self.served("--history-memory", "4")
+        refused = self.refused_block()
+        for _ in range(20):
+            self.submit(served, refused)
+        before = resident(served.process.pid)
+        for _ in range(400):
+            self.assertEqual(self.submit(served, refused)["error"], FULL)
+        # So many bytes would be 160 MB.
+        self.assertLess(resident(served.process.pid), before + 8_192)
+        self.assertEqual(served.end(), (0, ""))
+
+    def test_a_number_is_wanted(self) -> None:
+        ended = play(self.folder, b"", "--history-memory", "much")
+        self.assertEqual((ended.status, ended.out), (1, b""))
 
 
 def resident(pid: int, field: str = "VmRSS:") -> int:

@@ -1,4 +1,4 @@
-"""The table of scenarios through a served node, with 1, 4 and 16 seats in turn."""
+"""The table of scenarios through a served node, with 1, 4 and 16 seats in turn; each submission is judged first."""
 from __future__ import annotations
 
 from running import ProgramTest
@@ -19,6 +19,11 @@ class Table(ProgramTest):
             if turn and seats > 1:
                 served.ask("told", seat=seat, **{"from": before})
             method, params = names.request(command.words, command.now)
+            if method == "submit":
+                judged = served.ask("judge", seat=seat, **params)
+                # The step itself is the next one; bytes that are no block are none.
+                steps = command.stamp - (command.reply != "decode-failed")
+                self.assertEqual((command.words, judged), (command.words, {"at": steps, "answer": command.reply}))
             result = served.ask(method, seat=seat, **params)
             told = names.text(method, result["answer"])
             self.assertEqual((command.words, told, result["at"]), (command.words, command.reply, command.stamp))

@@ -111,6 +111,22 @@ class Vectors(unittest.TestCase):
             found = c.verify(pair.tx, pair.input, pair.spent, pair.flags, pair.table)
             self.assertEqual(found, pair.accepted, (number, pair))
 
+    def test_scripts_of_transactions_that_are_read_once(self) -> None:
+        """The same pairs, each transaction read once: all of its pairs in any order, by both calls, with and without what is
+        known of signatures."""
+        seed = random.randrange(1 << 32)
+        chance = random.Random(seed)
+        each = list(pairs())
+        kept = {pair.tx: c.ParsedTransaction(pair.tx) for pair in each}
+        for pair in chance.sample(each, len(each)):
+            parsed, rules = kept[pair.tx], {"P2SH", *pair.flags}
+            self.assertEqual(parsed.verify(pair.input, pair.spent, pair.flags, pair.table), pair.accepted, (seed, pair))
+            for table in ("", pair.table):
+                expected = c.verify_script(pair.tx, pair.input, pair.spent, rules, table)
+                self.assertEqual(parsed.verify_input(pair.input, pair.spent, rules, table), expected, (seed, pair))
+        for parsed in kept.values():
+            parsed.close()
+
     def test_scripts_over_signatures_that_are_found_out_one_by_one(self) -> None:
         """The same pairs: nothing is known at first, or some of the table's lines in any order and others that nobody asks
         for; what isn't known is found out in the table."""
