@@ -80,10 +80,13 @@ pub header_told : {E : Type 0} (t : Blocks Block) (best id : Id) (i : RequestId)
     → IfOk line (λ l. IsReadLine i at ms l.items) → IfOk line (λ l. TellsHeader t best id i at l.items)
 header_told t best id i at p h bytes deep ms (Ok l) here spelled high is members told =
     subst (λ (o : Option ℕ). MatchOption o (IsReadLine i at absent_answer l.items)
-      (λ x. (n : Option ℕ) × IsDeep t best id (height t x) n × IsReadLine i at (header_answer (header.spell (block_at names t x).header) (height t x) (confirmations_of n)) l.items))
-    (sym here)
-    (deep, is, subst (λ (bs : List ℕ). IsReadLine i at (header_answer bs (height t p) (confirmations_of deep)) l.items) own
-    (subst (λ (n : ℕ). IsReadLine i at (header_answer bytes n (confirmations_of deep)) l.items) high (subst (λ (m : Members). IsReadLine i at m l.items) members told)))
+    (λ x. (n : Option ℕ) × IsDeep t best id (height t x) n × IsReadLine i at (header_answer (header.spell (block_at names t x).header) (height t x) (confirmations_of n)) l.items))
+    (sym here) (
+      deep,
+      is,
+      subst (λ (bs : List ℕ). IsReadLine i at (header_answer bs (height t p) (confirmations_of deep)) l.items) own
+          (subst (λ (n : ℕ). IsReadLine i at (header_answer bytes n (confirmations_of deep)) l.items) high (subst (λ (m : Members). IsReadLine i at m l.items) members told)),
+    )
   where
     own : bytes ≡ header.spell (block_at names t p).header
     own = ap from_some (sym spelled ∙ ap (option_map (λ x. header.spell (block_at names t x).header)) here)

@@ -73,11 +73,7 @@ impl<J: Naming> Blocks<J> {
     }
 
     /// The best block at a moment, after the blocks are those that the seat has then seen.
-    pub fn catch_up(
-        &mut self,
-        alloc: Global,
-        seat: &mut Seat<'_, J>,
-    ) -> Result<Stamped<Id>, Fault>
+    pub fn catch_up(&mut self, alloc: Global, seat: &mut Seat<'_, J>) -> Result<Stamped<Id>, Fault>
         ensures looked { IfOk result (λ r.
             IsLookedAt seat.old seat.new self.new.blocks r.at r.value) }
         ensures fault { IfErr result (IsLookFault seat.old seat.new) }

@@ -39,7 +39,11 @@ where
         invalid,
     } = without_verdicts(rt.alloc(), names, entries)?;
     let found = Table::from_lines(rt.alloc(), valid.as_bytes())?;
-    let table = if valid.is_empty() { &*facts.table } else { &found };
+    let table = if valid.is_empty() {
+        &*facts.table
+    } else {
+        &found
+    };
     let definitions = Definitions::read(rt.alloc(), &[], Table::new(rt.alloc()))?;
     let report = Report::new(rt.alloc(), &definitions, clients, entries)?;
     save(rt, folder, &report, table, heights.trim_end())?;
@@ -74,7 +78,12 @@ where
     let Some(kept) = taken(rt, log) else {
         return Err(Fault::Closed);
     };
-    let answers = vec![in rt.alloc(); durable::Answer { stamp: kept.count(), line }]?;
+    let answers = vec![in rt.alloc();
+        durable::Answer {
+            stamp: kept.count(),
+            line
+        },
+    ]?;
     match kept.round(&answers) {
         Ok((kept, _)) => {
             let mut guard = log.lock(rt);

@@ -17,8 +17,8 @@ use console::datadir::{
 use console::fault::Fault;
 use console::files::{read_if_named, read_table_file};
 use console::options::{HEIGHTS, Saved, ServeOptions};
-use console::replay::{Inputs, commands, read_inputs};
 use console::progress::Progress;
+use console::replay::{Inputs, commands, read_inputs};
 use console::report::Clients;
 use console::saving::{check_folder, read_invalid};
 use curve::Table;

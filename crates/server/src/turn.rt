@@ -95,12 +95,7 @@ impl Blank {
 }
 
 /// The line of an answer to the request of this id.
-fn read_line(
-    alloc: Global,
-    id: &RequestId,
-    at: u64,
-    answer: Answer<'_>,
-) -> Result<Vec<u8>, Refusal>
+fn read_line(alloc: Global, id: &RequestId, at: u64, answer: Answer<'_>) -> Result<Vec<u8>, Refusal>
     ensures line { IfOk result (λ line.
         line.items ≡ answer_at id.now at (answer_members answer.entry)) }
     ensures err { IfErr result (λ why. why ≡ refusals.Memory) }

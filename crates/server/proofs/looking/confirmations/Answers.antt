@@ -10,6 +10,9 @@ height-requires c = place-bound names c.args.tree.now.blocks c.args.best.now c.i
 
 pub returns-clause-deep : goal.returns-clause-deep
 returns-clause-deep c =
-    let t = c.args.tree.now.blocks in
-    (_, top_height t c.args.best.now c.in-Some.top (sym c.find.ensures ∙ c.in-Some.is),
-    subst (λ n. ancestor_of t c.args.best.now n ≡ Some c.args.id.now) c.height-height.ensures.value (c.is_at.ensures.0 c.if-not-is_at.false), search rules)
+    let t = c.args.tree.now.blocks in (
+      _,
+      top_height t c.args.best.now c.in-Some.top (sym c.find.ensures ∙ c.in-Some.is),
+      subst (λ n. ancestor_of t c.args.best.now n ≡ Some c.args.id.now) c.height-height.ensures.value (c.is_at.ensures.0 c.if-not-is_at.false),
+      search rules,
+    )
