@@ -20,7 +20,6 @@ const uint8_t *data(const Bytes &bytes) { return bytes.empty() ? nullptr : bytes
 Text asked(const Bytes &bytes, const std::string &more = "") {
     return [&bytes, more] { return reading::hex(bytes) + " " + more; };
 }
-std::string id_text(const uint8_t *id) { return reading::hex(id, 32); }
 
 wakotehu_code code_of(Fault fault) {
     switch (fault) {
@@ -41,10 +40,10 @@ void compare_shown(const Bytes &bytes, const Block &block, const wakotehu_block_
         ids.push_back(id_of(tx));
     const reading::Merkle tree = reading::merkle(ids);
     const Id id = id_of(block.header);
-    compare("block id", id_text(shown.id), hex(id), text);
-    compare("parent", id_text(shown.parent), hex(block.header.parent), text);
-    compare("root", id_text(shown.root), hex(block.header.root), text);
-    compare("merkle", id_text(shown.merkle), hex(tree.root), text);
+    compare("block id", shown.id, id, text);
+    compare("parent", shown.parent, block.header.parent, text);
+    compare("root", shown.root, block.header.root, text);
+    compare("merkle", shown.merkle, tree.root, text);
     compare("twin", shown.twin, tree.has_twin, text);
     compare("size", shown.size, bytes.size(), text);
     compare("transactions", shown.transactions, ids.size(), text);
@@ -64,7 +63,7 @@ void compare_made(const Bytes &bytes, const Block &block) {
     compare("wakotehu_block_transactions", code, WAKOTEHU_OK, text);
     compare("count of transactions", count, block.txs.size(), text);
     for (size_t n = 0; n < block.txs.size(); n++) {
-        compare("transaction's id", id_text(rows[n].id), hex(id_of(block.txs[n])), text);
+        compare("transaction's id", rows[n].id, id_of(block.txs[n]), text);
         compare("outputs", rows[n].outputs, block.txs[n].outputs.size(), text);
     }
 }
@@ -116,7 +115,7 @@ void compare_parts(const Bytes &bytes, const Tx &tx, const wakotehu_transaction 
     compare("wakotehu_transaction_parts", code, WAKOTEHU_OK, text);
     for (size_t n = 0; n < tx.inputs.size(); n++) {
         const reading::Input &input = tx.inputs[n];
-        compare("outpoint's id", id_text(inputs[n].id), hex(input.spent.id), text);
+        compare("outpoint's id", inputs[n].id, input.spent.id, text);
         compare("outpoint's index", inputs[n].index, input.spent.index, text);
         compare("sequence", inputs[n].sequence, input.sequence, text);
         compare("input script's length", inputs[n].script, input.script.size(), text);
@@ -128,7 +127,7 @@ void compare_parts(const Bytes &bytes, const Tx &tx, const wakotehu_transaction 
         own.insert(own.end(), tx.outputs[n].script.begin(), tx.outputs[n].script.end());
     }
     scripts.resize(own.size());
-    compare("scripts", hex(scripts), hex(own), text);
+    compare("scripts", scripts, own, text);
 }
 
 void compare_locks(const Bytes &bytes, const Tx &tx, Source &source) {
@@ -164,12 +163,12 @@ void compare_digest(const Bytes &bytes, const Tx &tx, Source &source) {
             wakotehu_signature_digest(bytes.data(), bytes.size(), input, data(code), code.size(), kind, digest.data()), wanted,
             text);
     if (wanted == WAKOTEHU_OK)
-        compare("digest", hex(digest), hex(digest_as_given(tx, input, cleaned, kind)), text);
+        compare("digest", digest.data(), digest_as_given(tx, input, cleaned, kind), text);
     compare("wakotehu_signature_digest_as_given",
             wakotehu_signature_digest_as_given(bytes.data(), bytes.size(), input, data(code), code.size(), kind, digest.data()),
             wanted, text);
     if (wanted == WAKOTEHU_OK)
-        compare("digest as given", hex(digest), hex(digest_as_given(tx, input, code, kind)), text);
+        compare("digest as given", digest.data(), digest_as_given(tx, input, code, kind), text);
 }
 
 void compare_transaction(const Bytes &bytes, Source &source) {
@@ -180,7 +179,7 @@ void compare_transaction(const Bytes &bytes, Source &source) {
     compare("wakotehu_read_transaction", wakotehu_read_transaction(data(bytes), bytes.size(), &shown), code_of(reader.fault), text);
     if (!reader.ok())
         return;
-    compare("transaction's id", id_text(shown.id), hex(id_of(tx)), text);
+    compare("transaction's id", shown.id, id_of(tx), text);
     compare("transaction's size", shown.size, bytes.size() - reader.left, text);
     compare("count of inputs", shown.inputs, tx.inputs.size(), text);
     compare("count of outputs", shown.outputs, tx.outputs.size(), text);
@@ -238,7 +237,7 @@ void compare_number(const Bytes &bytes, uint64_t most) {
     uint64_t count = 0;
     compare("wakotehu_number_bytes", wakotehu_number_bytes(value, spelled.data(), 9, &count), WAKOTEHU_OK, text);
     spelled.resize(count);
-    compare("spelling", hex(spelled), hex(reading::number_bytes(value)), text);
+    compare("spelling", spelled, reading::number_bytes(value), text);
 }
 
 void compare_hashes(const Bytes &bytes) {
@@ -246,15 +245,15 @@ void compare_hashes(const Bytes &bytes) {
     Bytes digest(20);
     Id id{};
     wakotehu_ripemd160(data(bytes), bytes.size(), digest.data());
-    compare("wakotehu_ripemd160", hex(digest), hex(reading::ripemd160(bytes)), text);
+    compare("wakotehu_ripemd160", digest, reading::ripemd160(bytes), text);
     wakotehu_hash160(data(bytes), bytes.size(), digest.data());
-    compare("wakotehu_hash160", hex(digest), hex(reading::hash160(bytes)), text);
+    compare("wakotehu_hash160", digest, reading::hash160(bytes), text);
     wakotehu_double_sha(data(bytes), bytes.size(), id.data());
-    compare("wakotehu_double_sha", hex(id), hex(reading::double_sha(bytes)), text);
+    compare("wakotehu_double_sha", id.data(), reading::double_sha(bytes), text);
     uint32_t yes = 99;
     wakotehu_strict_signature(data(bytes), bytes.size(), &yes);
     compare("wakotehu_strict_signature", yes, reading::is_strict(bytes), text);
-    std::string digits(64, ' '), reversed = hex(Id(id));
+    std::string digits(64, ' ');
     wakotehu_show_id(id.data(), digits.data());
     std::reverse(id.begin(), id.end());
     compare("wakotehu_show_id", digits, hex(id), text);

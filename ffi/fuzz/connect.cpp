@@ -109,7 +109,7 @@ void compare_best(Pair &pair) {
     uint64_t height = 0;
     const Chain::Kept &best = pair.reading.kept[pair.reading.active()];
     wakotehu_best(pair.library, id.data()), wakotehu_height(pair.library, &height);
-    compare("the active block", hex(id), hex(best.id), told(pair));
+    compare("the active block", id.data(), best.id, told(pair));
     compare("the height", height, best.height, told(pair));
 }
 

@@ -48,7 +48,7 @@ void compare_errors(const char *call, uint32_t library, Error reading, const Tex
 /* What a script leaves on a stack. */
 void compare_eval(const Question &question, const Bytes &script, const reading::Stack &before) {
     static uint64_t left_sizes[4096];
-    static uint8_t left[1 << 20];
+    static uint8_t left[1 << 23];
     std::vector<Asked> asked;
     const reading::Judge judge = keeping(question.policy, asked);
     reading::Stack stack = before;

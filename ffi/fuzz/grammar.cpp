@@ -69,6 +69,8 @@ Bytes signature(Source &source, uint8_t mark) {
     if ((choice & 0x38) == 0x38)
         made[source.take() % made.size()] ^= source.take();
     made.push_back(kind);
+    if ((choice & 0x3f) == 0x0f) /* the length of S */
+        made[5 + r.size()] += uint8_t(choice & 64 ? 1 : 0xff);
     if ((choice & 0x3f) == 0x07)
         made.resize(source.take() % made.size());
     return made;
@@ -280,7 +282,7 @@ static Bytes counted_script(Source &source) {
     case 2: return Bytes(996u + size % 8, OP_CHECKMULTISIG);
     case 3: return Bytes{OP_RETURN, size};
     case 4: return kind < 32 ? Bytes(65533u + size % 6, 0x61) : Bytes(size % 104, 1);
-    case 5: return kind < 16 ? Bytes(999700u + size * 2u, 0x61) : Bytes(9998u + size % 4, 0x51);
+    case 5: return kind < 16 && source.take() < 8 ? Bytes(999700u + size * 2u, 0x61) : Bytes(9998u + size % 4, 0x51);
     default: return script(source, {0, 0});
     }
 }

@@ -24,6 +24,16 @@ void compare(const char *call, uint64_t library, uint64_t reading, const Text &a
         compare(call, std::to_string(library), std::to_string(reading), asked);
 }
 
+void compare(const char *call, const Bytes &library, const Bytes &reading, const Text &asked) {
+    if (library != reading)
+        compare(call, reading::hex(library), reading::hex(reading), asked);
+}
+
+void compare(const char *call, const uint8_t *library, const reading::Id &reading, const Text &asked) {
+    if (!std::equal(reading.begin(), reading.end(), library))
+        compare(call, reading::hex(library, reading.size()), reading::hex(reading), asked);
+}
+
 /* 0 none, 1 all, 2 by the marks of key and signature, 3 at random. */
 bool is_valid(uint8_t policy, const Bytes &key, const Bytes &signature, const reading::Id &digest) {
     if ((policy & 3) < 2)
@@ -60,7 +70,7 @@ wakotehu_code by_need(const std::vector<Asked> &all, size_t told, const Call &ca
     for (int asks = 0;; asks++) {
         for (; known < std::min(asks < 8 ? told : all.size(), all.size()); known++)
             tables[all[known].valid] += all[known].line;
-        char line[WAKOTEHU_MOST_ASKED];
+        char line[1 << 15]; /* elements of a given stack may be longer than those that a script pushes */
         uint64_t length = 0;
         const wakotehu_code code = call(tables[true], tables[false], line, sizeof line, &length);
         if (code != WAKOTEHU_UNKNOWN)

@@ -18,6 +18,8 @@ using Text = std::function<std::string()>;
 /* Compares two answers. Where they differ, prints both, what was asked and the cases met, and aborts. */
 void compare(const char *call, const std::string &library, const std::string &reading, const Text &asked);
 void compare(const char *call, uint64_t library, uint64_t reading, const Text &asked);
+void compare(const char *call, const Bytes &library, const Bytes &reading, const Text &asked);
+void compare(const char *call, const uint8_t *library, const reading::Id &reading, const Text &asked);
 
 /* A rule of the harness itself for which signatures are valid: by a number from 0 to 3. */
 bool is_valid(uint8_t policy, const Bytes &key, const Bytes &signature, const reading::Id &digest);

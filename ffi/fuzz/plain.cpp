@@ -1,7 +1,10 @@
-/* Runs a target on random bytes, without libFuzzer: PROGRAM --cases=N [--seconds=N] [--seed=N] [FOLDER]
+/* Runs a target on random bytes, without libFuzzer: PROGRAM --cases=N [--seconds=N] [--seed=N] [--keep=FOLDER] [FOLDER]
  *
- * Half of the cases are random bytes, the others the files of the folder with some bytes changed. A case that differs is
- * written to the file crash-SEED-NUMBER in the folder that WAKOTEHU_CRASHES names. */
+ * First come the files of the folder. Then half of the cases are random bytes, the others these files with some bytes
+ * changed. A case that differs is written to the file crash-SEED-NUMBER in the folder that WAKOTEHU_CRASHES names. With
+ * --keep a case that meets a case of the rules for the first time becomes a file of that folder. */
+#include "reading/cases.hpp"
+
 #include <cstdint>
 #include <cstdio>
 #include <cstdlib>
@@ -28,14 +31,6 @@ static uint64_t draw() {
     return state * 2685821657736338717u;
 }
 
-static void save_case(int) {
-    const char *folder = std::getenv("WAKOTEHU_CRASHES");
-    const std::string name = std::string(folder ? folder : ".") + "/crash-" + std::to_string(seed) + "-" + std::to_string(number);
-    std::ofstream(name, std::ios::binary).write(reinterpret_cast<const char *>(current.data()), std::streamsize(current.size()));
-    std::fprintf(stderr, "the case is in %s\n", name.c_str());
-    std::_Exit(77);
-}
-
 static Bytes random_bytes() {
     Bytes made(8 + draw() % (draw() % 4 ? 40 : 160));
     for (uint8_t &byte : made)
@@ -56,6 +51,27 @@ static Bytes changed(Bytes bytes) {
     return bytes;
 }
 
+static void write_file(const std::string &name, const Bytes &bytes) {
+    std::ofstream(name, std::ios::binary).write(reinterpret_cast<const char *>(bytes.data()), std::streamsize(bytes.size()));
+}
+
+static void save_case(int) {
+    const char *folder = std::getenv("WAKOTEHU_CRASHES");
+    const std::string name = std::string(folder ? folder : ".") + "/crash-" + std::to_string(seed) + "-" + std::to_string(number);
+    write_file(name, current);
+    std::fprintf(stderr, "the case is in %s\n", name.c_str());
+    std::_Exit(77);
+}
+
+static void run(const Bytes &bytes, const std::string &keep) {
+    static uint64_t kept = 0;
+    current = bytes;
+    const uint64_t before = reading::first_met;
+    LLVMFuzzerTestOneInput(current.data(), current.size());
+    if (!keep.empty() && reading::first_met > before)
+        write_file(keep + "/" + std::to_string(seed) + "-" + std::to_string(kept++), current);
+}
+
 static std::vector<Bytes> files(const char *folder) {
     std::vector<Bytes> found;
     for (const auto &entry : std::filesystem::directory_iterator(folder)) {
@@ -68,6 +84,7 @@ static std::vector<Bytes> files(const char *folder) {
 int main(int count, char **words) {
     uint64_t cases = 1000000, seconds = UINT64_MAX;
     std::vector<Bytes> kept;
+    std::string keep;
     for (int n = 1; n < count; n++)
         if (!std::strncmp(words[n], "--cases=", 8))
             cases = std::strtoull(words[n] + 8, nullptr, 10);
@@ -75,17 +92,17 @@ int main(int count, char **words) {
             seconds = std::strtoull(words[n] + 10, nullptr, 10);
         else if (!std::strncmp(words[n], "--seed=", 7))
             seed = std::strtoull(words[n] + 7, nullptr, 10);
+        else if (!std::strncmp(words[n], "--keep=", 7))
+            keep = words[n] + 7;
         else
             kept = files(words[n]);
     state = seed * 0x9e3779b97f4a7c15u | 1;
     std::signal(SIGABRT, save_case), std::signal(SIGSEGV, save_case);
     for (const Bytes &bytes : kept)
-        LLVMFuzzerTestOneInput((current = bytes).data(), bytes.size());
+        run(bytes, keep);
     const std::time_t begun = std::time(nullptr);
-    for (; number < cases && (number % 1024 || uint64_t(std::time(nullptr) - begun) < seconds); number++) {
-        current = kept.empty() || draw() % 2 ? random_bytes() : changed(kept[draw() % kept.size()]);
-        LLVMFuzzerTestOneInput(current.data(), current.size());
-    }
+    for (; number < cases && (number % 256 || uint64_t(std::time(nullptr) - begun) < seconds); number++)
+        run(kept.empty() || draw() % 2 ? random_bytes() : changed(kept[draw() % kept.size()]), keep);
     std::fprintf(stderr, "ran %llu cases, seed %llu\n", static_cast<unsigned long long>(number),
                  static_cast<unsigned long long>(seed));
     return 0;

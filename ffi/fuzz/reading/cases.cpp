@@ -23,6 +23,8 @@ static const char *const OUTCOME_NAMES[OUTCOMES] = {
     "NEGATIVE_LOCKTIME", "UNSATISFIED_LOCKTIME", "?", "SIG_DER", "?", "SIG_PUSHONLY", "is skipped",
 };
 
+uint64_t first_met = 0;
+
 static uint64_t outcomes[256][OUTCOMES];
 
 const char *outcome_name(uint32_t outcome) { return OUTCOME_NAMES[outcome]; }
@@ -107,7 +109,7 @@ static void met_limit(uint32_t error) {
 
 void met_opcode(uint8_t number, uint32_t outcome) {
     seen[number][outcome] = 1;
-    outcomes[number][outcome]++;
+    first_met += outcomes[number][outcome]++ == 0;
     if (!is_case(number, outcome))
         met_limit(outcome);
 }

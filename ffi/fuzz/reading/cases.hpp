@@ -13,12 +13,15 @@ struct Case {
     uint64_t met;
 };
 
+/* How many cases were met so far. */
+extern uint64_t first_met;
+
 /* The linker puts the addresses of all cases into one section, so that those that were never met are known too. */
 #define MET(text)                                                                                                      \
     do {                                                                                                               \
         static ::reading::Case here = {text, 0};                                                                       \
         static ::reading::Case *const listed __attribute__((section("reading_cases"), used)) = &here;                  \
-        here.met++;                                                                                                    \
+        ::reading::first_met += here.met++ == 0;                                                                       \
         (void)listed;                                                                                                  \
     } while (0)
 
@@ -33,7 +36,7 @@ void met_opcode(uint8_t number, uint32_t outcome);
  * WAKOTEHU_CASES names. */
 void print_cases();
 
-/* Wrong rules, to test that the targets find them: with -DPLANTS the number in WAKOTEHU_PLANT is true here. */
+/* Wrong rules, to test that the targets find them: with -DPLANTS this is true of the number in WAKOTEHU_PLANT. */
 #ifdef PLANTS
 bool planted(int number);
 #else

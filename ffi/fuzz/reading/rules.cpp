@@ -19,7 +19,7 @@ Merkle merkle(std::vector<Id> ids) {
     bool has_twin = false;
     while (ids.size() > 1) {
         for (size_t n = 0; n + 1 < ids.size(); n += 2)
-            has_twin |= ids[n] == ids[n + 1];
+            has_twin |= ids[n] == ids[n + 1] && !planted(10);
         if (ids.size() % 2) {
             MET("merkle: an odd level repeats its last");
             ids.push_back(ids.back());

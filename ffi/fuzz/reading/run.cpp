@@ -76,7 +76,7 @@ const Binary BINARIES[] = {
     {0x9c, [](int64_t a, int64_t b) { return int64_t(a == b); }},
     {0x9d, [](int64_t a, int64_t b) { return int64_t(a == b); }},
     {0x9e, [](int64_t a, int64_t b) { return int64_t(a != b); }},
-    {0x9f, [](int64_t a, int64_t b) { return int64_t(a < b); }},
+    {0x9f, [](int64_t a, int64_t b) { return int64_t(a < b + planted(6)); }},
     {0xa0, [](int64_t a, int64_t b) { return int64_t(a > b); }},
     {0xa1, [](int64_t a, int64_t b) { return int64_t(a <= b); }},
     {0xa2, [](int64_t a, int64_t b) { return int64_t(a >= b); }},
@@ -299,7 +299,7 @@ void Run::pick_or_roll(bool rolls) {
 void Run::within() {
     need(3);
     const int64_t x = number(top(2)), least = number(top(1)), above = number(top());
-    pop(), pop(), pop(), push(least <= x && x < above + planted(6) ? T : F);
+    pop(), pop(), pop(), push(least <= x && x < above ? T : F);
 }
 
 /* BIP 65 */
