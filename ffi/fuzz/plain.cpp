@@ -1,10 +1,11 @@
 /* Runs a target on random bytes, without libFuzzer: PROGRAM --cases=N [--seconds=N] [--seed=N] [--keep=FOLDER] [FOLDER]
  *
- * First come the files of the folder. Then half of the cases are random bytes, the others these files with some bytes
- * changed. A case that differs is written to the file crash-SEED-NUMBER in the folder that WAKOTEHU_CRASHES names. With
+ * First come the files of the folder. Then three of four cases are random bytes, the others these files with some
+ * bytes changed. A case that differs is written to the file crash-SEED-NUMBER in the folder that WAKOTEHU_CRASHES names. With
  * --keep a case that meets a case of the rules for the first time becomes a file of that folder. */
 #include "reading/cases.hpp"
 
+#include <algorithm>
 #include <cstdint>
 #include <cstdio>
 #include <cstdlib>
@@ -78,6 +79,7 @@ static std::vector<Bytes> files(const char *folder) {
         std::ifstream file(entry.path(), std::ios::binary);
         found.emplace_back(std::istreambuf_iterator<char>(file), std::istreambuf_iterator<char>());
     }
+    std::sort(found.begin(), found.end());
     return found;
 }
 
@@ -102,7 +104,7 @@ int main(int count, char **words) {
         run(bytes, keep);
     const std::time_t begun = std::time(nullptr);
     for (; number < cases && (number % 256 || uint64_t(std::time(nullptr) - begun) < seconds); number++)
-        run(kept.empty() || draw() % 2 ? random_bytes() : changed(kept[draw() % kept.size()]), keep);
+        run(kept.empty() || draw() % 4 ? random_bytes() : changed(kept[draw() % kept.size()]), keep);
     std::fprintf(stderr, "ran %llu cases, seed %llu\n", static_cast<unsigned long long>(number),
                  static_cast<unsigned long long>(seed));
     return 0;

@@ -3,7 +3,7 @@
  *
  * It was written by knowledge of that interface, and wasn't tried there: names and types of the entry points may have to
  * follow the version that is used. ffi/check compiles it by itself, without a BaseModule, and makes some calls
- * (ffi/tests/module.cpp).
+ * (ffi/tests/module.cpp), and compares it with another module over the BaseModule of this folder (ffi/fuzz/modules.cpp).
  *
  * What each gives:
  *   script_eval             whether a script by itself ends well on an empty stack, without a signature that is valid

@@ -110,7 +110,7 @@ static void met_limit(uint32_t error) {
 void met_opcode(uint8_t number, uint32_t outcome) {
     seen[number][outcome] = 1;
     first_met += outcomes[number][outcome]++ == 0;
-    if (!is_case(number, outcome))
+    if (outcome != 0 && outcome != SKIPPED && !is_case(number, outcome))
         met_limit(outcome);
 }
 

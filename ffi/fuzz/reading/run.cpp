@@ -76,7 +76,7 @@ const Binary BINARIES[] = {
     {0x9c, [](int64_t a, int64_t b) { return int64_t(a == b); }},
     {0x9d, [](int64_t a, int64_t b) { return int64_t(a == b); }},
     {0x9e, [](int64_t a, int64_t b) { return int64_t(a != b); }},
-    {0x9f, [](int64_t a, int64_t b) { return int64_t(a < b + planted(6)); }},
+    {0x9f, [](int64_t a, int64_t b) { return int64_t(a < b); }},
     {0xa0, [](int64_t a, int64_t b) { return int64_t(a > b); }},
     {0xa1, [](int64_t a, int64_t b) { return int64_t(a <= b); }},
     {0xa2, [](int64_t a, int64_t b) { return int64_t(a >= b); }},
@@ -138,11 +138,11 @@ class Run {
     /* The element n below the top. */
     const Bytes &top(size_t n = 0) const { return stack[stack.size() - 1 - n]; }
     Bytes pop() {
-        Bytes element = stack.back();
+        Bytes element = std::move(stack.back());
         stack.pop_back();
         return element;
     }
-    void push(const Bytes &element) { stack.push_back(element); }
+    void push(Bytes element) { stack.push_back(std::move(element)); }
     void verify(Error error) {
         if (!is_true(pop()))
             throw error;
@@ -262,7 +262,7 @@ void Run::act_on_top(uint8_t op) {
     case 0x73:
         need(1);
         return is_true(top()) ? push(Bytes(top())) : void();
-    case 0x74: return push(number_bytes(int64_t(stack.size())));
+    case 0x74: return push(number_bytes(int64_t(stack.size()) + planted(6)));
     case 0x79: case 0x7a: return pick_or_roll(op == 0x7a);
     case 0x82: need(1); return push(number_bytes(int64_t(top().size())));
     case 0x87: case 0x88:
