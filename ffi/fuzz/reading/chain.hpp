@@ -1,4 +1,5 @@
-/* Connecting blocks over coins, and the chainstate (RULES.md, "Coins" to "A block's place on regtest"; CHAINSTATE.md). */
+/* Connecting blocks over coins, and the chainstate (RULES.md, "Coins" to "A block's place on regtest"; CHAINSTATE.md). The
+ * limit of 1,000,000 blocks isn't in it. */
 #ifndef READING_CHAIN_HPP
 #define READING_CHAIN_HPP
 
