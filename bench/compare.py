@@ -8,6 +8,7 @@ import sys
 import time
 
 import drawing
+import felt
 from commit import named
 
 HERE = os.path.dirname(os.path.abspath(__file__))
@@ -369,6 +370,7 @@ def main():
         return
     text = table(rows, has_sha) + table_of_node(node, has_sha, machine) + table_of_memory(memory) + table_alone(alone)
     write(head_of(commit, has_sha) + text)
+    felt.put()
     drawing.draw()
     print(f"of {len(VERDICTS)} goals {VERDICTS.count('met')} are met")
 
