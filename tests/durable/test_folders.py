@@ -11,7 +11,7 @@ import unittest
 
 import blocks
 import running
-from keeping import GENESIS, LOG, NOW, Client, Keeping, KeepingTest, os_environment
+from keeping import GENESIS, NOW, Client, Keeping, KeepingTest, os_environment
 from serving import Served
 from test_torn_ends import COMMANDS, batch
 
