@@ -26,7 +26,8 @@ LIST = f"{ROOT}/tools/lint.txt"
 # Commands, each of the Debian package of its name.
 CHECKERS = ["mypy", "pyflakes3", "shellcheck"]
 # Where scripts look for modules behind their own folder.
-PATHS = ["tools", *(f"tests/{it}" for it in ("program", "player", "serve", "durable", "vectors", "refusals")), "ffi/python"]
+PATHS = ["tools", *(f"tests/{it}" for it in ("program", "player", "serve", "durable", "vectors", "refusals", "soak", "core", "replicas")), "ffi/python"]
+OTHERS = {"tests/replicas": ["ffi/python/tests"]}
 
 
 def scripts(program: bytes, *folders: str) -> Iterator[str]:
@@ -55,7 +56,7 @@ def groups_of(names: List[str]) -> List[Dict[str, List[str]]]:
         while os.path.exists(f"{ROOT}/{folder}/__init__.py"):
             folder = os.path.dirname(folder)
         folders.setdefault(folder, []).append(name)
-    modules = {folder: {re.split("[/.]", os.path.relpath(name, folder))[0] for name in own} for folder, own in folders.items()}
+    modules = {folder: {it[len(folder):].split("/")[1] for it in own if it.endswith(".py")} for folder, own in folders.items()}
     groups: List[Dict[str, List[str]]] = []
     for folder, own in folders.items():
         fits = [group for group in groups if not any(modules[folder] & modules[it] for it in group)]
@@ -67,21 +68,27 @@ def groups_of(names: List[str]) -> List[Dict[str, List[str]]]:
 
 def typed(names: List[str]) -> List[str]:
     """What mypy says of scripts that aren't listed, and which listed ones it passes."""
-    def check(group: Dict[str, List[str]]) -> Tuple[int, List[str]]:
-        words = ["mypy", "--strict", "--explicit-package-bases", "--scripts-are-modules", "--no-error-summary"]
-        words += ["--cache-dir", tempfile.mkdtemp(dir=room), *(name for own in group.values() for name in own)]
-        return ran(words, ":".join([*group, *(it for it in PATHS if it not in group)]))
+    def check(group: Dict[str, List[str]]) -> List[str]:
+        own = tempfile.mkdtemp(dir=room)
+        # A script has no module's name, so it gets one of its own.
+        links = {name if name.endswith(".py") else f"{own}/{name.replace('/', '_')}.py": name for each in group.values() for name in each}
+        for link, name in links.items():
+            if link != name:
+                os.symlink(f"{ROOT}/{name}", link)
+        words = ["mypy", "--strict", "--explicit-package-bases", "--no-error-summary", "--cache-dir", f"{own}/cache", *links]
+        paths = [*group, *(it for folder in group for it in OTHERS.get(folder, [])), *PATHS, own]
+        status, told = ran(words, ":".join(dict.fromkeys(paths)))
+        if status > 1:
+            return [f"mypy has stopped: {line}" for line in told]
+        return [links[path] + line[len(path):] for line in told for path in [line.split(":")[0]] if path in links]
 
     groups = groups_of(names)
     with tempfile.TemporaryDirectory(prefix="mypy-") as room, ThreadPoolExecutor(len(groups)) as pool:
-        told = list(pool.map(check, groups))
-    # Where it stops before it has looked at all, the list counts for nothing.
-    stopped = [line for status, lines in told if status > 1 for line in lines]
-    lines = dict.fromkeys(line for _, each in told for line in each)
+        lines = [line for told in pool.map(check, groups) for line in told]
     listed = [line for line in repository.text_of(LIST).splitlines() if line and line[0] != "#"]
     failed = {line.split(":")[0] for line in lines if ": error:" in line}
     passed = [f"{it}: mypy passes it now: take it from tools/lint.txt" for it in listed if it not in failed]
-    return stopped or [line for line in lines if line.split(":")[0] not in listed] + passed
+    return [line for line in lines if line.split(":")[0] not in listed] + passed
 
 
 def laid_out() -> List[str]:

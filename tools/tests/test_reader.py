@@ -7,9 +7,9 @@ import unittest
 
 sys.path.insert(0, os.path.dirname(os.path.dirname(os.path.realpath(__file__))))
 from sources import repository
-from sources.definitions import Spec, reach
+from sources.definitions import Spec, Specs, reach
 from sources.edits import function_at, lines_of, name_of
-from sources.rattle import Function, bare, blocks, functions, imports, is_for_c, line_of, parts, plain
+from sources.rattle import Function, Module, bare, blocks, functions, imports, is_for_c, line_of, parts, plain
 
 SOURCE = r'''//! A source, with fn nothing() { in a comment.
 ghost use Rattle.wire.specs.Grammar.{Spells, spelled as written};
@@ -176,8 +176,8 @@ class Definitions(unittest.TestCase):
         self.assertEqual((spec.heads, spec.under, spec.records), ({"most": 5, "Fits": 9, "lemma": 12}, {"Fits": 8}, {"Fits"}))
 
     def test_what_a_clause_leads_to(self) -> None:
-        limit = ("wire", "specs", "Limit")
-        specs = {("wire", "specs", "Spelled"): Spec(SPEC), limit: Spec("abbrev pub far : ℕ\nfar = 2\n\nabbrev pub near : ℕ\nnear = 1\n")}
+        limit: Module = ("wire", "specs", "Limit")
+        specs: Specs = {("wire", "specs", "Spelled"): Spec(SPEC), limit: Spec("abbrev pub far : ℕ\nfar = 2\n\nabbrev pub near : ℕ\nnear = 1\n")}
         names = imports(["ghost use Rattle.wire.specs.Spelled.{most};"])
         self.assertEqual(reach(specs, [("result ≡ most", names)]), {(("wire", "specs", "Spelled"), "most"), (limit, "far")})
         self.assertEqual(reach(specs, [("result ≡ mostly", names)]), set())
