@@ -26,7 +26,8 @@ LIST = f"{ROOT}/tools/lint.txt"
 # Commands, each of the Debian package of its name.
 CHECKERS = ["mypy", "pyflakes3", "shellcheck"]
 # Where scripts look for modules behind their own folder.
-PATHS = ["tools", *(f"tests/{it}" for it in ("program", "player", "serve", "durable", "vectors", "refusals", "soak", "core", "replicas")), "ffi/python"]
+TESTS = ("program", "player", "serve", "durable", "vectors", "refusals", "soak", "core", "replicas")
+PATHS = ["tools", *(f"tests/{it}" for it in TESTS), "ffi/python"]
 OTHERS = {"tests/replicas": ["ffi/python/tests"]}
 
 
@@ -34,10 +35,11 @@ def scripts(program: bytes, *folders: str) -> Iterator[str]:
     """The paths of all scripts in these folders, by default in all, whose first line names a program."""
     for top in sorted(folders or set(os.listdir(ROOT)) - {".git", "crates", "out"}):
         for path in repository.files(f"{ROOT}/{top}", "") if os.path.isdir(f"{ROOT}/{top}") else [f"{ROOT}/{top}"]:
-            with open(path, "rb") as file:
-                first = file.readline(60)
-            if "/out/" not in path and (first[:2] == b"#!" and program in first or program == b"python" and path.endswith(".py")):
-                yield os.path.relpath(path, ROOT)
+            if os.path.isfile(path) and "/out/" not in path:
+                with open(path, "rb") as file:
+                    first = file.readline(60)
+                if (first[:2] == b"#!" and program in first) or (program == b"python" and path.endswith(".py")):
+                    yield os.path.relpath(path, ROOT)
 
 
 def ran(words: List[str], paths: str = "") -> Tuple[int, List[str]]:
@@ -45,7 +47,8 @@ def ran(words: List[str], paths: str = "") -> Tuple[int, List[str]]:
     done = subprocess.run(
         words, cwd=ROOT, env={**os.environ, "MYPYPATH": paths}, stdin=subprocess.DEVNULL, stdout=subprocess.PIPE,
         stderr=subprocess.STDOUT, text=True)
-    return done.returncode, (done.stdout.splitlines() or [f"{words[0]} ends with the status {done.returncode}"]) if done.returncode else []
+    told = done.stdout.splitlines() or [f"{words[0]} ends with the status {done.returncode}"]
+    return done.returncode, told if done.returncode else []
 
 
 def groups_of(names: List[str]) -> List[Dict[str, List[str]]]:

@@ -10,9 +10,9 @@
                              prints the names of the libraries below a crate, the lowest first
     tests/changed --begin    remembers what all files are
     tests/changed --proved   all crates count as proved, as they were at --begin
-    tests/changed --archive NAME
-                             builds a static library over the libraries that `rt ci` has just left, where no file of theirs has
-                             changed since --begin; the status is 1 where it can't
+    tests/changed --lib NAME [--over-ci]
+                             builds a library by `rt lib`, and those below it; with --over-ci a static one by `rattle build`
+                             over what `rt ci` has just left, if that can be, and no file of theirs has changed since --begin
 
 `./test --quick` proves what changed, and `./test` says when all is proved. What is kept is a sum of each crate's files and
 of the kit, and one of what the crates above can see of it (`seen`), in out/proved.json; without that file all is proved.
@@ -169,14 +169,15 @@ def archive_words(name: str) -> Iterator[str]:
     yield from ("--jobs", "2", "--incremental", "out/incremental", "-o", f"out/lib{name}.a")
 
 
-def archive(name: str) -> int:
+def lib(name: str, is_over_ci: bool) -> int:
     begun, now = read(BEGUN), sums()
-    others = [it for it in [*below(name), name] if begun.get(it) != now[it]]
-    others += [it for it in below(name) if not os.path.isdir(rlib(it))]
-    if others:
-        print(f"tests/changed: not over what rt ci left: {', '.join(others)} changed, or isn't there", file=sys.stderr)
-        return 1
-    return subprocess.run([*archive_words(name)], cwd=folder(name)).returncode
+    if is_over_ci and all(begun.get(it) == now[it] for it in [*below(name), name]) and all(os.path.isdir(rlib(it)) for it in below(name)):
+        if subprocess.run([*archive_words(name)], cwd=folder(name)).returncode == 0:
+            return 0
+    status = subprocess.run(["rt", "lib"], cwd=folder(name)).returncode
+    if status == 0:
+        note_built(name, now)
+    return status
 
 
 def main() -> int:
@@ -184,19 +185,17 @@ def main() -> int:
     if {"-h", "--help"} & set(words):
         print(__doc__)
         return 0
-    act, name = words[0] if words else "", words[1] if len(words) == 2 else ""
-    if words == ["--begin"]:
-        write(BEGUN, sums())
-    elif not words:
+    act, name = " ".join([*words[:1], *words[2:]]), words[1] if len(words) > 1 else ""
+    if not words:
         print("".join(f"{it}\n" for it in changed()), end="")
-    elif words == ["--prove"]:
-        return prove()
-    elif words == ["--proved"]:
-        return proved()
+    elif words == ["--begin"]:
+        write(BEGUN, sums())
+    elif words in (["--prove"], ["--proved"]):
+        return prove() if words == ["--prove"] else proved()
     elif name in crates() and act == "--up-to-date":
         return 0 if is_up_to_date(name) else 1
-    elif name in crates() and act == "--archive":
-        return archive(name)
+    elif name in crates() and act in ("--lib", "--lib --over-ci"):
+        return lib(name, act != "--lib")
     elif name in crates() and act == "--below":
         print("".join(f"{it}\n" for it in below(name)), end="")
     else:

@@ -145,7 +145,7 @@ def header(kind: str, text: str) -> Tuple[str, str, str]:
     if text.startswith("<"):
         end = close_of(ANGLES, text, 0)
         declared, text = text[:end], text[end:].strip()
-    named = re.split(r"\s+for\s+", text, 1) if kind == "impl" else [text]
+    named = re.split(r"\s+for\s+", text, maxsplit=1) if kind == "impl" else [text]
     return declared, "" if named[0] == named[-1] else named[0], named[-1]
 
 
