@@ -16,7 +16,7 @@ ROOT = os.path.dirname(os.path.dirname(os.path.dirname(os.path.realpath(__file__
 sys.path.insert(0, f"{ROOT}/tools")
 import progress
 import style
-from sources import believe, book, definitions, rattle, repository, trace
+from sources import believe, book, definitions, repository, trace
 
 
 def tell(script: str, path: str) -> "tuple[int, str]":
@@ -111,47 +111,7 @@ class Progress(unittest.TestCase):
 
 
 class Style(unittest.TestCase):
-    """A function's measures, and that one above its limit fails."""
-
-    TEXT = """
-impl Core {
-    /// A method.
-    pub(crate) fn step<B: Base, S: Fn(u8, u8) -> u8>(
-        &mut self,
-        alloc: Global,
-        pairs: &[(u8, Vec<u8>)],
-        f: fn(u8) -> u8,
-    ) -> Result<(Reply, Changes), S::Stop>
-        requires coins { B.coins base.now ≡ coins_of self.old }
-        // A comment that is no clause, and longer than the clauses are, which counts for nothing in their width here.
-        ensures outcome { IfOk result (λ done.
-            (done.0 ≡ done.1)) }
-    {
-        one();
-        two(|x| {
-            x
-        });
-    }
-
-    fn short(self) {}
-
-    fn of_trait(&self, n: u8) -> u8
-        ensures { result ≡ n };
-}
-
-pub fn plain(n: u8) -> u8 {
-    n
-}
-"""
-
-    def test_what_is_measured(self) -> None:
-        found = {it.name: style.measured(self.TEXT, it) for it in rattle.functions(self.TEXT)}
-        self.assertEqual(found, {
-            "step": {"parameters": 3, "clauses": 2, "width": 63, "lines": 4},
-            "short": {"parameters": 0, "clauses": 0, "width": 0, "lines": 0},
-            "of_trait": {"parameters": 1, "clauses": 1, "width": 31, "lines": 0},
-            "plain": {"parameters": 1, "clauses": 0, "width": 0, "lines": 1},
-        })
+    """That a function above its limit fails; tools/tests has the measures."""
 
     def test_what_is_above_fails(self) -> None:
         room = tempfile.TemporaryDirectory()

@@ -88,15 +88,15 @@ def close_of(marks: "re.Pattern[str]", text: str, at: int) -> int:
     return len(text)
 
 
-def parts(text: str, mark: str = ",") -> List[str]:
-    """What stands between marks that are in no brackets."""
+def parts(text: str) -> List[str]:
+    """What stands between commas that are in no brackets."""
     found, begin, depth = [], 0, 0
     for at, letter in enumerate(text):
         if letter in "([{<":
             depth += 1
         elif letter in ")]}" or (letter == ">" and text[at - 1 : at] not in ("-", "=")):
             depth -= 1
-        elif letter == mark and not depth:
+        elif letter == "," and not depth:
             found.append(text[begin:at].strip())
             begin = at + 1
     return [it for it in [*found, text[begin:].strip()] if it]
@@ -112,8 +112,8 @@ def functions(text: str) -> List[Function]:
 
 def function_at(text: str, head: "re.Match[str]", around: List[Block]) -> Function:
     """The function of a bare text whose head begins there."""
-    at = head.end() if text[head.end()] != "<" else close_of(ANGLES, text, head.end())
-    begin, at = at + 1, close_of(BRACKETS, text, at)
+    at = close_of(ANGLES, text, head.end()) if text.startswith("<", head.end()) else head.end()
+    begin, at = text.find("(", at) + 1, close_of(BRACKETS, text, at)
     parameters = [it for it in parts(text[begin : at - 1]) if not SELF.match(it)]
     clauses: List[Clause] = []
     body = None

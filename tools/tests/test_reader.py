@@ -6,6 +6,7 @@ import tempfile
 import unittest
 
 sys.path.insert(0, os.path.dirname(os.path.dirname(os.path.realpath(__file__))))
+import style
 from sources import repository
 from sources.definitions import Spec, Specs, reach
 from sources.edits import function_at, lines_of, name_of
@@ -142,6 +143,11 @@ class Functions(unittest.TestCase):
         for text, name in (("let open", "turned"), ("fn stop", "Crew::stop"), ("    const fn new", "Room::new"), ("const OPEN", ""), ("rows: T", "")):
             with self.subTest(text):
                 self.assertEqual(function_at(SOURCE, SOURCE.index(text)), name)
+
+    def test_measures(self) -> None:
+        self.assertEqual({name: tuple(style.measured(SOURCE, named(name)).values()) for name in ("turned", "run", "stop", "new")}, {
+            "turned": (3, 2, 51, 4), "run": (1, 1, 32, 0), "stop": (0, 0, 0, 0), "new": (0, 0, 0, 1),
+        })
 
     def test_those_for_c(self) -> None:
         self.assertEqual([it.name for it in functions(SOURCE) if is_for_c(SOURCE, it)], ["ffi_len"])
