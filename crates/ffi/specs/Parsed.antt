@@ -24,7 +24,7 @@ abbrev pub IsReadWhole : List ℕ → Option Tx → Option Tx → ℕ → Type 0
 IsReadWhole bytes (Some tx) after result = (result ≡ 6) × (after ≡ Some tx)
 IsReadWhole bytes None after result = IsTold (tx_at bytes) (λ tx. IsWhole bytes tx after result) (after ≡ None) result
 
--- what is told of the transaction in a slot; where there is none nothing is
-abbrev pub IsOfKept : Option Tx → (Tx → Type 0) → Type 0 → ℕ → Type 0
+-- what is told of what is in a slot; where there is nothing in it nothing is
+abbrev pub IsOfKept : {A : Type 0} → Option A → (A → Type 0) → Type 0 → ℕ → Type 0
 IsOfKept None told kept result = (result ≡ 2) × kept
-IsOfKept (Some tx) told kept result = told tx
+IsOfKept (Some x) told kept result = told x
