@@ -45,7 +45,8 @@ class CoinSet(Held):
     def put(self, id: bytes, index: int, coin: Coin) -> None:
         """Puts a coin in, in the place of one that is there. The last block can't be taken back any more."""
         script = octets(coin.script, "script")
-        row = _Coin(arguments.signed(coin.value, "value"), len(script), number(coin.height, "height"), bool(coin.coinbase))
+        value, height = arguments.signed(coin.value, "value", 64), number(coin.height, "height")
+        row = _Coin(value, len(script), height, arguments.flag(coin.coinbase, "coinbase"))
         self._check(self._library.wakotehu_utxo_put(self._handle, id_of(id), number(index, "index"), row, script))
 
     def connect(
