@@ -21,7 +21,7 @@ REGTEST = (1, 1, 1, 1)
 
 _DIGITS = re.compile("[0-9A-Fa-f]{64}")
 _MARKS = ("invalidate", "reconsider", "precious")
-_Self = TypeVar("_Self", bound="Held")
+_Self = TypeVar("_Self", bound="_Held")
 _STATUS = ("", "active", "invalid", "valid-fork", "valid-headers")
 _REPLIES = (
     "", "accepted", "inconclusive", "duplicate", "duplicate-invalid", "duplicate-inconclusive", "rejected",
@@ -116,7 +116,7 @@ def reply_of(answer: Answer) -> Reply:
     return Reply(text, reply, reason, answer.transaction, answer.input)
 
 
-class Held:
+class _Held:
     """What the library keeps behind a handle: it has coins, and it learns of signatures."""
 
     _prefix = "wakotehu_"
@@ -237,7 +237,7 @@ class Held:
         raise kinds.get(code, errors.Error)(self._library.wakotehu_code_text(code).decode())
 
 
-class Chainstate(Held):
+class Chainstate(_Held):
     """A chainstate, as the proved library keeps it. It begins with the genesis block alone.
 
     heights: from which heights BIPs 34, 65, 66 and 68 with 112 and 113 are in force.

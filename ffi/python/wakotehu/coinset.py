@@ -1,11 +1,11 @@
 """Coins that are given: blocks and transactions over them, apart from any chainstate."""
 
 import ctypes
-from typing import Iterable, List, NamedTuple, Optional, Sequence, Tuple, Union
+from typing import List, NamedTuple, Optional, Sequence, Tuple, Union
 
 from . import arguments, errors
 from .arguments import id_of, number, octets
-from .chainstate import REGTEST, Coin, Held, read_heights
+from .chainstate import REGTEST, Coin, _Held, read_heights
 from .consensus import FAULTS, Refused, Triple
 from .library import Coin as _Coin
 from .library import Fault as _Fault
@@ -21,7 +21,7 @@ class Fault(NamedTuple):
     input: int
 
 
-class CoinSet(Held):
+class CoinSet(_Held):
     """Coins of one's own, each as the id of a transaction, an output's number, and the coin. Blocks are connected to them,
     and transactions checked. The set takes the caller's word for where a block stands.
 
@@ -34,20 +34,26 @@ class CoinSet(Held):
 
     _prefix = "wakotehu_utxo_"
 
-    def __init__(self, coins: Iterable[Tuple[bytes, int, Coin]] = ()) -> None:
+    def __init__(self, coins: Sequence[Tuple[bytes, int, Coin]] = ()) -> None:
         self._library = library()
         handle = ctypes.c_uint64()
         self._check(self._library.wakotehu_utxo_open(ctypes.byref(handle)))
         self._handle = handle.value
-        for id, index, coin in coins:
-            self.put(id, index, coin)
+        for it in arguments.sequence(coins, "coins"):
+            id, index, coin = arguments.several(it, "coins", 3)
+            self._put(id, index, coin, "coins.")
 
     def put(self, id: bytes, index: int, coin: Coin) -> None:
         """Puts a coin in, in the place of one that is there. The last block can't be taken back any more."""
-        script = octets(coin.script, "script")
-        value, height = arguments.signed(coin.value, "value", 64), number(coin.height, "height")
-        row = _Coin(value, len(script), height, arguments.flag(coin.coinbase, "coinbase"))
-        self._check(self._library.wakotehu_utxo_put(self._handle, id_of(id), number(index, "index"), row, script))
+        self._put(id, index, coin)
+
+    def _put(self, id: bytes, index: int, coin: Coin, of: str = "") -> None:
+        coin = arguments.instance(coin, Coin, f"{of}coin")
+        script = octets(coin.script, f"{of}coin.script")
+        value, height = arguments.signed(coin.value, f"{of}coin.value", 64), number(coin.height, f"{of}coin.height")
+        row = _Coin(value, len(script), height, arguments.flag(coin.coinbase, f"{of}coin.coinbase"))
+        at = id_of(id, f"{of}id"), number(index, f"{of}index")
+        self._check(self._library.wakotehu_utxo_put(self._handle, *at, row, script))
 
     def connect(
         self, block: bytes, height: int, cutoff: int, medians: Sequence[int] = (), heights: Sequence[int] = REGTEST
@@ -58,7 +64,7 @@ class CoinSet(Held):
         cutoff: the median time past of its parent. medians: those of its parent's branch by height, genesis first, as far
         as relative locks ask for them.
         """
-        block, times = octets(block, "block"), [number(it, "medians") for it in medians]
+        block, times = octets(block, "block"), [number(it, "medians") for it in arguments.sequence(medians, "medians")]
         rows = (ctypes.c_uint32 * len(times))(*times)
         setting = Setting(rows, len(times), Heights(*read_heights(heights)), number(height, "height"), number(cutoff, "cutoff"))
         fault = _Fault()
