@@ -77,8 +77,9 @@ pub extern "C" fn ffi_utxo_put(
     coin: &ShownCoin,
     script: &[u8],
 ) -> u32
-    ensures { Becomes slot.old.kept.value slot.new.kept.value (λ before after.
-        IsPut (outpoint_of at.now) (coin_of coin.now script.now) before after result) (Unit {0}) result }
+    ensures { let put = coin_of coin.now script.now in
+        Becomes slot.old.kept.value slot.new.kept.value (λ before after.
+        IsPut (outpoint_of at.now) put before after result) (Unit {0}) result }
 {
     let Some(mut utxo) = take_utxo(alloc, slot) else {
         return CLOSED;
@@ -416,7 +417,8 @@ fn tell_inputs(alloc: Global, utxo: &Utxo, tx: &Tx, height: u32, told: &mut Inpu
 
 fn inputs_row(found: Result<i128, Reason>) -> InputsTold
     ensures fee { IfOk found (λ given. (result.fee ≡ nearest given) × (result.reason ≡ 0)) }
-    ensures reason { IfErr found (λ reason. (result.fee ≡ pos 0) × (result.reason ≡ number_of reason)) }
+    ensures reason { IfErr found (λ reason.
+        (result.fee ≡ pos 0) × (result.reason ≡ number_of reason)) }
 {
     match found {
         Ok(fee) => InputsTold {
