@@ -44,6 +44,17 @@ struct told {
     uint32_t error;
 };
 
+/* What is asked of all inputs, and what is told of them. */
+struct all_asked {
+    struct bytes scripts, sizes, valid, invalid;
+    uint32_t flags;
+};
+
+struct all_told {
+    uint64_t line, count, input;
+    uint32_t error;
+};
+
 uint32_t ffi_open(struct slot *slot, const wakotehu_heights *heights, const uint8_t *table, size_t length,
                   uint64_t *line);
 uint32_t ffi_open_by_need(struct slot *slot, const wakotehu_heights *heights);
@@ -105,10 +116,14 @@ uint32_t ffi_tx_read_whole(struct slot *slot, const uint8_t *bytes, size_t lengt
 uint32_t ffi_tx_free(struct slot *slot);
 uint32_t ffi_tx_verify_input(struct slot *slot, const struct question *question, struct told *told, uint8_t *asked,
                              size_t room);
+uint32_t ffi_tx_verify(struct slot *slot, const struct all_asked *question, struct all_told *told, uint8_t *asked,
+                       size_t room);
 
 _Static_assert(sizeof(struct slot) == 16 && offsetof(struct slot, at) == 8, "as Slot, TxSlot and UtxoSlot of crates/ffi");
 _Static_assert(sizeof(struct question) == 64 && offsetof(struct question, flags) == 56, "as InputQuestion");
 _Static_assert(sizeof(struct told) == 24 && offsetof(struct told, error) == 16, "as InputTold");
+_Static_assert(sizeof(struct all_asked) == 72 && offsetof(struct all_asked, flags) == 64, "as AllQuestion");
+_Static_assert(sizeof(struct all_told) == 32 && offsetof(struct all_told, error) == 24, "as AllTold");
 _Static_assert(sizeof(struct setting) == 40 && offsetof(struct setting, cutoff) == 36, "as BlockSetting");
 _Static_assert(sizeof(struct inputs_told) == 16 && offsetof(struct inputs_told, reason) == 8, "as InputsTold");
 _Static_assert(sizeof(wakotehu_fault) == 24 && offsetof(wakotehu_fault, reason) == 16, "as Fault");
@@ -580,6 +595,36 @@ wakotehu_code wakotehu_tx_verify_input(wakotehu_tx tx, uint64_t input, const uin
     atomic_store(&own->word, word_of(tx >> 16, OPEN));
     if (code == WAKOTEHU_OK)
         *error = told.error;
+    if (code == WAKOTEHU_UNKNOWN || code == WAKOTEHU_TOO_SMALL)
+        *needed = told.count;
+    if (code == WAKOTEHU_BAD_TABLE && line)
+        *line = told.line;
+    return code;
+}
+
+wakotehu_code wakotehu_tx_verify(wakotehu_tx tx, const uint8_t *scripts, size_t length, const uint64_t *sizes, size_t count,
+                                 uint32_t flags, const char *valid, size_t valid_length, const char *invalid,
+                                 size_t invalid_length, uint64_t *line, uint64_t *input, uint32_t *error, char *asked,
+                                 size_t room, uint64_t *needed) {
+    static const uint64_t no_sizes[1];
+    struct all_asked question = {bytes_of(scripts, length), {count ? sizes : no_sizes, count},
+                                 bytes_of(valid, valid_length), bytes_of(invalid, invalid_length), flags};
+    struct all_told told = {0, 0, 0, 0};
+    uint8_t none[1];
+    if (!readable(scripts, length) || (!sizes && count) || count > PTRDIFF_MAX / sizeof *sizes
+        || !readable(valid, valid_length) || !readable(invalid, invalid_length) || !input || !error
+        || !readable(asked, room) || !needed)
+        return WAKOTEHU_NULL;
+    struct parsed *own = parsed_at(tx);
+    wakotehu_code code = enter_place(&own->word, tx >> 16);
+    if (code != WAKOTEHU_OK)
+        return code;
+    code = (wakotehu_code)ffi_tx_verify(&own->slot, &question, &told, room ? (uint8_t *)asked : none, room);
+    atomic_store(&own->word, word_of(tx >> 16, OPEN));
+    if (code == WAKOTEHU_OK) {
+        *input = told.input;
+        *error = told.error;
+    }
     if (code == WAKOTEHU_UNKNOWN || code == WAKOTEHU_TOO_SMALL)
         *needed = told.count;
     if (code == WAKOTEHU_BAD_TABLE && line)

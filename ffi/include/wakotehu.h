@@ -573,6 +573,16 @@ wakotehu_code wakotehu_tx_verify_input(wakotehu_tx tx, uint64_t input, const uin
                                        size_t invalid_length, uint64_t *line, uint32_t *error, char *asked, size_t room,
                                        uint64_t *needed);
 
+/* The same of all inputs at once: the first that may not spend its script, and the number of its failure; `error` is
+ * WAKOTEHU_SCRIPT_OK, and `input` 0, where each may. What the messages of its signatures have in common is hashed once for
+ * all, so this costs less than a call for each. scripts: those that the inputs spend, one after the other, sizes[n] bytes
+ * each. WAKOTEHU_MISMATCH where there is no size for each input, or the bytes are more or fewer. Inputs behind one that is
+ * refused, or that asks for a signature of which nothing is known, aren't looked at. */
+wakotehu_code wakotehu_tx_verify(wakotehu_tx tx, const uint8_t *scripts, size_t length, const uint64_t *sizes, size_t count,
+                                 uint32_t flags, const char *valid, size_t valid_length, const char *invalid,
+                                 size_t invalid_length, uint64_t *line, uint64_t *input, uint32_t *error, char *asked,
+                                 size_t room, uint64_t *needed);
+
 /* Gives a transaction's memory back. */
 wakotehu_code wakotehu_tx_free(wakotehu_tx tx);
 

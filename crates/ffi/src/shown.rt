@@ -177,3 +177,26 @@ pub struct InputsTold {
     pub fee: i64,
     pub reason: u32,
 }
+
+/// What is asked of all inputs: the scripts that they spend, one after the other, and how many bytes each has; the rules that
+/// are in force by Bitcoin Core's bits; and two tables.
+#[repr(C)]
+#[derive(Clone, Copy)]
+pub struct AllQuestion<'a> {
+    pub scripts: &'a [u8],
+    pub sizes: &'a [u64],
+    pub valid: &'a [u8],
+    pub invalid: &'a [u8],
+    pub flags: u32,
+}
+
+/// What is told of all inputs: the number of the line that can't be read, how many bytes the line has that is asked for, the
+/// first input that is refused, and the number of its failure.
+#[repr(C)]
+#[derive(Clone, Copy, Drop)]
+pub struct AllTold {
+    pub line: u64,
+    pub count: u64,
+    pub input: u64,
+    pub error: u32,
+}

@@ -259,6 +259,8 @@ ROWS = [
     row("consensus.ParsedTransaction", data=DATA, whole=("flag", True)), row("consensus.ParsedTransaction.close"),
     row("consensus.ParsedTransaction.verify_input", input=("number", 0), spent=("bytes", b""), flags=("rules", {"P2SH"}),
         valid=("lines", ""), invalid=("lines", b"")),
+    row("consensus.ParsedTransaction.verify_inputs", spent=("stack", [b""] * len(PARTS.inputs)), flags=("rules", {"P2SH"}),
+        valid=("lines", ""), invalid=("lines", b"")),
     row("consensus.ParsedTransaction.verify", input=("number", 0), spent=("bytes", b""), flags=("flags", ["CSV"]),
         table=("lines", b""), signatures=("optional source", "secp256k1")),
     row("consensus.triple_of", triple=("triple", TRIPLE)), row("consensus.Triple.of_line", line=("line", TRIPLE.line)),
