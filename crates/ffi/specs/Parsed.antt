@@ -1,7 +1,7 @@
 -- A transaction that is read once and asked many times.
 use Rattle.std.specs.Prelude.{◌≡◌, ◌≢◌, ℕ, ◌+◌, ◌<◌, ◌⊎◌, List, [], ◌∷◌, length, map, Option, None, Some, Ok, Err}
 use Rattle.std.specs.List.{flat_map}
-use Rattle.curve.specs.Known.{Known, Verdicts, verdict_in}
+use Rattle.curve.specs.Known.{Known, verdict_in}
 use Rattle.curve.specs.Lines.{lines}
 use Rattle.interp.specs.Answer.{Answer, Says, Wants}
 use Rattle.interp.specs.Question.{question}
@@ -71,10 +71,10 @@ abbrev pub IsRefusalTold : Option (ℕ × ScriptError) → ToldAll → Type 0
 IsRefusalTold None after = (after.input ≡ 0) × (after.error ≡ 0)
 IsRefusalTold (Some refused) after = (after.input ≡ refused.0) × (after.error ≡ number_of refused.1)
 
--- by what is known of signatures
-abbrev pub IsAllNamed : Tx → ℕ → List (List ℕ) → Verdicts → ToldAll → ToldAll → ℕ → Type 0
-IsAllNamed tx flags scripts found before after result =
-    IsAnswered (first_refused (verdict_in found) (flags_in flags) tx 0 scripts) (λ refused. (result ≡ 0) × IsRefusalTold refused after)
+-- what is known suffices for it, or a triple is asked for
+abbrev pub IsRefusalAnswered : Answer (Option (ℕ × ScriptError)) → ToldAll → ToldAll → ℕ → Type 0
+IsRefusalAnswered answer before after result =
+    IsAnswered answer (λ refused. (result ≡ 0) × IsRefusalTold refused after)
     ((after.input ≡ before.input) × (after.error ≡ before.error)) before.asked after.asked result
 
 -- There is a script for each input, and bytes for each script; or that is told, or there was no memory.
@@ -89,5 +89,5 @@ abbrev pub AreInputsNamed : Tx → AllQuestion → ToldAll → ToldAll → ℕ �
 AreInputsNamed tx q before after result =
     let kept = (after.asked ≡ before.asked) × (after.input ≡ before.input) × (after.error ≡ before.error) in
     IsOfScripts tx q.sizes.now q.scripts.now (λ scripts. IsByTables (lines q.valid.now) (lines q.invalid.now)
-    (λ found. IsAllNamed tx q.flags scripts found before after result) before.line after.line kept result)
+    (λ found. IsRefusalAnswered (first_refused (verdict_in found) (flags_in q.flags) tx 0 scripts) before after result) before.line after.line kept result)
     ((after.line ≡ before.line) × kept) result

@@ -1,16 +1,17 @@
 //! A transaction that is read once and asked many times: C keeps it in a slot.
 
-ghost use Rattle.std.specs.Prelude.{◌≡◌, ◌+◌, ◌<◌, length, IfErr, IfOk, Ok, None};
+ghost use Rattle.std.specs.Prelude.{◌≡◌, ℕ, ◌+◌, ◌<◌, length, IfErr, IfOk, Ok, None, Option};
 ghost use Rattle.curve.specs.Known.{verdict_in};
 ghost use Rattle.curve.specs.Lines.{lines};
-ghost use Rattle.interp.specs.Answer.{Tells};
+ghost use Rattle.interp.specs.Answer.{Answer, Tells};
 ghost use Rattle.interp.specs.Question.{question};
 ghost use Rattle.interp.specs.computed.Named.{verify_script};
+ghost use Rattle.interp.specs.declared.script_error.ScriptError.{ScriptError as ScriptErrorValue};
 ghost use Rattle.txn.specs.Grammar.{transaction};
 ghost use Rattle.txn.specs.computed.Reading.{tx_at};
 ghost use Rattle.ffi.specs.Answers.{close_number};
 ghost use Rattle.ffi.specs.Named.{IsInputNamed, flags_in, told_of};
-ghost use Rattle.ffi.specs.Parsed.{AreInputsNamed, IsAllNamed, IsOfKept, IsRead, IsReadWhole, first_refused, told_all};
+ghost use Rattle.ffi.specs.Parsed.{AreInputsNamed, IsOfKept, IsRead, IsReadWhole, IsRefusalAnswered, first_refused, told_all};
 ghost use Rattle.ffi.specs.inside.Parts.{IsRefusal};
 
 use crate::answers::{CLOSED, DONE, EXTRA, FULL, MEMORY, MISMATCH, NO_INPUT};
@@ -200,34 +201,26 @@ fn verify_all(
     };
     match known_of(alloc, question.valid, question.invalid, &mut told.line) {
         Err(code) => code,
-        Ok(known) => tell_refused(
-            alloc,
-            tx,
-            scripts.as_slice(),
-            question.flags,
-            &known,
-            told,
-            asked,
-        ),
+        Ok(known) => {
+            let found = first_refused(alloc, tx, scripts.as_slice(), question.flags, &known);
+            tell_refused(alloc, found, told, asked)
+        }
     }
 }
 
-/// The first input that may not spend its script, by what is known of signatures.
+/// What was found of all inputs: the first that is refused and why, or none, or a triple that is asked for.
 fn tell_refused(
     alloc: Global,
-    tx: &Tx,
-    scripts: &[Element],
-    flags: u32,
-    known: &FoundTables,
+    found: Result<Option<(usize, ScriptError)>, Unverified>,
     told: &mut AllTold,
     asked: &mut [u8],
 ) -> u32
-    requires { length scripts.now ≡ length tx.now.inputs }
-    ensures all { IsAllNamed tx.now flags scripts.now known.now (told_all told.old asked.old)
-        (told_all told.new asked.new) result }
+    ensures answer { (answer : Answer (Option (ℕ × ScriptErrorValue))) → Tells found answer
+        → IsRefusalAnswered answer (told_all told.old asked.old) (told_all told.new asked.new)
+        result }
     ensures line { told.new.line ≡ told.old.line }
 {
-    match first_refused(alloc, tx, scripts, flags, known) {
+    match found {
         Ok(None) => {
             told.input = 0;
             told.error = 0;

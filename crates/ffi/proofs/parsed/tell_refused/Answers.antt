@@ -5,14 +5,14 @@ use Rattle.interp.specs.Answer.{unknown_in}
 use Rattle.ffi.specs.Known.{IsLineTold, asked_of}
 use Rattle.ffi.proofs.parsed.tell_refused.Goals as goal
 
-pub returns-in-Err-Unknown-clause-all : goal.returns-in-Err-Unknown-clause-all
-returns-in-Err-Unknown-clause-all c =
+pub returns-in-Err-Unknown-clause-answer : goal.returns-in-Err-Unknown-clause-answer
+returns-in-Err-Unknown-clause-answer c answer tells =
     let before = asked_of c.args.asked.now c.args.told.now.count in
     let after = asked_of c.tell_line.new.asked c.tell_line.new.count in
     ⊎_elim
     (λ told. inr (inl (
       c.in-Err-Unknown.triple.value,
-      c.in-Err-Unknown.ensures _ (ap unknown_in c.in-Err-Unknown.field-0-is),
+      (rw c.in-Err-Unknown.is at tells) _ (ap unknown_in c.in-Err-Unknown.field-0-is),
       subst (λ (t : Triple). IsLineTold t before after c.tell_line.result) c.deref.ensures told,
       (refl, refl),
     )))

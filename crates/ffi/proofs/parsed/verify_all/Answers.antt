@@ -15,7 +15,7 @@ returns c =
       omega (arith, length-map scripts (λ (script : List ℕ). length script), ap length sizes),
       sizes,
       bytes,
-      inl (c.in-Ok.known, c.in-Ok.ensures.found, c.tell_refused.ensures.line ∙ c.in-Ok.ensures.kept, c.tell_refused.ensures.all),
+      inl (c.in-Ok.known, c.in-Ok.ensures.found, c.tell_refused.ensures.line ∙ c.in-Ok.ensures.kept, c.tell_refused.ensures.answer _ c.first_refused-found.ensures),
     )
 
 pub returns-in-Err-known_of : goal.returns-in-Err-known_of
