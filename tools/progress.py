@@ -15,12 +15,9 @@ import signal
 import subprocess
 import sys
 import time
-from typing import IO, Dict, Iterator, List
+from typing import Dict, Iterator, List, TextIO
 
-sys.dont_write_bytecode = True
-from sources import changed
-from sources.repository import ROOT, below, read
-
+ROOT = os.path.dirname(os.path.dirname(os.path.realpath(__file__)))
 LOG = f"{ROOT}/out/build.log"
 # How the rows of each table in docs/KIT.md begin behind its head.
 BUILD, GATE = "| Crates | minutes of a processor |", "| Crates | Their proofs |"
@@ -28,7 +25,8 @@ BUILD, GATE = "| Crates | minutes of a processor |", "| Crates | Their proofs |"
 
 def minutes(head: str) -> Dict[str, float]:
     """The minutes of each crate, by the table of docs/KIT.md with this head, in its order."""
-    _, found, rest = read("docs/KIT.md").partition(head)
+    with open(f"{ROOT}/docs/KIT.md", encoding="utf-8") as file:
+        _, found, rest = file.read().partition(head)
     if not found:
         raise SystemExit(f"tools/progress.py: docs/KIT.md has no table with the head {head}")
     made: Dict[str, float] = {}
@@ -99,10 +97,16 @@ def end_of_log() -> str:
         return "".join(file.readlines()[-30:])
 
 
+def below(name: str) -> List[str]:
+    found = subprocess.run([f"{ROOT}/tests/changed", "--below", name], stdout=subprocess.PIPE, text=True, check=True)
+    return found.stdout.split()
+
+
 def build(jobs: int) -> int:
     """The program, the lowest crate first; its version is what it says last, and its status 1."""
-    names = [] if changed.is_up_to_date("regchain") else below("regchain")
-    progress, now = Progress(minutes(BUILD), [*names, "regchain"]), changed.sums()
+    names = below("regchain")
+    is_new = subprocess.run([f"{ROOT}/tests/changed", "--up-to-date", "regchain"]).returncode == 0
+    progress = Progress(minutes(BUILD), [*([] if is_new else names), "regchain"])
     os.makedirs(os.path.dirname(LOG), exist_ok=True)
     with open(LOG, "w", encoding="utf-8") as log:
         for name in progress.minutes:
@@ -117,12 +121,11 @@ def build(jobs: int) -> int:
                 progress.end()
                 print(f"{end_of_log()}\n{name} isn't proved; out/build.log has all that was printed", file=sys.stderr)
                 return 1
-            changed.note_built(name, now)
     progress.end()
     return 0
 
 
-def lines(stream: IO[str], log: IO[str]) -> Iterator[str]:
+def lines(stream: TextIO, log: TextIO) -> Iterator[str]:
     for line in stream:
         log.write(line)
         yield line
