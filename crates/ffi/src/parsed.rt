@@ -184,25 +184,25 @@ pub extern "C" fn ffi_tx_verify(
 fn verify_all(
     alloc: Global,
     tx: &Tx,
-    question: &AllQuestion,
+    all: &AllQuestion,
     told: &mut AllTold,
     asked: &mut [u8],
 ) -> u32
-    ensures { AreInputsNamed tx.now question.now (told_all told.old asked.old)
+    ensures { AreInputsNamed tx.now all.now (told_all told.old asked.old)
         (told_all told.new asked.new) result }
 {
-    if question.sizes.len() != tx.inputs.len() {
+    if all.sizes.len() != tx.inputs.len() {
         return MISMATCH;
     }
-    let scripts = match all_elements(alloc, question.sizes, question.scripts) {
+    let scripts = match all_elements(alloc, all.sizes, all.scripts) {
         Err(_) => return MEMORY,
         Ok(None) => return MISMATCH,
         Ok(Some(scripts)) => scripts,
     };
-    match known_of(alloc, question.valid, question.invalid, &mut told.line) {
+    match known_of(alloc, all.valid, all.invalid, &mut told.line) {
         Err(code) => code,
         Ok(known) => {
-            let found = first_refused(alloc, tx, scripts.as_slice(), question.flags, &known);
+            let found = first_refused(alloc, tx, scripts.as_slice(), all.flags, &known);
             tell_refused(alloc, found, told, asked)
         }
     }

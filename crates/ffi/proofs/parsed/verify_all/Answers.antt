@@ -8,8 +8,8 @@ pub returns : goal.returns
 returns c =
     let there = rw c.in-Ok-Some.field-0-is at c.in-Ok-Some.ensures.found in
     let scripts = c.as_slice.result.now in
-    let sizes = subst (λ (l : List (List ℕ)). map (λ script. length script) l ≡ c.args.question.now.sizes.now) (sym c.as_slice.ensures.value) there.0 in
-    let bytes = subst (λ (l : List (List ℕ)). flat_map (λ script. script) l ≡ c.args.question.now.scripts.now) (sym c.as_slice.ensures.value) there.1 in
+    let sizes = subst (λ (l : List (List ℕ)). map (λ script. length script) l ≡ c.args.all.now.sizes.now) (sym c.as_slice.ensures.value) there.0 in
+    let bytes = subst (λ (l : List (List ℕ)). flat_map (λ script. script) l ≡ c.args.all.now.scripts.now) (sym c.as_slice.ensures.value) there.1 in
     inl (
       scripts,
       omega (arith, length-map scripts (λ (script : List ℕ). length script), ap length sizes),
