@@ -125,7 +125,7 @@ def build(jobs: int) -> int:
     return 0
 
 
-def lines(stream: IO[str], log: TextIO) -> Iterator[str]:
+def lines(stream: IO[str], log: IO[str]) -> Iterator[str]:
     for line in stream:
         log.write(line)
         yield line
