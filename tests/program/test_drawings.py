@@ -35,9 +35,9 @@ def of_felt(text: str) -> str:
 def extent(text: xml.Element) -> tuple[float, float, float]:
     """A text's base, and about where it begins and ends."""
     size = 14 if text.get("class") == "head" else 11.5
-    width, x = 0.55 * size * len("".join(text.itertext())), float(text.get("x"))
-    left = x - width * {"end": 1, "middle": 0.5}.get(text.get("text-anchor"), 0)
-    return float(text.get("y")), left, left + width
+    width, x = 0.55 * size * len("".join(text.itertext())), float(text.get("x", ""))
+    left = x - width * {"end": 1, "middle": 0.5}.get(text.get("text-anchor", ""), 0)
+    return float(text.get("y", "")), left, left + width
 
 
 class Drawings(unittest.TestCase):
@@ -77,7 +77,7 @@ class Drawings(unittest.TestCase):
         self.assertGreater(len(rows), 60)
         texts = list(xml.fromstring(read("bench/results.svg")).iter(f"{SVG}text"))
         drawn = [
-            (text.text.strip(), text[0].text, ratio.text)
+            ((text.text or "").strip(), text[0].text, ratio.text)
             for text, ratio in zip(texts, texts[1:])
             if text.get("text-anchor") == "end"
         ]
@@ -94,10 +94,10 @@ class Drawings(unittest.TestCase):
         for name in PICTURES:
             with self.subTest(name):
                 picture = xml.fromstring(read(name))
-                style = picture.find(f"{SVG}style").text
-                light, _, dark = style.partition("@media (prefers-color-scheme: dark)")
-                _, _, width, height = picture.get("viewBox").split()
+                light, _, dark = picture.findtext(f"{SVG}style", "").partition("@media (prefers-color-scheme: dark)")
+                _, _, width, height = picture.get("viewBox", "").split()
                 page = picture.find(f"{SVG}rect")
+                assert page is not None
                 self.assertEqual((page.get("class"), page.get("width"), page.get("height")), ("page", width, height))
                 for rules in (light, dark):
                     self.assertRegex(rules, r"\.page \{ fill: #")

@@ -35,6 +35,16 @@ class SpentSize(ctypes.Structure):
     _fields_ = [("coins", c_uint64), ("scripts", c_uint64)]
 
 
+class Setting(ctypes.Structure):
+    _fields_ = [
+        ("medians", POINTER(c_uint32)), ("count", c_size_t), ("heights", Heights), ("height", c_uint32), ("cutoff", c_uint32),
+    ]  # fmt: skip
+
+
+class Fault(ctypes.Structure):
+    _fields_ = [("transaction", c_uint64), ("input", c_uint64), ("reason", c_uint32)]
+
+
 CoinCall = CFUNCTYPE(c_int, c_void_p, POINTER(c_uint8), c_uint32, POINTER(Coin), POINTER(c_uint8))
 
 _CALLS = {
@@ -60,6 +70,17 @@ _CALLS = {
     "ancestor": [c_uint64, c_char_p, c_uint64, c_char_p],
     "fork": [c_uint64, c_char_p, c_char_p, c_char_p],
     "spent": [c_uint64, c_char_p, POINTER(Coin), c_size_t, c_char_p, c_size_t, POINTER(SpentSize)],
+    "utxo_open": [POINTER(c_uint64)],
+    "utxo_close": [c_uint64],
+    "utxo_put": [c_uint64, c_char_p, c_uint32, POINTER(Coin), c_char_p],
+    "utxo_coin_at": [c_uint64, c_char_p, c_uint32, POINTER(Coin), c_char_p, c_size_t],
+    "utxo_coins": [c_uint64, CoinCall, c_void_p],
+    "utxo_spent": [c_uint64, POINTER(Coin), c_size_t, c_char_p, c_size_t, POINTER(SpentSize)],
+    "utxo_want_lines": [c_uint64, c_char_p, c_size_t, POINTER(c_size_t)],
+    "utxo_learn": [c_uint64, c_char_p, c_size_t, c_char_p, c_size_t, c_char_p, c_int],
+    "connect": [c_uint64, c_char_p, c_size_t, POINTER(Setting), POINTER(Fault)],
+    "disconnect": [c_uint64],
+    "check_tx_inputs": [c_uint64, c_char_p, c_size_t, c_uint32, POINTER(c_uint32), POINTER(c_int64)],
 }
 
 
